@@ -1,0 +1,2 @@
+//! gem_model
+#![tactic(auto)]

@@ -1,0 +1,23 @@
+-- What an item says: its kind and its elements, without where it lies in memory.
+use Rattle.std.specs.Prelude.{ℕ, ℤ, Bool, List}
+
+mutual
+  -- one item (SEMI E5, data items): I4 has signed numbers of four bytes, U4 unsigned ones
+  pub data Data : Type 0 where
+    list : DataList → Data
+    binary : List ℕ → Data
+    boolean : List Bool → Data
+    ascii : List ℕ → Data
+    i1 : List ℤ → Data
+    i2 : List ℤ → Data
+    i4 : List ℤ → Data
+    i8 : List ℤ → Data
+    u1 : List ℕ → Data
+    u2 : List ℕ → Data
+    u4 : List ℕ → Data
+    u8 : List ℕ → Data
+
+  -- the items in a list
+  pub data DataList : Type 0 where
+    no_items : DataList
+    item : Data → DataList → DataList

@@ -1,0 +1,2 @@
+//! secs_items
+#![tactic(auto)]

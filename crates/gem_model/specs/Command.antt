@@ -1,0 +1,32 @@
+-- The command of the program, as words.
+use Rattle.std.specs.Prelude.{ℕ, ◌+◌, Bool, ◌&&◌, not, if◌then◌else◌, List, [], ◌∷◌, codes, Option, Some, None, nat_eq}
+use Rattle.std.specs.Str.{bytes_eq}
+use Rattle.std.specs.List.{starts_with}
+
+-- a word that can name a file: it isn't empty and doesn't begin with a minus (this tool's profile, the command's words)
+abbrev pub is_file_word : List ℕ → Bool
+is_file_word word = not (bytes_eq word []) && not (starts_with nat_eq word (codes "-"))
+
+-- the words of the command `feed CONFIG`, as what each place takes
+abbrev pub feed_words : List (List ℕ → Bool)
+feed_words = (λ word. bytes_eq word (codes "feed")) ∷ (is_file_word ∷ [])
+
+-- the first place, counted on from this one, whose word fits no command: it isn't taken there, is one too many, or is missing
+abbrev pub misfit_from : ℕ → List (List ℕ → Bool) → List (List ℕ) → Option ℕ
+misfit_from place [] [] = None
+misfit_from place [] (word ∷ words) = Some place
+misfit_from place (takes ∷ places) [] = Some place
+misfit_from place (takes ∷ places) (word ∷ words) =
+    if takes word then misfit_from (place + 1) places words else Some place
+
+-- the first word, counted from 0, that fits no command, where the words aren't one
+abbrev pub misfit : List (List ℕ) → Option ℕ
+misfit words = misfit_from 0 feed_words words
+
+-- The text of the one configuration that is known: the plant is COMMUNICATING (this tool's profile, configuration).
+abbrev pub known_configuration : List ℕ
+known_configuration = codes "communication = \"communicating\"\n"
+
+-- the greatest configuration that is read, and one byte more, in bytes
+abbrev pub configuration_bytes : ℕ
+configuration_bytes = 65537

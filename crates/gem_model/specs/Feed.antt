@@ -1,0 +1,118 @@
+-- The history that a text of lines makes.
+use Rattle.std.specs.Prelude.{ℕ, ◌+◌, Bool, true, false, ◌&&◌, not, is_some, if◌then◌else◌, List, [], ◌∷◌, ◌++◌, length, drop, map, Some, None}
+use Rattle.hsms_frame.specs.declared.frame.Arrival.{Arrival}
+use Rattle.hsms_frame.specs.Cut.{arrivals_of, behind_of, is_short}
+use Rattle.tool_events.specs.declared.Event.{Event}
+use Rattle.tool_events.specs.declared.Event.TheVariants.{LinkUp, LinkDown, Host, Take}
+use Rattle.tool_events.specs.declared.Entry.{Entry}
+use Rattle.tool_events.specs.declared.SessionCause.TheVariants.{PeerEnd, ShortLength}
+use Rattle.gem_model.specs.State.{State, opening, is_up, is_session_up}
+use Rattle.gem_model.specs.Messages.{verdict}
+use Rattle.gem_model.specs.Step.{after}
+use Rattle.gem_model.specs.Run.{after_all}
+use Rattle.gem_model.specs.Lines.{Line, Skip, Up, Down, Bytes, line_of, lines_of}
+
+-- the longest text of a message, in bytes (this tool's profile, limits)
+abbrev pub text_bytes : ℕ
+text_bytes = 262144
+
+-- an entry of the one seat, 0, at moment 0
+abbrev pub entry_of : Event → Entry
+entry_of event = record { seat = 0; at = record { 0 = 0 }; event = event }
+
+-- the writer takes each frame that waits
+abbrev pub takes : State → List Entry
+takes g = if is_up g then map (λ _. entry_of (Take g.session)) g.waiting else []
+
+-- what one input gives: its entry, and then the frames are taken
+abbrev pub given : State → Event → List Entry
+given g event = entry_of event ∷ takes (after g event)
+
+-- What a line gives: its entries, the state after them, and whether the text goes on. It stops before a message
+-- that isn't built.
+pub record Given : Type 0 where
+  pub entries : List Entry
+  pub state : State
+  pub goes_on : Bool
+
+abbrev pub nothing : State → Given
+nothing g = record { entries = []; state = g; goes_on = true }
+
+abbrev pub stops : State → Given
+stops g = record { entries = []; state = g; goes_on = false }
+
+abbrev pub input : State → Event → Given
+input g event = record { entries = given g event; state = after_all g (given g event); goes_on = true }
+
+-- these entries first
+abbrev pub behind : List Entry → Given → Given
+behind entries more = record more { entries = entries ++ more.entries }
+
+-- The messages of a session, in order, and then the end of the session where a length below 10 follows them.
+-- What comes behind the end of the session is dropped.
+abbrev pub messages : State → ℕ → List Arrival → Bool → Given
+messages g session [] short =
+    if is_session_up g session && short then input g (LinkDown session ShortLength) else nothing g
+messages g session (arrival ∷ arrivals) short =
+    if not (is_session_up g session) then nothing g
+    else (if not (is_some (verdict g arrival)) then stops g
+    else behind (given g (Host session arrival)) (messages (after_all g (given g (Host session arrival))) session arrivals short))
+
+-- where a reader of lines stands: the state, and the bytes that came in the session that is up
+pub record Reading : Type 0 where
+  pub state : State
+  pub stream : List ℕ
+
+abbrev pub first_reading : Reading
+first_reading = record { state = opening; stream = [] }
+
+-- what bytes of the session give: what becomes whole of the stream by them
+abbrev pub bytes_given : Reading → List ℕ → Given
+bytes_given r bytes =
+    let arrivals = drop (length (arrivals_of text_bytes r.stream)) (arrivals_of text_bytes (r.stream ++ bytes)) in
+    messages r.state r.state.session arrivals (is_short (behind_of (r.stream ++ bytes)))
+
+-- what a line gives; without a session bytes are dropped, and a lost link is skipped
+abbrev pub line_given : Reading → Line → Given
+line_given r Skip = nothing r.state
+line_given r Up = input r.state LinkUp
+line_given r Down = if is_up r.state then input r.state (LinkDown r.state.session PeerEnd) else nothing r.state
+line_given r (Bytes bytes) = if is_up r.state then bytes_given r bytes else nothing r.state
+
+-- the bytes of the session after a line: a new session begins with none
+abbrev pub stream_after : Reading → Line → List ℕ
+stream_after r Skip = r.stream
+stream_after r Up = if is_up r.state then r.stream else []
+stream_after r Down = r.stream
+stream_after r (Bytes bytes) = r.stream ++ bytes
+
+-- where a text of lines stops, by the number of the line, counted from 1
+pub data Stop : Type 0 where
+  AllRead : Stop
+  OutsideGrammar : ℕ → Stop
+  NotBuilt : ℕ → Stop
+
+-- the entries of a text, and where it stops
+pub record Told : Type 0 where
+  pub entries : List Entry
+  pub stop : Stop
+
+abbrev pub told_behind : List Entry → Told → Told
+told_behind entries told = record told { entries = entries ++ told.entries }
+
+-- The entries of lines, the first of which has this number. It stops before a line outside the grammar, and
+-- before a message that isn't built.
+abbrev pub feed_lines : ℕ → Reading → List (List ℕ) → Told
+feed_lines number r [] = record { entries = []; stop = AllRead }
+feed_lines number r (line ∷ lines) = elim (line_of line) as (λ _. Told) [
+    None ↦ record { entries = []; stop = OutsideGrammar number }
+  | Some l ↦
+      let given = line_given r l in
+      if given.goes_on
+      then told_behind given.entries (feed_lines (number + 1) (record { state = given.state; stream = stream_after r l }) lines)
+      else record { entries = given.entries; stop = NotBuilt number }
+  ]
+
+-- the entries of a text
+abbrev pub feed_entries : List ℕ → Told
+feed_entries text = feed_lines 1 first_reading (lines_of text)

@@ -1,0 +1,11 @@
+pub mod Choose
+pub mod State
+pub mod Act
+pub mod LinkTable
+pub mod Messages
+pub mod Step
+pub mod Run
+pub mod Command
+pub mod Lines
+pub mod Feed
+pub mod Printed

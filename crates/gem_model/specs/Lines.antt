@@ -1,0 +1,53 @@
+-- The input as lines, and what a line says (this tool's profile, input lines).
+use Rattle.std.specs.Prelude.{ℕ, ◌||◌, ◌==◌, nat_lt, nat_eq, if◌then◌else◌, List, [], ◌∷◌, length, drop, codes, Option, Some, None, option_and_then}
+use Rattle.std.specs.List.{starts_with, list_any}
+use Rattle.std.specs.Str.{bytes_eq}
+use Rattle.std.specs.Result.{result_ok}
+use Rattle.hex.specs.Hex.{decode_of}
+
+-- a byte goes onto the first line of what follows it
+abbrev pub onto_first : ℕ → List (List ℕ) → List (List ℕ)
+onto_first byte [] = (byte ∷ []) ∷ []
+onto_first byte (line ∷ lines) = (byte ∷ line) ∷ lines
+
+-- the lines of a text: each ends with a line feed, which the last may lack
+abbrev pub lines_of : List ℕ → List (List ℕ)
+lines_of [] = []
+lines_of (byte ∷ text) = if byte == 10 then [] ∷ lines_of text else onto_first byte (lines_of text)
+
+-- the text up to its last line feed
+abbrev pub whole_lines : List ℕ → List ℕ
+whole_lines [] = []
+whole_lines (byte ∷ text) = if list_any (λ b. b == 10) (byte ∷ text) then byte ∷ whole_lines text else []
+
+-- what a line says
+pub data Line : Type 0 where
+  -- nothing: it is empty, or a comment
+  Skip : Line
+  -- a link comes up; the link is lost
+  Up : Line
+  Down : Line
+  -- bytes of the host come
+  Bytes : List ℕ → Line
+
+-- the greatest line, in bytes
+abbrev pub line_bytes : ℕ
+line_bytes = 600000
+
+-- an even number of hex digits of either case, at least two
+abbrev pub hex_line : List ℕ → Option Line
+hex_line digits = option_and_then (λ (bytes : List ℕ). not_empty bytes) (result_ok (decode_of digits))
+  where
+    not_empty : List ℕ → Option Line
+    not_empty [] = None
+    not_empty (b ∷ bs) = Some (Bytes (b ∷ bs))
+
+-- what a line says, where it is in the grammar
+abbrev pub line_of : List ℕ → Option Line
+line_of line =
+    if nat_lt line_bytes (length line) then None
+    else (if bytes_eq line [] || starts_with nat_eq line (codes "#") then Some Skip
+    else (if bytes_eq line (codes "L+") then Some Up
+    else (if bytes_eq line (codes "L-") then Some Down
+    else (if starts_with nat_eq line (codes "H ") then hex_line (drop 2 line)
+    else None))))

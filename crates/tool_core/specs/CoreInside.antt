@@ -1,0 +1,10 @@
+-- What is true of the core at every moment.
+use Rattle.std.specs.Prelude.{◌≤◌, List, length}
+use Rattle.tool_events.specs.declared.Entry.{Entry}
+use Rattle.gem_model.specs.State.{State, opening}
+use Rattle.gem_model.specs.Run.{Run}
+
+-- the history leads to the state, and there were no more sessions than entries
+pub record Replays (state : State) (history : List Entry) : Type 0 where
+  pub run : Run opening history state
+  pub sessions : state.session ≤ length history

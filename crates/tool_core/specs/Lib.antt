@@ -1,0 +1,5 @@
+pub mod PlantView
+pub mod Reply
+pub mod CoreView
+pub mod Steps
+pub mod CoreInside

@@ -5,6 +5,7 @@ pub mod LinkTable
 pub mod Messages
 pub mod Step
 pub mod Run
+pub mod Sessions
 pub mod Command
 pub mod Lines
 pub mod Feed

@@ -1,15 +1,17 @@
 //! The core: the plant and the history that led to it.
-ghost use Rattle.std.specs.Prelude.{◌≡◌, ◌+◌, ◌^◌, ◌<◌, ◌↔◌, [], ◌∷◌, ◌++◌, IsTrue, Some, None, OnOk, OnErr, IfOk, IsErrOf, if◌then◌else◌};
+ghost use Rattle.std.specs.Prelude.{◌≡◌, ◌+◌, ◌^◌, ◌<◌, ◌↔◌, [], ◌∷◌, ◌++◌, IsTrue, Some, None, OnOk, OnErr, IfOk, IsErrOf, if◌then◌else◌, vec_len, vec_capacity};
+ghost use Rattle.std.specs.Option.{option_to_list};
 ghost use Rattle.gem_model.specs.State.{opening, is_up};
 ghost use Rattle.gem_model.specs.Step.{Outcome, step};
 ghost use Rattle.gem_model.specs.Run.{Run};
+ghost use Rattle.gem_model.specs.Sessions.{session_end};
 
 use crate::entries::Entries;
 use crate::plant::Plant;
 use gem_ids::Moment;
 use std::alloc::{AllocError, AllocFailed, Global};
 use std::marker::Model;
-use tool_events::{Answer, Entry, Event};
+use tool_events::{Answer, Entry, Event, SessionCause};
 
 /// Why an event was not taken. Nothing has changed then.
 #[derive(Clone, Copy, Debug, PartialEq, Eq)]
@@ -31,11 +33,22 @@ impl From<AllocError> for PostFault {
     }
 }
 
+/// Adds the cause of a session that ended, where one did.
+fn add_end(ends: &mut Vec<SessionCause>, ended: Option<SessionCause>)
+    requires { vec_len ends.old < vec_capacity ends.old }
+    ensures { ends.new.items ≡ ends.old.items ++ option_to_list ended }
+{
+    if let Some(cause) = ended {
+        ends.push_reserved(cause);
+    }
+}
+
 /// The tool, with its history. Contracts see its state and its history.
 #[derive(Drop)]
 pub struct Core {
     plant: Plant,
     entries: Vec<Entry>,
+    ends: Vec<SessionCause>,
 }
 
 impl Model for Core {
@@ -50,7 +63,7 @@ impl Model for Core {
 
     ghost view = { λ c. record { state = c.plant; history = c.entries.items } };
 
-    ghost invariant = { λ c. Replays c.plant c.entries.items };
+    ghost invariant = { λ c. Replays c.plant c.entries.items c.ends.items };
 }
 
 impl Core {
@@ -61,6 +74,7 @@ impl Core {
         Core {
             plant: Plant::open(alloc),
             entries: Vec::new(alloc),
+            ends: Vec::new(alloc),
         }
     }
 
@@ -77,7 +91,7 @@ impl Core {
         ensures history { result ≡ self.history }
         ensures run { Run opening self.history self.state }
     {
-        let Core { plant: _, entries } = self;
+        let Core { entries, .. } = self;
         Entries::from_vec(entries)
     }
 
@@ -86,6 +100,16 @@ impl Core {
         ensures { result ≡ (if is_up self.now.state then Some self.now.state.session else None) }
     {
         self.plant.session_up()
+    }
+
+    /// Why a session ended. None: it is up, or never came.
+    pub fn session_end(&self, session: u64) -> Option<SessionCause>
+        ensures { result ≡ session_end opening self.now.history session }
+    {
+        if session == 0 {
+            return None;
+        }
+        self.ends.get((session - 1) as usize).copied()
     }
 
     /// Whether an event has to wait.
@@ -111,10 +135,12 @@ impl Core {
         ensures unchanged { OnErr result (self.new ≡ self.old) }
     {
         self.entries.reserve(1)?;
+        self.ends.reserve(1)?;
         let Some(reaction) = self.plant.react(alloc, &event)? else {
             return Err(PostFault::Again);
         };
         self.entries.push_reserved(Entry { seat, at, event });
+        add_end(&mut self.ends, reaction.ended);
         Ok(reaction.answer)
     }
 }

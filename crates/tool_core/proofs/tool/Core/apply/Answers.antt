@@ -8,7 +8,7 @@ use Rattle.tool_core.proofs.tool.Core.apply.Goals as goal
 pub invariant_of-self-2 : goal.invariant_of-self-2
 invariant_of-self-2 c =
     let reacted = rw c.in-Some.is at c.in_ok-reaction.ensures.some in
-    rw (c.push_reserved.ensures.items, c.reserve.ensures.items) (Replays-snoc _ _ _ _ c.self.invariant reacted)
+    rw (c.push_reserved.ensures.items, c.reserve.ensures.items, c.add_end.ensures, c.reserve-2.ensures.items) (Replays-snoc _ _ _ _ _ c.self.invariant reacted)
 
 pub returns-clause-step : goal.returns-clause-step
 returns-clause-step c =

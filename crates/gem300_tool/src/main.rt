@@ -1,4 +1,12 @@
-//! The program.
+//! The top calls of the tool, and the program that makes them.
 #![tactic(auto)]
+
+mod engine;
+mod halt;
+mod lines;
+mod print;
+
+mod words;
+mod write;
 
 fn main() {}

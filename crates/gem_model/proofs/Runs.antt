@@ -1,13 +1,12 @@
 -- Laws of runs.
-use Rattle.std.proofs.Common.{◌≡◌, ℕ, suc, ◌+◌, ◌≤◌, Bool, true, false, if◌then◌else◌, List, [], ◌∷◌, ◌++◌, Option, Some, None, refl, sym, ◌∙◌, ap, subst, arith, option_map}
-use Rattle.hsms_frame.specs.declared.frame.Arrival.{Arrival}
+use Rattle.std.proofs.Common.{◌≡◌, ℕ, suc, ◌≤◌, Bool, true, false, if◌then◌else◌, List, [], ◌∷◌, ◌++◌, Option, Some, None, refl, sym, ◌∙◌, ap, subst, arith, option_map}
 use Rattle.tool_events.specs.declared.Event.{Event}
 use Rattle.tool_events.specs.declared.Event.TheVariants.{LinkUp, LinkDown, Host, Take}
 use Rattle.tool_events.specs.declared.Entry.{Entry}
-use Rattle.gem_model.specs.State.{State, Down, NotSelected, is_up, is_down, is_session_up}
+use Rattle.gem_model.specs.State.{State, is_up, is_session_up}
 use Rattle.gem_model.specs.Act.{Act}
 use Rattle.gem_model.specs.Messages.{verdict}
-use Rattle.gem_model.specs.Step.{Outcome, step, after, treated, taken, refused, without_session}
+use Rattle.gem_model.specs.Step.{Outcome, step, after, treated, taken, refused}
 use Rattle.gem_model.specs.Run.{Run, after_all}
 
 -- a run goes on by one entry

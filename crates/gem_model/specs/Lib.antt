@@ -1,4 +1,5 @@
 pub mod Choose
+pub mod Front
 pub mod State
 pub mod Act
 pub mod LinkTable

@@ -34,10 +34,12 @@ end_lines k (Some cause) = ended_line (codes "- " ++ decimal k ++ codes " " ++ c
 abbrev pub outcome_lines : State → Outcome → List ℕ
 outcome_lines g o = answer_lines o.answer ++ end_lines g.session o.ended
 
+-- an event that had to wait has no lines
+abbrev pub step_lines : State → Option Outcome → List ℕ
+step_lines g None = []
+step_lines g (Some o) = outcome_lines g o
+
 -- the lines of a history, entry by entry
 abbrev pub printed : State → List Entry → List ℕ
 printed g [] = []
-printed g (entry ∷ entries) = elim (step g entry.event) as (λ _. List ℕ) [
-    None ↦ printed (after g entry.event) entries
-  | Some o ↦ outcome_lines g o ++ printed o.after entries
-  ]
+printed g (entry ∷ entries) = step_lines g (step g entry.event) ++ printed (after g entry.event) entries

@@ -133,6 +133,9 @@ impl Core {
             ≡ self.old.history ++ record { seat = seat; at = at; event = event } ∷ []) }
         ensures again { IsErrOf result PostFault.Again → step self.old.state event ≡ None }
         ensures unchanged { OnErr result (self.new ≡ self.old) }
+        // The history is a run from the first state, before the call and after it.
+        ensures ran { Run opening self.old.history self.old.state }
+        ensures run { Run opening self.new.history self.new.state }
     {
         self.entries.reserve(1)?;
         self.ends.reserve(1)?;

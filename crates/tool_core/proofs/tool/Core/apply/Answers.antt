@@ -16,3 +16,9 @@ returns-clause-step c =
     (record { answer = c.in-Some.reaction.answer; ended = c.in-Some.reaction.ended; after = c.react.new.self },
       subst (λ (g : State). step g c.args.event ≡ Some (record { answer = c.in-Some.reaction.answer; ended = c.in-Some.reaction.ended; after = c.react.new.self })) (ap (λ (v : CoreView). v.state) c.self.view_is) reacted,
       refl, refl)
+
+pub returns-clause-run : goal.returns-clause-run
+returns-clause-run c =
+    let reacted = rw c.in-Some.is at c.in_ok-reaction.ensures.some in
+    let kept = Replays-snoc _ _ _ _ _ c.self.invariant reacted in
+    rw (c.push_reserved.ensures.items, c.reserve.ensures.items) kept.run

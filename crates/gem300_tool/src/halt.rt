@@ -1,0 +1,14 @@
+//! Why a run of lines stops before its end.
+
+/// Why a run of lines stops before its end.
+#[derive(Clone, Copy, Debug, PartialEq, Eq)]
+pub enum Halt {
+    /// A write failed, or took nothing of a piece.
+    Write,
+    /// There was no memory.
+    NoMemory,
+    /// A line is outside the grammar, from this byte on.
+    Line(u64),
+    /// A message is not built.
+    NotBuilt,
+}

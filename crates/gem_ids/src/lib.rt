@@ -1,7 +1,16 @@
-//! The names and moments of the tool: text, carrier, job and substrate names, ports, slots, modules, moments.
+//! The names and moments of the tool, which every other crate speaks of: texts of at most 80 bytes, the names of
+//! carriers, jobs and substrates, ports, slots, modules, commands, locations, and moments in hundredths of a second.
+//! The limits are those of this tool's profile, within what SEMI E87, E90 and E94 allow. Nothing here takes memory,
+//! and every type is copied. A name is compared by its bytes; what it names is kept by the crates above. Begin with
+//! `Text80::read`, which makes a text of bytes, and `CarrierId::read`, which makes a name of a text.
 #![tactic(auto)]
 
-/// A moment, in hundredths of a second since 2000-01-01 00:00:00, at most 25,245,561,599,999
-/// (the last hundredth of the year 9999).
-#[derive(Clone, Copy, Debug, PartialEq, Eq, PartialOrd, Ord)]
-pub struct Moment(pub u64);
+mod moment;
+mod names;
+mod numbers;
+mod text;
+
+pub use moment::Moment;
+pub use names::{CarrierId, JobId, SubstrateId, substrate_id};
+pub use numbers::{CmdNo, LocId, ModuleId, PortNo, SlotNo};
+pub use text::{Text80, TextFault};

@@ -1,0 +1,9 @@
+/// A moment, in hundredths of a second since 2000-01-01 00:00:00, at most 25,245,561,599,999
+/// (the last hundredth of the year 9999).
+#[derive(Clone, Copy, Debug, PartialEq, Eq, PartialOrd, Ord)]
+pub struct Moment(pub u64);
+
+impl Moment {
+    /// The last hundredth of the year 9999.
+    pub const LAST: Moment = Moment(25_245_561_599_999);
+}

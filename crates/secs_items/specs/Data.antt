@@ -21,3 +21,8 @@ mutual
   pub data DataList : Type 0 where
     no_items : DataList
     item : Data → DataList → DataList
+
+-- the items of a list with one more at its end
+abbrev pub added : DataList → Data → DataList
+added no_items d = item d no_items
+added (item e ds) d = item e (added ds d)

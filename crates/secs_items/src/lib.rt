@@ -1,2 +1,14 @@
-//! secs_items
+//! SECS-II items after SEMI E5: the values that messages carry, and their bytes.
 #![tactic(auto)]
+
+mod element;
+mod elements;
+mod item;
+mod writing;
+
+pub use elements::{Bools, Bytes, Elements, I8s, I16s, I32s, I64s, U8s, U16s, U32s, U64s};
+pub use item::{Item, Items, NoMemory};
+pub use writing::encode;
+
+#[cfg(test)]
+mod tests;

@@ -1,0 +1,115 @@
+ghost use Rattle.std.specs.Prelude.{◌≡◌, ℕ, ◌≤◌, None, length, IfOk};
+
+use crate::counts::count_answer;
+use crate::source::{Failed, Source};
+use std::io::Read;
+use std::marker::Model;
+use std::rt::Files;
+use std::{fs, io};
+
+/// A file as a source. Each read opens it where it isn't open yet, so a file that can't be opened fails at its first
+/// read. It tells no content; contracts see its counts.
+#[derive(Drop)]
+pub struct FileSource<'a, R: Files> {
+    rt: &'a R,
+    path: &'a str,
+    file: Option<R::File>,
+    faults: u64,
+    ends: u64,
+}
+
+impl<'a, R: Files> Model for FileSource<'a, R> {
+    ghost use Rattle.outside.specs.Counts.{SourceCounts};
+
+    ghost Value = { SourceCounts };
+
+    ghost view = { λ s. record { faults = s.faults; ends = s.ends } };
+}
+
+impl<'a, R: Files> FileSource<'a, R> {
+    /// The file at this path, which isn't opened yet.
+    pub fn new(rt: &'a R, path: &'a str) -> FileSource<'a, R>
+        ensures faults { result.faults ≡ 0 }
+        ensures ends { result.ends ≡ 0 }
+    {
+        FileSource {
+            rt,
+            path,
+            file: None,
+            faults: 0,
+            ends: 0,
+        }
+    }
+
+    /// How many reads failed.
+    pub fn faults(&self) -> u64
+        ensures { result ≡ self.now.faults }
+    {
+        self.faults
+    }
+
+    /// How many reads of a buffer that isn't empty were answered 0.
+    pub fn ends(&self) -> u64
+        ensures { result ≡ self.now.ends }
+    {
+        self.ends
+    }
+}
+
+impl<R: Files> Source for FileSource<'_, R> {
+    ghost left = { λ _. None };
+
+    ghost faults = { λ s. s.faults };
+
+    ghost ends = { λ s. s.ends };
+
+    fn read(&mut self, buf: &mut [u8]) -> Result<usize, Failed> {
+        let answer = read_opened(self.rt, self.path, &mut self.file, buf);
+        count_answer(answer, buf.len(), &mut self.faults, &mut self.ends)
+    }
+}
+
+// Reads from the file, and opens it before where it isn't open yet.
+fn read_opened<R: Files>(
+    rt: &R,
+    path: &str,
+    file: &mut Option<R::File>,
+    buf: &mut [u8],
+) -> io::Result<usize>
+    ensures { IfOk result (λ n. n ≤ length buf.old) }
+{
+    if let Some(opened) = file {
+        return opened.read(buf);
+    }
+    let mut opened = fs::open(rt, path)?;
+    let answer = opened.read(buf);
+    *file = Some(opened);
+    answer
+}
+
+#[cfg(test)]
+mod tests {
+    use super::*;
+    use std::test::Fail;
+
+    #[test]
+    fn a_missing_file_fails_at_its_first_read(rt: HostRuntime) {
+        let mut file = FileSource::new(&rt, "no-such-file");
+        assert_eq!(rt; file.faults(), 0);
+        assert_eq!(rt; file.read(&mut [0; 4]), Err(Failed));
+        assert_eq!(rt; (file.faults(), file.ends()), (1, 0));
+    }
+
+    #[test]
+    fn a_file_is_read_to_its_end(rt: HostRuntime) -> Result<(), Fail> {
+        fs::write(&rt, "three-bytes", "abc")?;
+        let mut file = FileSource::new(&rt, "three-bytes");
+        let mut buf = [0; 4];
+        assert_eq!(rt; file.read(&mut buf), Ok(3));
+        assert_eq!(rt; buf.as_slice(), b"abc\0".as_slice());
+        assert_eq!(rt; file.read(&mut buf), Ok(0));
+        assert_eq!(rt; (file.faults(), file.ends()), (0, 1));
+        fs::remove_file(&rt, "three-bytes")?;
+        Ok(())
+    }
+}

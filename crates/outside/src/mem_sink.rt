@@ -1,0 +1,196 @@
+ghost use Rattle.std.specs.Prelude.{◌≡◌, ℕ, ◌+◌, ◌-◌, ◌^◌, ◌<◌, ◌≤◌, ◌↔◌, ◌⊎◌, min, if◌then◌else◌, List, [], ◌++◌, length, take, Contains, Some, IfOk, OnOk, OnErr, IsErr, is_err};
+ghost use Rattle.outside.specs.Counts.{Rose, one_more};
+ghost use Rattle.outside.specs.Memory.{is_zero_of};
+ghost use Rattle.outside.specs.Told.{Written};
+
+use crate::counts::count_if;
+use crate::sink::Sink;
+use crate::source::Failed;
+use std::alloc::{AllocError, Global};
+use std::marker::Model;
+
+/// Memory has run out.
+pub type NoMemory = AllocError;
+
+/// A sink that keeps its bytes in memory, for tests and small programs. Contracts see it as what it holds, with its
+/// counts.
+#[derive(Debug, Drop)]
+pub struct MemSink {
+    held: Vec<u8>,
+    limit: usize,
+    fails: Vec<u64>,
+    writes: u64,
+    faults: u64,
+    refusals: u64,
+}
+
+impl Model for MemSink {
+    ghost use Rattle.std.specs.Prelude.{vec_capacity};
+    ghost use Rattle.outside.specs.Memory.{Writing};
+
+    ghost Value = { Writing };
+
+    ghost view = { λ s. record {
+      held = s.held.items;
+      limit = s.limit;
+      room = vec_capacity s.held;
+      fails = s.fails.items;
+      writes = s.writes;
+      faults = s.faults;
+      refusals = s.refusals;
+    } };
+}
+
+impl MemSink {
+    /// An empty sink. The writes whose numbers are in `fails` fail, the first write being 1.
+    pub fn new(alloc: Global, fails: Vec<u64>) -> MemSink
+        ensures held { result.held ≡ [] }
+        ensures limit { result.limit ≡ usize.MAX }
+        ensures fails { result.fails ≡ fails.items }
+        ensures writes { result.writes ≡ 0 }
+        ensures faults { result.faults ≡ 0 }
+        ensures refusals { result.refusals ≡ 0 }
+    {
+        MemSink {
+            held: Vec::new(alloc),
+            limit: usize::MAX,
+            fails,
+            writes: 0,
+            faults: 0,
+            refusals: 0,
+        }
+    }
+
+    /// The same sink, which takes at most so many bytes at all, and then answers 0.
+    pub fn with_limit(self, limit: usize) -> MemSink
+        ensures { result ≡ record self { limit = limit } }
+    {
+        let mut sink = self;
+        sink.limit = limit;
+        sink
+    }
+
+    /// Takes memory for so many bytes more, so that no write of them fails for want of it. Whatever it answers, the
+    /// sink is as before but for its memory.
+    pub fn reserve(&mut self, more: usize) -> Result<(), NoMemory>
+        ensures room { OnOk result (length self.old.held + more ≤ self.new.room) }
+        ensures no_less { self.old.room ≤ self.new.room }
+        ensures same { self.new ≡ record self.old { room = self.new.room } }
+    {
+        self.held.reserve(more)
+    }
+
+    /// The bytes that it holds.
+    pub fn as_bytes(&self) -> &[u8]
+        ensures { result.now ≡ self.now.held }
+    {
+        self.held.as_slice()
+    }
+
+    /// Gives out the bytes that it holds. Takes no memory.
+    pub fn into_bytes(self) -> Vec<u8>
+        ensures { result.items ≡ self.held }
+    {
+        let MemSink { held, .. } = self;
+        held
+    }
+
+    /// How many writes failed.
+    pub fn faults(&self) -> u64
+        ensures { result ≡ self.now.faults }
+    {
+        self.faults
+    }
+
+    /// How many writes of a piece that isn't empty were answered 0.
+    pub fn refusals(&self) -> u64
+        ensures { result ≡ self.now.refusals }
+    {
+        self.refusals
+    }
+}
+
+impl Sink for MemSink {
+    ghost held = { λ s. Some s.held };
+
+    ghost faults = { λ s. s.faults };
+
+    ghost refusals = { λ s. s.refusals };
+
+    /// Fails where this write's number is in the list of those that are to fail, and else only where there is no
+    /// memory for what it would take.
+    fn write(&mut self, bytes: &[u8]) -> Result<usize, Failed>
+        ensures fits { IfOk result (λ n. n ≤ length bytes.now) }
+        ensures written { IfOk result (λ n. Written (Some self.old.held) (Some self.new.held) (take n bytes.now)) }
+        ensures refused { IfOk result (λ n. n ≡ 0 → 0 < length bytes.now → Rose self.old.refusals self.new.refusals) }
+        ensures failed { OnErr result (Rose self.old.faults self.new.faults) }
+        ensures unwritten { OnErr result (Some self.new.held ≡ Some self.old.held) }
+        ensures faults_stay { self.old.faults ≤ self.new.faults }
+        ensures refusals_stay { self.old.refusals ≤ self.new.refusals }
+
+        // More than every sink promises: when it fails, and how many bytes it takes.
+        ensures fails { Contains self.old.fails (one_more self.old.writes) → IsErr result }
+        ensures fails_else { OnErr result (Contains self.old.fails (one_more self.old.writes)
+            ⊎ (self.old.room < length self.old.held + min (length bytes.now) (self.old.limit - length self.old.held))) }
+        ensures count { IfOk result (λ n. n ≡ min (length bytes.now) (self.old.limit - length self.old.held)) }
+        ensures writes { self.new.writes ≡ one_more self.old.writes }
+        ensures faults { self.new.faults ≡ (if is_err result then one_more self.old.faults else self.old.faults) }
+        ensures refusals { self.new.refusals ≡ (if is_zero_of (length bytes.now) result then one_more self.old.refusals else self.old.refusals) }
+        ensures same_fails { self.new.fails ≡ self.old.fails }
+        ensures same_limit { self.new.limit ≡ self.old.limit }
+        ensures room { self.old.room ≤ self.new.room }
+    {
+        self.writes = self.writes.saturating_add(1);
+        if self.fails.contains(&self.writes) {
+            self.faults = self.faults.saturating_add(1);
+            return Err(Failed);
+        }
+        let n = bytes.len().min(self.limit.saturating_sub(self.held.len()));
+        if self.held.extend_from_slice(&bytes[..n]).is_err() {
+            self.faults = self.faults.saturating_add(1);
+            return Err(Failed);
+        }
+        self.refusals = count_if(self.refusals, n == 0 && !bytes.is_empty());
+        Ok(n)
+    }
+}
+
+#[cfg(test)]
+mod tests {
+    use super::*;
+    use std::test::Fail;
+
+    #[test]
+    fn what_is_written_is_held_in_order(rt: HostRuntime) -> Result<(), Fail> {
+        let mut sink = MemSink::new(rt.alloc(), Vec::new(rt.alloc()));
+        sink.reserve(5)?;
+        assert_eq!(rt; sink.write(b"abc"), Ok(3));
+        assert_eq!(rt; sink.write(b"de"), Ok(2));
+        assert_eq!(rt; sink.as_bytes(), b"abcde".as_slice());
+        assert_eq!(rt; (sink.faults(), sink.refusals()), (0, 0));
+        assert_eq!(rt; sink.into_bytes().as_slice(), b"abcde".as_slice());
+        Ok(())
+    }
+
+    #[test]
+    fn the_second_write_fails_and_leaves_what_was_held(rt: HostRuntime) -> Result<(), Fail> {
+        let mut sink = MemSink::new(rt.alloc(), Vec::from_slice(rt.alloc(), &[2])?);
+        assert_eq!(rt; sink.write(b"a"), Ok(1));
+        assert_eq!(rt; sink.write(b"b"), Err(Failed));
+        assert_eq!(rt; sink.write(b"c"), Ok(1));
+        assert_eq!(rt; sink.as_bytes(), b"ac".as_slice());
+        assert_eq!(rt; (sink.faults(), sink.refusals()), (1, 0));
+        Ok(())
+    }
+
+    #[test]
+    fn a_full_sink_takes_a_front_and_then_nothing(rt: HostRuntime) {
+        let mut sink = MemSink::new(rt.alloc(), Vec::new(rt.alloc())).with_limit(3);
+        assert_eq!(rt; sink.write(b"abcde"), Ok(3));
+        assert_eq!(rt; sink.write(b""), Ok(0));
+        assert_eq!(rt; sink.refusals(), 0);
+        assert_eq!(rt; sink.write(b"de"), Ok(0));
+        assert_eq!(rt; sink.as_bytes(), b"abc".as_slice());
+        assert_eq!(rt; (sink.faults(), sink.refusals()), (0, 1));
+    }
+}

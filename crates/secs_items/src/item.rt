@@ -1,0 +1,98 @@
+ghost use Rattle.std.specs.Prelude.{◌≡◌, OnOk, OnErr};
+ghost use Rattle.secs_items.specs.Data.{no_items, added};
+ghost use Rattle.secs_items.specs.View.{view, items_of};
+
+use crate::elements::{Bools, Bytes, I8s, I16s, I32s, I64s, U8s, U16s, U32s, U64s};
+use std::alloc::{AllocError, Global};
+use std::marker::Model;
+
+/// Memory ran out.
+pub type NoMemory = AllocError;
+
+/// One data item of a message (SEMI E5, data items): a list of items, or elements of one kind.
+#[cycle(item)]
+#[derive(Debug, Drop)]
+pub enum Item {
+    List(Items),
+    Binary(Bytes),
+    Bool(Bools),
+    Ascii(Bytes),
+    I1(I8s),
+    I2(I16s),
+    I4(I32s),
+    I8(I64s),
+    U1(U8s),
+    U2(U16s),
+    U4(U32s),
+    U8(U64s),
+}
+
+/// The items of a list. Contracts see what they say, one after another.
+#[cycle(item)]
+#[derive(Debug, Drop)]
+pub struct Items {
+    items: Vec<Item>,
+}
+
+impl Model for Items {
+    ghost use Rattle.secs_items.specs.Data.{DataList};
+    ghost use Rattle.secs_items.specs.Stored.{items_code};
+
+    ghost Value = { DataList };
+
+    ghost coded = { items_code };
+
+    ghost use Rattle.secs_items.specs.View.{items_of};
+
+    ghost view = { λ i. items_of i.items.items };
+
+    ghost use Rattle.secs_items.specs.Height.{highest};
+
+    ghost size = { highest };
+
+    ghost use Rattle.secs_items.specs.Falls.{most-highest};
+
+    ghost size_decreases = { λ i h. most-highest i.items.items };
+}
+
+impl Items {
+    /// No items. Takes no memory.
+    pub fn new(alloc: Global) -> Items
+        ensures { result ≡ no_items }
+    {
+        Items {
+            items: Vec::new(alloc),
+        }
+    }
+
+    /// Adds an item at the end. `NoMemory` comes where the list can't grow; it then has the items that it had.
+    pub fn push(&mut self, item: Item) -> Result<(), NoMemory>
+        ensures ok { OnOk result (self.new ≡ added self.old (view item)) }
+        ensures no_memory { OnErr result (self.new ≡ self.old) }
+    {
+        self.items.push(item)?;
+        Ok(())
+    }
+
+    /// The items of a vector. Takes no memory.
+    pub fn from_vec(items: Vec<Item>) -> Items
+        ensures { result ≡ items_of items.items }
+    {
+        Items { items }
+    }
+
+    /// Gives the vector back. Takes no memory.
+    pub fn into_vec(self) -> Vec<Item>
+        ensures { items_of result.items ≡ self }
+    {
+        let Items { items } = self;
+        items
+    }
+
+    /// The items as a slice.
+    pub fn as_slice(&self) -> &[Item]
+        ensures { items_of result.now ≡ self.now }
+    {
+        self.items.as_slice()
+    }
+}

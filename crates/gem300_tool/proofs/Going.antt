@@ -1,6 +1,7 @@
 -- One part of feed after another.
-use Rattle.std.proofs.Common.{◌≡◌, ℕ, ◌+◌, ◌≤◌, Bool, true, false, List, [], ◌∷◌, ◌++◌, Option, Some, None, Result, Ok, Err, refl, sym, ◌∙◌, ap, subst, append_assoc, arith, IsErrOf}
+use Rattle.std.proofs.Common.{◌≡◌, ℕ, ◌+◌, ◌≤◌, inl, inr, Bool, true, false, List, [], ◌∷◌, ◌++◌, Option, Some, None, Result, Ok, Err, refl, sym, ◌∙◌, ap, subst, append_assoc, arith, IsErrOf, option_map, option_and_then, if◌then◌else◌}
 use Rattle.std.proofs.lemmas.List.{append-nil}
+use Rattle.std.proofs.lemmas.Bool.{true≢false}
 use Rattle.outside.specs.Counts.{Rose}
 use Rattle.outside.specs.Told.{IsFrontOf, Written}
 use Rattle.tool_events.specs.declared.Entry.{Entry}
@@ -8,11 +9,18 @@ use Rattle.gem_model.specs.Front.{IsFront}
 use Rattle.gem_model.specs.State.{State, opening}
 use Rattle.gem_model.specs.Step.{Outcome, step}
 use Rattle.gem_model.specs.Run.{Run, after_all}
-use Rattle.gem_model.specs.Feed.{Given, behind}
+use Rattle.gem_model.specs.Feed.{Given, behind, nothing, stops}
 use Rattle.gem_model.specs.Printed.{printed, outcome_lines}
 use Rattle.gem_model.specs.Step.{after}
 use Rattle.gem_model.proofs.Runs.{after-step}
+use Rattle.gem_model.specs.State.{is_up}
+use Rattle.gem_model.specs.Sessions.{session_end}
+use Rattle.gem_model.specs.Printed.{answer_lines, end_lines}
+use Rattle.gem_model.proofs.Ends.{session_end-now, ended_none}
 use Rattle.gem_model.proofs.Printing.{printed-snoc}
+use Rattle.tool_events.specs.declared.Answer.{Answer}
+use Rattle.tool_events.specs.declared.SessionCause.{SessionCause}
+use Rattle.gem300_tool.specs.OutLine.{ended_bytes}
 use Rattle.tool_core.specs.CoreView.{CoreView}
 use Rattle.gem300_tool.specs.declared.halt.Halt.{Halt}
 use Rattle.gem300_tool.specs.declared.halt.Halt.TheVariants as halt
@@ -75,6 +83,90 @@ pub Goes-added-memory : (core core' : CoreView) (out : SinkView) (entry : Entry)
 Goes-added-memory core core' out entry o added = record {
   went = rw added.history (record { behind = []; joined = sym (append-nil (core.history ++ entry ∷ [])) });
   shows = λ start shows. rw (added_lines core core' entry o added) (WrittenFront-wider start out.held (printed opening core.history) (outcome_lines core.state o) (WrittenFront-all start out.held (printed opening core.history) shows));
+  cause = λ e. absurd (cc);
+  faults_stay = omega arith;
+  refusals_stay = omega arith;
+}
+
+-- the session that ended, by its number and its cause
+abbrev pub end_after : List Entry → Option ℕ → Option (ℕ × SessionCause)
+end_after history before = option_and_then (λ k. option_map (λ cause. (k, cause)) (session_end opening history k)) before
+
+ended_lines : (k : ℕ) (cause : Option SessionCause) → ended_bytes (option_map (λ c. (k, c)) cause) ≡ end_lines k cause
+ended_lines k None = refl
+ended_lines k (Some c) = refl
+
+ends_shown : (core core' : CoreView) (entry : Entry) (o : Outcome) → Added core core' entry o → (up : Bool) → is_up core.state ≡ up → ended_bytes (end_after core'.history (if up then Some core.state.session else None)) ≡ end_lines core.state.session o.ended
+ends_shown core core' entry o added true up =
+    ap (λ (c : Option SessionCause). ended_bytes (option_map (λ c. (core.state.session, c)) c))
+      (ap (λ (h : List Entry). session_end opening h core.state.session) added.history ∙ session_end-now core.history core.state entry o added.ran added.here up)
+    ∙ ended_lines core.state.session o.ended
+ends_shown core core' entry o added false down =
+    sym (ap (end_lines core.state.session) (ended_none core.state entry.event o added.here down))
+
+-- the lines of an outcome are those of its answer and of the session that ended
+pub outcome_shown : (core core' : CoreView) (entry : Entry) (o : Outcome) → Added core core' entry o → (answer : Answer) → o.answer ≡ answer → (before : Option ℕ) → before ≡ if is_up core.state then Some core.state.session else None → (ended : Option (ℕ × SessionCause)) → ended ≡ end_after core'.history before → (text : List ℕ) → text ≡ answer_lines answer ++ ended_bytes ended → text ≡ outcome_lines core.state o
+outcome_shown core core' entry o added answer is before was ended now text made =
+    made
+    ∙ ap (λ (a : Answer). answer_lines a ++ ended_bytes ended) (sym is)
+    ∙ ap (λ (lines : List ℕ). answer_lines o.answer ++ lines)
+      (ap ended_bytes (now ∙ ap (end_after core'.history) was) ∙ ends_shown core core' entry o added (is_up core.state) refl)
+
+Failed-wider : (f1 f2 f3 r1 r2 r3 : ℕ) → f1 ≤ f2 → f2 ≤ f3 → r1 ≤ r2 → r2 ≤ r3 → Failed f2 f3 r2 r3 → Failed f1 f3 r1 r3
+Failed-wider f1 f2 f3 r1 r2 r3 h i j k (inl faults) = inl (Rose-wider f1 f2 f3 f3 h i faults (omega arith))
+Failed-wider f1 f2 f3 r1 r2 r3 h i j k (inr refusals) = inr (Rose-wider r1 r2 r3 r3 j k refusals (omega arith))
+
+went_then : (a b c : CoreView) (first more : Given) (result : Result (Unit {0}) Halt) → WentOn a b first (Ok tt) → WentOn b c more result → WentOn a c (behind first.entries more) result
+went_then a b c first more (Ok done) h i = (joined_history a b c first more h i.0, i.1, i.2)
+  where
+    joined_history : (a b c : CoreView) (first more : Given) → WentOn a b first (Ok tt) → c.history ≡ b.history ++ more.entries → c.history ≡ a.history ++ (first.entries ++ more.entries)
+    joined_history a b c first more h i = i ∙ ap (λ (es : List Entry). es ++ more.entries) h.0 ∙ append_assoc a.history first.entries more.entries
+went_then a b c first more (Err halt.NotBuilt) h i = (i.0 ∙ ap (λ (es : List Entry). es ++ more.entries) h.0 ∙ append_assoc a.history first.entries more.entries, i.1)
+went_then a b c first more (Err (halt.Line place)) h i = i
+went_then a b c first more (Err halt.Write) h i = record { behind = i.behind; joined = sym (append_assoc a.history first.entries more.entries) ∙ ap (λ (es : List Entry). es ++ more.entries) (sym h.0) ∙ i.joined }
+went_then a b c first more (Err halt.NoMemory) h i = record { behind = i.behind; joined = sym (append_assoc a.history first.entries more.entries) ∙ ap (λ (es : List Entry). es ++ more.entries) (sym h.0) ∙ i.joined }
+
+-- one part, and then another
+pub Goes-then : (a b c : CoreView) (o1 o2 o3 : SinkView) (first more : Given) (result : Result (Unit {0}) Halt) → Goes a b o1 o2 first (Ok tt) → Goes b c o2 o3 more result → Goes a c o1 o3 (behind first.entries more) result
+Goes-then a b c o1 o2 o3 first more result h i = record {
+  went = went_then a b c first more result h.went i.went;
+  shows = λ start shows. i.shows start (h.shows start shows);
+  cause = λ e. Failed-wider o1.faults o2.faults o3.faults o1.refusals o2.refusals o3.refusals h.faults_stay i.faults_stay h.refusals_stay i.refusals_stay (i.cause e);
+  faults_stay = omega (arith, h.faults_stay, i.faults_stay);
+  refusals_stay = omega (arith, h.refusals_stay, i.refusals_stay);
+}
+
+went_halts : (a b : CoreView) (first more : Given) (why : Halt) → first.goes_on ≡ true → WentOn a b first (Err why) → WentOn a b (behind first.entries more) (Err why)
+went_halts a b first more halt.NotBuilt on h = absurd (true≢false (sym on ∙ h.1))
+went_halts a b first more (halt.Line place) on h = h
+went_halts a b first more halt.Write on h = rw (← append_assoc a.history first.entries more.entries) (IsFront-wider b.history (a.history ++ first.entries) more.entries h)
+went_halts a b first more halt.NoMemory on h = rw (← append_assoc a.history first.entries more.entries) (IsFront-wider b.history (a.history ++ first.entries) more.entries h)
+
+-- one part halts, and the other isn't begun
+pub Goes-halts : (a b : CoreView) (o1 o2 : SinkView) (first more : Given) (why : Halt) → first.goes_on ≡ true → Goes a b o1 o2 first (Err why) → Goes a b o1 o2 (behind first.entries more) (Err why)
+Goes-halts a b o1 o2 first more why on h = record {
+  went = went_halts a b first more why on h.went;
+  shows = h.shows;
+  cause = h.cause;
+  faults_stay = h.faults_stay;
+  refusals_stay = h.refusals_stay;
+}
+
+-- nothing is given
+pub Goes-nothing : (core : CoreView) (out : SinkView) → Goes core core out out (nothing core.state) (Ok tt)
+Goes-nothing core out = record {
+  went = (sym (append-nil core.history), refl, refl);
+  shows = λ start shows. shows;
+  cause = λ e. absurd (cc);
+  faults_stay = omega arith;
+  refusals_stay = omega arith;
+}
+
+-- a message that isn't built
+pub Goes-stops : (core : CoreView) (out : SinkView) → Goes core core out out (stops core.state) (Err halt.NotBuilt)
+Goes-stops core out = record {
+  went = (sym (append-nil core.history), refl);
+  shows = λ start shows. shows;
   cause = λ e. absurd (cc);
   faults_stay = omega arith;
   refusals_stay = omega arith;

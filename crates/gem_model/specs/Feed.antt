@@ -48,15 +48,22 @@ input g event = record { entries = given g event; state = after_all g (given g e
 abbrev pub behind : List Entry → Given → Given
 behind entries more = record more { entries = entries ++ more.entries }
 
+-- one part, and where it goes on, the next in the state after it
+abbrev pub and_then : Given → (State → Given) → Given
+and_then first more = if first.goes_on then behind first.entries (more first.state) else first
+
+-- one message of a session
+abbrev pub message : State → ℕ → Arrival → Given
+message g session arrival = if is_some (verdict g arrival) then input g (Host session arrival) else stops g
+
 -- The messages of a session, in order, and then the end of the session where a length below 10 follows them.
 -- What comes behind the end of the session is dropped.
 abbrev pub messages : State → ℕ → List Arrival → Bool → Given
 messages g session [] short =
-    if is_session_up g session && short then input g (LinkDown session ShortLength) else nothing g
+    if short && is_session_up g session then input g (LinkDown session ShortLength) else nothing g
 messages g session (arrival ∷ arrivals) short =
-    if not (is_session_up g session) then nothing g
-    else (if not (is_some (verdict g arrival)) then stops g
-    else behind (given g (Host session arrival)) (messages (after_all g (given g (Host session arrival))) session arrivals short))
+    if is_session_up g session then and_then (message g session arrival) (λ h. messages h session arrivals short)
+    else nothing g
 
 -- where a reader of lines stands: the state, and the bytes that came in the session that is up
 pub record Reading : Type 0 where

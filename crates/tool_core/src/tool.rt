@@ -1,7 +1,7 @@
 //! The core: the plant and the history that led to it.
 ghost use Rattle.std.specs.Prelude.{◌≡◌, ◌+◌, ◌^◌, ◌<◌, ◌↔◌, [], ◌∷◌, ◌++◌, IsTrue, Some, None, OnOk, OnErr, IfOk, IsErrOf, if◌then◌else◌, vec_len, vec_capacity};
 ghost use Rattle.std.specs.Option.{option_to_list};
-ghost use Rattle.gem_model.specs.State.{opening, is_up};
+ghost use Rattle.gem_model.specs.State.{opening, is_up, is_session_up};
 ghost use Rattle.gem_model.specs.Step.{Outcome, step};
 ghost use Rattle.gem_model.specs.Run.{Run};
 ghost use Rattle.gem_model.specs.Sessions.{session_end};
@@ -100,6 +100,13 @@ impl Core {
         ensures { result ≡ (if is_up self.now.state then Some self.now.state.session else None) }
     {
         self.plant.session_up()
+    }
+
+    /// Whether this session is up.
+    pub fn is_session_up(&self, session: u64) -> bool
+        ensures { result ≡ is_session_up self.now.state session }
+    {
+        self.plant.is_session_up(session)
     }
 
     /// Why a session ended. None: it is up, or never came.

@@ -1,10 +1,11 @@
 -- How a stream of bytes is cut into arrivals.
-use Rattle.std.specs.Prelude.{slice_index, ◌≡◌, ℕ, zero, suc, ◌+◌, ◌-◌, ◌^◌, ◌<◌, ◌≤◌, ◌⊎◌, Bool, ◌&&◌, nat_lt, nat_le, if◌then◌else◌, List, [], ◌∷◌, ◌++◌, length, take, drop, Option, Some, None}
+use Rattle.std.specs.Prelude.{slice_index, ◌≡◌, ℕ, zero, suc, ◌+◌, ◌-◌, ◌^◌, ◌<◌, ◌≤◌, ◌⊎◌, Bool, ◌&&◌, nat_lt, nat_le, if◌then◌else◌, List, [], ◌∷◌, ◌++◌, length, take, drop, Option, Some, None, Result, Ok, Err}
 use Rattle.std.specs.Int.{w16, w32, from_be_bytes}
 use Rattle.hsms_frame.specs.Spelling.{HeaderFits, message_bytes}
 use Rattle.hsms_frame.specs.declared.frame.Header.{Header}
-use Rattle.hsms_frame.specs.declared.frame.Frame.{Frame}
 use Rattle.hsms_frame.specs.declared.frame.Arrival.{Arrival}
+use Rattle.hsms_frame.specs.declared.fault.CutFault.{CutFault}
+use Rattle.hsms_frame.specs.declared.fault.CutFault.TheVariants as fault
 use Rattle.hsms_frame.specs.declared.frame.Arrival.TheVariants as arrival
 
 -- what the length field at the front says: the bytes that follow it, ten of header and then the text
@@ -85,6 +86,10 @@ behind_arrivals (suc n) stream =
 abbrev pub behind_of : List ℕ → List ℕ
 behind_of stream = behind_arrivals (length stream) stream
 
+-- what is left of a stream: what is behind all arrivals, of which a length below 10 leaves its four bytes
+abbrev pub rest_of : List ℕ → List ℕ
+rest_of stream = if is_short (behind_of stream) then take 4 (behind_of stream) else behind_of stream
+
 -- What a cutter keeps of a stream: the greatest text, the bytes of the frame that isn't whole yet,
 -- and of a text that is longer than the greatest no bytes, but how many came.
 pub record Kept : Type 0 where
@@ -92,11 +97,19 @@ pub record Kept : Type 0 where
   pub bytes : List ℕ
   pub skipped : ℕ
 
--- the arrivals are the stream's, and the cutter keeps the rest
+-- The arrivals are the stream's, and the cutter keeps the rest: its bytes, and of a text that is skipped, behind
+-- a length field and a header, how many bytes.
 abbrev pub IsCutOf : List ℕ → List Arrival → Kept → Type 0
 IsCutOf stream arrivals kept =
     (rest : List ℕ) × (text : List ℕ) × Cut kept.max stream arrivals rest × (rest ≡ kept.bytes ++ text) × (length text ≡ kept.skipped)
+    × (0 < kept.skipped → length kept.bytes ≡ 14)
 
 -- the length below 10 at which a cutter has stopped
 abbrev pub short_length : Kept → Option ℕ
 short_length kept = if is_short kept.bytes then Some (length_field kept.bytes) else None
+
+-- what holds unless memory ran out
+abbrev pub UnlessNoMemory : Result (Unit {0}) CutFault → Type 0 → Type 0
+UnlessNoMemory (Ok done) P = P
+UnlessNoMemory (Err (fault.ShortLength n)) P = P
+UnlessNoMemory (Err fault.NoMemory) P = Unit {0}

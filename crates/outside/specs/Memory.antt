@@ -1,5 +1,5 @@
 -- What sources and sinks in memory are, without how they lie there.
-use Rattle.std.specs.Prelude.{◌≡◌, ℕ, List, Bool, true, false, ◌&&◌, nat_lt, ◌==◌, Result, Ok, Err}
+use Rattle.std.specs.Prelude.{ℕ, List, Bool, false, ◌&&◌, nat_lt, ◌==◌, Result, Ok, Err}
 
 -- a source in memory (this tool's profile, sources and sinks in memory)
 pub record Reading : Type 0 where

@@ -8,7 +8,7 @@ use std::rt::Files;
 use std::{fs, io};
 
 /// A file as a source. Each read opens it where it isn't open yet, so a file that can't be opened fails at its first
-/// read. It tells no content; contracts see its counts.
+/// read. It tells no content; contracts see its path and its counts.
 #[derive(Drop)]
 pub struct FileSource<'a, R: Files> {
     rt: &'a R,
@@ -19,16 +19,17 @@ pub struct FileSource<'a, R: Files> {
 }
 
 impl<'a, R: Files> Model for FileSource<'a, R> {
-    ghost use Rattle.outside.specs.Counts.{SourceCounts};
+    ghost use Rattle.outside.specs.Counts.{FileCounts};
 
-    ghost Value = { SourceCounts };
+    ghost Value = { FileCounts };
 
-    ghost view = { λ s. record { faults = s.faults; ends = s.ends } };
+    ghost view = { λ s. record { path = s.path.now; faults = s.faults; ends = s.ends } };
 }
 
 impl<'a, R: Files> FileSource<'a, R> {
     /// The file at this path, which isn't opened yet.
     pub fn new(rt: &'a R, path: &'a str) -> FileSource<'a, R>
+        ensures path { result.path ≡ path.now }
         ensures faults { result.faults ≡ 0 }
         ensures ends { result.ends ≡ 0 }
     {

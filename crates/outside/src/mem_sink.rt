@@ -136,6 +136,8 @@ impl Sink for MemSink {
         ensures writes { self.new.writes ≡ one_more self.old.writes }
         ensures faults { self.new.faults ≡ (if is_err result then one_more self.old.faults else self.old.faults) }
         ensures refusals { self.new.refusals ≡ (if is_zero_of (length bytes.now) result then one_more self.old.refusals else self.old.refusals) }
+        ensures no_fails { self.old.fails ≡ [] → length self.old.held + length bytes.now ≤ self.old.room
+            → self.new.faults ≡ self.old.faults }
         ensures same_fails { self.new.fails ≡ self.old.fails }
         ensures same_limit { self.new.limit ≡ self.old.limit }
         ensures room { self.old.room ≤ self.new.room }

@@ -116,6 +116,7 @@ impl Source for MemSource {
         ensures reads { self.new.reads ≡ one_more self.old.reads }
         ensures faults { self.new.faults ≡ (if is_err result then one_more self.old.faults else self.old.faults) }
         ensures ends { self.new.ends ≡ (if is_zero_of (length buf.old) result then one_more self.old.ends else self.old.ends) }
+        ensures no_fails { self.old.fails ≡ [] → self.new.faults ≡ self.old.faults }
         ensures same_fails { self.new.fails ≡ self.old.fails }
         ensures same_most { self.new.most ≡ self.old.most }
     {

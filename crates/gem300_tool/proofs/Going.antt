@@ -1,14 +1,13 @@
 -- One part of feed after another.
-use Rattle.std.proofs.Common.{◌≡◌, ℕ, ◌+◌, ◌≤◌, inl, inr, Bool, true, false, List, [], ◌∷◌, ◌++◌, Option, Some, None, Result, Ok, Err, refl, sym, ◌∙◌, ap, subst, append_assoc, arith, IsErrOf, option_map, option_and_then, if◌then◌else◌}
+use Rattle.std.proofs.Common.{◌≡◌, ℕ, ◌≤◌, inl, inr, Bool, true, false, List, [], ◌∷◌, ◌++◌, Option, Some, None, Result, Ok, Err, refl, sym, ◌∙◌, ap, append_assoc, arith, option_map, option_and_then, if◌then◌else◌}
 use Rattle.std.proofs.lemmas.List.{append-nil}
 use Rattle.std.proofs.lemmas.Bool.{true≢false}
-use Rattle.outside.specs.Counts.{Rose}
-use Rattle.outside.specs.Told.{IsFrontOf, Written}
+use Rattle.outside.specs.Told.{Written}
 use Rattle.tool_events.specs.declared.Entry.{Entry}
 use Rattle.gem_model.specs.Front.{IsFront}
-use Rattle.gem_model.specs.State.{State, opening}
+use Rattle.gem_model.specs.State.{opening}
 use Rattle.gem_model.specs.Step.{Outcome, step}
-use Rattle.gem_model.specs.Run.{Run, after_all}
+use Rattle.gem_model.specs.Run.{Run}
 use Rattle.gem_model.specs.Feed.{Given, behind, nothing, stops}
 use Rattle.gem_model.specs.Printed.{printed, outcome_lines}
 use Rattle.gem_model.specs.Step.{after}
@@ -26,7 +25,7 @@ use Rattle.gem300_tool.specs.declared.halt.Halt.{Halt}
 use Rattle.gem300_tool.specs.declared.halt.Halt.TheVariants as halt
 use Rattle.gem300_tool.specs.Counts.{Failed}
 use Rattle.gem300_tool.specs.Printing.{WrittenFront}
-use Rattle.gem300_tool.specs.Going.{SinkView, WentOn, Shows, ShowsAtEnd, Goes}
+use Rattle.gem300_tool.specs.Going.{SinkView, WentOn, Goes}
 use Rattle.gem300_tool.proofs.Writing.{Written-more, WrittenFront-all, WrittenFront-more, WrittenFront-wider, Rose-wider}
 
 pub IsFront-append : {A : Type 0} → (front more : List A) → IsFront front (front ++ more)

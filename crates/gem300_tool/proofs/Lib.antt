@@ -1,2 +1,5 @@
 pub mod Writing
 pub mod Going
+pub mod Parts
+pub mod Cutting
+pub mod LineParts

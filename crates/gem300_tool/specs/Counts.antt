@@ -1,5 +1,5 @@
 -- Faults of a sink.
-use Rattle.std.specs.Prelude.{ℕ, ◌≤◌, ◌⊎◌}
+use Rattle.std.specs.Prelude.{ℕ, ◌⊎◌}
 use Rattle.outside.specs.Counts.{Rose}
 
 -- the sink failed, or it took nothing of a piece

@@ -1,5 +1,5 @@
 -- What a part of feed does to the core and to the output.
-use Rattle.std.specs.Prelude.{◌≡◌, ℕ, ◌≤◌, Bool, true, false, List, ◌++◌, Option, Result, Ok, Err, OnOk, IsErrOf}
+use Rattle.std.specs.Prelude.{◌≡◌, ℕ, ◌≤◌, true, false, List, ◌++◌, Option, Result, Ok, Err, IsErrOf}
 use Rattle.outside.specs.Told.{Written}
 use Rattle.gem_model.specs.Front.{IsFront}
 use Rattle.gem_model.specs.State.{opening}

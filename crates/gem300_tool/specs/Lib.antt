@@ -4,3 +4,5 @@ pub mod OutLine
 pub mod Printing
 pub mod Counts
 pub mod Going
+pub mod Reading
+pub mod Cuts

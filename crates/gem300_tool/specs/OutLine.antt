@@ -3,7 +3,7 @@ use Rattle.std.specs.Prelude.{ℕ, List, [], ◌++◌, codes, Option, Some, None
 use Rattle.std.specs.Fmt.{decimal}
 use Rattle.hex.specs.Hex.{encode_upper}
 use Rattle.tool_events.specs.declared.SessionCause.{SessionCause}
-use Rattle.gem_model.specs.Printed.{ended_line, end_lines, cause_word}
+use Rattle.gem_model.specs.Printed.{ended_line, end_lines}
 use Rattle.gem300_tool.specs.declared.print.OutLine.{OutLine}
 use Rattle.gem300_tool.specs.declared.print.OutLine.TheVariants.{Up, Ended, Frame}
 

@@ -1,5 +1,5 @@
 -- What is written so far.
-use Rattle.std.specs.Prelude.{◌≡◌, ℕ, List, Option}
+use Rattle.std.specs.Prelude.{ℕ, List, Option}
 use Rattle.outside.specs.Told.{IsFrontOf, Written}
 
 -- a front of these bytes was put behind what was held

@@ -1,11 +1,11 @@
 //! One input after another: events are posted to the core, and the lines of their answers are written.
 ghost use Rattle.std.specs.Prelude.{◌≡◌, ◌≢◌, [], ◌∷◌, ◌++◌, Some, None, true, IfOk, option_map, option_and_then};
-ghost use Rattle.gem_model.specs.State.{opening};
+ghost use Rattle.gem_model.specs.State.{opening, is_session_up};
 ghost use Rattle.gem_model.specs.Sessions.{session_end};
 ghost use Rattle.gem_model.specs.Printed.{answer_lines, end_lines};
 ghost use Rattle.gem_model.specs.Step.{step, after};
 ghost use Rattle.gem_model.specs.Run.{after_all};
-ghost use Rattle.gem_model.specs.Feed.{entry_of, takes, input};
+ghost use Rattle.gem_model.specs.Feed.{entry_of, taken_all, input, message, messages};
 ghost use Rattle.gem300_tool.specs.Going.{Goes, seen};
 ghost use Rattle.gem300_tool.specs.OutLine.{ended_bytes};
 
@@ -13,6 +13,7 @@ use crate::halt::Halt;
 use crate::print::{OutLine, answer_line, print_out_line};
 use crate::write::write_all;
 use gem_ids::Moment;
+use hsms_frame::Arrival;
 use outside::Sink;
 use std::alloc::{AllocError, Global};
 use tool_core::{Core, PostFault};
@@ -69,4 +70,113 @@ fn ended_now(core: &Core, before: Option<u64>) -> Option<(u64, SessionCause)>
     let session = before?;
     let cause = core.session_end(session)?;
     Some((session, cause))
+}
+
+/// The writer of this session takes each frame that waits.
+fn take_frames<K: Sink>(
+    alloc: Global,
+    core: &mut Core,
+    session: u64,
+    out: &mut K,
+) -> Result<(), Halt>
+    requires { is_session_up core.old.state session ≡ true }
+    ensures { Goes core.old core.new (seen K.held K.faults K.refusals out.old) (seen K.held K.faults K.refusals out.new)
+        (taken_all core.old.state) result }
+{
+    while !core.idle(&Event::Take { session }) {
+        match post(alloc, core, Event::Take { session }, out) {
+            Ok(()) => {}
+            Err(halt) => return Err(halt),
+        }
+    }
+    Ok(())
+}
+
+/// The writer takes each frame that waits.
+fn take_waiting<K: Sink>(alloc: Global, core: &mut Core, out: &mut K) -> Result<(), Halt>
+    ensures { Goes core.old core.new (seen K.held K.faults K.refusals out.old) (seen K.held K.faults K.refusals out.new)
+        (taken_all core.old.state) result }
+{
+    match core.session_up() {
+        Some(session) => take_frames(alloc, core, session, out),
+        None => Ok(()),
+    }
+}
+
+/// Posts an event, and then the writer takes each frame that waits.
+pub fn input<K: Sink>(
+    alloc: Global,
+    core: &mut Core,
+    event: Event,
+    out: &mut K,
+) -> Result<(), Halt>
+    requires { step core.old.state event ≢ None }
+    ensures { Goes core.old core.new (seen K.held K.faults K.refusals out.old) (seen K.held K.faults K.refusals out.new)
+        (input core.old.state event) result }
+{
+    match post(alloc, core, event, out) {
+        Ok(()) => take_waiting(alloc, core, out),
+        Err(halt) => Err(halt),
+    }
+}
+
+/// One message of the session that is up.
+fn take_message<K: Sink>(
+    alloc: Global,
+    core: &mut Core,
+    session: u64,
+    arrival: Arrival,
+    out: &mut K,
+) -> Result<(), Halt>
+    requires { is_session_up core.old.state session ≡ true }
+    ensures { Goes core.old core.new (seen K.held K.faults K.refusals out.old) (seen K.held K.faults K.refusals out.new)
+        (message core.old.state session arrival) result }
+{
+    let event = Event::Host { session, arrival };
+    if core.idle(&event) {
+        return Err(Halt::NotBuilt);
+    }
+    input(alloc, core, event, out)
+}
+
+/// The messages of a session, in order, and then its end where a length below 10 follows them.
+pub fn take_messages<K: Sink>(
+    alloc: Global,
+    core: &mut Core,
+    session: u64,
+    arrivals: Vec<Arrival>,
+    short: bool,
+    out: &mut K,
+) -> Result<(), Halt>
+    ensures { Goes core.old core.new (seen K.held K.faults K.refusals out.old) (seen K.held K.faults K.refusals out.new)
+        (messages core.old.state session arrivals.items short) result }
+{
+    for arrival in arrivals {
+        if !core.is_session_up(session) {
+            return Ok(());
+        }
+        match take_message(alloc, core, session, arrival, out) {
+            Ok(()) => {}
+            Err(halt) => return Err(halt),
+        }
+    }
+    end_messages(alloc, core, session, short, out)
+}
+
+/// Behind the messages of a session, its end, where a length below 10 follows them.
+fn end_messages<K: Sink>(
+    alloc: Global,
+    core: &mut Core,
+    session: u64,
+    short: bool,
+    out: &mut K,
+) -> Result<(), Halt>
+    ensures { Goes core.old core.new (seen K.held K.faults K.refusals out.old) (seen K.held K.faults K.refusals out.new)
+        (messages core.old.state session [] short) result }
+{
+    if short && core.is_session_up(session) {
+        let cause = SessionCause::ShortLength;
+        return input(alloc, core, Event::LinkDown { session, cause }, out);
+    }
+    Ok(())
 }

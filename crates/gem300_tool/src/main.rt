@@ -2,6 +2,7 @@
 #![tactic(auto)]
 
 mod engine;
+mod feeder;
 mod halt;
 mod lines;
 mod print;

@@ -44,6 +44,10 @@ stops g = record { entries = []; state = g; goes_on = false }
 abbrev pub input : State → Event → Given
 input g event = record { entries = given g event; state = after_all g (given g event); goes_on = true }
 
+-- all frames that wait are taken
+abbrev pub taken_all : State → Given
+taken_all g = record { entries = takes g; state = after_all g (takes g); goes_on = true }
+
 -- these entries first
 abbrev pub behind : List Entry → Given → Given
 behind entries more = record more { entries = entries ++ more.entries }

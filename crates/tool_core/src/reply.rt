@@ -1,7 +1,9 @@
 //! The frames of replies.
-ghost use Rattle.std.specs.Prelude.{◌≡◌, ◌∷◌, [], IfOk, OnOk};
+ghost use Rattle.std.specs.Prelude.{◌≡◌, IfOk};
 ghost use Rattle.gem_model.specs.LinkTable.{control_frame};
-ghost use Rattle.gem_model.specs.Messages.{on_line_data, mdln, softrev};
+ghost use Rattle.gem_model.specs.Messages.{on_line_data};
+ghost use Rattle.secs_items.specs.Data.{ascii};
+ghost use Rattle.secs_items.specs.View.{view};
 ghost use Rattle.tool_core.specs.Reply.{frame_of};
 
 use crate::link::Reply;
@@ -43,6 +45,7 @@ fn on_line_data(alloc: Global) -> Result<Bytes, AllocError>
 
 /// An ASCII item.
 fn ascii(alloc: Global, text: &[u8]) -> Result<Item, AllocError>
+    ensures { IfOk result (λ item. view item ≡ ascii text.now) }
 {
     Ok(Item::Ascii(secs_items::Bytes::from_vec(Vec::from_slice(alloc, text)?)))
 }

@@ -1,4 +1,4 @@
-use Rattle.std.proofs.Common.{refl, ◌∙◌, sym}
+use Rattle.std.proofs.Common.{◌∙◌}
 use Rattle.gem300_tool.proofs.Going.{Added, Goes-added, Goes-added-write, Goes-added-memory, outcome_shown}
 use Rattle.gem300_tool.proofs.engine.post.Goals as goal
 

@@ -1,0 +1,37 @@
+-- Where the reader of lines stands.
+use Rattle.std.specs.Prelude.{◌≡◌, ◌⊎◌, true, Option, Some, None, Result, Err, OnOk}
+use Rattle.hsms_frame.specs.Cut.{Kept, IsCutOf, arrivals_of}
+use Rattle.gem_model.specs.State.{is_up}
+use Rattle.gem_model.specs.Lines.{Line}
+use Rattle.gem_model.specs.Feed.{Reading, line_given, stream_after, text_bytes}
+use Rattle.tool_core.specs.CoreView.{CoreView}
+use Rattle.gem300_tool.specs.declared.halt.Halt.{Halt}
+use Rattle.gem300_tool.specs.declared.halt.Halt.TheVariants as halt
+use Rattle.gem300_tool.specs.declared.feeder.Feeder.{Feeder}
+use Rattle.gem300_tool.specs.Going.{SinkView, Goes}
+
+-- the core is in the state of the reading, and where a session is up the cutter has cut its bytes
+pub record IsReading (r : Reading) (core : CoreView) (cutter : Kept) : Type 0 where
+  pub state : core.state ≡ r.state
+  pub max : is_up r.state ≡ true → cutter.max ≡ text_bytes
+  pub cut : is_up r.state ≡ true → IsCutOf r.stream (arrivals_of text_bytes r.stream) cutter
+
+-- the reading after a line
+abbrev pub reading_after : Reading → Line → Reading
+reading_after r line = record { state = (line_given r line).state; stream = stream_after r line }
+
+-- From this reading the line is taken: what it gives, and the reading after it.
+pub record TakesLine (r : Reading) (line : Line) (old new : Feeder) (out out' : SinkView) (result : Result (Unit {0}) Halt) : Type 0 where
+  pub goes : Goes old.core new.core out out' (line_given r line) result
+  pub reading : OnOk result (IsReading (reading_after r line) new.core new.cutter)
+
+-- A line outside the grammar is refused, or there was no memory to read it; nothing has changed.
+pub record RefusesLine (old new : Feeder) (out out' : SinkView) (result : Result (Unit {0}) Halt) : Type 0 where
+  pub refused : (result ≡ Err (halt.Line 0)) ⊎ (result ≡ Err halt.NoMemory)
+  pub core_stays : new.core ≡ old.core
+  pub out_stays : out' ≡ out
+
+-- what is done with a line, by what it says
+abbrev pub TreatsLine : Reading → Option Line → Feeder → Feeder → SinkView → SinkView → Result (Unit {0}) Halt → Type 0
+TreatsLine r None old new out out' result = RefusesLine old new out out' result
+TreatsLine r (Some line) old new out out' result = TakesLine r line old new out out' result

@@ -1,0 +1,129 @@
+//! One line after another: what each says is put in, in the session that is up.
+ghost use Rattle.std.specs.Prelude.{◌≡◌, ℕ, List, [], IfOk};
+ghost use Rattle.gem_model.specs.State.{opening};
+ghost use Rattle.gem_model.specs.Lines as model;
+ghost use Rattle.gem_model.specs.Feed.{Reading, first_reading, text_bytes};
+ghost use Rattle.hsms_frame.specs.Cut.{IsCutOf, arrivals_of};
+ghost use Rattle.gem300_tool.specs.Going.{seen};
+ghost use Rattle.gem300_tool.specs.Cuts.{Cuts};
+
+use crate::engine::{input, take_messages};
+use crate::halt::Halt;
+use crate::lines::{Line, LineFault, read_line};
+use hsms_frame::{Arrival, CutFault, Cutter};
+use outside::Sink;
+use std::alloc::{AllocError, Global};
+use tool_core::Core;
+use tool_events::{Event, SessionCause};
+
+/// The longest text of a message, in bytes.
+const TEXT_BYTES: u32 = 262_144;
+
+/// The core, and the cutter of the session that is up.
+#[derive(Drop)]
+pub struct Feeder {
+    pub core: Core,
+    pub cutter: Cutter,
+}
+
+/// Cuts the next bytes of a session, and tells whether a length below 10 follows what arrived.
+fn cut_bytes(
+    alloc: Global,
+    cutter: &mut Cutter,
+    bytes: &[u8],
+    arrivals: &mut Vec<Arrival>,
+) -> Result<bool, AllocError>
+    requires { arrivals.old.items ≡ [] }
+    ensures cuts { IfOk result (λ short. (stream : List ℕ) → cutter.old.max ≡ text_bytes
+        → IsCutOf stream (arrivals_of text_bytes stream) cutter.old
+        → Cuts bytes.now cutter.old cutter.new arrivals.new.items short stream) }
+    ensures max { cutter.new.max ≡ cutter.old.max }
+{
+    match cutter.feed(alloc, bytes, arrivals) {
+        Ok(()) => Ok(false),
+        Err(CutFault::ShortLength(_)) => Ok(true),
+        Err(CutFault::NoMemory) => Err(AllocError),
+    }
+}
+
+impl Feeder {
+    ghost use Rattle.gem300_tool.specs.Reading.{IsReading, TakesLine, TreatsLine};
+
+    /// The core in its first state.
+    pub fn open(alloc: Global) -> Result<Feeder, AllocError>
+        ensures { IfOk result (λ feeder. (feeder.core ≡ record { state = opening; history = [] })
+            × IsReading first_reading feeder.core feeder.cutter) }
+    {
+        let cutter = Cutter::new(alloc, TEXT_BYTES)?;
+        Ok(Feeder {
+            core: Core::open(alloc),
+            cutter,
+        })
+    }
+
+    /// A link comes up. A new session begins with no bytes.
+    fn link_up<K: Sink>(&mut self, alloc: Global, out: &mut K) -> Result<(), Halt>
+        ensures { (r : Reading) → IsReading r self.old.core self.old.cutter
+            → TakesLine r model.Up self.old self.new (seen K.held K.faults K.refusals out.old) (seen K.held K.faults K.refusals out.new) result }
+    {
+        if self.core.session_up().is_none() {
+            match Cutter::new(alloc, TEXT_BYTES) {
+                Ok(cutter) => self.cutter = cutter,
+                Err(_) => return Err(Halt::NoMemory),
+            }
+        }
+        input(alloc, &mut self.core, Event::LinkUp, out)
+    }
+
+    /// The peer closes the link. Without a session nothing happens.
+    fn link_down<K: Sink>(&mut self, alloc: Global, out: &mut K) -> Result<(), Halt>
+        ensures { (r : Reading) → IsReading r self.old.core self.old.cutter
+            → TakesLine r model.Down self.old self.new (seen K.held K.faults K.refusals out.old) (seen K.held K.faults K.refusals out.new) result }
+    {
+        let Some(session) = self.core.session_up() else {
+            return Ok(());
+        };
+        let cause = SessionCause::PeerEnd;
+        input(alloc, &mut self.core, Event::LinkDown { session, cause }, out)
+    }
+
+    /// Bytes of the host come. Without a session they are dropped.
+    fn take_bytes<K: Sink>(
+        &mut self,
+        alloc: Global,
+        bytes: &[u8],
+        out: &mut K,
+    ) -> Result<(), Halt>
+        ensures { (r : Reading) → IsReading r self.old.core self.old.cutter
+            → TakesLine r (model.Bytes bytes.now) self.old self.new (seen K.held K.faults K.refusals out.old) (seen K.held K.faults K.refusals out.new) result }
+    {
+        let Some(session) = self.core.session_up() else {
+            return Ok(());
+        };
+        let mut arrivals = Vec::new(alloc);
+        let Ok(short) = cut_bytes(alloc, &mut self.cutter, bytes, &mut arrivals) else {
+            return Err(Halt::NoMemory);
+        };
+        take_messages(alloc, &mut self.core, session, arrivals, short, out)
+    }
+
+    /// Takes one line, without its line feed.
+    pub fn take_line<K: Sink>(
+        &mut self,
+        alloc: Global,
+        line: &[u8],
+        out: &mut K,
+    ) -> Result<(), Halt>
+        ensures { (r : Reading) → IsReading r self.old.core self.old.cutter
+            → TreatsLine r (model.line_of line.now) self.old self.new (seen K.held K.faults K.refusals out.old) (seen K.held K.faults K.refusals out.new) result }
+    {
+        match read_line(alloc, line) {
+            Ok(Line::Skip) => Ok(()),
+            Ok(Line::Up) => self.link_up(alloc, out),
+            Ok(Line::Down) => self.link_down(alloc, out),
+            Ok(Line::Bytes(bytes)) => self.take_bytes(alloc, bytes.as_slice(), out),
+            Err(LineFault::Place(place)) => Err(Halt::Line(place)),
+            Err(LineFault::NoMemory) => Err(Halt::NoMemory),
+        }
+    }
+}

@@ -3,3 +3,4 @@ pub mod Going
 pub mod Parts
 pub mod Cutting
 pub mod LineParts
+pub mod Standing

@@ -6,3 +6,4 @@ pub mod Counts
 pub mod Going
 pub mod Reading
 pub mod Cuts
+pub mod Standing

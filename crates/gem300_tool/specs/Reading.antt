@@ -3,7 +3,7 @@ use Rattle.std.specs.Prelude.{◌≡◌, ◌⊎◌, true, Option, Some, None, Re
 use Rattle.hsms_frame.specs.Cut.{Kept, IsCutOf, arrivals_of}
 use Rattle.gem_model.specs.State.{is_up}
 use Rattle.gem_model.specs.Lines.{Line}
-use Rattle.gem_model.specs.Feed.{Reading, line_given, stream_after, text_bytes}
+use Rattle.gem_model.specs.Feed.{Reading, line_given, reading_after, text_bytes}
 use Rattle.tool_core.specs.CoreView.{CoreView}
 use Rattle.gem300_tool.specs.declared.halt.Halt.{Halt}
 use Rattle.gem300_tool.specs.declared.halt.Halt.TheVariants as halt
@@ -15,10 +15,6 @@ pub record IsReading (r : Reading) (core : CoreView) (cutter : Kept) : Type 0 wh
   pub state : core.state ≡ r.state
   pub max : is_up r.state ≡ true → cutter.max ≡ text_bytes
   pub cut : is_up r.state ≡ true → IsCutOf r.stream (arrivals_of text_bytes r.stream) cutter
-
--- the reading after a line
-abbrev pub reading_after : Reading → Line → Reading
-reading_after r line = record { state = (line_given r line).state; stream = stream_after r line }
 
 -- From this reading the line is taken: what it gives, and the reading after it.
 pub record TakesLine (r : Reading) (line : Line) (old new : Feeder) (out out' : SinkView) (result : Result (Unit {0}) Halt) : Type 0 where

@@ -1,10 +1,10 @@
 -- Laws of taking the frames that wait.
-use Rattle.std.proofs.Common.{◌≡◌, ◌≢◌, ℕ, suc, ◌+◌, ◌<◌, ◌&&◌, Bool, true, false, if◌then◌else◌, List, [], ◌∷◌, ◌++◌, length, map, Option, Some, None, refl, sym, ◌∙◌, ap, arith, subst}
+use Rattle.std.proofs.Common.{◌≡◌, ◌≢◌, ℕ, ◌<◌, Bool, true, false, if◌then◌else◌, List, [], ◌∷◌, length, map, Some, None, sym, ◌∙◌, ap, arith, subst}
 use Rattle.std.proofs.lemmas.Bool.{and_parts, eqb-true}
 use Rattle.tool_events.specs.declared.Event.TheVariants.{Take}
 use Rattle.tool_events.specs.declared.Entry.{Entry}
 use Rattle.gem_model.specs.State.{State, Phase, is_up, is_session_up}
-use Rattle.gem_model.specs.Step.{Outcome, step, after, taken, refused}
+use Rattle.gem_model.specs.Step.{step, after, taken, refused}
 use Rattle.gem_model.specs.Run.{after_all}
 use Rattle.gem_model.specs.Feed.{Given, nothing, behind, taken_all, takes, entry_of}
 

@@ -1,5 +1,5 @@
 -- The history that a text of lines makes.
-use Rattle.std.specs.Prelude.{ℕ, ◌+◌, Bool, true, false, ◌&&◌, not, is_some, if◌then◌else◌, List, [], ◌∷◌, ◌++◌, length, drop, map, Some, None}
+use Rattle.std.specs.Prelude.{ℕ, ◌+◌, Bool, true, false, ◌&&◌, is_some, if◌then◌else◌, List, [], ◌∷◌, ◌++◌, length, drop, map, Some, None, Option}
 use Rattle.hsms_frame.specs.declared.frame.Arrival.{Arrival}
 use Rattle.hsms_frame.specs.Cut.{arrivals_of, behind_of, is_short}
 use Rattle.tool_events.specs.declared.Event.{Event}
@@ -111,18 +111,23 @@ pub record Told : Type 0 where
 abbrev pub told_behind : List Entry → Told → Told
 told_behind entries told = record told { entries = entries ++ told.entries }
 
--- The entries of lines, the first of which has this number. It stops before a line outside the grammar, and
--- before a message that isn't built.
+-- the reading after a line
+abbrev pub reading_after : Reading → Line → Reading
+reading_after r line = record { state = (line_given r line).state; stream = stream_after r line }
+
+-- What a line tells, by what it says, and what follows it tells in the reading after it. A text stops before a line
+-- outside the grammar, and before a message that isn't built.
+abbrev pub line_told : ℕ → Reading → Option Line → (Reading → Told) → Told
+line_told number r None more = record { entries = []; stop = OutsideGrammar number }
+line_told number r (Some line) more =
+    let given = line_given r line in
+    if given.goes_on then told_behind given.entries (more (reading_after r line))
+    else record { entries = given.entries; stop = NotBuilt number }
+
+-- what lines tell, the first of which has this number
 abbrev pub feed_lines : ℕ → Reading → List (List ℕ) → Told
 feed_lines number r [] = record { entries = []; stop = AllRead }
-feed_lines number r (line ∷ lines) = elim (line_of line) as (λ _. Told) [
-    None ↦ record { entries = []; stop = OutsideGrammar number }
-  | Some l ↦
-      let given = line_given r l in
-      if given.goes_on
-      then told_behind given.entries (feed_lines (number + 1) (record { state = given.state; stream = stream_after r l }) lines)
-      else record { entries = given.entries; stop = NotBuilt number }
-  ]
+feed_lines number r (line ∷ lines) = line_told number r (line_of line) (λ next. feed_lines (number + 1) next lines)
 
 -- the entries of a text
 abbrev pub feed_entries : List ℕ → Told

@@ -42,12 +42,15 @@ hex_line digits = option_and_then (λ (bytes : List ℕ). not_empty bytes) (resu
     not_empty [] = None
     not_empty (b ∷ bs) = Some (Bytes (b ∷ bs))
 
--- what a line says, where it is in the grammar
-abbrev pub line_of : List ℕ → Option Line
-line_of line =
-    if nat_lt line_bytes (length line) then None
-    else (if bytes_eq line [] || starts_with nat_eq line (codes "#") then Some Skip
+-- what a line says, by its text
+abbrev pub line_by_text : List ℕ → Option Line
+line_by_text line =
+    if bytes_eq line [] || starts_with nat_eq line (codes "#") then Some Skip
     else (if bytes_eq line (codes "L+") then Some Up
     else (if bytes_eq line (codes "L-") then Some Down
     else (if starts_with nat_eq line (codes "H ") then hex_line (drop 2 line)
-    else None))))
+    else None)))
+
+-- what a line says, where it is in the grammar; a line that is too long is outside it, whatever it holds
+abbrev pub line_of : List ℕ → Option Line
+line_of line = if nat_lt line_bytes (length line) then None else line_by_text line

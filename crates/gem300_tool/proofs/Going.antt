@@ -111,7 +111,7 @@ outcome_shown core core' entry o added answer is before was ended now text made 
     ∙ ap (λ (lines : List ℕ). answer_lines o.answer ++ lines)
       (ap ended_bytes (now ∙ ap (end_after core'.history) was) ∙ ends_shown core core' entry o added (is_up core.state) refl)
 
-Failed-wider : (f1 f2 f3 r1 r2 r3 : ℕ) → f1 ≤ f2 → f2 ≤ f3 → r1 ≤ r2 → r2 ≤ r3 → Failed f2 f3 r2 r3 → Failed f1 f3 r1 r3
+pub Failed-wider : (f1 f2 f3 r1 r2 r3 : ℕ) → f1 ≤ f2 → f2 ≤ f3 → r1 ≤ r2 → r2 ≤ r3 → Failed f2 f3 r2 r3 → Failed f1 f3 r1 r3
 Failed-wider f1 f2 f3 r1 r2 r3 h i j k (inl faults) = inl (Rose-wider f1 f2 f3 f3 h i faults (omega arith))
 Failed-wider f1 f2 f3 r1 r2 r3 h i j k (inr refusals) = inr (Rose-wider r1 r2 r3 r3 j k refusals (omega arith))
 

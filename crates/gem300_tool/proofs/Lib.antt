@@ -4,3 +4,4 @@ pub mod Parts
 pub mod Cutting
 pub mod LineParts
 pub mod Standing
+pub mod Reading

@@ -15,7 +15,7 @@ use Rattle.gem300_tool.specs.declared.reader.Reader.{Reader}
 use Rattle.gem300_tool.specs.Going.{SinkView, WentOn, Shows, ShowsAtEnd, Goes}
 use Rattle.gem300_tool.specs.Reading.{IsReading, TakesLine, RefusesLine, TreatsLine}
 use Rattle.gem300_tool.specs.Standing.{IsOneLine, Stands, StoppedAs, Prints, StandsOrStopped, Takes, AllOrStopped, Finishes}
-use Rattle.gem300_tool.proofs.Going.{IsFront-append, IsFront-wider}
+use Rattle.gem300_tool.proofs.Going.{IsFront-append, IsFront-wider, Failed-wider}
 use Rattle.gem300_tool.proofs.Writing.{WrittenFront-all}
 
 -- ---- the output
@@ -79,10 +79,193 @@ took_by number r line None is old new out out' h = absurd (elim h.refused [ inl 
 took_by number r line (Some says) is old new out out' h = record {
   next = reading_after r says;
   goes_on = λ lines.
-    ap (told_behind old.core.history) (ap (λ (o : Option Line). line_told number r o (λ next. feed_lines (number + 1) next lines)) is ∙ line_goes_on number r says _ h.goes.went.2)
+    ap (told_behind old.core.history) (ap (λ (o : Option Line). line_told number r o (λ next. feed_lines (number + 1) next lines)) is ∙ line_goes_on number r says (λ next. feed_lines (number + 1) next lines) h.goes.went.2)
     ∙ behind_told old.core.history (line_given r says).entries (feed_lines (number + 1) (reading_after r says) lines) new.core.history h.goes.went.0;
   is = h.reading;
 }
 
 pub took : (number : ℕ) (r : Reading) (line : List ℕ) (old new : Feeder) (out out' : SinkView) → TreatsLine r (line_of line) old new out out' (Ok tt) → Took number r line old new
 took number r line old new out out' h = took_by number r line (line_of line) refl old new out out' h
+
+abbrev more_lines : ℕ → List (List ℕ) → Reading → Told
+more_lines number lines next = feed_lines (number + 1) next lines
+
+said : (number : ℕ) (r : Reading) (line : List ℕ) (lines : List (List ℕ)) (says : Option Line) → line_of line ≡ says → feed_lines number r (line ∷ lines) ≡ line_told number r says (more_lines number lines)
+said number r line lines says is = ap (λ (o : Option Line). line_told number r o (more_lines number lines)) is
+
+abbrev failed : Halt → Result (Unit {0}) Halt
+failed why = Err why
+
+refused_stops : (number : ℕ) (history history' : List Entry) (why : Halt) (more : Told) → (failed why ≡ failed (halt.Line 0)) ⊎ (failed why ≡ failed halt.NoMemory) → history' ≡ history → more ≡ record { entries = []; stop = OutsideGrammar number } → StoppedAs (told_behind history more) history' number why
+refused_stops number history history' (halt.Line place) more (inl e) stays is = (cc, ap (told_behind history) is ∙ ap (λ (es : List Entry). record { entries = es; stop = OutsideGrammar number }) (append-nil history ∙ sym stays))
+refused_stops number history history' (halt.Line place) more (inr e) stays is = absurd (cc)
+refused_stops number history history' halt.NotBuilt more (inl e) stays is = absurd (cc)
+refused_stops number history history' halt.NotBuilt more (inr e) stays is = absurd (cc)
+refused_stops number history history' halt.Write more (inl e) stays is = absurd (cc)
+refused_stops number history history' halt.Write more (inr e) stays is = absurd (cc)
+refused_stops number history history' halt.NoMemory more e stays is = rw stays (IsFront-append history more.entries)
+
+front_wider : (front history given : List Entry) (told : Told) → IsFront given told.entries → IsFront front (history ++ given) → IsFront front (told_behind history told).entries
+front_wider front history given told begins h =
+    let all : told.entries ≡ given ++ begins.behind = begins.joined in
+    record {
+      behind = h.behind ++ begins.behind;
+      joined = ap (λ (es : List Entry). history ++ es) all ∙ sym (append_assoc history given begins.behind) ∙ ap (λ (es : List Entry). es ++ begins.behind) h.joined ∙ append_assoc front h.behind begins.behind;
+    }
+
+taken_stops : (number : ℕ) (r : Reading) (says : Line) (more : Reading → Told) (core core' : CoreView) (why : Halt) → WentOn core core' (line_given r says) (Err why) → StoppedAs (told_behind core.history (line_told number r (Some says) more)) core'.history number why
+taken_stops number r says more core core' (halt.Line place) went = absurd went
+taken_stops number r says more core core' halt.NotBuilt went =
+    ap (told_behind core.history) (line_stops number r says more went.1) ∙ ap (λ (es : List Entry). record { entries = es; stop = NotBuilt number }) (sym went.0)
+taken_stops number r says more core core' halt.Write went =
+    front_wider core'.history core.history (line_given r says).entries (line_told number r (Some says) more) (line_begins number r says more) went
+taken_stops number r says more core core' halt.NoMemory went =
+    front_wider core'.history core.history (line_given r says).entries (line_told number r (Some says) more) (line_begins number r says more) went
+
+stopped_by : (number : ℕ) (r : Reading) (line : List ℕ) (says : Option Line) → line_of line ≡ says → (old new : Feeder) (out out' : SinkView) (why : Halt) → TreatsLine r says old new out out' (Err why) → (lines : List (List ℕ)) → StoppedAs (told_behind old.core.history (feed_lines number r (line ∷ lines))) new.core.history number why
+stopped_by number r line None is old new out out' why h lines =
+    refused_stops number old.core.history new.core.history why (feed_lines number r (line ∷ lines)) h.refused (ap (λ (c : CoreView). c.history) h.core_stays) (said number r line lines None is)
+stopped_by number r line (Some says) is old new out out' why h lines =
+    rw (said number r line lines (Some says) is) (taken_stops number r says (more_lines number lines) old.core new.core why h.goes.went)
+
+pub stopped : (number : ℕ) (r : Reading) (line : List ℕ) (old new : Feeder) (out out' : SinkView) (why : Halt) → TreatsLine r (line_of line) old new out out' (Err why) → (lines : List (List ℕ)) → StoppedAs (told_behind old.core.history (feed_lines number r (line ∷ lines))) new.core.history number why
+stopped number r line old new out out' why h lines = stopped_by number r line (line_of line) refl old new out out' why h lines
+
+-- ---- the text
+
+-- the text and whatever follows it goes on from the part of a line
+pub text_goes : (text : List ℕ) (reader : Reader) (stands : Stands text reader) (more : List ℕ) → feed_entries (text ++ more) ≡ told_behind reader.feeder.core.history (feed_lines reader.number stands.reading (lines_of (reader.line.items ++ more)))
+text_goes text reader stands more =
+    ap (λ (t : List ℕ). feed_entries (t ++ more)) stands.text_is
+    ∙ ap feed_entries (append_assoc stands.whole reader.line.items more)
+    ∙ stands.goes_on (reader.line.items ++ more)
+
+pub Stands-open : (reader : Reader) → reader.line.items ≡ [] → reader.number ≡ 1 → reader.feeder.core.history ≡ [] → IsReading first_reading reader.feeder.core reader.feeder.cutter → Stands [] reader
+Stands-open reader line number history is = record {
+  whole = [];
+  reading = first_reading;
+  text_is = sym line;
+  line = rw line refl;
+  ends = λ part one. whole-none part one;
+  goes_on = λ more. rw (number, history) refl;
+  is = is;
+}
+
+pub Stands-push : (text : List ℕ) (byte : ℕ) (old new : Reader) → byte ≢ 10 → Stands text old → new.line.items ≡ old.line.items ++ byte ∷ [] → new.feeder ≡ old.feeder → new.number ≡ old.number → Stands (text ++ byte ∷ []) new
+Stands-push text byte old new other stands line feeder number = record {
+  whole = stands.whole;
+  reading = stands.reading;
+  text_is = ap (λ (t : List ℕ). t ++ byte ∷ []) stands.text_is ∙ append_assoc stands.whole old.line.items (byte ∷ []) ∙ ap (λ (l : List ℕ). stands.whole ++ l) (sym line);
+  line = rw line (IsOneLine-more old.line.items byte stands.line other);
+  ends = stands.ends;
+  goes_on = λ more. stands.goes_on more ∙ ap (λ (n : ℕ). told_behind old.feeder.core.history (feed_lines n stands.reading (lines_of more))) (sym number) ∙ ap (λ (f : Feeder). told_behind f.core.history (feed_lines new.number stands.reading (lines_of more))) (sym feeder);
+  is = subst (λ (f : Feeder). IsReading stands.reading f.core f.cutter) (sym feeder) stands.is;
+}
+
+pub Stands-memory : (text bytes more : List ℕ) (reader : Reader) → Stands text reader → StoppedAs (feed_entries ((text ++ bytes) ++ more)) reader.feeder.core.history reader.number halt.NoMemory
+Stands-memory text bytes more reader stands =
+    let goes = ap feed_entries (append_assoc text bytes more) ∙ text_goes text reader stands (bytes ++ more) in
+    rw goes (IsFront-append reader.feeder.core.history _)
+
+long_told : (number : ℕ) (r : Reading) (history : List Entry) (line : List ℕ) (lines : List (List ℕ)) → line_bytes < length line → told_behind history (feed_lines number r (line ∷ lines)) ≡ record { entries = history; stop = OutsideGrammar number }
+long_told number r history line lines long =
+    ap (told_behind history) (said number r line lines None (too-long line long)) ∙ ap (λ (es : List Entry). record { entries = es; stop = OutsideGrammar number }) (append-nil history)
+
+long_text : (number : ℕ) (r : Reading) (history : List Entry) (front text : List ℕ) → IsOneLine front → line_bytes < length front → told_behind history (feed_lines number r (lines_of (front ++ text))) ≡ record { entries = history; stop = OutsideGrammar number }
+long_text number r history [] text one long = absurd (omega (arith, long))
+long_text number r history (b ∷ front) text one long =
+    let f = first-long b front text one in
+    ap (λ (ls : List (List ℕ)). told_behind history (feed_lines number r ls)) f.lines ∙ long_told number r history f.first f.rest (omega (arith, f.long, long))
+
+pub Stands-long : (text : List ℕ) (byte : ℕ) (more : List ℕ) (reader : Reader) → byte ≢ 10 → line_bytes ≤ length reader.line.items → Stands text reader → StoppedAs (feed_entries ((text ++ byte ∷ []) ++ more)) reader.feeder.core.history reader.number (halt.Line 0)
+Stands-long text byte more reader other long stands =
+    let goes = ap feed_entries (append_assoc text (byte ∷ []) more) ∙ text_goes text reader stands ((byte ∷ []) ++ more) in
+    let regrouped = ap (λ (t : List ℕ). told_behind reader.feeder.core.history (feed_lines reader.number stands.reading (lines_of t))) (sym (append_assoc reader.line.items (byte ∷ []) more)) in
+    let size : line_bytes < length (reader.line.items ++ byte ∷ []) = omega (arith, length-append reader.line.items (byte ∷ []), long) in
+    (refl, goes ∙ regrouped ∙ long_text reader.number stands.reading reader.feeder.core.history (reader.line.items ++ byte ∷ []) more (IsOneLine-more reader.line.items byte stands.line other) size)
+
+-- a line feed comes
+line_goes : (text more : List ℕ) (reader : Reader) (stands : Stands text reader) → feed_entries ((text ++ 10 ∷ []) ++ more) ≡ told_behind reader.feeder.core.history (feed_lines reader.number stands.reading (reader.line.items ∷ lines_of more))
+line_goes text more reader stands =
+    ap feed_entries (append_assoc text (10 ∷ []) more) ∙ text_goes text reader stands ((10 ∷ []) ++ more)
+    ∙ ap (λ (ls : List (List ℕ)). told_behind reader.feeder.core.history (feed_lines reader.number stands.reading ls)) (lines-line reader.line.items more stands.line)
+
+pub Stands-line : (text : List ℕ) (old new : Reader) (out out' : SinkView) (stands : Stands text old) → TreatsLine stands.reading (line_of old.line.items) old.feeder new.feeder out out' (Ok tt) → new.line.items ≡ [] → new.number ≡ old.number + 1 → Stands (text ++ 10 ∷ []) new
+Stands-line text old new out out' stands treats line number =
+    let one = took old.number stands.reading old.line.items old.feeder new.feeder out out' treats in
+    record {
+      whole = text ++ 10 ∷ [];
+      reading = one.next;
+      text_is = rw line (sym (append-nil (text ++ 10 ∷ [])));
+      line = rw line refl;
+      ends = λ part none. ap whole_lines (append_assoc text (10 ∷ []) part) ∙ whole-feed text part ∙ ap (λ (bs : List ℕ). text ++ 10 ∷ bs) (whole-none part none);
+      goes_on = λ more. line_goes text more old stands ∙ one.goes_on (lines_of more) ∙ ap (λ (n : ℕ). told_behind new.feeder.core.history (feed_lines n one.next (lines_of more))) (sym number);
+      is = one.is;
+    }
+
+pub Stands-line-stopped : (text more : List ℕ) (old : Reader) (new : Feeder) (out out' : SinkView) (why : Halt) (stands : Stands text old) → TreatsLine stands.reading (line_of old.line.items) old.feeder new out out' (Err why) → StoppedAs (feed_entries ((text ++ 10 ∷ []) ++ more)) new.core.history old.number why
+Stands-line-stopped text more old new out out' why stands treats =
+    rw (line_goes text more old stands) (stopped old.number stands.reading old.line.items old.feeder new out out' why treats (lines_of more))
+
+-- ---- the end of the text
+
+at_end : (text : List ℕ) (reader : Reader) (stands : Stands text reader) → feed_entries text ≡ told_behind reader.feeder.core.history (feed_lines reader.number stands.reading (lines_of reader.line.items))
+at_end text reader stands =
+    ap feed_entries (sym (append-nil text)) ∙ text_goes text reader stands []
+    ∙ ap (λ (t : List ℕ). told_behind reader.feeder.core.history (feed_lines reader.number stands.reading (lines_of t))) (append-nil reader.line.items)
+
+-- nothing came of a last line
+pub ends-empty : (text : List ℕ) (reader : Reader) → Stands text reader → reader.line.items ≡ [] → feed_entries text ≡ record { entries = reader.feeder.core.history; stop = AllRead }
+ends-empty text reader stands none =
+    at_end text reader stands
+    ∙ ap (λ (t : List ℕ). told_behind reader.feeder.core.history (feed_lines reader.number stands.reading (lines_of t))) none
+    ∙ ap (λ (es : List Entry). record { entries = es; stop = AllRead }) (append-nil reader.feeder.core.history)
+
+last_line : (line : List ℕ) → IsOneLine line → line ≢ [] → lines_of line ≡ line ∷ []
+last_line [] one some = absurd (some refl)
+last_line (b ∷ line) one some = lines-last b line one
+
+pub ends-line : (text : List ℕ) (old : Reader) (new : Feeder) (number : ℕ) (out out' : SinkView) (result : Result (Unit {0}) Halt) (stands : Stands text old) → old.line.items ≢ [] → TreatsLine stands.reading (line_of old.line.items) old.feeder new out out' result → AllOrStopped text (record { feeder = new; line = old.line; number = old.number }) result
+ends-line text old new number out out' (Ok done) stands some treats =
+    let one = took old.number stands.reading old.line.items old.feeder new out out' treats in
+    at_end text old stands
+    ∙ ap (λ (ls : List (List ℕ)). told_behind old.feeder.core.history (feed_lines old.number stands.reading ls)) (last_line old.line.items stands.line some)
+    ∙ one.goes_on []
+    ∙ ap (λ (es : List Entry). record { entries = es; stop = AllRead }) (append-nil new.core.history)
+ends-line text old new number out out' (Err why) stands some treats =
+    rw (at_end text old stands ∙ ap (λ (ls : List (List ℕ)). told_behind old.feeder.core.history (feed_lines old.number stands.reading ls)) (last_line old.line.items stands.line some))
+    (stopped old.number stands.reading old.line.items old.feeder new out out' why treats [])
+
+-- ---- one piece after another
+
+pub Prints-then : (a b c : CoreView) (o1 o2 o3 : SinkView) (result : Result (Unit {0}) Halt) → Prints a b o1 o2 (Ok tt) → Prints b c o2 o3 result → Prints a c o1 o3 result
+Prints-then a b c o1 o2 o3 result h i = record {
+  shows = λ start shows. i.shows start (h.shows start shows);
+  cause = λ e. Failed-wider o1.faults o2.faults o3.faults o1.refusals o2.refusals o3.refusals h.faults_stay i.faults_stay h.refusals_stay i.refusals_stay (i.cause e);
+  faults_stay = omega (arith, h.faults_stay, i.faults_stay);
+  refusals_stay = omega (arith, h.refusals_stay, i.refusals_stay);
+}
+
+stands_regrouped : (text front bytes : List ℕ) (reader : Reader) (result : Result (Unit {0}) Halt) → StandsOrStopped ((text ++ front) ++ bytes) reader result → StandsOrStopped (text ++ (front ++ bytes)) reader result
+stands_regrouped text front bytes reader result h = subst (λ (t : List ℕ). StandsOrStopped t reader result) (append_assoc text front bytes) h
+
+pub Takes-then : (text front bytes : List ℕ) (a b c : Reader) (o1 o2 o3 : SinkView) (result : Result (Unit {0}) Halt) → Takes text front a b o1 o2 (Ok tt) → Takes (text ++ front) bytes b c o2 o3 result → Takes text (front ++ bytes) a c o1 o3 result
+Takes-then text front bytes a b c o1 o2 o3 result h i = record {
+  stands = stands_regrouped text front bytes c result i.stands;
+  prints = Prints-then a.feeder.core b.feeder.core c.feeder.core o1 o2 o3 result h.prints i.prints;
+}
+
+-- a reader that stopped has stopped whatever follows
+pub Takes-stopped : (text front bytes : List ℕ) (a c : Reader) (o1 o3 : SinkView) (why : Halt) → Takes text front a c o1 o3 (Err why) → Takes text (front ++ bytes) a c o1 o3 (Err why)
+Takes-stopped text front bytes a c o1 o3 why h = record {
+  stands = λ more. subst (λ (t : List ℕ). StoppedAs (feed_entries t) c.feeder.core.history c.number why)
+    (sym (append_assoc (text ++ front) bytes more) ∙ ap (λ (t : List ℕ). t ++ more) (append_assoc text front bytes))
+    (h.stands (bytes ++ more));
+  prints = h.prints;
+}
+
+pub Takes-nothing : (text : List ℕ) (reader : Reader) (out : SinkView) → Stands text reader → Takes text [] reader reader out out (Ok tt)
+Takes-nothing text reader out stands = record {
+  stands = subst (λ (t : List ℕ). Stands t reader) (sym (append-nil text)) stands;
+  prints = Prints-stays reader.feeder.core out (Ok tt) (λ e. cc);
+}

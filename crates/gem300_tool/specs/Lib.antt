@@ -7,3 +7,4 @@ pub mod Going
 pub mod Reading
 pub mod Cuts
 pub mod Standing
+pub mod Input

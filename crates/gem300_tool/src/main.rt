@@ -6,6 +6,7 @@ mod feeder;
 mod halt;
 mod lines;
 mod print;
+mod read;
 mod reader;
 
 mod words;

@@ -1,5 +1,5 @@
 //! The input as lines: bytes are gathered to lines, and each line is taken at its line feed.
-ghost use Rattle.std.specs.Prelude.{◌≡◌, ◌+◌, ◌<◌, ◌≤◌, ◌≢◌, ◌^◌, ℕ, List, [], ◌∷◌, ◌++◌, length, IfOk};
+ghost use Rattle.std.specs.Prelude.{◌≡◌, ◌+◌, ◌<◌, ◌≤◌, ◌≢◌, ◌^◌, ℕ, List, [], ◌∷◌, ◌++◌, length, Err, IfOk};
 ghost use Rattle.gem300_tool.specs.Going.{seen};
 
 use crate::feeder::Feeder;
@@ -56,6 +56,7 @@ impl Reader {
         requires { byte ≢ 10 }
         ensures stands { (text : List ℕ) → Stands text self.old → StandsOrStopped (text ++ byte ∷ []) self.new result }
         ensures core_stays { self.new.feeder.core ≡ self.old.feeder.core }
+        ensures fault { result ≢ Err Halt.Write }
         ensures number { self.new.number ≡ self.old.number }
     {
         if self.line.len() >= LINE_BYTES {

@@ -5,3 +5,4 @@ pub mod Cutting
 pub mod LineParts
 pub mod Standing
 pub mod Reading
+pub mod Progress

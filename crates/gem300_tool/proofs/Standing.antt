@@ -269,3 +269,12 @@ Takes-nothing text reader out stands = record {
   stands = subst (λ (t : List ℕ). Stands t reader) (sym (append-nil text)) stands;
   prints = Prints-stays reader.feeder.core out (Ok tt) (λ e. cc);
 }
+
+-- the whole lines of the text gave the history
+pub Stands-whole : (text : List ℕ) (reader : Reader) → Stands text reader → feed_entries (whole_lines text) ≡ record { entries = reader.feeder.core.history; stop = AllRead }
+Stands-whole text reader stands =
+    ap (λ (t : List ℕ). feed_entries (whole_lines t)) stands.text_is
+    ∙ ap feed_entries (stands.ends reader.line.items stands.line)
+    ∙ ap feed_entries (sym (append-nil stands.whole))
+    ∙ stands.goes_on []
+    ∙ ap (λ (es : List Entry). record { entries = es; stop = AllRead }) (append-nil reader.feeder.core.history)

@@ -8,3 +8,6 @@ pub mod Reading
 pub mod Cuts
 pub mod Standing
 pub mod Input
+pub mod Status
+pub mod Fed
+pub mod InputEnds

@@ -2,8 +2,11 @@
 #![tactic(auto)]
 
 mod engine;
+mod ended;
+mod feed;
 mod feeder;
 mod halt;
+mod input;
 mod lines;
 mod print;
 mod read;

@@ -7,6 +7,7 @@ pub mod Messages
 pub mod Step
 pub mod Run
 pub mod Sessions
+pub mod Sizes
 pub mod Command
 pub mod Lines
 pub mod Feed

@@ -1,0 +1,71 @@
+//! The input, from its first byte to its end.
+ghost use Rattle.std.specs.Prelude.{◌≡◌, ◌≤◌, ℕ, List, []};
+ghost use Rattle.outside.specs.Told.{Taken};
+ghost use Rattle.gem300_tool.specs.Going.{seen};
+ghost use Rattle.gem300_tool.specs.Fed.{looked};
+ghost use Rattle.gem300_tool.specs.InputEnds.{InputEnds, as_result};
+ghost use Rattle.gem300_tool.specs.Standing.{Stands, Prints};
+
+use crate::halt::Halt;
+use crate::read::{front, read_front};
+use crate::reader::Reader;
+use outside::{Sink, Source};
+use std::alloc::Global;
+
+/// So many bytes of an input are read at most.
+pub const INPUT_BYTES: u64 = 4_294_967_296;
+
+/// So many bytes are read at once at most.
+const PIECE: usize = 4096;
+
+/// How the reading of an input ended.
+#[derive(Clone, Copy, Debug, PartialEq, Eq)]
+pub enum InputEnd {
+    /// It was read to its end.
+    Whole,
+    /// A read failed.
+    Fault,
+    /// 4,294,967,296 bytes were read.
+    Bound,
+    /// A line stopped it.
+    Halted(Halt),
+}
+
+/// Reads an input to its end, and takes each line.
+pub fn read_lines<S: Source, K: Sink>(
+    alloc: Global,
+    reader: &mut Reader,
+    input: &mut S,
+    out: &mut K,
+) -> InputEnd
+    requires stands { Stands [] reader.old }
+    requires first { reader.old.number ≡ 1 }
+    ensures read { (text : List ℕ) × Taken (S.left input.old) (S.left input.new) text
+        × InputEnds result text reader.new.feeder.core.history reader.new.number
+            (looked S.left S.faults S.ends input.old) (looked S.left S.faults S.ends input.new) }
+    ensures prints { Prints reader.old.feeder.core reader.new.feeder.core
+        (seen K.held K.faults K.refusals out.old) (seen K.held K.faults K.refusals out.new) (as_result result) }
+    ensures faults_stay { S.faults input.old ≤ S.faults input.new }
+    ensures ends_stay { S.ends input.old ≤ S.ends input.new }
+{
+    let mut buf = [0; PIECE];
+    let mut count: u64 = 0;
+    while count < INPUT_BYTES {
+        let room = (INPUT_BYTES - count).min(PIECE as u64) as usize;
+        let Ok(more) = read_front(input, &mut buf, room) else {
+            return InputEnd::Fault;
+        };
+        if more == 0 {
+            return match reader.finish(alloc, out) {
+                Ok(()) => InputEnd::Whole,
+                Err(halt) => InputEnd::Halted(halt),
+            };
+        }
+        match reader.take_piece(alloc, front(&buf, more), out) {
+            Ok(()) => {}
+            Err(halt) => return InputEnd::Halted(halt),
+        }
+        count += more as u64;
+    }
+    InputEnd::Bound
+}

@@ -6,3 +6,4 @@ pub mod LineParts
 pub mod Standing
 pub mod Reading
 pub mod Progress
+pub mod Feeding

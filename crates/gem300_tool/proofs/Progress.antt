@@ -1,16 +1,14 @@
 -- How far the reading of an input has come.
-use Rattle.std.proofs.Common.{◌≡◌, ℕ, ◌+◌, ◌≤◌, List, [], ◌++◌, length, length-append, Option, Result, Ok, Err, refl, sym, ◌∙◌, ap, subst, arith}
+use Rattle.std.proofs.Common.{◌≡◌, ℕ, ◌+◌, ◌≤◌, List, [], ◌++◌, length, length-append, Ok, Err, ◌∙◌, subst, arith}
 use Rattle.std.proofs.lemmas.List.{append-nil}
 use Rattle.outside.specs.Counts.{Rose}
 use Rattle.outside.specs.Told.{Taken, NothingLeft}
-use Rattle.gem_model.specs.Lines.{whole_lines}
-use Rattle.gem_model.specs.Feed.{AllRead, feed_entries}
+use Rattle.gem_model.specs.Feed.{feed_entries}
 use Rattle.gem300_tool.specs.declared.halt.Halt.{Halt}
 use Rattle.gem300_tool.specs.declared.input.InputEnd.{InputEnd}
 use Rattle.gem300_tool.specs.declared.input.InputEnd.TheVariants as input
 use Rattle.gem300_tool.specs.declared.reader.Reader.{Reader}
 use Rattle.gem300_tool.specs.Going.{SinkView}
-use Rattle.gem300_tool.specs.Input.{Whole}
 use Rattle.gem300_tool.specs.Fed.{SourceView, input_bytes}
 use Rattle.gem300_tool.specs.InputEnds.{InputEnds, as_result}
 use Rattle.gem300_tool.specs.Standing.{Stands, StoppedAs, Prints, Takes, Finishes}

@@ -1,21 +1,20 @@
 -- The reader of a text, byte by byte.
-use Rattle.std.proofs.Common.{◌≡◌, ◌≢◌, ◌⊎◌, inl, inr, ℕ, suc, ◌+◌, ◌<◌, ◌≤◌, Bool, true, false, if◌then◌else◌, List, [], ◌∷◌, ◌++◌, length, Option, Some, None, Result, Ok, Err, OnOk, refl, sym, ◌∙◌, ap, subst, append_assoc, arith, length-append}
+use Rattle.std.proofs.Common.{◌≡◌, ◌≢◌, ◌⊎◌, inl, inr, ℕ, ◌+◌, ◌<◌, ◌≤◌, Bool, true, false, if◌then◌else◌, List, [], ◌∷◌, ◌++◌, length, Option, Some, None, Result, Ok, Err, refl, sym, ◌∙◌, ap, subst, append_assoc, arith, length-append}
 use Rattle.std.proofs.lemmas.List.{append-nil}
 use Rattle.tool_events.specs.declared.Entry.{Entry}
-use Rattle.hsms_frame.specs.Cut.{Kept}
 use Rattle.gem_model.specs.Front.{IsFront}
 use Rattle.gem_model.specs.Lines.{Line, lines_of, whole_lines, line_of, line_bytes}
 use Rattle.gem_model.specs.Feed.{Given, Reading, Told, AllRead, OutsideGrammar, NotBuilt, line_given, line_told, told_behind, feed_lines, feed_entries, reading_after, first_reading}
-use Rattle.gem_model.proofs.Texts.{IsOneLine-more, lines-line, lines-last, whole-feed, whole-none, LongFirst, first-long, too-long}
+use Rattle.gem_model.proofs.Texts.{IsOneLine-more, lines-line, lines-last, whole-feed, whole-none, first-long, too-long}
 use Rattle.tool_core.specs.CoreView.{CoreView}
 use Rattle.gem300_tool.specs.declared.halt.Halt.{Halt}
 use Rattle.gem300_tool.specs.declared.halt.Halt.TheVariants as halt
 use Rattle.gem300_tool.specs.declared.feeder.Feeder.{Feeder}
 use Rattle.gem300_tool.specs.declared.reader.Reader.{Reader}
 use Rattle.gem300_tool.specs.Going.{SinkView, WentOn, Shows, ShowsAtEnd, Goes}
-use Rattle.gem300_tool.specs.Reading.{IsReading, TakesLine, RefusesLine, TreatsLine}
-use Rattle.gem300_tool.specs.Standing.{IsOneLine, Stands, StoppedAs, Prints, StandsOrStopped, Takes, AllOrStopped, Finishes}
-use Rattle.gem300_tool.proofs.Going.{IsFront-append, IsFront-wider, Failed-wider}
+use Rattle.gem300_tool.specs.Reading.{IsReading, TreatsLine}
+use Rattle.gem300_tool.specs.Standing.{IsOneLine, Stands, StoppedAs, Prints, StandsOrStopped, Takes, AllOrStopped}
+use Rattle.gem300_tool.proofs.Going.{IsFront-append, Failed-wider}
 use Rattle.gem300_tool.proofs.Writing.{WrittenFront-all}
 
 -- ---- the output

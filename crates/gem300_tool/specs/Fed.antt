@@ -1,5 +1,5 @@
 -- What a run of feed did, by how it ended.
-use Rattle.std.specs.Prelude.{◌≡◌, ◌≢◌, ◌⊎◌, ℕ, ◌-◌, ◌^◌, ◌<◌, ◌≤◌, ⊤, min, List, [], length, Option, Result, Ok, Err}
+use Rattle.std.specs.Prelude.{◌≡◌, ◌≢◌, ◌⊎◌, ℕ, ◌-◌, ◌^◌, ◌<◌, ◌≤◌, ⊤, min, List, [], length, Option}
 use Rattle.outside.specs.Counts.{Rose}
 use Rattle.outside.specs.Told.{Taken, Written}
 use Rattle.tool_events.specs.declared.Entry.{Entry}
@@ -10,7 +10,6 @@ use Rattle.gem_model.specs.Command.{known_configuration, configuration_bytes}
 use Rattle.gem_model.specs.Lines.{whole_lines}
 use Rattle.gem_model.specs.Feed.{AllRead, OutsideGrammar, NotBuilt, feed_entries}
 use Rattle.gem_model.specs.Printed.{printed}
-use Rattle.gem300_tool.specs.declared.halt.Halt.{Halt}
 use Rattle.gem300_tool.specs.declared.ended.Cause.{Cause}
 use Rattle.gem300_tool.specs.declared.ended.Cause.TheVariants as cause
 use Rattle.gem300_tool.specs.Input.{Whole}

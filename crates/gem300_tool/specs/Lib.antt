@@ -11,3 +11,4 @@ pub mod Input
 pub mod Status
 pub mod Fed
 pub mod InputEnds
+pub mod CauseOf

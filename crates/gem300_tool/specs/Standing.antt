@@ -1,5 +1,5 @@
 -- Where the reader of a text stands.
-use Rattle.std.specs.Prelude.{◌≡◌, ◌≢◌, ℕ, ◌≤◌, Bool, false, ◌==◌, List, [], ◌∷◌, ◌++◌, Option, Result, Ok, Err, IsErrOf}
+use Rattle.std.specs.Prelude.{◌≡◌, ℕ, ◌≤◌, false, ◌==◌, List, ◌++◌, Option, Result, Ok, Err, IsErrOf}
 use Rattle.std.specs.List.{list_any}
 use Rattle.tool_events.specs.declared.Entry.{Entry}
 use Rattle.gem_model.specs.Front.{IsFront}

@@ -1,6 +1,6 @@
 //! How a run ended.
 use gem_ids::Text80;
-use std::alloc::Global;
+use std::alloc::{AllocError, Global};
 use std::marker::Model;
 use tool_core::Entries;
 use tool_events::SessionCause;
@@ -30,7 +30,8 @@ pub enum Cause {
 }
 
 impl Cause {
-    ghost use Rattle.std.specs.Prelude.{◌≡◌};
+    ghost use Rattle.std.specs.Prelude.{◌≡◌, ◌↔◌, IfOk, IsNone};
+    ghost use Rattle.gem300_tool.specs.declared.ended.Cause.TheVariants as cause;
     ghost use Rattle.gem300_tool.specs.Status.{status_of};
 
     /// The number with which the program ends.
@@ -48,6 +49,30 @@ impl Cause {
             Cause::NoMemory => 7,
             Cause::NotBuilt(_) => 9,
         }
+    }
+
+    /// What the program says of it on standard error. None: nothing is said of a run that is done.
+    pub fn text(&self, alloc: Global) -> Result<Option<String>, AllocError>
+        ensures { IfOk result (λ text. IsNone text ↔ (self.now ≡ cause.Done)) }
+    {
+        let text = match self {
+            Cause::Done => return Ok(None),
+            Cause::Words(place) => format!(in alloc; "words at {place}")?,
+            Cause::Config(rule, key) => {
+                let mut text = format!(in alloc; "config rule {rule} key ")?;
+                for byte in key.as_bytes() {
+                    text.push(char::from(*byte))?;
+                }
+                text
+            }
+            Cause::ReadFault => format!(in alloc; "read fault")?,
+            Cause::WriteFault => format!(in alloc; "write fault")?,
+            Cause::Full(entries, bytes, input) => format!(in alloc; "full {entries} {bytes} {input}")?,
+            Cause::Line(number, place) => format!(in alloc; "line {number} at {place}")?,
+            Cause::NoMemory => format!(in alloc; "no memory")?,
+            Cause::NotBuilt(number) => format!(in alloc; "not built line {number}")?,
+        };
+        Ok(Some(text))
     }
 }
 

@@ -1,6 +1,7 @@
 //! One line after another: what each says is put in, in the session that is up.
 ghost use Rattle.std.specs.Prelude.{◌≡◌, ℕ, List, [], IfOk};
 ghost use Rattle.gem_model.specs.State.{opening};
+ghost use Rattle.gem_model.specs.Run.{Run};
 ghost use Rattle.gem_model.specs.Lines as model;
 ghost use Rattle.gem_model.specs.Feed.{Reading, first_reading, text_bytes};
 ghost use Rattle.hsms_frame.specs.Cut.{IsCutOf, arrivals_of};
@@ -13,7 +14,7 @@ use crate::lines::{Line, LineFault, read_line};
 use hsms_frame::{Arrival, CutFault, Cutter};
 use outside::Sink;
 use std::alloc::{AllocError, Global};
-use tool_core::Core;
+use tool_core::{Core, Entries};
 use tool_events::{Event, SessionCause};
 
 /// The longest text of a message, in bytes.
@@ -59,6 +60,15 @@ impl Feeder {
             core: Core::open(alloc),
             cutter,
         })
+    }
+
+    /// Hands out the history.
+    pub fn into_history(self) -> Entries
+        ensures history { result ≡ self.core.history }
+        ensures run { Run opening self.core.history self.core.state }
+    {
+        let Feeder { core, .. } = self;
+        core.close()
     }
 
     /// A link comes up. A new session begins with no bytes.

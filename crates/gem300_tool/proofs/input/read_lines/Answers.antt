@@ -1,7 +1,6 @@
-use Rattle.std.proofs.Common.{◌≡◌, ℕ, List, take, length, arith, ap, sym, ◌∙◌}
+use Rattle.std.proofs.Common.{◌≡◌, ℕ, List, take, length, arith, ap}
 use Rattle.std.proofs.lemmas.List.{length-take-le}
 use Rattle.gem300_tool.specs.Fed.{looked}
-use Rattle.gem300_tool.specs.Going.{seen}
 use Rattle.gem300_tool.proofs.Progress.{ends-last, ends-halted, Progress-more}
 use Rattle.gem300_tool.proofs.input.read_lines.Goals as goal
 

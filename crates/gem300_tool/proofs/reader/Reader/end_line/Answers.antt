@@ -1,5 +1,4 @@
-use Rattle.std.proofs.Common.{refl, Err, Ok}
-use Rattle.gem_model.specs.Lines.{line_of}
+use Rattle.std.proofs.Common.{refl}
 use Rattle.gem300_tool.proofs.Standing.{Stands-line, Stands-line-stopped, Prints-line}
 use Rattle.gem300_tool.proofs.reader.Reader.end_line.Goals as goal
 

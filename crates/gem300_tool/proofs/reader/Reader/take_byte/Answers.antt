@@ -1,4 +1,3 @@
-use Rattle.std.proofs.Common.{arith}
 use Rattle.gem300_tool.proofs.Standing.{Prints-stays}
 use Rattle.gem300_tool.proofs.reader.Reader.take_byte.Goals as goal
 

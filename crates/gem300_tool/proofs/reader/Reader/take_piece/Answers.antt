@@ -1,7 +1,7 @@
-use Rattle.std.proofs.Common.{◌≡◌, ℕ, suc, ◌+◌, List, ◌++◌, ◌∷◌, [], take, drop, get_or, arith, sym, ◌∙◌, ap, subst, Err, Ok}
+use Rattle.std.proofs.Common.{ℕ, ◌+◌, List, ◌++◌, take, drop, arith, sym, ◌∙◌, ap, subst, Err, Ok}
 use Rattle.std.proofs.lemmas.List.{take_more, take-append-drop, take_all}
 use Rattle.gem300_tool.specs.Going.{seen}
-use Rattle.gem300_tool.specs.Standing.{Stands, Takes}
+use Rattle.gem300_tool.specs.Standing.{Takes}
 use Rattle.gem300_tool.proofs.Standing.{Takes-then, Takes-stopped}
 use Rattle.gem300_tool.proofs.reader.Reader.take_piece.Goals as goal
 

@@ -11,3 +11,4 @@ pub mod Command
 pub mod Lines
 pub mod Feed
 pub mod Printed
+pub mod Conversation

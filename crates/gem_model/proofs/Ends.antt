@@ -106,6 +106,6 @@ session_end-now entries h entry o run here up =
     let one : up_count h ≡ 1 = grind (arith, up) in
     let number : h.session ≡ suc (length (ends_of opening entries)) = omega arith in
     let ends = ends_of-append opening entries (entry ∷ [])
-      ∙ ap (λ (g : State). ends_of opening entries ++ ends_of g (entry ∷ [])) (after_all-run opening entries h run)
-      ∙ ap (λ (cs : List SessionCause). ends_of opening entries ++ cs) (append-nil (option_to_list (ended h entry)) ∙ ap option_to_list (ended_is h entry o here)) in
+    ∙ ap (λ (g : State). ends_of opening entries ++ ends_of g (entry ∷ [])) (after_all-run opening entries h run)
+    ∙ ap (λ (cs : List SessionCause). ends_of opening entries ++ cs) (append-nil (option_to_list (ended h entry)) ∙ ap option_to_list (ended_is h entry o here)) in
     session_end-at opening (entries ++ entry ∷ []) _ _ number ∙ (ap (λ (cs : List SessionCause). slice_get cs (length (ends_of opening entries))) ends ∙ slice_get-last (ends_of opening entries) o.ended)

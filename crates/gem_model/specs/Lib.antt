@@ -12,3 +12,4 @@ pub mod Command
 pub mod Lines
 pub mod Feed
 pub mod Printed
+pub mod Conversation

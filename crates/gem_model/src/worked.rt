@@ -1,0 +1,102 @@
+//! Worked conversations: what the tool prints for a text of lines, computed from the definitions. Each function is a
+//! statement about them, and has no code.
+#![tactic(auto, unfolding(crate::proofs::OnLiterals::feed_on_literals))]
+
+ghost use Rattle.std.specs.Prelude.{◌≡◌, codes};
+ghost use Rattle.gem_model.specs.Feed.{AllRead, OutsideGrammar, NotBuilt};
+ghost use Rattle.gem_model.specs.Conversation.{answer_to, stop_of};
+
+/// Where nothing comes, nothing is printed.
+pub fn no_lines()
+    ensures printed { answer_to (codes "") ≡ codes "" }
+    ensures stop { stop_of (codes "") ≡ AllRead }
+{}
+
+/// Empty lines and comments are skipped.
+pub fn a_comment_is_skipped()
+    ensures printed { answer_to (codes "# a link comes up\n\nL+\n") ≡ codes "+ 1\n" }
+    ensures stop { stop_of (codes "# a link comes up\n\nL+\n") ≡ AllRead }
+{}
+
+/// A select request is answered under its system bytes, with status 0.
+pub fn a_link_is_selected()
+    ensures { answer_to (codes "L+\nH 0000000AFFFF0000000100000001\n")
+        ≡ codes "+ 1\n> 0000000AFFFF0000000200000001\n" }
+{}
+
+/// A frame may come in several lines.
+pub fn a_frame_comes_in_two_lines()
+    ensures { answer_to (codes "L+\nH 0000000AFFFF00\nH 00000100000001\n")
+        ≡ codes "+ 1\n> 0000000AFFFF0000000200000001\n" }
+{}
+
+/// A frame may come byte by byte, in digits of either case, and the last line may lack its line feed.
+pub fn a_frame_comes_byte_by_byte()
+    ensures { answer_to (codes "L+\nH 00\nH 00\nH 00\nH 0a\nH ff\nH FF\nH 00\nH 00\nH 00\nH 01\nH 00\nH 00\nH 00\nH 01")
+        ≡ codes "+ 1\n> 0000000AFFFF0000000200000001\n" }
+{}
+
+/// A line may have several frames.
+pub fn two_frames_come_in_one_line()
+    ensures { answer_to (codes "L+\nH 0000000AFFFF00000001000000010000000AFFFF0000000500000002\n")
+        ≡ codes "+ 1\n> 0000000AFFFF0000000200000001\n> 0000000AFFFF0000000600000002\n" }
+{}
+
+/// A second select request is answered with status 1.
+pub fn a_link_is_selected_twice()
+    ensures { answer_to (codes "L+\nH 0000000AFFFF0000000100000001\nH 0000000AFFFF0000000100000002\n")
+        ≡ codes "+ 1\n> 0000000AFFFF0000000200000001\n> 0000000AFFFF0001000200000002\n" }
+{}
+
+/// A linktest request is answered, also before the link is selected.
+pub fn a_link_is_tested()
+    ensures { answer_to (codes "L+\nH 0000000AFFFF0000000500000009\n")
+        ≡ codes "+ 1\n> 0000000AFFFF0000000600000009\n" }
+{}
+
+/// S1F1 with the W-bit is answered by the model and the software revision.
+pub fn the_host_asks_who_is_there()
+    ensures { answer_to (codes "L+\nH 0000000AFFFF0000000100000001\nH 0000000A00008101000000000002\n")
+        ≡ codes "+ 1\n> 0000000AFFFF0000000200000001\n> 0000001C000001020000000000020102410647454D3330304106312E302E3030\n" }
+{}
+
+/// S1F1 without the W-bit is not answered.
+pub fn the_host_wants_no_reply()
+    ensures printed { answer_to (codes "L+\nH 0000000AFFFF0000000100000001\nH 0000000A00000101000000000002\n")
+        ≡ codes "+ 1\n> 0000000AFFFF0000000200000001\n" }
+    ensures stop { stop_of (codes "L+\nH 0000000AFFFF0000000100000001\nH 0000000A00000101000000000002\n") ≡ AllRead }
+{}
+
+/// A length field below 10 ends the session, and what comes after it is dropped.
+pub fn a_length_is_too_short()
+    ensures printed { answer_to (codes "L+\nH 00000009\nH 0000000AFFFF0000000100000001\n") ≡ codes "+ 1\n- 1 ShortLength\n" }
+    ensures stop { stop_of (codes "L+\nH 00000009\nH 0000000AFFFF0000000100000001\n") ≡ AllRead }
+{}
+
+/// A link that comes up while one is up changes nothing.
+pub fn a_link_comes_up_twice()
+    ensures { answer_to (codes "L+\nL+\n") ≡ codes "+ 1\n" }
+{}
+
+/// After a link was lost the next is another session.
+pub fn a_link_comes_up_again()
+    ensures { answer_to (codes "L+\nL-\nL+\n") ≡ codes "+ 1\n- 1 PeerEnd\n+ 2\n" }
+{}
+
+/// A separate message ends the session where the link is selected.
+pub fn the_host_separates()
+    ensures { answer_to (codes "L+\nH 0000000AFFFF0000000100000001\nH 0000000AFFFF0000000900000002\n")
+        ≡ codes "+ 1\n> 0000000AFFFF0000000200000001\n- 1 Separated\n" }
+{}
+
+/// A line outside the grammar stops the reading.
+pub fn a_line_is_outside_the_grammar()
+    ensures printed { answer_to (codes "L+\nH 0\nL-\n") ≡ codes "+ 1\n" }
+    ensures stop { stop_of (codes "L+\nH 0\nL-\n") ≡ OutsideGrammar 2 }
+{}
+
+/// S1F1 before the link is selected is not built, and stops the reading.
+pub fn a_message_is_not_built()
+    ensures printed { answer_to (codes "L+\nH 0000000A00008101000000000003\nL-\n") ≡ codes "+ 1\n" }
+    ensures stop { stop_of (codes "L+\nH 0000000A00008101000000000003\nL-\n") ≡ NotBuilt 2 }
+{}

@@ -1,1 +1,12 @@
+pub mod Characters
+pub mod Complete
+pub mod Cut
+pub mod Digits
+pub mod Failing
+pub mod Grammar
+pub mod Heads
+pub mod InTurn
+pub mod Leaves
 pub mod Lists
+pub mod Standing
+pub mod Stepping

@@ -1,8 +1,12 @@
 pub mod Data
 pub mod Falls
+pub mod Faults
+pub mod Format
 pub mod Grows
 pub mod Height
 pub mod Plain
+pub mod Reading
 pub mod Sendable
+pub mod Spelling
 pub mod Stored
 pub mod View

@@ -31,7 +31,7 @@ elements_again value bytes_of k P long back (x ∷ xs) all =
     let rest = elements_again value bytes_of k P long back xs all.1 in
     rw (here, behind, rest) refl
 
-elements_length : {X : Type 0} (bytes_of : X → List ℕ) (k : ℕ) (P : X → Type 0) → ((x : X) → P x → length (bytes_of x) ≡ k) →
+pub elements_length : {X : Type 0} (bytes_of : X → List ℕ) (k : ℕ) (P : X → Type 0) → ((x : X) → P x → length (bytes_of x) ≡ k) →
     (xs : List X) → AllByRecursion P xs → length (flat_map bytes_of xs) ≡ k * length xs
 elements_length bytes_of k P long [] all = sym (mul-zero k)
 elements_length bytes_of k P long (x ∷ xs) all =

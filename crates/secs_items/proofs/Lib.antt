@@ -1,6 +1,7 @@
 pub mod Characters
 pub mod Complete
 pub mod Cut
+pub mod Decoding
 pub mod Digits
 pub mod Failing
 pub mod Grammar
@@ -8,5 +9,6 @@ pub mod Heads
 pub mod InTurn
 pub mod Leaves
 pub mod Lists
+pub mod Sends
 pub mod Standing
 pub mod Stepping

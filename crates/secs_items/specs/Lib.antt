@@ -2,6 +2,7 @@ pub mod Data
 pub mod Falls
 pub mod Faults
 pub mod Format
+pub mod Given
 pub mod Grows
 pub mod Height
 pub mod Plain

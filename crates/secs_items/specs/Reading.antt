@@ -19,15 +19,6 @@ abbrev pub ◌>>=◌ : {A B : Type 0} → Result A ItemFault → (A → Result B
 (Ok x) >>= f = f x
 (Err e) >>= f = Err e
 
--- what a function returned, seen by view, is what reading gives, unless memory ran out
-abbrev pub Fails : {A : Type 0} → ItemFault → Result A ItemFault → Type 0
-Fails fault.NoMemory read = Unit {0}
-Fails e read = read ≡ Err e
-
-abbrev pub Gives : {X A : Type 0} → (X → A) → Result X ItemFault → Result A ItemFault → Type 0
-Gives view (Ok x) read = read ≡ Ok (view x)
-Gives view (Err e) read = Fails e read
-
 -- the first of these formats that has the code
 abbrev pub first_with : ℕ → List Format → Option Format
 first_with n [] = None

@@ -1,9 +1,13 @@
-ghost use Rattle.std.specs.Prelude.{◌≡◌, ◌*◌, ◌+◌, ◌%◌, ◌/◌, ◌≤◌, ◌<◌, ◌^◌, ℕ, length, take, drop, Ok, IfOk, nat_le};
+ghost use Rattle.std.specs.Prelude.{◌≡◌, ◌≢◌, ◌/◌, ◌≤◌, ℕ, length, take, Ok, Err, IfOk, IfErr, nat_le};
 ghost use Rattle.std.specs.List.{position};
-ghost use Rattle.secs_items.specs.Data.{list};
-ghost use Rattle.secs_items.specs.Format.{width};
-ghost use Rattle.secs_items.specs.Reading.{Gives, format_at, length_at, elements_at, leaf, no_character, body_at, leaf_at, list_at, item_at};
-ghost use Rattle.secs_items.specs.View.{view, items_of};
+ghost use Rattle.secs_items.specs.Data.{Data};
+ghost use Rattle.secs_items.specs.Faults.{IsFirst};
+ghost use Rattle.secs_items.specs.Given.{Gives};
+ghost use Rattle.secs_items.specs.Reading.{format_at, length_at, elements_at, leaf, no_character, body_at, leaf_at, list_at, item_at};
+ghost use Rattle.secs_items.specs.Sendable.{IsSendable};
+ghost use Rattle.secs_items.specs.Spelling.{Spells};
+ghost use Rattle.secs_items.specs.View.{view, seen};
+ghost use Rattle.secs_items.specs.declared.fault.ItemFault.{ItemFault};
 
 use crate::element::Element;
 use crate::elements::{Bytes, Elements};
@@ -17,11 +21,28 @@ use std::alloc::Global;
 const MOST_LISTS: usize = 16;
 
 /// Reads the item at the front of the bytes, whatever follows it, and tells how many bytes it takes (SEMI E5, item
-/// formats). It takes 1, 2 or 3 length bytes.
+/// formats). A length may have 1, 2 or 3 bytes, and any byte but 0 is true. What is read can be sent again.
+///
+/// Where no item stands there, the fault of the least place is told, and of those at one place the one that stands first
+/// in `ItemFault`: `Truncated` where the bytes are a proper front of an item, and each other fault where its variant
+/// says. `NoMemory` comes only where memory runs out. Lists stand inside one another at most 16 deep, and no memory is
+/// taken for what is announced and not there.
 pub fn decode(alloc: Global, bytes: &[u8]) -> Result<(Item, usize), ItemFault>
+    ensures within { IfOk result (λ r. r.1 ≤ length bytes.now) }
+    // What is read is spelled so.
+    ensures found { IfOk result (λ r. Spells (view r.0) 0 (take r.1 bytes.now)) }
+    // What is spelled so is read, unless memory ran out.
+    ensures only { (d : Data) (n : ℕ) → n ≤ length bytes.now → Spells d 0 (take n bytes.now) → Gives seen result (Ok (d, n)) }
+    // Which fault is told.
+    ensures fault { IfErr result (λ e. e ≢ ItemFault.NoMemory → IsFirst bytes.now e) }
+    // The first fault is told, unless memory ran out.
+    ensures first { (e : ItemFault) → IsFirst bytes.now e → Gives seen result (Err e) }
+    ensures sendable { IfOk result (λ r. IsSendable (view r.0)) }
 {
-    let (item, rest) = read_item(alloc, MOST_LISTS, bytes.len(), bytes)?;
-    Ok((item, bytes.len() - rest.len()))
+    match read_item(alloc, MOST_LISTS, bytes.len(), bytes) {
+        Ok((item, rest)) => Ok((item, bytes.len() - rest.len())),
+        Err(fault) => Err(fault),
+    }
 }
 
 // Reads a format byte: the format, how many length bytes come, and what is behind the byte.

@@ -25,7 +25,7 @@ use Rattle.secs_items.proofs.Stepping.{fails_item, leaf_item, deep_item, list_it
 
 -- ---- the way to an item
 
-begins_depth : (depth : ℕ) (front : List ℕ) → Begins depth front → depth ≤ 16
+pub begins_depth : (depth : ℕ) (front : List ℕ) → Begins depth front → depth ≤ 16
 begins_depth zero front begins = omega arith
 begins_depth (suc depth) front (outer, head, before, n, ds, begins, low, is_head, spell, fewer, same) = low
 
@@ -46,7 +46,7 @@ unfolding list_at
 list_err one total k n bytes rest e read failed = rw (read, failed) refl
 
 -- a fault of an item that begins there is the fault of the input
-path : (depth l total : ℕ) (front tail : List ℕ) (e : ItemFault) → l + depth ≡ 16 → Begins depth front → item_at l total tail ≡ Err e →
+pub path : (depth l total : ℕ) (front tail : List ℕ) (e : ItemFault) → l + depth ≡ 16 → Begins depth front → item_at l total tail ≡ Err e →
     item_at 16 total (front ++ tail) ≡ Err e
 path zero l total front tail e deep begins failed =
     let top : l ≡ 16 = omega arith in

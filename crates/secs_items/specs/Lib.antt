@@ -5,7 +5,9 @@ pub mod Format
 pub mod Given
 pub mod Grows
 pub mod Height
+pub mod Ids
 pub mod Plain
+pub mod Ranges
 pub mod Reading
 pub mod Sendable
 pub mod Spelling

@@ -6,12 +6,18 @@ mod elements;
 mod fault;
 mod format;
 mod item;
+mod laws;
 mod reading;
+mod values;
 mod writing;
 
 pub use elements::{Bools, Bytes, Elements, I8s, I16s, I32s, I64s, U8s, U16s, U32s, U64s};
 pub use fault::ItemFault;
 pub use item::{Item, Items, NoMemory};
+pub use laws::{
+    a_fault_stands_behind_open_bytes, bytes_spell_or_have_a_fault, no_spelling_begins_another,
+    what_is_sent_spells_the_item, what_is_spelled_can_be_sent,
+};
 pub use reading::decode;
 pub use writing::encode;
 

@@ -1,19 +1,17 @@
 -- What ends too early can be completed.
-use Rattle.std.proofs.Common.{◌≡◌, ◌≢◌, ◌<◌, ◌≤◌, ◌+◌, ◌-◌, ◌*◌, ◌^◌, ◌%◌, ◌⊎◌, ℕ, zero, suc, Bool, true, false, List, [], ◌∷◌, ◌++◌, length, take, drop, replicate, Option, Some, None, Result, Ok, Err, refl, ap, sym, ◌∙◌, subst, inl, inr, arith, append-nil, append_assoc, length-append}
+use Rattle.std.proofs.Common.{◌≡◌, ◌≢◌, ◌<◌, ◌≤◌, ◌+◌, ◌-◌, ◌*◌, ◌%◌, ℕ, zero, suc, List, [], ◌∷◌, ◌++◌, length, take, replicate, None, Ok, Err, refl, ap, sym, ◌∙◌, subst, inl, inr, arith, append-nil, append_assoc, length-append}
 use Rattle.std.proofs.lemmas.List.{take_all, length-replicate}
 use Rattle.byteorder.specs.Endian.{big_number}
 use Rattle.secs_items.specs.Data.{Data, DataList, list, binary, no_items, item}
 use Rattle.secs_items.specs.Format.{code, width}
-use Rattle.secs_items.specs.Plain.{count_of}
-use Rattle.secs_items.specs.Reading.{Read, ◌>>=◌, format_at, length_at, no_character, body_at, leaf, leaf_at, items_at, is_list, list_at, item_at}
-use Rattle.secs_items.specs.Spelling.{AreBelow, IsHead, Spells, SpellAll}
-use Rattle.secs_items.specs.declared.fault.ItemFault.{ItemFault}
+use Rattle.secs_items.specs.Reading.{Read, format_at, length_at, no_character, leaf, leaf_at, items_at, list_at, item_at}
+use Rattle.secs_items.specs.Spelling.{AreBelow, Spells}
 use Rattle.secs_items.specs.declared.fault.ItemFault.TheVariants as fault
 use Rattle.secs_items.specs.declared.format.Format.{Format}
 use Rattle.secs_items.specs.declared.format.Format.TheVariants as format
 use Rattle.secs_items.proofs.Characters.{position-below, below-position}
-use Rattle.secs_items.proofs.Digits.{below_append, below_left, below_right, below_more}
-use Rattle.secs_items.proofs.Failing.{FormatFails, nothing, no_length, no_format, LeafFails, short_head, bad_width, bad_text, short_body, ListFails, short_list, bad_items, ItemFails, at_format, too_deep, in_list, in_leaf, leaf_fails, list_fails, item_fails}
+use Rattle.secs_items.proofs.Digits.{below_append, below_right}
+use Rattle.secs_items.proofs.Failing.{nothing, no_length, no_format, LeafFails, short_head, bad_width, bad_text, short_body, ListFails, short_list, bad_items, ItemFails, at_format, too_deep, in_list, in_leaf, leaf_fails, list_fails, item_fails}
 use Rattle.secs_items.proofs.Grammar.{again, found, leaf_reads}
 use Rattle.secs_items.proofs.Heads.{bind_err, format_at-byte, format_at-ok, length_at-ok, length_at-bytes}
 use Rattle.secs_items.proofs.Stepping.{leaf_item, list_item, whole_list}
@@ -108,9 +106,13 @@ leaf_completes total other place now k f bytes small below (short_body n rest re
     let bytes_are : bytes ++ zeros ≡ lens ++ body = ap (λ (b : List ℕ). b ++ zeros) split ∙ append_assoc lens rest zeros in
     let again_read : length_at other k (bytes ++ zeros) ≡ Ok (n, body ++ []) =
     ap (length_at other k) bytes_are ∙ length_at-bytes other k lens body size
-    ∙ ap (λ (l : ℕ). Ok (l, body)) (sym number) ∙ ap (λ (b : List ℕ). Ok (n, b)) (sym (append-nil body)) in
-    (zeros, leaf f body, replicate_some m (omega arith), zeros_below 256 m (omega arith),
-    λ at. leaf_reads other at k n f (bytes ++ zeros) body [] again_read long whole (fill_text f rest m rest_text))
+    ∙ ap (λ (l : ℕ). Ok (l, body)) (sym number) ∙ ap (λ (b : List ℕ). Ok (n, b)) (sym (append-nil body)) in (
+      zeros,
+      leaf f body,
+      replicate_some m (omega arith),
+      zeros_below 256 m (omega arith),
+      λ at. leaf_reads other at k n f (bytes ++ zeros) body [] again_read long whole (fill_text f rest m rest_text),
+    )
 
 -- empty binary items complete a list
 abbrev empty_item : List ℕ
@@ -148,9 +150,13 @@ items_complete l depth total other now deep each (suc n) bytes below read =
       | inl failed ↦
           let (rest, x, some, low, one) = each bytes below failed in
           let whole = extend l x depth (bytes ++ rest) [] (empties n) other other deep (below_append 256 bytes rest below low) one in
-          let here : item_at l other (bytes ++ (rest ++ empties n)) ≡ Ok (x, empties n) = rw append_assoc at whole in
-          (rest ++ empties n, item x (empty_items n), more_some rest (empties n) some, below_append 256 rest (empties n) low (empties_below n),
-          rw (here, empties_read l depth other deep n) refl)
+          let here : item_at l other (bytes ++ (rest ++ empties n)) ≡ Ok (x, empties n) = rw append_assoc at whole in (
+            rest ++ empties n,
+            item x (empty_items n),
+            more_some rest (empties n) some,
+            below_append 256 rest (empties n) low (empties_below n),
+            rw (here, empties_read l depth other deep n) refl,
+          )
       | inr (d, one, more) ↦ elim (bind_err (items_at (item_at l total) n d.1) _ (fault.Truncated now) more) [
         | inr (ds, items, end) ↦ absurd (cc)
         | inl failed ↦
@@ -170,9 +176,13 @@ list_completes l depth total other now k bytes deep small below each (short_list
     let n = big_number k (bytes ++ zeros) in
     let behind = empties n in
     let read : length_at other k (bytes ++ (zeros ++ behind)) ≡ Ok (n, behind) =
-    ap (length_at other k) (sym (append_assoc bytes zeros behind)) ∙ length_at-bytes other k (bytes ++ zeros) behind size in
-    (zeros ++ behind, list (empty_items n), more_some zeros behind some, below_append 256 zeros behind low (empties_below n),
-    whole_list (item_at l other) other k n (bytes ++ (zeros ++ behind)) behind [] (empty_items n) read (empties_read l depth other deep n))
+    ap (length_at other k) (sym (append_assoc bytes zeros behind)) ∙ length_at-bytes other k (bytes ++ zeros) behind size in (
+      zeros ++ behind,
+      list (empty_items n),
+      more_some zeros behind some,
+      below_append 256 zeros behind low (empties_below n),
+      whole_list (item_at l other) other k n (bytes ++ (zeros ++ behind)) behind [] (empty_items n) read (empties_read l depth other deep n),
+    )
 list_completes l depth total other now k bytes deep small below each (bad_items n rest read failed) =
     let (lens, size, split, number) = length_at-ok total k n bytes rest read in
     let low : AreBelow 256 (lens ++ rest) = subst (AreBelow 256) split below in
@@ -214,5 +224,5 @@ completes zero depth total other now bytes deep below read =
 completes (suc l) depth total other now bytes deep below read =
     item_completes (suc l) depth total other now bytes deep below
     (λ m next bytes below read. let same : l ≡ m = omega arith in
-        subst (λ (n : ℕ). Completes (item_at n other) bytes) same (completes l (suc depth) total other now bytes (omega arith) below (subst (λ (n : ℕ). item_at n total bytes ≡ Err (fault.Truncated now)) (sym same) read)))
+    subst (λ (n : ℕ). Completes (item_at n other) bytes) same (completes l (suc depth) total other now bytes (omega arith) below (subst (λ (n : ℕ). item_at n total bytes ≡ Err (fault.Truncated now)) (sym same) read)))
     (item_fails (suc l) total bytes _ read)

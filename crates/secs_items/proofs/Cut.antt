@@ -1,14 +1,14 @@
 -- A proper front of a spelling ends too early, and in no other way.
-use Rattle.std.proofs.Common.{◌≡◌, ◌≢◌, ◌<◌, ◌≤◌, ◌+◌, ◌-◌, ◌*◌, ◌^◌, ◌%◌, ◌⊎◌, ℕ, zero, suc, Bool, true, false, List, [], ◌∷◌, ◌++◌, length, take, drop, cond, eqb, ltb, Option, Some, None, Result, Ok, Err, refl, ap, sym, ◌∙◌, subst, inl, inr, arith, append-nil, append_assoc, length-append, length-take}
+use Rattle.std.proofs.Common.{◌≡◌, ◌≢◌, ◌<◌, ◌+◌, ◌-◌, ◌*◌, ◌%◌, ◌⊎◌, ℕ, zero, suc, List, [], ◌∷◌, ◌++◌, length, take, None, Ok, Err, refl, ap, sym, ◌∙◌, subst, inl, inr, arith, length-append}
 use Rattle.std.proofs.lemmas.Bool.{lt-ltb, eq-eqb}
 use Rattle.std.proofs.lemmas.List.{take_all}
 use Rattle.std.specs.Int.{bytes_high_first}
 use Rattle.byteorder.specs.Numbers.{length-bytes_high_first}
-use Rattle.secs_items.specs.Data.{Data, DataList, list, no_items, item}
+use Rattle.secs_items.specs.Data.{Data, DataList, no_items, item}
 use Rattle.secs_items.specs.Format.{code, width}
 use Rattle.secs_items.specs.Plain.{count_of}
-use Rattle.secs_items.specs.Reading.{Read, ◌>>=◌, format_at, length_at, no_character, body_at, leaf_at, items_at, is_list, list_at, item_at}
-use Rattle.secs_items.specs.Spelling.{IsHead, Spells, SpellAll}
+use Rattle.secs_items.specs.Reading.{Read, format_at, length_at, no_character, body_at, leaf_at, items_at, item_at}
+use Rattle.secs_items.specs.Spelling.{Spells, SpellAll}
 use Rattle.secs_items.specs.declared.fault.ItemFault.{ItemFault}
 use Rattle.secs_items.specs.declared.fault.ItemFault.TheVariants as fault
 use Rattle.secs_items.specs.declared.format.Format.{Format}
@@ -17,7 +17,7 @@ use Rattle.secs_items.proofs.Characters.{no_character-front}
 use Rattle.secs_items.proofs.Grammar.{again}
 use Rattle.secs_items.proofs.Heads.{format_at-byte, head_reads, length_at-short}
 use Rattle.secs_items.proofs.Leaves.{IsLeaf, IsListSpelling, spelled}
-use Rattle.secs_items.proofs.Stepping.{fails_item, fails_length, fails_items, leaf_item, list_item}
+use Rattle.secs_items.proofs.Stepping.{fails_length, fails_items, leaf_item, list_item}
 
 -- one list in two ways: the first part of one is a proper front of the first part of the other, or begins with it
 pub two_ways : (a b c d : List ℕ) → a ++ b ≡ c ++ d →
@@ -136,7 +136,7 @@ cut zero x depth tail rest total deep some spells = elim (spelled x depth (tail 
 ]
 cut (suc l) x depth tail rest total deep some spells = elim (spelled x depth (tail ++ rest) spells) [
   | inl of_list ↦ cut_list x l depth total tail rest some of_list
-    (λ y bytes rest inner. again l y (suc depth) bytes rest total (omega arith) inner)
-    (λ y part rest some inner. cut l y (suc depth) part rest total (omega arith) some inner)
+      (λ y bytes rest inner. again l y (suc depth) bytes rest total (omega arith) inner)
+      (λ y part rest some inner. cut l y (suc depth) part rest total (omega arith) some inner)
   | inr of_leaf ↦ cut_leaf x tail rest (suc l) total some of_leaf
 ]

@@ -1,5 +1,5 @@
 -- What the reading of the whole input gives, in the words of the grammar.
-use Rattle.std.proofs.Common.{◌≡◌, ◌≢◌, ◌≤◌, ◌+◌, ◌-◌, ℕ, List, ◌++◌, length, take, drop, get_or, Result, Ok, Err, refl, ap, sym, ◌∙◌, subst, arith, length-append, length-drop, Fits, w8}
+use Rattle.std.proofs.Common.{◌≡◌, ◌≢◌, ◌≤◌, ◌+◌, ◌-◌, ℕ, List, length, take, drop, get_or, Result, Ok, Err, refl, ap, sym, ◌∙◌, subst, arith, length-append, length-drop, Fits, w8}
 use Rattle.std.proofs.lemmas.List.{take_at, take-append-drop}
 use Rattle.secs_items.specs.Data.{Data}
 use Rattle.secs_items.specs.Faults.{IsFirst}

@@ -1,9 +1,9 @@
 -- Why a reading fails, step by step.
-use Rattle.std.proofs.Common.{◌≡◌, ◌≢◌, ◌<◌, ◌≤◌, ◌+◌, ◌-◌, ◌*◌, ◌%◌, ◌/◌, ◌⊎◌, ℕ, zero, suc, Bool, true, false, List, [], ◌∷◌, ◌++◌, length, take, drop, cond, eqb, ltb, Option, Some, None, Result, Ok, Err, refl, ap, sym, ◌∙◌, inl, inr, arith}
+use Rattle.std.proofs.Common.{◌≡◌, ◌≢◌, ◌<◌, ◌+◌, ◌-◌, ◌%◌, ◌/◌, ◌⊎◌, ℕ, zero, suc, true, false, List, [], ◌∷◌, length, take, drop, eqb, ltb, Option, Some, None, Result, Ok, Err, refl, ap, sym, ◌∙◌, inl, inr}
 use Rattle.std.proofs.lemmas.Bool.{ltb-true, eqb-true, eqb-false}
-use Rattle.secs_items.specs.Data.{Data, DataList, list}
+use Rattle.secs_items.specs.Data.{Data}
 use Rattle.secs_items.specs.Format.{width, IsNoCode}
-use Rattle.secs_items.specs.Reading.{Read, ◌>>=◌, format_with, known, format_at, length_at, no_character, whole_body, body_at, leaf, leaf_at, items_at, is_list, list_at, item_at}
+use Rattle.secs_items.specs.Reading.{Read, format_with, known, format_at, length_at, no_character, whole_body, body_at, leaf, leaf_at, items_at, is_list, list_at, item_at}
 use Rattle.secs_items.specs.declared.fault.ItemFault.{ItemFault}
 use Rattle.secs_items.specs.declared.fault.ItemFault.TheVariants as fault
 use Rattle.secs_items.specs.declared.format.Format.{Format}

@@ -1,11 +1,11 @@
 -- What stands before a fault, and that each input is read or at fault.
-use Rattle.std.proofs.Common.{◌≡◌, ◌<◌, ◌≤◌, ◌+◌, ◌-◌, ◌*◌, ◌^◌, ◌%◌, ◌⊎◌, ℕ, List, [], ◌∷◌, ◌++◌, length, take, drop, Option, None, Result, Ok, Err, refl, ap, sym, ◌∙◌, subst, inl, inr, arith, append-nil, append_assoc}
+use Rattle.std.proofs.Common.{◌≡◌, ◌<◌, ◌≤◌, ◌+◌, ◌-◌, ◌*◌, ◌⊎◌, ℕ, List, [], ◌∷◌, ◌++◌, length, take, drop, Result, Ok, Err, refl, ap, sym, ◌∙◌, subst, inl, inr, arith, append-nil}
 use Rattle.std.proofs.lemmas.List.{take-append-drop, take_all}
 use Rattle.std.specs.Int.{bytes_high_first}
 use Rattle.secs_items.specs.Data.{Data}
-use Rattle.secs_items.specs.Faults.{Begins, BeginsAt, Stands, IsFirst, place_of}
+use Rattle.secs_items.specs.Faults.{Begins, Stands, IsFirst, place_of}
 use Rattle.secs_items.specs.Format.{code}
-use Rattle.secs_items.specs.Reading.{item_at, no_character}
+use Rattle.secs_items.specs.Reading.{item_at}
 use Rattle.secs_items.specs.Spelling.{AreBelow, IsHead, Spells, Open}
 use Rattle.secs_items.specs.declared.fault.ItemFault.{ItemFault}
 use Rattle.secs_items.specs.declared.fault.ItemFault.TheVariants as fault

@@ -1,14 +1,13 @@
 -- The reading of items and their grammar: what is spelled is read, and what is read is spelled.
-use Rattle.std.proofs.Common.{◌≡◌, ◌≢◌, ◌<◌, ◌≤◌, ◌+◌, ◌-◌, ◌*◌, ◌^◌, ◌%◌, ◌⊎◌, ℕ, zero, suc, Bool, true, false, List, [], ◌∷◌, ◌++◌, length, take, drop, cond, eqb, ltb, Option, Some, None, Result, Ok, Err, refl, ap, sym, ◌∙◌, subst, inl, inr, arith, append-nil, append_assoc, length-append, length-take}
-use Rattle.std.proofs.lemmas.Bool.{lt-ltb, le-ltb, ltb-true, ltb-false, eqb-true, eq-eqb, cond-true, cond-false}
+use Rattle.std.proofs.Common.{◌≡◌, ◌<◌, ◌≤◌, ◌+◌, ◌-◌, ◌*◌, ◌%◌, ℕ, zero, suc, true, false, List, [], ◌∷◌, ◌++◌, length, take, drop, eqb, ltb, Option, Some, None, Ok, Err, refl, ap, sym, ◌∙◌, subst, inl, inr, arith, append_assoc, length-append, length-take}
+use Rattle.std.proofs.lemmas.Bool.{le-ltb, ltb-false, eqb-true, eq-eqb}
 use Rattle.std.proofs.lemmas.List.{take_at, drop_at, take-append-drop}
 use Rattle.std.specs.Int.{bytes_high_first}
 use Rattle.secs_items.specs.Data.{Data, DataList, list, no_items, item}
 use Rattle.secs_items.specs.Format.{code, width}
 use Rattle.secs_items.specs.Plain.{count_of}
-use Rattle.secs_items.specs.Reading.{Read, ◌>>=◌, format_at, length_at, no_character, whole_body, body_at, leaf, leaf_at, items_at, is_list, list_at, item_at}
+use Rattle.secs_items.specs.Reading.{Read, format_at, length_at, no_character, whole_body, body_at, leaf, leaf_at, items_at, is_list, list_at, item_at}
 use Rattle.secs_items.specs.Spelling.{AreBelow, IsHead, Spells, SpellAll}
-use Rattle.secs_items.specs.declared.fault.ItemFault.{ItemFault}
 use Rattle.secs_items.specs.declared.fault.ItemFault.TheVariants as fault
 use Rattle.secs_items.specs.declared.format.Format.{Format}
 use Rattle.secs_items.specs.declared.format.Format.TheVariants as format
@@ -134,10 +133,11 @@ leaf_found total place k depth f bytes rest x some small other below read =
           let low_body : AreBelow 256 (is.body ++ rest) = rw (← is.split) (below_right 256 lens n.1 parts) in
           let head = head_is f n.0 k lens some small size low_lens number in
           let whole : length is.body % width f ≡ 0 = rw is.long (eqb-true _ _ good.0) in
-          let spells = spells_leaf f ((4 * code f + k) ∷ lens) is.body depth other (rw is.long head) whole is.text (below_left 256 is.body rest low_body) in
-          (lens ++ is.body,
-          split ∙ ap (λ (r : List ℕ). lens ++ r) is.split ∙ sym (append_assoc lens is.body rest),
-          subst (λ (y : Data). Spells y depth ((4 * code f + k) ∷ (lens ++ is.body))) is.is_body spells)
+          let spells = spells_leaf f ((4 * code f + k) ∷ lens) is.body depth other (rw is.long head) whole is.text (below_left 256 is.body rest low_body) in (
+            lens ++ is.body,
+            split ∙ ap (λ (r : List ℕ). lens ++ r) is.split ∙ sym (append_assoc lens is.body rest),
+            subst (λ (y : Data). Spells y depth ((4 * code f + k) ∷ (lens ++ is.body))) is.is_body spells,
+          )
     ]
 
 -- items that were read one after another
@@ -158,11 +158,12 @@ items_found one depth each (suc n) bytes rest ds below read =
     let then = items_found one depth each n y.1 ys.1 ys.0 (below_right 256 here.0 y.1 split) rest_read in
     let spells : SpellAll (item y.0 ys.0) depth (here.0 ++ then.0) = (here.0, then.0, here.2, then.2, refl) in
     let items : item y.0 ys.0 ≡ ds = ap (λ (p : DataList × List ℕ). p.0) parts in
-    let behind : ys.1 ≡ rest = ap (λ (p : DataList × List ℕ). p.1) parts in
-    (here.0 ++ then.0,
-    here.1 ∙ ap (λ (r : List ℕ). here.0 ++ r) (then.1 ∙ ap (λ (r : List ℕ). then.0 ++ r) behind) ∙ sym (append_assoc here.0 then.0 rest),
-    subst (λ (es : DataList). SpellAll es depth (here.0 ++ then.0)) items spells,
-    ap count_of (sym items) ∙ ap suc then.3)
+    let behind : ys.1 ≡ rest = ap (λ (p : DataList × List ℕ). p.1) parts in (
+      here.0 ++ then.0,
+      here.1 ∙ ap (λ (r : List ℕ). here.0 ++ r) (then.1 ∙ ap (λ (r : List ℕ). then.0 ++ r) behind) ∙ sym (append_assoc here.0 then.0 rest),
+      subst (λ (es : DataList). SpellAll es depth (here.0 ++ then.0)) items spells,
+      ap count_of (sym items) ∙ ap suc then.3,
+    )
 
 -- a list that was read
 list_found : (one : List ℕ → Read Data) (total k depth : ℕ) (bytes rest : List ℕ) (x : Data) → depth < 16 → 1 ≤ k → k ≤ 3 → AreBelow 256 bytes →
@@ -181,10 +182,11 @@ list_found one total k depth bytes rest x deep some small below each read =
     let head : IsHead format.List (count_of ds.0) ((4 * code format.List + k) ∷ lens) =
     rw found.3 (head_is format.List n.0 k lens some small size (below_left 256 lens n.1 low) number) in
     let spells : Spells (list ds.0) depth ((4 * code format.List + k) ∷ (lens ++ found.0)) =
-    (deep, (4 * code format.List + k) ∷ lens, found.0, head, found.2, refl) in
-    (lens ++ found.0,
-    split ∙ ap (λ (r : List ℕ). lens ++ r) (found.1 ∙ ap (λ (r : List ℕ). found.0 ++ r) behind) ∙ sym (append_assoc lens found.0 rest),
-    subst (λ (y : Data). Spells y depth ((4 * code format.List + k) ∷ (lens ++ found.0))) x_is spells)
+    (deep, (4 * code format.List + k) ∷ lens, found.0, head, found.2, refl) in (
+      lens ++ found.0,
+      split ∙ ap (λ (r : List ℕ). lens ++ r) (found.1 ∙ ap (λ (r : List ℕ). found.0 ++ r) behind) ∙ sym (append_assoc lens found.0 rest),
+      subst (λ (y : Data). Spells y depth ((4 * code format.List + k) ∷ (lens ++ found.0))) x_is spells,
+    )
 
 pub the_list : (f : Format) → is_list f ≡ true → f ≡ format.List
 the_list format.List is = refl

@@ -1,7 +1,7 @@
 -- Item headers, read and spelled.
-use Rattle.std.proofs.Common.{◌≡◌, ◌≢◌, ◌<◌, ◌≤◌, ◌+◌, ◌-◌, ◌*◌, ◌^◌, ◌%◌, ◌/◌, ◌⊎◌, ℕ, zero, suc, Bool, true, false, cond, eqb, ltb, List, [], ◌∷◌, ◌++◌, length, take, drop, Option, Some, None, Result, Ok, Err, refl, ap, sym, ◌∙◌, inl, inr, arith, add-zero, append-nil, length-append, length-take}
-use Rattle.std.proofs.lemmas.Bool.{cases_lt, cases_Bool, lt-ltb, le-ltb, ltb-true, ltb-false, eqb-true, eqb-false, ne_eqb, cond-true, cond-false}
-use Rattle.std.proofs.lemmas.List.{take_at, drop_at, take-append-drop}
+use Rattle.std.proofs.Common.{◌≡◌, ◌<◌, ◌≤◌, ◌+◌, ◌-◌, ◌*◌, ◌^◌, ◌%◌, ◌/◌, ◌⊎◌, ℕ, Bool, true, false, cond, eqb, ltb, List, [], ◌∷◌, ◌++◌, length, take, drop, Option, Some, None, Result, Ok, Err, refl, ap, sym, ◌∙◌, inl, inr, arith, append-nil, length-append, length-take}
+use Rattle.std.proofs.lemmas.Bool.{lt-ltb, le-ltb, ltb-true, ltb-false, eqb-true, eqb-false, ne_eqb}
+use Rattle.std.proofs.lemmas.List.{drop_at, take-append-drop}
 use Rattle.std.specs.Int.{bytes_high_first}
 use Rattle.byteorder.specs.Endian.{big_number}
 use Rattle.byteorder.specs.Numbers.{big_number-reads_back, length-bytes_high_first, big_from-append}
@@ -12,7 +12,7 @@ use Rattle.secs_items.specs.declared.fault.ItemFault.{ItemFault}
 use Rattle.secs_items.specs.declared.fault.ItemFault.TheVariants as fault
 use Rattle.secs_items.specs.declared.format.Format.{Format}
 use Rattle.secs_items.specs.declared.format.Format.TheVariants as format
-use Rattle.secs_items.proofs.Digits.{below_left, below_right, bytes_number, number_below}
+use Rattle.secs_items.proofs.Digits.{bytes_number, number_below}
 
 -- a step that was taken, and one that failed
 pub bind_ok : {A B : Type 0} (r : Result A ItemFault) (f : A → Result B ItemFault) (y : B) → (r >>= f) ≡ Ok y → (x : A) × (r ≡ Ok x) × (f x ≡ Ok y)
@@ -132,9 +132,10 @@ pub head_reads : (f : Format) (n k : ℕ) (rest : List ℕ) (total : ℕ) → 1 
     × (length_at total k (bytes_high_first k n ++ rest) ≡ Ok (n, rest))
 head_reads f n k rest total some small fits =
     let lens = bytes_high_first k n in
-    let number : big_number k lens ≡ n = ap (big_number k) (sym (append-nil lens)) ∙ big_number-reads_back k n [] fits in
-    (format_at-byte total k f (lens ++ rest) some small,
-    length_at-bytes total k lens rest (length-bytes_high_first k n) ∙ ap (λ (m : ℕ). Ok (m, rest)) number)
+    let number : big_number k lens ≡ n = ap (big_number k) (sym (append-nil lens)) ∙ big_number-reads_back k n [] fits in (
+      format_at-byte total k f (lens ++ rest) some small,
+      length_at-bytes total k lens rest (length-bytes_high_first k n) ∙ ap (λ (m : ℕ). Ok (m, rest)) number,
+    )
 
 -- length bytes that were read make a header
 pub head_is : (f : Format) (n k : ℕ) (lens : List ℕ) → 1 ≤ k → k ≤ 3 → length lens ≡ k → AreBelow 256 lens → n ≡ big_number k lens →

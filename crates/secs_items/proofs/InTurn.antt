@@ -1,5 +1,5 @@
 -- Elements read one after another.
-use Rattle.std.proofs.Common.{◌≡◌, ◌+◌, ◌*◌, ◌≤◌, Ok, Err, refl, ap, ℕ, suc, List, [], ◌∷◌, ◌++◌, length, drop, arith, length-drop, append_assoc, sym, ◌∙◌}
+use Rattle.std.proofs.Common.{◌≡◌, ◌*◌, ◌≤◌, Ok, Err, refl, ap, ℕ, suc, List, [], ◌∷◌, ◌++◌, length, drop, arith, length-drop, append_assoc, sym, ◌∙◌}
 use Rattle.std.proofs.Math.Nat.{mul-suc}
 use Rattle.secs_items.specs.Data.{Data, DataList, no_items, item, added}
 use Rattle.secs_items.specs.Given.{Fails}

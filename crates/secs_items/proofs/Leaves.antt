@@ -1,20 +1,20 @@
 -- Items that are no lists, read and spelled.
-use Rattle.std.proofs.Common.{◌≡◌, ◌<◌, ◌≤◌, ◌+◌, ◌*◌, ◌^◌, ◌/◌, ◌%◌, ◌==◌, ◌⊎◌, ℕ, zero, suc, ℤ, Bool, true, false, not, List, [], ◌∷◌, ◌++◌, length, take, drop, map, flat_map, slice_index, Option, Some, None, refl, ap, sym, ◌∙◌, inl, inr, arith, add-zero, append-nil, length-append, length-drop, length-take, FitsSigned}
+use Rattle.std.proofs.Common.{◌≡◌, ◌<◌, ◌*◌, ◌^◌, ◌/◌, ◌%◌, ◌==◌, ◌⊎◌, ℕ, zero, suc, ℤ, Bool, false, not, List, [], ◌∷◌, ◌++◌, length, take, drop, map, flat_map, None, refl, ap, sym, ◌∙◌, inl, inr, arith, length-append, length-drop, length-take, FitsSigned}
 use Rattle.std.proofs.Math.Nat.{mul-div_cancel_left, mul-mod_right, mul-suc, mul-zero, mul_comm, div-add-mod'}
 use Rattle.std.proofs.lemmas.Int.{of_z-to_z, to_z-of_z}
 use Rattle.std.proofs.lemmas.List.{drop_at, take-append-drop}
 use Rattle.std.specs.List.{AllByRecursion}
-use Rattle.std.specs.Int.{Width, w8, w16, w32, w64, byte_len, bytes_high_first, to_be_bytes, cast_signed, cast_unsigned}
+use Rattle.std.specs.Int.{Width, w8, w16, w32, w64, bytes_high_first, cast_signed, cast_unsigned}
 use Rattle.byteorder.specs.Endian.{big_number}
 use Rattle.byteorder.specs.Numbers.{big_number-reads_back, length-bytes_high_first, big_from-append}
 use mir.Val.{bits}
 use mir.ValLaws.{of_z_fits}
 use borrow.Author.Gap.{read_sfits}
 use Rattle.secs_items.specs.Data.{Data, DataList, list, binary, boolean, ascii, i1, i2, i4, i8, u1, u2, u4, u8}
-use Rattle.secs_items.specs.Format.{code, width}
-use Rattle.secs_items.specs.Plain.{count_of, unsigned_bytes, signed_bytes}
+use Rattle.secs_items.specs.Format.{width}
+use Rattle.secs_items.specs.Plain.{count_of}
 use Rattle.secs_items.specs.Reading.{elements_at, truth_in, unsigned_in, signed_in, leaf, no_character, is_list}
-use Rattle.secs_items.specs.Spelling.{AreBelow, AreTruths, AreSigned, AreUnsigned, IsHead, IsBehindHead, Spells, SpellAll}
+use Rattle.secs_items.specs.Spelling.{AreBelow, IsHead, Spells, SpellAll}
 use Rattle.secs_items.specs.declared.format.Format.{Format}
 use Rattle.secs_items.specs.declared.format.Format.TheVariants as format
 use Rattle.secs_items.proofs.Characters.{position-below, below-position}
@@ -116,9 +116,10 @@ unsigned_leaf : (k : ℕ) (ns body : List ℕ) → 0 < k → AreBelow (256 ^ k) 
     (unsigned_in k body ≡ ns) × (length body % k ≡ 0)
 unsigned_leaf k ns body some fit same =
     let long : length (flat_map (bytes_high_first k) ns) ≡ k * length ns = elements_length (bytes_high_first k) k (λ n. n < 256 ^ k) (unsigned_long k) ns fit in
-    let count : length (flat_map (bytes_high_first k) ns) / k ≡ length ns = rw long (mul-div_cancel_left (length ns) some) in
-    (rw (same, count) (elements_again (big_number k) (bytes_high_first k) k (λ n. n < 256 ^ k) (unsigned_long k) (unsigned_back k) ns fit),
-    rw (same, long) (mul-mod_right k (length ns)))
+    let count : length (flat_map (bytes_high_first k) ns) / k ≡ length ns = rw long (mul-div_cancel_left (length ns) some) in (
+      rw (same, count) (elements_again (big_number k) (bytes_high_first k) k (λ n. n < 256 ^ k) (unsigned_long k) (unsigned_back k) ns fit),
+      rw (same, long) (mul-mod_right k (length ns)),
+    )
 
 signed_leaf : (w : Width) (k : ℕ) (zs : List ℤ) (body : List ℕ) → 0 < k → 2 ^ bits w ≡ 256 ^ k → AllByRecursion (FitsSigned w) zs →
     body ≡ flat_map (λ z. bytes_high_first k (cast_unsigned w z)) zs → (signed_in w k body ≡ zs) × (length body % k ≡ 0)
@@ -128,9 +129,10 @@ signed_leaf w k zs body some size fit same =
     let each : (z : ℤ) → FitsSigned w z → length (bytes_of z) ≡ k = λ z fits. length-bytes_high_first k (cast_unsigned w z) in
     let back : (z : ℤ) (rest : List ℕ) → FitsSigned w z → value (bytes_of z ++ rest) ≡ z = λ z rest fits. signed_back w k z rest size fits in
     let long : length (flat_map bytes_of zs) ≡ k * length zs = elements_length bytes_of k (FitsSigned w) each zs fit in
-    let count : length (flat_map bytes_of zs) / k ≡ length zs = rw long (mul-div_cancel_left (length zs) some) in
-    (rw (same, count) (elements_again value bytes_of k (FitsSigned w) each back zs fit),
-    rw (same, long) (mul-mod_right k (length zs)))
+    let count : length (flat_map bytes_of zs) / k ≡ length zs = rw long (mul-div_cancel_left (length zs) some) in (
+      rw (same, count) (elements_again value bytes_of k (FitsSigned w) each back zs fit),
+      rw (same, long) (mul-mod_right k (length zs)),
+    )
 
 truths_leaf : (truths : List Bool) (body : List ℕ) → truths ≡ map (λ b. not (b == 0)) body → elements_at truth_in 1 (length body / 1) body ≡ truths
 truths_leaf truths body same = truths_in body ∙ sym same
@@ -144,14 +146,37 @@ pub spelled : (x : Data) (depth : ℕ) (bytes : List ℕ) → Spells x depth byt
 unfolding leaf
 spelled (list ds) depth bytes spells = inl (ds, refl, spells.0, spells.1, spells.2, spells.3, spells.4, spells.5)
 spelled (binary bs) depth bytes (head, body, is_head, (below, is), same) = inr (record {
-  f = format.Binary; head = head; body = body; other = refl; is_head = is_head; is_body = ap binary is; whole = one_byte (length body); text = refl; same = same
+  f = format.Binary;
+  head = head;
+  body = body;
+  other = refl;
+  is_head = is_head;
+  is_body = ap binary is;
+  whole = one_byte (length body);
+  text = refl;
+  same = same;
 })
 spelled (boolean bs) depth bytes (head, body, is_head, (below, is), same) = inr (record {
-  f = format.Bool; head = head; body = body; other = refl; is_head = is_head; is_body = ap boolean (truths_leaf bs body is); whole = one_byte (length body); text = refl; same = same
+  f = format.Bool;
+  head = head;
+  body = body;
+  other = refl;
+  is_head = is_head;
+  is_body = ap boolean (truths_leaf bs body is);
+  whole = one_byte (length body);
+  text = refl;
+  same = same;
 })
 spelled (ascii bs) depth bytes (head, body, is_head, (below, is), same) = inr (record {
-  f = format.Ascii; head = head; body = body; other = refl; is_head = is_head; is_body = ap ascii is; whole = one_byte (length body);
-  text = position-below body (rw is below); same = same
+  f = format.Ascii;
+  head = head;
+  body = body;
+  other = refl;
+  is_head = is_head;
+  is_body = ap ascii is;
+  whole = one_byte (length body);
+  text = position-below body (rw is below);
+  same = same;
 })
 spelled (i1 zs) depth bytes (head, body, is_head, (fit, is), same) =
     let parts = signed_leaf w8 1 zs body (omega arith) refl fit is in
@@ -166,7 +191,15 @@ spelled (i8 zs) depth bytes (head, body, is_head, (fit, is), same) =
     let parts = signed_leaf w64 8 zs body (omega arith) refl fit is in
     inr (record { f = format.I8; head = head; body = body; other = refl; is_head = is_head; is_body = ap i8 parts.0; whole = parts.1; text = refl; same = same })
 spelled (u1 ns) depth bytes (head, body, is_head, (below, is), same) = inr (record {
-  f = format.U1; head = head; body = body; other = refl; is_head = is_head; is_body = ap u1 is; whole = one_byte (length body); text = refl; same = same
+  f = format.U1;
+  head = head;
+  body = body;
+  other = refl;
+  is_head = is_head;
+  is_body = ap u1 is;
+  whole = one_byte (length body);
+  text = refl;
+  same = same;
 })
 spelled (u2 ns) depth bytes (head, body, is_head, (fit, is), same) =
     let parts = unsigned_leaf 2 ns body (omega arith) fit is in

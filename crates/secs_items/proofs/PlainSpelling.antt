@@ -1,22 +1,19 @@
 -- What is sent is spelled, and one spelling begins no other.
-use Rattle.std.proofs.Common.{◌≡◌, ◌≢◌, ◌<◌, ◌≤◌, ◌+◌, ◌-◌, ◌*◌, ◌^◌, ◌%◌, ◌==◌, ◌⊎◌, ℕ, zero, suc, ℤ, Bool, true, false, not, cond, if◌then◌else◌, List, [], ◌∷◌, ◌++◌, length, take, drop, map, flat_map, Result, Ok, Err, refl, ap, sym, ◌∙◌, subst, inl, inr, arith, append-nil, append_assoc, length-append, length-drop, FitsSigned}
+use Rattle.std.proofs.Common.{◌≡◌, ◌<◌, ◌≤◌, ◌+◌, ◌*◌, ◌^◌, ◌%◌, ℕ, suc, ℤ, Bool, true, false, List, [], ◌∷◌, ◌++◌, length, flat_map, refl, ap, sym, ◌∙◌, inl, inr, arith, FitsSigned}
 use Rattle.std.proofs.lemmas.Bool.{cases_lt, lt-ltb, le-ltb}
-use Rattle.std.proofs.lemmas.List.{append_cancel_right, take-append-drop}
+use Rattle.std.proofs.lemmas.List.{append_cancel_right}
 use Rattle.std.proofs.Math.Nat.{mod-eq_of_lt}
 use Rattle.std.specs.List.{All, AllByRecursion}
 use Rattle.std.specs.Int.{Width, w8, w16, w32, w64, bytes_high_first, cast_unsigned}
 use Rattle.byteorder.specs.Numbers.{length-bytes_high_first}
 use Rattle.secs_items.specs.Data.{Data, DataList, list, binary, boolean, ascii, i1, i2, i4, i8, u1, u2, u4, u8, no_items, item}
-use Rattle.secs_items.specs.Faults.{Stands, IsFirst, place_of}
 use Rattle.secs_items.specs.Format.{code}
 use Rattle.secs_items.specs.Height.{height, highest}
 use Rattle.secs_items.specs.Plain.{plain_head, plain, plain_all, count_of, truth_bytes, signed_bytes, unsigned_bytes}
 use Rattle.secs_items.specs.Ranges.{IsInRange, AreInRange}
-use Rattle.secs_items.specs.Reading.{Read, item_at}
-use Rattle.secs_items.specs.Sendable.{IsLength, IsSendable, HasShortBodies, HaveShortBodies}
-use Rattle.secs_items.specs.Spelling.{AreBelow, AreTruths, AreSigned, AreUnsigned, IsHead, Spells, SpellAll, Open}
-use Rattle.secs_items.specs.declared.fault.ItemFault.{ItemFault}
-use Rattle.secs_items.specs.declared.fault.ItemFault.TheVariants as fault
+use Rattle.secs_items.specs.Reading.{item_at}
+use Rattle.secs_items.specs.Sendable.{IsLength, HasShortBodies, HaveShortBodies}
+use Rattle.secs_items.specs.Spelling.{AreBelow, AreTruths, IsHead, Spells, SpellAll}
 use Rattle.secs_items.specs.declared.format.Format.{Format}
 use Rattle.secs_items.specs.declared.format.Format.TheVariants as format
 use Rattle.secs_items.proofs.Digits.{below_more}

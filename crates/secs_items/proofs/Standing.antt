@@ -1,15 +1,15 @@
 -- The fault that the reading tells, and the faults that stand in the input.
-use Rattle.std.proofs.Common.{◌≡◌, ◌≢◌, ◌<◌, ◌≤◌, ◌+◌, ◌-◌, ◌*◌, ◌^◌, ◌%◌, ◌/◌, ◌⊎◌, ℕ, zero, suc, Bool, true, false, List, [], ◌∷◌, ◌++◌, length, take, drop, slice_index, Option, Some, None, Result, Ok, Err, refl, ap, sym, ◌∙◌, subst, inl, inr, arith, append-nil, append_assoc, length-append, length-drop, length-take}
+use Rattle.std.proofs.Common.{◌≡◌, ◌≢◌, ◌<◌, ◌≤◌, ◌+◌, ◌-◌, ◌*◌, ◌%◌, ◌/◌, ◌⊎◌, ℕ, zero, suc, false, List, [], ◌∷◌, ◌++◌, length, take, drop, slice_index, Some, None, Ok, Err, refl, ap, sym, ◌∙◌, subst, inl, inr, arith, append-nil, append_assoc, length-append, length-drop, length-take}
 use Rattle.std.proofs.lemmas.Bool.{ne_eqb, eq-eqb, cases_eq}
 use Rattle.std.proofs.lemmas.List.{take_at, drop_at, get_or_at, take-append-drop, drop_more}
 use Rattle.std.proofs.Math.Seq.{take-append-add}
 use Rattle.std.specs.Int.{bytes_high_first}
-use Rattle.secs_items.specs.Data.{Data, DataList, list, no_items, item, added}
+use Rattle.secs_items.specs.Data.{Data, DataList, no_items, item, added}
 use Rattle.secs_items.specs.Faults.{Begins, BeginsAt, Stands, place_of, rank_of, Precedes, IsFirst}
 use Rattle.secs_items.specs.Format.{code, width, IsNoCode}
 use Rattle.secs_items.specs.Plain.{count_of}
-use Rattle.secs_items.specs.Reading.{Read, ◌>>=◌, first_with, formats, format_at, length_at, no_character, body_at, leaf_at, items_at, is_list, list_at, item_at}
-use Rattle.secs_items.specs.Spelling.{AreBelow, IsHead, Spells, SpellAll, Open}
+use Rattle.secs_items.specs.Reading.{Read, first_with, formats, format_at, length_at, no_character, body_at, leaf_at, items_at, is_list, list_at, item_at}
+use Rattle.secs_items.specs.Spelling.{AreBelow, IsHead, Spells, SpellAll}
 use Rattle.secs_items.specs.declared.fault.ItemFault.{ItemFault}
 use Rattle.secs_items.specs.declared.fault.ItemFault.TheVariants as fault
 use Rattle.secs_items.specs.declared.format.Format.{Format}
@@ -18,7 +18,7 @@ use Rattle.secs_items.proofs.Characters.{over-position, position-over}
 use Rattle.secs_items.proofs.Complete.{completes}
 use Rattle.secs_items.proofs.Cut.{cut}
 use Rattle.secs_items.proofs.Digits.{below_append, below_left, below_right}
-use Rattle.secs_items.proofs.Failing.{err_is, FormatFails, nothing, no_length, no_format, LeafFails, short_head, bad_width, bad_text, short_body, ListFails, short_list, bad_items, ItemFails, at_format, too_deep, in_list, in_leaf, leaf_fails, list_fails, item_fails}
+use Rattle.secs_items.proofs.Failing.{err_is, FormatFails, nothing, no_length, no_format, LeafFails, short_head, bad_width, bad_text, short_body, short_list, bad_items, ItemFails, at_format, too_deep, in_list, in_leaf, leaf_fails, list_fails, item_fails}
 use Rattle.secs_items.proofs.Grammar.{again, found}
 use Rattle.secs_items.proofs.Heads.{bind_err, format_at-byte, head_reads, head_is, format_at-ok, length_at-ok}
 use Rattle.secs_items.proofs.Stepping.{fails_item, leaf_item, deep_item, list_item}
@@ -231,9 +231,9 @@ item_told zero depth input front tail e deep below same begins read =
 item_told (suc l) depth input front tail e deep below same begins read =
     told (suc l) depth input front tail e deep below same begins (item_fails (suc l) (length input) tail e read)
     (λ m next inner_front inner_tail f inner_same inner_begins inner_read.
-        let down : m ≡ l = omega arith in
-        item_told l (suc depth) input inner_front inner_tail f (omega arith) below inner_same inner_begins
-        (subst (λ (n : ℕ). item_at n (length input) inner_tail ≡ Err f) down inner_read))
+    let down : m ≡ l = omega arith in
+    item_told l (suc depth) input inner_front inner_tail f (omega arith) below inner_same inner_begins
+    (subst (λ (n : ℕ). item_at n (length input) inner_tail ≡ Err f) down inner_read))
 
 -- the fault that is told stands in the input
 pub told_stands : (input : List ℕ) (e : ItemFault) → AreBelow 256 input → item_at 16 (length input) input ≡ Err e → Stands input e
@@ -406,12 +406,13 @@ not_both e g (inr (inr (place, less))) (inr (same, more)) = omega arith
 
 -- the fault that is told is the first
 pub told_first : (input : List ℕ) (e : ItemFault) → AreBelow 256 input → item_at 16 (length input) input ≡ Err e → IsFirst input e
-told_first input e below read =
-    (told_stands input e below read,
-    λ g stands before.
-        let (f, failed, order) = stands_told input g stands in
-        let same : f ≡ e = err_is (sym failed ∙ read) in
-        not_both e g (subst (λ (h : ItemFault). (h ≡ g) ⊎ Precedes h g) same order) before)
+told_first input e below read = (
+  told_stands input e below read,
+  λ g stands before.
+      let (f, failed, order) = stands_told input g stands in
+      let same : f ≡ e = err_is (sym failed ∙ read) in
+      not_both e g (subst (λ (h : ItemFault). (h ≡ g) ⊎ Precedes h g) same order) before,
+)
 
 -- the first fault is told
 pub first_told : (input : List ℕ) (e : ItemFault) → AreBelow 256 input → IsFirst input e → item_at 16 (length input) input ≡ Err e

@@ -1,7 +1,7 @@
 -- What the reading of an item gives, by what its format byte is.
-use Rattle.std.proofs.Common.{◌≡◌, ◌-◌, ◌<◌, ◌≢◌, ◌∙◌, ap, sym, refl, ℕ, zero, suc, List, length, Ok, Err, Result, false, arith}
+use Rattle.std.proofs.Common.{◌≡◌, ◌-◌, ◌≢◌, refl, ℕ, zero, suc, List, length, Ok, Err, Result, false}
 use Rattle.secs_items.specs.Data.{Data, DataList, list}
-use Rattle.secs_items.specs.Given.{Fails, Gives}
+use Rattle.secs_items.specs.Given.{Fails}
 use Rattle.secs_items.specs.Reading.{Read, ◌>>=◌, format_at, is_list, length_at, items_at, leaf_at, list_at, item_at}
 use Rattle.secs_items.specs.declared.fault.ItemFault.{ItemFault}
 use Rattle.secs_items.specs.declared.fault.ItemFault.TheVariants as fault

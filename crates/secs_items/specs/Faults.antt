@@ -40,7 +40,7 @@ Stands input (fault.BadAscii place) =
 Stands input (fault.TooDeep place) = BeginsAt input place 16 × (slice_index input place / 4 ≡ 0)
 Stands input fault.NoMemory = ⊥
 
--- the place of a fault, counted from 0, and its rank among faults at one place
+-- the place of a fault, counted from 0
 abbrev pub place_of : ItemFault → ℕ
 place_of (fault.Truncated place) = place
 place_of (fault.BadLengthBytes place) = place
@@ -50,6 +50,7 @@ place_of (fault.BadAscii place) = place
 place_of (fault.TooDeep place) = place
 place_of fault.NoMemory = 0
 
+-- the rank of a fault among those at one place (this tool's profile, item faults)
 abbrev pub rank_of : ItemFault → ℕ
 rank_of (fault.Truncated place) = 0
 rank_of (fault.BadLengthBytes place) = 1
@@ -59,6 +60,7 @@ rank_of (fault.BadAscii place) = 4
 rank_of (fault.TooDeep place) = 5
 rank_of fault.NoMemory = 6
 
+-- a fault comes before another
 abbrev pub Precedes : ItemFault → ItemFault → Type 0
 Precedes f g = (place_of f < place_of g) ⊎ ((place_of f ≡ place_of g) × (rank_of f < rank_of g))
 

@@ -1,5 +1,5 @@
 -- The formats of items (SEMI E5, item formats).
-use Rattle.std.specs.Prelude.{◌≢◌, ℕ, ◌==◌, if◌then◌else◌, Option, Some, None}
+use Rattle.std.specs.Prelude.{◌≢◌, ℕ}
 use Rattle.secs_items.specs.declared.format.Format.{Format}
 use Rattle.secs_items.specs.declared.format.Format.TheVariants as format
 

@@ -8,15 +8,16 @@ only [] = None
 only (x ∷ []) = Some x
 only (x ∷ y ∷ xs) = None
 
--- an id is a number from 0 to 4,294,967,295 (this tool's profile, items)
+-- an id is a number from 0 to 4,294,967,295 (this tool's profile, items); no negative number is one
 abbrev pub unsigned_id : ℕ → Option ℕ
 unsigned_id n = if nat_lt n (2 ^ 32) then Some n else None
 
+-- the same of a signed number
 abbrev pub signed_id : ℤ → Option ℕ
 signed_id (pos n) = unsigned_id n
 signed_id (negsuc n) = None
 
--- the id that an integer item of one element is
+-- the id that an integer item of one element is; no other item is one (this tool's profile, items)
 abbrev pub id_of : Data → Option ℕ
 id_of (i1 zs) = option_and_then signed_id (only zs)
 id_of (i2 zs) = option_and_then signed_id (only zs)

@@ -1,4 +1,4 @@
--- Items whose elements are in the range of their format, as those of each `Item` are.
+-- Items whose elements are in the range of their format.
 use Rattle.std.specs.Prelude.{◌^◌, FitsSigned}
 use Rattle.std.specs.List.{AllByRecursion}
 use Rattle.std.specs.Int.{w8, w16, w32, w64}
@@ -21,6 +21,7 @@ abbrev mutual
   IsInRange (u4 ns) = AreBelow (2 ^ 32) ns
   IsInRange (u8 ns) = AreBelow (2 ^ 64) ns
 
+  -- the same of each item of a list
   pub AreInRange : DataList → Type 0
   AreInRange no_items = Unit {0}
   AreInRange (item d ds) = IsInRange d × AreInRange ds

@@ -1,6 +1,7 @@
--- Items read from the front of bytes: each function gives what it reads and the bytes behind it, or the first fault.
+-- What the program's readers give, for their own clauses: `decode` is stated in the words of Spelling and Faults alone.
+-- Each function gives what it reads from the front of the bytes and the bytes behind it, or a fault.
 -- A place is told by what is left of the whole input, whose length is `total`.
-use Rattle.std.specs.Prelude.{◌≡◌, ℕ, zero, suc, ◌+◌, ◌-◌, ◌*◌, ◌/◌, ◌%◌, ◌==◌, nat_lt, nat_le, ℤ, Bool, true, false, not, if◌then◌else◌, List, [], ◌∷◌, ◌++◌, length, take, drop, slice_index, Option, Some, None, Result, Ok, Err}
+use Rattle.std.specs.Prelude.{ℕ, zero, suc, ◌+◌, ◌-◌, ◌/◌, ◌%◌, ◌==◌, nat_lt, nat_le, ℤ, Bool, true, false, not, if◌then◌else◌, List, [], ◌∷◌, length, take, drop, slice_index, Option, Some, None, Result, Ok, Err}
 use Rattle.std.specs.List.{position}
 use Rattle.std.specs.Int.{Width, w8, w16, w32, w64, cast_signed}
 use Rattle.byteorder.specs.Endian.{big_number}
@@ -11,9 +12,11 @@ use Rattle.secs_items.specs.declared.fault.ItemFault.TheVariants as fault
 use Rattle.secs_items.specs.declared.format.Format.{Format}
 use Rattle.secs_items.specs.declared.format.Format.TheVariants as format
 
+-- what is read, and the bytes behind it
 abbrev pub Read : Type 0 → Type 0
 Read A = Result (A × List ℕ) ItemFault
 
+-- one reading after another, up to a fault
 infixl 10 ◌>>=◌
 abbrev pub ◌>>=◌ : {A B : Type 0} → Result A ItemFault → (A → Result B ItemFault) → Result B ItemFault
 (Ok x) >>= f = f x
@@ -33,11 +36,12 @@ formats =
 abbrev pub format_with : ℕ → Option Format
 format_with n = first_with n formats
 
--- the format of the item at the front, how many length bytes it has, and what is behind the format byte
+-- the format, how many length bytes there are, and what is behind the format byte
 abbrev pub known : ℕ → ℕ → List ℕ → Option Format → Result (Format × ℕ × List ℕ) ItemFault
 known place b bytes None = Err (fault.BadCode place (b / 4))
 known place b bytes (Some f) = Ok (f, b % 4, bytes)
 
+-- the format byte at the front
 unfoldable pub format_at : ℕ → List ℕ → Result (Format × ℕ × List ℕ) ItemFault
 format_at total [] = Err (fault.Truncated total)
 format_at total (b ∷ bytes) =
@@ -53,13 +57,15 @@ abbrev pub elements_at : {X : Type 0} → (List ℕ → X) → ℕ → ℕ → L
 elements_at value w zero bytes = []
 elements_at value w (suc n) bytes = value bytes ∷ elements_at value w n (drop w bytes)
 
--- the truths and the numbers in a body
+-- the truth at the front of a body
 abbrev pub truth_in : List ℕ → Bool
 truth_in bytes = not (slice_index bytes 0 == 0)
 
+-- the unsigned numbers in a body
 abbrev pub unsigned_in : ℕ → List ℕ → List ℕ
 unsigned_in w body = elements_at (big_number w) w (length body / w) body
 
+-- the signed numbers in a body
 abbrev pub signed_in : Width → ℕ → List ℕ → List ℤ
 signed_in wide w body = elements_at (λ bytes. cast_signed wide (big_number w bytes)) w (length body / w) body
 
@@ -88,6 +94,7 @@ abbrev pub whole_body : ℕ → Format → ℕ → List ℕ → Option ℕ → R
 whole_body total f n bytes (Some i) = Err (fault.BadAscii (total - length bytes + i))
 whole_body total f n bytes None = if nat_lt (length bytes) n then Err (fault.Truncated total) else Ok (leaf f (take n bytes), drop n bytes)
 
+-- the body of an item that isn't a list
 unfoldable pub body_at : ℕ → Format → ℕ → List ℕ → Read Data
 body_at total f n bytes = whole_body total f n bytes (no_character f (take n bytes))
 
@@ -105,6 +112,7 @@ items_at one (suc n) bytes = do
   ds ← items_at one n d.1
   Ok (item d.0 ds.0, ds.1)
 
+-- whether the format is that of lists
 abbrev pub is_list : Format → Bool
 is_list format.List = true
 is_list f = false

@@ -29,10 +29,11 @@ AreBytes bound bs body = AreBelow bound bs × (body ≡ bs)
 abbrev pub AreTruths : List Bool → List ℕ → Type 0
 AreTruths truths body = AreBelow 256 body × (truths ≡ map (λ b. not (b == 0)) body)
 
--- unsigned and signed numbers that the width holds, as their bytes, the most significant first (SEMI E5, item formats)
+-- unsigned numbers below a bound as their bytes, the most significant first (SEMI E5, item formats)
 abbrev pub AreUnsigned : Width → ℕ → List ℕ → List ℕ → Type 0
 AreUnsigned w bound ns body = AreBelow bound ns × (body ≡ unsigned_bytes w ns)
 
+-- the same of signed numbers, in two's complement
 abbrev pub AreSigned : Width → List ℤ → List ℕ → Type 0
 AreSigned w zs body = AllByRecursion (FitsSigned w) zs × (body ≡ signed_bytes w zs)
 

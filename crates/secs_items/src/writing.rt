@@ -12,8 +12,8 @@ use crate::item::{Item, NoMemory};
 /// Appends the one spelling of the item that the tool sends (SEMI E5, item formats): with the fewest length bytes, and
 /// true as 1. `NoMemory` comes where `out` can't grow; it then holds what it held before.
 ///
-/// At most 16 lists stand inside one another, the characters of ASCII items are at most 127, and each body is under
-/// 16,777,216 bytes; a list has under 16,777,216 items.
+/// What is asked of the item: at most 16 lists stand inside one another, the characters of ASCII items are at most 127,
+/// each body is under 16,777,216 bytes, and each list has under 16,777,216 items.
 pub fn encode(item: &Item, out: &mut Vec<u8>) -> Result<(), NoMemory>
     requires { IsSendable (view item.now) }
     ensures ok { OnOk result (out.new.items ≡ out.old.items ++ plain (view item.now)) }
@@ -29,6 +29,7 @@ pub fn encode(item: &Item, out: &mut Vec<u8>) -> Result<(), NoMemory>
     }
 }
 
+// Writes an item. Where memory runs out, part of it may stand behind what was there.
 #[cycle(write)]
 fn write_item(item: &Item, out: &mut Vec<u8>) -> Result<(), NoMemory>
     requires { HasShortBodies (view item.now) }
@@ -51,6 +52,7 @@ fn write_item(item: &Item, out: &mut Vec<u8>) -> Result<(), NoMemory>
     }
 }
 
+// Writes the header and the items of a list.
 #[cycle(write)]
 fn write_list(items: &[Item], out: &mut Vec<u8>) -> Result<(), NoMemory>
     requires count { IsLength (count_of (items_of items.now)) }
@@ -65,7 +67,7 @@ fn write_list(items: &[Item], out: &mut Vec<u8>) -> Result<(), NoMemory>
     Ok(())
 }
 
-/// Writes a header and the bytes of a body.
+// Writes a header and the bytes of a body.
 fn write_bytes(format: Format, bytes: &[u8], out: &mut Vec<u8>) -> Result<(), NoMemory>
     requires { IsLength (length bytes.now) }
     ensures ok { OnOk result (out.new.items ≡ out.old.items ++ (plain_head (code format) (length bytes.now) ++ bytes.now)) }
@@ -75,7 +77,7 @@ fn write_bytes(format: Format, bytes: &[u8], out: &mut Vec<u8>) -> Result<(), No
     out.extend_from_slice(bytes)
 }
 
-/// Writes a header and elements of so many bytes each.
+// Writes a header and elements of so many bytes each.
 fn write_elements<T: Element>(
     format: Format,
     elements: &[T],
@@ -92,7 +94,7 @@ fn write_elements<T: Element>(
     Ok(())
 }
 
-/// Writes a format byte and the fewest length bytes.
+// Writes a format byte and the fewest length bytes.
 fn write_head(format: Format, length: usize, out: &mut Vec<u8>) -> Result<(), NoMemory>
     requires { IsLength length }
     ensures ok { OnOk result (out.new.items ≡ out.old.items ++ plain_head (code format) length) }

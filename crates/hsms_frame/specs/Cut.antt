@@ -1,4 +1,4 @@
--- How a stream of bytes is cut into arrivals.
+-- How a stream of bytes is cut into arrivals (SEMI E37, message format; the greatest text is this tool's profile).
 use Rattle.std.specs.Prelude.{slice_index, ◌≡◌, ℕ, zero, suc, ◌+◌, ◌-◌, ◌^◌, ◌<◌, ◌≤◌, ◌⊎◌, Bool, ◌&&◌, nat_lt, nat_le, if◌then◌else◌, List, [], ◌∷◌, ◌++◌, length, take, drop, Option, Some, None, Result, Ok, Err}
 use Rattle.std.specs.Int.{w16, w32, from_be_bytes}
 use Rattle.hsms_frame.specs.Spelling.{HeaderFits, message_bytes}

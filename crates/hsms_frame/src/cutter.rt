@@ -30,7 +30,7 @@ impl Model for Cutter {
 }
 
 impl Cutter {
-    /// A cutter before the first byte. The greatest text has `max` bytes. Today it takes no memory, and never answers
+    /// A cutter before the first byte. The greatest text has `max` bytes. It takes no memory, and so never answers
     /// `NoMemory`.
     pub fn new(alloc: Global, max: u32) -> Result<Cutter, NoMemory>
         ensures { IsOkAnd result (λ cutter. cutter ≡ record { max = max; bytes = []; skipped = 0 }) }

@@ -1,1 +1,16 @@
+pub mod Characters
+pub mod Complete
+pub mod Cut
+pub mod Decoding
+pub mod Digits
+pub mod Failing
+pub mod Fronts
+pub mod Grammar
+pub mod Heads
+pub mod InTurn
+pub mod Leaves
 pub mod Lists
+pub mod PlainSpelling
+pub mod Sends
+pub mod Standing
+pub mod Stepping

@@ -25,6 +25,7 @@ abbrev mutual
   HasShortBodies (u2 ns) = IsLength (2 * length ns)
   HasShortBodies (u4 ns) = IsLength (4 * length ns)
 
+  -- the same of each item of a list
   pub HaveShortBodies : DataList → Type 0
   HaveShortBodies no_items = Unit {0}
   HaveShortBodies (item d ds) = HasShortBodies d × HaveShortBodies ds

@@ -1,4 +1,4 @@
--- A list of items as a list of steps that builds it again, since the value of a type needs a code.
+-- A list of items as a list of steps that builds it again: the code that the value of a type needs. No clause speaks of it.
 use Rattle.std.specs.Prelude.{◌≡◌, ℕ, ◌==◌, ℤ, Bool, if◌then◌else◌, List, [], ◌∷◌, ◌++◌, refl}
 use Rattle.std.specs.Coded.{Coded, code_by, coded_ℕ, coded_ℤ, coded_bool, coded_list, coded×}
 use Rattle.std.proofs.Common.{◌∙◌, ap, append_assoc, append-nil}
@@ -8,12 +8,15 @@ use Rattle.secs_items.specs.Data.{Data, DataList, list, binary, boolean, ascii, 
 abbrev pub Step : Type 0
 Step = ℕ × (List ℕ × (List ℤ × List Bool))
 
+-- one step
 abbrev unsigned : ℕ → List ℕ → List Step
 unsigned kind ns = (kind, (ns, ([], []))) ∷ []
 
+-- the same with signed numbers
 abbrev signed : ℕ → List ℤ → List Step
 signed kind zs = (kind, ([], (zs, []))) ∷ []
 
+-- the same with truths
 abbrev truths : ℕ → List Bool → List Step
 truths kind bs = (kind, ([], ([], bs))) ∷ []
 
@@ -33,6 +36,7 @@ abbrev mutual
   steps (i4 zs) = signed 12 zs
   steps (i8 zs) = signed 13 zs
 
+  -- the steps that build a list
   steps_of : DataList → List Step
   steps_of no_items = unsigned 0 []
   steps_of (item d ds) = steps_of ds ++ (steps d ++ unsigned 1 [])
@@ -51,17 +55,19 @@ leaf kind ns zs bs =
     if kind == 11 then i2 zs else (
     if kind == 12 then i4 zs else i8 zs)))))))))
 
--- a single item stands as a list of one
+-- puts an item, which stands as a list of one, before the list under it
 abbrev joined : List DataList → List DataList
 joined [] = []
 joined (no_items ∷ made) = made
 joined (item d _ ∷ []) = []
 joined (item d _ ∷ ds ∷ made) = item d ds ∷ made
 
+-- makes an item of a list
 abbrev wrapped : List DataList → List DataList
 wrapped [] = []
 wrapped (ds ∷ made) = item (list ds) no_items ∷ made
 
+-- what a step makes of the lists that are made so far
 abbrev step : Step → List DataList → List DataList
 step s made =
     if s.0 == 0 then no_items ∷ made else (
@@ -69,10 +75,12 @@ step s made =
     if s.0 == 2 then wrapped made else
     item (leaf s.0 s.1.0 s.1.1.0 s.1.1.1) no_items ∷ made))
 
+-- the steps, one after another
 abbrev run : List Step → List DataList → List DataList
 run [] made = made
 run (s ∷ ss) made = run ss (step s made)
 
+-- the list that was made last
 abbrev last_made : List DataList → DataList
 last_made [] = no_items
 last_made (ds ∷ made) = ds
@@ -97,6 +105,7 @@ mutual
   run-steps_of (item d ds) ss made =
       rw (append_assoc, append_assoc) (run-steps_of ds (steps d ++ (unsigned 1 [] ++ ss)) made ∙ run-steps d (unsigned 1 [] ++ ss) (ds ∷ made))
 
+-- the list that the steps build
 abbrev pub built : List Step → DataList
 built ss = last_made (run ss [])
 

@@ -1,5 +1,5 @@
 -- What an `Item` says.
-use Rattle.std.specs.Prelude.{List, [], ◌∷◌}
+use Rattle.std.specs.Prelude.{ℕ, List, [], ◌∷◌}
 use Rattle.secs_items.specs.Data.{Data, DataList, list, binary, boolean, ascii, i1, i2, i4, i8, u1, u2, u4, u8, no_items, item}
 use Rattle.secs_items.specs.declared.item.Item.{Item}
 use Rattle.secs_items.specs.declared.item.Item.TheVariants as kind
@@ -23,3 +23,7 @@ view (kind.U8 ns) = u8 ns
 abbrev pub items_of : List Item → DataList
 items_of [] = no_items
 items_of (x ∷ xs) = item (view x) (items_of xs)
+
+-- an item and how many bytes it takes
+abbrev pub seen : Item × ℕ → Data × ℕ
+seen r = (view r.0, r.1)

@@ -9,21 +9,34 @@ use std::marker::Model;
 /// Memory ran out.
 pub type NoMemory = AllocError;
 
-/// One data item of a message (SEMI E5, data items): a list of items, or elements of one kind.
+/// One data item of a message (SEMI E5, data items): a list of items, or elements of one kind. Contracts speak of what it
+/// says, without where it lies in memory.
 #[cycle(item)]
 #[derive(Debug, Drop)]
 pub enum Item {
+    /// L, format code 00 in octal: items, which may be lists.
     List(Items),
+    /// B, format code 10: bytes.
     Binary(Bytes),
+    /// BOOLEAN, format code 11.
     Bool(Bools),
+    /// A, format code 20: characters, which are 0 to 127 where the item is sent or was read.
     Ascii(Bytes),
+    /// I1, format code 31: signed numbers of one byte.
     I1(I8s),
+    /// I2, format code 32: signed numbers of two bytes.
     I2(I16s),
+    /// I4, format code 34: signed numbers of four bytes.
     I4(I32s),
+    /// I8, format code 30: signed numbers of eight bytes.
     I8(I64s),
+    /// U1, format code 51: unsigned numbers of one byte.
     U1(U8s),
+    /// U2, format code 52: unsigned numbers of two bytes.
     U2(U16s),
+    /// U4, format code 54: unsigned numbers of four bytes.
     U4(U32s),
+    /// U8, format code 50: unsigned numbers of eight bytes.
     U8(U64s),
 }
 

@@ -6,13 +6,166 @@ use super::*;
 use std::alloc::Global;
 use std::test::*;
 
+// Spellings, after the item header and the item formats of SEMI E5, and the spelling that the tool sends of each item.
+const SPELLINGS: [(&[u8], &[u8]); 37] = [
+    (b"\x01\x00", b"\x01\x00"),
+    (b"\x02\x00\x00", b"\x01\x00"),
+    (b"\x03\x00\x00\x00", b"\x01\x00"),
+    (
+        b"\x01\x02\x41\x01\x41\xA5\x01\x05",
+        b"\x01\x02\x41\x01\x41\xA5\x01\x05",
+    ),
+    (b"\x01\x01\x01\x01\x01\x00", b"\x01\x01\x01\x01\x01\x00"),
+    (b"\x02\x00\x01\x01\x00", b"\x01\x01\x01\x00"),
+    (
+        b"\x01\x01\x01\x01\x01\x01\x01\x01\x01\x01\x01\x01\x01\x01\x01\x01\x01\x01\x01\x01\x01\x01\x01\x01\x01\x01\x01\x01\x01\x01\x01\x00",
+        b"\x01\x01\x01\x01\x01\x01\x01\x01\x01\x01\x01\x01\x01\x01\x01\x01\x01\x01\x01\x01\x01\x01\x01\x01\x01\x01\x01\x01\x01\x01\x01\x00",
+    ),
+    (b"\x21\x00", b"\x21\x00"),
+    (b"\x21\x03\x00\x80\xFF", b"\x21\x03\x00\x80\xFF"),
+    (b"\x22\x00\x01\x7F", b"\x21\x01\x7F"),
+    (b"\x25\x00", b"\x25\x00"),
+    (b"\x25\x02\x01\x00", b"\x25\x02\x01\x00"),
+    (b"\x25\x03\x02\x00\xFF", b"\x25\x03\x01\x00\x01"),
+    (b"\x41\x00", b"\x41\x00"),
+    (b"\x41\x01\x41", b"\x41\x01\x41"),
+    (b"\x42\x00\x01\x41", b"\x41\x01\x41"),
+    (b"\x43\x00\x00\x01\x41", b"\x41\x01\x41"),
+    (b"\x41\x02\x00\x7F", b"\x41\x02\x00\x7F"),
+    (b"\x65\x00", b"\x65\x00"),
+    (b"\x65\x03\x80\x7F\xFF", b"\x65\x03\x80\x7F\xFF"),
+    (b"\x69\x02\xFF\xFE", b"\x69\x02\xFF\xFE"),
+    (b"\x69\x04\x7F\xFF\x80\x00", b"\x69\x04\x7F\xFF\x80\x00"),
+    (b"\x6A\x00\x02\x00\x01", b"\x69\x02\x00\x01"),
+    (b"\x71\x04\xFF\xFF\xFF\xFD", b"\x71\x04\xFF\xFF\xFF\xFD"),
+    (b"\x71\x04\x80\x00\x00\x00", b"\x71\x04\x80\x00\x00\x00"),
+    (
+        b"\x61\x08\xFF\xFF\xFF\xFF\xFF\xFF\xFF\xFC",
+        b"\x61\x08\xFF\xFF\xFF\xFF\xFF\xFF\xFF\xFC",
+    ),
+    (
+        b"\x61\x08\x7F\xFF\xFF\xFF\xFF\xFF\xFF\xFF",
+        b"\x61\x08\x7F\xFF\xFF\xFF\xFF\xFF\xFF\xFF",
+    ),
+    (b"\xA5\x02\x00\xFF", b"\xA5\x02\x00\xFF"),
+    (b"\xA9\x02\x01\x02", b"\xA9\x02\x01\x02"),
+    (b"\xA9\x04\xFF\xFF\x00\x00", b"\xA9\x04\xFF\xFF\x00\x00"),
+    (b"\xB1\x04\x00\x00\x00\x07", b"\xB1\x04\x00\x00\x00\x07"),
+    (b"\xB1\x04\xFF\xFF\xFF\xFF", b"\xB1\x04\xFF\xFF\xFF\xFF"),
+    (
+        b"\xB3\x00\x00\x04\x00\x00\x01\x00",
+        b"\xB1\x04\x00\x00\x01\x00",
+    ),
+    (
+        b"\xA1\x08\x00\x00\x00\x00\x00\x00\x00\x09",
+        b"\xA1\x08\x00\x00\x00\x00\x00\x00\x00\x09",
+    ),
+    (
+        b"\xA1\x08\xFF\xFF\xFF\xFF\xFF\xFF\xFF\xFF",
+        b"\xA1\x08\xFF\xFF\xFF\xFF\xFF\xFF\xFF\xFF",
+    ),
+    (b"\xA3\x00\x00\x00", b"\xA1\x00"),
+    (
+        b"\x01\x02\x41\x06\x47\x45\x4D\x33\x30\x30\x41\x06\x31\x2E\x30\x2E\x30\x30",
+        b"\x01\x02\x41\x06\x47\x45\x4D\x33\x30\x30\x41\x06\x31\x2E\x30\x2E\x30\x30",
+    ),
+];
+
+// Bytes that begin with no item, and the fault that is told.
+const FAULTS: [(&[u8], ItemFault); 22] = [
+    (b"", ItemFault::Truncated(0)),
+    (b"\x41", ItemFault::Truncated(1)),
+    (b"\x42\x00", ItemFault::Truncated(2)),
+    (b"\x41\x02\x41", ItemFault::Truncated(3)),
+    (b"\x01\x02\x41\x01\x41", ItemFault::Truncated(5)),
+    (b"\x43\xFF\xFF\xFF\x41\x41\x41\x41", ItemFault::Truncated(8)),
+    (b"\x03\xFF\xFF\xFF\x41\x00", ItemFault::Truncated(6)),
+    (b"\x40", ItemFault::BadLengthBytes(0)),
+    (b"\x80", ItemFault::BadLengthBytes(0)),
+    (b"\x01\x02\x41\x00\x40", ItemFault::BadLengthBytes(4)),
+    (
+        b"\x01\x01\x01\x01\x01\x01\x01\x01\x01\x01\x01\x01\x01\x01\x01\x01\x01\x01\x01\x01\x01\x01\x01\x01\x01\x01\x01\x01\x01\x01\x01\x01\x00",
+        ItemFault::BadLengthBytes(32),
+    ),
+    (b"\x81\x00", ItemFault::BadCode(0, 32)),
+    (b"\x01\x02\xA5\x01\x07\x45", ItemFault::BadCode(5, 17)),
+    (b"\xA9\x01\x01", ItemFault::BadWidth(0)),
+    (b"\xA9\x01", ItemFault::BadWidth(0)),
+    (b"\x71\x02\x00\x00", ItemFault::BadWidth(0)),
+    (
+        b"\x01\x02\xA5\x01\x07\x61\x04\x00\x00\x00\x00",
+        ItemFault::BadWidth(5),
+    ),
+    (b"\x41\x01\x80", ItemFault::BadAscii(2)),
+    (b"\x41\x03\x41\x80\x81", ItemFault::BadAscii(3)),
+    (b"\x41\x05\xFF", ItemFault::BadAscii(2)),
+    (
+        b"\x01\x01\x01\x01\x01\x01\x01\x01\x01\x01\x01\x01\x01\x01\x01\x01\x01\x01\x01\x01\x01\x01\x01\x01\x01\x01\x01\x01\x01\x01\x01\x01\x01\x00",
+        ItemFault::TooDeep(32),
+    ),
+    (
+        b"\x01\x01\x01\x01\x01\x01\x01\x01\x01\x01\x01\x01\x01\x01\x01\x01\x01\x01\x01\x01\x01\x01\x01\x01\x01\x01\x01\x01\x01\x01\x01\x01\x01",
+        ItemFault::TooDeep(32),
+    ),
+];
+
+// Items, and the ids that they are.
+const IDS: [(&[u8], Option<u32>); 12] = [
+    (b"\xA5\x01\xFF", Some(255)),
+    (b"\xB1\x04\xFF\xFF\xFF\xFF", Some(4_294_967_295)),
+    (b"\xA1\x08\x00\x00\x00\x01\x00\x00\x00\x00", None),
+    (b"\x65\x01\x7F", Some(127)),
+    (b"\x65\x01\xFF", None),
+    (b"\x69\x02\x01\x00", Some(256)),
+    (b"\x71\x04\x00\x01\x00\x00", Some(65_536)),
+    (b"\x61\x08\x00\x00\x00\x00\x00\x00\x00\x05", Some(5)),
+    (b"\xA9\x02\x00\x07", Some(7)),
+    (b"\xA5\x02\x01\x02", None),
+    (b"\xA5\x00", None),
+    (b"\x41\x01\x31", None),
+];
+
+// Items, and the texts that they are.
+const TEXTS: [(&[u8], Option<&[u8]>); 6] = [
+    (b"\x41\x02\x20\x7E", Some(b" ~")),
+    (b"\x41\x00", Some(b"")),
+    (b"\x41\x01\x1F", None),
+    (b"\x41\x01\x7F", None),
+    (b"\x21\x01\x41", None),
+    (
+        b"\x41\x51\x41\x41\x41\x41\x41\x41\x41\x41\x41\x41\x41\x41\x41\x41\x41\x41\x41\x41\x41\x41\x41\x41\x41\x41\x41\x41\x41\x41\x41\x41\x41\x41\x41\x41\x41\x41\x41\x41\x41\x41\x41\x41\x41\x41\x41\x41\x41\x41\x41\x41\x41\x41\x41\x41\x41\x41\x41\x41\x41\x41\x41\x41\x41\x41\x41\x41\x41\x41\x41\x41\x41\x41\x41\x41\x41\x41\x41\x41\x41\x41\x41",
+        None,
+    ),
+];
+
+// Reads an item that one more byte follows, and writes it again.
+fn read_and_sent(alloc: Global, spelled: &[u8]) -> Result<(usize, Vec<u8>), ItemFault> {
+    let mut bytes = Vec::from_slice(alloc, spelled)?;
+    bytes.push(0x99)?;
+    let (item, used) = decode(alloc, bytes.as_slice())?;
+    let mut out = Vec::new(alloc);
+    encode(&item, &mut out)?;
+    Ok((used, out))
+}
+
+#[test]
+fn each_spelling_is_read_and_sent_in_the_plain_one(rt: HostRuntime) {
+    for (spelled, plain) in SPELLINGS {
+        let read = read_and_sent(rt.alloc(), spelled);
+        assert!(rt;
+            matches!(&read, Ok((used, out)) if *used == spelled.len() && out.as_slice() == plain),
+            "at {spelled:?}"
+        );
+    }
+}
+
 fn ascii(alloc: Global, text: &[u8]) -> Result<Item, NoMemory>
     ensures { IfOk result (λ item. view item ≡ ascii_data text.now) }
 {
     Ok(Item::Ascii(Bytes::from_vec(Vec::from_slice(alloc, text)?)))
 }
 
-/// What the tool tells of itself, behind a byte that stands there before.
+// What the tool tells of itself, behind a byte that stands there before.
 fn model_and_revision(alloc: Global) -> Result<Vec<u8>, NoMemory> {
     let mut items = Items::new(alloc);
     items.push(ascii(alloc, b"GEM300")?)?;
@@ -24,10 +177,84 @@ fn model_and_revision(alloc: Global) -> Result<Vec<u8>, NoMemory> {
 
 #[test]
 fn a_list_of_two_texts_is_appended(rt: HostRuntime) {
-    let want = [
-        0xEE, 0x01, 0x02, 0x41, 0x06, 0x47, 0x45, 0x4D, 0x33, 0x30, 0x30, 0x41, 0x06, 0x31, 0x2E,
-        0x30, 0x2E, 0x30, 0x30,
-    ];
+    let want = b"\xEE\x01\x02\x41\x06GEM300\x41\x061.0.00";
     let written = model_and_revision(rt.alloc());
     assert!(rt; matches!(&written, Ok(bytes) if bytes.as_slice() == want.as_slice()));
+}
+
+#[test]
+fn the_fault_of_the_least_place_is_told(rt: HostRuntime) {
+    for (bytes, want) in FAULTS {
+        let read = decode(rt.alloc(), bytes);
+        assert!(rt;
+            matches!(&read, Err(fault) if *fault == want),
+            "at {bytes:?}"
+        );
+    }
+}
+
+#[test]
+fn a_code_that_is_no_format_is_told(rt: HostRuntime) {
+    let formats = [0, 8, 9, 16, 24, 25, 26, 28, 40, 41, 42, 44];
+    for code in 0..64 {
+        let read = decode(rt.alloc(), &[4 * code + 1, 0]);
+        if formats.contains(&code) {
+            assert!(rt; matches!(&read, Ok((_, 2))), "at {code}");
+        } else {
+            assert!(rt;
+                matches!(&read, Err(fault) if *fault == ItemFault::BadCode(0, code)),
+                "at {code}"
+            );
+        }
+    }
+}
+
+#[test]
+fn an_id_is_an_integer_of_one_element_that_fits_32_bits(rt: HostRuntime) {
+    for (bytes, want) in IDS {
+        let read = decode(rt.alloc(), bytes);
+        assert!(rt;
+            matches!(&read, Ok((item, _)) if item.as_id() == want),
+            "at {bytes:?}"
+        );
+    }
+}
+
+#[test]
+fn a_text_is_ascii_that_prints(rt: HostRuntime) {
+    for (bytes, want) in TEXTS {
+        let read = decode(rt.alloc(), bytes);
+        assert!(rt;
+            matches!(&read, Ok((item, _)) if item.as_text().as_ref().map(|t| t.as_bytes()) == want),
+            "at {bytes:?}"
+        );
+    }
+}
+
+#[test]
+fn numbers_are_twos_complement_and_the_most_significant_byte_comes_first(rt: HostRuntime) {
+    let alloc = rt.alloc();
+    let signed = decode(alloc, b"\x69\x04\xFF\xFE\x01\x02");
+    assert!(rt;
+        matches!(&signed, Ok((Item::I2(numbers), 6)) if numbers.as_slice() == [-2, 258].as_slice())
+    );
+    let unsigned = decode(alloc, b"\xB1\x04\x80\x00\x00\x01");
+    assert!(rt;
+        matches!(&unsigned, Ok((Item::U4(numbers), 6)) if numbers.as_slice() == [2_147_483_649].as_slice())
+    );
+}
+
+// Lists and elements made of vectors, and the vectors taken out of them.
+fn in_and_out(alloc: Global) -> Result<(Vec<Item>, Vec<u16>), NoMemory> {
+    let items = Items::from_vec(vec![in alloc; ascii(alloc, b"A")?]?);
+    let numbers = U16s::from_vec(vec![in alloc; 7]?);
+    Ok((items.into_vec(), numbers.into_vec()))
+}
+
+#[test]
+fn a_list_gives_its_vector_back(rt: HostRuntime) {
+    let made = in_and_out(rt.alloc());
+    assert!(rt;
+        matches!(&made, Ok((items, numbers)) if items.len() == 1 && numbers.as_slice() == [7].as_slice())
+    );
 }

@@ -1,17 +1,19 @@
 ghost use Rattle.std.specs.Prelude.{◌≡◌, ◌+◌, ◌*◌, ◌^◌, ◌<◌, ◌++◌, length, flat_map, OnOk, OnErr};
+ghost use Rattle.secs_items.specs.Format.{code};
 ghost use Rattle.secs_items.specs.Grows.{Grows};
 ghost use Rattle.secs_items.specs.Plain.{plain_head, plain, plain_all, count_of};
 ghost use Rattle.secs_items.specs.Sendable.{IsLength, IsSendable, HasShortBodies, HaveShortBodies};
 ghost use Rattle.secs_items.specs.View.{view, items_of};
 
 use crate::element::Element;
+use crate::format::Format;
 use crate::item::{Item, NoMemory};
 
 /// Appends the one spelling of the item that the tool sends (SEMI E5, item formats): with the fewest length bytes, and
 /// true as 1. `NoMemory` comes where `out` can't grow; it then holds what it held before.
 ///
-/// At most 16 lists stand inside one another, the characters of ASCII items are at most 127, and each body is under
-/// 16,777,216 bytes; a list has under 16,777,216 items.
+/// What is asked of the item: at most 16 lists stand inside one another, the characters of ASCII items are at most 127,
+/// each body is under 16,777,216 bytes, and each list has under 16,777,216 items.
 pub fn encode(item: &Item, out: &mut Vec<u8>) -> Result<(), NoMemory>
     requires { IsSendable (view item.now) }
     ensures ok { OnOk result (out.new.items ≡ out.old.items ++ plain (view item.now)) }
@@ -27,6 +29,7 @@ pub fn encode(item: &Item, out: &mut Vec<u8>) -> Result<(), NoMemory>
     }
 }
 
+// Writes an item. Where memory runs out, part of it may stand behind what was there.
 #[cycle(write)]
 fn write_item(item: &Item, out: &mut Vec<u8>) -> Result<(), NoMemory>
     requires { HasShortBodies (view item.now) }
@@ -35,20 +38,21 @@ fn write_item(item: &Item, out: &mut Vec<u8>) -> Result<(), NoMemory>
 {
     match item {
         Item::List(items) => write_list(items.as_slice(), out),
-        Item::Binary(bytes) => write_bytes(8, bytes.as_slice(), out),
-        Item::Bool(truths) => write_elements(9, 1, truths.as_slice(), out),
-        Item::Ascii(bytes) => write_bytes(16, bytes.as_slice(), out),
-        Item::I8(numbers) => write_elements(24, 8, numbers.as_slice(), out),
-        Item::I1(numbers) => write_elements(25, 1, numbers.as_slice(), out),
-        Item::I2(numbers) => write_elements(26, 2, numbers.as_slice(), out),
-        Item::I4(numbers) => write_elements(28, 4, numbers.as_slice(), out),
-        Item::U8(numbers) => write_elements(40, 8, numbers.as_slice(), out),
-        Item::U1(numbers) => write_bytes(41, numbers.as_slice(), out),
-        Item::U2(numbers) => write_elements(42, 2, numbers.as_slice(), out),
-        Item::U4(numbers) => write_elements(44, 4, numbers.as_slice(), out),
+        Item::Binary(bytes) => write_bytes(Format::Binary, bytes.as_slice(), out),
+        Item::Bool(truths) => write_elements(Format::Bool, truths.as_slice(), out),
+        Item::Ascii(bytes) => write_bytes(Format::Ascii, bytes.as_slice(), out),
+        Item::I8(numbers) => write_elements(Format::I8, numbers.as_slice(), out),
+        Item::I1(numbers) => write_elements(Format::I1, numbers.as_slice(), out),
+        Item::I2(numbers) => write_elements(Format::I2, numbers.as_slice(), out),
+        Item::I4(numbers) => write_elements(Format::I4, numbers.as_slice(), out),
+        Item::U8(numbers) => write_elements(Format::U8, numbers.as_slice(), out),
+        Item::U1(numbers) => write_bytes(Format::U1, numbers.as_slice(), out),
+        Item::U2(numbers) => write_elements(Format::U2, numbers.as_slice(), out),
+        Item::U4(numbers) => write_elements(Format::U4, numbers.as_slice(), out),
     }
 }
 
+// Writes the header and the items of a list.
 #[cycle(write)]
 fn write_list(items: &[Item], out: &mut Vec<u8>) -> Result<(), NoMemory>
     requires count { IsLength (count_of (items_of items.now)) }
@@ -56,50 +60,47 @@ fn write_list(items: &[Item], out: &mut Vec<u8>) -> Result<(), NoMemory>
     ensures ok { OnOk result (out.new.items ≡ out.old.items ++ (plain_head 0 (count_of (items_of items.now)) ++ plain_all (items_of items.now))) }
     ensures grows { Grows out.old.items out.new.items }
 {
-    write_head(0, items.len(), out)?;
+    write_head(Format::List, items.len(), out)?;
     for item in items {
         write_item(item, out)?;
     }
     Ok(())
 }
 
-/// Writes a header and the bytes of a body.
-fn write_bytes(code: u8, bytes: &[u8], out: &mut Vec<u8>) -> Result<(), NoMemory>
-    requires code { code < 64 }
-    requires body { IsLength (length bytes.now) }
-    ensures ok { OnOk result (out.new.items ≡ out.old.items ++ (plain_head code (length bytes.now) ++ bytes.now)) }
+// Writes a header and the bytes of a body.
+fn write_bytes(format: Format, bytes: &[u8], out: &mut Vec<u8>) -> Result<(), NoMemory>
+    requires { IsLength (length bytes.now) }
+    ensures ok { OnOk result (out.new.items ≡ out.old.items ++ (plain_head (code format) (length bytes.now) ++ bytes.now)) }
     ensures grows { Grows out.old.items out.new.items }
 {
-    write_head(code, bytes.len(), out)?;
+    write_head(format, bytes.len(), out)?;
     out.extend_from_slice(bytes)
 }
 
-/// Writes a header and elements of so many bytes each.
+// Writes a header and elements of so many bytes each.
 fn write_elements<T: Element>(
-    code: u8,
-    width: usize,
+    format: Format,
     elements: &[T],
     out: &mut Vec<u8>,
 ) -> Result<(), NoMemory>
-    requires code { code < 64 }
-    requires body { IsLength (width * length elements.now) }
-    ensures ok { OnOk result (out.new.items ≡ out.old.items ++ (plain_head code (width * length elements.now) ++ flat_map T.spelled elements.now)) }
+    requires { IsLength (T.WIDTH * length elements.now) }
+    ensures ok { OnOk result (out.new.items ≡ out.old.items ++ (plain_head (code format) (T.WIDTH * length elements.now) ++ flat_map T.spelled elements.now)) }
     ensures grows { Grows out.old.items out.new.items }
 {
-    write_head(code, width * elements.len(), out)?;
+    write_head(format, T::WIDTH * elements.len(), out)?;
     for element in elements {
         element.write(out)?;
     }
     Ok(())
 }
 
-/// Writes a format byte and the fewest length bytes.
-fn write_head(code: u8, length: usize, out: &mut Vec<u8>) -> Result<(), NoMemory>
-    requires code { code < 64 }
-    requires length { IsLength length }
-    ensures ok { OnOk result (out.new.items ≡ out.old.items ++ plain_head code length) }
+// Writes a format byte and the fewest length bytes.
+fn write_head(format: Format, length: usize, out: &mut Vec<u8>) -> Result<(), NoMemory>
+    requires { IsLength length }
+    ensures ok { OnOk result (out.new.items ≡ out.old.items ++ plain_head (code format) length) }
     ensures err { OnErr result (out.new.items ≡ out.old.items) }
 {
+    let code = format.code();
     let [_, high, middle, low] = (length as u32).to_be_bytes();
     if length < 0x100 {
         out.extend_from_slice(&[4 * code + 1, low])

@@ -11,9 +11,9 @@ write_item-returns-in-Bool-clause-ok t c =
     rw (c.in-Bool.is, ← c.as_slice-in-Bool.ensures)
     (truths_written c.write_elements.result c.args.out.now.items c.write_elements.new.out.items c.as_slice-in-Bool.result.now c.write_elements.ensures.ok)
 
-pub write_list-write_head-requires-clause-length :
-    goal.write_list-write_head-requires-clause-length
-write_list-write_head-requires-clause-length t c = omega (arith, count_of-items_of c.args.items.now)
+pub write_list-write_head-requires :
+    goal.write_list-write_head-requires
+write_list-write_head-requires t c = omega (arith, count_of-items_of c.args.items.now)
 
 pub write_list-loop-item-init : goal.write_list-loop-item-init
 write_list-loop-item-init t c =

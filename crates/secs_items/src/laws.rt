@@ -1,0 +1,37 @@
+//! Laws of the grammar of items, for proofs to cite. Each function is empty: what it ensures holds of the definitions.
+
+ghost use Rattle.std.specs.Prelude.{◌≡◌, ◌⊎◌, ◌≤◌, ℕ, List, ◌++◌, length, take};
+ghost use Rattle.secs_items.specs.Data.{Data};
+ghost use Rattle.secs_items.specs.Faults.{Stands, IsFirst, place_of};
+ghost use Rattle.secs_items.specs.Plain.{plain};
+ghost use Rattle.secs_items.specs.Ranges.{IsInRange};
+ghost use Rattle.secs_items.specs.Sendable.{IsSendable};
+ghost use Rattle.secs_items.specs.Spelling.{AreBelow, Spells, Open};
+ghost use Rattle.secs_items.specs.declared.fault.ItemFault.{ItemFault};
+
+/// No spelling is a proper front of another, and bytes spell one item at most. So what was written is read again,
+/// whatever follows it.
+pub fn no_spelling_begins_another()
+    ensures { (a b x y : List ℕ) (d e : Data) → Spells d 0 a → Spells e 0 b → a ++ x ≡ b ++ y → (a ≡ b) × (d ≡ e) }
+{}
+
+/// What the tool sends spells the item.
+pub fn what_is_sent_spells_the_item()
+    ensures { (d : Data) → IsInRange d → IsSendable d → Spells d 0 (plain d) }
+{}
+
+/// What is spelled can be sent: it is sent in its one plain spelling.
+pub fn what_is_spelled_can_be_sent()
+    ensures { (d : Data) (bytes : List ℕ) → Spells d 0 bytes → IsSendable d × IsInRange d }
+{}
+
+/// The bytes before the place of a fault are a proper front of a spelling.
+pub fn a_fault_stands_behind_open_bytes()
+    ensures { (input : List ℕ) (e : ItemFault) → AreBelow 256 input → Stands input e → Open (take (place_of e) input) }
+{}
+
+/// Bytes begin with the spelling of an item, or a first fault stands in them.
+pub fn bytes_spell_or_have_a_fault()
+    ensures { (input : List ℕ) → AreBelow 256 input →
+        ((d : Data) × (n : ℕ) × (n ≤ length input) × Spells d 0 (take n input)) ⊎ ((e : ItemFault) × IsFirst input e) }
+{}

@@ -98,7 +98,7 @@ ended_lines k (Some c) = refl
 ends_shown : (core core' : CoreView) (entry : Entry) (o : Outcome) → Added core core' entry o → (up : Bool) → is_up core.state ≡ up → ended_bytes (end_after core'.history (if up then Some core.state.session else None)) ≡ end_lines core.state.session o.ended
 ends_shown core core' entry o added true up =
     ap (λ (c : Option SessionCause). ended_bytes (option_map (λ c. (core.state.session, c)) c))
-      (ap (λ (h : List Entry). session_end opening h core.state.session) added.history ∙ session_end-now core.history core.state entry o added.ran added.here up)
+    (ap (λ (h : List Entry). session_end opening h core.state.session) added.history ∙ session_end-now core.history core.state entry o added.ran added.here up)
     ∙ ended_lines core.state.session o.ended
 ends_shown core core' entry o added false down =
     sym (ap (end_lines core.state.session) (ended_none core.state entry.event o added.here down))
@@ -109,7 +109,7 @@ outcome_shown core core' entry o added answer is before was ended now text made 
     made
     ∙ ap (λ (a : Answer). answer_lines a ++ ended_bytes ended) (sym is)
     ∙ ap (λ (lines : List ℕ). answer_lines o.answer ++ lines)
-      (ap ended_bytes (now ∙ ap (end_after core'.history) was) ∙ ends_shown core core' entry o added (is_up core.state) refl)
+    (ap ended_bytes (now ∙ ap (end_after core'.history) was) ∙ ends_shown core core' entry o added (is_up core.state) refl)
 
 pub Failed-wider : (f1 f2 f3 r1 r2 r3 : ℕ) → f1 ≤ f2 → f2 ≤ f3 → r1 ≤ r2 → r2 ≤ r3 → Failed f2 f3 r2 r3 → Failed f1 f3 r1 r3
 Failed-wider f1 f2 f3 r1 r2 r3 h i j k (inl faults) = inl (Rose-wider f1 f2 f3 f3 h i faults (omega arith))

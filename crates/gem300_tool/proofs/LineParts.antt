@@ -37,9 +37,9 @@ TakesLine-bytes r bytes old core' cutter' out out' arrivals short session result
     let new : List Arrival = drop (length (arrivals_of text_bytes r.stream)) (arrivals_of text_bytes (r.stream ++ bytes)) in
     let ends : Bool = is_short (behind_of (r.stream ++ bytes)) in
     let is : messages old.core.state session arrivals short ≡ bytes_given r bytes =
-      ap (λ (xs : List Arrival). messages old.core.state session xs short) cut.arrivals_are
-      ∙ ap (messages old.core.state session new) cut.short_is
-      ∙ ap (λ (k : ℕ). messages old.core.state k new ends) (sym told_up.1)
-      ∙ ap (λ (g : State). messages g g.session new ends) reading.state in
+    ap (λ (xs : List Arrival). messages old.core.state session xs short) cut.arrivals_are
+    ∙ ap (messages old.core.state session new) cut.short_is
+    ∙ ap (λ (k : ℕ). messages old.core.state k new ends) (sym told_up.1)
+    ∙ ap (λ (g : State). messages g g.session new ends) reading.state in
     let all = subst (λ (given : Given). Goes old.core core' out out' given result) (is ∙ sym given) goes in
     record { goes = all; reading = reading_at r (line_given r (Bytes bytes)) core' cutter' (r.stream ++ bytes) result old.core all.went (same ∙ max) cut.cut }

@@ -43,26 +43,32 @@ ends-bound reader reader' out out' source now count p bound = ((p.text, p.taken,
 end_taken : (source now later : SourceView) (text nothing : List ℕ) → nothing ≡ [] → Taken source.left now.left text → Taken now.left later.left nothing → Taken source.left later.left text
 end_taken source now later text nothing none first second =
     subst (λ (t : List ℕ). Taken source.left later.left t) (append-nil text)
-      (Taken-more source.left now.left later.left text [] first (subst (λ (t : List ℕ). Taken now.left later.left t) none second))
+    (Taken-more source.left now.left later.left text [] first (subst (λ (t : List ℕ). Taken now.left later.left t) none second))
 
 pub ends-whole : (reader reader' last : Reader) (out out' out'' : SinkView) (source now later : SourceView) (count : ℕ) (nothing : List ℕ) → Progress reader reader' out out' source now count → nothing ≡ [] → Taken now.left later.left nothing → NothingLeft now.left → Rose now.ends later.ends → now.ends ≤ later.ends → ((text : List ℕ) → Stands text reader' → Finishes text reader' last out' out'' (Ok tt)) → Ends input.Whole reader last out out'' source later
 ends-whole reader reader' last out out' out'' source now later count nothing p none taken left rose stays finishes =
-    let f = finishes p.text p.stands in
-    ((p.text, end_taken source now later p.text nothing none p.taken taken, (f.ends, Whole-taken source.left now.left p.text p.taken left, Rose-wider source.ends now.ends later.ends later.ends p.ends stays rose (omega arith))),
-      Prints-then reader.feeder.core reader'.feeder.core last.feeder.core out out' out'' (Ok tt) p.prints f.prints)
+    let f = finishes p.text p.stands in (
+      (p.text, end_taken source now later p.text nothing none p.taken taken, (f.ends, Whole-taken source.left now.left p.text p.taken left, Rose-wider source.ends now.ends later.ends later.ends p.ends stays rose (omega arith))),
+      Prints-then reader.feeder.core reader'.feeder.core last.feeder.core out out' out'' (Ok tt) p.prints f.prints,
+    )
 
 pub ends-last : (reader reader' last : Reader) (out out' out'' : SinkView) (source now later : SourceView) (count : ℕ) (nothing : List ℕ) (why : Halt) → Progress reader reader' out out' source now count → nothing ≡ [] → Taken now.left later.left nothing → ((text : List ℕ) → Stands text reader' → Finishes text reader' last out' out'' (Err why)) → Ends (input.Halted why) reader last out out'' source later
 ends-last reader reader' last out out' out'' source now later count nothing why p none taken finishes =
-    let f = finishes p.text p.stands in
-    ((p.text, end_taken source now later p.text nothing none p.taken taken, f.ends),
-      Prints-then reader.feeder.core reader'.feeder.core last.feeder.core out out' out'' (Err why) p.prints f.prints)
+    let f = finishes p.text p.stands in (
+      (p.text, end_taken source now later p.text nothing none p.taken taken, f.ends),
+      Prints-then reader.feeder.core reader'.feeder.core last.feeder.core out out' out'' (Err why) p.prints f.prints,
+    )
 
 pub ends-halted : (reader reader' last : Reader) (out out' out'' : SinkView) (source now later : SourceView) (count : ℕ) (piece : List ℕ) (why : Halt) → Progress reader reader' out out' source now count → Taken now.left later.left piece → ((text : List ℕ) → Stands text reader' → Takes text piece reader' last out' out'' (Err why)) → Ends (input.Halted why) reader last out out'' source later
 ends-halted reader reader' last out out' out'' source now later count piece why p taken takes =
-    let t = takes p.text p.stands in
-    ((p.text ++ piece, Taken-more source.left now.left later.left p.text piece p.taken taken,
-        subst (λ (t : List ℕ). StoppedAs (feed_entries t) last.feeder.core.history last.number why) (append-nil (p.text ++ piece)) (t.stands [])),
-      Prints-then reader.feeder.core reader'.feeder.core last.feeder.core out out' out'' (Err why) p.prints t.prints)
+    let t = takes p.text p.stands in (
+      (
+        p.text ++ piece,
+        Taken-more source.left now.left later.left p.text piece p.taken taken,
+        subst (λ (t : List ℕ). StoppedAs (feed_entries t) last.feeder.core.history last.number why) (append-nil (p.text ++ piece)) (t.stands []),
+      ),
+      Prints-then reader.feeder.core reader'.feeder.core last.feeder.core out out' out'' (Err why) p.prints t.prints,
+    )
 
 pub Progress-more : (reader reader' last : Reader) (out out' out'' : SinkView) (source now later : SourceView) (count more : ℕ) (piece : List ℕ) → Progress reader reader' out out' source now count → Taken now.left later.left piece → length piece ≡ more → now.faults ≤ later.faults → now.ends ≤ later.ends → last.number ≤ reader'.number + length piece → ((text : List ℕ) → Stands text reader' → Takes text piece reader' last out' out'' (Ok tt)) → Progress reader last out out'' source later (count + more)
 Progress-more reader reader' last out out' out'' source now later count more piece p taken size faults ends number takes =

@@ -78,8 +78,8 @@ took_by number r line None is old new out out' h = absurd (elim h.refused [ inl 
 took_by number r line (Some says) is old new out out' h = record {
   next = reading_after r says;
   goes_on = λ lines.
-    ap (told_behind old.core.history) (ap (λ (o : Option Line). line_told number r o (λ next. feed_lines (number + 1) next lines)) is ∙ line_goes_on number r says (λ next. feed_lines (number + 1) next lines) h.goes.went.2)
-    ∙ behind_told old.core.history (line_given r says).entries (feed_lines (number + 1) (reading_after r says) lines) new.core.history h.goes.went.0;
+      ap (told_behind old.core.history) (ap (λ (o : Option Line). line_told number r o (λ next. feed_lines (number + 1) next lines)) is ∙ line_goes_on number r says (λ next. feed_lines (number + 1) next lines) h.goes.went.2)
+      ∙ behind_told old.core.history (line_given r says).entries (feed_lines (number + 1) (reading_after r says) lines) new.core.history h.goes.went.0;
   is = h.reading;
 }
 
@@ -258,8 +258,8 @@ Takes-then text front bytes a b c o1 o2 o3 result h i = record {
 pub Takes-stopped : (text front bytes : List ℕ) (a c : Reader) (o1 o3 : SinkView) (why : Halt) → Takes text front a c o1 o3 (Err why) → Takes text (front ++ bytes) a c o1 o3 (Err why)
 Takes-stopped text front bytes a c o1 o3 why h = record {
   stands = λ more. subst (λ (t : List ℕ). StoppedAs (feed_entries t) c.feeder.core.history c.number why)
-    (sym (append_assoc (text ++ front) bytes more) ∙ ap (λ (t : List ℕ). t ++ more) (append_assoc text front bytes))
-    (h.stands (bytes ++ more));
+      (sym (append_assoc (text ++ front) bytes more) ∙ ap (λ (t : List ℕ). t ++ more) (append_assoc text front bytes))
+      (h.stands (bytes ++ more));
   prints = h.prints;
 }
 

@@ -67,7 +67,9 @@ impl Cause {
             }
             Cause::ReadFault => format!(in alloc; "read fault")?,
             Cause::WriteFault => format!(in alloc; "write fault")?,
-            Cause::Full(entries, bytes, input) => format!(in alloc; "full {entries} {bytes} {input}")?,
+            Cause::Full(entries, bytes, input) => format!(in alloc;
+                "full {entries} {bytes} {input}"
+            )?,
             Cause::Line(number, place) => format!(in alloc; "line {number} at {place}")?,
             Cause::NoMemory => format!(in alloc; "no memory")?,
             Cause::NotBuilt(number) => format!(in alloc; "not built line {number}")?,

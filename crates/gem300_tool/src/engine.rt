@@ -38,12 +38,7 @@ fn outcome_text(
 }
 
 /// Posts an event, and writes its lines.
-fn post<K: Sink>(
-    alloc: Global,
-    core: &mut Core,
-    event: Event,
-    out: &mut K,
-) -> Result<(), Halt>
+fn post<K: Sink>(alloc: Global, core: &mut Core, event: Event, out: &mut K) -> Result<(), Halt>
     requires { step core.old.state event ≢ None }
     ensures { Goes core.old core.new (seen K.held K.faults K.refusals out.old) (seen K.held K.faults K.refusals out.new)
         (record { entries = entry_of event ∷ []; state = after core.old.state event; goes_on = true }) result }
@@ -104,12 +99,7 @@ fn take_waiting<K: Sink>(alloc: Global, core: &mut Core, out: &mut K) -> Result<
 }
 
 /// Posts an event, and then the writer takes each frame that waits.
-pub fn input<K: Sink>(
-    alloc: Global,
-    core: &mut Core,
-    event: Event,
-    out: &mut K,
-) -> Result<(), Halt>
+pub fn input<K: Sink>(alloc: Global, core: &mut Core, event: Event, out: &mut K) -> Result<(), Halt>
     requires { step core.old.state event ≢ None }
     ensures { Goes core.old core.new (seen K.held K.faults K.refusals out.old) (seen K.held K.faults K.refusals out.new)
         (input core.old.state event) result }

@@ -94,16 +94,16 @@ impl Feeder {
             return Ok(());
         };
         let cause = SessionCause::PeerEnd;
-        input(alloc, &mut self.core, Event::LinkDown { session, cause }, out)
+        input(
+            alloc,
+            &mut self.core,
+            Event::LinkDown { session, cause },
+            out,
+        )
     }
 
     /// Bytes of the host come. Without a session they are dropped.
-    fn take_bytes<K: Sink>(
-        &mut self,
-        alloc: Global,
-        bytes: &[u8],
-        out: &mut K,
-    ) -> Result<(), Halt>
+    fn take_bytes<K: Sink>(&mut self, alloc: Global, bytes: &[u8], out: &mut K) -> Result<(), Halt>
         ensures { (r : Reading) → IsReading r self.old.core self.old.cutter
             → TakesLine r (model.Bytes bytes.now) self.old self.new (seen K.held K.faults K.refusals out.old) (seen K.held K.faults K.refusals out.new) result }
     {

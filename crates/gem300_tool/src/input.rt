@@ -42,7 +42,7 @@ pub fn read_lines<S: Source, K: Sink>(
     requires first { reader.old.number ≡ 1 }
     ensures read { (text : List ℕ) × Taken (S.left input.old) (S.left input.new) text
         × InputEnds result text reader.new.feeder.core.history reader.new.number
-            (looked S.left S.faults S.ends input.old) (looked S.left S.faults S.ends input.new) }
+        (looked S.left S.faults S.ends input.old) (looked S.left S.faults S.ends input.new) }
     ensures prints { Prints reader.old.feeder.core reader.new.feeder.core
         (seen K.held K.faults K.refusals out.old) (seen K.held K.faults K.refusals out.new) (as_result result) }
     ensures faults_stay { S.faults input.old ≤ S.faults input.new }

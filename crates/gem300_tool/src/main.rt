@@ -15,11 +15,10 @@ mod lines;
 mod print;
 mod read;
 mod reader;
-mod words;
-mod write;
-
 #[cfg(test)]
 mod tests;
+mod words;
+mod write;
 
 use feed::feed;
 use gem_ids::Text80;

@@ -25,11 +25,7 @@ pub fn front(buf: &[u8], count: usize) -> &[u8]
 }
 
 /// Reads at most `room` bytes into the front of the buffer, and answers how many.
-pub fn read_front<S: Source>(
-    source: &mut S,
-    buf: &mut [u8],
-    room: usize,
-) -> Result<usize, Failed>
+pub fn read_front<S: Source>(source: &mut S, buf: &mut [u8], room: usize) -> Result<usize, Failed>
     requires some { 0 < room }
     requires within { room ≤ length buf.old }
     ensures fits { IfOk result (λ n. n ≤ room) }

@@ -10,6 +10,7 @@ const KNOWN: &[u8] = b"communication = \"communicating\"\n";
 
 /// A link that is up and selected, and the lines that it prints.
 const SELECTED: &[u8] = b"L+\nH 0000000AFFFF0000000100000001\n";
+
 const SELECTED_OUT: &[u8] = b"+ 1\n> 0000000AFFFF0000000200000001\n";
 
 fn joined(alloc: Global, front: &[u8], back: &[u8]) -> Result<Vec<u8>, Fail> {
@@ -34,11 +35,7 @@ fn words(alloc: Global, words: &[&str]) -> Result<Vec<Text80>, Fail> {
 }
 
 /// Runs `feed c` on these lines under the known configuration.
-fn run_lines<S: Source, K: Sink>(
-    alloc: Global,
-    input: &mut S,
-    out: &mut K,
-) -> Result<Ended, Fail> {
+fn run_lines<S: Source, K: Sink>(alloc: Global, input: &mut S, out: &mut K) -> Result<Ended, Fail> {
     let mut config = source(alloc, KNOWN, &[])?;
     let words = words(alloc, &["feed", "c"])?;
     Ok(feed(alloc, &words, &mut config, input, out))
@@ -78,7 +75,8 @@ fn a_select_request_is_answered_in_one_piece_and_in_single_bytes(
     rt: HostRuntime,
 ) -> Result<(), Fail> {
     prints(&rt, rt.alloc(), SELECTED, 0, SELECTED_OUT)?;
-    let bytes = b"L+\nH 00\nH 00\nH 00\nH 0A\nH FF\nH FF\nH 00\nH 00\nH 00\nH 01\nH 00\nH 00\nH 00\nH 01\n";
+    let bytes =
+        b"L+\nH 00\nH 00\nH 00\nH 0A\nH FF\nH FF\nH 00\nH 00\nH 00\nH 01\nH 00\nH 00\nH 00\nH 01\n";
     prints(&rt, rt.alloc(), bytes.as_slice(), 0, SELECTED_OUT)
 }
 
@@ -121,7 +119,8 @@ fn s1f1_is_answered_by_model_and_revision_where_a_reply_is_wanted(
 fn a_short_length_ends_the_session_and_later_bytes_wait_for_the_next_link(
     rt: HostRuntime,
 ) -> Result<(), Fail> {
-    let lines = b"L+\nH 00000009\nH 0000000AFFFF0000000100000001\nL+\nH 0000000AFFFF0000000100000001\n";
+    let lines =
+        b"L+\nH 00000009\nH 0000000AFFFF0000000100000001\nL+\nH 0000000AFFFF0000000100000001\n";
     let printed = b"+ 1\n- 1 ShortLength\n+ 2\n> 0000000AFFFF0000000200000001\n";
     prints(&rt, rt.alloc(), lines.as_slice(), 0, printed.as_slice())
 }
@@ -202,7 +201,13 @@ fn words_and_configurations_are_refused(rt: HostRuntime) -> Result<(), Fail> {
         let mut config = source(alloc, KNOWN, &[])?;
         let mut input = source(alloc, SELECTED, &[])?;
         let mut out = MemSink::new(alloc, Vec::new(alloc));
-        let ended = feed(alloc, &words(alloc, typed)?, &mut config, &mut input, &mut out);
+        let ended = feed(
+            alloc,
+            &words(alloc, typed)?,
+            &mut config,
+            &mut input,
+            &mut out,
+        );
         assert_eq!(rt; ended.cause, Cause::Words(place));
         assert_eq!(rt; ended.status, 1);
         assert_eq!(rt; out.as_bytes().len(), 0);
@@ -211,7 +216,13 @@ fn words_and_configurations_are_refused(rt: HostRuntime) -> Result<(), Fail> {
         let mut config = source(alloc, text, &[])?;
         let mut input = source(alloc, SELECTED, &[])?;
         let mut out = MemSink::new(alloc, Vec::new(alloc));
-        let ended = feed(alloc, &words(alloc, &["feed", "c"])?, &mut config, &mut input, &mut out);
+        let ended = feed(
+            alloc,
+            &words(alloc, &["feed", "c"])?,
+            &mut config,
+            &mut input,
+            &mut out,
+        );
         assert_eq!(rt; ended.cause, Cause::Config(0, Text80::empty()));
         assert_eq!(rt; ended.status, 2);
         assert_eq!(rt; out.as_bytes().len(), 0);
@@ -239,7 +250,13 @@ fn a_read_that_fails_ends_the_run_behind_the_whole_lines(rt: HostRuntime) -> Res
     let mut config = source(alloc, KNOWN, &[1])?;
     let mut input = source(alloc, SELECTED, &[])?;
     let mut out = MemSink::new(alloc, Vec::new(alloc));
-    let ended = feed(alloc, &words(alloc, &["feed", "c"])?, &mut config, &mut input, &mut out);
+    let ended = feed(
+        alloc,
+        &words(alloc, &["feed", "c"])?,
+        &mut config,
+        &mut input,
+        &mut out,
+    );
     assert_eq!(rt; ended.cause, Cause::ReadFault);
     assert_eq!(rt; out.as_bytes().len(), 0);
     Ok(())
@@ -273,6 +290,8 @@ struct Narrow {
 }
 
 impl Sink for Narrow {
+    ghost use Rattle.std.specs.Prelude.{None};
+
     ghost held = { λ _. None };
 
     ghost faults = { λ _. 0 };

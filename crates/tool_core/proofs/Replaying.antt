@@ -22,5 +22,5 @@ Replays-snoc state history ends entry o replays here =
       run = Run-snoc opening history state entry o replays.run here;
       sessions = omega (arith, length-append history (entry ∷ []));
       causes = ap (λ (cs : List SessionCause). cs ++ option_to_list o.ended) replays.causes
-        ∙ sym (ends_of-append opening history (entry ∷ []) ∙ ap (λ (g : State). ends_of opening history ++ ends_of g (entry ∷ [])) there ∙ ap (λ (cs : List SessionCause). ends_of opening history ++ cs) (ends_after state entry o here));
+          ∙ sym (ends_of-append opening history (entry ∷ []) ∙ ap (λ (g : State). ends_of opening history ++ ends_of g (entry ∷ [])) there ∙ ap (λ (cs : List SessionCause). ends_of opening history ++ cs) (ends_after state entry o here));
     }

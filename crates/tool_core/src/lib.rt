@@ -6,17 +6,11 @@
 //! Built are the link's select, linktest and separate messages (SEMI E37) and S1F1 (SEMI E5).
 #![tactic(auto)]
 
-
-
 mod entries;
 mod link;
 mod plant;
 mod reply;
 mod tool;
 
-
-
-
-
-pub use tool::{Core, PostFault};
 pub use entries::Entries;
+pub use tool::{Core, PostFault};

@@ -13,6 +13,7 @@ use std::alloc::{AllocError, Global};
 
 /// The model of the known configuration, and its software revision.
 const MDLN: &[u8] = b"GEM300";
+
 const SOFTREV: &[u8] = b"1.0.00";
 
 /// A control message: no text, and session id FFFF.

@@ -13,18 +13,18 @@ returns-clause-run g c =
     let history : List Entry = c.read_lines-end.new.reader.feeder.core.history in
     let run = c.into_history.ensures.run in
     rw (c.with_history.ensures, c.into_history.ensures.history)
-      (subst (λ (s : State). Run opening history s) (sym (after_all-run opening history _ run)) run)
+    (subst (λ (s : State). Run opening history s) (sym (after_all-run opening history _ run)) run)
 
 pub returns-clause-fed : goal.returns-clause-fed
 returns-clause-fed g c =
     let read = c.read_lines-end.ensures.read in
     rw (c.with_history.ensures, c.cause_of-cause.ensures, c.history.ensures.history, c.into_history.ensures.history)
-      (read.0, read.1, FedBy-end c.read_lines-end.result read.0 _ _ _ _ read.2)
+    (read.0, read.1, FedBy-end c.read_lines-end.result read.0 _ _ _ _ read.2)
 
 pub returns-clause-printed : goal.returns-clause-printed
 returns-clause-printed g c =
     rw (c.with_history.ensures, c.cause_of-cause.ensures, c.history.ensures.history, c.into_history.ensures.history)
-      (Shown-end c.read_lines-end.result _ _ _ _ c.read_lines-end.new.reader.number c.in-Ok.ensures.history c.read_lines-end.ensures.prints)
+    (Shown-end c.read_lines-end.result _ _ _ _ c.read_lines-end.new.reader.number c.in-Ok.ensures.history c.read_lines-end.ensures.prints)
 
 pub returns-clause-done : goal.returns-clause-done
 returns-clause-done g c = λ done.

@@ -15,7 +15,7 @@ returns-in-Err-clause-takes g c = λ text stands.
     let both = Takes-then text (take i piece) _ _ _ _ _ _ _ _ front one in
     let all = Takes-stopped text _ (drop (i + 1) piece) _ _ _ _ c.in-Err.halt both in
     subst (λ (bytes : List ℕ). Takes text bytes c.args.self.now c.take_byte.new.self (see c.args.out.now) (see c.take_byte.new.out) (Err c.in-Err.halt))
-      (ap (λ (bytes : List ℕ). bytes ++ drop (i + 1) piece) (sym (take_more piece i 0 c.loop-byte-test.true)) ∙ take-append-drop (i + 1) piece) all
+    (ap (λ (bytes : List ℕ). bytes ++ drop (i + 1) piece) (sym (take_more piece i 0 c.loop-byte-test.true)) ∙ take-append-drop (i + 1) piece) all
 
 pub loop-byte-preserved : goal.loop-byte-preserved
 loop-byte-preserved g c =
@@ -24,12 +24,12 @@ loop-byte-preserved g c =
     record {
       number = omega (arith, c.loop-byte.invariant.number, c.in-Ok.ensures.number);
       taken = λ text stands.
-        let front = c.loop-byte.invariant.taken text stands in
-        rw (take_more piece i 0 c.loop-byte-test.true) (Takes-then text (take i piece) _ _ _ _ _ _ _ _ front (c.in-Ok.ensures.takes (text ++ take i piece) front.stands));
+          let front = c.loop-byte.invariant.taken text stands in
+          rw (take_more piece i 0 c.loop-byte-test.true) (Takes-then text (take i piece) _ _ _ _ _ _ _ _ front (c.in-Ok.ensures.takes (text ++ take i piece) front.stands));
     }
 
 pub returns-clause-takes : goal.returns-clause-takes
 returns-clause-takes g c = λ text stands.
     let see = seen g.K.Sink.held g.K.Sink.faults g.K.Sink.refusals in
     subst (λ (bytes : List ℕ). Takes text bytes c.args.self.now c.loop-byte.self (see c.args.out.now) (see c.loop-byte.out) (Ok tt))
-      (take_all c.loop-byte.byte-index c.args.piece.now (omega (arith, c.loop-byte-test.false))) (c.loop-byte.invariant.taken text stands)
+    (take_all c.loop-byte.byte-index c.args.piece.now (omega (arith, c.loop-byte-test.false))) (c.loop-byte.invariant.taken text stands)

@@ -12,10 +12,12 @@ invariant_of-self-2 c =
 
 pub returns-clause-step : goal.returns-clause-step
 returns-clause-step c =
-    let reacted = rw c.in-Some.is at c.in_ok-reaction.ensures.some in
-    (record { answer = c.in-Some.reaction.answer; ended = c.in-Some.reaction.ended; after = c.react.new.self },
+    let reacted = rw c.in-Some.is at c.in_ok-reaction.ensures.some in (
+      record { answer = c.in-Some.reaction.answer; ended = c.in-Some.reaction.ended; after = c.react.new.self },
       subst (λ (g : State). step g c.args.event ≡ Some (record { answer = c.in-Some.reaction.answer; ended = c.in-Some.reaction.ended; after = c.react.new.self })) (ap (λ (v : CoreView). v.state) c.self.view_is) reacted,
-      refl, refl)
+      refl,
+      refl,
+    )
 
 pub returns-clause-run : goal.returns-clause-run
 returns-clause-run c =

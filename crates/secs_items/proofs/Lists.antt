@@ -49,3 +49,11 @@ truths_written r old new bs written =
 pub piece_written : (old mid new head front piece whole : List ℕ) → mid ≡ old ++ (head ++ front) → new ≡ mid ++ piece → whole ≡ front ++ piece →
     new ≡ old ++ (head ++ whole)
 piece_written old mid new head front piece whole before after joined = rw (after, before, joined) (simp append_assoc)
+
+items_of-take_suc : (xs : List Item) (i : ℕ) (d : Item) → i < length xs → items_of (take (suc i) xs) ≡ added (items_of (take i xs)) (view (get_or xs i d))
+items_of-take_suc [] i d within = absurd (omega arith)
+items_of-take_suc (x ∷ xs) zero d within = refl
+items_of-take_suc (x ∷ xs) (suc i) d within = ap (λ ds. item (view x) ds) (items_of-take_suc xs i d (omega arith))
+
+pub items_of-take : (xs : List Item) (i : ℕ) (d : Item) → i < length xs → items_of (take (i + 1) xs) ≡ added (items_of (take i xs)) (view (get_or xs i d))
+items_of-take xs i d within = rw add-one (items_of-take_suc xs i d within)

@@ -252,8 +252,8 @@ told_stands input e below read =
 -- ---- a fault that stands is told, unless another comes first
 
 -- the reading fails with this fault, or with one that comes first
-abbrev pub Fails_by : List ℕ → ItemFault → Type 0
-Fails_by input g = (e : ItemFault) × (item_at 16 (length input) input ≡ Err e) × ((e ≡ g) ⊎ Precedes e g)
+abbrev pub FailsBy : List ℕ → ItemFault → Type 0
+FailsBy input g = (e : ItemFault) × (item_at 16 (length input) input ≡ Err e) × ((e ≡ g) ⊎ Precedes e g)
 
 -- what stands at a place
 record Tail (input : List ℕ) (p b : ℕ) (rest : List ℕ) : Type 0 where
@@ -305,7 +305,7 @@ no_length_told input p depth (begins, inside) none =
     let failed : format_at (length input) (b ∷ rest) ≡ Err (fault.BadLengthBytes p) = format_none (length input) b rest none ∙ ap (λ (q : ℕ). Err (fault.BadLengthBytes q)) tail.at in
     from_place input (b ∷ rest) p depth (fault.BadLengthBytes p) begins tail.is (fails_item (16 - depth) (length input) (b ∷ rest) (fault.BadLengthBytes p) failed)
 
-code_told : (input : List ℕ) (p c depth : ℕ) → BeginsAt input p depth → slice_index input p / 4 ≡ c → IsNoCode c → Fails_by input (fault.BadCode p c)
+code_told : (input : List ℕ) (p c depth : ℕ) → BeginsAt input p depth → slice_index input p / 4 ≡ c → IsNoCode c → FailsBy input (fault.BadCode p c)
 code_told input p c depth (begins, inside) coded unknown =
     let tail = tail_at input p inside in
     let rest = drop (p + 1) input in
@@ -338,7 +338,7 @@ width_told input p depth n f head behind begins (k, one, small, fits, head_same)
     ∙ leaf_bad_width total (total - length whole) k n f (lens ++ behind) behind reads.1 bad ∙ ap (λ (q : ℕ). Err (fault.BadWidth q)) at in
     from_place input whole p depth (fault.BadWidth p) begins tail_is failed
 
-deep_told : (input : List ℕ) (p : ℕ) → BeginsAt input p 16 → slice_index input p / 4 ≡ 0 → Fails_by input (fault.TooDeep p)
+deep_told : (input : List ℕ) (p : ℕ) → BeginsAt input p 16 → slice_index input p / 4 ≡ 0 → FailsBy input (fault.TooDeep p)
 deep_told input p (begins, inside) coded =
     let tail = tail_at input p inside in
     let rest = drop (p + 1) input in
@@ -382,7 +382,7 @@ text_told input p depth n front head text begins (k, one, small, fits, head_same
     let deep = begins_depth depth front begins in
     ap (item_at 16 total) input_is ∙ path depth (16 - depth) total front whole (fault.BadAscii p) (omega arith) begins failed
 
-pub stands_told : (input : List ℕ) (g : ItemFault) → Stands input g → Fails_by input g
+pub stands_told : (input : List ℕ) (g : ItemFault) → Stands input g → FailsBy input g
 stands_told input (fault.Truncated p) ((x, rest, some, spells), end) =
     (fault.Truncated (length input), cut 16 x 0 input rest (length input) refl some spells, inl (ap fault.Truncated (sym end)))
 stands_told input (fault.BadLengthBytes p) (depth, begins, none) = (fault.BadLengthBytes p, no_length_told input p depth begins none, inl refl)

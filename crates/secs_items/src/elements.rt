@@ -1,5 +1,6 @@
 ghost use Rattle.std.specs.Prelude.{◌≡◌};
 
+use std::alloc::AllocError;
 use std::marker::Model;
 
 /// The elements of an item that are all of one kind. Contracts see it as the list.
@@ -37,6 +38,15 @@ impl<T> Elements<T> {
         ensures { result.now ≡ self.now }
     {
         self.elements.as_slice()
+    }
+}
+
+impl<T: Copy> Clone for Elements<T> {
+    ghost is_clone = { λ x y. y ≡ x };
+
+    fn clone(&self) -> Result<Elements<T>, AllocError> {
+        let elements = Vec::from_slice(*self.elements.allocator(), self.elements.as_slice())?;
+        Ok(Elements { elements })
     }
 }
 

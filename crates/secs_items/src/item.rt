@@ -102,6 +102,11 @@ impl Items {
         items
     }
 
+    // The allocator of the list.
+    pub(crate) fn allocator(&self) -> Global {
+        *self.items.allocator()
+    }
+
     /// The items as a slice.
     pub fn as_slice(&self) -> &[Item]
         ensures { items_of result.now ≡ self.now }

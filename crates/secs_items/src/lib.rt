@@ -5,6 +5,7 @@
 //! `decode`, which reads an item, and `encode`, which appends one.
 #![tactic(auto)]
 
+mod cloning;
 mod element;
 mod elements;
 mod fault;

@@ -138,13 +138,14 @@ const TEXTS: [(&[u8], Option<&[u8]>); 6] = [
     ),
 ];
 
-// Reads an item that one more byte follows, and writes it again.
+// Reads an item that one more byte follows, and writes a copy of it.
 fn read_and_sent(alloc: Global, spelled: &[u8]) -> Result<(usize, Vec<u8>), ItemFault> {
     let mut bytes = Vec::from_slice(alloc, spelled)?;
     bytes.push(0x99)?;
     let (item, used) = decode(alloc, bytes.as_slice())?;
+    let copy = item.clone()?;
     let mut out = Vec::new(alloc);
-    encode(&item, &mut out)?;
+    encode(&copy, &mut out)?;
     Ok((used, out))
 }
 

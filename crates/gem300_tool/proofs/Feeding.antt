@@ -1,8 +1,9 @@
 -- What a run of feed did, from how its input ended.
-use Rattle.std.proofs.Common.{◌≡◌, ℕ, List, [], ◌++◌, Option, Some, None, refl, sym, ◌∙◌, ap, length, length-append, arith}
+use Rattle.std.proofs.Common.{◌≡◌, ℕ, List, [], ◌++◌, Option, Some, None, inl, inr, refl, sym, ◌∙◌, ap, length, length-append, arith}
 use Rattle.std.proofs.lemmas.List.{append-nil, nil_from_length}
 use Rattle.outside.specs.Told.{Taken}
-use Rattle.tool_events.specs.declared.Entry.{Entry}
+use Rattle.tool_events.specs.declared.entry.Entry.{Entry}
+use Rattle.tool_events.specs.declared.config.Config.{Config}
 use Rattle.tool_core.specs.CoreView.{CoreView}
 use Rattle.gem300_tool.specs.declared.halt.Halt.TheVariants as halt
 use Rattle.gem300_tool.specs.declared.ended.Cause.{Cause}
@@ -18,26 +19,26 @@ use Rattle.gem300_tool.specs.Standing.{Prints}
 use Rattle.gem300_tool.proofs.Reading.{Taken-nothing}
 use Rattle.gem300_tool.proofs.Writing.{Written-nothing, WrittenFront-all}
 
-pub FedBy-end : (end : InputEnd) (text : List ℕ) (history : List Entry) (number : ℕ) (source source' : SourceView) → InputEnds end text history number source source' → FedBy (cause_after end history number) text history
-FedBy-end input.Whole text history number source source' h = h.0
-FedBy-end input.Fault text history number source source' h = h.0
-FedBy-end input.Bound text history number source source' h = (h.0, h.1, refl, refl, refl)
-FedBy-end (input.Halted (halt.Line place)) text history number source source' h = h
-FedBy-end (input.Halted halt.NotBuilt) text history number source source' h = h
-FedBy-end (input.Halted halt.Write) text history number source source' h = h
-FedBy-end (input.Halted halt.NoMemory) text history number source source' h = h
+pub FedBy-end : (c : Config) (end : InputEnd) (text : List ℕ) (count : ℕ) (history : List Entry) (number : ℕ) (source source' : SourceView) → length text ≡ count → InputEnds end text c history number source source' → FedBy c (cause_after end count history number) text history
+FedBy-end c input.Whole text count history number source source' size h = h.0
+FedBy-end c input.Fault text count history number source source' size h = h.0
+FedBy-end c input.Bound text count history number source source' size h = (inl h, refl, refl, sym size)
+FedBy-end c (input.Halted (halt.Line place)) text count history number source source' size h = h
+FedBy-end c (input.Halted halt.Full) text count history number source source' size h = (inr h, refl, refl, sym size)
+FedBy-end c (input.Halted halt.Write) text count history number source source' size h = h
+FedBy-end c (input.Halted halt.NoMemory) text count history number source source' size h = h
 
 shows_first : (core : CoreView) (out : SinkView) → core.history ≡ [] → Shows out.held out core
 shows_first core out none = rw none (Written-nothing out.held)
 
-pub Shown-end : (end : InputEnd) (core core' : CoreView) (out out' : SinkView) (number : ℕ) → core.history ≡ [] → Prints core core' out out' (as_result end) → Shown (cause_after end core'.history number) out.held out'.held core'.history
-Shown-end input.Whole core core' out out' number none h = h.shows out.held (shows_first core out none)
-Shown-end input.Fault core core' out out' number none h = h.shows out.held (shows_first core out none)
-Shown-end input.Bound core core' out out' number none h = h.shows out.held (shows_first core out none)
-Shown-end (input.Halted (halt.Line place)) core core' out out' number none h = h.shows out.held (shows_first core out none)
-Shown-end (input.Halted halt.NotBuilt) core core' out out' number none h = h.shows out.held (shows_first core out none)
-Shown-end (input.Halted halt.Write) core core' out out' number none h = h.shows out.held (shows_first core out none)
-Shown-end (input.Halted halt.NoMemory) core core' out out' number none h = h.shows out.held (shows_first core out none)
+pub Shown-end : (end : InputEnd) (core core' : CoreView) (out out' : SinkView) (count number : ℕ) → core.history ≡ [] → Prints core core' out out' (as_result end) → Shown core'.config (cause_after end count core'.history number) out.held out'.held core'.history
+Shown-end input.Whole core core' out out' count number none h = h.shows out.held (shows_first core out none)
+Shown-end input.Fault core core' out out' count number none h = h.shows out.held (shows_first core out none)
+Shown-end input.Bound core core' out out' count number none h = h.shows out.held (shows_first core out none)
+Shown-end (input.Halted (halt.Line place)) core core' out out' count number none h = h.shows out.held (shows_first core out none)
+Shown-end (input.Halted halt.Full) core core' out out' count number none h = h.shows out.held (shows_first core out none)
+Shown-end (input.Halted halt.Write) core core' out out' count number none h = h.shows out.held (shows_first core out none)
+Shown-end (input.Halted halt.NoMemory) core core' out out' count number none h = h.shows out.held (shows_first core out none)
 
 rest_none : (text rest : List ℕ) → text ≡ text ++ rest → rest ≡ []
 rest_none text rest h = nil_from_length rest (omega (arith, ap length h, length-append text rest))
@@ -49,34 +50,32 @@ whole_any (Some bytes) left' text other first whole second =
     let same : first.0 ≡ second.0 = cc (first.2, second.2) in
     second.1 ∙ ap (λ (rest : List ℕ). other ++ rest) (sym same ∙ none) ∙ append-nil other
 
-pub read_to_end : (end : InputEnd) (text : List ℕ) (history : List Entry) (number : ℕ) (source source' : SourceView) → Taken source.left source'.left text → InputEnds end text history number source source' → cause_after end history number ≡ cause.Done → ReadToEnd source source'
-read_to_end input.Whole text history number source source' taken h is = (h.2, λ other also. whole_any source.left source'.left text other taken h.1 also)
-read_to_end input.Fault text history number source source' taken h is = absurd (cc)
-read_to_end input.Bound text history number source source' taken h is = absurd (cc)
-read_to_end (input.Halted (halt.Line place)) text history number source source' taken h is = absurd (cc)
-read_to_end (input.Halted halt.NotBuilt) text history number source source' taken h is = absurd (cc)
-read_to_end (input.Halted halt.Write) text history number source source' taken h is = absurd (cc)
-read_to_end (input.Halted halt.NoMemory) text history number source source' taken h is = absurd (cc)
+pub read_to_end : (c : Config) (end : InputEnd) (text : List ℕ) (count : ℕ) (history : List Entry) (number : ℕ) (source source' : SourceView) → Taken source.left source'.left text → InputEnds end text c history number source source' → cause_after end count history number ≡ cause.Done → ReadToEnd source source'
+read_to_end c input.Whole text count history number source source' taken h is = (h.2, λ other also. whole_any source.left source'.left text other taken h.1 also)
+read_to_end c input.Fault text count history number source source' taken h is = absurd (cc)
+read_to_end c input.Bound text count history number source source' taken h is = absurd (cc)
+read_to_end c (input.Halted (halt.Line place)) text count history number source source' taken h is = absurd (cc)
+read_to_end c (input.Halted halt.Full) text count history number source source' taken h is = absurd (cc)
+read_to_end c (input.Halted halt.Write) text count history number source source' taken h is = absurd (cc)
+read_to_end c (input.Halted halt.NoMemory) text count history number source source' taken h is = absurd (cc)
 
 -- without a configuration nothing was read of the input, and nothing was written
-pub Fed-refused : (why : Cause) (config config' input : SourceView) → Refuses why config config' → Fed why input input []
-Fed-refused (cause.Config rule key) config config' input h = ([], Taken-nothing input.left, (refl, refl))
-Fed-refused cause.ReadFault config config' input h = ([], Taken-nothing input.left, refl)
-Fed-refused cause.NoMemory config config' input h = ([], Taken-nothing input.left, record { behind = []; joined = refl })
-Fed-refused cause.Done config config' input h = absurd h
-Fed-refused (cause.Words place) config config' input h = absurd h
-Fed-refused cause.WriteFault config config' input h = absurd h
-Fed-refused (cause.Full entries bytes number) config config' input h = absurd h
-Fed-refused (cause.Line number place) config config' input h = absurd h
-Fed-refused (cause.NotBuilt number) config config' input h = absurd h
+pub Fed-refused : (c : Config) (why : Cause) (config config' input : SourceView) → Refuses why config config' → Fed c why input input []
+Fed-refused c (cause.Config rule key) config config' input h = ([], Taken-nothing input.left, (refl, refl))
+Fed-refused c cause.ReadFault config config' input h = ([], Taken-nothing input.left, refl)
+Fed-refused c cause.NoMemory config config' input h = ([], Taken-nothing input.left, record { behind = []; joined = refl })
+Fed-refused c cause.Done config config' input h = absurd h
+Fed-refused c (cause.Words place) config config' input h = absurd h
+Fed-refused c cause.WriteFault config config' input h = absurd h
+Fed-refused c (cause.Full entries bytes number) config config' input h = absurd h
+Fed-refused c (cause.Line number place) config config' input h = absurd h
 
-pub Shown-refused : (why : Cause) (config config' : SourceView) (held : Option (List ℕ)) → Refuses why config config' → Shown why held held []
-Shown-refused (cause.Config rule key) config config' held h = Written-nothing held
-Shown-refused cause.ReadFault config config' held h = Written-nothing held
-Shown-refused cause.NoMemory config config' held h = WrittenFront-all held held [] (Written-nothing held)
-Shown-refused cause.Done config config' held h = absurd h
-Shown-refused (cause.Words place) config config' held h = absurd h
-Shown-refused cause.WriteFault config config' held h = absurd h
-Shown-refused (cause.Full entries bytes number) config config' held h = absurd h
-Shown-refused (cause.Line number place) config config' held h = absurd h
-Shown-refused (cause.NotBuilt number) config config' held h = absurd h
+pub Shown-refused : (c : Config) (why : Cause) (config config' : SourceView) (held : Option (List ℕ)) → Refuses why config config' → Shown c why held held []
+Shown-refused c (cause.Config rule key) config config' held h = Written-nothing held
+Shown-refused c cause.ReadFault config config' held h = Written-nothing held
+Shown-refused c cause.NoMemory config config' held h = WrittenFront-all held held [] (Written-nothing held)
+Shown-refused c cause.Done config config' held h = absurd h
+Shown-refused c (cause.Words place) config config' held h = absurd h
+Shown-refused c cause.WriteFault config config' held h = absurd h
+Shown-refused c (cause.Full entries bytes number) config config' held h = absurd h
+Shown-refused c (cause.Line number place) config config' held h = absurd h

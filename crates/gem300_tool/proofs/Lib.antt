@@ -1,4 +1,5 @@
 pub mod Writing
+pub mod Numbers
 pub mod Going
 pub mod Parts
 pub mod Cutting

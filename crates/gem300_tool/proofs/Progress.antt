@@ -28,44 +28,45 @@ pub record Progress (reader reader' : Reader) (out out' : SinkView) (source sour
   pub ends : source.ends ≤ source'.ends
 
 -- how it ended, with the text that was read
-abbrev pub Ends : InputEnd → Reader → Reader → SinkView → SinkView → SourceView → SourceView → Type 0
-Ends end reader reader' out out' source source' =
-    ((text : List ℕ) × Taken source.left source'.left text × InputEnds end text reader'.feeder.core.history reader'.number source source')
+abbrev pub Ends : InputEnd → ℕ → Reader → Reader → SinkView → SinkView → SourceView → SourceView → Type 0
+Ends end count reader reader' out out' source source' =
+    ((text : List ℕ) × (length text ≡ count) × Taken source.left source'.left text × InputEnds end text reader'.feeder.core.config reader'.feeder.core.history reader'.number source source')
     × Prints reader.feeder.core reader'.feeder.core out out' (as_result end)
 
-pub ends-fault : (reader reader' : Reader) (out out' : SinkView) (source now later : SourceView) (count : ℕ) → Progress reader reader' out out' source now count → later.left ≡ now.left → Rose now.faults later.faults → now.faults ≤ later.faults → Ends input.Fault reader reader' out out' source later
+pub ends-fault : (reader reader' : Reader) (out out' : SinkView) (source now later : SourceView) (count : ℕ) → Progress reader reader' out out' source now count → later.left ≡ now.left → Rose now.faults later.faults → now.faults ≤ later.faults → Ends input.Fault count reader reader' out out' source later
 ends-fault reader reader' out out' source now later count p same rose stays =
-    ((p.text, Taken-same source.left now.left later.left p.text p.taken same, (Stands-whole p.text reader' p.stands, Rose-wider source.faults now.faults later.faults later.faults p.faults stays rose (omega arith))), p.prints)
+    ((p.text, p.size, Taken-same source.left now.left later.left p.text p.taken same, (Stands-whole p.text reader' p.stands, Rose-wider source.faults now.faults later.faults later.faults p.faults stays rose (omega arith))), p.prints)
 
-pub ends-bound : (reader reader' : Reader) (out out' : SinkView) (source now : SourceView) (count : ℕ) → Progress reader reader' out out' source now count → count ≡ input_bytes → Ends input.Bound reader reader' out out' source now
-ends-bound reader reader' out out' source now count p bound = ((p.text, p.taken, (Stands-whole p.text reader' p.stands, p.size ∙ bound)), p.prints)
+pub ends-bound : (reader reader' : Reader) (out out' : SinkView) (source now : SourceView) (count : ℕ) → Progress reader reader' out out' source now count → count ≡ input_bytes → Ends input.Bound count reader reader' out out' source now
+ends-bound reader reader' out out' source now count p bound = ((p.text, p.size, p.taken, (Stands-whole p.text reader' p.stands, p.size ∙ bound)), p.prints)
 
 end_taken : (source now later : SourceView) (text nothing : List ℕ) → nothing ≡ [] → Taken source.left now.left text → Taken now.left later.left nothing → Taken source.left later.left text
 end_taken source now later text nothing none first second =
     subst (λ (t : List ℕ). Taken source.left later.left t) (append-nil text)
     (Taken-more source.left now.left later.left text [] first (subst (λ (t : List ℕ). Taken now.left later.left t) none second))
 
-pub ends-whole : (reader reader' last : Reader) (out out' out'' : SinkView) (source now later : SourceView) (count : ℕ) (nothing : List ℕ) → Progress reader reader' out out' source now count → nothing ≡ [] → Taken now.left later.left nothing → NothingLeft now.left → Rose now.ends later.ends → now.ends ≤ later.ends → ((text : List ℕ) → Stands text reader' → Finishes text reader' last out' out'' (Ok tt)) → Ends input.Whole reader last out out'' source later
+pub ends-whole : (reader reader' last : Reader) (out out' out'' : SinkView) (source now later : SourceView) (count : ℕ) (nothing : List ℕ) → Progress reader reader' out out' source now count → nothing ≡ [] → Taken now.left later.left nothing → NothingLeft now.left → Rose now.ends later.ends → now.ends ≤ later.ends → ((text : List ℕ) → Stands text reader' → Finishes text reader' last out' out'' (Ok tt)) → Ends input.Whole count reader last out out'' source later
 ends-whole reader reader' last out out' out'' source now later count nothing p none taken left rose stays finishes =
     let f = finishes p.text p.stands in (
-      (p.text, end_taken source now later p.text nothing none p.taken taken, (f.ends, Whole-taken source.left now.left p.text p.taken left, Rose-wider source.ends now.ends later.ends later.ends p.ends stays rose (omega arith))),
+      (p.text, p.size, end_taken source now later p.text nothing none p.taken taken, (f.ends, Whole-taken source.left now.left p.text p.taken left, Rose-wider source.ends now.ends later.ends later.ends p.ends stays rose (omega arith))),
       Prints-then reader.feeder.core reader'.feeder.core last.feeder.core out out' out'' (Ok tt) p.prints f.prints,
     )
 
-pub ends-last : (reader reader' last : Reader) (out out' out'' : SinkView) (source now later : SourceView) (count : ℕ) (nothing : List ℕ) (why : Halt) → Progress reader reader' out out' source now count → nothing ≡ [] → Taken now.left later.left nothing → ((text : List ℕ) → Stands text reader' → Finishes text reader' last out' out'' (Err why)) → Ends (input.Halted why) reader last out out'' source later
+pub ends-last : (reader reader' last : Reader) (out out' out'' : SinkView) (source now later : SourceView) (count : ℕ) (nothing : List ℕ) (why : Halt) → Progress reader reader' out out' source now count → nothing ≡ [] → Taken now.left later.left nothing → ((text : List ℕ) → Stands text reader' → Finishes text reader' last out' out'' (Err why)) → Ends (input.Halted why) count reader last out out'' source later
 ends-last reader reader' last out out' out'' source now later count nothing why p none taken finishes =
     let f = finishes p.text p.stands in (
-      (p.text, end_taken source now later p.text nothing none p.taken taken, f.ends),
+      (p.text, p.size, end_taken source now later p.text nothing none p.taken taken, f.ends),
       Prints-then reader.feeder.core reader'.feeder.core last.feeder.core out out' out'' (Err why) p.prints f.prints,
     )
 
-pub ends-halted : (reader reader' last : Reader) (out out' out'' : SinkView) (source now later : SourceView) (count : ℕ) (piece : List ℕ) (why : Halt) → Progress reader reader' out out' source now count → Taken now.left later.left piece → ((text : List ℕ) → Stands text reader' → Takes text piece reader' last out' out'' (Err why)) → Ends (input.Halted why) reader last out out'' source later
-ends-halted reader reader' last out out' out'' source now later count piece why p taken takes =
+pub ends-halted : (reader reader' last : Reader) (out out' out'' : SinkView) (source now later : SourceView) (count more : ℕ) (piece : List ℕ) (why : Halt) → Progress reader reader' out out' source now count → Taken now.left later.left piece → length piece ≡ more → ((text : List ℕ) → Stands text reader' → Takes text piece reader' last out' out'' (Err why)) → Ends (input.Halted why) (count + more) reader last out out'' source later
+ends-halted reader reader' last out out' out'' source now later count more piece why p taken size takes =
     let t = takes p.text p.stands in (
       (
         p.text ++ piece,
+        omega (arith, length-append p.text piece, p.size, size),
         Taken-more source.left now.left later.left p.text piece p.taken taken,
-        subst (λ (t : List ℕ). StoppedAs (feed_entries t) last.feeder.core.history last.number why) (append-nil (p.text ++ piece)) (t.stands []),
+        subst (λ (t : List ℕ). StoppedAs last.feeder.core.config (feed_entries last.feeder.core.config t) last.feeder.core.history last.number why) (append-nil (p.text ++ piece)) (t.stands []),
       ),
       Prints-then reader.feeder.core reader'.feeder.core last.feeder.core out out' out'' (Err why) p.prints t.prints,
     )

@@ -1,16 +1,18 @@
 -- The reader of a text, byte by byte.
-use Rattle.std.proofs.Common.{◌≡◌, ◌≢◌, ◌⊎◌, inl, inr, ℕ, ◌+◌, ◌<◌, ◌≤◌, Bool, true, false, if◌then◌else◌, List, [], ◌∷◌, ◌++◌, length, Option, Some, None, Result, Ok, Err, refl, sym, ◌∙◌, ap, subst, append_assoc, arith, length-append}
+use Rattle.std.proofs.Common.{◌≡◌, ◌≢◌, ◌⊎◌, inl, inr, ℕ, ◌+◌, ◌<◌, ◌≤◌, List, [], ◌∷◌, ◌++◌, length, Option, Some, None, Result, Ok, Err, refl, sym, ◌∙◌, ap, subst, append_assoc, arith, length-append}
 use Rattle.std.proofs.lemmas.List.{append-nil}
-use Rattle.tool_events.specs.declared.Entry.{Entry}
+use Rattle.tool_events.specs.declared.entry.Entry.{Entry}
+use Rattle.tool_events.specs.declared.config.Config.{Config}
 use Rattle.gem_model.specs.Front.{IsFront}
 use Rattle.gem_model.specs.Lines.{Line, lines_of, whole_lines, line_of, line_bytes}
-use Rattle.gem_model.specs.Feed.{Given, Reading, Told, AllRead, OutsideGrammar, NotBuilt, line_given, line_told, told_behind, feed_lines, feed_entries, reading_after, first_reading}
+use Rattle.gem_model.specs.Feed.{Given, Reading, Told, AllRead, OutsideGrammar, line_given, line_told, told_behind, feed_lines, feed_entries, reading_after, first_reading}
 use Rattle.gem_model.proofs.Texts.{IsOneLine-more, lines-line, lines-last, whole-feed, whole-none, first-long, too-long}
 use Rattle.tool_core.specs.CoreView.{CoreView}
 use Rattle.gem300_tool.specs.declared.halt.Halt.{Halt}
 use Rattle.gem300_tool.specs.declared.halt.Halt.TheVariants as halt
 use Rattle.gem300_tool.specs.declared.feeder.Feeder.{Feeder}
 use Rattle.gem300_tool.specs.declared.reader.Reader.{Reader}
+use Rattle.gem300_tool.specs.Limits.{IsFullAt}
 use Rattle.gem300_tool.specs.Going.{SinkView, WentOn, Shows, ShowsAtEnd, Goes}
 use Rattle.gem300_tool.specs.Reading.{IsReading, TreatsLine}
 use Rattle.gem300_tool.specs.Standing.{IsOneLine, Stands, StoppedAs, Prints, StandsOrStopped, Takes, AllOrStopped}
@@ -20,18 +22,19 @@ use Rattle.gem300_tool.proofs.Writing.{WrittenFront-all}
 -- ---- the output
 
 pub Prints-goes : (core core' : CoreView) (out out' : SinkView) (given : Given) (result : Result (Unit {0}) Halt) → Goes core core' out out' given result → Prints core core' out out' result
-Prints-goes core core' out out' given result h = record { shows = h.shows; cause = h.cause; faults_stay = h.faults_stay; refusals_stay = h.refusals_stay }
+Prints-goes core core' out out' given result h = record { config = h.config; shows = h.shows; cause = h.cause; faults_stay = h.faults_stay; refusals_stay = h.refusals_stay }
 
 shows_stays : (start : Option (List ℕ)) (core : CoreView) (out : SinkView) (result : Result (Unit {0}) Halt) → Shows start out core → ShowsAtEnd start out core result
 shows_stays start core out (Ok done) h = h
 shows_stays start core out (Err (halt.Line place)) h = h
-shows_stays start core out (Err halt.NotBuilt) h = h
+shows_stays start core out (Err halt.Full) h = h
 shows_stays start core out (Err halt.Write) h = WrittenFront-all start out.held _ h
 shows_stays start core out (Err halt.NoMemory) h = WrittenFront-all start out.held _ h
 
 -- nothing was printed, and the history stays
 pub Prints-stays : (core : CoreView) (out : SinkView) (result : Result (Unit {0}) Halt) → (result ≢ Err halt.Write) → Prints core core out out result
 Prints-stays core out result other = record {
+  config = refl;
   shows = λ start h. shows_stays start core out result h;
   cause = λ e. absurd (other e);
   faults_stay = omega arith;
@@ -49,6 +52,11 @@ Prints-line r (Some line) old new out out' result h = Prints-goes old.core new.c
 
 -- ---- one line
 
+-- the configuration stays
+line_config : (r : Reading) (line : Option Line) (old new : Feeder) (out out' : SinkView) (result : Result (Unit {0}) Halt) → TreatsLine r line old new out out' result → new.core.config ≡ old.core.config
+line_config r None old new out out' result h = ap (λ (c : CoreView). c.config) h.core_stays
+line_config r (Some line) old new out out' result h = h.goes.config
+
 -- after a line the history has what it gave, and the next line goes on
 pub record Took (number : ℕ) (r : Reading) (line : List ℕ) (old new : Feeder) : Type 0 where
   pub next : Reading
@@ -59,26 +67,16 @@ behind_told : (front back : List Entry) (told : Told) (history : List Entry) →
 behind_told front back told history is =
     ap (λ (es : List Entry). record told { entries = es }) (sym (append_assoc front back told.entries) ∙ ap (λ (es : List Entry). es ++ told.entries) (sym is))
 
-line_goes_on : (number : ℕ) (r : Reading) (line : Line) (more : Reading → Told) → (line_given r line).goes_on ≡ true → line_told number r (Some line) more ≡ told_behind (line_given r line).entries (more (reading_after r line))
-line_goes_on number r line more on = ap (λ (b : Bool). if b then told_behind (line_given r line).entries (more (reading_after r line)) else record { entries = (line_given r line).entries; stop = NotBuilt number }) on
-
-line_stops : (number : ℕ) (r : Reading) (line : Line) (more : Reading → Told) → (line_given r line).goes_on ≡ false → line_told number r (Some line) more ≡ record { entries = (line_given r line).entries; stop = NotBuilt number }
-line_stops number r line more off = ap (λ (b : Bool). if b then told_behind (line_given r line).entries (more (reading_after r line)) else record { entries = (line_given r line).entries; stop = NotBuilt number }) off
-
--- whether it goes on or not, what a line gives comes first
+-- what a line gives comes first
 line_begins : (number : ℕ) (r : Reading) (line : Line) (more : Reading → Told) → IsFront (line_given r line).entries (line_told number r (Some line) more).entries
-line_begins number r line more = by_goes_on (line_given r line).goes_on refl
-  where
-    by_goes_on : (on : Bool) → (line_given r line).goes_on ≡ on → IsFront (line_given r line).entries (line_told number r (Some line) more).entries
-    by_goes_on true on = record { behind = (more (reading_after r line)).entries; joined = ap (λ (t : Told). t.entries) (line_goes_on number r line more on) }
-    by_goes_on false off = record { behind = []; joined = ap (λ (t : Told). t.entries) (line_stops number r line more off) ∙ sym (append-nil (line_given r line).entries) }
+line_begins number r line more = record { behind = (more (reading_after r line)).entries; joined = refl }
 
 took_by : (number : ℕ) (r : Reading) (line : List ℕ) (says : Option Line) → line_of line ≡ says → (old new : Feeder) (out out' : SinkView) → TreatsLine r says old new out out' (Ok tt) → Took number r line old new
 took_by number r line None is old new out out' h = absurd (elim h.refused [ inl e ↦ cc | inr e ↦ cc ])
 took_by number r line (Some says) is old new out out' h = record {
   next = reading_after r says;
   goes_on = λ lines.
-      ap (told_behind old.core.history) (ap (λ (o : Option Line). line_told number r o (λ next. feed_lines (number + 1) next lines)) is ∙ line_goes_on number r says (λ next. feed_lines (number + 1) next lines) h.goes.went.2)
+      ap (told_behind old.core.history) (ap (λ (o : Option Line). line_told number r o (λ next. feed_lines (number + 1) next lines)) is)
       ∙ behind_told old.core.history (line_given r says).entries (feed_lines (number + 1) (reading_after r says) lines) new.core.history h.goes.went.0;
   is = h.reading;
 }
@@ -95,14 +93,14 @@ said number r line lines says is = ap (λ (o : Option Line). line_told number r 
 abbrev failed : Halt → Result (Unit {0}) Halt
 failed why = Err why
 
-refused_stops : (number : ℕ) (history history' : List Entry) (why : Halt) (more : Told) → (failed why ≡ failed (halt.Line 0)) ⊎ (failed why ≡ failed halt.NoMemory) → history' ≡ history → more ≡ record { entries = []; stop = OutsideGrammar number } → StoppedAs (told_behind history more) history' number why
-refused_stops number history history' (halt.Line place) more (inl e) stays is = (cc, ap (told_behind history) is ∙ ap (λ (es : List Entry). record { entries = es; stop = OutsideGrammar number }) (append-nil history ∙ sym stays))
-refused_stops number history history' (halt.Line place) more (inr e) stays is = absurd (cc)
-refused_stops number history history' halt.NotBuilt more (inl e) stays is = absurd (cc)
-refused_stops number history history' halt.NotBuilt more (inr e) stays is = absurd (cc)
-refused_stops number history history' halt.Write more (inl e) stays is = absurd (cc)
-refused_stops number history history' halt.Write more (inr e) stays is = absurd (cc)
-refused_stops number history history' halt.NoMemory more e stays is = rw stays (IsFront-append history more.entries)
+refused_stops : (c : Config) (number : ℕ) (history history' : List Entry) (why : Halt) (more : Told) → (failed why ≡ failed (halt.Line 0)) ⊎ (failed why ≡ failed halt.NoMemory) → history' ≡ history → more ≡ record { entries = []; stop = OutsideGrammar number } → StoppedAs c (told_behind history more) history' number why
+refused_stops c number history history' (halt.Line place) more (inl e) stays is = (cc, ap (told_behind history) is ∙ ap (λ (es : List Entry). record { entries = es; stop = OutsideGrammar number }) (append-nil history ∙ sym stays))
+refused_stops c number history history' (halt.Line place) more (inr e) stays is = absurd (cc)
+refused_stops c number history history' halt.Full more (inl e) stays is = absurd (cc)
+refused_stops c number history history' halt.Full more (inr e) stays is = absurd (cc)
+refused_stops c number history history' halt.Write more (inl e) stays is = absurd (cc)
+refused_stops c number history history' halt.Write more (inr e) stays is = absurd (cc)
+refused_stops c number history history' halt.NoMemory more e stays is = rw stays (IsFront-append history more.entries)
 
 front_wider : (front history given : List Entry) (told : Told) → IsFront given told.entries → IsFront front (history ++ given) → IsFront front (told_behind history told).entries
 front_wider front history given told begins h =
@@ -112,41 +110,52 @@ front_wider front history given told begins h =
       joined = ap (λ (es : List Entry). history ++ es) all ∙ sym (append_assoc history given begins.behind) ∙ ap (λ (es : List Entry). es ++ begins.behind) h.joined ∙ append_assoc front h.behind begins.behind;
     }
 
-taken_stops : (number : ℕ) (r : Reading) (says : Line) (more : Reading → Told) (core core' : CoreView) (why : Halt) → WentOn core core' (line_given r says) (Err why) → StoppedAs (told_behind core.history (line_told number r (Some says) more)) core'.history number why
+-- what the entries of a line leave out of the limits, all leave out
+full_wider : (c : Config) (now history given : List Entry) (told : Told) → IsFront given told.entries → IsFullAt c now (history ++ given) → IsFullAt c now (told_behind history told).entries
+full_wider c now history given told begins h =
+    let all : told.entries ≡ given ++ begins.behind = begins.joined in
+    record {
+      next = h.next;
+      behind = h.behind ++ begins.behind;
+      joined = ap (λ (es : List Entry). history ++ es) all ∙ sym (append_assoc history given begins.behind) ∙ ap (λ (es : List Entry). es ++ begins.behind) h.joined ∙ append_assoc now (h.next ∷ h.behind) begins.behind;
+      full = h.full;
+    }
+
+taken_stops : (number : ℕ) (r : Reading) (says : Line) (more : Reading → Told) (core core' : CoreView) (why : Halt) → WentOn core core' (line_given r says) (Err why) → StoppedAs core.config (told_behind core.history (line_told number r (Some says) more)) core'.history number why
 taken_stops number r says more core core' (halt.Line place) went = absurd went
-taken_stops number r says more core core' halt.NotBuilt went =
-    ap (told_behind core.history) (line_stops number r says more went.1) ∙ ap (λ (es : List Entry). record { entries = es; stop = NotBuilt number }) (sym went.0)
+taken_stops number r says more core core' halt.Full went =
+    full_wider core.config core'.history core.history (line_given r says).entries (line_told number r (Some says) more) (line_begins number r says more) went
 taken_stops number r says more core core' halt.Write went =
     front_wider core'.history core.history (line_given r says).entries (line_told number r (Some says) more) (line_begins number r says more) went
 taken_stops number r says more core core' halt.NoMemory went =
     front_wider core'.history core.history (line_given r says).entries (line_told number r (Some says) more) (line_begins number r says more) went
 
-stopped_by : (number : ℕ) (r : Reading) (line : List ℕ) (says : Option Line) → line_of line ≡ says → (old new : Feeder) (out out' : SinkView) (why : Halt) → TreatsLine r says old new out out' (Err why) → (lines : List (List ℕ)) → StoppedAs (told_behind old.core.history (feed_lines number r (line ∷ lines))) new.core.history number why
+stopped_by : (number : ℕ) (r : Reading) (line : List ℕ) (says : Option Line) → line_of line ≡ says → (old new : Feeder) (out out' : SinkView) (why : Halt) → TreatsLine r says old new out out' (Err why) → (lines : List (List ℕ)) → StoppedAs old.core.config (told_behind old.core.history (feed_lines number r (line ∷ lines))) new.core.history number why
 stopped_by number r line None is old new out out' why h lines =
-    refused_stops number old.core.history new.core.history why (feed_lines number r (line ∷ lines)) h.refused (ap (λ (c : CoreView). c.history) h.core_stays) (said number r line lines None is)
+    refused_stops old.core.config number old.core.history new.core.history why (feed_lines number r (line ∷ lines)) h.refused (ap (λ (c : CoreView). c.history) h.core_stays) (said number r line lines None is)
 stopped_by number r line (Some says) is old new out out' why h lines =
     rw (said number r line lines (Some says) is) (taken_stops number r says (more_lines number lines) old.core new.core why h.goes.went)
 
-pub stopped : (number : ℕ) (r : Reading) (line : List ℕ) (old new : Feeder) (out out' : SinkView) (why : Halt) → TreatsLine r (line_of line) old new out out' (Err why) → (lines : List (List ℕ)) → StoppedAs (told_behind old.core.history (feed_lines number r (line ∷ lines))) new.core.history number why
+pub stopped : (number : ℕ) (r : Reading) (line : List ℕ) (old new : Feeder) (out out' : SinkView) (why : Halt) → TreatsLine r (line_of line) old new out out' (Err why) → (lines : List (List ℕ)) → StoppedAs old.core.config (told_behind old.core.history (feed_lines number r (line ∷ lines))) new.core.history number why
 stopped number r line old new out out' why h lines = stopped_by number r line (line_of line) refl old new out out' why h lines
 
 -- ---- the text
 
 -- the text and whatever follows it goes on from the part of a line
-pub text_goes : (text : List ℕ) (reader : Reader) (stands : Stands text reader) (more : List ℕ) → feed_entries (text ++ more) ≡ told_behind reader.feeder.core.history (feed_lines reader.number stands.reading (lines_of (reader.line.items ++ more)))
+pub text_goes : (text : List ℕ) (reader : Reader) (stands : Stands text reader) (more : List ℕ) → feed_entries reader.feeder.core.config (text ++ more) ≡ told_behind reader.feeder.core.history (feed_lines reader.number stands.reading (lines_of (reader.line.items ++ more)))
 text_goes text reader stands more =
-    ap (λ (t : List ℕ). feed_entries (t ++ more)) stands.text_is
-    ∙ ap feed_entries (append_assoc stands.whole reader.line.items more)
+    ap (λ (t : List ℕ). feed_entries reader.feeder.core.config (t ++ more)) stands.text_is
+    ∙ ap (feed_entries reader.feeder.core.config) (append_assoc stands.whole reader.line.items more)
     ∙ stands.goes_on (reader.line.items ++ more)
 
-pub Stands-open : (reader : Reader) → reader.line.items ≡ [] → reader.number ≡ 1 → reader.feeder.core.history ≡ [] → IsReading first_reading reader.feeder.core reader.feeder.cutter → Stands [] reader
-Stands-open reader line number history is = record {
+pub Stands-open : (c : Config) (reader : Reader) → reader.line.items ≡ [] → reader.number ≡ 1 → reader.feeder.core.history ≡ [] → reader.feeder.core.config ≡ c → IsReading (first_reading c) reader.feeder.core reader.feeder.cutter → Stands [] reader
+Stands-open c reader line number history config is = record {
   whole = [];
-  reading = first_reading;
+  reading = first_reading c;
   text_is = sym line;
   line = rw line refl;
   ends = λ part one. whole-none part one;
-  goes_on = λ more. rw (number, history) refl;
+  goes_on = λ more. rw (number, history, config) refl;
   is = is;
 }
 
@@ -157,13 +166,13 @@ Stands-push text byte old new other stands line feeder number = record {
   text_is = ap (λ (t : List ℕ). t ++ byte ∷ []) stands.text_is ∙ append_assoc stands.whole old.line.items (byte ∷ []) ∙ ap (λ (l : List ℕ). stands.whole ++ l) (sym line);
   line = rw line (IsOneLine-more old.line.items byte stands.line other);
   ends = stands.ends;
-  goes_on = λ more. stands.goes_on more ∙ ap (λ (n : ℕ). told_behind old.feeder.core.history (feed_lines n stands.reading (lines_of more))) (sym number) ∙ ap (λ (f : Feeder). told_behind f.core.history (feed_lines new.number stands.reading (lines_of more))) (sym feeder);
+  goes_on = λ more. ap (λ (f : Feeder). feed_entries f.core.config (stands.whole ++ more)) feeder ∙ stands.goes_on more ∙ ap (λ (n : ℕ). told_behind old.feeder.core.history (feed_lines n stands.reading (lines_of more))) (sym number) ∙ ap (λ (f : Feeder). told_behind f.core.history (feed_lines new.number stands.reading (lines_of more))) (sym feeder);
   is = subst (λ (f : Feeder). IsReading stands.reading f.core f.cutter) (sym feeder) stands.is;
 }
 
-pub Stands-memory : (text bytes more : List ℕ) (reader : Reader) → Stands text reader → StoppedAs (feed_entries ((text ++ bytes) ++ more)) reader.feeder.core.history reader.number halt.NoMemory
+pub Stands-memory : (text bytes more : List ℕ) (reader : Reader) → Stands text reader → StoppedAs reader.feeder.core.config (feed_entries reader.feeder.core.config ((text ++ bytes) ++ more)) reader.feeder.core.history reader.number halt.NoMemory
 Stands-memory text bytes more reader stands =
-    let goes = ap feed_entries (append_assoc text bytes more) ∙ text_goes text reader stands (bytes ++ more) in
+    let goes = ap (feed_entries reader.feeder.core.config) (append_assoc text bytes more) ∙ text_goes text reader stands (bytes ++ more) in
     rw goes (IsFront-append reader.feeder.core.history _)
 
 long_told : (number : ℕ) (r : Reading) (history : List Entry) (line : List ℕ) (lines : List (List ℕ)) → line_bytes < length line → told_behind history (feed_lines number r (line ∷ lines)) ≡ record { entries = history; stop = OutsideGrammar number }
@@ -176,17 +185,17 @@ long_text number r history (b ∷ front) text one long =
     let f = first-long b front text one in
     ap (λ (ls : List (List ℕ)). told_behind history (feed_lines number r ls)) f.lines ∙ long_told number r history f.first f.rest (omega (arith, f.long, long))
 
-pub Stands-long : (text : List ℕ) (byte : ℕ) (more : List ℕ) (reader : Reader) → byte ≢ 10 → line_bytes ≤ length reader.line.items → Stands text reader → StoppedAs (feed_entries ((text ++ byte ∷ []) ++ more)) reader.feeder.core.history reader.number (halt.Line 0)
+pub Stands-long : (text : List ℕ) (byte : ℕ) (more : List ℕ) (reader : Reader) → byte ≢ 10 → line_bytes ≤ length reader.line.items → Stands text reader → StoppedAs reader.feeder.core.config (feed_entries reader.feeder.core.config ((text ++ byte ∷ []) ++ more)) reader.feeder.core.history reader.number (halt.Line 0)
 Stands-long text byte more reader other long stands =
-    let goes = ap feed_entries (append_assoc text (byte ∷ []) more) ∙ text_goes text reader stands ((byte ∷ []) ++ more) in
+    let goes = ap (feed_entries reader.feeder.core.config) (append_assoc text (byte ∷ []) more) ∙ text_goes text reader stands ((byte ∷ []) ++ more) in
     let regrouped = ap (λ (t : List ℕ). told_behind reader.feeder.core.history (feed_lines reader.number stands.reading (lines_of t))) (sym (append_assoc reader.line.items (byte ∷ []) more)) in
     let size : line_bytes < length (reader.line.items ++ byte ∷ []) = omega (arith, length-append reader.line.items (byte ∷ []), long) in
     (refl, goes ∙ regrouped ∙ long_text reader.number stands.reading reader.feeder.core.history (reader.line.items ++ byte ∷ []) more (IsOneLine-more reader.line.items byte stands.line other) size)
 
 -- a line feed comes
-line_goes : (text more : List ℕ) (reader : Reader) (stands : Stands text reader) → feed_entries ((text ++ 10 ∷ []) ++ more) ≡ told_behind reader.feeder.core.history (feed_lines reader.number stands.reading (reader.line.items ∷ lines_of more))
+line_goes : (text more : List ℕ) (reader : Reader) (stands : Stands text reader) → feed_entries reader.feeder.core.config ((text ++ 10 ∷ []) ++ more) ≡ told_behind reader.feeder.core.history (feed_lines reader.number stands.reading (reader.line.items ∷ lines_of more))
 line_goes text more reader stands =
-    ap feed_entries (append_assoc text (10 ∷ []) more) ∙ text_goes text reader stands ((10 ∷ []) ++ more)
+    ap (feed_entries reader.feeder.core.config) (append_assoc text (10 ∷ []) more) ∙ text_goes text reader stands ((10 ∷ []) ++ more)
     ∙ ap (λ (ls : List (List ℕ)). told_behind reader.feeder.core.history (feed_lines reader.number stands.reading ls)) (lines-line reader.line.items more stands.line)
 
 pub Stands-line : (text : List ℕ) (old new : Reader) (out out' : SinkView) (stands : Stands text old) → TreatsLine stands.reading (line_of old.line.items) old.feeder new.feeder out out' (Ok tt) → new.line.items ≡ [] → new.number ≡ old.number + 1 → Stands (text ++ 10 ∷ []) new
@@ -198,23 +207,25 @@ Stands-line text old new out out' stands treats line number =
       text_is = rw line (sym (append-nil (text ++ 10 ∷ [])));
       line = rw line refl;
       ends = λ part none. ap whole_lines (append_assoc text (10 ∷ []) part) ∙ whole-feed text part ∙ ap (λ (bs : List ℕ). text ++ 10 ∷ bs) (whole-none part none);
-      goes_on = λ more. line_goes text more old stands ∙ one.goes_on (lines_of more) ∙ ap (λ (n : ℕ). told_behind new.feeder.core.history (feed_lines n one.next (lines_of more))) (sym number);
+      goes_on = λ more. ap (λ (c : Config). feed_entries c ((text ++ 10 ∷ []) ++ more)) (line_config stands.reading (line_of old.line.items) old.feeder new.feeder out out' (Ok tt) treats) ∙ line_goes text more old stands ∙ one.goes_on (lines_of more) ∙ ap (λ (n : ℕ). told_behind new.feeder.core.history (feed_lines n one.next (lines_of more))) (sym number);
       is = one.is;
     }
 
-pub Stands-line-stopped : (text more : List ℕ) (old : Reader) (new : Feeder) (out out' : SinkView) (why : Halt) (stands : Stands text old) → TreatsLine stands.reading (line_of old.line.items) old.feeder new out out' (Err why) → StoppedAs (feed_entries ((text ++ 10 ∷ []) ++ more)) new.core.history old.number why
+pub Stands-line-stopped : (text more : List ℕ) (old : Reader) (new : Feeder) (out out' : SinkView) (why : Halt) (stands : Stands text old) → TreatsLine stands.reading (line_of old.line.items) old.feeder new out out' (Err why) → StoppedAs new.core.config (feed_entries new.core.config ((text ++ 10 ∷ []) ++ more)) new.core.history old.number why
 Stands-line-stopped text more old new out out' why stands treats =
-    rw (line_goes text more old stands) (stopped old.number stands.reading old.line.items old.feeder new out out' why treats (lines_of more))
+    subst (λ (c : Config). StoppedAs c (feed_entries c ((text ++ 10 ∷ []) ++ more)) new.core.history old.number why)
+    (sym (line_config stands.reading (line_of old.line.items) old.feeder new out out' (Err why) treats))
+    (rw (line_goes text more old stands) (stopped old.number stands.reading old.line.items old.feeder new out out' why treats (lines_of more)))
 
 -- ---- the end of the text
 
-at_end : (text : List ℕ) (reader : Reader) (stands : Stands text reader) → feed_entries text ≡ told_behind reader.feeder.core.history (feed_lines reader.number stands.reading (lines_of reader.line.items))
+at_end : (text : List ℕ) (reader : Reader) (stands : Stands text reader) → feed_entries reader.feeder.core.config text ≡ told_behind reader.feeder.core.history (feed_lines reader.number stands.reading (lines_of reader.line.items))
 at_end text reader stands =
-    ap feed_entries (sym (append-nil text)) ∙ text_goes text reader stands []
+    ap (feed_entries reader.feeder.core.config) (sym (append-nil text)) ∙ text_goes text reader stands []
     ∙ ap (λ (t : List ℕ). told_behind reader.feeder.core.history (feed_lines reader.number stands.reading (lines_of t))) (append-nil reader.line.items)
 
 -- nothing came of a last line
-pub ends-empty : (text : List ℕ) (reader : Reader) → Stands text reader → reader.line.items ≡ [] → feed_entries text ≡ record { entries = reader.feeder.core.history; stop = AllRead }
+pub ends-empty : (text : List ℕ) (reader : Reader) → Stands text reader → reader.line.items ≡ [] → feed_entries reader.feeder.core.config text ≡ record { entries = reader.feeder.core.history; stop = AllRead }
 ends-empty text reader stands none =
     at_end text reader stands
     ∙ ap (λ (t : List ℕ). told_behind reader.feeder.core.history (feed_lines reader.number stands.reading (lines_of t))) none
@@ -227,18 +238,22 @@ last_line (b ∷ line) one some = lines-last b line one
 pub ends-line : (text : List ℕ) (old : Reader) (new : Feeder) (number : ℕ) (out out' : SinkView) (result : Result (Unit {0}) Halt) (stands : Stands text old) → old.line.items ≢ [] → TreatsLine stands.reading (line_of old.line.items) old.feeder new out out' result → AllOrStopped text (record { feeder = new; line = old.line; number = old.number }) result
 ends-line text old new number out out' (Ok done) stands some treats =
     let one = took old.number stands.reading old.line.items old.feeder new out out' treats in
-    at_end text old stands
+    ap (λ (c : Config). feed_entries c text) (line_config stands.reading (line_of old.line.items) old.feeder new out out' (Ok tt) treats)
+    ∙ at_end text old stands
     ∙ ap (λ (ls : List (List ℕ)). told_behind old.feeder.core.history (feed_lines old.number stands.reading ls)) (last_line old.line.items stands.line some)
     ∙ one.goes_on []
     ∙ ap (λ (es : List Entry). record { entries = es; stop = AllRead }) (append-nil new.core.history)
 ends-line text old new number out out' (Err why) stands some treats =
-    rw (at_end text old stands ∙ ap (λ (ls : List (List ℕ)). told_behind old.feeder.core.history (feed_lines old.number stands.reading ls)) (last_line old.line.items stands.line some))
-    (stopped old.number stands.reading old.line.items old.feeder new out out' why treats [])
+    subst (λ (c : Config). StoppedAs c (feed_entries c text) new.core.history old.number why)
+    (sym (line_config stands.reading (line_of old.line.items) old.feeder new out out' (Err why) treats))
+    (rw (at_end text old stands ∙ ap (λ (ls : List (List ℕ)). told_behind old.feeder.core.history (feed_lines old.number stands.reading ls)) (last_line old.line.items stands.line some))
+    (stopped old.number stands.reading old.line.items old.feeder new out out' why treats []))
 
 -- ---- one piece after another
 
 pub Prints-then : (a b c : CoreView) (o1 o2 o3 : SinkView) (result : Result (Unit {0}) Halt) → Prints a b o1 o2 (Ok tt) → Prints b c o2 o3 result → Prints a c o1 o3 result
 Prints-then a b c o1 o2 o3 result h i = record {
+  config = i.config ∙ h.config;
   shows = λ start shows. i.shows start (h.shows start shows);
   cause = λ e. Failed-wider o1.faults o2.faults o3.faults o1.refusals o2.refusals o3.refusals h.faults_stay i.faults_stay h.refusals_stay i.refusals_stay (i.cause e);
   faults_stay = omega (arith, h.faults_stay, i.faults_stay);
@@ -257,7 +272,7 @@ Takes-then text front bytes a b c o1 o2 o3 result h i = record {
 -- a reader that stopped has stopped whatever follows
 pub Takes-stopped : (text front bytes : List ℕ) (a c : Reader) (o1 o3 : SinkView) (why : Halt) → Takes text front a c o1 o3 (Err why) → Takes text (front ++ bytes) a c o1 o3 (Err why)
 Takes-stopped text front bytes a c o1 o3 why h = record {
-  stands = λ more. subst (λ (t : List ℕ). StoppedAs (feed_entries t) c.feeder.core.history c.number why)
+  stands = λ more. subst (λ (t : List ℕ). StoppedAs c.feeder.core.config (feed_entries c.feeder.core.config t) c.feeder.core.history c.number why)
       (sym (append_assoc (text ++ front) bytes more) ∙ ap (λ (t : List ℕ). t ++ more) (append_assoc text front bytes))
       (h.stands (bytes ++ more));
   prints = h.prints;
@@ -270,10 +285,10 @@ Takes-nothing text reader out stands = record {
 }
 
 -- the whole lines of the text gave the history
-pub Stands-whole : (text : List ℕ) (reader : Reader) → Stands text reader → feed_entries (whole_lines text) ≡ record { entries = reader.feeder.core.history; stop = AllRead }
+pub Stands-whole : (text : List ℕ) (reader : Reader) → Stands text reader → feed_entries reader.feeder.core.config (whole_lines text) ≡ record { entries = reader.feeder.core.history; stop = AllRead }
 Stands-whole text reader stands =
-    ap (λ (t : List ℕ). feed_entries (whole_lines t)) stands.text_is
-    ∙ ap feed_entries (stands.ends reader.line.items stands.line)
-    ∙ ap feed_entries (sym (append-nil stands.whole))
+    ap (λ (t : List ℕ). feed_entries reader.feeder.core.config (whole_lines t)) stands.text_is
+    ∙ ap (feed_entries reader.feeder.core.config) (stands.ends reader.line.items stands.line)
+    ∙ ap (feed_entries reader.feeder.core.config) (sym (append-nil stands.whole))
     ∙ stands.goes_on []
     ∙ ap (λ (es : List Entry). record { entries = es; stop = AllRead }) (append-nil reader.feeder.core.history)

@@ -1,23 +1,23 @@
 -- Which cause the end of an input is, and what a refused configuration is.
-use Rattle.std.specs.Prelude.{ℕ, ◌-◌, ◌^◌, ⊤, min, List, length}
+use Rattle.std.specs.Prelude.{ℕ, ⊤, List, length}
 use Rattle.outside.specs.Counts.{Rose}
-use Rattle.tool_events.specs.declared.Entry.{Entry}
+use Rattle.tool_events.specs.declared.entry.Entry.{Entry}
 use Rattle.gem_model.specs.Sizes.{bytes_of}
 use Rattle.gem300_tool.specs.declared.ended.Cause.{Cause}
 use Rattle.gem300_tool.specs.declared.ended.Cause.TheVariants as cause
 use Rattle.gem300_tool.specs.declared.halt.Halt.TheVariants as halt
 use Rattle.gem300_tool.specs.declared.input.InputEnd.{InputEnd}
 use Rattle.gem300_tool.specs.declared.input.InputEnd.TheVariants as input
-use Rattle.gem300_tool.specs.Fed.{SourceView, IsRefused, input_bytes}
+use Rattle.gem300_tool.specs.Fed.{SourceView, IsRefused}
 
-abbrev pub cause_after : InputEnd → List Entry → ℕ → Cause
-cause_after input.Whole history number = cause.Done
-cause_after input.Fault history number = cause.ReadFault
-cause_after input.Bound history number = cause.Full (length history) (min (bytes_of history) (2 ^ 64 - 1)) input_bytes
-cause_after (input.Halted (halt.Line place)) history number = cause.Line number place
-cause_after (input.Halted halt.NotBuilt) history number = cause.NotBuilt number
-cause_after (input.Halted halt.Write) history number = cause.WriteFault
-cause_after (input.Halted halt.NoMemory) history number = cause.NoMemory
+abbrev pub cause_after : InputEnd → ℕ → List Entry → ℕ → Cause
+cause_after input.Whole count history number = cause.Done
+cause_after input.Fault count history number = cause.ReadFault
+cause_after input.Bound count history number = cause.Full (length history) (bytes_of history) count
+cause_after (input.Halted (halt.Line place)) count history number = cause.Line number place
+cause_after (input.Halted halt.Full) count history number = cause.Full (length history) (bytes_of history) count
+cause_after (input.Halted halt.Write) count history number = cause.WriteFault
+cause_after (input.Halted halt.NoMemory) count history number = cause.NoMemory
 
 -- why no configuration was taken
 abbrev pub Refuses : Cause → SourceView → SourceView → Type 0
@@ -29,4 +29,3 @@ Refuses (cause.Words place) config config' = ⊥
 Refuses cause.WriteFault config config' = ⊥
 Refuses (cause.Full entries bytes input) config config' = ⊥
 Refuses (cause.Line number place) config config' = ⊥
-Refuses (cause.NotBuilt number) config config' = ⊥

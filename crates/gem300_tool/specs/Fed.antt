@@ -1,17 +1,19 @@
 -- What a run of feed did, by how it ended.
-use Rattle.std.specs.Prelude.{◌≡◌, ◌≢◌, ◌⊎◌, ℕ, ◌-◌, ◌^◌, ◌<◌, ◌≤◌, ⊤, min, List, [], length, Option}
+use Rattle.std.specs.Prelude.{◌≡◌, ◌≢◌, ◌⊎◌, ℕ, ◌<◌, ◌≤◌, ⊤, List, [], length, Option}
 use Rattle.outside.specs.Counts.{Rose}
 use Rattle.outside.specs.Told.{Taken, Written}
-use Rattle.tool_events.specs.declared.Entry.{Entry}
+use Rattle.tool_events.specs.declared.entry.Entry.{Entry}
+use Rattle.tool_events.specs.declared.config.Config.{Config}
 use Rattle.gem_model.specs.Front.{IsFront}
 use Rattle.gem_model.specs.State.{opening}
 use Rattle.gem_model.specs.Sizes.{bytes_of}
 use Rattle.gem_model.specs.Command.{known_configuration, configuration_bytes}
 use Rattle.gem_model.specs.Lines.{whole_lines}
-use Rattle.gem_model.specs.Feed.{AllRead, OutsideGrammar, NotBuilt, feed_entries}
+use Rattle.gem_model.specs.Feed.{AllRead, OutsideGrammar, feed_entries}
 use Rattle.gem_model.specs.Printed.{printed}
 use Rattle.gem300_tool.specs.declared.ended.Cause.{Cause}
 use Rattle.gem300_tool.specs.declared.ended.Cause.TheVariants as cause
+use Rattle.gem300_tool.specs.Limits.{IsFullAt}
 use Rattle.gem300_tool.specs.Input.{Whole}
 use Rattle.gem300_tool.specs.Printing.{WrittenFront}
 
@@ -28,40 +30,43 @@ pub record SourceView : Type 0 where
 abbrev pub looked : {S : Type 0} → (S → Option (List ℕ)) → (S → ℕ) → (S → ℕ) → S → SourceView
 looked left faults ends source = record { left = left source; faults = faults source; ends = ends source }
 
+-- the bound on the input was met behind whole lines
+abbrev pub MeetsBound : Config → List ℕ → List Entry → Type 0
+MeetsBound c text history =
+    (feed_entries c (whole_lines text) ≡ record { entries = history; stop = AllRead }) × (length text ≡ input_bytes)
+
 -- The history is what the text gave: all of it; of its whole lines, where the reading broke off; up to a line that
--- stopped it; or, after want of memory or a write fault, a front of it.
-abbrev pub FedBy : Cause → List ℕ → List Entry → Type 0
-FedBy cause.Done text history = feed_entries text ≡ record { entries = history; stop = AllRead }
-FedBy cause.ReadFault text history = feed_entries (whole_lines text) ≡ record { entries = history; stop = AllRead }
-FedBy (cause.Full entries bytes input) text history =
-    (feed_entries (whole_lines text) ≡ record { entries = history; stop = AllRead })
-    × (length text ≡ input_bytes) × (entries ≡ length history) × (bytes ≡ min (bytes_of history) (2 ^ 64 - 1)) × (input ≡ input_bytes)
-FedBy (cause.Line number place) text history = (place ≡ 0) × (feed_entries text ≡ record { entries = history; stop = OutsideGrammar number })
-FedBy (cause.NotBuilt number) text history = feed_entries text ≡ record { entries = history; stop = NotBuilt number }
-FedBy cause.WriteFault text history = IsFront history (feed_entries text).entries
-FedBy cause.NoMemory text history = IsFront history (feed_entries text).entries
-FedBy (cause.Words place) text history = (text ≡ []) × (history ≡ [])
-FedBy (cause.Config rule key) text history = (text ≡ []) × (history ≡ [])
+-- stopped it; up to an entry that doesn't fit the limits; or, after want of memory or a write fault, a front of it.
+abbrev pub FedBy : Config → Cause → List ℕ → List Entry → Type 0
+FedBy c cause.Done text history = feed_entries c text ≡ record { entries = history; stop = AllRead }
+FedBy c cause.ReadFault text history = feed_entries c (whole_lines text) ≡ record { entries = history; stop = AllRead }
+FedBy c (cause.Full entries bytes input) text history =
+    (MeetsBound c text history ⊎ IsFullAt c history (feed_entries c text).entries)
+    × (entries ≡ length history) × (bytes ≡ bytes_of history) × (input ≡ length text)
+FedBy c (cause.Line number place) text history = (place ≡ 0) × (feed_entries c text ≡ record { entries = history; stop = OutsideGrammar number })
+FedBy c cause.WriteFault text history = IsFront history (feed_entries c text).entries
+FedBy c cause.NoMemory text history = IsFront history (feed_entries c text).entries
+FedBy c (cause.Words place) text history = (text ≡ []) × (history ≡ [])
+FedBy c (cause.Config rule key) text history = (text ≡ []) × (history ≡ [])
 
 -- this text was read of the input, and gave the history
-abbrev pub Fed : Cause → SourceView → SourceView → List Entry → Type 0
-Fed cause input input' history = (text : List ℕ) × Taken input.left input'.left text × FedBy cause text history
+abbrev pub Fed : Config → Cause → SourceView → SourceView → List Entry → Type 0
+Fed c cause input input' history = (text : List ℕ) × Taken input.left input'.left text × FedBy c cause text history
 
 -- done only where the input was read to its end
 abbrev pub ReadToEnd : SourceView → SourceView → Type 0
 ReadToEnd input input' = Rose input.ends input'.ends × ((text : List ℕ) → Taken input.left input'.left text → Whole input.left text)
 
 -- behind what was held the lines of the history are out, all of them, or, after want of memory or a write fault, a front
-abbrev pub Shown : Cause → Option (List ℕ) → Option (List ℕ) → List Entry → Type 0
-Shown cause.WriteFault held held' history = WrittenFront held held' (printed opening history)
-Shown cause.NoMemory held held' history = WrittenFront held held' (printed opening history)
-Shown cause.Done held held' history = Written held held' (printed opening history)
-Shown cause.ReadFault held held' history = Written held held' (printed opening history)
-Shown (cause.Full entries bytes input) held held' history = Written held held' (printed opening history)
-Shown (cause.Line number place) held held' history = Written held held' (printed opening history)
-Shown (cause.NotBuilt number) held held' history = Written held held' (printed opening history)
-Shown (cause.Words place) held held' history = Written held held' (printed opening history)
-Shown (cause.Config rule key) held held' history = Written held held' (printed opening history)
+abbrev pub Shown : Config → Cause → Option (List ℕ) → Option (List ℕ) → List Entry → Type 0
+Shown c cause.WriteFault held held' history = WrittenFront held held' (printed (opening c) history)
+Shown c cause.NoMemory held held' history = WrittenFront held held' (printed (opening c) history)
+Shown c cause.Done held held' history = Written held held' (printed (opening c) history)
+Shown c cause.ReadFault held held' history = Written held held' (printed (opening c) history)
+Shown c (cause.Full entries bytes input) held held' history = Written held held' (printed (opening c) history)
+Shown c (cause.Line number place) held held' history = Written held held' (printed (opening c) history)
+Shown c (cause.Words place) held held' history = Written held held' (printed (opening c) history)
+Shown c (cause.Config rule key) held held' history = Written held held' (printed (opening c) history)
 
 -- the configuration was read to its end, and is the one that is known
 pub record IsKnown (config config' : SourceView) : Type 0 where
@@ -89,4 +94,3 @@ Configured cause.WriteFault config config' history = IsKnown config config'
 Configured cause.Done config config' history = IsKnown config config'
 Configured (cause.Full entries bytes input) config config' history = IsKnown config config'
 Configured (cause.Line number place) config config' history = IsKnown config config'
-Configured (cause.NotBuilt number) config config' history = IsKnown config config'

@@ -3,6 +3,7 @@ pub mod Lines
 pub mod OutLine
 pub mod Printing
 pub mod Counts
+pub mod Limits
 pub mod Going
 pub mod Reading
 pub mod Cuts

@@ -7,4 +7,5 @@ abbrev pub line_view : Line → model.Line
 line_view code.Skip = model.Skip
 line_view code.Up = model.Up
 line_view code.Down = model.Down
+line_view (code.Time at) = model.Time at.0
 line_view (code.Bytes bytes) = model.Bytes bytes

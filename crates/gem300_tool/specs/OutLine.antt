@@ -1,16 +1,17 @@
 -- What the code's output lines say.
-use Rattle.std.specs.Prelude.{ℕ, List, [], ◌++◌, codes, Option, Some, None}
+use Rattle.std.specs.Prelude.{ℕ, List, [], ◌++◌, codes, Option, Some, None, if◌then◌else◌}
 use Rattle.std.specs.Fmt.{decimal}
 use Rattle.hex.specs.Hex.{encode_upper}
-use Rattle.tool_events.specs.declared.SessionCause.{SessionCause}
+use Rattle.tool_events.specs.declared.event.SessionCause.{SessionCause}
 use Rattle.gem_model.specs.Printed.{ended_line, end_lines}
 use Rattle.gem300_tool.specs.declared.print.OutLine.{OutLine}
-use Rattle.gem300_tool.specs.declared.print.OutLine.TheVariants.{Up, Ended, Frame}
+use Rattle.gem300_tool.specs.declared.print.OutLine.TheVariants.{Up, Ended, Frame, Oper}
 
 abbrev pub out_line_bytes : OutLine → List ℕ
 out_line_bytes (Up k) = ended_line (codes "+ " ++ decimal k)
 out_line_bytes (Ended k cause) = end_lines k (Some cause)
 out_line_bytes (Frame frame) = ended_line (codes "> " ++ encode_upper frame)
+out_line_bytes (Oper accepted) = ended_line (if accepted then codes "= ok" else codes "= no")
 
 -- a line, or none
 abbrev pub lines_bytes : Option OutLine → List ℕ

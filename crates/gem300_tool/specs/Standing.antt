@@ -1,14 +1,16 @@
 -- Where the reader of a text stands.
 use Rattle.std.specs.Prelude.{◌≡◌, ℕ, ◌≤◌, false, ◌==◌, List, ◌++◌, Option, Result, Ok, Err, IsErrOf}
 use Rattle.std.specs.List.{list_any}
-use Rattle.tool_events.specs.declared.Entry.{Entry}
+use Rattle.tool_events.specs.declared.entry.Entry.{Entry}
+use Rattle.tool_events.specs.declared.config.Config.{Config}
 use Rattle.gem_model.specs.Front.{IsFront}
 use Rattle.gem_model.specs.Lines.{lines_of, whole_lines}
-use Rattle.gem_model.specs.Feed.{Reading, Told, AllRead, OutsideGrammar, NotBuilt, feed_lines, feed_entries, told_behind}
+use Rattle.gem_model.specs.Feed.{Reading, Told, AllRead, OutsideGrammar, feed_lines, feed_entries, told_behind}
 use Rattle.tool_core.specs.CoreView.{CoreView}
 use Rattle.gem300_tool.specs.declared.halt.Halt.{Halt}
 use Rattle.gem300_tool.specs.declared.halt.Halt.TheVariants as halt
 use Rattle.gem300_tool.specs.declared.reader.Reader.{Reader}
+use Rattle.gem300_tool.specs.Limits.{IsFullAt}
 use Rattle.gem300_tool.specs.Counts.{Failed}
 use Rattle.gem300_tool.specs.Going.{SinkView, Shows, ShowsAtEnd}
 use Rattle.gem300_tool.specs.Reading.{IsReading}
@@ -25,18 +27,20 @@ pub record Stands (text : List ℕ) (reader : Reader) : Type 0 where
   pub text_is : text ≡ whole ++ reader.line.items
   pub line : IsOneLine reader.line.items
   pub ends : (part : List ℕ) → IsOneLine part → whole_lines (whole ++ part) ≡ whole
-  pub goes_on : (more : List ℕ) → feed_entries (whole ++ more) ≡ told_behind reader.feeder.core.history (feed_lines reader.number reading (lines_of more))
+  pub goes_on : (more : List ℕ) → feed_entries reader.feeder.core.config (whole ++ more) ≡ told_behind reader.feeder.core.history (feed_lines reader.number reading (lines_of more))
   pub is : IsReading reading reader.feeder.core reader.feeder.cutter
 
--- where the reader stopped: its history is what is told, or, after want of memory or a write fault, a front of it
-abbrev pub StoppedAs : Told → List Entry → ℕ → Halt → Type 0
-StoppedAs told history number (halt.Line place) = (place ≡ 0) × (told ≡ record { entries = history; stop = OutsideGrammar number })
-StoppedAs told history number halt.NotBuilt = told ≡ record { entries = history; stop = NotBuilt number }
-StoppedAs told history number halt.Write = IsFront history told.entries
-StoppedAs told history number halt.NoMemory = IsFront history told.entries
+-- where the reader stopped: its history is what is told, up to an entry that doesn't fit the limits, or, after want of
+-- memory or a write fault, a front of it
+abbrev pub StoppedAs : Config → Told → List Entry → ℕ → Halt → Type 0
+StoppedAs c told history number (halt.Line place) = (place ≡ 0) × (told ≡ record { entries = history; stop = OutsideGrammar number })
+StoppedAs c told history number halt.Full = IsFullAt c history told.entries
+StoppedAs c told history number halt.Write = IsFront history told.entries
+StoppedAs c told history number halt.NoMemory = IsFront history told.entries
 
 -- the output goes on with the history
 pub record Prints (core core' : CoreView) (out out' : SinkView) (result : Result (Unit {0}) Halt) : Type 0 where
+  pub config : core'.config ≡ core.config
   pub shows : (start : Option (List ℕ)) → Shows start out core → ShowsAtEnd start out' core' result
   pub cause : IsErrOf result halt.Write → Failed out.faults out'.faults out.refusals out'.refusals
   pub faults_stay : out.faults ≤ out'.faults
@@ -45,7 +49,7 @@ pub record Prints (core core' : CoreView) (out out' : SinkView) (result : Result
 -- the reader stands behind the bytes, or stopped in them, whatever follows
 abbrev pub StandsOrStopped : List ℕ → Reader → Result (Unit {0}) Halt → Type 0
 StandsOrStopped text reader (Ok done) = Stands text reader
-StandsOrStopped text reader (Err why) = (more : List ℕ) → StoppedAs (feed_entries (text ++ more)) reader.feeder.core.history reader.number why
+StandsOrStopped text reader (Err why) = (more : List ℕ) → StoppedAs reader.feeder.core.config (feed_entries reader.feeder.core.config (text ++ more)) reader.feeder.core.history reader.number why
 
 pub record Takes (text bytes : List ℕ) (old new : Reader) (out out' : SinkView) (result : Result (Unit {0}) Halt) : Type 0 where
   pub stands : StandsOrStopped (text ++ bytes) new result
@@ -53,8 +57,8 @@ pub record Takes (text bytes : List ℕ) (old new : Reader) (out out' : SinkView
 
 -- the whole text is taken, or the reader stopped in its last line
 abbrev pub AllOrStopped : List ℕ → Reader → Result (Unit {0}) Halt → Type 0
-AllOrStopped text reader (Ok done) = feed_entries text ≡ record { entries = reader.feeder.core.history; stop = AllRead }
-AllOrStopped text reader (Err why) = StoppedAs (feed_entries text) reader.feeder.core.history reader.number why
+AllOrStopped text reader (Ok done) = feed_entries reader.feeder.core.config text ≡ record { entries = reader.feeder.core.history; stop = AllRead }
+AllOrStopped text reader (Err why) = StoppedAs reader.feeder.core.config (feed_entries reader.feeder.core.config text) reader.feeder.core.history reader.number why
 
 pub record Finishes (text : List ℕ) (old new : Reader) (out out' : SinkView) (result : Result (Unit {0}) Halt) : Type 0 where
   pub ends : AllOrStopped text new result

@@ -18,15 +18,13 @@ pub enum Cause {
     ReadFault,
     /// Status 4: a write failed, or took nothing of a piece.
     WriteFault,
-    /// Status 5: 4,294,967,296 input bytes were read; the entries of the history, the bytes of text in it, and the bytes
-    /// that were read of the input.
+    /// Status 5: the next entry would not fit the limits of the history, or 4,294,967,296 input bytes were read; the
+    /// entries of the history, the bytes of text in it, and the bytes that were read of the input.
     Full(u64, u64, u64),
     /// Status 6: this line, counted from 1, is outside the grammar from this byte on.
     Line(u64, u64),
     /// Status 7: there was no memory.
     NoMemory,
-    /// Status 9: a message in this line is not built.
-    NotBuilt(u64),
 }
 
 impl Cause {
@@ -47,7 +45,6 @@ impl Cause {
             Cause::Full(_, _, _) => 5,
             Cause::Line(_, _) => 6,
             Cause::NoMemory => 7,
-            Cause::NotBuilt(_) => 9,
         }
     }
 
@@ -72,7 +69,6 @@ impl Cause {
             )?,
             Cause::Line(number, place) => format!(in alloc; "line {number} at {place}")?,
             Cause::NoMemory => format!(in alloc; "no memory")?,
-            Cause::NotBuilt(number) => format!(in alloc; "not built line {number}")?,
         };
         Ok(Some(text))
     }

@@ -16,8 +16,11 @@ use gem_ids::Moment;
 use hsms_frame::Arrival;
 use outside::Sink;
 use std::alloc::{AllocError, Global};
-use tool_core::{Core, PostFault};
-use tool_events::{Answer, Event, SessionCause};
+use tool_core::Core;
+use tool_events::{Answer, Event, PostFault, SessionCause};
+
+/// The moment of what isn't a look at the clock: it raises no moment.
+pub const AT_ONCE: Moment = Moment(0);
 
 /// The lines of an answer, and of the session that ended with it, if one did.
 fn outcome_text(
@@ -37,16 +40,23 @@ fn outcome_text(
     Ok(text)
 }
 
-/// Posts an event, and writes its lines.
-fn post<K: Sink>(alloc: Global, core: &mut Core, event: Event, out: &mut K) -> Result<(), Halt>
-    requires { step core.old.state event ≢ None }
+/// Posts an event at a moment, and writes its lines.
+fn post<K: Sink>(
+    alloc: Global,
+    core: &mut Core,
+    at: Moment,
+    event: Event,
+    out: &mut K,
+) -> Result<(), Halt>
+    requires { step core.old.state at.0 event ≢ None }
     ensures { Goes core.old core.new (seen K.held K.faults K.refusals out.old) (seen K.held K.faults K.refusals out.new)
-        (record { entries = entry_of event ∷ []; state = after core.old.state event; goes_on = true }) result }
+        (record { entries = entry_of at.0 event ∷ []; state = after core.old.state at.0 event }) result }
 {
     let before = core.session_up();
-    let answer = match core.apply(alloc, 0, Moment(0), event) {
+    let answer = match core.apply(alloc, 0, at, event) {
         Ok(answer) => answer,
-        Err(_) => return Err(Halt::NoMemory),
+        Err(PostFault::Full(_)) => return Err(Halt::Full),
+        Err(PostFault::Again | PostFault::NoMemory) => return Err(Halt::NoMemory),
     };
     let ended = ended_now(core, before);
     let Ok(text) = outcome_text(alloc, answer, ended) else {
@@ -60,7 +70,7 @@ fn post<K: Sink>(alloc: Global, core: &mut Core, event: Event, out: &mut K) -> R
 
 /// The session that was up before and has ended now, with its cause.
 fn ended_now(core: &Core, before: Option<u64>) -> Option<(u64, SessionCause)>
-    ensures { result ≡ option_and_then (λ k. option_map (λ cause. (k, cause)) (session_end opening core.now.history k)) before }
+    ensures { result ≡ option_and_then (λ k. option_map (λ cause. (k, cause)) (session_end (opening core.now.config) core.now.history k)) before }
 {
     let session = before?;
     let cause = core.session_end(session)?;
@@ -78,8 +88,8 @@ fn take_frames<K: Sink>(
     ensures { Goes core.old core.new (seen K.held K.faults K.refusals out.old) (seen K.held K.faults K.refusals out.new)
         (taken_all core.old.state) result }
 {
-    while !core.idle(&Event::Take { session }) {
-        match post(alloc, core, Event::Take { session }, out) {
+    while !core.idle(AT_ONCE, &Event::Take { session }) {
+        match post(alloc, core, AT_ONCE, Event::Take { session }, out) {
             Ok(()) => {}
             Err(halt) => return Err(halt),
         }
@@ -98,13 +108,19 @@ fn take_waiting<K: Sink>(alloc: Global, core: &mut Core, out: &mut K) -> Result<
     }
 }
 
-/// Posts an event, and then the writer takes each frame that waits.
-pub fn input<K: Sink>(alloc: Global, core: &mut Core, event: Event, out: &mut K) -> Result<(), Halt>
-    requires { step core.old.state event ≢ None }
+/// Posts an event at a moment, and then the writer takes each frame that waits.
+pub fn input<K: Sink>(
+    alloc: Global,
+    core: &mut Core,
+    at: Moment,
+    event: Event,
+    out: &mut K,
+) -> Result<(), Halt>
+    requires { step core.old.state at.0 event ≢ None }
     ensures { Goes core.old core.new (seen K.held K.faults K.refusals out.old) (seen K.held K.faults K.refusals out.new)
-        (input core.old.state event) result }
+        (input core.old.state at.0 event) result }
 {
-    match post(alloc, core, event, out) {
+    match post(alloc, core, at, event, out) {
         Ok(()) => take_waiting(alloc, core, out),
         Err(halt) => Err(halt),
     }
@@ -122,11 +138,7 @@ fn take_message<K: Sink>(
     ensures { Goes core.old core.new (seen K.held K.faults K.refusals out.old) (seen K.held K.faults K.refusals out.new)
         (message core.old.state session arrival) result }
 {
-    let event = Event::Host { session, arrival };
-    if core.idle(&event) {
-        return Err(Halt::NotBuilt);
-    }
-    input(alloc, core, event, out)
+    input(alloc, core, AT_ONCE, Event::Host { session, arrival }, out)
 }
 
 /// The messages of a session, in order, and then its end where a length below 10 follows them.
@@ -166,7 +178,13 @@ fn end_messages<K: Sink>(
 {
     if short && core.is_session_up(session) {
         let cause = SessionCause::ShortLength;
-        return input(alloc, core, Event::LinkDown { session, cause }, out);
+        return input(
+            alloc,
+            core,
+            AT_ONCE,
+            Event::LinkDown { session, cause },
+            out,
+        );
     }
     Ok(())
 }

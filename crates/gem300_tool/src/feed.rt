@@ -1,10 +1,11 @@
 //! `feed`: lines in, lines out.
-ghost use Rattle.std.specs.Prelude.{◌≡◌, ◌≢◌, ◌≤◌, ◌↔◌, ◌⊎◌, ◌-◌, ◌^◌, ℕ, Some, [], min, List, OnOk, IfErr};
+ghost use Rattle.std.specs.Prelude.{◌≡◌, ◌≢◌, ◌≤◌, ◌↔◌, ◌⊎◌, ℕ, Some, [], List, OnOk, IfErr};
+ghost use Rattle.gem_ids.specs.Texts.{IsText};
 ghost use Rattle.outside.specs.Counts.{Rose};
+ghost use Rattle.tool_events.specs.Configs.{IsConfig};
 ghost use Rattle.gem_model.specs.State.{opening};
 ghost use Rattle.gem_model.specs.Run.{Run, after_all};
-ghost use Rattle.gem_model.specs.Sizes.{bytes_of, event_bytes};
-ghost use Rattle.gem_model.specs.Command.{misfit};
+ghost use Rattle.gem_model.specs.Command.{misfit, known_config};
 ghost use Rattle.gem300_tool.specs.declared.ended.Cause.TheVariants as cause;
 ghost use Rattle.gem300_tool.specs.Counts.{Failed};
 ghost use Rattle.gem300_tool.specs.Status.{status_of};
@@ -13,15 +14,15 @@ ghost use Rattle.gem300_tool.specs.CauseOf.{cause_after, Refuses};
 
 use crate::ended::{Cause, Ended};
 use crate::halt::Halt;
-use crate::input::{INPUT_BYTES, InputEnd, read_lines};
+use crate::input::{InputEnd, InputRead, read_lines};
 use crate::read::{TextFault, read_text};
 use crate::reader::Reader;
 use crate::words::{WordsFault, command_of};
-use gem_ids::Text80;
-use hsms_frame::Arrival;
+use gem_ids::{Moment, Text80};
 use outside::{Sink, Source};
 use std::alloc::Global;
-use tool_events::{Entry, Event};
+use tool_core::Core;
+use tool_events::Config;
 
 /// So many bytes of a configuration are read at most.
 const CONFIGURATION_BYTES: usize = 65_537;
@@ -47,50 +48,64 @@ fn check_configuration<C: Source>(alloc: Global, config: &mut C) -> Result<(), C
     }
 }
 
-/// The bytes of text that an entry holds.
-fn entry_bytes(entry: &Entry) -> u64
-    ensures { result ≡ event_bytes entry.now.event }
+/// What the known configuration says.
+pub fn known_config() -> Config
+    ensures config { result ≡ known_config }
 {
-    match &entry.event {
-        Event::Host { arrival, .. } => match arrival {
-            Arrival::Frame(frame) => frame.text.as_slice().len() as u64,
-            Arrival::TooLong(_, _) => 0,
-        },
-        Event::LinkUp | Event::LinkDown { .. } | Event::Take { .. } => 0,
+    Config {
+        device: 0,
+        mdln: text_of(b"GEM300".as_slice()),
+        softrev: text_of(b"1.0.00".as_slice()),
+        t7: 1000,
+        max_entries: 4_000_000,
+        max_bytes: 536_870_912,
+        start_moment: Moment(0),
     }
 }
 
-/// The bytes of text that a history holds; the count stands still at its type's end.
-fn history_bytes(history: &[Entry]) -> u64
-    ensures { result ≡ min (bytes_of history.now) (2 ^ 64 - 1) }
+/// The text of bytes that print, of which there are at most 80.
+fn text_of(bytes: &[u8]) -> Text80
+    requires { IsText bytes.now }
+    ensures { result ≡ bytes.now }
 {
-    let mut bytes: u64 = 0;
-    for entry in history {
-        bytes = bytes.saturating_add(entry_bytes(entry));
-    }
-    bytes
+    Text80::read(bytes).unwrap_or(Text80::empty())
 }
 
-/// Why a run ended whose reading ended so, with this history, in the line of this number.
-fn cause_of(end: InputEnd, history: &[Entry], number: u64) -> Cause
-    ensures { result ≡ cause_after end history.now number }
+/// Why a run ended whose reading ended so, with this core, in the line of this number.
+fn cause_of(read: InputRead, core: &Core, number: u64) -> Cause
+    ensures { result ≡ cause_after read.end read.count core.now.history number }
 {
-    match end {
+    match read.end {
         InputEnd::Whole => Cause::Done,
         InputEnd::Fault => Cause::ReadFault,
-        InputEnd::Bound => Cause::Full(history.len() as u64, history_bytes(history), INPUT_BYTES),
+        InputEnd::Bound | InputEnd::Halted(Halt::Full) => {
+            Cause::Full(core.history().len() as u64, core.bytes(), read.count)
+        }
         InputEnd::Halted(Halt::Line(place)) => Cause::Line(number, place),
-        InputEnd::Halted(Halt::NotBuilt) => Cause::NotBuilt(number),
         InputEnd::Halted(Halt::Write) => Cause::WriteFault,
         InputEnd::Halted(Halt::NoMemory) => Cause::NoMemory,
     }
 }
 
-/// Reads the input, under the configuration that is known.
-fn feed_input<S: Source, K: Sink>(alloc: Global, input: &mut S, out: &mut K) -> Ended
-    ensures run { Run opening result.history (after_all opening result.history) }
-    ensures fed { Fed result.cause (looked S.left S.faults S.ends input.old) (looked S.left S.faults S.ends input.new) result.history }
-    ensures printed { Shown result.cause (K.held out.old) (K.held out.new) result.history }
+/// Does what `feed` does once the configuration was read: reads lines of the input, and writes the lines of what happens.
+///
+/// The configuration keeps its bounds (this tool's profile, docs/profile/configuration.md). The history is that of the
+/// returned value, and its status says why the run ended (docs/profile/lines.md).
+pub fn feed_config<S: Source, K: Sink>(
+    alloc: Global,
+    config: &Config,
+    input: &mut S,
+    out: &mut K,
+) -> Ended
+    requires { IsConfig config.now }
+    // The history is a run from the first state.
+    ensures run { Run (opening config.now) result.history (after_all (opening config.now) result.history) }
+    // It is what the text gave that was read of the input.
+    ensures fed { Fed config.now result.cause (looked S.left S.faults S.ends input.old) (looked S.left S.faults S.ends input.new) result.history }
+    // Its lines are written, and no others.
+    ensures printed { Shown config.now result.cause (K.held out.old) (K.held out.new) result.history }
+
+    // When each cause comes.
     ensures status { result.status ≡ status_of result.cause }
     ensures done { result.cause ≡ cause.Done → ReadToEnd (looked S.left S.faults S.ends input.old) (looked S.left S.faults S.ends input.new) }
     ensures read_fault { result.cause ≡ cause.ReadFault → Rose (S.faults input.old) (S.faults input.new) }
@@ -98,14 +113,16 @@ fn feed_input<S: Source, K: Sink>(alloc: Global, input: &mut S, out: &mut K) -> 
         → Failed (K.faults out.old) (K.faults out.new) (K.refusals out.old) (K.refusals out.new) }
     ensures words { (place : ℕ) → result.cause ≢ cause.Words place }
     ensures config { (rule : ℕ) (key : List ℕ) → result.cause ≢ cause.Config rule key }
+
+    // Until they are built.
     ensures no_sessions { result.sessions ≡ [] }
     ensures no_panels { result.panels ≡ [] }
 {
-    let Ok(mut reader) = Reader::open(alloc) else {
+    let Ok(mut reader) = Reader::open(alloc, config) else {
         return Ended::without_history(alloc, Cause::NoMemory);
     };
-    let end = read_lines(alloc, &mut reader, input, out);
-    let cause = cause_of(end, reader.feeder.core.history(), reader.number);
+    let read = read_lines(alloc, &mut reader, input, out);
+    let cause = cause_of(read, &reader.feeder.core, reader.number);
     let Reader { feeder, .. } = reader;
     Ended::with_history(alloc, cause, feeder.into_history())
 }
@@ -122,11 +139,11 @@ pub fn feed<C: Source, S: Source, K: Sink>(
     out: &mut K,
 ) -> Ended
     // The history is a run from the first state.
-    ensures run { Run opening result.history (after_all opening result.history) }
+    ensures run { Run (opening known_config) result.history (after_all (opening known_config) result.history) }
     // It is what the text gave that was read of the input.
-    ensures fed { Fed result.cause (looked S.left S.faults S.ends input.old) (looked S.left S.faults S.ends input.new) result.history }
+    ensures fed { Fed known_config result.cause (looked S.left S.faults S.ends input.old) (looked S.left S.faults S.ends input.new) result.history }
     // Its lines are written, and no others.
-    ensures printed { Shown result.cause (K.held out.old) (K.held out.new) result.history }
+    ensures printed { Shown known_config result.cause (K.held out.old) (K.held out.new) result.history }
     ensures configured { Configured result.cause (looked C.left C.faults C.ends config.old) (looked C.left C.faults C.ends config.new) result.history }
 
     // When each cause comes.
@@ -146,7 +163,7 @@ pub fn feed<C: Source, S: Source, K: Sink>(
         return Ended::without_history(alloc, Cause::Words(place));
     }
     match check_configuration(alloc, config) {
-        Ok(()) => feed_input(alloc, input, out),
+        Ok(()) => feed_config(alloc, &known_config(), input, out),
         Err(cause) => Ended::without_history(alloc, cause),
     }
 }

@@ -1,5 +1,6 @@
 //! One line after another: what each says is put in, in the session that is up.
-ghost use Rattle.std.specs.Prelude.{◌≡◌, ℕ, List, [], IfOk};
+ghost use Rattle.std.specs.Prelude.{◌≡◌, ℕ, List, [], true, IfOk};
+ghost use Rattle.tool_events.specs.Configs.{IsConfig};
 ghost use Rattle.gem_model.specs.State.{opening};
 ghost use Rattle.gem_model.specs.Run.{Run};
 ghost use Rattle.gem_model.specs.Lines as model;
@@ -8,14 +9,15 @@ ghost use Rattle.hsms_frame.specs.Cut.{IsCutOf, arrivals_of};
 ghost use Rattle.gem300_tool.specs.Going.{seen};
 ghost use Rattle.gem300_tool.specs.Cuts.{Cuts};
 
-use crate::engine::{input, take_messages};
+use crate::engine::{AT_ONCE, input, take_messages};
 use crate::halt::Halt;
 use crate::lines::{Line, LineFault, read_line};
+use gem_ids::Moment;
 use hsms_frame::{Arrival, CutFault, Cutter};
 use outside::Sink;
 use std::alloc::{AllocError, Global};
 use tool_core::{Core, Entries};
-use tool_events::{Event, SessionCause};
+use tool_events::{Config, Event, SessionCause};
 
 /// The longest text of a message, in bytes.
 const TEXT_BYTES: u32 = 262_144;
@@ -51,13 +53,14 @@ impl Feeder {
     ghost use Rattle.gem300_tool.specs.Reading.{IsReading, TakesLine, TreatsLine};
 
     /// The core in its first state.
-    pub fn open(alloc: Global) -> Result<Feeder, AllocError>
-        ensures { IfOk result (λ feeder. (feeder.core ≡ record { state = opening; history = [] })
-            × IsReading first_reading feeder.core feeder.cutter) }
+    pub fn open(alloc: Global, config: &Config) -> Result<Feeder, AllocError>
+        requires { IsConfig config.now }
+        ensures { IfOk result (λ feeder. (feeder.core ≡ record { config = config.now; state = opening config.now; history = []; is_whole = true })
+            × IsReading (first_reading config.now) feeder.core feeder.cutter) }
     {
         let cutter = Cutter::new(alloc, TEXT_BYTES)?;
         Ok(Feeder {
-            core: Core::open(alloc),
+            core: Core::open(alloc, config),
             cutter,
         })
     }
@@ -65,7 +68,7 @@ impl Feeder {
     /// Hands out the history.
     pub fn into_history(self) -> Entries
         ensures history { result ≡ self.core.history }
-        ensures run { Run opening self.core.history self.core.state }
+        ensures run { Run (opening self.core.config) self.core.history self.core.state }
     {
         let Feeder { core, .. } = self;
         core.close()
@@ -82,7 +85,7 @@ impl Feeder {
                 Err(_) => return Err(Halt::NoMemory),
             }
         }
-        input(alloc, &mut self.core, Event::LinkUp, out)
+        input(alloc, &mut self.core, AT_ONCE, Event::LinkUp, out)
     }
 
     /// The peer closes the link. Without a session nothing happens.
@@ -97,9 +100,21 @@ impl Feeder {
         input(
             alloc,
             &mut self.core,
+            AT_ONCE,
             Event::LinkDown { session, cause },
             out,
         )
+    }
+
+    /// The clock is looked at, at this moment. Where nothing is due nothing happens.
+    fn look<K: Sink>(&mut self, alloc: Global, at: Moment, out: &mut K) -> Result<(), Halt>
+        ensures { (r : Reading) → IsReading r self.old.core self.old.cutter
+            → TakesLine r (model.Time at.0) self.old self.new (seen K.held K.faults K.refusals out.old) (seen K.held K.faults K.refusals out.new) result }
+    {
+        if self.core.idle(at, &Event::Tick) {
+            return Ok(());
+        }
+        input(alloc, &mut self.core, at, Event::Tick, out)
     }
 
     /// Bytes of the host come. Without a session they are dropped.
@@ -131,6 +146,7 @@ impl Feeder {
             Ok(Line::Skip) => Ok(()),
             Ok(Line::Up) => self.link_up(alloc, out),
             Ok(Line::Down) => self.link_down(alloc, out),
+            Ok(Line::Time(at)) => self.look(alloc, at, out),
             Ok(Line::Bytes(bytes)) => self.take_bytes(alloc, bytes.as_slice(), out),
             Err(LineFault::Place(place)) => Err(Halt::Line(place)),
             Err(LineFault::NoMemory) => Err(Halt::NoMemory),

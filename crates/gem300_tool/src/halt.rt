@@ -9,6 +9,6 @@ pub enum Halt {
     NoMemory,
     /// A line is outside the grammar, from this byte on.
     Line(u64),
-    /// A message is not built.
-    NotBuilt,
+    /// The next entry would not fit the history's limits.
+    Full,
 }

@@ -1,5 +1,5 @@
 //! The input, from its first byte to its end.
-ghost use Rattle.std.specs.Prelude.{◌≡◌, ◌≤◌, ℕ, List, []};
+ghost use Rattle.std.specs.Prelude.{◌≡◌, ◌≤◌, ℕ, List, [], length};
 ghost use Rattle.outside.specs.Told.{Taken};
 ghost use Rattle.gem300_tool.specs.Going.{seen};
 ghost use Rattle.gem300_tool.specs.Fed.{looked};
@@ -31,20 +31,27 @@ pub enum InputEnd {
     Halted(Halt),
 }
 
+/// What was read of an input: how the reading ended, and how many bytes were read.
+#[derive(Clone, Copy, Debug, PartialEq, Eq)]
+pub struct InputRead {
+    pub end: InputEnd,
+    pub count: u64,
+}
+
 /// Reads an input to its end, and takes each line.
 pub fn read_lines<S: Source, K: Sink>(
     alloc: Global,
     reader: &mut Reader,
     input: &mut S,
     out: &mut K,
-) -> InputEnd
+) -> InputRead
     requires stands { Stands [] reader.old }
     requires first { reader.old.number ≡ 1 }
-    ensures read { (text : List ℕ) × Taken (S.left input.old) (S.left input.new) text
-        × InputEnds result text reader.new.feeder.core.history reader.new.number
+    ensures read { (text : List ℕ) × (length text ≡ result.count) × Taken (S.left input.old) (S.left input.new) text
+        × InputEnds result.end text reader.new.feeder.core.config reader.new.feeder.core.history reader.new.number
         (looked S.left S.faults S.ends input.old) (looked S.left S.faults S.ends input.new) }
     ensures prints { Prints reader.old.feeder.core reader.new.feeder.core
-        (seen K.held K.faults K.refusals out.old) (seen K.held K.faults K.refusals out.new) (as_result result) }
+        (seen K.held K.faults K.refusals out.old) (seen K.held K.faults K.refusals out.new) (as_result result.end) }
     ensures faults_stay { S.faults input.old ≤ S.faults input.new }
     ensures ends_stay { S.ends input.old ≤ S.ends input.new }
 {
@@ -53,19 +60,32 @@ pub fn read_lines<S: Source, K: Sink>(
     while count < INPUT_BYTES {
         let room = (INPUT_BYTES - count).min(PIECE as u64) as usize;
         let Ok(more) = read_front(input, &mut buf, room) else {
-            return InputEnd::Fault;
+            return InputRead {
+                end: InputEnd::Fault,
+                count,
+            };
         };
         if more == 0 {
-            return match reader.finish(alloc, out) {
+            let end = match reader.finish(alloc, out) {
                 Ok(()) => InputEnd::Whole,
                 Err(halt) => InputEnd::Halted(halt),
             };
+            return InputRead { end, count };
         }
-        match reader.take_piece(alloc, front(&buf, more), out) {
-            Ok(()) => {}
-            Err(halt) => return InputEnd::Halted(halt),
-        }
+        let taken = reader.take_piece(alloc, front(&buf, more), out);
         count += more as u64;
+        match taken {
+            Ok(()) => {}
+            Err(halt) => {
+                return InputRead {
+                    end: InputEnd::Halted(halt),
+                    count,
+                };
+            }
+        }
     }
-    InputEnd::Bound
+    InputRead {
+        end: InputEnd::Bound,
+        count,
+    }
 }

@@ -18,6 +18,8 @@ pub enum OutLine {
     Ended(u64, SessionCause),
     /// `> HEX`: a frame that was taken, in upper case.
     Frame(Bytes),
+    /// `= ok` or `= no`: whether an operator's command was accepted.
+    Oper(bool),
 }
 
 /// The word of a cause.
@@ -25,9 +27,15 @@ fn cause_text(cause: SessionCause) -> &'static str
     ensures { result.now ≡ cause_word cause }
 {
     match cause {
+        SessionCause::ReadFault => "ReadFault",
+        SessionCause::WriteFault => "WriteFault",
         SessionCause::PeerEnd => "PeerEnd",
         SessionCause::ShortLength => "ShortLength",
         SessionCause::Separated => "Separated",
+        SessionCause::T6 => "T6",
+        SessionCause::T7 => "T7",
+        SessionCause::Quit => "Quit",
+        SessionCause::Stopped => "Stopped",
     }
 }
 
@@ -49,6 +57,8 @@ fn line_text(alloc: Global, line: &OutLine) -> Result<String, AllocError>
             let digits = hex::encode_upper(alloc, frame.as_slice())?;
             format!(in alloc; "> {digits}\n")
         }
+        OutLine::Oper(true) => format!(in alloc; "= ok\n"),
+        OutLine::Oper(false) => format!(in alloc; "= no\n"),
     }
 }
 
@@ -69,6 +79,7 @@ pub fn answer_line(answer: Answer) -> Option<OutLine>
     match answer {
         Answer::Session(session) => Some(OutLine::Up(session)),
         Answer::Frame(frame) => Some(OutLine::Frame(frame)),
-        Answer::Done | Answer::Ended => None,
+        Answer::Oper(accepted) => Some(OutLine::Oper(accepted)),
+        Answer::Command(_) | Answer::Done | Answer::Ended => None,
     }
 }

@@ -1,5 +1,6 @@
 //! The input as lines: bytes are gathered to lines, and each line is taken at its line feed.
 ghost use Rattle.std.specs.Prelude.{◌≡◌, ◌+◌, ◌<◌, ◌≤◌, ◌≢◌, ◌^◌, ℕ, List, [], ◌∷◌, ◌++◌, length, Err, IfOk};
+ghost use Rattle.tool_events.specs.Configs.{IsConfig};
 ghost use Rattle.gem300_tool.specs.Going.{seen};
 
 use crate::feeder::Feeder;
@@ -7,6 +8,7 @@ use crate::halt::Halt;
 use crate::lines::LINE_BYTES;
 use outside::Sink;
 use std::alloc::{AllocError, Global};
+use tool_events::Config;
 
 /// Gathers bytes to lines, and takes each.
 #[derive(Drop)]
@@ -22,12 +24,14 @@ impl Reader {
     ghost use Rattle.gem300_tool.specs.Standing.{Stands, StandsOrStopped, Takes, Finishes};
 
     /// A reader before the first byte.
-    pub fn open(alloc: Global) -> Result<Reader, AllocError>
+    pub fn open(alloc: Global, config: &Config) -> Result<Reader, AllocError>
+        requires { IsConfig config.now }
         ensures stands { IfOk result (Stands []) }
         ensures number { IfOk result (λ reader. reader.number ≡ 1) }
         ensures history { IfOk result (λ reader. reader.feeder.core.history ≡ []) }
+        ensures config { IfOk result (λ reader. reader.feeder.core.config ≡ config.now) }
     {
-        let feeder = Feeder::open(alloc)?;
+        let feeder = Feeder::open(alloc, config)?;
         Ok(Reader {
             feeder,
             line: Vec::new(alloc),

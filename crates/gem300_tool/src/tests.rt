@@ -1,5 +1,5 @@
 use crate::ended::{Cause, Ended};
-use crate::feed::feed;
+use crate::feed::{feed, feed_config, known_config};
 use gem_ids::Text80;
 use outside::{Failed, MemSink, MemSource, Sink, Source};
 use std::alloc::Global;
@@ -145,14 +145,105 @@ fn nothing_comes_of_nothing(rt: HostRuntime) -> Result<(), Fail> {
 }
 
 #[test]
-fn a_message_that_is_not_built_ends_the_run_in_its_line(rt: HostRuntime) -> Result<(), Fail> {
+fn what_fits_no_state_of_the_link_is_rejected(rt: HostRuntime) -> Result<(), Fail> {
+    let before = b"L+\nH 0000000A00008101000000000001\n".as_slice();
+    let not_selected = b"+ 1\n> 0000000A00000004000700000001\n".as_slice();
+    prints(&rt, rt.alloc(), before, 0, not_selected)?;
+    for (line, printed) in [
+        (
+            b"H 0000000AFFFF0000000600000003\n".as_slice(),
+            b"> 0000000AFFFF0603000700000003\n".as_slice(),
+        ),
+        (
+            b"H 0000000AFFFF0000000B00000004\n".as_slice(),
+            b"> 0000000AFFFF0B01000700000004\n".as_slice(),
+        ),
+        (
+            b"H 0000000AFFFF0000010100000005\n".as_slice(),
+            b"> 0000000AFFFF0102000700000005\n".as_slice(),
+        ),
+    ] {
+        prints_selected(&rt, rt.alloc(), line, 0, printed)?;
+    }
+    Ok(())
+}
+
+#[test]
+fn messages_that_are_not_known_are_told_by_stream_nine(rt: HostRuntime) -> Result<(), Fail> {
+    let another_device = b"H 0000000A00018101000000000002\n".as_slice();
+    let unknown_stream = b"H 0000000A00008301000000000003\n".as_slice();
+    let unknown_function = b"H 0000000A00008103000000000004\n".as_slice();
+    let answers = b"H 0000000A00000102000000000005\n".as_slice();
+    let alloc = rt.alloc();
+    let lines = joined(alloc, another_device, unknown_stream)?;
+    let lines = joined(alloc, &lines, unknown_function)?;
+    let lines = joined(alloc, &lines, answers)?;
+    let s9f1 = b"> 0000001600000901000000000001210A00018101000000000002\n".as_slice();
+    let s9f3 = b"> 0000001600000903000000000002210A00008301000000000003\n".as_slice();
+    let s9f5 = b"> 0000001600000905000000000003210A00008103000000000004\n".as_slice();
+    let printed = joined(alloc, s9f1, s9f3)?;
+    let printed = joined(alloc, &printed, s9f5)?;
+    prints_selected(&rt, alloc, &lines, 0, &printed)
+}
+
+#[test]
+fn a_text_that_is_too_long_is_told_and_the_next_message_is_answered(
+    rt: HostRuntime,
+) -> Result<(), Fail> {
+    let alloc = rt.alloc();
+    let mut lines = Vec::from_slice(alloc, b"H 0004000B00008101000000000007")?;
+    lines.extend_from_slice(&vec![in alloc; b'0'; 524_290]?)?;
+    let lines = joined(alloc, &lines, b"\nH 0000000AFFFF0000000500000008\n")?;
     prints_selected(
         &rt,
-        rt.alloc(),
-        b"H 0000000A00008103000000000002\nL-\n",
-        9,
-        b"",
+        alloc,
+        &lines,
+        0,
+        b"> 000000160000090B000000000001210A00008101000000000007\n> 0000000AFFFF0000000600000008\n",
     )
+}
+
+#[test]
+fn a_link_that_is_not_selected_in_time_ends(rt: HostRuntime) -> Result<(), Fail> {
+    let alloc = rt.alloc();
+    prints(&rt, alloc, b"L+\nT 999\nT 1000\n", 0, b"+ 1\n- 1 T7\n")?;
+    let in_time = joined(alloc, b"L+\nT 999\nL-\n", SELECTED)?;
+    let printed = b"+ 1\n- 1 PeerEnd\n+ 2\n> 0000000AFFFF0000000200000001\n".as_slice();
+    prints(&rt, alloc, &in_time, 0, printed)?;
+    prints_selected(&rt, alloc, b"T 25245561599999\n", 0, b"")
+}
+
+#[test]
+fn a_history_that_is_full_ends_the_run(rt: HostRuntime) -> Result<(), Fail> {
+    let alloc = rt.alloc();
+    let mut config = known_config();
+    config.max_entries = 3;
+    let mut input = source(alloc, b"L+\nL+\nL+\nL+\n", &[])?;
+    let mut out = MemSink::new(alloc, Vec::new(alloc));
+    let ended = feed_config(alloc, &config, &mut input, &mut out);
+    assert_eq!(rt; ended.cause, Cause::Full(3, 0, 12));
+    assert_eq!(rt; ended.status, 5);
+    assert_eq!(rt; ended.history.as_slice().len(), 3);
+    assert_eq!(rt; out.as_bytes(), b"+ 1\n".as_slice());
+    Ok(())
+}
+
+#[test]
+fn a_history_takes_so_much_text(rt: HostRuntime) -> Result<(), Fail> {
+    let alloc = rt.alloc();
+    let mut config = known_config();
+    config.max_bytes = 5;
+    let five = b"H 0000000F000001010000000000090102030405\n".as_slice();
+    let one = b"H 0000000B0000010100000000000901\n".as_slice();
+    let lines = joined(alloc, SELECTED, five)?;
+    let lines = joined(alloc, &lines, one)?;
+    let count = lines.len() as u64;
+    let mut input = source(alloc, &lines, &[])?;
+    let mut out = MemSink::new(alloc, Vec::new(alloc));
+    let ended = feed_config(alloc, &config, &mut input, &mut out);
+    assert_eq!(rt; ended.cause, Cause::Full(4, 5, count));
+    assert_eq!(rt; out.as_bytes(), SELECTED_OUT);
+    Ok(())
 }
 
 #[test]
@@ -164,7 +255,12 @@ fn a_line_outside_the_grammar_is_told_by_its_number(rt: HostRuntime) -> Result<(
         b"H GG".as_slice(),
         b"L".as_slice(),
         b" L+".as_slice(),
-        b"T 1".as_slice(),
+        b"T".as_slice(),
+        b"T ".as_slice(),
+        b"T 01".as_slice(),
+        b"T 1a".as_slice(),
+        b"T 25245561600000".as_slice(),
+        b"T 99999999999999999999".as_slice(),
     ] {
         let lines = joined(alloc, SELECTED, line)?;
         let mut input = source(alloc, &lines, &[])?;
@@ -326,7 +422,6 @@ fn each_cause_has_its_text(rt: HostRuntime) -> Result<(), Fail> {
         (Cause::Full(40, 0, 500), "full 40 0 500"),
         (Cause::Line(3, 5), "line 3 at 5"),
         (Cause::NoMemory, "no memory"),
-        (Cause::NotBuilt(7), "not built line 7"),
     ] {
         let told = cause.text(alloc)?.ok_or("a text")?;
         assert_eq!(rt; told.as_str(), text);

@@ -1,6 +1,7 @@
 -- The command of the program, as words.
 use Rattle.std.specs.Prelude.{ℕ, ◌+◌, Bool, ◌&&◌, not, if◌then◌else◌, List, [], ◌∷◌, codes, Option, Some, None, nat_eq}
 use Rattle.std.specs.Str.{bytes_eq}
+use Rattle.tool_events.specs.declared.config.Config.{Config}
 use Rattle.std.specs.List.{starts_with}
 
 -- a word that can name a file: it isn't empty and doesn't begin with a minus (this tool's profile, the command's words)
@@ -30,3 +31,15 @@ known_configuration = codes "communication = \"communicating\"\n"
 -- the greatest configuration that is read, and one byte more, in bytes
 abbrev pub configuration_bytes : ℕ
 configuration_bytes = 65537
+
+-- what the known configuration says: the defaults of all keys that are built
+abbrev pub known_config : Config
+known_config = record {
+  device = 0;
+  mdln = codes "GEM300";
+  softrev = codes "1.0.00";
+  t7 = 1000;
+  max_entries = 4000000;
+  max_bytes = 536870912;
+  start_moment = record { 0 = 0 };
+}

@@ -1,70 +1,65 @@
 -- The history that a text of lines makes.
-use Rattle.std.specs.Prelude.{ℕ, ◌+◌, Bool, true, false, ◌&&◌, is_some, if◌then◌else◌, List, [], ◌∷◌, ◌++◌, length, drop, map, Some, None, Option}
+use Rattle.std.specs.Prelude.{ℕ, ◌+◌, Bool, ◌&&◌, is_some, if◌then◌else◌, List, [], ◌∷◌, ◌++◌, length, drop, map, Option, Some, None}
 use Rattle.hsms_frame.specs.declared.frame.Arrival.{Arrival}
 use Rattle.hsms_frame.specs.Cut.{arrivals_of, behind_of, is_short}
-use Rattle.tool_events.specs.declared.Event.{Event}
-use Rattle.tool_events.specs.declared.Event.TheVariants.{LinkUp, LinkDown, Host, Take}
-use Rattle.tool_events.specs.declared.Entry.{Entry}
-use Rattle.tool_events.specs.declared.SessionCause.TheVariants.{PeerEnd, ShortLength}
+use Rattle.tool_events.specs.declared.event.Event.{Event}
+use Rattle.tool_events.specs.declared.event.Event.TheVariants as event
+use Rattle.tool_events.specs.declared.entry.Entry.{Entry}
+use Rattle.tool_events.specs.declared.event.SessionCause.TheVariants.{PeerEnd, ShortLength}
+use Rattle.tool_events.specs.declared.config.Config.{Config}
 use Rattle.gem_model.specs.State.{State, opening, is_up, is_session_up}
-use Rattle.gem_model.specs.Messages.{verdict}
-use Rattle.gem_model.specs.Step.{after}
+use Rattle.gem_model.specs.Step.{step, after}
 use Rattle.gem_model.specs.Run.{after_all}
-use Rattle.gem_model.specs.Lines.{Line, Skip, Up, Down, Bytes, line_of, lines_of}
+use Rattle.gem_model.specs.Lines.{Line, Skip, Up, Down, Bytes, Time, line_of, lines_of}
 
 -- the longest text of a message, in bytes (this tool's profile, limits)
 abbrev pub text_bytes : ℕ
 text_bytes = 262144
 
--- an entry of the one seat, 0, at moment 0
-abbrev pub entry_of : Event → Entry
-entry_of event = record { seat = 0; at = record { 0 = 0 }; event = event }
+-- an entry of the one seat, 0
+abbrev pub entry_of : ℕ → Event → Entry
+entry_of at event = record { seat = 0; at = record { 0 = at }; event = event }
 
 -- the writer takes each frame that waits
 abbrev pub takes : State → List Entry
-takes g = if is_up g then map (λ _. entry_of (Take g.session)) g.waiting else []
+takes g = if is_up g then map (λ _. entry_of 0 (event.Take g.link.session)) g.waiting else []
 
--- what one input gives: its entry, and then the frames are taken
-abbrev pub given : State → Event → List Entry
-given g event = entry_of event ∷ takes (after g event)
+-- what one input gives, which has a step: its entry, and then the frames are taken
+abbrev pub given : State → ℕ → Event → List Entry
+given g at event = entry_of at event ∷ takes (after g at event)
 
--- What a line gives: its entries, the state after them, and whether the text goes on. It stops before a message
--- that isn't built.
+-- what a line gives: its entries, and the state after them
 pub record Given : Type 0 where
   pub entries : List Entry
   pub state : State
-  pub goes_on : Bool
 
 abbrev pub nothing : State → Given
-nothing g = record { entries = []; state = g; goes_on = true }
+nothing g = record { entries = []; state = g }
 
-abbrev pub stops : State → Given
-stops g = record { entries = []; state = g; goes_on = false }
-
-abbrev pub input : State → Event → Given
-input g event = record { entries = given g event; state = after_all g (given g event); goes_on = true }
+abbrev pub input : State → ℕ → Event → Given
+input g at event = record { entries = given g at event; state = after_all g (given g at event) }
 
 -- all frames that wait are taken
 abbrev pub taken_all : State → Given
-taken_all g = record { entries = takes g; state = after_all g (takes g); goes_on = true }
+taken_all g = record { entries = takes g; state = after_all g (takes g) }
 
 -- these entries first
 abbrev pub behind : List Entry → Given → Given
 behind entries more = record more { entries = entries ++ more.entries }
 
--- one part, and where it goes on, the next in the state after it
+-- one part, and the next in the state after it
 abbrev pub and_then : Given → (State → Given) → Given
-and_then first more = if first.goes_on then behind first.entries (more first.state) else first
+and_then first more = behind first.entries (more first.state)
 
 -- one message of a session
 abbrev pub message : State → ℕ → Arrival → Given
-message g session arrival = if is_some (verdict g arrival) then input g (Host session arrival) else stops g
+message g session arrival = input g 0 (event.Host session arrival)
 
 -- The messages of a session, in order, and then the end of the session where a length below 10 follows them.
 -- What comes behind the end of the session is dropped.
 abbrev pub messages : State → ℕ → List Arrival → Bool → Given
 messages g session [] short =
-    if short && is_session_up g session then input g (LinkDown session ShortLength) else nothing g
+    if short && is_session_up g session then input g 0 (event.LinkDown session ShortLength) else nothing g
 messages g session (arrival ∷ arrivals) short =
     if is_session_up g session then and_then (message g session arrival) (λ h. messages h session arrivals short)
     else nothing g
@@ -74,21 +69,23 @@ pub record Reading : Type 0 where
   pub state : State
   pub stream : List ℕ
 
-abbrev pub first_reading : Reading
-first_reading = record { state = opening; stream = [] }
+abbrev pub first_reading : Config → Reading
+first_reading c = record { state = opening c; stream = [] }
 
 -- what bytes of the session give: what becomes whole of the stream by them
 abbrev pub bytes_given : Reading → List ℕ → Given
 bytes_given r bytes =
     let arrivals = drop (length (arrivals_of text_bytes r.stream)) (arrivals_of text_bytes (r.stream ++ bytes)) in
-    messages r.state r.state.session arrivals (is_short (behind_of (r.stream ++ bytes)))
+    messages r.state r.state.link.session arrivals (is_short (behind_of (r.stream ++ bytes)))
 
--- what a line gives; without a session bytes are dropped, and a lost link is skipped
+-- what a line gives; without a session bytes are dropped, and a lost link is skipped; a moment at which nothing is due
+-- gives nothing
 abbrev pub line_given : Reading → Line → Given
 line_given r Skip = nothing r.state
-line_given r Up = input r.state LinkUp
-line_given r Down = if is_up r.state then input r.state (LinkDown r.state.session PeerEnd) else nothing r.state
+line_given r Up = input r.state 0 event.LinkUp
+line_given r Down = if is_up r.state then input r.state 0 (event.LinkDown r.state.link.session PeerEnd) else nothing r.state
 line_given r (Bytes bytes) = if is_up r.state then bytes_given r bytes else nothing r.state
+line_given r (Time at) = if is_some (step r.state at event.Tick) then input r.state at event.Tick else nothing r.state
 
 -- the bytes of the session after a line: a new session begins with none
 abbrev pub stream_after : Reading → Line → List ℕ
@@ -96,12 +93,16 @@ stream_after r Skip = r.stream
 stream_after r Up = if is_up r.state then r.stream else []
 stream_after r Down = r.stream
 stream_after r (Bytes bytes) = r.stream ++ bytes
+stream_after r (Time at) = r.stream
+
+-- the reading after a line
+abbrev pub reading_after : Reading → Line → Reading
+reading_after r line = record { state = (line_given r line).state; stream = stream_after r line }
 
 -- where a text of lines stops, by the number of the line, counted from 1
 pub data Stop : Type 0 where
   AllRead : Stop
   OutsideGrammar : ℕ → Stop
-  NotBuilt : ℕ → Stop
 
 -- the entries of a text, and where it stops
 pub record Told : Type 0 where
@@ -111,24 +112,17 @@ pub record Told : Type 0 where
 abbrev pub told_behind : List Entry → Told → Told
 told_behind entries told = record told { entries = entries ++ told.entries }
 
--- the reading after a line
-abbrev pub reading_after : Reading → Line → Reading
-reading_after r line = record { state = (line_given r line).state; stream = stream_after r line }
-
 -- What a line tells, by what it says, and what follows it tells in the reading after it. A text stops before a line
--- outside the grammar, and before a message that isn't built.
+-- outside the grammar.
 abbrev pub line_told : ℕ → Reading → Option Line → (Reading → Told) → Told
 line_told number r None more = record { entries = []; stop = OutsideGrammar number }
-line_told number r (Some line) more =
-    let given = line_given r line in
-    if given.goes_on then told_behind given.entries (more (reading_after r line))
-    else record { entries = given.entries; stop = NotBuilt number }
+line_told number r (Some line) more = told_behind (line_given r line).entries (more (reading_after r line))
 
 -- what lines tell, the first of which has this number
 abbrev pub feed_lines : ℕ → Reading → List (List ℕ) → Told
 feed_lines number r [] = record { entries = []; stop = AllRead }
 feed_lines number r (line ∷ lines) = line_told number r (line_of line) (λ next. feed_lines (number + 1) next lines)
 
--- the entries of a text
-abbrev pub feed_entries : List ℕ → Told
-feed_entries text = feed_lines 1 first_reading (lines_of text)
+-- the entries of a text, where no limit of the history stops it
+abbrev pub feed_entries : Config → List ℕ → Told
+feed_entries c text = feed_lines 1 (first_reading c) (lines_of text)

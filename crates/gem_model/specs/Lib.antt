@@ -1,8 +1,6 @@
 pub mod Choose
 pub mod Front
 pub mod State
-pub mod Act
-pub mod LinkTable
 pub mod Messages
 pub mod Step
 pub mod Run

@@ -1,6 +1,8 @@
 -- The input as lines, and what a line says (this tool's profile, input lines).
-use Rattle.std.specs.Prelude.{ℕ, ◌||◌, ◌==◌, nat_lt, nat_eq, if◌then◌else◌, List, [], ◌∷◌, length, drop, codes, Option, Some, None, option_and_then}
-use Rattle.std.specs.List.{starts_with, list_any}
+use Rattle.std.specs.Prelude.{ℕ, ◌||◌, ◌==◌, nat_lt, nat_eq, if◌then◌else◌, List, [], ◌∷◌, length, drop, codes, Option, Some, None, option_and_then, ◌+◌, ◌*◌, ◌-◌, ◌&&◌, nat_le, fold, not, Bool, true, false}
+use Rattle.std.specs.List.{starts_with, list_any, list_all}
+use Rattle.std.specs.Char.{is_ascii_digit}
+use Rattle.tool_events.specs.Configs.{last_moment}
 use Rattle.std.specs.Str.{bytes_eq}
 use Rattle.std.specs.Result.{result_ok}
 use Rattle.hex.specs.Hex.{decode_of}
@@ -29,6 +31,8 @@ pub data Line : Type 0 where
   Down : Line
   -- bytes of the host come
   Bytes : List ℕ → Line
+  -- the clock is looked at, at this moment
+  Time : ℕ → Line
 
 -- the greatest line, in bytes
 abbrev pub line_bytes : ℕ
@@ -42,6 +46,21 @@ hex_line digits = option_and_then (λ (bytes : List ℕ). not_empty bytes) (resu
     not_empty [] = None
     not_empty (b ∷ bs) = Some (Bytes (b ∷ bs))
 
+-- what decimal digits stand for
+abbrev pub decimal_value : List ℕ → ℕ
+decimal_value digits = fold (λ n digit. 10 * n + (digit - 48)) 0 digits
+
+-- decimal digits, at least one, of which the first is 0 only where it stands alone
+abbrev pub is_number : List ℕ → Bool
+is_number digits =
+    not (bytes_eq digits []) && list_all is_ascii_digit digits
+    && (nat_eq (length digits) 1 || not (starts_with nat_eq digits (codes "0")))
+
+-- a moment is a number up to the last moment
+abbrev pub moment_line : List ℕ → Option Line
+moment_line digits =
+    if is_number digits && nat_le (decimal_value digits) last_moment then Some (Time (decimal_value digits)) else None
+
 -- what a line says, by its text
 abbrev pub line_by_text : List ℕ → Option Line
 line_by_text line =
@@ -49,7 +68,8 @@ line_by_text line =
     else (if bytes_eq line (codes "L+") then Some Up
     else (if bytes_eq line (codes "L-") then Some Down
     else (if starts_with nat_eq line (codes "H ") then hex_line (drop 2 line)
-    else None)))
+    else (if starts_with nat_eq line (codes "T ") then moment_line (drop 2 line)
+    else None))))
 
 -- what a line says, where it is in the grammar; a line that is too long is outside it, whatever it holds
 abbrev pub line_of : List ℕ → Option Line

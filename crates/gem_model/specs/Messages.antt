@@ -1,60 +1,66 @@
 -- The data messages: what each does, and its reply (SEMI E5, streams and functions; bodies of this tool's profile).
-use Rattle.std.specs.Prelude.{ℕ, ◌%◌, Bool, ◌&&◌, ◌==◌, nat_le, List, [], ◌∷◌, ◌++◌, Option, codes}
+use Rattle.std.specs.Prelude.{ℕ, ◌%◌, Bool, not, ◌==◌, nat_le, List, [], ◌∷◌, unwrap_or}
 use Rattle.hsms_frame.specs.declared.frame.Header.{Header}
 use Rattle.hsms_frame.specs.declared.frame.Arrival.{Arrival}
 use Rattle.hsms_frame.specs.declared.frame.Arrival.TheVariants as arrival
-use Rattle.hsms_frame.specs.Spelling.{message_bytes}
-use Rattle.secs_items.specs.Data.{list, ascii, item, no_items}
+use Rattle.hsms_frame.specs.Spelling.{header_bytes, message_bytes}
+use Rattle.secs_items.specs.Data.{list, ascii, binary, item, no_items}
 use Rattle.secs_items.specs.Plain.{plain}
+use Rattle.tool_events.specs.declared.config.Config.{Config}
 use Rattle.gem_model.specs.Choose.{Line, choose}
-use Rattle.gem_model.specs.State.{State, is_selected}
-use Rattle.gem_model.specs.Act.{Act, answered, unanswered}
-use Rattle.gem_model.specs.LinkTable.{link_table}
+use Rattle.std.specs.Prelude.{true, false}
 
--- the tool's device id, model and software revision, as the known configuration has them
-abbrev pub device : ℕ
-device = 0
-
-abbrev pub mdln : List ℕ
-mdln = codes "GEM300"
-
-abbrev pub softrev : List ℕ
-softrev = codes "1.0.00"
-
--- the W-bit, the highest of byte 2, asks for a reply; the stream is the rest of byte 2
-abbrev pub wants_reply : Header → Bool
-wants_reply h = nat_le 128 h.byte2
-
--- a data message of this stream and function to this device, in a link that is selected
-abbrev pub is_message : State → Header → ℕ → ℕ → Bool
-is_message g h stream function =
-    is_selected g.phase && ((h.ptype == 0) && ((h.stype == 0) && ((h.session == device) && ((h.byte2 % 128 == stream) && (h.byte3 == function)))))
-
--- a reply: the device id, no W-bit, the system bytes of the primary, and the plain spelling of the body
-abbrev pub reply_frame : ℕ → ℕ → ℕ → List ℕ → List ℕ
-reply_frame stream function system text =
-    message_bytes (record { session = device; byte2 = stream; byte3 = function; ptype = 0; stype = 0; system = system }) text
-
--- S1F2: the model and the software revision
-abbrev pub on_line_data : List ℕ
-on_line_data = plain (list (item (ascii mdln) (item (ascii softrev) no_items)))
-
-abbrev line : Bool → Act → Line Act
-line fits act = record { fits = fits; gives = act }
-
--- S1F1, whatever its text is, is answered by S1F2 where a reply is wanted
-abbrev pub data_table : State → Header → List (Line Act)
-data_table g h =
-    line (is_message g h 1 1 && wants_reply h) (answered g.phase (reply_frame 1 2 h.system on_line_data)) ∷
-    (line (is_message g h 1 1) (unanswered g.phase) ∷ [])
-
--- the header of what arrived
+-- the header of what arrived, and whether its text was too long to be taken
 abbrev pub header_of : Arrival → Header
 header_of (arrival.Frame f) = f.header
 header_of (arrival.TooLong header field) = header
 
--- What a message of the host does, looked up in the state before it. Of a control message the header alone counts,
--- so that one whose text is too long is treated like any other. A message that no line fits is not built yet.
-abbrev pub verdict : State → Arrival → Option Act
-verdict g (arrival.Frame f) = choose (link_table g f.header ++ data_table g f.header)
-verdict g (arrival.TooLong header field) = choose (link_table g header)
+abbrev pub is_too_long : Arrival → Bool
+is_too_long (arrival.Frame f) = false
+is_too_long (arrival.TooLong header field) = true
+
+-- the W-bit, the highest of byte 2, asks for a reply; the stream is the rest of byte 2, the function is byte 3
+abbrev pub wants_reply : Header → Bool
+wants_reply h = nat_le 128 h.byte2
+
+abbrev pub stream_of : Header → ℕ
+stream_of h = h.byte2 % 128
+
+-- what a data message is answered: nothing, a message of stream 9 of this function, or a reply with its text
+pub data Verdict : Type 0 where
+  Silent : Verdict
+  Stream9 : ℕ → Verdict
+  Reply : ℕ → ℕ → List ℕ → Verdict
+
+-- S1F2: the model and the software revision
+abbrev pub on_line_data : Config → List ℕ
+on_line_data c = plain (list (item (ascii c.mdln) (item (ascii c.softrev) no_items)))
+
+abbrev line : Bool → Verdict → Line Verdict
+line fits verdict = record { fits = fits; gives = verdict }
+
+-- The rules for data messages, of which the first that fits decides. A message of another device is told by S9F1, and
+-- one whose text is too long by S9F11. A message of stream 9 and one that answers nothing of the tool are discarded. An
+-- unknown stream is told by S9F3, and an unknown function by S9F5. S1F1 is answered, whatever its text is.
+abbrev pub data_rules : Config → Header → Bool → List (Line Verdict)
+data_rules c h too_long =
+    line (not (h.session == c.device)) (Stream9 1) ∷
+    (line too_long (Stream9 11) ∷
+    (line (stream_of h == 9) Silent ∷
+    (line (h.byte3 % 2 == 0) Silent ∷
+    (line (not (stream_of h == 1)) (Stream9 3) ∷
+    (line (not (h.byte3 == 1)) (Stream9 5) ∷
+    (line (wants_reply h) (Reply 1 2 (on_line_data c)) ∷ []))))))
+
+-- what a data message is answered; S1F1 that wants no reply gets none
+abbrev pub verdict : Config → Header → Bool → Verdict
+verdict c h too_long = unwrap_or (choose (data_rules c h too_long)) Silent
+
+-- a data message of the tool: the device id as session id, the stream with no W-bit, and the function
+abbrev pub data_frame : ℕ → ℕ → ℕ → ℕ → List ℕ → List ℕ
+data_frame device stream function system text =
+    message_bytes (record { session = device; byte2 = stream; byte3 = function; ptype = 0; stype = 0; system = system }) text
+
+-- a message of stream 9 tells the ten header bytes that it is about
+abbrev pub stream9_frame : ℕ → ℕ → ℕ → Header → List ℕ
+stream9_frame device function system about = data_frame device 9 function system (plain (binary (header_bytes about)))

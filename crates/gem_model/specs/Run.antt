@@ -1,15 +1,22 @@
 -- Histories: the steps of their entries, one after another.
-use Rattle.std.specs.Prelude.{◌≡◌, List, [], ◌∷◌, Some}
-use Rattle.tool_events.specs.declared.Entry.{Entry}
+use Rattle.std.specs.Prelude.{◌≡◌, List, [], ◌∷◌, Option, Some}
+use Rattle.tool_events.specs.declared.entry.Entry.{Entry}
 use Rattle.gem_model.specs.State.{State}
 use Rattle.gem_model.specs.Step.{Outcome, step, after}
+
+-- the step of an entry, and the state after it
+abbrev pub entry_step : State → Entry → Option Outcome
+entry_step g entry = step g entry.at.0 entry.event
+
+abbrev pub entry_after : State → Entry → State
+entry_after g entry = after g entry.at.0 entry.event
 
 -- the steps of the entries lead from g to h, and none of them had to wait
 abbrev pub Run : State → List Entry → State → Type 0
 Run g [] h = h ≡ g
-Run g (entry ∷ entries) h = (o : Outcome) × (step g entry.event ≡ Some o) × Run o.after entries h
+Run g (entry ∷ entries) h = (o : Outcome) × (entry_step g entry ≡ Some o) × Run o.after entries h
 
 -- the state that the entries lead to
 abbrev pub after_all : State → List Entry → State
 after_all g [] = g
-after_all g (entry ∷ entries) = after_all (after g entry.event) entries
+after_all g (entry ∷ entries) = after_all (entry_after g entry) entries

@@ -3,7 +3,7 @@
 #![tactic(auto, unfolding(crate::proofs::OnLiterals::feed_on_literals))]
 
 ghost use Rattle.std.specs.Prelude.{◌≡◌, codes};
-ghost use Rattle.gem_model.specs.Feed.{AllRead, OutsideGrammar, NotBuilt};
+ghost use Rattle.gem_model.specs.Feed.{AllRead, OutsideGrammar};
 ghost use Rattle.gem_model.specs.Conversation.{answer_to, stop_of};
 
 /// Where nothing comes, nothing is printed.
@@ -95,8 +95,34 @@ pub fn a_line_is_outside_the_grammar()
     ensures stop { stop_of (codes "L+\nH 0\nL-\n") ≡ OutsideGrammar 2 }
 {}
 
-/// S1F1 before the link is selected is not built, and stops the reading.
-pub fn a_message_is_not_built()
-    ensures printed { answer_to (codes "L+\nH 0000000A00008101000000000003\nL-\n") ≡ codes "+ 1\n" }
-    ensures stop { stop_of (codes "L+\nH 0000000A00008101000000000003\nL-\n") ≡ NotBuilt 2 }
+/// A data message before the link is selected is rejected, with reason 4.
+pub fn data_before_select_is_rejected()
+    ensures { answer_to (codes "L+\nH 0000000A00008101000000000003\n")
+        ≡ codes "+ 1\n> 0000000A00000004000700000003\n" }
+{}
+
+/// A response to nothing is rejected with reason 3, an unknown session type with reason 1, and an unknown presentation
+/// type with reason 2.
+pub fn what_is_not_known_is_rejected()
+    ensures unknown { answer_to (codes "L+\nH 0000000AFFFF0000000300000004\nH 0000000AFFFF0000000800000005\nH 0000000AFFFF0000050000000006\n")
+        ≡ codes "+ 1\n> 0000000AFFFF0301000700000004\n> 0000000AFFFF0801000700000005\n> 0000000AFFFF0502000700000006\n" }
+    ensures response { answer_to (codes "L+\nH 0000000AFFFF0000000200000007\n")
+        ≡ codes "+ 1\n> 0000000AFFFF0203000700000007\n" }
+{}
+
+/// A link that isn't selected in time ends at its 1,000th hundredth of a second, and not before.
+pub fn a_link_is_selected_in_time_or_ends()
+    ensures before { answer_to (codes "L+\nT 999\n") ≡ codes "+ 1\n" }
+    ensures at { answer_to (codes "L+\nT 999\nT 1000\n") ≡ codes "+ 1\n- 1 T7\n" }
+{}
+
+/// A message to another device, an unknown stream and an unknown function are each told by a message of stream 9, which
+/// has the ten header bytes and system bytes of the tool's own.
+pub fn a_message_that_is_not_known_is_told()
+    ensures device { answer_to (codes "L+\nH 0000000AFFFF0000000100000001\nH 0000000A0001810100000000000B\n")
+        ≡ codes "+ 1\n> 0000000AFFFF0000000200000001\n> 0000001600000901000000000001210A0001810100000000000B\n" }
+    ensures stream { answer_to (codes "L+\nH 0000000AFFFF0000000100000001\nH 0000000A0000821100000000000A\n")
+        ≡ codes "+ 1\n> 0000000AFFFF0000000200000001\n> 0000001600000903000000000001210A0000821100000000000A\n" }
+    ensures function { answer_to (codes "L+\nH 0000000AFFFF0000000100000001\nH 0000000A0000810300000000000A\n")
+        ≡ codes "+ 1\n> 0000000AFFFF0000000200000001\n> 0000001600000905000000000001210A0000810300000000000A\n" }
 {}

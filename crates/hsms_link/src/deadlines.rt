@@ -25,7 +25,7 @@ pub enum LinkDue {
 const LAST_MOMENT: u64 = 25_245_561_599_999;
 
 // This time after `since` has come. A sum past the last moment never comes.
-fn has_come(since: Moment, time: u32, at: Moment) -> bool
+pub fn has_come(since: Moment, time: u32, at: Moment) -> bool
     ensures { result ≡ has_come (since.0 + time) at.0 }
 {
     match since.0.checked_add(u64::from(time)) {

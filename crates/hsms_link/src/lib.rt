@@ -12,6 +12,6 @@ mod table;
 #[cfg(test)]
 mod tests;
 
-pub use deadlines::{LinkDue, LinkTimes};
+pub use deadlines::{LinkDue, LinkTimes, has_come};
 pub use state::{LinkState, Phase, Ping};
 pub use table::LinkAct;

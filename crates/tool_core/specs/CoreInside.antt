@@ -1,13 +1,21 @@
 -- What is true of the core at every moment.
-use Rattle.std.specs.Prelude.{◌≡◌, ◌≤◌, List, length}
-use Rattle.tool_events.specs.declared.Entry.{Entry}
-use Rattle.tool_events.specs.declared.SessionCause.{SessionCause}
+use Rattle.std.specs.Prelude.{◌≡◌, ℕ, ◌≤◌, List, length}
+use Rattle.tool_events.specs.declared.config.Config.{Config}
+use Rattle.tool_events.specs.declared.entry.Entry.{Entry}
+use Rattle.tool_events.specs.declared.event.SessionCause.{SessionCause}
+use Rattle.tool_events.specs.Configs.{IsConfig}
 use Rattle.gem_model.specs.State.{State, opening}
 use Rattle.gem_model.specs.Run.{Run}
 use Rattle.gem_model.specs.Sessions.{ends_of}
+use Rattle.gem_model.specs.Sizes.{bytes_of}
 
--- the history leads to the state, the causes are those of its sessions, and there were no more sessions than entries
-pub record Replays (state : State) (history : List Entry) (ends : List SessionCause) : Type 0 where
-  pub run : Run opening history state
-  pub sessions : state.session ≤ length history
-  pub causes : ends ≡ ends_of opening history
+-- The history leads to the state, the causes are those of its sessions, there were no more sessions than entries, and
+-- it is within the limits of the configuration.
+pub record Replays (c : Config) (state : State) (history : List Entry) (ends : List SessionCause) (bytes : ℕ) : Type 0 where
+  pub config : IsConfig c
+  pub run : Run (opening c) history state
+  pub sessions : state.link.session ≤ length history
+  pub causes : ends ≡ ends_of (opening c) history
+  pub bytes_are : bytes ≡ bytes_of history
+  pub entries_fit : length history ≤ c.max_entries
+  pub bytes_fit : bytes ≤ c.max_bytes

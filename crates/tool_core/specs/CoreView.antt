@@ -1,8 +1,12 @@
--- What the core is to its callers: the state of the tool, and the history that led to it.
-use Rattle.std.specs.Prelude.{List}
-use Rattle.tool_events.specs.declared.Entry.{Entry}
+-- What the core is to its callers: the configuration, the state of the tool, the history that led to it, and whether it
+-- can go on. After want of memory it can't.
+use Rattle.std.specs.Prelude.{Bool, List}
+use Rattle.tool_events.specs.declared.config.Config.{Config}
+use Rattle.tool_events.specs.declared.entry.Entry.{Entry}
 use Rattle.gem_model.specs.State.{State}
 
 pub record CoreView : Type 0 where
+  pub config : Config
   pub state : State
   pub history : List Entry
+  pub is_whole : Bool

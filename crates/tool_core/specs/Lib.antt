@@ -1,5 +1,4 @@
-pub mod PlantView
 pub mod Reply
 pub mod CoreView
-pub mod Steps
 pub mod CoreInside
+pub mod Steps

@@ -1,11 +1,18 @@
 -- What an event did, as the step of the tables.
-use Rattle.std.specs.Prelude.{◌≡◌, Some}
-use Rattle.tool_events.specs.declared.Event.{Event}
+use Rattle.std.specs.Prelude.{◌≡◌, ℕ, Some}
+use Rattle.tool_events.specs.declared.event.Event.{Event}
 use Rattle.tool_core.specs.declared.plant.Reaction.{Reaction}
 use Rattle.gem_model.specs.State.{State}
-use Rattle.gem_model.specs.Step.{step}
+use Rattle.gem_model.specs.Step.{Outcome, step, step_from}
 
--- the event's step has this answer, ended the session so, and leads to this state
-abbrev pub Steps : State → Event → Reaction → State → Type 0
-Steps old event reaction new =
-    step old event ≡ Some (record { answer = reaction.answer; ended = reaction.ended; after = new })
+-- what a reaction is, with the state that it leads to
+abbrev pub outcome_of : Reaction → State → Outcome
+outcome_of reaction new = record { answer = reaction.answer; ended = reaction.ended; after = new }
+
+-- in a state whose moment was raised from this one, the event's step is this reaction, and leads to this state
+abbrev pub StepsFrom : ℕ → State → Event → Reaction → State → Type 0
+StepsFrom before old event reaction new = step_from before old event ≡ Some (outcome_of reaction new)
+
+-- the same for an event that is posted with a moment
+abbrev pub Steps : State → ℕ → Event → Reaction → State → Type 0
+Steps old at event reaction new = step old at event ≡ Some (outcome_of reaction new)

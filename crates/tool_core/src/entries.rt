@@ -11,7 +11,7 @@ pub struct Entries {
 
 impl Model for Entries {
     ghost use Rattle.std.specs.Prelude.{List};
-    ghost use Rattle.tool_events.specs.declared.Entry.{Entry};
+    ghost use Rattle.tool_events.specs.declared.entry.Entry.{Entry};
 
     ghost Value = { List Entry };
 

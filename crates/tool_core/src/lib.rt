@@ -3,14 +3,16 @@
 //! The same events give the same history: the core reads no clock, no file and no link. Moments are handed in, and
 //! frames are handed out when the writer takes them. Begin with `Core::open`, then `Core::apply`.
 //!
-//! Built are the link's select, linktest and separate messages (SEMI E37) and S1F1 (SEMI E5).
+//! Built are the whole link table and T7 (SEMI E37), and of the data messages S1F1 and the errors of stream 9 (SEMI E5).
 #![tactic(auto)]
 
+mod data;
 mod entries;
-mod link;
 mod plant;
 mod reply;
+#[cfg(test)]
+mod tests;
 mod tool;
 
 pub use entries::Entries;
-pub use tool::{Core, PostFault};
+pub use tool::Core;

@@ -1,18 +1,31 @@
 //! The plant: what the tool is, and what each event does to it.
-ghost use Rattle.std.specs.Prelude.{◌≡◌, ◌+◌, ◌^◌, ◌<◌, ◌↔◌, length, IsTrue, IfSome, IfNone, OnErr, IfOk, is_some, if◌then◌else◌};
-ghost use Rattle.tool_events.specs.declared.Event.TheVariants as event;
-ghost use Rattle.gem_model.specs.State.{opening, is_up, is_session_up};
-ghost use Rattle.gem_model.specs.Messages.{verdict};
-ghost use Rattle.gem_model.specs.Step.{step, without_session};
-ghost use Rattle.tool_core.specs.Steps.{Steps};
+ghost use Rattle.std.specs.Prelude.{◌≡◌, ◌+◌, ◌^◌, ◌<◌, ◌↔◌, length, IsTrue, IfSome, IfNone, OnOk, OnErr, IfOk, true, if◌then◌else◌};
+ghost use Rattle.tool_events.specs.declared.event.Event.TheVariants as event;
+ghost use Rattle.gem_model.specs.State.{opening, is_up, is_session_up, without_session, raised};
+ghost use Rattle.gem_model.specs.Messages.{verdict, header_of};
+ghost use Rattle.gem_model.specs.Step.{step, step_from, data_done, hosted, link_times, heartbeat};
+ghost use Rattle.hsms_link.specs.Deadlines.{due_at};
+ghost use Rattle.hsms_link.specs.LinkTable.{link_act};
+ghost use Rattle.tool_core.specs.Steps.{Steps, StepsFrom, outcome_of};
 
-use crate::link::{LinkPhase, header_of, treat};
-use crate::reply::make_reply;
-use hsms_frame::{Arrival, Bytes};
+use crate::data::{DataAct, data_act, header_of, is_too_long};
+use crate::reply::{header_frame, on_line_frame, stream9_frame};
+use gem_ids::Moment;
+use hsms_frame::{Arrival, Bytes, Header};
+use hsms_link::{LinkAct, LinkDue, LinkState, LinkTimes, Phase, Ping, has_come};
 use std::alloc::{AllocError, Global};
 use std::collections::VecDeque;
 use std::marker::Model;
-use tool_events::{Answer, Event, SessionCause};
+use tool_events::{Answer, Config, Event, SessionCause};
+
+/// How long no answer may come to the tool's linktest, in hundredths of a second (SEMI E37, T6).
+const T6: u32 = 500;
+
+/// The heartbeat comes so many hundredths of a second after the last moment.
+const HEARTBEAT: u32 = 100;
+
+/// The last hundredth of a second of the year 9999.
+const LAST_MOMENT: u64 = 25_245_561_599_999;
 
 /// What an event is answered, and why it ended the session that was up, if it did.
 #[derive(Debug, Drop)]
@@ -41,12 +54,14 @@ impl Reaction {
     }
 }
 
-/// What the tool is: how many sessions came up, where the link of the last stands, and the frames that wait for
-/// the writer. Contracts see it as the state of the tables.
+/// What the tool is: its configuration, the moment, the link of the last session, the system bytes of its next message,
+/// and the frames that wait for the writer. Contracts see it as the state of the tables.
 #[derive(Drop)]
 pub struct Plant {
-    session: u64,
-    phase: LinkPhase,
+    config: Config,
+    moment: Moment,
+    link: LinkState,
+    next_system: u32,
     waiting: VecDeque<Bytes>,
 }
 
@@ -55,39 +70,46 @@ impl Model for Plant {
 
     ghost Value = { State };
 
-    ghost use Rattle.tool_core.specs.PlantView.{state_of};
-
-    ghost view = { λ p. state_of p.session p.phase p.waiting.items };
+    ghost view = { λ p. record { config = p.config; moment = p.moment.0; link = p.link; next_system = p.next_system; waiting = p.waiting.items } };
 }
 
 impl Plant {
     /// The first state.
-    pub fn open(alloc: Global) -> Plant
-        ensures { result ≡ opening }
+    pub fn open(alloc: Global, config: &Config) -> Plant
+        ensures { result ≡ opening config.now }
     {
         Plant {
-            session: 0,
-            phase: LinkPhase::Down,
+            config: *config,
+            moment: config.start_moment,
+            link: LinkState {
+                session: 0,
+                phase: Phase::Down,
+                ping: Ping::Off,
+            },
+            next_system: 1,
             waiting: VecDeque::new(alloc),
         }
+    }
+
+    /// Whether a session is up.
+    fn is_up(&self) -> bool
+        ensures { result ≡ is_up self.now }
+    {
+        self.link.phase != Phase::Down
     }
 
     /// Whether this session is up.
     pub fn is_session_up(&self, session: u64) -> bool
         ensures { result ≡ is_session_up self.now session }
     {
-        self.phase != LinkPhase::Down && self.session == session
+        self.is_up() && self.link.session == session
     }
 
     /// The session that is up.
     pub fn session_up(&self) -> Option<u64>
-        ensures { result ≡ (if is_up self.now then Some self.now.session else None) }
+        ensures { result ≡ (if is_up self.now then Some self.now.link.session else None) }
     {
-        if self.phase == LinkPhase::Down {
-            None
-        } else {
-            Some(self.session)
-        }
+        self.is_up().then_some(self.link.session)
     }
 
     /// Whether a frame waits.
@@ -97,29 +119,48 @@ impl Plant {
         !self.waiting.is_empty()
     }
 
-    /// Whether a message is built.
-    pub fn is_built(&self, arrival: &Arrival) -> bool
-        ensures { result ≡ is_some (verdict self.now arrival.now) }
+    /// The times of the link.
+    fn link_times(&self) -> LinkTimes
+        ensures { result ≡ link_times self.now.config }
     {
-        treat(self.phase, arrival).is_some()
+        LinkTimes {
+            t6: T6,
+            t7: self.config.t7,
+            period: 0,
+        }
+    }
+
+    /// The moment of a step that is given this one.
+    fn raised(&self, at: Moment) -> Moment
+        ensures { result.0 ≡ (raised self.now at.0).moment }
+    {
+        Moment(self.moment.0.max(at.0).min(LAST_MOMENT))
     }
 
     /// A link comes up. While one is up, nothing changes.
     pub fn link_up(&mut self) -> Reaction
-        requires { self.old.session + 1 < 2 ^ 64 }
-        ensures { Steps self.old event.LinkUp result self.new }
+        requires { self.old.link.session + 1 < 2 ^ 64 }
+        ensures { StepsFrom self.old.moment self.old event.LinkUp result self.new }
     {
-        if self.phase != LinkPhase::Down {
+        if self.is_up() {
             return Reaction::answered(Answer::Ended);
         }
-        self.session += 1;
-        self.phase = LinkPhase::NotSelected;
-        Reaction::answered(Answer::Session(self.session))
+        let session = self.link.session + 1;
+        self.link.up(session, self.moment);
+        Reaction::answered(Answer::Session(session))
+    }
+
+    /// The link is down, and the frames that wait are gone.
+    fn end_session(&mut self)
+        ensures { self.new ≡ without_session self.old }
+    {
+        self.link.down();
+        self.waiting.clear();
     }
 
     /// The link of a session is lost, for this cause.
     pub fn link_down(&mut self, session: u64, cause: SessionCause) -> Reaction
-        ensures { Steps self.old (event.LinkDown session cause) result self.new }
+        ensures { StepsFrom self.old.moment self.old (event.LinkDown session cause) result self.new }
     {
         if !self.is_session_up(session) {
             return Reaction::answered(Answer::Ended);
@@ -128,18 +169,10 @@ impl Plant {
         Reaction::ended(Answer::Done, cause)
     }
 
-    /// The link is down, and the frames that wait are gone.
-    fn end_session(&mut self)
-        ensures { self.new ≡ without_session self.old }
-    {
-        self.phase = LinkPhase::Down;
-        self.waiting.clear();
-    }
-
     /// The oldest frame that waits leaves.
     pub fn take(&mut self, session: u64) -> Option<Reaction>
-        ensures some { IfSome result (λ reaction. Steps self.old (event.Take session) reaction self.new) }
-        ensures none { IfNone result (step self.old (event.Take session) ≡ None) }
+        ensures some { IfSome result (λ reaction. StepsFrom self.old.moment self.old (event.Take session) reaction self.new) }
+        ensures none { IfNone result (step_from self.old.moment self.old (event.Take session) ≡ None) }
         ensures same { IfNone result (self.new ≡ self.old) }
     {
         if !self.is_session_up(session) {
@@ -151,63 +184,172 @@ impl Plant {
         }
     }
 
-    /// A message of the host arrives. None: it is not built. Then, and after want of memory, nothing has changed.
+    /// A data message arrives: what it is answered waits for the writer.
+    fn data(&mut self, alloc: Global, header: &Header, too_long: bool) -> Result<(), AllocError>
+        ensures done { OnOk result (self.new ≡ data_done self.old header.now (verdict self.old.config header.now too_long)) }
+        ensures same { OnErr result (self.new ≡ self.old) }
+    {
+        match data_act(&self.config, header, too_long) {
+            DataAct::Silent => {}
+            DataAct::Stream9(function) => {
+                let device = self.config.device;
+                let frame = stream9_frame(alloc, device, function, self.next_system, *header)?;
+                self.waiting.push_back(frame)?;
+                self.next_system = self.next_system.wrapping_add(1);
+            }
+            DataAct::OnLineData => {
+                let frame = on_line_frame(alloc, &self.config, header.system)?;
+                self.waiting.push_back(frame)?;
+            }
+        }
+        Ok(())
+    }
+
+    /// A message of the session that is up arrives. After want of memory nothing has changed.
+    fn message(&mut self, alloc: Global, arrival: &Arrival) -> Result<Reaction, AllocError>
+        requires { is_up self.old ≡ true }
+        ensures done { IfOk result (λ reaction. hosted self.old arrival.now (link_act (header_of arrival.now) self.old.link) ≡ outcome_of reaction self.new) }
+        ensures same { OnErr result (self.new ≡ self.old) }
+    {
+        let header = header_of(arrival);
+        let mut link = self.link;
+        match link.take(&header, self.moment) {
+            LinkAct::Reply(reply) => {
+                let frame = header_frame(alloc, reply)?;
+                self.waiting.push_back(frame)?;
+                self.link = link;
+            }
+            LinkAct::Data => self.data(alloc, &header, is_too_long(arrival))?,
+            LinkAct::Ended => {
+                self.end_session();
+                return Ok(Reaction::ended(Answer::Ended, SessionCause::Separated));
+            }
+            LinkAct::Nothing => self.link = link,
+        }
+        Ok(Reaction::answered(Answer::Done))
+    }
+
+    /// A message of the host arrives. After want of memory nothing has changed.
     pub fn host(
         &mut self,
         alloc: Global,
         session: u64,
         arrival: &Arrival,
-    ) -> Result<Option<Reaction>, AllocError>
-        ensures some { IfOk result (λ r. IfSome r (λ reaction. Steps self.old (event.Host session arrival.now) reaction self.new)) }
-        ensures none { IfOk result (λ r. IfNone r (step self.old (event.Host session arrival.now) ≡ None)) }
-        ensures same { IfOk result (λ r. IfNone r (self.new ≡ self.old)) }
-        ensures no_memory { OnErr result (self.new ≡ self.old) }
+    ) -> Result<Reaction, AllocError>
+        ensures done { IfOk result (λ reaction. StepsFrom self.old.moment self.old (event.Host session arrival.now) reaction self.new) }
+        ensures same { OnErr result (self.new ≡ self.old) }
     {
         if !self.is_session_up(session) {
-            return Ok(Some(Reaction::answered(Answer::Ended)));
+            return Ok(Reaction::answered(Answer::Ended));
         }
-        let Some(treatment) = treat(self.phase, arrival) else {
-            return Ok(None);
-        };
-        if treatment.phase == LinkPhase::Down {
-            self.end_session();
-            let reaction = Reaction::ended(Answer::Ended, SessionCause::Separated);
-            return Ok(Some(reaction));
-        }
-        if let Some(reply) = treatment.reply {
-            self.waiting
-                .push_back(make_reply(alloc, header_of(arrival).system, reply)?)?;
-        }
-        self.phase = treatment.phase;
-        Ok(Some(Reaction::answered(Answer::Done)))
+        self.message(alloc, arrival)
     }
 
-    /// What an event does. None: it has to wait. Then, and after want of memory, nothing has changed.
-    pub fn react(&mut self, alloc: Global, event: &Event) -> Result<Option<Reaction>, AllocError>
-        requires { self.old.session + 1 < 2 ^ 64 }
-        ensures some { IfOk result (λ r. IfSome r (λ reaction. Steps self.old event.now reaction self.new)) }
-        ensures none { IfOk result (λ r. IfNone r (step self.old event.now ≡ None)) }
+    /// What is due on the link at this moment.
+    fn due(&self, at: Moment) -> Option<LinkDue>
+        ensures { result ≡ due_at (link_times self.now.config) self.now.link at.0 }
+    {
+        self.link.due(self.link_times(), at)
+    }
+
+    /// The clock is looked at, and the moment was raised from this one.
+    fn tick(&mut self, before: Moment) -> Option<Reaction>
+        ensures some { IfSome result (λ reaction. StepsFrom before.0 self.old event.Tick reaction self.new) }
+        ensures none { IfNone result (step_from before.0 self.old event.Tick ≡ None) }
+        ensures same { IfNone result (self.new ≡ self.old) }
+    {
+        match self.due(self.moment) {
+            Some(LinkDue::T7) => {
+                self.end_session();
+                Some(Reaction::ended(Answer::Done, SessionCause::T7))
+            }
+            Some(LinkDue::T6) => {
+                self.end_session();
+                Some(Reaction::ended(Answer::Done, SessionCause::T6))
+            }
+            Some(LinkDue::AskLinktest) => None,
+            None if has_come(before, HEARTBEAT, self.moment) => {
+                Some(Reaction::answered(Answer::Done))
+            }
+            None => None,
+        }
+    }
+
+    /// What an event does, where the moment was raised from this one. None: it has to wait. Then, and after want of
+    /// memory, nothing has changed.
+    fn act(
+        &mut self,
+        alloc: Global,
+        before: Moment,
+        event: &Event,
+    ) -> Result<Option<Reaction>, AllocError>
+        requires { self.old.link.session + 1 < 2 ^ 64 }
+        ensures some { IfOk result (λ r. IfSome r (λ reaction. StepsFrom before.0 self.old event.now reaction self.new)) }
+        ensures none { IfOk result (λ r. IfNone r (step_from before.0 self.old event.now ≡ None)) }
         ensures same { IfOk result (λ r. IfNone r (self.new ≡ self.old)) }
         ensures no_memory { OnErr result (self.new ≡ self.old) }
     {
         match event {
             Event::LinkUp => Ok(Some(self.link_up())),
             Event::LinkDown { session, cause } => Ok(Some(self.link_down(*session, *cause))),
-            Event::Host { session, arrival } => self.host(alloc, *session, arrival),
+            Event::Host { session, arrival } => Ok(Some(self.host(alloc, *session, arrival)?)),
             Event::Take { session } => Ok(self.take(*session)),
+            Event::Oper(_) => Ok(Some(Reaction::answered(Answer::Oper(false)))),
+            Event::Signal(_) => Ok(Some(Reaction::answered(Answer::Done))),
+            Event::Tick => Ok(self.tick(before)),
+            Event::Fetch(_) | Event::Listen | Event::Watch(_) => Ok(None),
         }
     }
 
-    /// Whether an event has to wait: a take that finds no frame, and a message that is not built.
-    pub fn must_wait(&self, event: &Event) -> bool
-        ensures { IsTrue result ↔ (step self.now event.now ≡ None) }
+    /// What an event does that is posted at a moment. None: it has to wait. Then, and after want of memory, nothing has
+    /// changed.
+    pub fn react(
+        &mut self,
+        alloc: Global,
+        at: Moment,
+        event: &Event,
+    ) -> Result<Option<Reaction>, AllocError>
+        requires { self.old.link.session + 1 < 2 ^ 64 }
+        ensures some { IfOk result (λ r. IfSome r (λ reaction. Steps self.old at.0 event.now reaction self.new)) }
+        ensures none { IfOk result (λ r. IfNone r (step self.old at.0 event.now ≡ None)) }
+        ensures same { IfOk result (λ r. IfNone r (self.new ≡ self.old)) }
+        ensures no_memory { OnErr result (self.new ≡ self.old) }
+    {
+        let before = self.moment;
+        self.moment = self.raised(at);
+        let reacted = self.act(alloc, before, event);
+        if !matches!(reacted, Ok(Some(_))) {
+            self.moment = before;
+        }
+        reacted
+    }
+
+    /// Whether nothing is due at this moment: no deadline of the link, and not the heartbeat.
+    fn is_quiet(&self, at: Moment) -> bool
+        ensures { IsTrue result ↔ (step self.now at.0 event.Tick ≡ None) }
+    {
+        let at = self.raised(at);
+        match self.due(at) {
+            Some(LinkDue::T7 | LinkDue::T6) => false,
+            Some(LinkDue::AskLinktest) => true,
+            None => !has_come(self.moment, HEARTBEAT, at),
+        }
+    }
+
+    /// Whether an event has to wait at this moment: a take that finds no frame, a look at the clock that finds nothing
+    /// due, and those for which nothing is built.
+    pub fn must_wait(&self, at: Moment, event: &Event) -> bool
+        ensures { IsTrue result ↔ (step self.now at.0 event.now ≡ None) }
     {
         match event {
-            Event::LinkUp | Event::LinkDown { .. } => false,
-            Event::Host { session, arrival } => {
-                self.is_session_up(*session) && !self.is_built(arrival)
-            }
             Event::Take { session } => self.is_session_up(*session) && !self.has_waiting(),
+            Event::Tick => self.is_quiet(at),
+            Event::Fetch(_) | Event::Listen | Event::Watch(_) => true,
+            Event::LinkUp
+            | Event::LinkDown { .. }
+            | Event::Host { .. }
+            | Event::Oper(_)
+            | Event::Signal(_) => false,
         }
     }
 }

@@ -1,46 +1,57 @@
-//! The frames of replies.
-ghost use Rattle.std.specs.Prelude.{◌≡◌, IfOk};
-ghost use Rattle.gem_model.specs.LinkTable.{control_frame};
-ghost use Rattle.gem_model.specs.Messages.{on_line_data};
+//! The frames that the tool sends.
+ghost use Rattle.std.specs.Prelude.{◌≡◌, ◌≤◌, length, [], IfOk};
 ghost use Rattle.secs_items.specs.Data.{ascii};
 ghost use Rattle.secs_items.specs.View.{view};
-ghost use Rattle.tool_core.specs.Reply.{frame_of};
+ghost use Rattle.hsms_frame.specs.Spelling.{message_bytes, header_bytes};
+ghost use Rattle.gem_model.specs.Messages.{on_line_data, data_frame, stream9_frame};
+ghost use Rattle.secs_items.specs.Plain.{plain};
+ghost use Rattle.secs_items.specs.Sendable.{IsSendable};
 
-use crate::link::Reply;
 use hsms_frame::{Bytes, Frame, Header, write_frame, write_header};
 use secs_items::{Item, Items, encode};
 use std::alloc::{AllocError, Global};
+use tool_events::Config;
 
-/// The model of the known configuration, and its software revision.
-const MDLN: &[u8] = b"GEM300";
-
-const SOFTREV: &[u8] = b"1.0.00";
-
-/// A control message: no text, and session id FFFF.
-fn control_frame(alloc: Global, byte3: u8, stype: u8, system: u32) -> Result<Bytes, AllocError>
-    ensures { IfOk result (λ frame. frame ≡ control_frame byte3 stype system) }
+/// A frame without text.
+pub fn header_frame(alloc: Global, header: Header) -> Result<Bytes, AllocError>
+    ensures { IfOk result (λ frame. frame ≡ message_bytes header []) }
 {
-    let header = Header {
-        session: 0xffff,
-        byte2: 0,
-        byte3,
-        ptype: 0,
-        stype,
-        system,
-    };
     let frame = Vec::from_slice(alloc, &write_header(header))?;
     Ok(Bytes::from_vec(frame))
 }
 
-/// The text of S1F2, the model and the software revision.
-fn on_line_data(alloc: Global) -> Result<Bytes, AllocError>
-    ensures { IfOk result (λ text. text ≡ on_line_data) }
+/// A data message of the tool, with no W-bit.
+fn data_frame(
+    alloc: Global,
+    device: u16,
+    stream: u8,
+    function: u8,
+    system: u32,
+    text: Bytes,
+) -> Result<Bytes, AllocError>
+    requires { length text ≤ 16777216 }
+    ensures { IfOk result (λ frame. frame ≡ data_frame device stream function system text) }
 {
-    let mut items = Vec::new(alloc);
-    items.push(ascii(alloc, MDLN)?)?;
-    items.push(ascii(alloc, SOFTREV)?)?;
+    let header = Header {
+        session: device,
+        byte2: stream,
+        byte3: function,
+        ptype: 0,
+        stype: 0,
+        system,
+    };
+    let mut frame = Vec::new(alloc);
+    write_frame(&Frame { header, text }, &mut frame)?;
+    Ok(Bytes::from_vec(frame))
+}
+
+/// The text of an item.
+fn text_of(alloc: Global, item: &Item) -> Result<Bytes, AllocError>
+    requires { IsSendable (view item.now) }
+    ensures { IfOk result (λ text. text ≡ plain (view item.now)) }
+{
     let mut text = Vec::new(alloc);
-    encode(&Item::List(Items::from_vec(items)), &mut text)?;
+    encode(item, &mut text)?;
     Ok(Bytes::from_vec(text))
 }
 
@@ -48,29 +59,49 @@ fn on_line_data(alloc: Global) -> Result<Bytes, AllocError>
 fn ascii(alloc: Global, text: &[u8]) -> Result<Item, AllocError>
     ensures { IfOk result (λ item. view item ≡ ascii text.now) }
 {
-    Ok(Item::Ascii(secs_items::Bytes::from_vec(Vec::from_slice(alloc, text)?)))
+    let bytes = Vec::from_slice(alloc, text)?;
+    Ok(Item::Ascii(secs_items::Bytes::from_vec(bytes)))
 }
 
-/// The frame of a reply to a message with these system bytes.
-pub fn make_reply(alloc: Global, system: u32, reply: Reply) -> Result<Bytes, AllocError>
-    ensures { IfOk result (λ frame. frame ≡ frame_of system reply) }
+/// The text of S1F2, the model and the software revision.
+fn on_line_data(alloc: Global, config: &Config) -> Result<Bytes, AllocError>
+    ensures text { IfOk result (λ text. text ≡ on_line_data config.now) }
+    ensures short { IfOk result (λ text. length text ≤ 200) }
 {
-    match reply {
-        Reply::Select(status) => control_frame(alloc, status, 2, system),
-        Reply::Linktest => control_frame(alloc, 0, 6, system),
-        Reply::OnLineData => {
-            let header = Header {
-                session: 0,
-                byte2: 1,
-                byte3: 2,
-                ptype: 0,
-                stype: 0,
-                system,
-            };
-            let text = on_line_data(alloc)?;
-            let mut frame = Vec::new(alloc);
-            write_frame(&Frame { header, text }, &mut frame)?;
-            Ok(Bytes::from_vec(frame))
-        }
-    }
+    let mut items = Vec::new(alloc);
+    items.push(ascii(alloc, config.mdln.as_bytes())?)?;
+    items.push(ascii(alloc, config.softrev.as_bytes())?)?;
+    text_of(alloc, &Item::List(Items::from_vec(items)))
+}
+
+/// S1F2 under the system bytes of its request.
+pub fn on_line_frame(alloc: Global, config: &Config, system: u32) -> Result<Bytes, AllocError>
+    ensures { IfOk result (λ frame. frame ≡ data_frame config.now.device 1 2 system (on_line_data config.now)) }
+{
+    let text = on_line_data(alloc, config)?;
+    data_frame(alloc, config.device, 1, 2, system, text)
+}
+
+/// The ten bytes of a header.
+#[tactic(auto, unfolding(hsms_frame::specs::Spelling::message_bytes))]
+fn ten_bytes(header: Header) -> [u8; 10]
+    ensures { result ≡ header_bytes header }
+{
+    let [_, _, _, _, b0, b1, b2, b3, b4, b5, b6, b7, b8, b9] = write_header(header);
+    [b0, b1, b2, b3, b4, b5, b6, b7, b8, b9]
+}
+
+/// A message of stream 9 of this function, under these system bytes, that tells the header of a message.
+pub fn stream9_frame(
+    alloc: Global,
+    device: u16,
+    function: u8,
+    system: u32,
+    about: Header,
+) -> Result<Bytes, AllocError>
+    ensures { IfOk result (λ frame. frame ≡ stream9_frame device function system about) }
+{
+    let bytes = Vec::from_slice(alloc, &ten_bytes(about))?;
+    let text = text_of(alloc, &Item::Binary(secs_items::Bytes::from_vec(bytes)))?;
+    data_frame(alloc, device, 9, function, system, text)
 }

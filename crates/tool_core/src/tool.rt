@@ -1,35 +1,35 @@
 //! The core: the plant and the history that led to it.
-ghost use Rattle.std.specs.Prelude.{◌≡◌, ◌+◌, ◌^◌, ◌<◌, ◌↔◌, [], ◌∷◌, ◌++◌, IsTrue, Some, None, OnOk, OnErr, IfOk, IsErrOf, if◌then◌else◌, vec_len, vec_capacity};
+ghost use Rattle.std.specs.Prelude.{ℕ, ◌≡◌, ◌≤◌, ◌+◌, ◌^◌, ◌<◌, ◌↔◌, [], ◌∷◌, ◌++◌, length, IsTrue, true, false, ◌&&◌, ◌||◌, not, nat_le, nat_lt, Some, None, Err, OnOk, OnErr, IfOk, IsErrOf, if◌then◌else◌, vec_len, vec_capacity};
 ghost use Rattle.std.specs.Option.{option_to_list};
+ghost use Rattle.tool_events.specs.declared.answer.PostFault.TheVariants as PostFault;
+ghost use Rattle.tool_events.specs.Configs.{IsConfig};
+ghost use Rattle.tool_events.specs.Posts as posts;
+ghost use Rattle.tool_events.specs.Sizes.{event_bytes};
 ghost use Rattle.gem_model.specs.State.{opening, is_up, is_session_up};
 ghost use Rattle.gem_model.specs.Step.{Outcome, step};
 ghost use Rattle.gem_model.specs.Run.{Run};
 ghost use Rattle.gem_model.specs.Sessions.{session_end};
+ghost use Rattle.gem_model.specs.Sizes.{bytes_of, is_full};
 
 use crate::entries::Entries;
 use crate::plant::Plant;
 use gem_ids::Moment;
-use std::alloc::{AllocError, AllocFailed, Global};
+use hsms_frame::Arrival;
+use std::alloc::Global;
 use std::marker::Model;
-use tool_events::{Answer, Entry, Event, SessionCause};
+use tool_events::{Answer, Config, Entry, Event, PostFault, SessionCause};
 
-/// Why an event was not taken. Nothing has changed then.
-#[derive(Clone, Copy, Debug, PartialEq, Eq)]
-pub enum PostFault {
-    /// The event has to wait: a take that finds no frame, or a message that is not built.
-    Again,
-    /// There was no memory.
-    NoMemory,
-}
-
-impl From<AllocError> for PostFault {
-    ghost use Rattle.std.specs.Prelude.{◌≡◌};
-    ghost use Rattle.tool_core.specs.declared.tool.PostFault.TheVariants.{NoMemory};
-
-    ghost from_gives = { λ _ e. e ≡ NoMemory };
-
-    fn from(_e: AllocError) -> PostFault {
-        PostFault::NoMemory
+/// How much text an event holds, in bytes: that of a frame of the host. One that is too long holds none.
+fn event_bytes(event: &Event) -> u64
+    ensures value { result ≡ event_bytes event.now }
+    ensures short { result < 2 ^ 63 }
+{
+    match event {
+        Event::Host {
+            arrival: Arrival::Frame(frame),
+            ..
+        } => frame.text.as_slice().len() as u64,
+        _ => 0,
     }
 }
 
@@ -43,45 +43,49 @@ fn add_end(ends: &mut Vec<SessionCause>, ended: Option<SessionCause>)
     }
 }
 
-/// The tool, with its history. Contracts see its state and its history.
+/// The tool, with its history. Contracts see its configuration, its state, its history, and whether it can go on.
 #[derive(Drop)]
 pub struct Core {
+    config: Config,
     plant: Plant,
     entries: Vec<Entry>,
     ends: Vec<SessionCause>,
+    bytes: u64,
+    is_whole: bool,
 }
 
 impl Model for Core {
-    ghost use Rattle.std.specs.Prelude.{◌≤◌, length};
     ghost use Rattle.tool_core.specs.CoreView.{CoreView};
 
     ghost Value = { CoreView };
 
-    ghost use Rattle.gem_model.specs.State.{opening};
-    ghost use Rattle.gem_model.specs.Run.{Run};
     ghost use Rattle.tool_core.specs.CoreInside.{Replays};
 
-    ghost view = { λ c. record { state = c.plant; history = c.entries.items } };
+    ghost view = { λ c. record { config = c.config; state = c.plant; history = c.entries.items; is_whole = c.is_whole } };
 
-    ghost invariant = { λ c. Replays c.plant c.entries.items c.ends.items };
+    ghost invariant = { λ c. Replays c.config c.plant c.entries.items c.ends.items c.bytes };
 }
 
 impl Core {
     /// The core in its first state, with no history.
-    pub fn open(alloc: Global) -> Core
-        ensures { result ≡ record { state = opening; history = [] } }
+    pub fn open(alloc: Global, config: &Config) -> Core
+        requires { IsConfig config.now }
+        ensures { result ≡ record { config = config.now; state = opening config.now; history = []; is_whole = true } }
     {
         Core {
-            plant: Plant::open(alloc),
+            config: *config,
+            plant: Plant::open(alloc, config),
             entries: Vec::new(alloc),
             ends: Vec::new(alloc),
+            bytes: 0,
+            is_whole: true,
         }
     }
 
     /// The history, the oldest entry first. It is a run from the first state.
     pub fn history(&self) -> &[Entry]
         ensures history { result.now ≡ self.now.history }
-        ensures run { Run opening self.now.history self.now.state }
+        ensures run { Run (opening self.now.config) self.now.history self.now.state }
     {
         self.entries.as_slice()
     }
@@ -89,7 +93,7 @@ impl Core {
     /// Hands out the history.
     pub fn close(self) -> Entries
         ensures history { result ≡ self.history }
-        ensures run { Run opening self.history self.state }
+        ensures run { Run (opening self.config) self.history self.state }
     {
         let Core { entries, .. } = self;
         Entries::from_vec(entries)
@@ -97,7 +101,7 @@ impl Core {
 
     /// The session that is up.
     pub fn session_up(&self) -> Option<u64>
-        ensures { result ≡ (if is_up self.now.state then Some self.now.state.session else None) }
+        ensures { result ≡ (if is_up self.now.state then Some self.now.state.link.session else None) }
     {
         self.plant.session_up()
     }
@@ -111,7 +115,7 @@ impl Core {
 
     /// Why a session ended. None: it is up, or never came.
     pub fn session_end(&self, session: u64) -> Option<SessionCause>
-        ensures { result ≡ session_end opening self.now.history session }
+        ensures { result ≡ session_end (opening self.now.config) self.now.history session }
     {
         if session == 0 {
             return None;
@@ -119,14 +123,69 @@ impl Core {
         self.ends.get((session - 1) as usize).copied()
     }
 
-    /// Whether an event has to wait.
-    pub fn idle(&self, event: &Event) -> bool
-        ensures { IsTrue result ↔ (step self.now.state event.now ≡ None) }
+    /// How much text the history holds, in bytes.
+    pub fn bytes(&self) -> u64
+        ensures { result ≡ bytes_of self.now.history }
     {
-        self.plant.must_wait(event)
+        self.bytes
     }
 
-    /// Takes an event that this seat posts at this moment, answers it, and adds it to the history.
+    /// Whether an event has to wait that is posted at this moment.
+    pub fn idle(&self, at: Moment, event: &Event) -> bool
+        ensures { IsTrue result ↔ (step self.now.state at.0 event.now ≡ None) }
+    {
+        self.plant.must_wait(at, event)
+    }
+
+    /// Whether the history takes no event with so much text, in bytes, any more.
+    fn is_full(&self, bytes: u64) -> bool
+        requires { bytes < 2 ^ 63 }
+        ensures { result ≡ (nat_le self.now.config.max_entries (length self.now.history) || nat_lt self.now.config.max_bytes (bytes_of self.now.history + bytes)) }
+    {
+        self.entries.len() as u64 >= self.config.max_entries
+            || self.bytes + bytes > self.config.max_bytes
+    }
+
+    /// Answers an event for which there is room, and adds it to the history.
+    fn record(
+        &mut self,
+        alloc: Global,
+        seat: u32,
+        at: Moment,
+        event: Event,
+    ) -> Result<Answer, PostFault>
+        requires { is_full self.old.config self.old.history event ≡ false }
+        ensures step { IfOk result (λ answer. (o : Outcome) × (step self.old.state at.0 event ≡ Some o)
+            × (o.answer ≡ answer) × (self.new.state ≡ o.after)) }
+        ensures entry { OnOk result (self.new.history
+            ≡ self.old.history ++ record { seat = seat; at = at; event = event } ∷ []) }
+        ensures again { IsErrOf result PostFault.Again → step self.old.state at.0 event ≡ None }
+        ensures not_full { posts.is_full result ≡ false }
+        ensures unchanged { OnErr result (self.new ≡ self.old) }
+        ensures config { self.new.config ≡ self.old.config }
+        ensures whole { self.new.is_whole ≡ self.old.is_whole }
+    {
+        let Ok(()) = self.entries.reserve(1) else {
+            return Err(PostFault::NoMemory);
+        };
+        let Ok(()) = self.ends.reserve(1) else {
+            return Err(PostFault::NoMemory);
+        };
+        let Ok(reacted) = self.plant.react(alloc, at, &event) else {
+            return Err(PostFault::NoMemory);
+        };
+        let Some(reaction) = reacted else {
+            return Err(PostFault::Again);
+        };
+        self.bytes += event_bytes(&event);
+        self.entries.push_reserved(Entry { seat, at, event });
+        add_end(&mut self.ends, reaction.ended);
+        Ok(reaction.answer)
+    }
+
+    /// Takes an event that this seat posts at this moment, answers it, and adds it to the history. `Full`: the history
+    /// takes no more entries, or not so much text. `Again`: the event has to wait. After want of memory the history is as
+    /// before, and every later event that is not answered `Full` is answered `NoMemory`.
     pub fn apply(
         &mut self,
         alloc: Global,
@@ -134,23 +193,31 @@ impl Core {
         at: Moment,
         event: Event,
     ) -> Result<Answer, PostFault>
-        ensures step { IfOk result (λ answer. (o : Outcome) × (step self.old.state event ≡ Some o)
+        ensures step { IfOk result (λ answer. (o : Outcome) × (step self.old.state at.0 event ≡ Some o)
             × (o.answer ≡ answer) × (self.new.state ≡ o.after)) }
         ensures entry { OnOk result (self.new.history
             ≡ self.old.history ++ record { seat = seat; at = at; event = event } ∷ []) }
-        ensures again { IsErrOf result PostFault.Again → step self.old.state event ≡ None }
-        ensures unchanged { OnErr result (self.new ≡ self.old) }
+        ensures full { posts.is_full result ≡ is_full self.old.config self.old.history event }
+        ensures full_entries { (n : ℕ) → IsErrOf result (PostFault.Full n) → n ≡ length self.old.history }
+        ensures not_whole { self.old.is_whole ≡ false → is_full self.old.config self.old.history event ≡ false → result ≡ Err PostFault.NoMemory }
+        ensures again { IsErrOf result PostFault.Again → step self.old.state at.0 event ≡ None }
+        ensures config { self.new.config ≡ self.old.config }
+        ensures whole { self.new.is_whole ≡ (self.old.is_whole && not (posts.is_want result)) }
+        ensures unchanged { OnErr result (self.new ≡ record self.old { is_whole = self.new.is_whole }) }
         // The history is a run from the first state, before the call and after it.
-        ensures ran { Run opening self.old.history self.old.state }
-        ensures run { Run opening self.new.history self.new.state }
+        ensures ran { Run (opening self.old.config) self.old.history self.old.state }
+        ensures run { Run (opening self.new.config) self.new.history self.new.state }
     {
-        self.entries.reserve(1)?;
-        self.ends.reserve(1)?;
-        let Some(reaction) = self.plant.react(alloc, &event)? else {
-            return Err(PostFault::Again);
-        };
-        self.entries.push_reserved(Entry { seat, at, event });
-        add_end(&mut self.ends, reaction.ended);
-        Ok(reaction.answer)
+        if self.is_full(event_bytes(&event)) {
+            return Err(PostFault::Full(self.entries.len() as u64));
+        }
+        if !self.is_whole {
+            return Err(PostFault::NoMemory);
+        }
+        let answer = self.record(alloc, seat, at, event);
+        if matches!(answer, Err(PostFault::NoMemory)) {
+            self.is_whole = false;
+        }
+        answer
     }
 }

@@ -1,0 +1,20 @@
+-- What a configuration may say (this tool's profile, configuration).
+use Rattle.std.specs.Prelude.{ℕ, ◌≤◌, length}
+use Rattle.tool_events.specs.declared.config.Config.{Config}
+
+-- the last hundredth of the year 9999
+abbrev pub last_moment : ℕ
+last_moment = 25245561599999
+
+pub record IsConfig (c : Config) : Type 0 where
+  pub device : c.device ≤ 32767
+  pub mdln_some : 1 ≤ length c.mdln
+  pub mdln : length c.mdln ≤ 20
+  pub softrev_some : 1 ≤ length c.softrev
+  pub softrev : length c.softrev ≤ 20
+  pub t7_least : 100 ≤ c.t7
+  pub t7 : c.t7 ≤ 12000
+  pub entries_some : 1 ≤ c.max_entries
+  pub entries : c.max_entries ≤ 4000000
+  pub bytes : c.max_bytes ≤ 536870912
+  pub start : c.start_moment.0 ≤ last_moment

@@ -1,0 +1,46 @@
+use gem_ids::{CmdNo, LocId, SubstrateId, Text80};
+use hsms_frame::Bytes;
+
+/// What a module is to do.
+#[derive(Clone, Copy, Debug, PartialEq, Eq)]
+pub enum Task {
+    Pick { sub: SubstrateId, from: LocId },
+    Place { sub: SubstrateId, to: LocId },
+    Align { sub: SubstrateId },
+    Process { sub: SubstrateId, recipe: Text80 },
+}
+
+/// A command to a module. Commands are numbered from 1.
+#[derive(Clone, Copy, Debug, PartialEq, Eq)]
+pub struct Command {
+    pub number: CmdNo,
+    pub task: Task,
+}
+
+/// What an event is answered.
+#[derive(Debug, Drop)]
+pub enum Answer {
+    /// It was done.
+    Done,
+    /// The link is up as this session.
+    Session(u64),
+    /// The frame that was taken, all of its bytes.
+    Frame(Bytes),
+    /// The command that was fetched.
+    Command(Command),
+    /// The session is not up, or another one is up already.
+    Ended,
+    /// Whether the operator's command was accepted.
+    Oper(bool),
+}
+
+/// Why an event was not taken.
+#[derive(Clone, Copy, Debug, PartialEq, Eq)]
+pub enum PostFault {
+    /// The event has to wait: what it wants is not there yet. Nothing has changed.
+    Again,
+    /// The history has so many entries, and takes no more, or not so much text. Nothing has changed.
+    Full(u64),
+    /// There was no memory. The history is as before.
+    NoMemory,
+}

@@ -1,0 +1,104 @@
+use gem_ids::{CarrierId, CmdNo, JobId, ModuleId, PortNo, SubstrateId};
+use hsms_frame::Arrival;
+
+/// Why a session ended.
+#[derive(Clone, Copy, Debug, PartialEq, Eq)]
+pub enum SessionCause {
+    /// A read of the link failed.
+    ReadFault,
+    /// A write of the link failed, or took nothing of a piece.
+    WriteFault,
+    /// The peer closed the link.
+    PeerEnd,
+    /// A length field below 10 came, with which no frame begins.
+    ShortLength,
+    /// The peer sent a separate message.
+    Separated,
+    /// No answer came to the tool's linktest in time.
+    T6,
+    /// The link was not selected in time.
+    T7,
+    /// The operator ended the run.
+    Quit,
+    /// The run ended while the session was up.
+    Stopped,
+}
+
+/// What the equipment tells.
+#[derive(Clone, Copy, Debug, PartialEq, Eq)]
+pub enum Signal {
+    /// A carrier was placed at a port. The id is there where it was read; the map has a code from 0 to 5 for each of the
+    /// slots 1 to 25.
+    Placed {
+        port: PortNo,
+        id: Option<CarrierId>,
+        map: [u8; 25],
+    },
+    /// The carrier at a port was taken away.
+    Removed(PortNo),
+    /// A module did the command of this number.
+    Done(ModuleId, CmdNo),
+    /// A module failed at the command of this number.
+    Failed(ModuleId, CmdNo),
+    /// A module went down.
+    Down(ModuleId),
+}
+
+/// What an operator tells a process job.
+#[derive(Clone, Copy, Debug, PartialEq, Eq)]
+pub enum JobWord {
+    Start,
+    Pause,
+    Resume,
+    Stop,
+    Abort,
+    Cancel,
+}
+
+/// What an operator wants.
+#[derive(Clone, Copy, Debug, PartialEq, Eq)]
+pub enum OperCmd {
+    Enable,
+    Disable,
+    Online,
+    Offline,
+    Local,
+    Remote,
+    /// A port goes in service, or out of it.
+    Service(PortNo, bool),
+    /// The access of a port is automatic, or manual.
+    Access(PortNo, bool),
+    Job(JobId, JobWord),
+    /// A command, 1 to 8, to a control job.
+    CtlJob(JobId, u8),
+    /// A module is up again.
+    Up(ModuleId),
+    /// The alarm of this number is cleared.
+    Clear(u32),
+    /// A substrate is lost.
+    Lost(SubstrateId),
+    Quit,
+}
+
+/// What happens to the tool.
+#[derive(Debug, Drop)]
+pub enum Event {
+    /// A link came up.
+    LinkUp,
+    /// The link of this session was lost.
+    LinkDown { session: u64, cause: SessionCause },
+    /// A message of the host arrived in this session.
+    Host { session: u64, arrival: Arrival },
+    /// The writer of this session wants the next frame that waits.
+    Take { session: u64 },
+    Oper(OperCmd),
+    Signal(Signal),
+    /// This module wants its command.
+    Fetch(ModuleId),
+    /// The clock is looked at.
+    Tick,
+    /// The door has no link.
+    Listen,
+    /// A script waits until this port is ready to unload.
+    Watch(PortNo),
+}

@@ -9,5 +9,6 @@ pub mod Sizes
 pub mod Command
 pub mod Lines
 pub mod Feed
+pub mod SessionBytes
 pub mod Printed
 pub mod Conversation

@@ -1,5 +1,5 @@
 -- How much a history holds, and when it is full.
-use Rattle.std.specs.Prelude.{ℕ, ◌+◌, Bool, ◌||◌, nat_lt, nat_le, List, length, sum_by}
+use Rattle.std.specs.Prelude.{ℕ, ◌+◌, ◌-◌, ◌^◌, min, Bool, ◌||◌, nat_lt, nat_le, List, length, sum_by}
 use Rattle.tool_events.specs.declared.entry.Entry.{Entry}
 use Rattle.tool_events.specs.declared.event.Event.{Event}
 use Rattle.tool_events.specs.declared.config.Config.{Config}
@@ -13,3 +13,7 @@ bytes_of entries = sum_by (λ (e : Entry). event_bytes e.event) entries
 abbrev pub is_full : Config → List Entry → Event → Bool
 is_full c history event =
     nat_le c.max_entries (length history) || nat_lt c.max_bytes (bytes_of history + event_bytes event)
+
+-- a count stands still at the greatest that its 64 bits hold (this tool's profile, limits)
+abbrev pub counted : ℕ → ℕ
+counted n = min n (2 ^ 64 - 1)

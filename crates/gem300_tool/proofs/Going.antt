@@ -1,5 +1,5 @@
 -- One part of feed after another.
-use Rattle.std.proofs.Common.{◌≡◌, ℕ, ◌≤◌, inl, inr, Bool, true, false, List, [], ◌∷◌, ◌++◌, Option, Some, None, Result, Ok, Err, refl, sym, ◌∙◌, ap, append_assoc, arith, option_map, option_and_then, if◌then◌else◌}
+use Rattle.std.proofs.Common.{◌≡◌, ℕ, ◌<◌, ◌≤◌, inl, inr, Bool, true, false, List, [], ◌∷◌, ◌++◌, Option, Some, None, Result, Ok, Err, refl, sym, ◌∙◌, ap, append_assoc, arith, length, length-append, option_map, option_and_then, if◌then◌else◌}
 use Rattle.std.proofs.lemmas.List.{append-nil}
 use Rattle.outside.specs.Told.{Written}
 use Rattle.tool_events.specs.declared.entry.Entry.{Entry}
@@ -35,6 +35,15 @@ IsFront-append front more = record { behind = more; joined = refl }
 pub IsFront-wider : {A : Type 0} → (front xs ys : List A) → IsFront front xs → IsFront front (xs ++ ys)
 IsFront-wider front xs ys h = record { behind = h.behind ++ ys; joined = ap (λ zs. zs ++ ys) h.joined ∙ append_assoc front h.behind ys }
 
+pub IsFront-same : {A : Type 0} → (xs ys : List A) → ys ≡ xs → IsFront xs ys
+IsFront-same xs ys same = record { behind = []; joined = same ∙ sym (append-nil xs) }
+
+pub IsFront-then : {A : Type 0} → (xs ys zs : List A) → IsFront xs ys → IsFront ys zs → IsFront xs zs
+IsFront-then xs ys zs h i = record { behind = h.behind ++ i.behind; joined = i.joined ∙ ap (λ es. es ++ i.behind) h.joined ∙ append_assoc xs h.behind i.behind }
+
+pub IsFront-length : {A : Type 0} → (xs ys : List A) → IsFront xs ys → length xs ≤ length ys
+IsFront-length xs ys h = omega (arith, ap length h.joined, length-append xs h.behind)
+
 -- nothing was added to the history
 pub record Unmoved (core core' : CoreView) : Type 0 where
   pub config : core'.config ≡ core.config
@@ -48,6 +57,8 @@ pub Goes-unmoved : (core core' : CoreView) (out : SinkView) (given : Given) → 
 Goes-unmoved core core' out given same = record {
   config = same.config;
   went = rw same.history (IsFront-append core.history given.entries);
+  grows = IsFront-same core.history core'.history same.history;
+  wrote = λ e. absurd (cc);
   shows = λ start shows. WrittenFront-all start out.held (printed (opening core'.config) core'.history) (shows_unmoved start core core' out same shows);
   cause = λ e. absurd (cc);
   faults_stay = omega arith;
@@ -59,6 +70,8 @@ pub Goes-full : (core core' : CoreView) (out : SinkView) (given : Given) (entry 
 Goes-full core core' out given entry behind same is full = record {
   config = same.config;
   went = record { next = entry; behind = behind; joined = rw same.history (ap (λ (es : List Entry). core.history ++ es) is); full = rw same.history full };
+  grows = IsFront-same core.history core'.history same.history;
+  wrote = λ e. absurd (cc);
   shows = λ start shows. shows_unmoved start core core' out same shows;
   cause = λ e. absurd (cc);
   faults_stay = omega arith;
@@ -82,10 +95,15 @@ added_lines : (core core' : CoreView) (entry : Entry) (o : Outcome) → Added co
 added_lines core core' entry o added =
     ap (λ (c : Config). printed (opening c) core'.history) added.config ∙ ap (printed (opening core.config)) added.history ∙ printed-snoc (opening core.config) core.history core.state entry o added.ran added.here
 
+added_grows : (core core' : CoreView) (entry : Entry) (o : Outcome) → Added core core' entry o → IsFront core.history core'.history
+added_grows core core' entry o added = record { behind = entry ∷ []; joined = added.history }
+
 pub Goes-added : (core core' : CoreView) (out out' : SinkView) (entry : Entry) (o : Outcome) (lines : List ℕ) → Added core core' entry o → lines ≡ outcome_lines core.state o → Written out.held out'.held lines → out.faults ≤ out'.faults → out.refusals ≤ out'.refusals → Goes core core' out out' (one core entry) (Ok tt)
 Goes-added core core' out out' entry o lines added is written faults refusals = record {
   config = added.config;
   went = (added.history, added.state ∙ sym (after-step core.state entry.at.0 entry.event o added.here));
+  grows = added_grows core core' entry o added;
+  wrote = λ e. absurd (cc);
   shows = λ start shows. rw (added_lines core core' entry o added, ← is) (Written-more start out.held out'.held (printed (opening core.config) core.history) lines shows written);
   cause = λ e. absurd (cc);
   faults_stay = faults;
@@ -96,6 +114,8 @@ pub Goes-added-write : (core core' : CoreView) (out out' : SinkView) (entry : En
 Goes-added-write core core' out out' entry o lines added is written cause faults refusals = record {
   config = added.config;
   went = rw added.history (record { behind = []; joined = sym (append-nil (core.history ++ entry ∷ [])) });
+  grows = added_grows core core' entry o added;
+  wrote = λ e. omega (arith, ap length added.history, length-append core.history (entry ∷ []));
   shows = λ start shows. rw (added_lines core core' entry o added, ← is) (WrittenFront-more start out.held out'.held (printed (opening core.config) core.history) lines shows written);
   cause = λ e. cause;
   faults_stay = faults;
@@ -106,6 +126,8 @@ pub Goes-added-memory : (core core' : CoreView) (out : SinkView) (entry : Entry)
 Goes-added-memory core core' out entry o added = record {
   config = added.config;
   went = rw added.history (record { behind = []; joined = sym (append-nil (core.history ++ entry ∷ [])) });
+  grows = added_grows core core' entry o added;
+  wrote = λ e. absurd (cc);
   shows = λ start shows. rw (added_lines core core' entry o added) (WrittenFront-wider start out.held (printed (opening core.config) core.history) (outcome_lines core.state o) (WrittenFront-all start out.held (printed (opening core.config) core.history) shows));
   cause = λ e. absurd (cc);
   faults_stay = omega arith;
@@ -160,6 +182,8 @@ pub Goes-then : (a b c : CoreView) (o1 o2 o3 : SinkView) (first more : Given) (r
 Goes-then a b c o1 o2 o3 first more result h i = record {
   config = i.config ∙ h.config;
   went = went_then a b c first more result h.config h.went i.went;
+  grows = IsFront-then a.history b.history c.history h.grows i.grows;
+  wrote = λ e. omega (arith, IsFront-length a.history b.history h.grows, i.wrote e);
   shows = λ start shows. i.shows start (h.shows start shows);
   cause = λ e. Failed-wider o1.faults o2.faults o3.faults o1.refusals o2.refusals o3.refusals h.faults_stay i.faults_stay h.refusals_stay i.refusals_stay (i.cause e);
   faults_stay = omega (arith, h.faults_stay, i.faults_stay);
@@ -182,6 +206,8 @@ pub Goes-halts : (a b : CoreView) (o1 o2 : SinkView) (first more : Given) (why :
 Goes-halts a b o1 o2 first more why h = record {
   config = h.config;
   went = went_halts a b first more why h.went;
+  grows = h.grows;
+  wrote = h.wrote;
   shows = h.shows;
   cause = h.cause;
   faults_stay = h.faults_stay;
@@ -193,6 +219,8 @@ pub Goes-nothing : (core : CoreView) (out : SinkView) → Goes core core out out
 Goes-nothing core out = record {
   config = refl;
   went = (sym (append-nil core.history), refl);
+  grows = IsFront-same core.history core.history refl;
+  wrote = λ e. absurd (cc);
   shows = λ start shows. shows;
   cause = λ e. absurd (cc);
   faults_stay = omega arith;

@@ -1,4 +1,5 @@
 pub mod Reply
+pub mod Counts
 pub mod CoreView
 pub mod CoreInside
 pub mod Steps

@@ -6,6 +6,7 @@
 //! Built are the whole link table and T7 (SEMI E37), and of the data messages S1F1 and the errors of stream 9 (SEMI E5).
 #![tactic(auto)]
 
+mod counts;
 mod data;
 mod entries;
 mod plant;
@@ -14,5 +15,6 @@ mod reply;
 mod tests;
 mod tool;
 
+pub use counts::SessionCounts;
 pub use entries::Entries;
 pub use tool::Core;

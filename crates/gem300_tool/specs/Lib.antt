@@ -5,11 +5,15 @@ pub mod Printing
 pub mod Counts
 pub mod Limits
 pub mod Going
+pub mod Reads
 pub mod Reading
 pub mod Cuts
+pub mod Stopping
 pub mod Standing
 pub mod Input
 pub mod Status
 pub mod Fed
 pub mod InputEnds
 pub mod CauseOf
+pub mod Notes
+pub mod Noted

@@ -8,6 +8,7 @@ ghost use Rattle.gem_model.specs.Feed.{Reading, first_reading, text_bytes};
 ghost use Rattle.hsms_frame.specs.Cut.{IsCutOf, arrivals_of};
 ghost use Rattle.gem300_tool.specs.Going.{seen};
 ghost use Rattle.gem300_tool.specs.Cuts.{Cuts};
+ghost use Rattle.gem300_tool.specs.Reads.{AddsLine};
 
 use crate::engine::{AT_ONCE, input, take_messages};
 use crate::halt::Halt;
@@ -16,17 +17,18 @@ use gem_ids::Moment;
 use hsms_frame::{Arrival, CutFault, Cutter};
 use outside::Sink;
 use std::alloc::{AllocError, Global};
-use tool_core::{Core, Entries};
+use tool_core::{Core, Entries, SessionCounts};
 use tool_events::{Config, Event, SessionCause};
 
 /// The longest text of a message, in bytes.
 const TEXT_BYTES: u32 = 262_144;
 
-/// The core, and the cutter of the session that is up.
+/// The core, the cutter of the session that is up, and the bytes that came in each session.
 #[derive(Drop)]
 pub struct Feeder {
     pub core: Core,
     pub cutter: Cutter,
+    pub reads: SessionCounts,
 }
 
 /// Cuts the next bytes of a session, and tells whether a length below 10 follows what arrived.
@@ -56,12 +58,13 @@ impl Feeder {
     pub fn open(alloc: Global, config: &Config) -> Result<Feeder, AllocError>
         requires { IsConfig config.now }
         ensures { IfOk result (λ feeder. (feeder.core ≡ record { config = config.now; state = opening config.now; history = []; is_whole = true })
-            × IsReading (first_reading config.now) feeder.core feeder.cutter) }
+            × IsReading (first_reading config.now) feeder.core feeder.cutter × (feeder.reads ≡ [])) }
     {
         let cutter = Cutter::new(alloc, TEXT_BYTES)?;
         Ok(Feeder {
             core: Core::open(alloc, config),
             cutter,
+            reads: SessionCounts::none(alloc),
         })
     }
 
@@ -117,6 +120,20 @@ impl Feeder {
         input(alloc, &mut self.core, at, Event::Tick, out)
     }
 
+    /// Counts bytes that came in the session that is up.
+    fn count_bytes(&mut self, session: u64, bytes: &[u8]) -> Result<(), AllocError>
+        requires { is_session_up self.old.core.state session ≡ true }
+        requires { 0 < session }
+        ensures counts { OnOk result ((r : Reading) → r.state ≡ self.old.core.state
+            → AddsLine r (model.Bytes bytes.now) self.old.reads self.new.reads) }
+        ensures unchanged { self.new ≡ record self.old { reads = self.new.reads } }
+        ensures none { OnErr result (self.new ≡ self.old) }
+    {
+        self.reads.make_room(session)?;
+        self.reads.add(session, bytes.len() as u64);
+        Ok(())
+    }
+
     /// Bytes of the host come. Without a session they are dropped.
     fn take_bytes<K: Sink>(&mut self, alloc: Global, bytes: &[u8], out: &mut K) -> Result<(), Halt>
         ensures { (r : Reading) → IsReading r self.old.core self.old.cutter
@@ -124,6 +141,9 @@ impl Feeder {
     {
         let Some(session) = self.core.session_up() else {
             return Ok(());
+        };
+        let Ok(()) = self.count_bytes(session, bytes) else {
+            return Err(Halt::NoMemory);
         };
         let mut arrivals = Vec::new(alloc);
         let Ok(short) = cut_bytes(alloc, &mut self.cutter, bytes, &mut arrivals) else {

@@ -61,3 +61,10 @@ session_end-now c entries h entry o run here up =
     ∙ ap (λ (g : State). ends_of (opening c) entries ++ ends_of g (entry ∷ [])) (after_all-run (opening c) entries h run)
     ∙ ap (λ (cs : List SessionCause). ends_of (opening c) entries ++ cs) (append-nil (option_to_list (ended h entry)) ∙ ap option_to_list (ended_is h entry o here)) in
     session_end-at (opening c) (entries ++ entry ∷ []) _ _ number ∙ (ap (λ (cs : List SessionCause). slice_get cs (length (ends_of (opening c) entries))) ends ∙ slice_get-last (ends_of (opening c) entries) o.ended)
+
+-- a session that is up has a number from 1
+pub up-numbered : (c : Config) (entries : List Entry) (h : State) → Run (opening c) entries h → is_up h ≡ true → 0 < h.link.session
+up-numbered c entries h run up =
+    let count = ends_count (opening c) entries h run in
+    let one : up_count h ≡ 1 = grind (arith, up) in
+    omega arith

@@ -1,5 +1,5 @@
 //! The core: the plant and the history that led to it.
-ghost use Rattle.std.specs.Prelude.{ℕ, ◌≡◌, ◌≤◌, ◌+◌, ◌^◌, ◌<◌, ◌↔◌, [], ◌∷◌, ◌++◌, length, IsTrue, true, false, ◌&&◌, ◌||◌, not, nat_le, nat_lt, Some, None, Err, OnOk, OnErr, IfOk, IsErrOf, if◌then◌else◌, vec_len, vec_capacity};
+ghost use Rattle.std.specs.Prelude.{ℕ, ◌≡◌, ◌≤◌, ◌+◌, ◌^◌, ◌<◌, ◌↔◌, [], ◌∷◌, ◌++◌, length, IsTrue, true, false, ◌&&◌, ◌||◌, not, nat_le, nat_lt, Some, None, Err, OnOk, OnErr, IfOk, IfSome, IsErrOf, if◌then◌else◌, vec_len, vec_capacity};
 ghost use Rattle.std.specs.Option.{option_to_list};
 ghost use Rattle.tool_events.specs.declared.answer.PostFault.TheVariants as PostFault;
 ghost use Rattle.tool_events.specs.Configs.{IsConfig};
@@ -99,9 +99,10 @@ impl Core {
         Entries::from_vec(entries)
     }
 
-    /// The session that is up.
+    /// The session that is up. Sessions are numbered from 1.
     pub fn session_up(&self) -> Option<u64>
-        ensures { result ≡ (if is_up self.now.state then Some self.now.state.link.session else None) }
+        ensures session { result ≡ (if is_up self.now.state then Some self.now.state.link.session else None) }
+        ensures numbered { IfSome result (λ session. 0 < session) }
     {
         self.plant.session_up()
     }

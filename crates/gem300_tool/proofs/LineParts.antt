@@ -12,11 +12,13 @@ use Rattle.gem300_tool.specs.declared.feeder.Feeder.{Feeder}
 use Rattle.gem300_tool.specs.Cuts.{Cuts}
 use Rattle.gem300_tool.specs.Going.{SinkView, Goes, WentOn}
 use Rattle.gem300_tool.specs.Reading.{IsReading, TakesLine, TreatsLine}
+use Rattle.gem300_tool.specs.Reads.{AddsLine}
 use Rattle.gem300_tool.proofs.Going.{Goes-unmoved}
+use Rattle.gem300_tool.proofs.Counting.{counts_any}
 
 pub TreatsLine-no_memory : (r : Reading) (line : Option Line) (feeder : Feeder) (out : SinkView) → TreatsLine r line feeder feeder out out (Err halt.NoMemory)
-TreatsLine-no_memory r None feeder out = record { refused = inr refl; core_stays = refl; out_stays = refl }
-TreatsLine-no_memory r (Some line) feeder out = record { goes = Goes-unmoved feeder.core feeder.core out (line_given r line) (record { config = refl; history = refl }); reading = tt }
+TreatsLine-no_memory r None feeder out = record { refused = inr refl; core_stays = refl; reads_stay = refl; out_stays = refl }
+TreatsLine-no_memory r (Some line) feeder out = record { goes = Goes-unmoved feeder.core feeder.core out (line_given r line) (record { config = refl; history = refl }); reading = tt; counts = inr (refl, refl) }
 
 -- the session that is up, as it is told
 session_is : (up : Bool) (n k : ℕ) → (if up then Some n else None) ≡ Some k → (up ≡ true) × (n ≡ k)
@@ -27,8 +29,8 @@ reading_at : (r : Reading) (given : Given) (core' : CoreView) (cutter' : Kept) (
 reading_at r given core' cutter' stream (Ok done) core went max cut = record { state = went.1; max = λ _. max; cut = λ _. cut }
 reading_at r given core' cutter' stream (Err why) core went max cut = tt
 
-pub TakesLine-bytes : (r : Reading) (bytes : List ℕ) (old : Feeder) (core' : CoreView) (cutter' : Kept) (out out' : SinkView) (arrivals : List Arrival) (short : Bool) (session : ℕ) (result : Result (Unit {0}) Halt) → IsReading r old.core old.cutter → (if is_up old.core.state then Some old.core.state.link.session else None) ≡ Some session → cutter'.max ≡ old.cutter.max → ((stream : List ℕ) → old.cutter.max ≡ text_bytes → IsCutOf stream (arrivals_of text_bytes stream) old.cutter → Cuts bytes old.cutter cutter' arrivals short stream) → Goes old.core core' out out' (messages old.core.state session arrivals short) result → TakesLine r (Bytes bytes) old (record { core = core'; cutter = cutter' }) out out' result
-TakesLine-bytes r bytes old core' cutter' out out' arrivals short session result reading told same cuts goes =
+pub TakesLine-bytes : (r : Reading) (bytes : List ℕ) (old : Feeder) (core' : CoreView) (cutter' : Kept) (reads' : List ℕ) (out out' : SinkView) (arrivals : List Arrival) (short : Bool) (session : ℕ) (result : Result (Unit {0}) Halt) → IsReading r old.core old.cutter → (if is_up old.core.state then Some old.core.state.link.session else None) ≡ Some session → cutter'.max ≡ old.cutter.max → ((stream : List ℕ) → old.cutter.max ≡ text_bytes → IsCutOf stream (arrivals_of text_bytes stream) old.cutter → Cuts bytes old.cutter cutter' arrivals short stream) → Goes old.core core' out out' (messages old.core.state session arrivals short) result → AddsLine r (Bytes bytes) old.reads reads' → TakesLine r (Bytes bytes) old (record { core = core'; cutter = cutter'; reads = reads' }) out out' result
+TakesLine-bytes r bytes old core' cutter' reads' out out' arrivals short session result reading told same cuts goes adds =
     let told_up = session_is (is_up old.core.state) old.core.state.link.session session told in
     let up : is_up r.state ≡ true = ap is_up (sym reading.state) ∙ told_up.0 in
     let max = reading.max up in
@@ -42,4 +44,8 @@ TakesLine-bytes r bytes old core' cutter' out out' arrivals short session result
     ∙ ap (λ (k : ℕ). messages old.core.state k new ends) (sym told_up.1)
     ∙ ap (λ (g : State). messages g g.link.session new ends) reading.state in
     let all = subst (λ (given : Given). Goes old.core core' out out' given result) (is ∙ sym given) goes in
-    record { goes = all; reading = reading_at r (line_given r (Bytes bytes)) core' cutter' (r.stream ++ bytes) result old.core all.went (same ∙ max) cut.cut }
+    record {
+      goes = all;
+      reading = reading_at r (line_given r (Bytes bytes)) core' cutter' (r.stream ++ bytes) result old.core all.went (same ∙ max) cut.cut;
+      counts = counts_any r (Bytes bytes) old.reads reads' old.core core' result adds;
+    }

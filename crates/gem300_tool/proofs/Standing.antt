@@ -6,7 +6,10 @@ use Rattle.tool_events.specs.declared.config.Config.{Config}
 use Rattle.gem_model.specs.Front.{IsFront}
 use Rattle.gem_model.specs.Lines.{Line, lines_of, whole_lines, line_of, line_bytes}
 use Rattle.gem_model.specs.Feed.{Given, Reading, Told, AllRead, OutsideGrammar, line_given, line_told, told_behind, feed_lines, feed_entries, reading_after, first_reading}
-use Rattle.gem_model.proofs.Texts.{IsOneLine-more, lines-line, lines-last, whole-feed, whole-none, first-long, too-long}
+use Rattle.gem_model.specs.Sizes.{counted}
+use Rattle.gem_model.specs.SessionBytes.{line_and_more, line_bytes_in, lines_bytes_in, session_in}
+use Rattle.gem_model.proofs.Texts.{IsOneLine-more, lines-line, whole-feed, whole-none, first-long, too-long}
+use Rattle.tool_core.specs.Counts.{count_of}
 use Rattle.tool_core.specs.CoreView.{CoreView}
 use Rattle.gem300_tool.specs.declared.halt.Halt.{Halt}
 use Rattle.gem300_tool.specs.declared.halt.Halt.TheVariants as halt
@@ -14,10 +17,14 @@ use Rattle.gem300_tool.specs.declared.feeder.Feeder.{Feeder}
 use Rattle.gem300_tool.specs.declared.reader.Reader.{Reader}
 use Rattle.gem300_tool.specs.Limits.{IsFullAt}
 use Rattle.gem300_tool.specs.Going.{SinkView, WentOn, Shows, ShowsAtEnd, Goes}
+use Rattle.gem300_tool.specs.Reads.{AreCounts, HaveRead}
 use Rattle.gem300_tool.specs.Reading.{IsReading, TreatsLine}
-use Rattle.gem300_tool.specs.Standing.{IsOneLine, Stands, StoppedAs, Prints, StandsOrStopped, Takes, AllOrStopped}
+use Rattle.gem300_tool.specs.Stopping.{CountsTo}
+use Rattle.gem300_tool.specs.Standing.{IsOneLine, Stands, StoppedAs, StopsAt, AllTaken, Prints, StandsOrStopped, Takes, AllOrStopped}
 use Rattle.gem300_tool.proofs.Going.{IsFront-append, Failed-wider}
 use Rattle.gem300_tool.proofs.Writing.{WrittenFront-all}
+use Rattle.gem300_tool.proofs.AtText.{text_goes, at_end, last_line, text_in}
+use Rattle.gem300_tool.proofs.Stopping.{stopped_before, stopped_outside, line_counts}
 
 -- ---- the output
 
@@ -57,9 +64,12 @@ line_config : (r : Reading) (line : Option Line) (old new : Feeder) (out out' : 
 line_config r None old new out out' result h = ap (λ (c : CoreView). c.config) h.core_stays
 line_config r (Some line) old new out out' result h = h.goes.config
 
--- after a line the history has what it gave, and the next line goes on
+-- after a line the history has what it gave, its bytes are counted, and the next line goes on
 pub record Took (number : ℕ) (r : Reading) (line : List ℕ) (old new : Feeder) : Type 0 where
   pub next : Reading
+  pub bytes : ℕ → ℕ
+  pub reads_on : (lines : List (List ℕ)) (session : ℕ) → lines_bytes_in r (line ∷ lines) session ≡ bytes session + lines_bytes_in next lines session
+  pub counts : (before : ℕ → ℕ) → AreCounts old.reads before → AreCounts new.reads (λ session. before session + bytes session)
   pub goes_on : (lines : List (List ℕ)) → told_behind old.core.history (feed_lines number r (line ∷ lines)) ≡ told_behind new.core.history (feed_lines (number + 1) next lines)
   pub is : IsReading next new.core new.cutter
 
@@ -75,6 +85,9 @@ took_by : (number : ℕ) (r : Reading) (line : List ℕ) (says : Option Line) �
 took_by number r line None is old new out out' h = absurd (elim h.refused [ inl e ↦ cc | inr e ↦ cc ])
 took_by number r line (Some says) is old new out out' h = record {
   next = reading_after r says;
+  bytes = line_bytes_in r says;
+  reads_on = λ lines session. ap (λ (o : Option Line). line_and_more r o session (λ next. lines_bytes_in next lines session)) is;
+  counts = h.counts;
   goes_on = λ lines.
       ap (told_behind old.core.history) (ap (λ (o : Option Line). line_told number r o (λ next. feed_lines (number + 1) next lines)) is)
       ∙ behind_told old.core.history (line_given r says).entries (feed_lines (number + 1) (reading_after r says) lines) new.core.history h.goes.went.0;
@@ -141,15 +154,11 @@ stopped number r line old new out out' why h lines = stopped_by number r line (l
 
 -- ---- the text
 
--- the text and whatever follows it goes on from the part of a line
-pub text_goes : (text : List ℕ) (reader : Reader) (stands : Stands text reader) (more : List ℕ) → feed_entries reader.feeder.core.config (text ++ more) ≡ told_behind reader.feeder.core.history (feed_lines reader.number stands.reading (lines_of (reader.line.items ++ more)))
-text_goes text reader stands more =
-    ap (λ (t : List ℕ). feed_entries reader.feeder.core.config (t ++ more)) stands.text_is
-    ∙ ap (feed_entries reader.feeder.core.config) (append_assoc stands.whole reader.line.items more)
-    ∙ stands.goes_on (reader.line.items ++ more)
+no_count : (session : ℕ) → count_of [] session ≡ 0
+no_count session = grind arith
 
-pub Stands-open : (c : Config) (reader : Reader) → reader.line.items ≡ [] → reader.number ≡ 1 → reader.feeder.core.history ≡ [] → reader.feeder.core.config ≡ c → IsReading (first_reading c) reader.feeder.core reader.feeder.cutter → Stands [] reader
-Stands-open c reader line number history config is = record {
+pub Stands-open : (c : Config) (reader : Reader) → reader.line.items ≡ [] → reader.number ≡ 1 → reader.feeder.core.history ≡ [] → reader.feeder.core.config ≡ c → IsReading (first_reading c) reader.feeder.core reader.feeder.cutter → reader.feeder.reads ≡ [] → Stands [] reader
+Stands-open c reader line number history config is none = record {
   whole = [];
   reading = first_reading c;
   text_is = sym line;
@@ -157,6 +166,8 @@ Stands-open c reader line number history config is = record {
   ends = λ part one. whole-none part one;
   goes_on = λ more. rw (number, history, config) refl;
   is = is;
+  read = λ session. rw none (no_count session);
+  reads_on = λ more session. rw config (omega arith);
 }
 
 pub Stands-push : (text : List ℕ) (byte : ℕ) (old new : Reader) → byte ≢ 10 → Stands text old → new.line.items ≡ old.line.items ++ byte ∷ [] → new.feeder ≡ old.feeder → new.number ≡ old.number → Stands (text ++ byte ∷ []) new
@@ -168,12 +179,21 @@ Stands-push text byte old new other stands line feeder number = record {
   ends = stands.ends;
   goes_on = λ more. ap (λ (f : Feeder). feed_entries f.core.config (stands.whole ++ more)) feeder ∙ stands.goes_on more ∙ ap (λ (n : ℕ). told_behind old.feeder.core.history (feed_lines n stands.reading (lines_of more))) (sym number) ∙ ap (λ (f : Feeder). told_behind f.core.history (feed_lines new.number stands.reading (lines_of more))) (sym feeder);
   is = subst (λ (f : Feeder). IsReading stands.reading f.core f.cutter) (sym feeder) stands.is;
+  read = subst (λ (f : Feeder). HaveRead f.core.config stands.whole f.reads) (sym feeder) stands.read;
+  reads_on = λ more session. subst (λ (f : Feeder). session_in f.core.config (stands.whole ++ more) session ≡ session_in f.core.config stands.whole session + lines_bytes_in stands.reading (lines_of more) session) (sym feeder) (stands.reads_on more session);
 }
 
-pub Stands-memory : (text bytes more : List ℕ) (reader : Reader) → Stands text reader → StoppedAs reader.feeder.core.config (feed_entries reader.feeder.core.config ((text ++ bytes) ++ more)) reader.feeder.core.history reader.number halt.NoMemory
+-- the text, and what follows it, goes on from the text
+front_of : (text bytes more : List ℕ) → IsFront text ((text ++ bytes) ++ more)
+front_of text bytes more = record { behind = bytes ++ more; joined = append_assoc text bytes more }
+
+pub Stands-memory : (text bytes more : List ℕ) (reader : Reader) → Stands text reader → StopsAt ((text ++ bytes) ++ more) reader halt.NoMemory
 Stands-memory text bytes more reader stands =
     let goes = ap (feed_entries reader.feeder.core.config) (append_assoc text bytes more) ∙ text_goes text reader stands (bytes ++ more) in
-    rw goes (IsFront-append reader.feeder.core.history _)
+    record {
+      told = rw goes (IsFront-append reader.feeder.core.history _);
+      counts = stopped_before text ((text ++ bytes) ++ more) reader reader.feeder.core.history reader.feeder.reads stands (front_of text bytes more) refl refl;
+    }
 
 long_told : (number : ℕ) (r : Reading) (history : List Entry) (line : List ℕ) (lines : List (List ℕ)) → line_bytes < length line → told_behind history (feed_lines number r (line ∷ lines)) ≡ record { entries = history; stop = OutsideGrammar number }
 long_told number r history line lines long =
@@ -185,18 +205,53 @@ long_text number r history (b ∷ front) text one long =
     let f = first-long b front text one in
     ap (λ (ls : List (List ℕ)). told_behind history (feed_lines number r ls)) f.lines ∙ long_told number r history f.first f.rest (omega (arith, f.long, long))
 
-pub Stands-long : (text : List ℕ) (byte : ℕ) (more : List ℕ) (reader : Reader) → byte ≢ 10 → line_bytes ≤ length reader.line.items → Stands text reader → StoppedAs reader.feeder.core.config (feed_entries reader.feeder.core.config ((text ++ byte ∷ []) ++ more)) reader.feeder.core.history reader.number (halt.Line 0)
+long_counts : (text all : List ℕ) (front rest : List ℕ) (reader : Reader) (stands : Stands text reader) → IsOneLine front → line_bytes < length front → ((session : ℕ) → session_in reader.feeder.core.config all session ≡ session_in reader.feeder.core.config stands.whole session + lines_bytes_in stands.reading (lines_of (front ++ rest)) session) → CountsTo (halt.Line 0) reader.feeder.core.config all reader.feeder.core.history reader.feeder.reads
+long_counts text all [] rest reader stands one long goes = absurd (omega (arith, long))
+long_counts text all (b ∷ front) rest reader stands one long goes =
+    let f = first-long b front rest one in
+    stopped_outside text all 0 reader reader.feeder.core.history reader.feeder.reads stands f.first f.rest
+    (λ session. goes session ∙ ap (λ (ls : List (List ℕ)). session_in reader.feeder.core.config stands.whole session + lines_bytes_in stands.reading ls session) f.lines)
+    (too-long f.first (omega (arith, f.long, long))) refl
+
+pub Stands-long : (text : List ℕ) (byte : ℕ) (more : List ℕ) (reader : Reader) → byte ≢ 10 → line_bytes ≤ length reader.line.items → Stands text reader → StopsAt ((text ++ byte ∷ []) ++ more) reader (halt.Line 0)
 Stands-long text byte more reader other long stands =
     let goes = ap (feed_entries reader.feeder.core.config) (append_assoc text (byte ∷ []) more) ∙ text_goes text reader stands ((byte ∷ []) ++ more) in
     let regrouped = ap (λ (t : List ℕ). told_behind reader.feeder.core.history (feed_lines reader.number stands.reading (lines_of t))) (sym (append_assoc reader.line.items (byte ∷ []) more)) in
     let size : line_bytes < length (reader.line.items ++ byte ∷ []) = omega (arith, length-append reader.line.items (byte ∷ []), long) in
-    (refl, goes ∙ regrouped ∙ long_text reader.number stands.reading reader.feeder.core.history (reader.line.items ++ byte ∷ []) more (IsOneLine-more reader.line.items byte stands.line other) size)
+    let one = IsOneLine-more reader.line.items byte stands.line other in
+    record {
+      told = (refl, goes ∙ regrouped ∙ long_text reader.number stands.reading reader.feeder.core.history (reader.line.items ++ byte ∷ []) more one size);
+      counts = long_counts text ((text ++ byte ∷ []) ++ more) (reader.line.items ++ byte ∷ []) more reader stands one size
+          (λ session. ap (λ (t : List ℕ). session_in reader.feeder.core.config t session) (append_assoc text (byte ∷ []) more)
+          ∙ text_in text reader stands ((byte ∷ []) ++ more) session
+          ∙ ap (λ (t : List ℕ). session_in reader.feeder.core.config stands.whole session + lines_bytes_in stands.reading (lines_of t) session) (sym (append_assoc reader.line.items (byte ∷ []) more)));
+    }
 
 -- a line feed comes
 line_goes : (text more : List ℕ) (reader : Reader) (stands : Stands text reader) → feed_entries reader.feeder.core.config ((text ++ 10 ∷ []) ++ more) ≡ told_behind reader.feeder.core.history (feed_lines reader.number stands.reading (reader.line.items ∷ lines_of more))
 line_goes text more reader stands =
     ap (feed_entries reader.feeder.core.config) (append_assoc text (10 ∷ []) more) ∙ text_goes text reader stands ((10 ∷ []) ++ more)
     ∙ ap (λ (ls : List (List ℕ)). told_behind reader.feeder.core.history (feed_lines reader.number stands.reading ls)) (lines-line reader.line.items more stands.line)
+
+line_feed_in : (text more : List ℕ) (reader : Reader) (stands : Stands text reader) (session : ℕ) → session_in reader.feeder.core.config ((text ++ 10 ∷ []) ++ more) session ≡ session_in reader.feeder.core.config stands.whole session + lines_bytes_in stands.reading (reader.line.items ∷ lines_of more) session
+line_feed_in text more reader stands session =
+    ap (λ (t : List ℕ). session_in reader.feeder.core.config t session) (append_assoc text (10 ∷ []) more)
+    ∙ text_in text reader stands ((10 ∷ []) ++ more) session
+    ∙ ap (λ (ls : List (List ℕ)). session_in reader.feeder.core.config stands.whole session + lines_bytes_in stands.reading ls session) (lines-line reader.line.items more stands.line)
+
+-- with its line feed the line is counted
+line_feed_read : (text : List ℕ) (old : Reader) (new : Feeder) (stands : Stands text old) (one : Took old.number stands.reading old.line.items old.feeder new) (session : ℕ) → session_in old.feeder.core.config (text ++ 10 ∷ []) session ≡ session_in old.feeder.core.config stands.whole session + one.bytes session
+line_feed_read text old new stands one session =
+    ap (λ (t : List ℕ). session_in old.feeder.core.config t session) (sym (append-nil (text ++ 10 ∷ [])))
+    ∙ line_feed_in text [] old stands session
+    ∙ ap (λ (n : ℕ). session_in old.feeder.core.config stands.whole session + n) (one.reads_on [] session ∙ omega arith)
+
+line_reads_on : (text more : List ℕ) (old : Reader) (new : Feeder) (stands : Stands text old) (one : Took old.number stands.reading old.line.items old.feeder new) (session : ℕ) → session_in old.feeder.core.config ((text ++ 10 ∷ []) ++ more) session ≡ session_in old.feeder.core.config (text ++ 10 ∷ []) session + lines_bytes_in one.next (lines_of more) session
+line_reads_on text more old new stands one session =
+    let all = line_feed_in text more old stands session in
+    let here = line_feed_read text old new stands one session in
+    let next = one.reads_on (lines_of more) session in
+    omega (arith, all, here, next)
 
 pub Stands-line : (text : List ℕ) (old new : Reader) (out out' : SinkView) (stands : Stands text old) → TreatsLine stands.reading (line_of old.line.items) old.feeder new.feeder out out' (Ok tt) → new.line.items ≡ [] → new.number ≡ old.number + 1 → Stands (text ++ 10 ∷ []) new
 Stands-line text old new out out' stands treats line number =
@@ -209,45 +264,66 @@ Stands-line text old new out out' stands treats line number =
       ends = λ part none. ap whole_lines (append_assoc text (10 ∷ []) part) ∙ whole-feed text part ∙ ap (λ (bs : List ℕ). text ++ 10 ∷ bs) (whole-none part none);
       goes_on = λ more. ap (λ (c : Config). feed_entries c ((text ++ 10 ∷ []) ++ more)) (line_config stands.reading (line_of old.line.items) old.feeder new.feeder out out' (Ok tt) treats) ∙ line_goes text more old stands ∙ one.goes_on (lines_of more) ∙ ap (λ (n : ℕ). told_behind new.feeder.core.history (feed_lines n one.next (lines_of more))) (sym number);
       is = one.is;
+      read = subst (λ (c : Config). HaveRead c (text ++ 10 ∷ []) new.feeder.reads) (sym (line_config stands.reading (line_of old.line.items) old.feeder new.feeder out out' (Ok tt) treats))
+          (λ session. one.counts (session_in old.feeder.core.config stands.whole) stands.read session ∙ ap counted (sym (line_feed_read text old new.feeder stands one session)));
+      reads_on = λ more session. subst (λ (c : Config). session_in c ((text ++ 10 ∷ []) ++ more) session ≡ session_in c (text ++ 10 ∷ []) session + lines_bytes_in one.next (lines_of more) session) (sym (line_config stands.reading (line_of old.line.items) old.feeder new.feeder out out' (Ok tt) treats))
+          (line_reads_on text more old new.feeder stands one session);
     }
 
-pub Stands-line-stopped : (text more : List ℕ) (old : Reader) (new : Feeder) (out out' : SinkView) (why : Halt) (stands : Stands text old) → TreatsLine stands.reading (line_of old.line.items) old.feeder new out out' (Err why) → StoppedAs new.core.config (feed_entries new.core.config ((text ++ 10 ∷ []) ++ more)) new.core.history old.number why
-Stands-line-stopped text more old new out out' why stands treats =
-    subst (λ (c : Config). StoppedAs c (feed_entries c ((text ++ 10 ∷ []) ++ more)) new.core.history old.number why)
-    (sym (line_config stands.reading (line_of old.line.items) old.feeder new out out' (Err why) treats))
-    (rw (line_goes text more old stands) (stopped old.number stands.reading old.line.items old.feeder new out out' why treats (lines_of more)))
+pub Stands-line-stopped : (text more : List ℕ) (old new : Reader) (out out' : SinkView) (why : Halt) (stands : Stands text old) → TreatsLine stands.reading (line_of old.line.items) old.feeder new.feeder out out' (Err why) → new.number ≡ old.number → StopsAt ((text ++ 10 ∷ []) ++ more) new why
+Stands-line-stopped text more old new out out' why stands treats number =
+    let same = sym (line_config stands.reading (line_of old.line.items) old.feeder new.feeder out out' (Err why) treats) in
+    record {
+      told = subst (λ (c : Config). StoppedAs c (feed_entries c ((text ++ 10 ∷ []) ++ more)) new.feeder.core.history new.number why) same
+          (rw (line_goes text more old stands, number) (stopped old.number stands.reading old.line.items old.feeder new.feeder out out' why treats (lines_of more)));
+      counts = subst (λ (c : Config). CountsTo why c ((text ++ 10 ∷ []) ++ more) new.feeder.core.history new.feeder.reads) same
+          (line_counts text ((text ++ 10 ∷ []) ++ more) old new.feeder out out' why stands (lines_of more) (front_of text (10 ∷ []) more) (line_feed_in text more old stands) treats);
+    }
 
 -- ---- the end of the text
 
-at_end : (text : List ℕ) (reader : Reader) (stands : Stands text reader) → feed_entries reader.feeder.core.config text ≡ told_behind reader.feeder.core.history (feed_lines reader.number stands.reading (lines_of reader.line.items))
-at_end text reader stands =
-    ap (feed_entries reader.feeder.core.config) (sym (append-nil text)) ∙ text_goes text reader stands []
-    ∙ ap (λ (t : List ℕ). told_behind reader.feeder.core.history (feed_lines reader.number stands.reading (lines_of t))) (append-nil reader.line.items)
-
 -- nothing came of a last line
-pub ends-empty : (text : List ℕ) (reader : Reader) → Stands text reader → reader.line.items ≡ [] → feed_entries reader.feeder.core.config text ≡ record { entries = reader.feeder.core.history; stop = AllRead }
+pub ends-empty : (text : List ℕ) (reader : Reader) → Stands text reader → reader.line.items ≡ [] → AllTaken text reader
 ends-empty text reader stands none =
-    at_end text reader stands
-    ∙ ap (λ (t : List ℕ). told_behind reader.feeder.core.history (feed_lines reader.number stands.reading (lines_of t))) none
-    ∙ ap (λ (es : List Entry). record { entries = es; stop = AllRead }) (append-nil reader.feeder.core.history)
+    let is : text ≡ stands.whole = stands.text_is ∙ ap (λ (t : List ℕ). stands.whole ++ t) none ∙ append-nil stands.whole in
+    record {
+      told = at_end text reader stands
+          ∙ ap (λ (t : List ℕ). told_behind reader.feeder.core.history (feed_lines reader.number stands.reading (lines_of t))) none
+          ∙ ap (λ (es : List Entry). record { entries = es; stop = AllRead }) (append-nil reader.feeder.core.history);
+      read = subst (λ (t : List ℕ). HaveRead reader.feeder.core.config t reader.feeder.reads) (sym is) stands.read;
+    }
 
-last_line : (line : List ℕ) → IsOneLine line → line ≢ [] → lines_of line ≡ line ∷ []
-last_line [] one some = absurd (some refl)
-last_line (b ∷ line) one some = lines-last b line one
+-- the last line, which has no line feed, gives its bytes too
+last_in : (text : List ℕ) (old : Reader) (stands : Stands text old) → old.line.items ≢ [] → (session : ℕ) → session_in old.feeder.core.config text session ≡ session_in old.feeder.core.config stands.whole session + lines_bytes_in stands.reading (old.line.items ∷ []) session
+last_in text old stands some session =
+    ap (λ (t : List ℕ). session_in old.feeder.core.config t session) (sym (append-nil text))
+    ∙ text_in text old stands [] session
+    ∙ ap (λ (t : List ℕ). session_in old.feeder.core.config stands.whole session + lines_bytes_in stands.reading (lines_of t) session) (append-nil old.line.items)
+    ∙ ap (λ (ls : List (List ℕ)). session_in old.feeder.core.config stands.whole session + lines_bytes_in stands.reading ls session) (last_line old.line.items stands.line some)
 
-pub ends-line : (text : List ℕ) (old : Reader) (new : Feeder) (number : ℕ) (out out' : SinkView) (result : Result (Unit {0}) Halt) (stands : Stands text old) → old.line.items ≢ [] → TreatsLine stands.reading (line_of old.line.items) old.feeder new out out' result → AllOrStopped text (record { feeder = new; line = old.line; number = old.number }) result
-ends-line text old new number out out' (Ok done) stands some treats =
+pub ends-line : (text : List ℕ) (old : Reader) (new : Feeder) (out out' : SinkView) (result : Result (Unit {0}) Halt) (stands : Stands text old) → old.line.items ≢ [] → TreatsLine stands.reading (line_of old.line.items) old.feeder new out out' result → AllOrStopped text (record { feeder = new; line = old.line; number = old.number }) result
+ends-line text old new out out' (Ok done) stands some treats =
     let one = took old.number stands.reading old.line.items old.feeder new out out' treats in
-    ap (λ (c : Config). feed_entries c text) (line_config stands.reading (line_of old.line.items) old.feeder new out out' (Ok tt) treats)
-    ∙ at_end text old stands
-    ∙ ap (λ (ls : List (List ℕ)). told_behind old.feeder.core.history (feed_lines old.number stands.reading ls)) (last_line old.line.items stands.line some)
-    ∙ one.goes_on []
-    ∙ ap (λ (es : List Entry). record { entries = es; stop = AllRead }) (append-nil new.core.history)
-ends-line text old new number out out' (Err why) stands some treats =
-    subst (λ (c : Config). StoppedAs c (feed_entries c text) new.core.history old.number why)
-    (sym (line_config stands.reading (line_of old.line.items) old.feeder new out out' (Err why) treats))
-    (rw (at_end text old stands ∙ ap (λ (ls : List (List ℕ)). told_behind old.feeder.core.history (feed_lines old.number stands.reading ls)) (last_line old.line.items stands.line some))
-    (stopped old.number stands.reading old.line.items old.feeder new out out' why treats []))
+    let same = line_config stands.reading (line_of old.line.items) old.feeder new out out' (Ok tt) treats in
+    record {
+      told = ap (λ (c : Config). feed_entries c text) same
+          ∙ at_end text old stands
+          ∙ ap (λ (ls : List (List ℕ)). told_behind old.feeder.core.history (feed_lines old.number stands.reading ls)) (last_line old.line.items stands.line some)
+          ∙ one.goes_on []
+          ∙ ap (λ (es : List Entry). record { entries = es; stop = AllRead }) (append-nil new.core.history);
+      read = subst (λ (c : Config). HaveRead c text new.reads) (sym same)
+          (λ session. one.counts (session_in old.feeder.core.config stands.whole) stands.read session
+          ∙ ap counted (sym (last_in text old stands some session ∙ ap (λ (n : ℕ). session_in old.feeder.core.config stands.whole session + n) (one.reads_on [] session ∙ omega arith))));
+    }
+ends-line text old new out out' (Err why) stands some treats =
+    let same = sym (line_config stands.reading (line_of old.line.items) old.feeder new out out' (Err why) treats) in
+    record {
+      told = subst (λ (c : Config). StoppedAs c (feed_entries c text) new.core.history old.number why) same
+          (rw (at_end text old stands ∙ ap (λ (ls : List (List ℕ)). told_behind old.feeder.core.history (feed_lines old.number stands.reading ls)) (last_line old.line.items stands.line some))
+          (stopped old.number stands.reading old.line.items old.feeder new out out' why treats []));
+      counts = subst (λ (c : Config). CountsTo why c text new.core.history new.reads) same
+          (line_counts text text old new out out' why stands [] (record { behind = []; joined = sym (append-nil text) }) (last_in text old stands some) treats);
+    }
 
 -- ---- one piece after another
 
@@ -272,7 +348,7 @@ Takes-then text front bytes a b c o1 o2 o3 result h i = record {
 -- a reader that stopped has stopped whatever follows
 pub Takes-stopped : (text front bytes : List ℕ) (a c : Reader) (o1 o3 : SinkView) (why : Halt) → Takes text front a c o1 o3 (Err why) → Takes text (front ++ bytes) a c o1 o3 (Err why)
 Takes-stopped text front bytes a c o1 o3 why h = record {
-  stands = λ more. subst (λ (t : List ℕ). StoppedAs c.feeder.core.config (feed_entries c.feeder.core.config t) c.feeder.core.history c.number why)
+  stands = λ more. subst (λ (t : List ℕ). StopsAt t c why)
       (sym (append_assoc (text ++ front) bytes more) ∙ ap (λ (t : List ℕ). t ++ more) (append_assoc text front bytes))
       (h.stands (bytes ++ more));
   prints = h.prints;
@@ -284,11 +360,17 @@ Takes-nothing text reader out stands = record {
   prints = Prints-stays reader.feeder.core out (Ok tt) (λ e. cc);
 }
 
--- the whole lines of the text gave the history
-pub Stands-whole : (text : List ℕ) (reader : Reader) → Stands text reader → feed_entries reader.feeder.core.config (whole_lines text) ≡ record { entries = reader.feeder.core.history; stop = AllRead }
+-- the whole lines of the text gave the history, and are counted
+pub Stands-whole : (text : List ℕ) (reader : Reader) → Stands text reader → AllTaken (whole_lines text) reader
 Stands-whole text reader stands =
-    ap (λ (t : List ℕ). feed_entries reader.feeder.core.config (whole_lines t)) stands.text_is
-    ∙ ap (feed_entries reader.feeder.core.config) (stands.ends reader.line.items stands.line)
-    ∙ ap (feed_entries reader.feeder.core.config) (sym (append-nil stands.whole))
-    ∙ stands.goes_on []
-    ∙ ap (λ (es : List Entry). record { entries = es; stop = AllRead }) (append-nil reader.feeder.core.history)
+    let is : whole_lines text ≡ stands.whole = ap whole_lines stands.text_is ∙ stands.ends reader.line.items stands.line in
+    record {
+      told = ap (feed_entries reader.feeder.core.config) (is ∙ sym (append-nil stands.whole))
+          ∙ stands.goes_on []
+          ∙ ap (λ (es : List Entry). record { entries = es; stop = AllRead }) (append-nil reader.feeder.core.history);
+      read = subst (λ (t : List ℕ). HaveRead reader.feeder.core.config t reader.feeder.reads) (sym is) stands.read;
+    }
+
+-- the history is a front of what the text gives
+pub Stands-front : (text : List ℕ) (reader : Reader) → Stands text reader → IsFront reader.feeder.core.history (feed_entries reader.feeder.core.config text).entries
+Stands-front text reader stands = rw (at_end text reader stands) (IsFront-append reader.feeder.core.history _)

@@ -74,7 +74,8 @@ impl Cause {
     }
 }
 
-/// A session: its number, the bytes that came in it and that were written, and why it ended.
+/// A session: its number, the bytes that the lines gave to it, the bytes of its frames that went out, and why it ended;
+/// `Stopped` where it was up at the end of the run. A count stands still at the greatest number of 64 bits.
 #[derive(Clone, Copy, Debug, PartialEq, Eq)]
 pub struct SessionNote {
     pub session: u64,
@@ -108,6 +109,13 @@ impl Notes {
         Notes {
             notes: Vec::new(alloc),
         }
+    }
+
+    /// The notes of a vector. Takes no memory.
+    pub fn from_vec(notes: Vec<SessionNote>) -> Notes
+        ensures { result ≡ notes.items }
+    {
+        Notes { notes }
     }
 
     /// The notes as a slice.
@@ -152,8 +160,8 @@ impl Panels {
     }
 }
 
-/// How a run ended: its status and cause, the history, and, once they are built, a note for each session and the panels
-/// that were read. Until then these two lists are empty.
+/// How a run ended: its status and cause, the history, a note for each session, and, once they are built, the panels that
+/// were read. Until then that list is empty.
 #[derive(Debug, Drop)]
 pub struct Ended {
     pub status: u8,
@@ -167,15 +175,15 @@ impl Ended {
     ghost use Rattle.std.specs.Prelude.{◌≡◌, []};
     ghost use Rattle.gem300_tool.specs.Status.{status_of};
 
-    /// How a run with this history ended.
-    pub fn with_history(alloc: Global, cause: Cause, history: Entries) -> Ended
-        ensures { result ≡ record { status = status_of cause; cause = cause; history = history; sessions = []; panels = [] } }
+    /// How a run with this history and these sessions ended.
+    pub fn with_history(alloc: Global, cause: Cause, history: Entries, sessions: Notes) -> Ended
+        ensures { result ≡ record { status = status_of cause; cause = cause; history = history; sessions = sessions; panels = [] } }
     {
         Ended {
             status: cause.status(),
             cause,
             history,
-            sessions: Notes::none(alloc),
+            sessions,
             panels: Panels::none(alloc),
         }
     }
@@ -184,6 +192,7 @@ impl Ended {
     pub fn without_history(alloc: Global, cause: Cause) -> Ended
         ensures { result ≡ record { status = status_of cause; cause = cause; history = []; sessions = []; panels = [] } }
     {
-        Ended::with_history(alloc, cause, Entries::from_vec(Vec::new(alloc)))
+        let history = Entries::from_vec(Vec::new(alloc));
+        Ended::with_history(alloc, cause, history, Notes::none(alloc))
     }
 }

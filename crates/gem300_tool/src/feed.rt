@@ -11,10 +11,12 @@ ghost use Rattle.gem300_tool.specs.Counts.{Failed};
 ghost use Rattle.gem300_tool.specs.Status.{status_of};
 ghost use Rattle.gem300_tool.specs.Fed.{looked, Fed, ReadToEnd, Shown, IsKnown, Configured};
 ghost use Rattle.gem300_tool.specs.CauseOf.{cause_after, Refuses};
+ghost use Rattle.gem300_tool.specs.Noted.{Noted};
 
-use crate::ended::{Cause, Ended};
+use crate::ended::{Cause, Ended, Notes};
 use crate::halt::Halt;
 use crate::input::{InputEnd, InputRead, read_lines};
+use crate::notes::session_notes;
 use crate::read::{TextFault, read_text};
 use crate::reader::Reader;
 use crate::words::{WordsFault, command_of};
@@ -102,6 +104,8 @@ pub fn feed_config<S: Source, K: Sink>(
     ensures run { Run (opening config.now) result.history (after_all (opening config.now) result.history) }
     // It is what the text gave that was read of the input.
     ensures fed { Fed config.now result.cause (looked S.left S.faults S.ends input.old) (looked S.left S.faults S.ends input.new) result.history }
+    // Each session has its note.
+    ensures sessions { Noted config.now result.cause (looked S.left S.faults S.ends input.old) (looked S.left S.faults S.ends input.new) result.history result.sessions }
     // Its lines are written, and no others.
     ensures printed { Shown config.now result.cause (K.held out.old) (K.held out.new) result.history }
 
@@ -115,16 +119,19 @@ pub fn feed_config<S: Source, K: Sink>(
     ensures config { (rule : ℕ) (key : List ℕ) → result.cause ≢ cause.Config rule key }
 
     // Until they are built.
-    ensures no_sessions { result.sessions ≡ [] }
     ensures no_panels { result.panels ≡ [] }
 {
     let Ok(mut reader) = Reader::open(alloc, config) else {
         return Ended::without_history(alloc, Cause::NoMemory);
     };
     let read = read_lines(alloc, &mut reader, input, out);
-    let cause = cause_of(read, &reader.feeder.core, reader.number);
-    let Reader { feeder, .. } = reader;
-    Ended::with_history(alloc, cause, feeder.into_history())
+    let Reader { feeder, number, .. } = reader;
+    let Ok(sessions) = session_notes(alloc, &feeder.core, &feeder.reads) else {
+        let history = feeder.into_history();
+        return Ended::with_history(alloc, Cause::NoMemory, history, Notes::none(alloc));
+    };
+    let cause = cause_of(read, &feeder.core, number);
+    Ended::with_history(alloc, cause, feeder.into_history(), sessions)
 }
 
 /// Does the command `feed`: reads the configuration, then lines of the input, and writes the lines of what happens.
@@ -142,6 +149,8 @@ pub fn feed<C: Source, S: Source, K: Sink>(
     ensures run { Run (opening known_config) result.history (after_all (opening known_config) result.history) }
     // It is what the text gave that was read of the input.
     ensures fed { Fed known_config result.cause (looked S.left S.faults S.ends input.old) (looked S.left S.faults S.ends input.new) result.history }
+    // Each session has its note.
+    ensures sessions { Noted known_config result.cause (looked S.left S.faults S.ends input.old) (looked S.left S.faults S.ends input.new) result.history result.sessions }
     // Its lines are written, and no others.
     ensures printed { Shown known_config result.cause (K.held out.old) (K.held out.new) result.history }
     ensures configured { Configured result.cause (looked C.left C.faults C.ends config.old) (looked C.left C.faults C.ends config.new) result.history }
@@ -156,7 +165,6 @@ pub fn feed<C: Source, S: Source, K: Sink>(
         → Failed (K.faults out.old) (K.faults out.new) (K.refusals out.old) (K.refusals out.new) }
 
     // Until they are built.
-    ensures no_sessions { result.sessions ≡ [] }
     ensures no_panels { result.panels ≡ [] }
 {
     if let Err(WordsFault::Place(place)) = command_of(words) {

@@ -1,7 +1,7 @@
 //! One line after another: what each says is put in, in the session that is up.
-ghost use Rattle.std.specs.Prelude.{◌≡◌, ℕ, List, [], true, IfOk};
+ghost use Rattle.std.specs.Prelude.{◌≡◌, ◌<◌, ℕ, List, [], true, IfOk, OnOk, OnErr};
 ghost use Rattle.tool_events.specs.Configs.{IsConfig};
-ghost use Rattle.gem_model.specs.State.{opening};
+ghost use Rattle.gem_model.specs.State.{opening, is_session_up};
 ghost use Rattle.gem_model.specs.Run.{Run};
 ghost use Rattle.gem_model.specs.Lines as model;
 ghost use Rattle.gem_model.specs.Feed.{Reading, first_reading, text_bytes};
@@ -122,8 +122,8 @@ impl Feeder {
 
     /// Counts bytes that came in the session that is up.
     fn count_bytes(&mut self, session: u64, bytes: &[u8]) -> Result<(), AllocError>
-        requires { is_session_up self.old.core.state session ≡ true }
-        requires { 0 < session }
+        requires up { is_session_up self.old.core.state session ≡ true }
+        requires numbered { 0 < session }
         ensures counts { OnOk result ((r : Reading) → r.state ≡ self.old.core.state
             → AddsLine r (model.Bytes bytes.now) self.old.reads self.new.reads) }
         ensures unchanged { self.new ≡ record self.old { reads = self.new.reads } }

@@ -1,6 +1,8 @@
 //! The input, from its first byte to its end.
 ghost use Rattle.std.specs.Prelude.{◌≡◌, ◌≤◌, ℕ, List, [], length};
 ghost use Rattle.outside.specs.Told.{Taken};
+ghost use Rattle.gem_model.specs.Front.{IsFront};
+ghost use Rattle.gem_model.specs.Feed.{feed_entries};
 ghost use Rattle.gem300_tool.specs.Going.{seen};
 ghost use Rattle.gem300_tool.specs.Fed.{looked};
 ghost use Rattle.gem300_tool.specs.InputEnds.{InputEnds, as_result};
@@ -48,8 +50,8 @@ pub fn read_lines<S: Source, K: Sink>(
     requires stands { Stands [] reader.old }
     requires first { reader.old.number ≡ 1 }
     ensures read { (text : List ℕ) × (length text ≡ result.count) × Taken (S.left input.old) (S.left input.new) text
-        × InputEnds result.end text reader.new.feeder.core.config reader.new.feeder.core.history reader.new.number
-        (looked S.left S.faults S.ends input.old) (looked S.left S.faults S.ends input.new) }
+        × IsFront reader.new.feeder.core.history (feed_entries reader.new.feeder.core.config text).entries
+        × InputEnds result.end text reader.new (looked S.left S.faults S.ends input.old) (looked S.left S.faults S.ends input.new) }
     ensures prints { Prints reader.old.feeder.core reader.new.feeder.core
         (seen K.held K.faults K.refusals out.old) (seen K.held K.faults K.refusals out.new) (as_result result.end) }
     ensures faults_stay { S.faults input.old ≤ S.faults input.new }

@@ -12,6 +12,7 @@ mod feeder;
 mod halt;
 mod input;
 mod lines;
+mod notes;
 mod print;
 mod read;
 mod reader;

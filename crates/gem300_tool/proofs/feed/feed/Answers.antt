@@ -1,10 +1,13 @@
 use Rattle.gem_model.specs.Command.{known_config}
 use Rattle.gem300_tool.specs.Fed.{looked}
-use Rattle.gem300_tool.proofs.Feeding.{Fed-refused, Shown-refused}
+use Rattle.gem300_tool.proofs.Feeding.{Fed-refused, Noted-refused, Shown-refused}
 use Rattle.gem300_tool.proofs.feed.feed.Goals as goal
 
 pub returns-in-Err-clause-fed : goal.returns-in-Err-clause-fed
 returns-in-Err-clause-fed g c = rw c.without_history-in-Err.ensures (Fed-refused known_config c.in-Err.cause _ _ (looked g.S.Source.left g.S.Source.faults g.S.Source.ends c.args.input.now) c.in-Err.ensures.refused)
+
+pub returns-in-Err-clause-sessions : goal.returns-in-Err-clause-sessions
+returns-in-Err-clause-sessions g c = rw c.without_history-in-Err.ensures (Noted-refused known_config c.in-Err.cause _ _ (looked g.S.Source.left g.S.Source.faults g.S.Source.ends c.args.input.now) c.in-Err.ensures.refused)
 
 pub returns-in-Err-clause-printed : goal.returns-in-Err-clause-printed
 returns-in-Err-clause-printed g c = rw c.without_history-in-Err.ensures (Shown-refused known_config c.in-Err.cause _ _ (g.K.Sink.held c.args.out.now) c.in-Err.ensures.refused)

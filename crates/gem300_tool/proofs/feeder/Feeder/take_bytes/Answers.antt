@@ -1,6 +1,14 @@
-use Rattle.std.proofs.Common.{sym, ◌∙◌}
+use Rattle.std.proofs.Common.{◌≡◌, sym, ◌∙◌, ap}
+use Rattle.hsms_frame.specs.Cut.{Kept}
+use Rattle.tool_core.specs.CoreView.{CoreView}
+use Rattle.gem300_tool.specs.declared.feeder.Feeder.{Feeder}
 use Rattle.gem300_tool.proofs.LineParts.{TakesLine-bytes}
 use Rattle.gem300_tool.proofs.feeder.Feeder.take_bytes.Goals as goal
 
 pub returns : goal.returns
-returns g c = λ r reading. TakesLine-bytes r _ _ _ _ _ _ _ _ _ _ reading (sym c.session_up.ensures ∙ c.in-Some.is) c.cut_bytes.ensures.max c.in-Ok.ensures.cuts c.take_messages.ensures
+returns g c = λ r reading.
+    let core = ap (λ (f : Feeder). f.core) c.count_bytes.ensures.unchanged in
+    let cutter = ap (λ (f : Feeder). f.cutter) c.count_bytes.ensures.unchanged in
+    TakesLine-bytes r _ _ _ _ _ _ _ _ _ _ _ reading (sym c.session_up.ensures.session ∙ c.in-Some.is)
+    (rw cutter at c.cut_bytes.ensures.max) (rw cutter at c.in-Ok-cut_bytes.ensures.cuts) (rw core at c.take_messages.ensures)
+    (c.in-Ok.ensures.counts r (sym reading.state))

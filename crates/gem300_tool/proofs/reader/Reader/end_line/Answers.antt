@@ -6,7 +6,7 @@ pub returns-in-Err-clause-takes : goal.returns-in-Err-clause-takes
 returns-in-Err-clause-takes g c = λ text stands.
     let treats = rw c.deref.ensures.value at c.in-Err.ensures stands.reading stands.is in
     record {
-      stands = λ more. Stands-line-stopped text more c.args.self.now c.take_line.new.self _ _ c.in-Err.halt stands treats;
+      stands = λ more. Stands-line-stopped text more c.args.self.now (record c.args.self.now { feeder = c.take_line.new.self }) _ _ c.in-Err.halt stands treats refl;
       prints = Prints-line stands.reading _ _ _ _ _ _ treats;
     }
 

@@ -1,5 +1,4 @@
 -- What the code's verdicts on data messages stand for.
-use Rattle.std.specs.Prelude.{ℕ}
 use Rattle.tool_events.specs.declared.config.Config.{Config}
 use Rattle.tool_core.specs.declared.data.DataAct.{DataAct}
 use Rattle.tool_core.specs.declared.data.DataAct.TheVariants as act

@@ -112,6 +112,13 @@ impl Plant {
         self.is_up().then_some(self.link.session)
     }
 
+    /// How many sessions came.
+    pub fn session_count(&self) -> u64
+        ensures { result ≡ self.now.link.session }
+    {
+        self.link.session
+    }
+
     /// Whether a frame waits.
     pub fn has_waiting(&self) -> bool
         ensures { IsTrue result ↔ (0 < length self.now.waiting) }

@@ -175,6 +175,21 @@ fn a_message_of_another_device_is_told_by_s9f1(rt: HostRuntime) -> Result<(), Fa
 }
 
 #[test]
+fn a_frame_that_was_taken_counts_for_its_session(rt: HostRuntime) -> Result<(), Fail> {
+    let alloc = rt.alloc();
+    let mut core = linked(alloc, &config(10, 0)?)?;
+    arrives(alloc, &mut core, header(0xFFFF, (0, 0), (0, 1), 1))?;
+    assert_eq!(rt; core.session_bytes(1), 0);
+    // The select response: four bytes of length, and a header of ten.
+    let selected = [0, 0, 0, 10, 0xFF, 0xFF, 0, 0, 0, 2, 0, 0, 0, 1];
+    sends(&rt, alloc, &mut core, selected.as_slice())?;
+    assert_eq!(rt; core.session_bytes(1), 14);
+    assert_eq!(rt; core.session_bytes(2), 0);
+    assert_eq!(rt; core.session_count(), 1);
+    Ok(())
+}
+
+#[test]
 fn ample_memory_is_enough(rt: HostRuntime) -> Result<(), Fail> {
     let alloc = rt.alloc();
     let mut core = linked(alloc, &config(20, 100)?)?;

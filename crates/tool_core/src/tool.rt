@@ -8,14 +8,16 @@ ghost use Rattle.tool_events.specs.Sizes.{event_bytes};
 ghost use Rattle.gem_model.specs.State.{opening, is_up, is_session_up};
 ghost use Rattle.gem_model.specs.Step.{Outcome, step};
 ghost use Rattle.gem_model.specs.Run.{Run};
-ghost use Rattle.gem_model.specs.Sessions.{session_end};
-ghost use Rattle.gem_model.specs.Sizes.{bytes_of, is_full};
+ghost use Rattle.gem_model.specs.Sessions.{session_count, session_end, session_out, frame_taken};
+ghost use Rattle.gem_model.specs.Sizes.{bytes_of, counted, is_full};
+ghost use Rattle.tool_core.specs.Counts.{count_of, taker};
 
+use crate::counts::SessionCounts;
 use crate::entries::Entries;
 use crate::plant::Plant;
 use gem_ids::Moment;
 use hsms_frame::Arrival;
-use std::alloc::Global;
+use std::alloc::{AllocError, Global};
 use std::marker::Model;
 use tool_events::{Answer, Config, Entry, Event, PostFault, SessionCause};
 
@@ -43,6 +45,30 @@ fn add_end(ends: &mut Vec<SessionCause>, ended: Option<SessionCause>)
     }
 }
 
+/// Makes room for the count of this session, where there is one.
+fn make_room(counts: &mut SessionCounts, session: Option<u64>) -> Result<(), AllocError>
+    ensures counts { (k : ℕ) → count_of counts.new k ≡ count_of counts.old k }
+    ensures room { OnOk result (IfSome session (λ k. k ≤ length counts.new)) }
+{
+    match session {
+        Some(session) => counts.make_room(session),
+        None => Ok(()),
+    }
+}
+
+/// Adds the bytes of a frame to the count of the session whose writer took it.
+fn add_taken(counts: &mut SessionCounts, event: &Event, answer: &Answer)
+    requires { IfSome (taker event.now answer.now) (λ session. (0 < session) × (session ≤ length counts.old)) }
+    ensures { (k n : ℕ) → count_of counts.old k ≡ counted n → count_of counts.new k ≡ counted (n + length (frame_taken event.now answer.now k)) }
+{
+    match (event, answer) {
+        (Event::Take { session }, Answer::Frame(frame)) => {
+            counts.add(*session, frame.as_slice().len() as u64);
+        }
+        _ => {}
+    }
+}
+
 /// The tool, with its history. Contracts see its configuration, its state, its history, and whether it can go on.
 #[derive(Drop)]
 pub struct Core {
@@ -50,6 +76,7 @@ pub struct Core {
     plant: Plant,
     entries: Vec<Entry>,
     ends: Vec<SessionCause>,
+    written: SessionCounts,
     bytes: u64,
     is_whole: bool,
 }
@@ -63,7 +90,7 @@ impl Model for Core {
 
     ghost view = { λ c. record { config = c.config; state = c.plant; history = c.entries.items; is_whole = c.is_whole } };
 
-    ghost invariant = { λ c. Replays c.config c.plant c.entries.items c.ends.items c.bytes };
+    ghost invariant = { λ c. Replays c.config c.plant c.entries.items c.ends.items c.written c.bytes };
 }
 
 impl Core {
@@ -77,6 +104,7 @@ impl Core {
             plant: Plant::open(alloc, config),
             entries: Vec::new(alloc),
             ends: Vec::new(alloc),
+            written: SessionCounts::none(alloc),
             bytes: 0,
             is_whole: true,
         }
@@ -122,6 +150,21 @@ impl Core {
             return None;
         }
         self.ends.get((session - 1) as usize).copied()
+    }
+
+    /// How many sessions came. They are numbered from 1.
+    pub fn session_count(&self) -> u64
+        ensures { result ≡ session_count (opening self.now.config) self.now.history }
+    {
+        self.plant.session_count()
+    }
+
+    /// How many bytes went out in a session: those of the frames that its writer took. The count stands still at the
+    /// greatest number of 64 bits. 0: nothing went out, or the session never came.
+    pub fn session_bytes(&self, session: u64) -> u64
+        ensures { result ≡ counted (length (session_out (opening self.now.config) self.now.history session)) }
+    {
+        self.written.of(session)
     }
 
     /// How much text the history holds, in bytes.
@@ -172,12 +215,16 @@ impl Core {
         let Ok(()) = self.ends.reserve(1) else {
             return Err(PostFault::NoMemory);
         };
+        let Ok(()) = make_room(&mut self.written, self.plant.session_up()) else {
+            return Err(PostFault::NoMemory);
+        };
         let Ok(reacted) = self.plant.react(alloc, at, &event) else {
             return Err(PostFault::NoMemory);
         };
         let Some(reaction) = reacted else {
             return Err(PostFault::Again);
         };
+        add_taken(&mut self.written, &event, &reaction.answer);
         self.bytes += event_bytes(&event);
         self.entries.push_reserved(Entry { seat, at, event });
         add_end(&mut self.ends, reaction.ended);

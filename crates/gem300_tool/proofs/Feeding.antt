@@ -4,6 +4,9 @@ use Rattle.std.proofs.lemmas.List.{append-nil, nil_from_length}
 use Rattle.outside.specs.Told.{Taken}
 use Rattle.tool_events.specs.declared.entry.Entry.{Entry}
 use Rattle.tool_events.specs.declared.config.Config.{Config}
+use Rattle.gem_model.specs.State.{State, opening}
+use Rattle.gem_model.specs.Run.{Run, after_all}
+use Rattle.gem_model.proofs.Runs.{after_all-run}
 use Rattle.tool_core.specs.CoreView.{CoreView}
 use Rattle.gem300_tool.specs.declared.halt.Halt.TheVariants as halt
 use Rattle.gem300_tool.specs.declared.ended.Cause.{Cause}
@@ -33,6 +36,12 @@ FedBy-end (input.Halted (halt.Line place)) text count reader source source' size
 FedBy-end (input.Halted halt.Full) text count reader source source' size h = (inr h.told, refl, refl, sym size)
 FedBy-end (input.Halted halt.Write) text count reader source source' size h = h.told
 FedBy-end (input.Halted halt.NoMemory) text count reader source source' size h = h.told
+
+-- the history is a run from the first state
+pub run_from : (c k : Config) (history : List Entry) (state : State) → c ≡ k → Run (opening c) history state → Run (opening k) history (after_all (opening k) history)
+run_from c k history state same run =
+    subst (λ (k : Config). Run (opening k) history (after_all (opening k) history)) same
+    (subst (λ (s : State). Run (opening c) history s) (sym (after_all-run (opening c) history state run)) run)
 
 -- these are the notes, whatever bytes the counts are of
 abbrev pub NotesFrom : Reader → List SessionNote → Type 0

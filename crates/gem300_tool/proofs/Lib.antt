@@ -9,5 +9,6 @@ pub mod AtText
 pub mod Stopping
 pub mod Standing
 pub mod Reading
+pub mod Noting
 pub mod Progress
 pub mod Feeding

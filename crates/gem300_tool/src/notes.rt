@@ -16,7 +16,7 @@ fn session_note(core: &Core, reads: &SessionCounts, session: u64) -> SessionNote
     SessionNote {
         session,
         read: reads.of(session),
-        written: 0,
+        written: core.session_bytes(session),
         cause: core.session_end(session).unwrap_or(SessionCause::Stopped),
     }
 }
@@ -31,7 +31,7 @@ pub fn session_notes(
         → AreNotes core.now.config core.now.history read notes) }
 {
     let mut notes = Vec::new(alloc);
-    for session in 0..0 {
+    for session in 0..core.session_count() {
         notes.push(session_note(core, reads, session + 1))?;
     }
     Ok(Notes::from_vec(notes))

@@ -11,3 +11,6 @@ returns-in-Err-clause-sessions g c = rw c.without_history-in-Err.ensures (Noted-
 
 pub returns-in-Err-clause-printed : goal.returns-in-Err-clause-printed
 returns-in-Err-clause-printed g c = rw c.without_history-in-Err.ensures (Shown-refused known_config c.in-Err.cause _ _ (g.K.Sink.held c.args.out.now) c.in-Err.ensures.refused)
+
+pub returns-in-Ok-clause-sessions : goal.returns-in-Ok-clause-sessions
+returns-in-Ok-clause-sessions g c = rw c.known_config.ensures.config at c.feed_config.ensures.sessions

@@ -2,7 +2,7 @@
 ghost use Rattle.std.specs.Prelude.{◌≡◌, ℕ, ◌<◌, ◌≤◌, Some, None, IfOk, IfSome, IfNone, IsErrOf, List};
 ghost use Rattle.std.specs.List.{list_all};
 ghost use Rattle.std.specs.Char.{is_ascii_digit};
-ghost use Rattle.tool_events.specs.Configs.{last_moment};
+ghost use Rattle.gem_ids.specs.Moments.{last_moment};
 ghost use Rattle.gem_model.specs.Lines.{line_of, hex_line, moment_line, is_number, decimal_value};
 ghost use Rattle.gem300_tool.specs.Lines.{line_view};
 
@@ -12,9 +12,6 @@ use std::alloc::Global;
 
 /// The greatest line, in bytes.
 pub const LINE_BYTES: usize = 600_000;
-
-/// The last hundredth of a second of the year 9999.
-const LAST_MOMENT: u64 = 25_245_561_599_999;
 
 /// What a line says.
 #[derive(Debug, Drop)]
@@ -92,7 +89,7 @@ fn number_of(digits: &[u8]) -> Option<u64>
     let mut value: u64 = 0;
     for digit in digits {
         value = value * 10 + u64::from(digit.saturating_sub(b'0'));
-        if value > LAST_MOMENT {
+        if value > Moment::LAST.0 {
             return None;
         }
     }

@@ -1,5 +1,4 @@
-/// A moment, in hundredths of a second since 2000-01-01 00:00:00, at most 25,245,561,599,999
-/// (the last hundredth of the year 9999).
+/// A moment, in hundredths of a second since 2000-01-01 00:00:00, at most `Moment::LAST`.
 #[derive(Clone, Copy, Debug, PartialEq, Eq, PartialOrd, Ord)]
 pub struct Moment(pub u64);
 

@@ -2,7 +2,7 @@
 use Rattle.std.specs.Prelude.{ℕ, ◌||◌, ◌==◌, nat_lt, nat_eq, if◌then◌else◌, List, [], ◌∷◌, length, drop, codes, Option, Some, None, option_and_then, ◌+◌, ◌*◌, ◌-◌, ◌&&◌, nat_le, fold, not, Bool, true, false}
 use Rattle.std.specs.List.{starts_with, list_any, list_all}
 use Rattle.std.specs.Char.{is_ascii_digit}
-use Rattle.tool_events.specs.Configs.{last_moment}
+use Rattle.gem_ids.specs.Moments.{last_moment}
 use Rattle.std.specs.Str.{bytes_eq}
 use Rattle.std.specs.Result.{result_ok}
 use Rattle.hex.specs.Hex.{decode_of}

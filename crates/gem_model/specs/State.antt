@@ -5,7 +5,7 @@ use Rattle.hsms_link.specs.declared.state.Phase.TheVariants.{Down}
 use Rattle.hsms_link.specs.declared.state.Ping.TheVariants.{Off}
 use Rattle.hsms_link.specs.Links as links
 use Rattle.tool_events.specs.declared.config.Config.{Config}
-use Rattle.tool_events.specs.Configs.{last_moment}
+use Rattle.gem_ids.specs.Moments.{last_moment}
 
 pub record State : Type 0 where
   -- what the configuration says; it never changes

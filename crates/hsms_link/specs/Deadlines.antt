@@ -1,5 +1,6 @@
 -- The deadlines of a link (SEMI E37, T6 and T7, and this tool's linktest period).
 use Rattle.std.specs.Prelude.{ℕ, ◌+◌, Bool, ◌&&◌, ◌==◌, nat_le, if◌then◌else◌, Option, Some, None, option_and_then}
+use Rattle.gem_ids.specs.Moments.{last_moment}
 use Rattle.hsms_link.specs.declared.state.LinkState.{LinkState}
 use Rattle.hsms_link.specs.declared.state.Phase.{Phase}
 use Rattle.hsms_link.specs.declared.state.Phase.TheVariants.{Down, NotSelected, Selected}
@@ -25,10 +26,6 @@ deadline_of times Selected (Quiet since) =
     if times.period == 0 then None else Some (record { due = AskLinktest; at = since.0 + times.period })
 deadline_of times Selected Off = None
 deadline_of times Down ping = None
-
--- the last hundredth of the year 9999
-abbrev pub last_moment : ℕ
-last_moment = 25245561599999
 
 -- a deadline comes at its moment, and one past the last moment never
 abbrev pub has_come : ℕ → ℕ → Bool

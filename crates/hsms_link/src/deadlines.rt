@@ -21,15 +21,12 @@ pub enum LinkDue {
     AskLinktest,
 }
 
-// The last hundredth of the year 9999.
-const LAST_MOMENT: u64 = 25_245_561_599_999;
-
 // This time after `since` has come. A sum past the last moment never comes.
 pub fn has_come(since: Moment, time: u32, at: Moment) -> bool
     ensures { result ≡ has_come (since.0 + time) at.0 }
 {
     match since.0.checked_add(u64::from(time)) {
-        Some(deadline) => deadline <= at.0 && deadline <= LAST_MOMENT,
+        Some(deadline) => deadline <= at.0 && deadline <= Moment::LAST.0,
         None => false,
     }
 }

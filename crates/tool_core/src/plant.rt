@@ -24,9 +24,6 @@ const T6: u32 = 500;
 /// The heartbeat comes so many hundredths of a second after the last moment.
 const HEARTBEAT: u32 = 100;
 
-/// The last hundredth of a second of the year 9999.
-const LAST_MOMENT: u64 = 25_245_561_599_999;
-
 /// What an event is answered, and why it ended the session that was up, if it did.
 #[derive(Debug, Drop)]
 pub struct Reaction {
@@ -141,7 +138,7 @@ impl Plant {
     fn raised(&self, at: Moment) -> Moment
         ensures { result.0 ≡ (raised self.now at.0).moment }
     {
-        Moment(self.moment.0.max(at.0).min(LAST_MOMENT))
+        Moment(self.moment.0.max(at.0).min(Moment::LAST.0))
     }
 
     /// A link comes up. While one is up, nothing changes.

@@ -1,10 +1,7 @@
 -- What a configuration may say (this tool's profile, configuration).
 use Rattle.std.specs.Prelude.{ℕ, ◌≤◌, length}
+use Rattle.gem_ids.specs.Moments.{last_moment}
 use Rattle.tool_events.specs.declared.config.Config.{Config}
-
--- the last hundredth of the year 9999
-abbrev pub last_moment : ℕ
-last_moment = 25245561599999
 
 pub record IsConfig (c : Config) : Type 0 where
   pub device : c.device ≤ 32767

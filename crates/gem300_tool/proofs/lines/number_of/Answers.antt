@@ -4,10 +4,10 @@ use Rattle.gem_model.specs.Lines.{decimal_value}
 use Rattle.gem300_tool.proofs.Numbers.{value-more, value-front}
 use Rattle.gem300_tool.proofs.lines.number_of.Goals as goal
 
-pub returns-then-value-gt-LAST_MOMENT-clause-none : goal.returns-then-value-gt-LAST_MOMENT-clause-none
-returns-then-value-gt-LAST_MOMENT-clause-none c =
+pub returns-then-value-clause-none : goal.returns-then-value-clause-none
+returns-then-value-clause-none c =
     let i : ℕ = c.loop-digit.digit-index in
     let digits : List ℕ = c.args.digits.now in
     let more = ap decimal_value (take_more digits i 0 c.loop-digit-test.true) ∙ value-more (take i digits) (get_or digits i 0) in
     let front = value-front (i + 1) digits in
-    omega (arith, more, front, c.loop-digit.invariant.value, c.if-value-gt-LAST_MOMENT.true, c.from.ensures, c.saturating_sub.ensures)
+    omega (arith, more, front, c.loop-digit.invariant.value, c.if-value.true, c.from.ensures, c.saturating_sub.ensures)

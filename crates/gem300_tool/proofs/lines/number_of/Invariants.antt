@@ -1,5 +1,5 @@
 use Rattle.std.proofs.Common.{◌≡◌, ◌≤◌, take}
-use Rattle.tool_events.specs.Configs.{last_moment}
+use Rattle.gem_ids.specs.Moments.{last_moment}
 use Rattle.gem_model.specs.Lines.{decimal_value}
 use Rattle.gem300_tool.proofs.lines.number_of.Given as goal
 

@@ -56,6 +56,7 @@ fn post<K: Sink>(
     let answer = match core.apply(alloc, 0, at, event) {
         Ok(answer) => answer,
         Err(PostFault::Full(_)) => return Err(Halt::Full),
+        // `Again` can't come: it comes only where there is no step, and a step is required.
         Err(PostFault::Again | PostFault::NoMemory) => return Err(Halt::NoMemory),
     };
     let ended = ended_now(core, before);

@@ -1,9 +1,14 @@
 -- A conversation with the tool: lines in, lines out.
-use Rattle.std.specs.Prelude.{ℕ, List, codes}
+use Rattle.std.specs.Prelude.{ℕ, ◌+◌, List, codes, map}
 use Rattle.tool_events.specs.declared.config.Config.{Config}
+use Rattle.hsms_frame.specs.declared.frame.Header.{Header}
+use Rattle.hsms_frame.specs.declared.frame.Arrival.TheVariants as arrival
+use Rattle.tool_events.specs.declared.event.Event.{Event}
+use Rattle.tool_events.specs.declared.event.Event.TheVariants as event
+use Rattle.tool_events.specs.declared.entry.Entry.{Entry}
 use Rattle.gem_model.specs.State.{opening}
 use Rattle.gem_model.specs.Command.{known_config}
-use Rattle.gem_model.specs.Feed.{Stop, feed_entries}
+use Rattle.gem_model.specs.Feed.{Stop, entry_of, feed_entries}
 use Rattle.gem_model.specs.Printed.{printed}
 
 -- what the tool prints for a text of lines, under the known configuration (this tool's profile, input and output lines)
@@ -13,3 +18,32 @@ answer_to text = printed (opening known_config) (feed_entries known_config text)
 -- where it stops reading the text (this tool's profile, statuses)
 abbrev pub stop_of : List ℕ → Stop
 stop_of text = (feed_entries known_config text).stop
+
+-- the history of these events, of which each is posted with the moment 0
+abbrev pub posted : List Event → List Entry
+posted events = map (λ event. entry_of 0 event) events
+
+-- what the tool prints for these events, under the known configuration
+abbrev pub answer_to_events : List Event → List ℕ
+answer_to_events events = printed (opening known_config) (posted events)
+
+-- a message of the host in session 1, with this text
+abbrev pub message_of : Header → List ℕ → Event
+message_of h text = event.Host 1 (arrival.Frame (record { header = h; text = text }))
+
+-- a message of the host in session 1 whose text is too long, with its length field
+abbrev pub too_long_of : Header → ℕ → Event
+too_long_of h field = event.Host 1 (arrival.TooLong h field)
+
+-- the writer of session 1 takes the next frame
+abbrev pub take_one : Event
+take_one = event.Take 1
+
+-- a select request under these system bytes
+abbrev pub select_request : ℕ → Header
+select_request system = record { session = 65535; byte2 = 0; byte3 = 0; ptype = 0; stype = 1; system = system }
+
+-- a data message to device 0: the stream with the W-bit, the function, the system bytes
+abbrev pub request : ℕ → ℕ → ℕ → Header
+request stream function system =
+    record { session = 0; byte2 = 128 + stream; byte3 = function; ptype = 0; stype = 0; system = system }

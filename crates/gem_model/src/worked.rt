@@ -1,10 +1,14 @@
 //! Worked conversations: what the tool prints for a text of lines, computed from the definitions. Each function is a
-//! statement about them, and has no code.
+//! statement about them, and has no code. Where such a text would be too great to compute, the statement is of the events
+//! that it makes.
 #![tactic(auto, unfolding(crate::proofs::OnLiterals::feed_on_literals))]
 
-ghost use Rattle.std.specs.Prelude.{◌≡◌, codes};
+ghost use Rattle.std.specs.Prelude.{◌≡◌, true, false, [], ◌∷◌, codes};
+ghost use Rattle.tool_events.specs.declared.event.Event.TheVariants.{LinkUp, Tick};
+ghost use Rattle.gem_model.specs.Command.{known_config};
+ghost use Rattle.gem_model.specs.Sizes.{is_full};
 ghost use Rattle.gem_model.specs.Feed.{AllRead, OutsideGrammar};
-ghost use Rattle.gem_model.specs.Conversation.{answer_to, stop_of};
+ghost use Rattle.gem_model.specs.Conversation.{answer_to, stop_of, answer_to_events, posted, message_of, too_long_of, take_one, select_request, request};
 
 /// Where nothing comes, nothing is printed.
 pub fn no_lines()
@@ -125,4 +129,29 @@ pub fn a_message_that_is_not_known_is_told()
         ≡ codes "+ 1\n> 0000000AFFFF0000000200000001\n> 0000001600000903000000000001210A0000821100000000000A\n" }
     ensures function { answer_to (codes "L+\nH 0000000AFFFF0000000100000001\nH 0000000A0000810300000000000A\n")
         ≡ codes "+ 1\n> 0000000AFFFF0000000200000001\n> 0000001600000905000000000001210A0000810300000000000A\n" }
+{}
+
+/// A text that is too long, here by one byte, is told by S9F11, which has the ten header bytes and system bytes of the
+/// tool's own. The next message is answered as ever.
+pub fn a_text_that_is_too_long_is_told()
+    ensures { answer_to_events (LinkUp ∷ message_of (select_request 1) [] ∷ take_one
+        ∷ too_long_of (request 1 3 10) 262155 ∷ take_one
+        ∷ message_of (request 1 1 2) [] ∷ take_one ∷ [])
+        ≡ codes "+ 1\n> 0000000AFFFF0000000200000001\n> 000000160000090B000000000001210A0000810300000000000A\n> 0000001C000001020000000000020102410647454D3330304106312E302E3030\n" }
+{}
+
+/// A history is full once it has its greatest number of entries, here 2, and not one before.
+pub fn a_history_is_full_at_its_greatest_number_of_entries()
+    ensures room { is_full (record known_config { max_entries = 2 }) (posted (LinkUp ∷ [])) Tick ≡ false }
+    ensures full { is_full (record known_config { max_entries = 2 }) (posted (LinkUp ∷ Tick ∷ [])) Tick ≡ true }
+{}
+
+/// A history takes its greatest number of bytes of text, here 3, and not one more. A text that is too long counts 0.
+pub fn a_history_takes_its_greatest_number_of_bytes()
+    ensures room { is_full (record known_config { max_bytes = 3 })
+        (posted (LinkUp ∷ message_of (request 1 1 1) (65 ∷ 66 ∷ []) ∷ [])) (message_of (request 1 1 2) (67 ∷ [])) ≡ false }
+    ensures full { is_full (record known_config { max_bytes = 3 })
+        (posted (LinkUp ∷ message_of (request 1 1 1) (65 ∷ 66 ∷ []) ∷ [])) (message_of (request 1 1 2) (67 ∷ 68 ∷ [])) ≡ true }
+    ensures too_long { is_full (record known_config { max_bytes = 3 })
+        (posted (LinkUp ∷ message_of (request 1 1 1) (65 ∷ 66 ∷ 67 ∷ []) ∷ [])) (too_long_of (request 1 1 2) 262155) ≡ false }
 {}

@@ -1,6 +1,5 @@
 -- A conversation with the tool: lines in, lines out.
-use Rattle.std.specs.Prelude.{ℕ, ◌+◌, List, codes, map}
-use Rattle.tool_events.specs.declared.config.Config.{Config}
+use Rattle.std.specs.Prelude.{ℕ, ◌+◌, List, map}
 use Rattle.hsms_frame.specs.declared.frame.Header.{Header}
 use Rattle.hsms_frame.specs.declared.frame.Arrival.TheVariants as arrival
 use Rattle.tool_events.specs.declared.event.Event.{Event}

@@ -50,6 +50,7 @@ adds_bytes r bytes counts counts' session up added = λ before are k. one k (k =
   where
     other_session : (k : ℕ) → (k == session) ≡ false → line_bytes_in r (Bytes bytes) k ≡ 0
     other_session k other = grind (arith, up, other)
+
     one : (k : ℕ) (same : Bool) → (k == session) ≡ same → (n : ℕ) → count_of counts k ≡ counted n → count_of counts' k ≡ counted (n + line_bytes_in r (Bytes bytes) k)
     one k true same n is =
         let k_is : k ≡ session = eqb-true k session same in

@@ -100,13 +100,13 @@ taken_counts text all old new out out' halt.Write stands says is front h = recor
   read = line_read text old stands says new.reads is h.counts;
 }
 taken_counts text all old new out out' halt.NoMemory stands says is front h = elim h.counts [
-    inl adds ↦ record {
-      taken = text;
-      marks = line_stopped text all old new.core stands says is front h.goes.grows h.goes.went;
-      read = line_read text old stands says new.reads is adds;
-    }
+  | inl adds ↦ record {
+    taken = text;
+    marks = line_stopped text all old new.core stands says is front h.goes.grows h.goes.went;
+    read = line_read text old stands says new.reads is adds;
+  }
   | inr same ↦ stopped_before text all old new.core.history new.reads stands front (ap (λ (v : CoreView). v.history) same.1) same.0
-  ]
+]
 
 abbrev failed : Halt → Result (Unit {0}) Halt
 failed why = Err why

@@ -22,11 +22,7 @@ fn session_note(core: &Core, reads: &SessionCounts, session: u64) -> SessionNote
 }
 
 /// A note for each session that came to this core, in order, with the bytes that came in it.
-pub fn session_notes(
-    alloc: Global,
-    core: &Core,
-    reads: &SessionCounts,
-) -> Result<Notes, AllocError>
+pub fn session_notes(alloc: Global, core: &Core, reads: &SessionCounts) -> Result<Notes, AllocError>
     ensures { IfOk result (λ notes. (read : ℕ → ℕ) → AreCounts reads.now read
         → AreNotes core.now.config core.now.history read notes) }
 {

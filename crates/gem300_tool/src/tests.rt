@@ -1,10 +1,11 @@
-use crate::ended::{Cause, Ended};
+use crate::ended::{Cause, Ended, SessionNote};
 use crate::feed::{feed, feed_config, known_config};
 use gem_ids::Text80;
 use outside::{Failed, MemSink, MemSource, Sink, Source};
 use std::alloc::Global;
 use std::process::Abort;
 use std::test::Fail;
+use tool_events::SessionCause;
 
 const KNOWN: &[u8] = b"communication = \"communicating\"\n";
 
@@ -243,6 +244,88 @@ fn a_history_takes_so_much_text(rt: HostRuntime) -> Result<(), Fail> {
     let ended = feed_config(alloc, &config, &mut input, &mut out);
     assert_eq!(rt; ended.cause, Cause::Full(4, 5, count));
     assert_eq!(rt; out.as_bytes(), SELECTED_OUT);
+    Ok(())
+}
+
+/// The note of a session.
+fn note(session: u64, read: u64, written: u64, cause: SessionCause) -> SessionNote {
+    SessionNote {
+        session,
+        read,
+        written,
+        cause,
+    }
+}
+
+/// A frame without text has 14 bytes, and so has its select response.
+#[test]
+fn each_session_has_its_note(rt: HostRuntime) -> Result<(), Fail> {
+    let alloc = rt.alloc();
+    let lost = b"H 00\nL-\nH 0000\n".as_slice();
+    let short = b"L+\nL+\nH 00000009\n".as_slice();
+    let up = b"L+\nH 000000\nH 0A\n".as_slice();
+    let lines = joined(alloc, SELECTED, lost)?;
+    let lines = joined(alloc, &lines, short)?;
+    let lines = joined(alloc, &lines, up)?;
+    let mut input = source(alloc, &lines, &[])?;
+    let mut out = MemSink::new(alloc, Vec::new(alloc));
+    let ended = run_lines(alloc, &mut input, &mut out)?;
+    assert_eq!(rt; ended.status, 0);
+    let notes = [
+        note(1, 15, 14, SessionCause::PeerEnd),
+        note(2, 4, 0, SessionCause::ShortLength),
+        note(3, 4, 0, SessionCause::Stopped),
+    ];
+    assert_eq!(rt; ended.sessions.as_slice(), notes.as_slice());
+    Ok(())
+}
+
+/// The session is up and selected where the run stops, and these bytes came in it.
+fn stops_in_session_1(rt: &impl Abort, ended: &Ended, status: u8, read: u64, written: u64) {
+    assert_eq!(rt; ended.status, status);
+    let notes = [note(1, read, written, SessionCause::Stopped)];
+    assert_eq!(rt; ended.sessions.as_slice(), notes.as_slice());
+}
+
+#[test]
+fn the_notes_count_up_to_the_line_in_which_the_run_stops(rt: HostRuntime) -> Result<(), Fail> {
+    let alloc = rt.alloc();
+    let more = b"H 0000\nH 00000\nH 00\n".as_slice();
+    let lines = joined(alloc, SELECTED, more)?;
+
+    let mut input = source(alloc, &lines, &[])?;
+    let mut out = MemSink::new(alloc, Vec::new(alloc));
+    let refused = run_lines(alloc, &mut input, &mut out)?;
+    stops_in_session_1(&rt, &refused, 6, 16, 14);
+
+    let mut config = known_config();
+    config.max_entries = 2;
+    let mut input = source(alloc, &lines, &[])?;
+    let mut out = MemSink::new(alloc, Vec::new(alloc));
+    let full = feed_config(alloc, &config, &mut input, &mut out);
+    stops_in_session_1(&rt, &full, 5, 14, 0);
+
+    let mut input = source(alloc, &lines, &[])?;
+    let mut out = MemSink::new(alloc, Vec::from_slice(alloc, &[2])?);
+    let failed = run_lines(alloc, &mut input, &mut out)?;
+    stops_in_session_1(&rt, &failed, 4, 14, 14);
+
+    let mut input = source(alloc, &lines, &[3])?.with_piece(20);
+    let mut out = MemSink::new(alloc, Vec::new(alloc));
+    let unread = run_lines(alloc, &mut input, &mut out)?;
+    stops_in_session_1(&rt, &unread, 3, 14, 14);
+    Ok(())
+}
+
+#[test]
+fn without_a_run_there_are_no_notes(rt: HostRuntime) -> Result<(), Fail> {
+    let alloc = rt.alloc();
+    let mut config = source(alloc, KNOWN, &[])?;
+    let mut input = source(alloc, SELECTED, &[])?;
+    let mut out = MemSink::new(alloc, Vec::new(alloc));
+    let ended = feed(alloc, &[], &mut config, &mut input, &mut out);
+    assert_eq!(rt; ended.status, 1);
+    assert_eq!(rt; ended.sessions.as_slice().len(), 0);
     Ok(())
 }
 

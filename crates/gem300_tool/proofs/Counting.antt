@@ -1,7 +1,7 @@
 -- The counts of the bytes that came.
 use Rattle.std.proofs.Common.{◌≡◌, ℕ, ◌+◌, inl, Bool, true, false, ◌==◌, if◌then◌else◌, List, length, Result, Ok, Err, refl, sym, ◌∙◌, ap, arith}
 use Rattle.std.proofs.lemmas.Bool.{eqb-true}
-use Rattle.gem_model.specs.State.{State, is_up, is_session_up}
+use Rattle.gem_model.specs.State.{is_up, is_session_up}
 use Rattle.gem_model.specs.Lines.{Line, Skip, Up, Down, Bytes, Time}
 use Rattle.gem_model.specs.Feed.{Reading}
 use Rattle.gem_model.specs.Sizes.{counted}
@@ -10,7 +10,7 @@ use Rattle.tool_core.specs.Counts.{count_of}
 use Rattle.tool_core.specs.CoreView.{CoreView}
 use Rattle.gem300_tool.specs.declared.halt.Halt.{Halt}
 use Rattle.gem300_tool.specs.declared.halt.Halt.TheVariants as halt
-use Rattle.gem300_tool.specs.Reads.{AreCounts, AddsLine, CountsLine}
+use Rattle.gem300_tool.specs.Reads.{AddsLine, CountsLine}
 
 -- the line is counted, however it ended
 pub counts_any : (r : Reading) (line : Line) (counts counts' : List ℕ) (core core' : CoreView) (result : Result (Unit {0}) Halt) → AddsLine r line counts counts' → CountsLine r line counts counts' core core' result

@@ -13,7 +13,6 @@ use Rattle.gem300_tool.specs.declared.reader.Reader.{Reader}
 use Rattle.gem300_tool.specs.Going.{SinkView}
 use Rattle.gem300_tool.specs.Fed.{SourceView, input_bytes}
 use Rattle.gem300_tool.specs.InputEnds.{InputEnds, as_result}
-use Rattle.gem300_tool.specs.Limits.{IsFullAt}
 use Rattle.gem300_tool.specs.Standing.{Stands, StopsAt, AllTaken, Prints, Takes, Finishes}
 use Rattle.gem300_tool.proofs.Going.{IsFront-same}
 use Rattle.gem300_tool.proofs.Writing.{Rose-wider}

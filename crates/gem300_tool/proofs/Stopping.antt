@@ -1,25 +1,24 @@
 -- Where in a text a reader stopped.
-use Rattle.std.proofs.Common.{◌≡◌, ◌⊎◌, inl, inr, ℕ, ◌+◌, ◌<◌, ◌≤◌, List, [], ◌∷◌, ◌++◌, length, Option, Some, None, Result, Ok, Err, refl, sym, ◌∙◌, ap, subst, append_assoc, arith, length-append}
+use Rattle.std.proofs.Common.{◌≡◌, ◌⊎◌, inl, inr, ℕ, ◌+◌, List, [], ◌∷◌, ◌++◌, length, Option, Some, None, Result, Err, refl, sym, ◌∙◌, ap, subst, arith, length-append}
 use Rattle.std.proofs.lemmas.List.{append-nil}
 use Rattle.tool_events.specs.declared.entry.Entry.{Entry}
-use Rattle.tool_events.specs.declared.config.Config.{Config}
 use Rattle.gem_model.specs.Front.{IsFront}
-use Rattle.gem_model.specs.Lines.{Line, lines_of, whole_lines, line_of}
-use Rattle.gem_model.specs.Feed.{Given, Reading, line_given, feed_entries}
+use Rattle.gem_model.specs.Lines.{Line, whole_lines, line_of}
+use Rattle.gem_model.specs.Feed.{line_given, feed_entries}
 use Rattle.gem_model.specs.Sizes.{counted}
-use Rattle.gem_model.specs.SessionBytes.{line_and_more, line_bytes_in, lines_bytes_in, session_in}
+use Rattle.gem_model.specs.SessionBytes.{line_and_more, lines_bytes_in, session_in}
 use Rattle.tool_core.specs.Counts.{count_of}
 use Rattle.tool_core.specs.CoreView.{CoreView}
 use Rattle.gem300_tool.specs.declared.halt.Halt.{Halt}
 use Rattle.gem300_tool.specs.declared.halt.Halt.TheVariants as halt
 use Rattle.gem300_tool.specs.declared.feeder.Feeder.{Feeder}
 use Rattle.gem300_tool.specs.declared.reader.Reader.{Reader}
-use Rattle.gem300_tool.specs.Going.{SinkView, Goes}
+use Rattle.gem300_tool.specs.Going.{SinkView}
 use Rattle.gem300_tool.specs.Reads.{HaveRead, AddsLine}
 use Rattle.gem300_tool.specs.Reading.{TakesLine, TreatsLine}
 use Rattle.gem300_tool.specs.Stopping.{StoppedIn, CountsTo}
 use Rattle.gem300_tool.specs.Standing.{Stands}
-use Rattle.gem300_tool.proofs.Going.{IsFront-append, IsFront-same, IsFront-then}
+use Rattle.gem300_tool.proofs.Going.{IsFront-same, IsFront-then}
 use Rattle.gem300_tool.proofs.AtText.{whole_told, text_entries, text_bytes_in}
 
 -- the whole lines before the part of a line

@@ -1,5 +1,5 @@
 -- The counts of the bytes that came in each session.
-use Rattle.std.specs.Prelude.{◌≡◌, ℕ, ◌+◌, ◌⊎◌, List, Result, Ok, Err}
+use Rattle.std.specs.Prelude.{◌≡◌, ℕ, ◌+◌, ◌⊎◌, List, Result, Err}
 use Rattle.tool_events.specs.declared.config.Config.{Config}
 use Rattle.gem_model.specs.Lines.{Line}
 use Rattle.gem_model.specs.Feed.{Reading}

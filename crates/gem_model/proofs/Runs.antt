@@ -4,7 +4,7 @@ use Rattle.tool_events.specs.declared.entry.Entry.{Entry}
 use Rattle.tool_events.specs.declared.event.Event.{Event}
 use Rattle.gem_model.specs.State.{State}
 use Rattle.gem_model.specs.Step.{Outcome, step, after}
-use Rattle.gem_model.specs.Run.{Run, after_all, entry_step, entry_after}
+use Rattle.gem_model.specs.Run.{Run, after_all, entry_step}
 use Rattle.gem_model.proofs.Steps.{step_keeps}
 
 -- a run goes on by one entry

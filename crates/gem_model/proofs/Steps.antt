@@ -19,10 +19,10 @@ use Rattle.tool_events.specs.declared.answer.Answer.{Answer}
 use Rattle.tool_events.specs.declared.answer.Answer.TheVariants as answer
 use Rattle.hsms_link.specs.declared.state.Phase.TheVariants.{NotSelected}
 use Rattle.hsms_link.specs.declared.state.Ping.TheVariants.{Off}
-use Rattle.gem_model.specs.State.{State, is_up, is_session_up, raised, without_session}
+use Rattle.gem_model.specs.State.{State, is_up, is_session_up, raised}
 use Rattle.gem_model.specs.Messages.{Verdict, Silent, Stream9, Reply, verdict, header_of, is_too_long}
 use Rattle.gem_model.specs.Step.{Outcome, step, step_from, answered, ends, hosted, linked, data_done, taken, ticked, link_times, heartbeat}
-use Rattle.gem_model.proofs.Links.{Keeps, link_after-keeps, due-down}
+use Rattle.gem_model.proofs.Links.{link_after-keeps, due-down}
 
 -- 1 for a session that is up
 abbrev pub up_count : State → ℕ

@@ -1,11 +1,11 @@
 -- Laws of taking the frames that wait.
-use Rattle.std.proofs.Common.{◌≡◌, ◌≢◌, ℕ, suc, ◌+◌, ◌<◌, Bool, true, false, if◌then◌else◌, List, [], ◌∷◌, ◌++◌, length, map, Option, Some, None, refl, sym, ◌∙◌, ap, subst, arith}
+use Rattle.std.proofs.Common.{◌≡◌, ◌≢◌, ℕ, ◌<◌, Bool, true, false, if◌then◌else◌, List, [], ◌∷◌, length, map, Some, None, refl, sym, ◌∙◌, ap, arith}
 use Rattle.std.proofs.lemmas.Bool.{and_parts, eqb-true}
 use Rattle.tool_events.specs.declared.event.Event.TheVariants.{Take}
 use Rattle.tool_events.specs.declared.answer.Answer.TheVariants as answer
 use Rattle.tool_events.specs.declared.entry.Entry.{Entry}
 use Rattle.gem_model.specs.State.{State, is_up, is_session_up, raised}
-use Rattle.gem_model.specs.Step.{Outcome, step, after, taken, answered}
+use Rattle.gem_model.specs.Step.{step, after, taken, answered}
 use Rattle.gem_model.specs.Run.{after_all}
 use Rattle.gem_model.specs.Feed.{Given, nothing, behind, taken_all, takes, entry_of}
 use Rattle.gem_model.proofs.Runs.{after-step}

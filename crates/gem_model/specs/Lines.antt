@@ -1,5 +1,5 @@
 -- The input as lines, and what a line says (this tool's profile, input lines).
-use Rattle.std.specs.Prelude.{ℕ, ◌||◌, ◌==◌, nat_lt, nat_eq, if◌then◌else◌, List, [], ◌∷◌, length, drop, codes, Option, Some, None, option_and_then, ◌+◌, ◌*◌, ◌-◌, ◌&&◌, nat_le, fold, not, Bool, true, false}
+use Rattle.std.specs.Prelude.{ℕ, ◌||◌, ◌==◌, nat_lt, nat_eq, if◌then◌else◌, List, [], ◌∷◌, length, drop, codes, Option, Some, None, option_and_then, ◌+◌, ◌*◌, ◌-◌, ◌&&◌, nat_le, fold, not, Bool}
 use Rattle.std.specs.List.{starts_with, list_any, list_all}
 use Rattle.std.specs.Char.{is_ascii_digit}
 use Rattle.gem_ids.specs.Moments.{last_moment}

@@ -2,7 +2,7 @@
 use Rattle.std.specs.Prelude.{ℕ, ◌+◌, if◌then◌else◌, List, [], ◌∷◌, length, Option, Some, None}
 use Rattle.tool_events.specs.declared.config.Config.{Config}
 use Rattle.gem_model.specs.State.{is_session_up}
-use Rattle.gem_model.specs.Lines.{Line, Skip, Up, Down, Bytes, Time, line_of, lines_of}
+use Rattle.gem_model.specs.Lines.{Line, Bytes, line_of, lines_of}
 use Rattle.gem_model.specs.Feed.{Reading, first_reading, reading_after}
 
 -- the bytes that a line gives to this session: those of the host, where it is the session that is up

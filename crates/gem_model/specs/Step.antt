@@ -1,5 +1,5 @@
 -- One event: what it is answered, whether it ended the session, and the state after it.
-use Rattle.std.specs.Prelude.{ℕ, suc, ◌+◌, Bool, false, true, if◌then◌else◌, List, [], ◌∷◌, Option, Some, None, option_map, unwrap_or}
+use Rattle.std.specs.Prelude.{ℕ, suc, ◌+◌, false, if◌then◌else◌, List, [], ◌∷◌, Option, Some, None, option_map, unwrap_or}
 use Rattle.hsms_frame.specs.declared.frame.Header.{Header}
 use Rattle.hsms_frame.specs.declared.frame.Arrival.{Arrival}
 use Rattle.hsms_frame.specs.Spelling.{message_bytes}

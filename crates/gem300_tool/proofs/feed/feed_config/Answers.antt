@@ -1,6 +1,5 @@
-use Rattle.std.proofs.Common.{◌≡◌, List, ℕ, ap, sym, ◌∙◌, subst}
+use Rattle.std.proofs.Common.{◌≡◌, ap, sym, ◌∙◌, subst}
 use Rattle.tool_events.specs.declared.config.Config.{Config}
-use Rattle.gem300_tool.specs.declared.ended.Cause.{Cause}
 use Rattle.gem300_tool.specs.declared.ended.Cause.TheVariants as cause
 use Rattle.gem300_tool.specs.declared.ended.Ended.{Ended}
 use Rattle.gem300_tool.specs.CauseOf.{cause_after}

@@ -1,4 +1,4 @@
-use Rattle.std.proofs.Common.{◌≡◌, ◌+◌, ℕ, suc, List, [], ◌∷◌, length, length-append, ap, arith}
+use Rattle.std.proofs.Common.{◌≡◌, ◌+◌, suc, List, [], ◌∷◌, length, length-append, arith}
 use Rattle.gem300_tool.specs.declared.ended.SessionNote.{SessionNote}
 use Rattle.gem300_tool.specs.Notes.{note_of}
 use Rattle.gem300_tool.proofs.Noting.{all_known}

@@ -1,6 +1,4 @@
-use Rattle.std.proofs.Common.{◌≡◌, sym, ◌∙◌, ap}
-use Rattle.hsms_frame.specs.Cut.{Kept}
-use Rattle.tool_core.specs.CoreView.{CoreView}
+use Rattle.std.proofs.Common.{sym, ◌∙◌, ap}
 use Rattle.gem300_tool.specs.declared.feeder.Feeder.{Feeder}
 use Rattle.gem300_tool.proofs.LineParts.{TakesLine-bytes}
 use Rattle.gem300_tool.proofs.feeder.Feeder.take_bytes.Goals as goal

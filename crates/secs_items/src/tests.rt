@@ -195,6 +195,31 @@ fn the_fault_of_the_least_place_is_told(rt: HostRuntime) {
 }
 
 #[test]
+fn a_fault_is_printed_with_its_place(rt: HostRuntime) {
+    for (fault, want) in [
+        (
+            ItemFault::Truncated(3),
+            "the bytes end at 3, within the item",
+        ),
+        (ItemFault::BadLengthBytes(4), "no length bytes at 4"),
+        (ItemFault::BadCode(5, 32), "format code 32 at 5"),
+        (
+            ItemFault::BadWidth(6),
+            "a length that does not fit the elements at 6",
+        ),
+        (ItemFault::BadAscii(7), "a byte over 127 at 7"),
+        (ItemFault::TooDeep(32), "a list inside 16 lists at 32"),
+        (ItemFault::NoMemory, "out of memory"),
+    ] {
+        let printed = format!(in rt.alloc(); "{fault}");
+        assert!(rt;
+            matches!(&printed, Ok(text) if text.as_str() == want),
+            "at {want}"
+        );
+    }
+}
+
+#[test]
 fn a_code_that_is_no_format_is_told(rt: HostRuntime) {
     let formats = [0, 8, 9, 16, 24, 25, 26, 28, 40, 41, 42, 44];
     for code in 0..64 {

@@ -1,6 +1,7 @@
 #!/usr/bin/env bash
 # Times the reading of a binary item of 16 megabytes and of a list of 100,000 small items, in megabytes a second, each
-# beside a plain copy of the same bytes in the same run.
+# beside a plain copy of the same bytes in the same run. Then lists that announce sixteen times 16,777,215 items, of which
+# none is there, are read with 64 megabytes of memory: no more may be taken for what is announced.
 #
 # Wanted: the binary item at no less than half of the copy's speed. The times are processor times, which a busy machine
 # changes little. This is a measurement. It is no test, and no part of the merge gate. Build the program first:
@@ -39,3 +40,11 @@ measure() {
 
 measure binary 16777219 60
 measure list 600004 60
+
+# Lists inside one another that announce what isn't there, with little memory.
+refused=$(ulimit -v 65536 && "$program" refuse hostile 100)
+if [ "$refused" != 100 ]; then
+    echo "hostile: refused $refused times of 100, so memory was taken for what is not there" >&2
+    exit 1
+fi
+echo "hostile: refused 100 times of 100 with 64 MB of memory"

@@ -1,11 +1,11 @@
 //! Reads or copies one item again and again, for measurements.
 //!
 //! `item_bench WAY ITEM COUNT` does it so many times: WAY is `decode` or `copy`, ITEM is `binary`, a binary item of
-//! 16,777,215 bytes, or `list`, a list of 100,000 unsigned integers of four bytes. `bench/items.sh` times it. It is no
-//! part of the tool.
+//! 16,777,215 bytes, or `list`, a list of 100,000 unsigned integers of four bytes. With `refuse` for WAY and `hostile` for
+//! ITEM it decodes lists that announce what isn't there. `bench/items.sh` times and limits it. It is no part of the tool.
 #![tactic(auto)]
 
-use secs_items::decode;
+use secs_items::{ItemFault, decode};
 use std::alloc::{AllocError, Global};
 use std::env;
 use std::process::ExitCode;
@@ -24,6 +24,26 @@ fn list_item(alloc: Global) -> Result<Vec<u8>, AllocError> {
         text.extend_from_slice(&[0xB1, 0x04, 0x00, 0x00, 0x00, 0x07])?;
     }
     Ok(text)
+}
+
+/// Sixteen lists inside one another, each of which announces 16,777,215 items, and no more bytes.
+fn hostile_item(alloc: Global) -> Result<Vec<u8>, AllocError> {
+    let mut text = Vec::new(alloc);
+    for _ in 0..16_u32 {
+        text.extend_from_slice(&[0x03, 0xFF, 0xFF, 0xFF])?;
+    }
+    Ok(text)
+}
+
+/// Decodes bytes that end within an item so many times, and tells how often that was told.
+fn refuse_all(alloc: Global, text: &[u8], count: u64) -> u64 {
+    let mut refused: u64 = 0;
+    for _ in 0..count {
+        if matches!(decode(alloc, text), Err(ItemFault::Truncated(_))) {
+            refused = refused.saturating_add(1);
+        }
+    }
+    refused
 }
 
 /// Decodes the item so many times, and tells how often it was an item of all bytes.
@@ -57,6 +77,7 @@ fn measure(alloc: Global, way: &str, item: &str, count: &str) -> Result<Option<u
     let text = match item {
         "binary" => binary_item(alloc)?,
         "list" => list_item(alloc)?,
+        "hostile" => hostile_item(alloc)?,
         _ => return Ok(None),
     };
     let Ok(count) = count.parse::<u64>() else {
@@ -65,6 +86,7 @@ fn measure(alloc: Global, way: &str, item: &str, count: &str) -> Result<Option<u
     match way {
         "decode" => Ok(Some(decode_all(alloc, &text, count))),
         "copy" => Ok(Some(copy_all(alloc, &text, count))),
+        "refuse" => Ok(Some(refuse_all(alloc, &text, count))),
         _ => Ok(None),
     }
 }
@@ -78,11 +100,15 @@ fn run(rt: &HostRuntime) -> Result<u8, AllocError> {
         }
     }
     let [_, way, item, count] = words.as_slice() else {
-        let _ = rt.eprintln("the words are decode or copy, binary or list, and a count");
+        let _ = rt.eprintln(
+            "the words are decode, copy or refuse, binary, list or hostile, and a count",
+        );
         return Ok(1);
     };
     let Some(whole) = measure(rt.alloc(), way.as_str(), item.as_str(), count.as_str())? else {
-        let _ = rt.eprintln("the words are decode or copy, binary or list, and a count");
+        let _ = rt.eprintln(
+            "the words are decode, copy or refuse, binary, list or hostile, and a count",
+        );
         return Ok(1);
     };
     let told = format!(in rt.alloc(); "{whole}")?;

@@ -204,11 +204,16 @@ impl Core {
         ensures entry { OnOk result (self.new.history
             ≡ self.old.history ++ record { seat = seat; at = at; event = event } ∷ []) }
         ensures again { IsErrOf result PostFault.Again → step self.old.state at.0 event ≡ None }
+        ensures waits { step self.old.state at.0 event ≡ None → result ≡ Err PostFault.Again }
         ensures not_full { posts.is_full result ≡ false }
         ensures unchanged { OnErr result (self.new ≡ self.old) }
         ensures config { self.new.config ≡ self.old.config }
         ensures whole { self.new.is_whole ≡ self.old.is_whole }
     {
+        // Asked first, so that want of memory is not told of an event that has to wait.
+        if self.plant.must_wait(at, &event) {
+            return Err(PostFault::Again);
+        }
         let Ok(()) = self.entries.reserve(1) else {
             return Err(PostFault::NoMemory);
         };
@@ -232,8 +237,8 @@ impl Core {
     }
 
     /// Takes an event that this seat posts at this moment, answers it, and adds it to the history. `Full`: the history
-    /// takes no more entries, or not so much text. `Again`: the event has to wait. After want of memory the history is as
-    /// before, and every later event that is not answered `Full` is answered `NoMemory`.
+    /// takes no more entries, or not so much text. `Again`: the event has to wait, which takes no memory. After want of
+    /// memory the history is as before, and every later event that is not answered `Full` is answered `NoMemory`.
     pub fn apply(
         &mut self,
         alloc: Global,
@@ -249,6 +254,7 @@ impl Core {
         ensures full_entries { (n : ℕ) → IsErrOf result (PostFault.Full n) → n ≡ length self.old.history }
         ensures not_whole { self.old.is_whole ≡ false → is_full self.old.config self.old.history event ≡ false → result ≡ Err PostFault.NoMemory }
         ensures again { IsErrOf result PostFault.Again → step self.old.state at.0 event ≡ None }
+        ensures waits { self.old.is_whole ≡ true → is_full self.old.config self.old.history event ≡ false → step self.old.state at.0 event ≡ None → result ≡ Err PostFault.Again }
         ensures config { self.new.config ≡ self.old.config }
         ensures whole { self.new.is_whole ≡ (self.old.is_whole && not (posts.is_want result)) }
         ensures unchanged { OnErr result (self.new ≡ record self.old { is_whole = self.new.is_whole }) }

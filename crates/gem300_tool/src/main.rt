@@ -1,32 +1,15 @@
-//! The top calls of the tool, and the program that makes them.
+//! The program: `gem300_tool feed CONFIG` reads lines from standard input and prints lines (docs/profile/lines.md).
 //!
-//! `gem300_tool feed CONFIG` reads lines from standard input and prints lines (this tool's profile, docs/profile). Begin
-//! with `feed`: its contract is the promise of the whole program. It does no input or output of its own; sources and a
-//! sink are handed in.
+//! It hands the file, standard input and standard output to `top_calls::feed`, whose contract is the promise of the whole
+//! program, says why the run ended on standard error, and ends with its status.
 #![tactic(auto)]
 
-mod ended;
-mod engine;
-mod feed;
-mod feeder;
-mod halt;
-mod input;
-mod lines;
-mod notes;
-mod print;
-mod read;
-mod reader;
-#[cfg(test)]
-mod tests;
-mod words;
-mod write;
-
-use feed::feed;
 use gem_ids::Text80;
 use outside::{FileSource, StdinSource, StdoutSink};
 use std::alloc::{AllocError, Global};
 use std::env;
 use std::process::ExitCode;
+use top_calls::feed;
 
 /// The words behind the program's name. One that is no text of at most 80 bytes that print is handed in as an empty
 /// word, which fits no command.

@@ -1,5 +1,0 @@
-use Rattle.gem300_tool.proofs.Parts.{Goes-input-halts}
-use Rattle.gem300_tool.proofs.engine.input.Goals as goal
-
-pub returns-in-Err : goal.returns-in-Err
-returns-in-Err g c = Goes-input-halts _ _ _ _ _ _ c.in-Err.halt c.in-Err.ensures

@@ -1,0 +1,72 @@
+-- What a text gives up to where its reader stands.
+use Rattle.std.proofs.Common.{◌≡◌, ◌≢◌, ℕ, ◌+◌, List, [], ◌∷◌, ◌++◌, Option, Some, refl, sym, ◌∙◌, ap, append_assoc, arith}
+use Rattle.std.proofs.lemmas.List.{append-nil}
+use Rattle.tool_events.specs.declared.entry.Entry.{Entry}
+use Rattle.gem_model.specs.Lines.{Line, Skip, lines_of, line_of}
+use Rattle.gem_model.specs.Feed.{Reading, line_given, Told, line_told, told_behind, feed_lines, feed_entries}
+use Rattle.gem_model.specs.SessionBytes.{line_bytes_in, line_and_more, lines_bytes_in, session_in}
+use Rattle.gem_model.proofs.Texts.{lines-last}
+use Rattle.top_calls.specs.declared.reader.Reader.{Reader}
+use Rattle.top_calls.specs.Standing.{IsOneLine, Stands}
+
+-- the text and whatever follows it goes on from the part of a line
+pub text_goes : (text : List ℕ) (reader : Reader) (stands : Stands text reader) (more : List ℕ) → feed_entries reader.feeder.core.config (text ++ more) ≡ told_behind reader.feeder.core.history (feed_lines reader.number stands.reading (lines_of (reader.line.items ++ more)))
+text_goes text reader stands more =
+    ap (λ (t : List ℕ). feed_entries reader.feeder.core.config (t ++ more)) stands.text_is
+    ∙ ap (feed_entries reader.feeder.core.config) (append_assoc stands.whole reader.line.items more)
+    ∙ stands.goes_on (reader.line.items ++ more)
+
+pub at_end : (text : List ℕ) (reader : Reader) (stands : Stands text reader) → feed_entries reader.feeder.core.config text ≡ told_behind reader.feeder.core.history (feed_lines reader.number stands.reading (lines_of reader.line.items))
+at_end text reader stands =
+    ap (feed_entries reader.feeder.core.config) (sym (append-nil text)) ∙ text_goes text reader stands []
+    ∙ ap (λ (t : List ℕ). told_behind reader.feeder.core.history (feed_lines reader.number stands.reading (lines_of t))) (append-nil reader.line.items)
+
+pub last_line : (line : List ℕ) → IsOneLine line → line ≢ [] → lines_of line ≡ line ∷ []
+last_line [] one some = absurd (some refl)
+last_line (b ∷ line) one some = lines-last b line one
+
+-- the same of the bytes that it gives to a session
+pub text_in : (text : List ℕ) (reader : Reader) (stands : Stands text reader) (more : List ℕ) (session : ℕ) → session_in reader.feeder.core.config (text ++ more) session ≡ session_in reader.feeder.core.config stands.whole session + lines_bytes_in stands.reading (lines_of (reader.line.items ++ more)) session
+text_in text reader stands more session =
+    ap (λ (t : List ℕ). session_in reader.feeder.core.config (t ++ more) session) stands.text_is
+    ∙ ap (λ (t : List ℕ). session_in reader.feeder.core.config t session) (append_assoc stands.whole reader.line.items more)
+    ∙ stands.reads_on (reader.line.items ++ more) session
+
+-- the whole lines up to there gave the history
+pub whole_told : (text : List ℕ) (reader : Reader) (stands : Stands text reader) → (feed_entries reader.feeder.core.config stands.whole).entries ≡ reader.feeder.core.history
+whole_told text reader stands =
+    ap (λ (t : List ℕ). (feed_entries reader.feeder.core.config t).entries) (sym (append-nil stands.whole))
+    ∙ ap (λ (told : Told). told.entries) (stands.goes_on [])
+    ∙ append-nil reader.feeder.core.history
+
+-- what the last line gives, which may be empty
+line_entries : (number : ℕ) (r : Reading) (line : List ℕ) (says : Line) → IsOneLine line → line_of line ≡ Some says → (feed_lines number r (lines_of line)).entries ≡ (line_given r says).entries
+line_entries number r [] says one is =
+    let skips : Skip ≡ says = cc in
+    ap (λ (l : Line). (line_given r l).entries) skips
+line_entries number r (b ∷ line) says one is =
+    ap (λ (ls : List (List ℕ)). (feed_lines number r ls).entries) (last_line (b ∷ line) one (λ e. cc))
+    ∙ ap (λ (o : Option Line). (line_told number r o (λ next. feed_lines (number + 1) next [])).entries) is
+    ∙ append-nil (line_given r says).entries
+
+line_in : (r : Reading) (line : List ℕ) (says : Line) (session : ℕ) → IsOneLine line → line_of line ≡ Some says → lines_bytes_in r (lines_of line) session ≡ line_bytes_in r says session
+line_in r [] says session one is =
+    let skips : Skip ≡ says = cc in
+    ap (λ (l : Line). line_bytes_in r l session) skips
+line_in r (b ∷ line) says session one is =
+    ap (λ (ls : List (List ℕ)). lines_bytes_in r ls session) (last_line (b ∷ line) one (λ e. cc))
+    ∙ ap (λ (o : Option Line). line_and_more r o session (λ next. lines_bytes_in next [] session)) is
+    ∙ omega arith
+
+-- the part of a line, taken as a line, gives what it says
+pub text_entries : (text : List ℕ) (reader : Reader) (stands : Stands text reader) (says : Line) → line_of reader.line.items ≡ Some says → (feed_entries reader.feeder.core.config text).entries ≡ reader.feeder.core.history ++ (line_given stands.reading says).entries
+text_entries text reader stands says is =
+    ap (λ (told : Told). told.entries) (at_end text reader stands)
+    ∙ ap (λ (es : List Entry). reader.feeder.core.history ++ es) (line_entries reader.number stands.reading reader.line.items says stands.line is)
+
+pub text_bytes_in : (text : List ℕ) (reader : Reader) (stands : Stands text reader) (says : Line) (session : ℕ) → line_of reader.line.items ≡ Some says → session_in reader.feeder.core.config text session ≡ session_in reader.feeder.core.config stands.whole session + line_bytes_in stands.reading says session
+text_bytes_in text reader stands says session is =
+    ap (λ (t : List ℕ). session_in reader.feeder.core.config t session) (sym (append-nil text))
+    ∙ text_in text reader stands [] session
+    ∙ ap (λ (t : List ℕ). session_in reader.feeder.core.config stands.whole session + lines_bytes_in stands.reading (lines_of t) session) (append-nil reader.line.items)
+    ∙ ap (λ (n : ℕ). session_in reader.feeder.core.config stands.whole session + n) (line_in stands.reading reader.line.items says session stands.line is)

@@ -1,0 +1,14 @@
+pub mod Writing
+pub mod Numbers
+pub mod Going
+pub mod Parts
+pub mod Cutting
+pub mod Counting
+pub mod LineParts
+pub mod AtText
+pub mod Stopping
+pub mod Standing
+pub mod Reading
+pub mod Noting
+pub mod Progress
+pub mod Ending

@@ -1,0 +1,50 @@
+use Rattle.std.proofs.Common.{◌≡◌, ap, sym, ◌∙◌, subst}
+use Rattle.tool_events.specs.declared.config.Config.{Config}
+use Rattle.top_calls.specs.declared.ended.Cause.TheVariants as cause
+use Rattle.top_calls.specs.declared.ended.Ended.{Ended}
+use Rattle.top_calls.specs.CauseOf.{cause_after}
+use Rattle.top_calls.specs.Fed.{Shown}
+use Rattle.top_calls.specs.Noted.{NotedBy}
+use Rattle.top_calls.proofs.Ending.{run_from, NotedBy-end, Shown-end, Shown-memory, read_to_end}
+use Rattle.top_calls.proofs.feeding.feed_config.Goals as goal
+
+pub returns-in_default-session_notes-clause-run : goal.returns-in_default-session_notes-clause-run
+returns-in_default-session_notes-clause-run g c =
+    rw (c.with_history.ensures, c.into_history-history.ensures.history)
+    (run_from _ _ _ _ (c.read_lines-read.ensures.prints.config ∙ c.in-Ok.ensures.config) c.into_history-history.ensures.run)
+
+pub returns-in_default-session_notes-clause-printed : goal.returns-in_default-session_notes-clause-printed
+returns-in_default-session_notes-clause-printed g c =
+    let core = c.read_lines-read.new.reader.feeder.core in
+    let same : core.config ≡ c.args.config.now = c.read_lines-read.ensures.prints.config ∙ c.in-Ok.ensures.config in
+    rw (c.with_history.ensures, c.into_history-history.ensures.history)
+    (subst (λ (k : Config). Shown k cause.NoMemory (g.K.Sink.held c.args.out.now) (g.K.Sink.held c.read_lines-read.new.out) core.history) same
+    (Shown-memory c.read_lines-read.result.end _ core _ _ c.in-Ok.ensures.history c.read_lines-read.ensures.prints))
+
+pub returns-clause-run : goal.returns-clause-run
+returns-clause-run g c =
+    rw (c.with_history-2.ensures, c.into_history.ensures.history)
+    (run_from _ _ _ _ (c.read_lines-read.ensures.prints.config ∙ c.in-Ok.ensures.config) c.into_history.ensures.run)
+
+pub returns-clause-sessions : goal.returns-clause-sessions
+returns-clause-sessions g c =
+    let reader = c.read_lines-read.new.reader in
+    let core = reader.feeder.core in
+    let same : core.config ≡ c.args.config.now = c.read_lines-read.ensures.prints.config ∙ c.in-Ok.ensures.config in
+    let read = c.read_lines-read.ensures.read in
+    rw (c.with_history-2.ensures, c.cause_of-cause.ensures, c.into_history.ensures.history)
+    (read.0, read.2, subst (λ (k : Config). NotedBy k (cause_after c.read_lines-read.result.end c.read_lines-read.result.count core.history reader.number) read.0 core.history c.in-Ok-session_notes.sessions) same (NotedBy-end c.read_lines-read.result.end read.0 c.read_lines-read.result.count reader c.in-Ok-session_notes.sessions _ _ c.in-Ok-session_notes.ensures read.4))
+
+pub returns-clause-printed : goal.returns-clause-printed
+returns-clause-printed g c =
+    let core = c.read_lines-read.new.reader.feeder.core in
+    let same : core.config ≡ c.args.config.now = c.read_lines-read.ensures.prints.config ∙ c.in-Ok.ensures.config in
+    rw (c.with_history-2.ensures, c.cause_of-cause.ensures, c.into_history.ensures.history)
+    (subst (λ (k : Config). Shown k (cause_after c.read_lines-read.result.end c.read_lines-read.result.count core.history c.read_lines-read.new.reader.number) (g.K.Sink.held c.args.out.now) (g.K.Sink.held c.read_lines-read.new.out) core.history) same
+    (Shown-end c.read_lines-read.result.end _ core _ _ c.read_lines-read.result.count c.read_lines-read.new.reader.number c.in-Ok.ensures.history c.read_lines-read.ensures.prints))
+
+pub returns-clause-done : goal.returns-clause-done
+returns-clause-done g c = λ done.
+    let read = c.read_lines-read.ensures.read in
+    let is = sym (c.cause_of-cause.ensures) ∙ (sym (ap (λ (e : Ended). e.cause) c.with_history-2.ensures) ∙ done) in
+    read_to_end c.read_lines-read.result.end read.0 c.read_lines-read.result.count _ c.read_lines-read.new.reader.number c.read_lines-read.new.reader _ _ read.2 read.4 is

@@ -1,0 +1,45 @@
+use Rattle.std.proofs.Common.{◌≡◌, ℕ, List, take, length, arith, ap}
+use Rattle.std.proofs.lemmas.List.{length-take-le}
+use Rattle.top_calls.specs.Fed.{looked}
+use Rattle.top_calls.proofs.Progress.{ends-last, ends-halted, Progress-more}
+use Rattle.top_calls.proofs.input.read_lines.Goals as goal
+
+pub returns-in-Err-clause-read : goal.returns-in-Err-clause-read
+returns-in-Err-clause-read g c =
+    let look = looked g.S.Source.left g.S.Source.faults g.S.Source.ends in
+    (ends-last _ _ c.finish.new.self _ _ _ _ _ (look c.read_front.new.source) _ (take c.in-Ok.more c.read_front.new.buf) c.in-Err.halt c.loop-count.invariant.progress (ap (λ (n : ℕ). take n c.read_front.new.buf) c.if-more-eq0.true) c.in-Ok.ensures.taken c.in-Err.ensures.finishes).0
+
+pub returns-in-Err-clause-prints : goal.returns-in-Err-clause-prints
+returns-in-Err-clause-prints g c =
+    let look = looked g.S.Source.left g.S.Source.faults g.S.Source.ends in
+    (ends-last _ _ c.finish.new.self _ _ _ _ _ (look c.read_front.new.source) _ (take c.in-Ok.more c.read_front.new.buf) c.in-Err.halt c.loop-count.invariant.progress (ap (λ (n : ℕ). take n c.read_front.new.buf) c.if-more-eq0.true) c.in-Ok.ensures.taken c.in-Err.ensures.finishes).1
+
+pub returns-in-Err-taken-clause-read : goal.returns-in-Err-taken-clause-read
+returns-in-Err-taken-clause-read g c =
+    let buffer : length c.read_front.new.buf ≡ 4096 = omega (arith, c.read_front.auto.buf, c.loop-count.invariant.buffer) in
+    let fits = c.in-Ok.ensures.fits in
+    let room = c.min-room.ensures in
+    let look = looked g.S.Source.left g.S.Source.faults g.S.Source.ends in
+    (ends-halted _ _ c.take_piece-taken.new.self _ _ _ _ _ (look c.read_front.new.source) _ c.in-Ok.more (take c.in-Ok.more c.read_front.new.buf) c.in-Err-taken.halt c.loop-count.invariant.progress c.in-Ok.ensures.taken (length-take-le c.in-Ok.more c.read_front.new.buf (omega arith)) (rw c.front.ensures at c.in-Err-taken.ensures.takes)).0
+
+pub returns-in-Err-taken-clause-prints : goal.returns-in-Err-taken-clause-prints
+returns-in-Err-taken-clause-prints g c =
+    let buffer : length c.read_front.new.buf ≡ 4096 = omega (arith, c.read_front.auto.buf, c.loop-count.invariant.buffer) in
+    let fits = c.in-Ok.ensures.fits in
+    let room = c.min-room.ensures in
+    let look = looked g.S.Source.left g.S.Source.faults g.S.Source.ends in
+    (ends-halted _ _ c.take_piece-taken.new.self _ _ _ _ _ (look c.read_front.new.source) _ c.in-Ok.more (take c.in-Ok.more c.read_front.new.buf) c.in-Err-taken.halt c.loop-count.invariant.progress c.in-Ok.ensures.taken (length-take-le c.in-Ok.more c.read_front.new.buf (omega arith)) (rw c.front.ensures at c.in-Err-taken.ensures.takes)).1
+
+pub loop-count-preserved : goal.loop-count-preserved
+loop-count-preserved g c =
+    let look = looked g.S.Source.left g.S.Source.faults g.S.Source.ends in
+    let piece : List ℕ = take c.in-Ok.more c.read_front.new.buf in
+    let buffer : length c.read_front.new.buf ≡ 4096 = omega (arith, c.read_front.auto.buf, c.loop-count.invariant.buffer) in
+    let fits = c.in-Ok.ensures.fits in
+    let room = c.min-room.ensures in
+    let size : length piece ≡ c.in-Ok.more = length-take-le c.in-Ok.more c.read_front.new.buf (omega arith) in
+    record {
+      progress = Progress-more _ _ c.take_piece-taken.new.self _ _ _ _ _ (look c.read_front.new.source) _ c.in-Ok.more piece c.loop-count.invariant.progress c.in-Ok.ensures.taken size c.read_front.ensures.faults_stay c.read_front.ensures.ends_stay (rw c.front.ensures at c.take_piece-taken.ensures.number) (rw c.front.ensures at c.in-Ok-taken.ensures.takes);
+      within = omega (arith, c.loop-count-test.true);
+      buffer = buffer;
+    }

@@ -1,0 +1,39 @@
+-- The notes of a run of feed, by how it ended.
+use Rattle.std.specs.Prelude.{◌≡◌, ◌⊎◌, ℕ, List, []}
+use Rattle.outside.specs.Told.{Taken}
+use Rattle.tool_events.specs.declared.config.Config.{Config}
+use Rattle.tool_events.specs.declared.entry.Entry.{Entry}
+use Rattle.gem_model.specs.Lines.{whole_lines}
+use Rattle.gem_model.specs.SessionBytes.{session_in}
+use Rattle.top_calls.specs.declared.ended.Cause.{Cause}
+use Rattle.top_calls.specs.declared.ended.Cause.TheVariants as cause
+use Rattle.top_calls.specs.declared.ended.SessionNote.{SessionNote}
+use Rattle.top_calls.specs.Fed.{SourceView, MeetsBound}
+use Rattle.top_calls.specs.Notes.{AreNotes}
+use Rattle.top_calls.specs.Stopping.{StoppedIn, FullIn, FaultIn}
+
+-- one note a session, whose bytes are those that these lines gave
+abbrev pub NotesOf : Config → List Entry → List SessionNote → List ℕ → Type 0
+NotesOf c history notes taken = AreNotes c history (session_in c taken) notes
+
+-- The notes count all lines of the text; its whole lines, where the reading broke off; up to the line of the entry that
+-- does not fit the limits, or whose lines could not be written; and after want of memory there are none, or they count
+-- up to the line in which it came.
+abbrev pub NotedBy : Config → Cause → List ℕ → List Entry → List SessionNote → Type 0
+NotedBy c cause.Done text history notes = NotesOf c history notes text
+NotedBy c cause.ReadFault text history notes = NotesOf c history notes (whole_lines text)
+NotedBy c (cause.Full entries bytes input) text history notes =
+    (MeetsBound c text history × NotesOf c history notes (whole_lines text))
+    ⊎ ((taken : List ℕ) × FullIn c text history taken × NotesOf c history notes taken)
+NotedBy c (cause.Line number place) text history notes = NotesOf c history notes text
+NotedBy c cause.WriteFault text history notes =
+    (taken : List ℕ) × FaultIn c text history taken × NotesOf c history notes taken
+NotedBy c cause.NoMemory text history notes =
+    (notes ≡ []) ⊎ ((taken : List ℕ) × StoppedIn c text history taken × NotesOf c history notes taken)
+NotedBy c (cause.Words place) text history notes = notes ≡ []
+NotedBy c (cause.Config rule key) text history notes = notes ≡ []
+
+-- this text was read of the input, and the notes are of it
+abbrev pub Noted : Config → Cause → SourceView → SourceView → List Entry → List SessionNote → Type 0
+Noted c cause input input' history notes =
+    (text : List ℕ) × Taken input.left input'.left text × NotedBy c cause text history notes

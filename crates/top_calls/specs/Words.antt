@@ -1,0 +1,13 @@
+-- What the values of the words' types say.
+use Rattle.std.specs.Prelude.{ℕ, List}
+use Rattle.top_calls.specs.declared.words.Words.{Words}
+use Rattle.top_calls.specs.declared.words.Words.TheVariants.{Feed}
+use Rattle.top_calls.specs.declared.words.WordsFault.{WordsFault}
+use Rattle.top_calls.specs.declared.words.WordsFault.TheVariants.{Place}
+
+-- the word that names the configuration
+abbrev pub file_of : Words → List ℕ
+file_of (Feed file) = file
+
+abbrev pub place_of : WordsFault → ℕ
+place_of (Place place) = place

@@ -1,0 +1,191 @@
+//! One input after another: events are posted to the core, and the lines of their answers are written.
+ghost use Rattle.std.specs.Prelude.{◌≡◌, ◌≢◌, [], ◌∷◌, ◌++◌, Some, None, true, IfOk, option_map, option_and_then};
+ghost use Rattle.gem_model.specs.State.{opening, is_session_up};
+ghost use Rattle.gem_model.specs.Sessions.{session_end};
+ghost use Rattle.gem_model.specs.Printed.{answer_lines, end_lines};
+ghost use Rattle.gem_model.specs.Step.{step, after};
+ghost use Rattle.gem_model.specs.Run.{after_all};
+ghost use Rattle.gem_model.specs.Feed.{entry_of, taken_all, input, message, messages};
+ghost use Rattle.top_calls.specs.Going.{Goes, seen};
+ghost use Rattle.top_calls.specs.OutLine.{ended_bytes};
+
+use crate::halt::Halt;
+use crate::print::{OutLine, answer_line, print_out_line};
+use crate::write::write_all;
+use gem_ids::Moment;
+use hsms_frame::Arrival;
+use outside::Sink;
+use std::alloc::{AllocError, Global};
+use tool_core::Core;
+use tool_events::{Answer, Event, PostFault, SessionCause};
+
+/// The moment of what isn't a look at the clock: it raises no moment.
+pub const AT_ONCE: Moment = Moment(0);
+
+/// The lines of an answer, and of the session that ended with it, if one did.
+fn outcome_text(
+    alloc: Global,
+    answer: Answer,
+    ended: Option<(u64, SessionCause)>,
+) -> Result<Vec<u8>, AllocError>
+    ensures { IfOk result (λ text. text.items ≡ answer_lines answer ++ ended_bytes ended) }
+{
+    let mut text = Vec::new(alloc);
+    if let Some(line) = answer_line(answer) {
+        print_out_line(alloc, &line, &mut text)?;
+    }
+    if let Some((session, cause)) = ended {
+        print_out_line(alloc, &OutLine::Ended(session, cause), &mut text)?;
+    }
+    Ok(text)
+}
+
+/// Posts an event at a moment, and writes its lines.
+fn post<K: Sink>(
+    alloc: Global,
+    core: &mut Core,
+    at: Moment,
+    event: Event,
+    out: &mut K,
+) -> Result<(), Halt>
+    requires { step core.old.state at.0 event ≢ None }
+    ensures { Goes core.old core.new (seen K.held K.faults K.refusals out.old) (seen K.held K.faults K.refusals out.new)
+        (record { entries = entry_of at.0 event ∷ []; state = after core.old.state at.0 event }) result }
+{
+    let before = core.session_up();
+    let answer = match core.apply(alloc, 0, at, event) {
+        Ok(answer) => answer,
+        Err(PostFault::Full(_)) => return Err(Halt::Full),
+        // `Again` can't come: it comes only where there is no step, and a step is required.
+        Err(PostFault::Again | PostFault::NoMemory) => return Err(Halt::NoMemory),
+    };
+    let ended = ended_now(core, before);
+    let Ok(text) = outcome_text(alloc, answer, ended) else {
+        return Err(Halt::NoMemory);
+    };
+    match write_all(out, &text) {
+        Ok(()) => Ok(()),
+        Err(_) => Err(Halt::Write),
+    }
+}
+
+/// The session that was up before and has ended now, with its cause.
+fn ended_now(core: &Core, before: Option<u64>) -> Option<(u64, SessionCause)>
+    ensures { result ≡ option_and_then (λ k. option_map (λ cause. (k, cause)) (session_end (opening core.now.config) core.now.history k)) before }
+{
+    let session = before?;
+    let cause = core.session_end(session)?;
+    Some((session, cause))
+}
+
+/// The writer of this session takes each frame that waits.
+fn take_frames<K: Sink>(
+    alloc: Global,
+    core: &mut Core,
+    session: u64,
+    out: &mut K,
+) -> Result<(), Halt>
+    requires { is_session_up core.old.state session ≡ true }
+    ensures { Goes core.old core.new (seen K.held K.faults K.refusals out.old) (seen K.held K.faults K.refusals out.new)
+        (taken_all core.old.state) result }
+{
+    while !core.idle(AT_ONCE, &Event::Take { session }) {
+        match post(alloc, core, AT_ONCE, Event::Take { session }, out) {
+            Ok(()) => {}
+            Err(halt) => return Err(halt),
+        }
+    }
+    Ok(())
+}
+
+/// The writer takes each frame that waits.
+fn take_waiting<K: Sink>(alloc: Global, core: &mut Core, out: &mut K) -> Result<(), Halt>
+    ensures { Goes core.old core.new (seen K.held K.faults K.refusals out.old) (seen K.held K.faults K.refusals out.new)
+        (taken_all core.old.state) result }
+{
+    match core.session_up() {
+        Some(session) => take_frames(alloc, core, session, out),
+        None => Ok(()),
+    }
+}
+
+/// Posts an event at a moment, and then the writer takes each frame that waits.
+pub fn input<K: Sink>(
+    alloc: Global,
+    core: &mut Core,
+    at: Moment,
+    event: Event,
+    out: &mut K,
+) -> Result<(), Halt>
+    requires { step core.old.state at.0 event ≢ None }
+    ensures { Goes core.old core.new (seen K.held K.faults K.refusals out.old) (seen K.held K.faults K.refusals out.new)
+        (input core.old.state at.0 event) result }
+{
+    match post(alloc, core, at, event, out) {
+        Ok(()) => take_waiting(alloc, core, out),
+        Err(halt) => Err(halt),
+    }
+}
+
+/// One message of the session that is up.
+fn take_message<K: Sink>(
+    alloc: Global,
+    core: &mut Core,
+    session: u64,
+    arrival: Arrival,
+    out: &mut K,
+) -> Result<(), Halt>
+    requires { is_session_up core.old.state session ≡ true }
+    ensures { Goes core.old core.new (seen K.held K.faults K.refusals out.old) (seen K.held K.faults K.refusals out.new)
+        (message core.old.state session arrival) result }
+{
+    input(alloc, core, AT_ONCE, Event::Host { session, arrival }, out)
+}
+
+/// The messages of a session, in order, and then its end where a length below 10 follows them.
+pub fn take_messages<K: Sink>(
+    alloc: Global,
+    core: &mut Core,
+    session: u64,
+    arrivals: Vec<Arrival>,
+    short: bool,
+    out: &mut K,
+) -> Result<(), Halt>
+    ensures { Goes core.old core.new (seen K.held K.faults K.refusals out.old) (seen K.held K.faults K.refusals out.new)
+        (messages core.old.state session arrivals.items short) result }
+{
+    for arrival in arrivals {
+        if !core.is_session_up(session) {
+            return Ok(());
+        }
+        match take_message(alloc, core, session, arrival, out) {
+            Ok(()) => {}
+            Err(halt) => return Err(halt),
+        }
+    }
+    end_messages(alloc, core, session, short, out)
+}
+
+/// Behind the messages of a session, its end, where a length below 10 follows them.
+fn end_messages<K: Sink>(
+    alloc: Global,
+    core: &mut Core,
+    session: u64,
+    short: bool,
+    out: &mut K,
+) -> Result<(), Halt>
+    ensures { Goes core.old core.new (seen K.held K.faults K.refusals out.old) (seen K.held K.faults K.refusals out.new)
+        (messages core.old.state session [] short) result }
+{
+    if short && core.is_session_up(session) {
+        let cause = SessionCause::ShortLength;
+        return input(
+            alloc,
+            core,
+            AT_ONCE,
+            Event::LinkDown { session, cause },
+            out,
+        );
+    }
+    Ok(())
+}

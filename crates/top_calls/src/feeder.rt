@@ -1,0 +1,175 @@
+//! One line after another: what each says is put in, in the session that is up.
+ghost use Rattle.std.specs.Prelude.{◌≡◌, ◌<◌, ℕ, List, [], true, IfOk, OnOk, OnErr};
+ghost use Rattle.tool_events.specs.Configs.{IsConfig};
+ghost use Rattle.gem_model.specs.State.{opening, is_session_up};
+ghost use Rattle.gem_model.specs.Run.{Run};
+ghost use Rattle.gem_model.specs.Lines as model;
+ghost use Rattle.gem_model.specs.Feed.{Reading, first_reading, text_bytes};
+ghost use Rattle.hsms_frame.specs.Cut.{IsCutOf, arrivals_of};
+ghost use Rattle.top_calls.specs.Going.{seen};
+ghost use Rattle.top_calls.specs.Cuts.{Cuts};
+ghost use Rattle.top_calls.specs.Reads.{AddsLine};
+
+use crate::engine::{AT_ONCE, input, take_messages};
+use crate::halt::Halt;
+use crate::lines::{Line, LineFault, read_line};
+use gem_ids::Moment;
+use hsms_frame::{Arrival, CutFault, Cutter};
+use outside::Sink;
+use std::alloc::{AllocError, Global};
+use tool_core::{Core, Entries, SessionCounts};
+use tool_events::{Config, Event, SessionCause};
+
+/// The longest text of a message, in bytes.
+const TEXT_BYTES: u32 = 262_144;
+
+/// The core, the cutter of the session that is up, and the bytes that came in each session.
+#[derive(Drop)]
+pub struct Feeder {
+    pub core: Core,
+    pub cutter: Cutter,
+    pub reads: SessionCounts,
+}
+
+/// Cuts the next bytes of a session, and tells whether a length below 10 follows what arrived.
+fn cut_bytes(
+    alloc: Global,
+    cutter: &mut Cutter,
+    bytes: &[u8],
+    arrivals: &mut Vec<Arrival>,
+) -> Result<bool, AllocError>
+    requires { arrivals.old.items ≡ [] }
+    ensures cuts { IfOk result (λ short. (stream : List ℕ) → cutter.old.max ≡ text_bytes
+        → IsCutOf stream (arrivals_of text_bytes stream) cutter.old
+        → Cuts bytes.now cutter.old cutter.new arrivals.new.items short stream) }
+    ensures max { cutter.new.max ≡ cutter.old.max }
+{
+    match cutter.feed(alloc, bytes, arrivals) {
+        Ok(()) => Ok(false),
+        Err(CutFault::ShortLength(_)) => Ok(true),
+        Err(CutFault::NoMemory) => Err(AllocError),
+    }
+}
+
+impl Feeder {
+    ghost use Rattle.top_calls.specs.Reading.{IsReading, TakesLine, TreatsLine};
+
+    /// The core in its first state.
+    pub fn open(alloc: Global, config: &Config) -> Result<Feeder, AllocError>
+        requires { IsConfig config.now }
+        ensures { IfOk result (λ feeder. (feeder.core ≡ record { config = config.now; state = opening config.now; history = []; is_whole = true })
+            × IsReading (first_reading config.now) feeder.core feeder.cutter × (feeder.reads ≡ [])) }
+    {
+        let cutter = Cutter::new(alloc, TEXT_BYTES)?;
+        Ok(Feeder {
+            core: Core::open(alloc, config),
+            cutter,
+            reads: SessionCounts::none(alloc),
+        })
+    }
+
+    /// Hands out the history.
+    pub fn into_history(self) -> Entries
+        ensures history { result ≡ self.core.history }
+        ensures run { Run (opening self.core.config) self.core.history self.core.state }
+    {
+        let Feeder { core, .. } = self;
+        core.close()
+    }
+
+    /// A link comes up. A new session begins with no bytes.
+    fn link_up<K: Sink>(&mut self, alloc: Global, out: &mut K) -> Result<(), Halt>
+        ensures { (r : Reading) → IsReading r self.old.core self.old.cutter
+            → TakesLine r model.Up self.old self.new (seen K.held K.faults K.refusals out.old) (seen K.held K.faults K.refusals out.new) result }
+    {
+        if self.core.session_up().is_none() {
+            match Cutter::new(alloc, TEXT_BYTES) {
+                Ok(cutter) => self.cutter = cutter,
+                Err(_) => return Err(Halt::NoMemory),
+            }
+        }
+        input(alloc, &mut self.core, AT_ONCE, Event::LinkUp, out)
+    }
+
+    /// The peer closes the link. Without a session nothing happens.
+    fn link_down<K: Sink>(&mut self, alloc: Global, out: &mut K) -> Result<(), Halt>
+        ensures { (r : Reading) → IsReading r self.old.core self.old.cutter
+            → TakesLine r model.Down self.old self.new (seen K.held K.faults K.refusals out.old) (seen K.held K.faults K.refusals out.new) result }
+    {
+        let Some(session) = self.core.session_up() else {
+            return Ok(());
+        };
+        let cause = SessionCause::PeerEnd;
+        input(
+            alloc,
+            &mut self.core,
+            AT_ONCE,
+            Event::LinkDown { session, cause },
+            out,
+        )
+    }
+
+    /// The clock is looked at, at this moment. Where nothing is due nothing happens.
+    fn look<K: Sink>(&mut self, alloc: Global, at: Moment, out: &mut K) -> Result<(), Halt>
+        ensures { (r : Reading) → IsReading r self.old.core self.old.cutter
+            → TakesLine r (model.Time at.0) self.old self.new (seen K.held K.faults K.refusals out.old) (seen K.held K.faults K.refusals out.new) result }
+    {
+        if self.core.idle(at, &Event::Tick) {
+            return Ok(());
+        }
+        input(alloc, &mut self.core, at, Event::Tick, out)
+    }
+
+    /// Counts bytes that came in the session that is up.
+    fn count_bytes(&mut self, session: u64, bytes: &[u8]) -> Result<(), AllocError>
+        requires up { is_session_up self.old.core.state session ≡ true }
+        requires numbered { 0 < session }
+        ensures counts { OnOk result ((r : Reading) → r.state ≡ self.old.core.state
+            → AddsLine r (model.Bytes bytes.now) self.old.reads self.new.reads) }
+        ensures unchanged { self.new ≡ record self.old { reads = self.new.reads } }
+        ensures none { OnErr result (self.new ≡ self.old) }
+    {
+        self.reads.make_room(session)?;
+        self.reads.add(session, bytes.len() as u64);
+        Ok(())
+    }
+
+    /// Bytes of the host come. Without a session they are dropped.
+    fn take_bytes<K: Sink>(&mut self, alloc: Global, bytes: &[u8], out: &mut K) -> Result<(), Halt>
+        ensures { (r : Reading) → IsReading r self.old.core self.old.cutter
+            → TakesLine r (model.Bytes bytes.now) self.old self.new (seen K.held K.faults K.refusals out.old) (seen K.held K.faults K.refusals out.new) result }
+    {
+        let Some(session) = self.core.session_up() else {
+            return Ok(());
+        };
+        let Ok(()) = self.count_bytes(session, bytes) else {
+            return Err(Halt::NoMemory);
+        };
+        let mut arrivals = Vec::new(alloc);
+        let Ok(short) = cut_bytes(alloc, &mut self.cutter, bytes, &mut arrivals) else {
+            return Err(Halt::NoMemory);
+        };
+        take_messages(alloc, &mut self.core, session, arrivals, short, out)
+    }
+
+    /// Takes one line, without its line feed.
+    pub fn take_line<K: Sink>(
+        &mut self,
+        alloc: Global,
+        line: &[u8],
+        out: &mut K,
+    ) -> Result<(), Halt>
+        ensures { (r : Reading) → IsReading r self.old.core self.old.cutter
+            → TreatsLine r (model.line_of line.now) self.old self.new (seen K.held K.faults K.refusals out.old) (seen K.held K.faults K.refusals out.new) result }
+    {
+        match read_line(alloc, line) {
+            Ok(Line::Skip) => Ok(()),
+            Ok(Line::Up) => self.link_up(alloc, out),
+            Ok(Line::Down) => self.link_down(alloc, out),
+            Ok(Line::Time(at)) => self.look(alloc, at, out),
+            Ok(Line::Bytes(bytes)) => self.take_bytes(alloc, bytes.as_slice(), out),
+            Err(LineFault::Place(place)) => Err(Halt::Line(place)),
+            Err(LineFault::NoMemory) => Err(Halt::NoMemory),
+        }
+    }
+}

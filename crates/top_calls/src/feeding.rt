@@ -1,0 +1,177 @@
+//! `feed`: lines in, lines out.
+ghost use Rattle.std.specs.Prelude.{◌≡◌, ◌≢◌, ◌≤◌, ◌↔◌, ◌⊎◌, ℕ, Some, [], List, OnOk, IfErr};
+ghost use Rattle.gem_ids.specs.Texts.{IsText};
+ghost use Rattle.outside.specs.Counts.{Rose};
+ghost use Rattle.tool_events.specs.Configs.{IsConfig};
+ghost use Rattle.gem_model.specs.State.{opening};
+ghost use Rattle.gem_model.specs.Run.{Run, after_all};
+ghost use Rattle.gem_model.specs.Command.{misfit, known_config};
+ghost use Rattle.top_calls.specs.declared.ended.Cause.TheVariants as cause;
+ghost use Rattle.top_calls.specs.Counts.{Failed};
+ghost use Rattle.top_calls.specs.Status.{status_of};
+ghost use Rattle.top_calls.specs.Fed.{looked, Fed, ReadToEnd, Shown, IsKnown, Configured};
+ghost use Rattle.top_calls.specs.CauseOf.{cause_after, Refuses};
+ghost use Rattle.top_calls.specs.Noted.{Noted};
+
+use crate::ended::{Cause, Ended, Notes};
+use crate::halt::Halt;
+use crate::input::{InputEnd, InputRead, read_lines};
+use crate::notes::session_notes;
+use crate::read::{TextFault, read_text};
+use crate::reader::Reader;
+use crate::words::{WordsFault, command_of};
+use gem_ids::{Moment, Text80};
+use outside::{Sink, Source};
+use std::alloc::Global;
+use tool_core::Core;
+use tool_events::Config;
+
+/// So many bytes of a configuration are read at most.
+const CONFIGURATION_BYTES: usize = 65_537;
+
+/// The text of the one configuration that is known.
+const KNOWN_CONFIGURATION: &[u8] = b"communication = \"communicating\"\n";
+
+/// Reads the configuration. Until there are others, one text is known, and any other breaks rule 0.
+fn check_configuration<C: Source>(alloc: Global, config: &mut C) -> Result<(), Cause>
+    ensures known { OnOk result (IsKnown (looked C.left C.faults C.ends config.old) (looked C.left C.faults C.ends config.new)) }
+    ensures refused { IfErr result (λ cause. Refuses cause (looked C.left C.faults C.ends config.old) (looked C.left C.faults C.ends config.new)) }
+{
+    match read_text(alloc, config, CONFIGURATION_BYTES) {
+        Ok(text) => {
+            if text.as_slice() == KNOWN_CONFIGURATION {
+                Ok(())
+            } else {
+                Err(Cause::Config(0, Text80::empty()))
+            }
+        }
+        Err(TextFault::Read) => Err(Cause::ReadFault),
+        Err(TextFault::NoMemory) => Err(Cause::NoMemory),
+    }
+}
+
+/// What the known configuration says.
+pub fn known_config() -> Config
+    ensures config { result ≡ known_config }
+{
+    Config {
+        device: 0,
+        mdln: text_of(b"GEM300".as_slice()),
+        softrev: text_of(b"1.0.00".as_slice()),
+        t7: 1000,
+        max_entries: 4_000_000,
+        max_bytes: 536_870_912,
+        start_moment: Moment(0),
+    }
+}
+
+/// The text of bytes that print, of which there are at most 80.
+fn text_of(bytes: &[u8]) -> Text80
+    requires { IsText bytes.now }
+    ensures { result ≡ bytes.now }
+{
+    Text80::read(bytes).unwrap_or(Text80::empty())
+}
+
+/// Why a run ended whose reading ended so, with this core, in the line of this number.
+fn cause_of(read: InputRead, core: &Core, number: u64) -> Cause
+    ensures { result ≡ cause_after read.end read.count core.now.history number }
+{
+    match read.end {
+        InputEnd::Whole => Cause::Done,
+        InputEnd::Fault => Cause::ReadFault,
+        InputEnd::Bound | InputEnd::Halted(Halt::Full) => {
+            Cause::Full(core.history().len() as u64, core.bytes(), read.count)
+        }
+        InputEnd::Halted(Halt::Line(place)) => Cause::Line(number, place),
+        InputEnd::Halted(Halt::Write) => Cause::WriteFault,
+        InputEnd::Halted(Halt::NoMemory) => Cause::NoMemory,
+    }
+}
+
+/// Does what `feed` does once the configuration was read: reads lines of the input, and writes the lines of what happens.
+///
+/// The configuration keeps its bounds (this tool's profile, docs/profile/configuration.md). The history is that of the
+/// returned value, and its status says why the run ended (docs/profile/lines.md).
+pub fn feed_config<S: Source, K: Sink>(
+    alloc: Global,
+    config: &Config,
+    input: &mut S,
+    out: &mut K,
+) -> Ended
+    requires { IsConfig config.now }
+    // The history is a run from the first state.
+    ensures run { Run (opening config.now) result.history (after_all (opening config.now) result.history) }
+    // It is what the text gave that was read of the input.
+    ensures fed { Fed config.now result.cause (looked S.left S.faults S.ends input.old) (looked S.left S.faults S.ends input.new) result.history }
+    // Each session has its note.
+    ensures sessions { Noted config.now result.cause (looked S.left S.faults S.ends input.old) (looked S.left S.faults S.ends input.new) result.history result.sessions }
+    // Its lines are written, and no others.
+    ensures printed { Shown config.now result.cause (K.held out.old) (K.held out.new) result.history }
+
+    // When each cause comes.
+    ensures status { result.status ≡ status_of result.cause }
+    ensures done { result.cause ≡ cause.Done → ReadToEnd (looked S.left S.faults S.ends input.old) (looked S.left S.faults S.ends input.new) }
+    ensures read_fault { result.cause ≡ cause.ReadFault → Rose (S.faults input.old) (S.faults input.new) }
+    ensures write_fault { result.cause ≡ cause.WriteFault
+        → Failed (K.faults out.old) (K.faults out.new) (K.refusals out.old) (K.refusals out.new) }
+    ensures words { (place : ℕ) → result.cause ≢ cause.Words place }
+    ensures config { (rule : ℕ) (key : List ℕ) → result.cause ≢ cause.Config rule key }
+
+    // Until they are built.
+    ensures no_panels { result.panels ≡ [] }
+{
+    let Ok(mut reader) = Reader::open(alloc, config) else {
+        return Ended::without_history(alloc, Cause::NoMemory);
+    };
+    let read = read_lines(alloc, &mut reader, input, out);
+    let Reader { feeder, number, .. } = reader;
+    let Ok(sessions) = session_notes(alloc, &feeder.core, &feeder.reads) else {
+        let history = feeder.into_history();
+        return Ended::with_history(alloc, Cause::NoMemory, history, Notes::none(alloc));
+    };
+    let cause = cause_of(read, &feeder.core, number);
+    Ended::with_history(alloc, cause, feeder.into_history(), sessions)
+}
+
+/// Does the command `feed`: reads the configuration, then lines of the input, and writes the lines of what happens.
+///
+/// The words are checked first, then the configuration is read and checked, then the input is read. The history is that
+/// of the returned value, and its status says why the run ended (this tool's profile, docs/profile/lines.md).
+pub fn feed<C: Source, S: Source, K: Sink>(
+    alloc: Global,
+    words: &[Text80],
+    config: &mut C,
+    input: &mut S,
+    out: &mut K,
+) -> Ended
+    // The history is a run from the first state.
+    ensures run { Run (opening known_config) result.history (after_all (opening known_config) result.history) }
+    // It is what the text gave that was read of the input.
+    ensures fed { Fed known_config result.cause (looked S.left S.faults S.ends input.old) (looked S.left S.faults S.ends input.new) result.history }
+    // Each session has its note.
+    ensures sessions { Noted known_config result.cause (looked S.left S.faults S.ends input.old) (looked S.left S.faults S.ends input.new) result.history result.sessions }
+    // Its lines are written, and no others.
+    ensures printed { Shown known_config result.cause (K.held out.old) (K.held out.new) result.history }
+    ensures configured { Configured result.cause (looked C.left C.faults C.ends config.old) (looked C.left C.faults C.ends config.new) result.history }
+
+    // When each cause comes.
+    ensures status { result.status ≡ status_of result.cause }
+    ensures words { (place : ℕ) → (result.cause ≡ cause.Words place) ↔ (misfit words.now ≡ Some place) }
+    ensures done { result.cause ≡ cause.Done → ReadToEnd (looked S.left S.faults S.ends input.old) (looked S.left S.faults S.ends input.new) }
+    ensures read_fault { result.cause ≡ cause.ReadFault
+        → Rose (C.faults config.old) (C.faults config.new) ⊎ Rose (S.faults input.old) (S.faults input.new) }
+    ensures write_fault { result.cause ≡ cause.WriteFault
+        → Failed (K.faults out.old) (K.faults out.new) (K.refusals out.old) (K.refusals out.new) }
+
+    // Until they are built.
+    ensures no_panels { result.panels ≡ [] }
+{
+    if let Err(WordsFault::Place(place)) = command_of(words) {
+        return Ended::without_history(alloc, Cause::Words(place));
+    }
+    match check_configuration(alloc, config) {
+        Ok(()) => feed_config(alloc, &known_config(), input, out),
+        Err(cause) => Ended::without_history(alloc, cause),
+    }
+}

@@ -1,0 +1,93 @@
+//! The input, from its first byte to its end.
+ghost use Rattle.std.specs.Prelude.{◌≡◌, ◌≤◌, ℕ, List, [], length};
+ghost use Rattle.outside.specs.Told.{Taken};
+ghost use Rattle.gem_model.specs.Front.{IsFront};
+ghost use Rattle.gem_model.specs.Feed.{feed_entries};
+ghost use Rattle.top_calls.specs.Going.{seen};
+ghost use Rattle.top_calls.specs.Fed.{looked};
+ghost use Rattle.top_calls.specs.InputEnds.{InputEnds, as_result};
+ghost use Rattle.top_calls.specs.Standing.{Stands, Prints};
+
+use crate::halt::Halt;
+use crate::read::{front, read_front};
+use crate::reader::Reader;
+use outside::{Sink, Source};
+use std::alloc::Global;
+
+/// So many bytes of an input are read at most.
+pub const INPUT_BYTES: u64 = 4_294_967_296;
+
+/// So many bytes are read at once at most.
+const PIECE: usize = 4096;
+
+/// How the reading of an input ended.
+#[derive(Clone, Copy, Debug, PartialEq, Eq)]
+pub enum InputEnd {
+    /// It was read to its end.
+    Whole,
+    /// A read failed.
+    Fault,
+    /// 4,294,967,296 bytes were read.
+    Bound,
+    /// A line stopped it.
+    Halted(Halt),
+}
+
+/// What was read of an input: how the reading ended, and how many bytes were read.
+#[derive(Clone, Copy, Debug, PartialEq, Eq)]
+pub struct InputRead {
+    pub end: InputEnd,
+    pub count: u64,
+}
+
+/// Reads an input to its end, and takes each line.
+pub fn read_lines<S: Source, K: Sink>(
+    alloc: Global,
+    reader: &mut Reader,
+    input: &mut S,
+    out: &mut K,
+) -> InputRead
+    requires stands { Stands [] reader.old }
+    requires first { reader.old.number ≡ 1 }
+    ensures read { (text : List ℕ) × (length text ≡ result.count) × Taken (S.left input.old) (S.left input.new) text
+        × IsFront reader.new.feeder.core.history (feed_entries reader.new.feeder.core.config text).entries
+        × InputEnds result.end text reader.new (looked S.left S.faults S.ends input.old) (looked S.left S.faults S.ends input.new) }
+    ensures prints { Prints reader.old.feeder.core reader.new.feeder.core
+        (seen K.held K.faults K.refusals out.old) (seen K.held K.faults K.refusals out.new) (as_result result.end) }
+    ensures faults_stay { S.faults input.old ≤ S.faults input.new }
+    ensures ends_stay { S.ends input.old ≤ S.ends input.new }
+{
+    let mut buf = [0; PIECE];
+    let mut count: u64 = 0;
+    while count < INPUT_BYTES {
+        let room = (INPUT_BYTES - count).min(PIECE as u64) as usize;
+        let Ok(more) = read_front(input, &mut buf, room) else {
+            return InputRead {
+                end: InputEnd::Fault,
+                count,
+            };
+        };
+        if more == 0 {
+            let end = match reader.finish(alloc, out) {
+                Ok(()) => InputEnd::Whole,
+                Err(halt) => InputEnd::Halted(halt),
+            };
+            return InputRead { end, count };
+        }
+        let taken = reader.take_piece(alloc, front(&buf, more), out);
+        count += more as u64;
+        match taken {
+            Ok(()) => {}
+            Err(halt) => {
+                return InputRead {
+                    end: InputEnd::Halted(halt),
+                    count,
+                };
+            }
+        }
+    }
+    InputRead {
+        end: InputEnd::Bound,
+        count,
+    }
+}

@@ -1,0 +1,25 @@
+//! The top calls of the tool: each does what one command of the program does, over sources and sinks that are handed in.
+//!
+//! They do no input or output of their own, and so can be called by any program (this tool's profile, docs/profile). Begin
+//! with `feed`: its contract is the promise of the whole program. `feed_config` is the same for a configuration that
+//! is at hand. Both return how the run ended: `Ended`, with its status and cause, the history, and a note of each session.
+#![tactic(auto)]
+
+mod ended;
+mod engine;
+mod feeding;
+mod feeder;
+mod halt;
+mod input;
+mod lines;
+mod notes;
+mod print;
+mod read;
+mod reader;
+#[cfg(test)]
+mod tests;
+mod words;
+mod write;
+
+pub use ended::{Cause, Ended, Notes, Panels, SessionNote};
+pub use feeding::{feed, feed_config, known_config};

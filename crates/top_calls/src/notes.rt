@@ -1,0 +1,34 @@
+//! The notes of the sessions of a run.
+ghost use Rattle.std.specs.Prelude.{◌≡◌, ℕ, IfOk};
+ghost use Rattle.top_calls.specs.Reads.{AreCounts};
+ghost use Rattle.top_calls.specs.Notes.{note_of, AreNotes};
+
+use crate::ended::{Notes, SessionNote};
+use std::alloc::{AllocError, Global};
+use tool_core::{Core, SessionCounts};
+use tool_events::SessionCause;
+
+/// The note of a session of this core, in which so many bytes came.
+fn session_note(core: &Core, reads: &SessionCounts, session: u64) -> SessionNote
+    ensures { (read : ℕ → ℕ) → AreCounts reads.now read
+        → result ≡ note_of core.now.config core.now.history read session }
+{
+    SessionNote {
+        session,
+        read: reads.of(session),
+        written: core.session_bytes(session),
+        cause: core.session_end(session).unwrap_or(SessionCause::Stopped),
+    }
+}
+
+/// A note for each session that came to this core, in order, with the bytes that came in it.
+pub fn session_notes(alloc: Global, core: &Core, reads: &SessionCounts) -> Result<Notes, AllocError>
+    ensures { IfOk result (λ notes. (read : ℕ → ℕ) → AreCounts reads.now read
+        → AreNotes core.now.config core.now.history read notes) }
+{
+    let mut notes = Vec::new(alloc);
+    for session in 0..core.session_count() {
+        notes.push(session_note(core, reads, session + 1))?;
+    }
+    Ok(Notes::from_vec(notes))
+}

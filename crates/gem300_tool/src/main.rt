@@ -8,6 +8,7 @@ use gem_ids::Text80;
 use outside::{FileSource, StdinSource, StdoutSink};
 use std::alloc::{AllocError, Global};
 use std::env;
+use std::io;
 use std::process::ExitCode;
 use top_calls::feed;
 
@@ -21,15 +22,19 @@ fn texts_of(alloc: Global, args: &[String]) -> Result<Vec<Text80>, AllocError> {
     Ok(words)
 }
 
-/// The arguments of the program. With none that can be read, there is none.
+/// The arguments of the program, none where one of them is not UTF-8.
 fn arguments(rt: &HostRuntime) -> Result<Vec<String>, AllocError> {
     let mut all = Vec::new(rt.alloc());
-    if let Ok(args) = env::args(rt) {
-        for arg in args {
-            all.push(arg)?;
+    match env::args(rt) {
+        Ok(args) => {
+            for arg in args {
+                all.push(arg)?;
+            }
+            Ok(all)
         }
+        Err(error) if matches!(error.kind(), io::ErrorKind::OutOfMemory) => Err(AllocError),
+        Err(_) => Ok(all),
     }
-    Ok(all)
 }
 
 /// Calls `feed` on the file that the words name, standard input and standard output, and tells why it ended.

@@ -1,4 +1,4 @@
-ghost use Rattle.std.specs.Prelude.{ℕ, ◌≡◌, ◌≤◌, ◌<◌, ◌+◌, ◌==◌, [], length, OnOk, OnErr, if◌then◌else◌};
+ghost use Rattle.std.specs.Prelude.{ℕ, ◌≡◌, ◌≤◌, ◌<◌, ◌+◌, ◌==◌, max, [], length, OnOk, OnErr, if◌then◌else◌};
 ghost use Rattle.gem_model.specs.Sizes.{counted};
 ghost use Rattle.tool_core.specs.Counts.{count_of};
 
@@ -45,8 +45,8 @@ impl SessionCounts {
     pub fn make_room(&mut self, session: u64) -> Result<(), AllocError>
         ensures counts { (k : ℕ) → count_of self.new k ≡ count_of self.old k }
         ensures room { OnOk result (session ≤ length self.new) }
+        ensures no_more { OnOk result (length self.new ≡ max (length self.old) session) }
         ensures unchanged { OnErr result (self.new ≡ self.old) }
-        ensures grows { length self.old ≤ length self.new }
     {
         if session <= self.counts.len() as u64 {
             return Ok(());

@@ -86,7 +86,7 @@ fn sends(rt: &impl Abort, alloc: Global, core: &mut Core, bytes: &[u8]) -> Resul
 fn linked(alloc: Global, config: &Config) -> Result<Core, Fail>
     requires { IsConfig config.now }
 {
-    let mut core = Core::open(alloc, config);
+    let mut core = Core::open(alloc, config)?;
     match posted(alloc, &mut core, 0, Event::LinkUp)? {
         Answer::Session(1) => Ok(core),
         _ => Err("session 1".into()),

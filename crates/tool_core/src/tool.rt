@@ -94,12 +94,13 @@ impl Model for Core {
 }
 
 impl Core {
-    /// The core in its first state, with no history.
-    pub fn open(alloc: Global, config: &Config) -> Core
+    /// The core in its first state, with no history. The configuration keeps its bounds (docs/profile/configuration.md).
+    /// So far this takes no memory, and is always answered.
+    pub fn open(alloc: Global, config: &Config) -> Result<Core, AllocError>
         requires { IsConfig config.now }
-        ensures { result ≡ record { config = config.now; state = opening config.now; history = []; is_whole = true } }
+        ensures { IfOk result (λ core. core ≡ record { config = config.now; state = opening config.now; history = []; is_whole = true }) }
     {
-        Core {
+        Ok(Core {
             config: *config,
             plant: Plant::open(alloc, config),
             entries: Vec::new(alloc),
@@ -107,7 +108,7 @@ impl Core {
             written: SessionCounts::none(alloc),
             bytes: 0,
             is_whole: true,
-        }
+        })
     }
 
     /// The history, the oldest entry first. It is a run from the first state.

@@ -24,7 +24,7 @@ use Rattle.top_calls.specs.Standing.{Prints}
 use Rattle.gem_model.specs.SessionBytes.{session_in}
 use Rattle.top_calls.specs.Reads.{AreCounts}
 use Rattle.top_calls.specs.Notes.{AreNotes}
-use Rattle.top_calls.specs.Noted.{NotedBy, Noted}
+use Rattle.top_calls.specs.Noted.{NotedBy}
 use Rattle.top_calls.proofs.Reading.{Taken-nothing}
 use Rattle.top_calls.proofs.Writing.{Written-nothing, WrittenFront-all}
 
@@ -98,30 +98,20 @@ read_to_end (input.Halted halt.Full) text count history number reader source sou
 read_to_end (input.Halted halt.Write) text count history number reader source source' taken h is = absurd (cc)
 read_to_end (input.Halted halt.NoMemory) text count history number reader source source' taken h is = absurd (cc)
 
--- without a configuration nothing was read of the input, and nothing was written
-pub Fed-refused : (c : Config) (why : Cause) (config config' input : SourceView) → Refuses why config config' → Fed c why input input []
-Fed-refused c (cause.Config rule key) config config' input h = ([], Taken-nothing input.left, (refl, refl))
-Fed-refused c cause.ReadFault config config' input h = ([], Taken-nothing input.left, refl)
-Fed-refused c cause.NoMemory config config' input h = ([], Taken-nothing input.left, record { behind = []; joined = refl })
+-- no session came
+no_notes : (c : Config) (read : ℕ → ℕ) → AreNotes c [] read []
+no_notes c read = record { count = refl; each = λ k less. absurd (omega (arith, less)) }
+
+-- without a configuration nothing was read of the input, no session came, and nothing was written
+pub Fed-refused : (c : Config) (why : Cause) (config config' input : SourceView) → Refuses why config config' → Fed c why input input [] []
+Fed-refused c (cause.Config rule key) config config' input h = ([], Taken-nothing input.left, (refl, refl), refl)
+Fed-refused c cause.ReadFault config config' input h = ([], Taken-nothing input.left, refl, no_notes c _)
+Fed-refused c cause.NoMemory config config' input h = ([], Taken-nothing input.left, record { behind = []; joined = refl }, inl refl)
 Fed-refused c cause.Done config config' input h = absurd h
 Fed-refused c (cause.Words place) config config' input h = absurd h
 Fed-refused c cause.WriteFault config config' input h = absurd h
 Fed-refused c (cause.Full entries bytes number) config config' input h = absurd h
 Fed-refused c (cause.Line number place) config config' input h = absurd h
-
--- and no session came
-no_notes : (c : Config) (read : ℕ → ℕ) → AreNotes c [] read []
-no_notes c read = record { count = refl; each = λ k less. absurd (omega (arith, less)) }
-
-pub Noted-refused : (c : Config) (why : Cause) (config config' input : SourceView) → Refuses why config config' → Noted c why input input [] []
-Noted-refused c (cause.Config rule key) config config' input h = ([], Taken-nothing input.left, refl)
-Noted-refused c cause.ReadFault config config' input h = ([], Taken-nothing input.left, no_notes c _)
-Noted-refused c cause.NoMemory config config' input h = ([], Taken-nothing input.left, inl refl)
-Noted-refused c cause.Done config config' input h = absurd h
-Noted-refused c (cause.Words place) config config' input h = absurd h
-Noted-refused c cause.WriteFault config config' input h = absurd h
-Noted-refused c (cause.Full entries bytes number) config config' input h = absurd h
-Noted-refused c (cause.Line number place) config config' input h = absurd h
 
 pub Shown-refused : (c : Config) (why : Cause) (config config' : SourceView) (held : Option (List ℕ)) → Refuses why config config' → Shown c why held held []
 Shown-refused c (cause.Config rule key) config config' held h = Written-nothing held

@@ -11,7 +11,8 @@ use Rattle.top_calls.specs.declared.input.InputEnd.{InputEnd}
 use Rattle.top_calls.specs.declared.input.InputEnd.TheVariants as input
 use Rattle.top_calls.specs.declared.reader.Reader.{Reader}
 use Rattle.top_calls.specs.Going.{SinkView}
-use Rattle.top_calls.specs.Fed.{SourceView, input_bytes}
+use Rattle.top_calls.specs.Fed.{SourceView}
+use Rattle.top_calls.specs.Limits.{input_bytes}
 use Rattle.top_calls.specs.InputEnds.{InputEnds, as_result}
 use Rattle.top_calls.specs.Standing.{Stands, StopsAt, AllTaken, Prints, Takes, Finishes}
 use Rattle.top_calls.proofs.Going.{IsFront-same}

@@ -277,7 +277,7 @@ Stands-line-stopped text more old new out out' why stands treats number =
       told = subst (λ (c : Config). StoppedAs c (feed_entries c ((text ++ 10 ∷ []) ++ more)) new.feeder.core.history new.number why) same
           (rw (line_goes text more old stands, number) (stopped old.number stands.reading old.line.items old.feeder new.feeder out out' why treats (lines_of more)));
       counts = subst (λ (c : Config). CountsTo why c ((text ++ 10 ∷ []) ++ more) new.feeder.core.history new.feeder.reads) same
-          (line_counts text ((text ++ 10 ∷ []) ++ more) old new.feeder out out' why stands (lines_of more) (front_of text (10 ∷ []) more) (line_feed_in text more old stands) treats);
+          (line_counts text ((text ++ 10 ∷ []) ++ more) old new.feeder out out' why stands (lines_of more) (inr (more, append_assoc text (10 ∷ []) more)) (line_feed_in text more old stands) treats);
     }
 
 -- ---- the end of the text
@@ -322,7 +322,7 @@ ends-line text old new out out' (Err why) stands some treats =
           (rw (at_end text old stands ∙ ap (λ (ls : List (List ℕ)). told_behind old.feeder.core.history (feed_lines old.number stands.reading ls)) (last_line old.line.items stands.line some))
           (stopped old.number stands.reading old.line.items old.feeder new out out' why treats []));
       counts = subst (λ (c : Config). CountsTo why c text new.core.history new.reads) same
-          (line_counts text text old new out out' why stands [] (record { behind = []; joined = sym (append-nil text) }) (last_in text old stands some) treats);
+          (line_counts text text old new out out' why stands [] (inl refl) (last_in text old stands some) treats);
     }
 
 -- ---- one piece after another

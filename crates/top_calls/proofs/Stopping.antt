@@ -16,7 +16,7 @@ use Rattle.top_calls.specs.declared.reader.Reader.{Reader}
 use Rattle.top_calls.specs.Going.{SinkView}
 use Rattle.top_calls.specs.Reads.{HaveRead, AddsLine}
 use Rattle.top_calls.specs.Reading.{TakesLine, TreatsLine}
-use Rattle.top_calls.specs.Stopping.{StoppedIn, CountsTo}
+use Rattle.top_calls.specs.Stopping.{StoppedIn, EndsLine, CountsTo}
 use Rattle.top_calls.specs.Standing.{Stands}
 use Rattle.top_calls.proofs.Going.{IsFront-same, IsFront-then}
 use Rattle.top_calls.proofs.AtText.{whole_told, text_entries, text_bytes_in}
@@ -72,61 +72,68 @@ line_stopped text all reader new stands says is front grows within =
       within = subst (λ (es : List Entry). IsFront new.history es) (sym (text_entries text reader stands says is)) within;
     }
 
--- how many entries the lines before it gave, and with it
+-- what ends a line of a text is a front of it
+pub ends_front : (text all : List ℕ) → EndsLine text all → IsFront text all
+ends_front text all (inl same) = IsFront-same text all (sym same)
+ends_front text all (inr more) = record { behind = 10 ∷ more.0; joined = more.1 }
+
+-- how many entries the lines before it gave
 before_count : (text : List ℕ) (reader : Reader) (stands : Stands text reader) → length (feed_entries reader.feeder.core.config (whole_lines text)).entries ≡ length reader.feeder.core.history
 before_count text reader stands = ap (λ (t : List ℕ). length (feed_entries reader.feeder.core.config t).entries) (whole_of text reader stands) ∙ ap length (whole_told text reader stands)
 
 -- a line that is taken stopped the reader
-taken_counts : (text all : List ℕ) (old : Reader) (new : Feeder) (out out' : SinkView) (why : Halt) (stands : Stands text old) (says : Line) → line_of old.line.items ≡ Some says → IsFront text all → TakesLine stands.reading says old.feeder new out out' (Err why) → CountsTo why old.feeder.core.config all new.core.history new.reads
-taken_counts text all old new out out' (halt.Line place) stands says is front h = absurd h.goes.went
-taken_counts text all old new out out' halt.Full stands says is front h =
+taken_counts : (text all : List ℕ) (old : Reader) (new : Feeder) (out out' : SinkView) (why : Halt) (stands : Stands text old) (says : Line) → line_of old.line.items ≡ Some says → EndsLine text all → TakesLine stands.reading says old.feeder new out out' (Err why) → CountsTo why old.feeder.core.config all new.core.history new.reads
+taken_counts text all old new out out' (halt.Line place) stands says is ends h = absurd h.goes.went
+taken_counts text all old new out out' halt.Full stands says is ends h =
     let full = h.goes.went in
     let within : IsFront new.core.history (old.feeder.core.history ++ (line_given stands.reading says).entries) = record { behind = full.next ∷ full.behind; joined = full.joined } in
     record {
       taken = text;
-      marks = (
-        line_stopped text all old new.core stands says is front h.goes.grows within,
-        omega (arith, ap length (text_entries text old stands says is), ap length full.joined, length-append new.core.history (full.next ∷ full.behind)),
-      );
+      marks = record {
+        stopped = line_stopped text all old new.core stands says is (ends_front text all ends) h.goes.grows within;
+        ends = ends;
+        next = omega (arith, ap length (text_entries text old stands says is), ap length full.joined, length-append new.core.history (full.next ∷ full.behind));
+      };
       read = line_read text old stands says new.reads is h.counts;
     }
-taken_counts text all old new out out' halt.Write stands says is front h = record {
+taken_counts text all old new out out' halt.Write stands says is ends h = record {
   taken = text;
-  marks = (
-    line_stopped text all old new.core stands says is front h.goes.grows h.goes.went,
-    omega (arith, before_count text old stands, h.goes.wrote refl),
-  );
+  marks = record {
+    stopped = line_stopped text all old new.core stands says is (ends_front text all ends) h.goes.grows h.goes.went;
+    ends = ends;
+    last = omega (arith, before_count text old stands, h.goes.wrote refl);
+  };
   read = line_read text old stands says new.reads is h.counts;
 }
-taken_counts text all old new out out' halt.NoMemory stands says is front h = elim h.counts [
+taken_counts text all old new out out' halt.NoMemory stands says is ends h = elim h.counts [
   | inl adds ↦ record {
     taken = text;
-    marks = line_stopped text all old new.core stands says is front h.goes.grows h.goes.went;
+    marks = line_stopped text all old new.core stands says is (ends_front text all ends) h.goes.grows h.goes.went;
     read = line_read text old stands says new.reads is adds;
   }
-  | inr same ↦ stopped_before text all old new.core.history new.reads stands front (ap (λ (v : CoreView). v.history) same.1) same.0
+  | inr same ↦ stopped_before text all old new.core.history new.reads stands (ends_front text all ends) (ap (λ (v : CoreView). v.history) same.1) same.0
 ]
 
 abbrev failed : Halt → Result (Unit {0}) Halt
 failed why = Err why
 
-refused_counts : (text all : List ℕ) (old : Reader) (new : Feeder) (why : Halt) (stands : Stands text old) (lines : List (List ℕ)) → IsFront text all → ((session : ℕ) → session_in old.feeder.core.config all session ≡ session_in old.feeder.core.config stands.whole session + lines_bytes_in stands.reading (old.line.items ∷ lines) session) → line_of old.line.items ≡ None → (failed why ≡ failed (halt.Line 0)) ⊎ (failed why ≡ failed halt.NoMemory) → new.core.history ≡ old.feeder.core.history → new.reads ≡ old.feeder.reads → CountsTo why old.feeder.core.config all new.core.history new.reads
-refused_counts text all old new (halt.Line place) stands lines front goes outside refused history reads =
+refused_counts : (text all : List ℕ) (old : Reader) (new : Feeder) (why : Halt) (stands : Stands text old) (lines : List (List ℕ)) → EndsLine text all → ((session : ℕ) → session_in old.feeder.core.config all session ≡ session_in old.feeder.core.config stands.whole session + lines_bytes_in stands.reading (old.line.items ∷ lines) session) → line_of old.line.items ≡ None → (failed why ≡ failed (halt.Line 0)) ⊎ (failed why ≡ failed halt.NoMemory) → new.core.history ≡ old.feeder.core.history → new.reads ≡ old.feeder.reads → CountsTo why old.feeder.core.config all new.core.history new.reads
+refused_counts text all old new (halt.Line place) stands lines ends goes outside refused history reads =
     stopped_outside text all place old new.core.history new.reads stands old.line.items lines goes outside reads
-refused_counts text all old new halt.NoMemory stands lines front goes outside refused history reads =
-    stopped_before text all old new.core.history new.reads stands front history reads
-refused_counts text all old new halt.Full stands lines front goes outside refused history reads =
+refused_counts text all old new halt.NoMemory stands lines ends goes outside refused history reads =
+    stopped_before text all old new.core.history new.reads stands (ends_front text all ends) history reads
+refused_counts text all old new halt.Full stands lines ends goes outside refused history reads =
     absurd (elim refused [ inl e ↦ cc | inr e ↦ cc ])
-refused_counts text all old new halt.Write stands lines front goes outside refused history reads =
+refused_counts text all old new halt.Write stands lines ends goes outside refused history reads =
     absurd (elim refused [ inl e ↦ cc | inr e ↦ cc ])
 
-counts_by : (text all : List ℕ) (old : Reader) (new : Feeder) (out out' : SinkView) (why : Halt) (stands : Stands text old) (lines : List (List ℕ)) (says : Option Line) → line_of old.line.items ≡ says → IsFront text all → ((session : ℕ) → session_in old.feeder.core.config all session ≡ session_in old.feeder.core.config stands.whole session + lines_bytes_in stands.reading (old.line.items ∷ lines) session) → TreatsLine stands.reading says old.feeder new out out' (Err why) → CountsTo why old.feeder.core.config all new.core.history new.reads
-counts_by text all old new out out' why stands lines None is front goes h =
-    refused_counts text all old new why stands lines front goes is h.refused (ap (λ (v : CoreView). v.history) h.core_stays) h.reads_stay
-counts_by text all old new out out' why stands lines (Some says) is front goes h =
-    taken_counts text all old new out out' why stands says is front h
+counts_by : (text all : List ℕ) (old : Reader) (new : Feeder) (out out' : SinkView) (why : Halt) (stands : Stands text old) (lines : List (List ℕ)) (says : Option Line) → line_of old.line.items ≡ says → EndsLine text all → ((session : ℕ) → session_in old.feeder.core.config all session ≡ session_in old.feeder.core.config stands.whole session + lines_bytes_in stands.reading (old.line.items ∷ lines) session) → TreatsLine stands.reading says old.feeder new out out' (Err why) → CountsTo why old.feeder.core.config all new.core.history new.reads
+counts_by text all old new out out' why stands lines None is ends goes h =
+    refused_counts text all old new why stands lines ends goes is h.refused (ap (λ (v : CoreView). v.history) h.core_stays) h.reads_stay
+counts_by text all old new out out' why stands lines (Some says) is ends goes h =
+    taken_counts text all old new out out' why stands says is ends h
 
 -- The last line stopped the reader, whatever follows it.
-pub line_counts : (text all : List ℕ) (old : Reader) (new : Feeder) (out out' : SinkView) (why : Halt) (stands : Stands text old) (lines : List (List ℕ)) → IsFront text all → ((session : ℕ) → session_in old.feeder.core.config all session ≡ session_in old.feeder.core.config stands.whole session + lines_bytes_in stands.reading (old.line.items ∷ lines) session) → TreatsLine stands.reading (line_of old.line.items) old.feeder new out out' (Err why) → CountsTo why old.feeder.core.config all new.core.history new.reads
-line_counts text all old new out out' why stands lines front goes h =
-    counts_by text all old new out out' why stands lines (line_of old.line.items) refl front goes h
+pub line_counts : (text all : List ℕ) (old : Reader) (new : Feeder) (out out' : SinkView) (why : Halt) (stands : Stands text old) (lines : List (List ℕ)) → EndsLine text all → ((session : ℕ) → session_in old.feeder.core.config all session ≡ session_in old.feeder.core.config stands.whole session + lines_bytes_in stands.reading (old.line.items ∷ lines) session) → TreatsLine stands.reading (line_of old.line.items) old.feeder new out out' (Err why) → CountsTo why old.feeder.core.config all new.core.history new.reads
+line_counts text all old new out out' why stands lines ends goes h =
+    counts_by text all old new out out' why stands lines (line_of old.line.items) refl ends goes h

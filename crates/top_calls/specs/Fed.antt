@@ -13,13 +13,11 @@ use Rattle.gem_model.specs.Feed.{AllRead, OutsideGrammar, feed_entries}
 use Rattle.gem_model.specs.Printed.{printed}
 use Rattle.top_calls.specs.declared.ended.Cause.{Cause}
 use Rattle.top_calls.specs.declared.ended.Cause.TheVariants as cause
-use Rattle.top_calls.specs.Limits.{IsFullAt}
+use Rattle.top_calls.specs.declared.ended.SessionNote.{SessionNote}
+use Rattle.top_calls.specs.Limits.{IsFullAt, MeetsBound}
 use Rattle.top_calls.specs.Input.{Whole}
+use Rattle.top_calls.specs.Noted.{NotedBy}
 use Rattle.top_calls.specs.Printing.{WrittenFront}
-
--- the greatest input, in bytes
-abbrev pub input_bytes : ℕ
-input_bytes = 4294967296
 
 -- what a source tells: the bytes that it has left, where it tells them, how often it failed, and how often it ended
 pub record SourceView : Type 0 where
@@ -29,11 +27,6 @@ pub record SourceView : Type 0 where
 
 abbrev pub looked : {S : Type 0} → (S → Option (List ℕ)) → (S → ℕ) → (S → ℕ) → S → SourceView
 looked left faults ends source = record { left = left source; faults = faults source; ends = ends source }
-
--- the bound on the input was met behind whole lines
-abbrev pub MeetsBound : Config → List ℕ → List Entry → Type 0
-MeetsBound c text history =
-    (feed_entries c (whole_lines text) ≡ record { entries = history; stop = AllRead }) × (length text ≡ input_bytes)
 
 -- The history is what the text gave: all of it; of its whole lines, where the reading broke off; up to a line that
 -- stopped it; up to an entry that doesn't fit the limits; or, after want of memory or a write fault, a front of it.
@@ -49,9 +42,10 @@ FedBy c cause.NoMemory text history = IsFront history (feed_entries c text).entr
 FedBy c (cause.Words place) text history = (text ≡ []) × (history ≡ [])
 FedBy c (cause.Config rule key) text history = (text ≡ []) × (history ≡ [])
 
--- this text was read of the input, and gave the history
-abbrev pub Fed : Config → Cause → SourceView → SourceView → List Entry → Type 0
-Fed c cause input input' history = (text : List ℕ) × Taken input.left input'.left text × FedBy c cause text history
+-- this text was read of the input, gave the history, and the notes are of it
+abbrev pub Fed : Config → Cause → SourceView → SourceView → List Entry → List SessionNote → Type 0
+Fed c cause input input' history notes =
+    (text : List ℕ) × Taken input.left input'.left text × FedBy c cause text history × NotedBy c cause text history notes
 
 -- done only where the input was read to its end
 abbrev pub ReadToEnd : SourceView → SourceView → Type 0
@@ -84,9 +78,10 @@ pub record IsRefused (config config' : SourceView) (rule : ℕ) (key : List ℕ)
   pub whole : length text < configuration_bytes → Whole config.left text
   pub most : length text ≤ configuration_bytes
 
--- what was read of the configuration; where it wasn't read to its end the history is empty
+-- What was read of the configuration: nothing where the words are refused; where it wasn't read to its end the history
+-- is empty.
 abbrev pub Configured : Cause → SourceView → SourceView → List Entry → Type 0
-Configured (cause.Words place) config config' history = ⊤
+Configured (cause.Words place) config config' history = config' ≡ config
 Configured (cause.Config rule key) config config' history = IsRefused config config' rule key
 Configured cause.ReadFault config config' history = IsKnown config config' ⊎ (history ≡ [])
 Configured cause.NoMemory config config' history = IsKnown config config' ⊎ (history ≡ [])

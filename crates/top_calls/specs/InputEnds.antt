@@ -7,7 +7,8 @@ use Rattle.top_calls.specs.declared.input.InputEnd.{InputEnd}
 use Rattle.top_calls.specs.declared.input.InputEnd.TheVariants as input
 use Rattle.top_calls.specs.declared.reader.Reader.{Reader}
 use Rattle.top_calls.specs.Input.{Whole}
-use Rattle.top_calls.specs.Fed.{SourceView, input_bytes}
+use Rattle.top_calls.specs.Fed.{SourceView}
+use Rattle.top_calls.specs.Limits.{input_bytes}
 use Rattle.top_calls.specs.Standing.{AllTaken, StopsAt}
 
 abbrev pub InputEnds : InputEnd → List ℕ → Reader → SourceView → SourceView → Type 0

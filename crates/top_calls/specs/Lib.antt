@@ -12,8 +12,8 @@ pub mod Stopping
 pub mod Standing
 pub mod Input
 pub mod Status
+pub mod Notes
+pub mod Noted
 pub mod Fed
 pub mod InputEnds
 pub mod CauseOf
-pub mod Notes
-pub mod Noted

@@ -1,8 +1,19 @@
--- Where a history stops at its limits.
-use Rattle.std.specs.Prelude.{◌≡◌, true, List, ◌∷◌, ◌++◌}
+-- Where a run stops at its limits.
+use Rattle.std.specs.Prelude.{◌≡◌, ℕ, true, List, ◌∷◌, ◌++◌, length}
 use Rattle.tool_events.specs.declared.config.Config.{Config}
 use Rattle.tool_events.specs.declared.entry.Entry.{Entry}
 use Rattle.gem_model.specs.Sizes.{is_full}
+use Rattle.gem_model.specs.Lines.{whole_lines}
+use Rattle.gem_model.specs.Feed.{AllRead, feed_entries}
+
+-- the greatest input, in bytes (this tool's profile, limits)
+abbrev pub input_bytes : ℕ
+input_bytes = 4294967296
+
+-- so many bytes of input were read, and the history is that of the whole lines
+abbrev pub MeetsBound : Config → List ℕ → List Entry → Type 0
+MeetsBound c text history =
+    (feed_entries c (whole_lines text) ≡ record { entries = history; stop = AllRead }) × (length text ≡ input_bytes)
 
 -- the history is a front of all entries, and the next of them doesn't fit the limits
 pub record IsFullAt (c : Config) (history all : List Entry) : Type 0 where

@@ -1,6 +1,5 @@
 -- The notes of a run of feed, by how it ended.
 use Rattle.std.specs.Prelude.{◌≡◌, ◌⊎◌, ℕ, List, []}
-use Rattle.outside.specs.Told.{Taken}
 use Rattle.tool_events.specs.declared.config.Config.{Config}
 use Rattle.tool_events.specs.declared.entry.Entry.{Entry}
 use Rattle.gem_model.specs.Lines.{whole_lines}
@@ -8,7 +7,7 @@ use Rattle.gem_model.specs.SessionBytes.{session_in}
 use Rattle.top_calls.specs.declared.ended.Cause.{Cause}
 use Rattle.top_calls.specs.declared.ended.Cause.TheVariants as cause
 use Rattle.top_calls.specs.declared.ended.SessionNote.{SessionNote}
-use Rattle.top_calls.specs.Fed.{SourceView, MeetsBound}
+use Rattle.top_calls.specs.Limits.{MeetsBound}
 use Rattle.top_calls.specs.Notes.{AreNotes}
 use Rattle.top_calls.specs.Stopping.{StoppedIn, FullIn, FaultIn}
 
@@ -32,8 +31,3 @@ NotedBy c cause.NoMemory text history notes =
     (notes ≡ []) ⊎ ((taken : List ℕ) × StoppedIn c text history taken × NotesOf c history notes taken)
 NotedBy c (cause.Words place) text history notes = notes ≡ []
 NotedBy c (cause.Config rule key) text history notes = notes ≡ []
-
--- this text was read of the input, and the notes are of it
-abbrev pub Noted : Config → Cause → SourceView → SourceView → List Entry → List SessionNote → Type 0
-Noted c cause input input' history notes =
-    (text : List ℕ) × Taken input.left input'.left text × NotedBy c cause text history notes

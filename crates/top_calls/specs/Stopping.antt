@@ -1,5 +1,5 @@
 -- Where in a text a run stopped.
-use Rattle.std.specs.Prelude.{◌≡◌, ℕ, ◌<◌, List, length}
+use Rattle.std.specs.Prelude.{◌≡◌, ◌⊎◌, ℕ, ◌<◌, List, ◌∷◌, ◌++◌, length}
 use Rattle.tool_events.specs.declared.config.Config.{Config}
 use Rattle.tool_events.specs.declared.entry.Entry.{Entry}
 use Rattle.gem_model.specs.Front.{IsFront}
@@ -16,14 +16,21 @@ pub record StoppedIn (c : Config) (text : List ℕ) (history : List Entry) (take
   pub before : IsFront (feed_entries c (whole_lines taken)).entries history
   pub within : IsFront history (feed_entries c taken).entries
 
--- ... and the entry that did not fit is of that line
-abbrev pub FullIn : Config → List ℕ → List Entry → List ℕ → Type 0
-FullIn c text history taken = StoppedIn c text history taken × (length history < length (feed_entries c taken).entries)
+-- this front of the text ends where a line ends, before its line feed or at the end of the text
+abbrev pub EndsLine : List ℕ → List ℕ → Type 0
+EndsLine taken text = (taken ≡ text) ⊎ ((behind : List ℕ) × (text ≡ taken ++ 10 ∷ behind))
 
--- ... and so is the entry whose lines could not be written
-abbrev pub FaultIn : Config → List ℕ → List Entry → List ℕ → Type 0
-FaultIn c text history taken =
-    StoppedIn c text history taken × (length (feed_entries c (whole_lines taken)).entries < length history)
+-- it stopped in that line, which is whole, and the entry that did not fit is of it
+pub record FullIn (c : Config) (text : List ℕ) (history : List Entry) (taken : List ℕ) : Type 0 where
+  pub stopped : StoppedIn c text history taken
+  pub ends : EndsLine taken text
+  pub next : length history < length (feed_entries c taken).entries
+
+-- it stopped in that line, which is whole, and the entry whose lines could not be written is of it
+pub record FaultIn (c : Config) (text : List ℕ) (history : List Entry) (taken : List ℕ) : Type 0 where
+  pub stopped : StoppedIn c text history taken
+  pub ends : EndsLine taken text
+  pub last : length (feed_entries c (whole_lines taken)).entries < length history
 
 -- The lines that were taken, by why it stopped; what is behind a line outside the grammar gives nothing.
 abbrev pub TakenTo : Halt → Config → List ℕ → List Entry → List ℕ → Type 0

@@ -118,6 +118,14 @@ impl Notes {
         Notes { notes }
     }
 
+    /// Gives the vector back. Takes no memory.
+    pub fn into_vec(self) -> Vec<SessionNote>
+        ensures { result.items ≡ self }
+    {
+        let Notes { notes } = self;
+        notes
+    }
+
     /// The notes as a slice.
     pub fn as_slice(&self) -> &[SessionNote]
         ensures { result.now ≡ self.now }
@@ -150,6 +158,21 @@ impl Panels {
         Panels {
             panels: Vec::new(alloc),
         }
+    }
+
+    /// The panels of a vector. Takes no memory.
+    pub fn from_vec(panels: Vec<[u64; 7]>) -> Panels
+        ensures { result ≡ panels.items }
+    {
+        Panels { panels }
+    }
+
+    /// Gives the vector back. Takes no memory.
+    pub fn into_vec(self) -> Vec<[u64; 7]>
+        ensures { result.items ≡ self }
+    {
+        let Panels { panels } = self;
+        panels
     }
 
     /// The panels as a slice.

@@ -57,12 +57,13 @@ impl Feeder {
     /// The core in its first state.
     pub fn open(alloc: Global, config: &Config) -> Result<Feeder, AllocError>
         requires { IsConfig config.now }
-        ensures { IfOk result (λ feeder. (feeder.core ≡ record { config = config.now; state = opening config.now; history = []; is_whole = true })
-            × IsReading (first_reading config.now) feeder.core feeder.cutter × (feeder.reads ≡ [])) }
+        ensures core { IfOk result (λ feeder. feeder.core ≡ record { config = config.now; state = opening config.now; history = []; is_whole = true }) }
+        ensures reading { IfOk result (λ feeder. IsReading (first_reading config.now) feeder.core feeder.cutter) }
+        ensures reads { IfOk result (λ feeder. feeder.reads ≡ []) }
     {
         let cutter = Cutter::new(alloc, TEXT_BYTES)?;
         Ok(Feeder {
-            core: Core::open(alloc, config),
+            core: Core::open(alloc, config)?,
             cutter,
             reads: SessionCounts::none(alloc),
         })

@@ -11,7 +11,6 @@ ghost use Rattle.top_calls.specs.Counts.{Failed};
 ghost use Rattle.top_calls.specs.Status.{status_of};
 ghost use Rattle.top_calls.specs.Fed.{looked, Fed, ReadToEnd, Shown, IsKnown, Configured};
 ghost use Rattle.top_calls.specs.CauseOf.{cause_after, Refuses};
-ghost use Rattle.top_calls.specs.Noted.{Noted};
 
 use crate::ended::{Cause, Ended, Notes};
 use crate::halt::Halt;
@@ -91,8 +90,8 @@ fn cause_of(read: InputRead, core: &Core, number: u64) -> Cause
 
 /// Does what `feed` does once the configuration was read: reads lines of the input, and writes the lines of what happens.
 ///
-/// The configuration keeps its bounds (this tool's profile, docs/profile/configuration.md). The history is that of the
-/// returned value, and its status says why the run ended (docs/profile/lines.md).
+/// The configuration keeps its bounds (this tool's profile, docs/profile/configuration.md). The returned value has the
+/// history and a note of each session, and says by its status and cause why the run ended (docs/profile/lines.md).
 pub fn feed_config<S: Source, K: Sink>(
     alloc: Global,
     config: &Config,
@@ -102,10 +101,8 @@ pub fn feed_config<S: Source, K: Sink>(
     requires { IsConfig config.now }
     // The history is a run from the first state.
     ensures run { Run (opening config.now) result.history (after_all (opening config.now) result.history) }
-    // It is what the text gave that was read of the input.
-    ensures fed { Fed config.now result.cause (looked S.left S.faults S.ends input.old) (looked S.left S.faults S.ends input.new) result.history }
-    // Each session has its note.
-    ensures sessions { Noted config.now result.cause (looked S.left S.faults S.ends input.old) (looked S.left S.faults S.ends input.new) result.history result.sessions }
+    // It is what the text gave that was read of the input, and so are the notes, one for each session.
+    ensures fed { Fed config.now result.cause (looked S.left S.faults S.ends input.old) (looked S.left S.faults S.ends input.new) result.history result.sessions }
     // Its lines are written, and no others.
     ensures printed { Shown config.now result.cause (K.held out.old) (K.held out.new) result.history }
 
@@ -136,8 +133,9 @@ pub fn feed_config<S: Source, K: Sink>(
 
 /// Does the command `feed`: reads the configuration, then lines of the input, and writes the lines of what happens.
 ///
-/// The words are checked first, then the configuration is read and checked, then the input is read. The history is that
-/// of the returned value, and its status says why the run ended (this tool's profile, docs/profile/lines.md).
+/// The words are checked first, then the configuration is read and checked, then the input is read. The returned value
+/// has the history and a note of each session, and says by its status and cause why the run ended (this tool's profile,
+/// docs/profile/lines.md).
 pub fn feed<C: Source, S: Source, K: Sink>(
     alloc: Global,
     words: &[Text80],
@@ -147,10 +145,8 @@ pub fn feed<C: Source, S: Source, K: Sink>(
 ) -> Ended
     // The history is a run from the first state.
     ensures run { Run (opening known_config) result.history (after_all (opening known_config) result.history) }
-    // It is what the text gave that was read of the input.
-    ensures fed { Fed known_config result.cause (looked S.left S.faults S.ends input.old) (looked S.left S.faults S.ends input.new) result.history }
-    // Each session has its note.
-    ensures sessions { Noted known_config result.cause (looked S.left S.faults S.ends input.old) (looked S.left S.faults S.ends input.new) result.history result.sessions }
+    // It is what the text gave that was read of the input, and so are the notes, one for each session.
+    ensures fed { Fed known_config result.cause (looked S.left S.faults S.ends input.old) (looked S.left S.faults S.ends input.new) result.history result.sessions }
     // Its lines are written, and no others.
     ensures printed { Shown known_config result.cause (K.held out.old) (K.held out.new) result.history }
     ensures configured { Configured result.cause (looked C.left C.faults C.ends config.old) (looked C.left C.faults C.ends config.new) result.history }

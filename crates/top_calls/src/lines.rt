@@ -1,5 +1,5 @@
 //! The input lines.
-ghost use Rattle.std.specs.Prelude.{◌≡◌, ℕ, ◌<◌, ◌≤◌, Some, None, IfOk, IfSome, IfNone, IsErrOf, List};
+ghost use Rattle.std.specs.Prelude.{◌≡◌, ℕ, ◌<◌, ◌≤◌, Some, None, IfOk, IfSome, IfNone, IsErrOf, List, option_map};
 ghost use Rattle.std.specs.List.{list_all};
 ghost use Rattle.std.specs.Char.{is_ascii_digit};
 ghost use Rattle.gem_ids.specs.Moments.{last_moment};
@@ -59,7 +59,7 @@ pub fn read_line(alloc: Global, line: &[u8]) -> Result<Line, LineFault>
         return read_hex(alloc, &line[2..]);
     }
     if line.starts_with(b"T ".as_slice()) {
-        return read_moment(&line[2..]);
+        return read_moment(&line[2..]).ok_or(LineFault::Place(0));
     }
     Err(LineFault::Place(0))
 }
@@ -97,17 +97,14 @@ fn number_of(digits: &[u8]) -> Option<u64>
 }
 
 /// The moment that digits spell: a number up to the last hundredth of the year 9999.
-fn read_moment(digits: &[u8]) -> Result<Line, LineFault>
-    ensures line { IfOk result (λ l. moment_line digits.now ≡ Some (line_view l)) }
-    ensures outside { (place : ℕ) → IsErrOf result (LineFault.Place place) → (place ≡ 0) × (moment_line digits.now ≡ None) }
+fn read_moment(digits: &[u8]) -> Option<Line>
+    ensures { option_map line_view result ≡ moment_line digits.now }
 {
     if !is_number(digits) {
-        return Err(LineFault::Place(0));
+        return None;
     }
-    match number_of(digits) {
-        Some(moment) => Ok(Line::Time(Moment(moment))),
-        None => Err(LineFault::Place(0)),
-    }
+    let moment = number_of(digits)?;
+    Some(Line::Time(Moment(moment)))
 }
 
 /// The bytes of hex digits: an even number of either case, at least two.

@@ -1,16 +1,10 @@
 use Rattle.gem_model.specs.Command.{known_config}
 use Rattle.top_calls.specs.Fed.{looked}
-use Rattle.top_calls.proofs.Ending.{Fed-refused, Noted-refused, Shown-refused}
+use Rattle.top_calls.proofs.Ending.{Fed-refused, Shown-refused}
 use Rattle.top_calls.proofs.feeding.feed.Goals as goal
 
 pub returns-in-Err-clause-fed : goal.returns-in-Err-clause-fed
 returns-in-Err-clause-fed g c = rw c.without_history-in-Err.ensures (Fed-refused known_config c.in-Err.cause _ _ (looked g.S.Source.left g.S.Source.faults g.S.Source.ends c.args.input.now) c.in-Err.ensures.refused)
 
-pub returns-in-Err-clause-sessions : goal.returns-in-Err-clause-sessions
-returns-in-Err-clause-sessions g c = rw c.without_history-in-Err.ensures (Noted-refused known_config c.in-Err.cause _ _ (looked g.S.Source.left g.S.Source.faults g.S.Source.ends c.args.input.now) c.in-Err.ensures.refused)
-
 pub returns-in-Err-clause-printed : goal.returns-in-Err-clause-printed
 returns-in-Err-clause-printed g c = rw c.without_history-in-Err.ensures (Shown-refused known_config c.in-Err.cause _ _ (g.K.Sink.held c.args.out.now) c.in-Err.ensures.refused)
-
-pub returns-in-Ok-clause-sessions : goal.returns-in-Ok-clause-sessions
-returns-in-Ok-clause-sessions g c = rw c.known_config.ensures.config at c.feed_config.ensures.sessions

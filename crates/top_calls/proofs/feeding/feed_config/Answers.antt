@@ -3,9 +3,9 @@ use Rattle.tool_events.specs.declared.config.Config.{Config}
 use Rattle.top_calls.specs.declared.ended.Cause.TheVariants as cause
 use Rattle.top_calls.specs.declared.ended.Ended.{Ended}
 use Rattle.top_calls.specs.CauseOf.{cause_after}
-use Rattle.top_calls.specs.Fed.{Shown}
+use Rattle.top_calls.specs.Fed.{FedBy, Shown}
 use Rattle.top_calls.specs.Noted.{NotedBy}
-use Rattle.top_calls.proofs.Ending.{run_from, NotedBy-end, Shown-end, Shown-memory, read_to_end}
+use Rattle.top_calls.proofs.Ending.{run_from, FedBy-end, NotedBy-end, Shown-end, Shown-memory, read_to_end}
 use Rattle.top_calls.proofs.feeding.feed_config.Goals as goal
 
 pub returns-in_default-session_notes-clause-run : goal.returns-in_default-session_notes-clause-run
@@ -26,14 +26,20 @@ returns-clause-run g c =
     rw (c.with_history-2.ensures, c.into_history.ensures.history)
     (run_from _ _ _ _ (c.read_lines-read.ensures.prints.config ∙ c.in-Ok.ensures.config) c.into_history.ensures.run)
 
-pub returns-clause-sessions : goal.returns-clause-sessions
-returns-clause-sessions g c =
+pub returns-clause-fed : goal.returns-clause-fed
+returns-clause-fed g c =
     let reader = c.read_lines-read.new.reader in
     let core = reader.feeder.core in
+    let end = c.read_lines-read.result.end in
+    let count = c.read_lines-read.result.count in
     let same : core.config ≡ c.args.config.now = c.read_lines-read.ensures.prints.config ∙ c.in-Ok.ensures.config in
     let read = c.read_lines-read.ensures.read in
-    rw (c.with_history-2.ensures, c.cause_of-cause.ensures, c.into_history.ensures.history)
-    (read.0, read.2, subst (λ (k : Config). NotedBy k (cause_after c.read_lines-read.result.end c.read_lines-read.result.count core.history reader.number) read.0 core.history c.in-Ok-session_notes.sessions) same (NotedBy-end c.read_lines-read.result.end read.0 c.read_lines-read.result.count reader c.in-Ok-session_notes.sessions _ _ c.in-Ok-session_notes.ensures read.4))
+    rw (c.with_history-2.ensures, c.cause_of-cause.ensures, c.into_history.ensures.history) (
+      read.0,
+      read.2,
+      subst (λ (k : Config). FedBy k (cause_after end count core.history reader.number) read.0 core.history) same (FedBy-end end read.0 count reader _ _ read.1 read.4),
+      subst (λ (k : Config). NotedBy k (cause_after end count core.history reader.number) read.0 core.history c.in-Ok-session_notes.sessions) same (NotedBy-end end read.0 count reader c.in-Ok-session_notes.sessions _ _ c.in-Ok-session_notes.ensures read.4),
+    )
 
 pub returns-clause-printed : goal.returns-clause-printed
 returns-clause-printed g c =

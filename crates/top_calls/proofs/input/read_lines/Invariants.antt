@@ -1,5 +1,6 @@
 use Rattle.std.proofs.Common.{◌≡◌, ◌-◌, ◌≤◌, length}
-use Rattle.top_calls.specs.Fed.{looked, input_bytes}
+use Rattle.top_calls.specs.Fed.{looked}
+use Rattle.top_calls.specs.Limits.{input_bytes}
 use Rattle.top_calls.specs.Going.{seen}
 use Rattle.top_calls.proofs.Progress.{Progress}
 use Rattle.top_calls.proofs.input.read_lines.Given as goal

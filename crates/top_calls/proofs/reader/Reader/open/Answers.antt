@@ -4,4 +4,4 @@ use Rattle.top_calls.proofs.Standing.{Stands-open}
 use Rattle.top_calls.proofs.reader.Reader.open.Goals as goal
 
 pub returns-clause-stands : goal.returns-clause-stands
-returns-clause-stands c = Stands-open c.args.config.now _ c.new.ensures.items refl (ap (λ (v : CoreView). v.history) c.in_ok-feeder.ensures.0) (ap (λ (v : CoreView). v.config) c.in_ok-feeder.ensures.0) c.in_ok-feeder.ensures.1 c.in_ok-feeder.ensures.2
+returns-clause-stands c = Stands-open c.args.config.now _ c.new.ensures.items refl (ap (λ (v : CoreView). v.history) c.in_ok-feeder.ensures.core) (ap (λ (v : CoreView). v.config) c.in_ok-feeder.ensures.core) c.in_ok-feeder.ensures.reading c.in_ok-feeder.ensures.reads

@@ -16,7 +16,7 @@ pub enum TextFault {
     NotPrintable(usize),
 }
 
-/// A text of 0 to 80 bytes, each 32 to 126, as this tool's profile has them. Contracts see it as the list of its bytes.
+/// A text of 0 to 80 bytes, each 32 to 126 (this tool's profile, texts). Contracts see it as the list of its bytes.
 #[derive(Clone, Copy, Debug, PartialEq, Eq)]
 pub struct Text80 {
     // Zeros stand behind the text, so that equal texts have equal fields.

@@ -4,11 +4,11 @@ use Rattle.std.specs.Str.{bytes_eq}
 use Rattle.tool_events.specs.declared.config.Config.{Config}
 use Rattle.std.specs.List.{starts_with}
 
--- a word that can name a file: it isn't empty and doesn't begin with a minus (this tool's profile, the command's words)
+-- a word that can name a file: it isn't empty and doesn't begin with a minus (this tool's profile, the program's words)
 abbrev pub is_file_word : List ℕ → Bool
 is_file_word word = not (bytes_eq word []) && not (starts_with nat_eq word (codes "-"))
 
--- the words of the command `feed CONFIG`, as what each place takes
+-- the words of the command `feed CONFIG`, as what each place takes (this tool's profile, the program's words)
 abbrev pub feed_words : List (List ℕ → Bool)
 feed_words = (λ word. bytes_eq word (codes "feed")) ∷ (is_file_word ∷ [])
 
@@ -28,11 +28,11 @@ misfit words = misfit_from 0 feed_words words
 abbrev pub known_configuration : List ℕ
 known_configuration = codes "communication = \"communicating\"\n"
 
--- the greatest configuration that is read, and one byte more, in bytes
+-- the greatest configuration that is read, and one byte more, in bytes (this tool's profile, limits)
 abbrev pub configuration_bytes : ℕ
 configuration_bytes = 65537
 
--- what the known configuration says: the defaults of all keys that are built
+-- what the known configuration says: the defaults of all keys that are built (this tool's profile, configuration)
 abbrev pub known_config : Config
 known_config = record {
   device = 0;

@@ -20,11 +20,12 @@ text_bytes = 262144
 abbrev pub entry_of : ℕ → Event → Entry
 entry_of at event = record { seat = 0; at = record { 0 = at }; event = event }
 
--- the writer takes each frame that waits
+-- the writer takes each frame that waits, the oldest first (this tool's profile, what an input line does)
 abbrev pub takes : State → List Entry
 takes g = if is_up g then map (λ _. entry_of 0 (event.Take g.link.session)) g.waiting else []
 
--- what one input gives, which has a step: its entry, and then the frames are taken
+-- what one input gives, which has a step: its entry, and then the frames are taken (this tool's profile, what an input
+-- line does)
 abbrev pub given : State → ℕ → Event → List Entry
 given g at event = entry_of at event ∷ takes (after g at event)
 
@@ -33,9 +34,11 @@ pub record Given : Type 0 where
   pub entries : List Entry
   pub state : State
 
+-- no entries, and the same state
 abbrev pub nothing : State → Given
 nothing g = record { entries = []; state = g }
 
+-- the entries of one input, and the state that they lead to
 abbrev pub input : State → ℕ → Event → Given
 input g at event = record { entries = given g at event; state = after_all g (given g at event) }
 
@@ -56,7 +59,7 @@ abbrev pub message : State → ℕ → Arrival → Given
 message g session arrival = input g 0 (event.Host session arrival)
 
 -- The messages of a session, in order, and then the end of the session where a length below 10 follows them.
--- What comes behind the end of the session is dropped.
+-- What comes behind the end of the session is dropped (this tool's profile, cutting a stream).
 abbrev pub messages : State → ℕ → List Arrival → Bool → Given
 messages g session [] short =
     if short && is_session_up g session then input g 0 (event.LinkDown session ShortLength) else nothing g
@@ -69,17 +72,18 @@ pub record Reading : Type 0 where
   pub state : State
   pub stream : List ℕ
 
+-- the reading before the first line: the first state, in which no byte came
 abbrev pub first_reading : Config → Reading
 first_reading c = record { state = opening c; stream = [] }
 
--- what bytes of the session give: what becomes whole of the stream by them
+-- what bytes of the session give: what becomes whole of the stream by them (this tool's profile, cutting a stream)
 abbrev pub bytes_given : Reading → List ℕ → Given
 bytes_given r bytes =
     let arrivals = drop (length (arrivals_of text_bytes r.stream)) (arrivals_of text_bytes (r.stream ++ bytes)) in
     messages r.state r.state.link.session arrivals (is_short (behind_of (r.stream ++ bytes)))
 
 -- what a line gives; without a session bytes are dropped, and a lost link is skipped; a moment at which nothing is due
--- gives nothing
+-- gives nothing (this tool's profile, what an input line does)
 abbrev pub line_given : Reading → Line → Given
 line_given r Skip = nothing r.state
 line_given r Up = input r.state 0 event.LinkUp
@@ -87,7 +91,7 @@ line_given r Down = if is_up r.state then input r.state 0 (event.LinkDown r.stat
 line_given r (Bytes bytes) = if is_up r.state then bytes_given r bytes else nothing r.state
 line_given r (Time at) = if is_some (step r.state at event.Tick) then input r.state at event.Tick else nothing r.state
 
--- the bytes of the session after a line: a new session begins with none
+-- the bytes of the session after a line: a new session begins with none (this tool's profile, cutting a stream)
 abbrev pub stream_after : Reading → Line → List ℕ
 stream_after r Skip = r.stream
 stream_after r Up = if is_up r.state then r.stream else []
@@ -99,7 +103,7 @@ stream_after r (Time at) = r.stream
 abbrev pub reading_after : Reading → Line → Reading
 reading_after r line = record { state = (line_given r line).state; stream = stream_after r line }
 
--- where a text of lines stops, by the number of the line, counted from 1
+-- where a text of lines stops, by the number of the line, counted from 1 (this tool's profile, statuses)
 pub data Stop : Type 0 where
   AllRead : Stop
   OutsideGrammar : ℕ → Stop
@@ -109,11 +113,12 @@ pub record Told : Type 0 where
   pub entries : List Entry
   pub stop : Stop
 
+-- these entries first, and then what is told
 abbrev pub told_behind : List Entry → Told → Told
 told_behind entries told = record told { entries = entries ++ told.entries }
 
 -- What a line tells, by what it says, and what follows it tells in the reading after it. A text stops before a line
--- outside the grammar.
+-- outside the grammar (this tool's profile, input lines).
 abbrev pub line_told : ℕ → Reading → Option Line → (Reading → Told) → Told
 line_told number r None more = record { entries = []; stop = OutsideGrammar number }
 line_told number r (Some line) more = told_behind (line_given r line).entries (more (reading_after r line))

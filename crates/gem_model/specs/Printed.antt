@@ -11,6 +11,7 @@ use Rattle.gem_model.specs.State.{State}
 use Rattle.gem_model.specs.Step.{Outcome}
 use Rattle.gem_model.specs.Run.{entry_step, entry_after}
 
+-- a line with its line feed
 abbrev pub ended_line : List ℕ → List ℕ
 ended_line words = words ++ 10 ∷ []
 
@@ -24,6 +25,7 @@ answer_lines answer.Ended = []
 answer_lines (answer.Oper accepted) = ended_line (if accepted then codes "= ok" else codes "= no")
 answer_lines (answer.Command command) = []
 
+-- the word of a cause
 abbrev pub cause_word : SessionCause → List ℕ
 cause_word cause.ReadFault = codes "ReadFault"
 cause_word cause.WriteFault = codes "WriteFault"

@@ -4,10 +4,11 @@ use Rattle.tool_events.specs.declared.entry.Entry.{Entry}
 use Rattle.gem_model.specs.State.{State}
 use Rattle.gem_model.specs.Step.{Outcome, step, after}
 
--- the step of an entry, and the state after it
+-- the step of an entry
 abbrev pub entry_step : State → Entry → Option Outcome
 entry_step g entry = step g entry.at.0 entry.event
 
+-- the state after an entry
 abbrev pub entry_after : State → Entry → State
 entry_after g entry = after g entry.at.0 entry.event
 

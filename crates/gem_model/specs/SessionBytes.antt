@@ -5,7 +5,8 @@ use Rattle.gem_model.specs.State.{is_session_up}
 use Rattle.gem_model.specs.Lines.{Line, Bytes, line_of, lines_of}
 use Rattle.gem_model.specs.Feed.{Reading, first_reading, reading_after}
 
--- the bytes that a line gives to this session: those of the host, where it is the session that is up
+-- the bytes that a line gives to this session: those of the host, where it is the session that is up (this tool's
+-- profile, sessions)
 abbrev pub line_bytes_in : Reading → Line → ℕ → ℕ
 line_bytes_in r (Bytes bytes) session = if is_session_up r.state session then length bytes else 0
 line_bytes_in r _ session = 0
@@ -15,12 +16,13 @@ abbrev pub line_and_more : Reading → Option Line → ℕ → (Reading → ℕ)
 line_and_more r None session more = 0
 line_and_more r (Some line) session more = line_bytes_in r line session + more (reading_after r line)
 
--- the bytes that lines give to this session; none come from a line outside the grammar on
+-- the bytes that lines give to this session; none come from a line outside the grammar on (this tool's profile,
+-- sessions)
 abbrev pub lines_bytes_in : Reading → List (List ℕ) → ℕ → ℕ
 lines_bytes_in r [] session = 0
 lines_bytes_in r (line ∷ lines) session =
     line_and_more r (line_of line) session (λ next. lines_bytes_in next lines session)
 
--- the bytes that the lines of a text give to this session
+-- the bytes that the lines of a text give to this session (this tool's profile, sessions)
 abbrev pub session_in : Config → List ℕ → ℕ → ℕ
 session_in c text session = lines_bytes_in (first_reading c) (lines_of text) session

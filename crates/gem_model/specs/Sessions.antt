@@ -11,11 +11,11 @@ use Rattle.gem_model.specs.State.{State}
 use Rattle.gem_model.specs.Step.{Outcome}
 use Rattle.gem_model.specs.Run.{entry_step, entry_after, after_all}
 
--- how many sessions came; they are numbered from 1
+-- how many sessions came; they are numbered from 1 (this tool's profile, states of the link)
 abbrev pub session_count : State → List Entry → ℕ
 session_count g entries = (after_all g entries).link.session
 
--- why the entry's step ended the session that was up, if it did
+-- why the entry's step ended the session that was up, if it did (this tool's profile, states of the link)
 abbrev pub ended : State → Entry → Option SessionCause
 ended g entry = option_and_then (λ (o : Outcome). o.ended) (entry_step g entry)
 
@@ -25,12 +25,12 @@ ends_of g [] = []
 ends_of g (entry ∷ entries) = option_to_list (ended g entry) ++ ends_of (entry_after g entry) entries
 
 -- The cause at the entry where this session ended. Sessions are numbered from 1 and end in order; there is none
--- for a session that is up or never came.
+-- for a session that is up or never came (this tool's profile, sessions).
 abbrev pub session_end : State → List Entry → ℕ → Option SessionCause
 session_end g entries session =
     if nat_lt 0 session then slice_get (ends_of g entries) (session - 1) else None
 
--- the frame that the writer of this session took, where an event was answered so
+-- the frame that the writer of this session took, where an event was answered so (this tool's profile, sessions)
 abbrev pub frame_taken : Event → Answer → ℕ → List ℕ
 frame_taken (event.Take session) (answer.Frame frame) k = if session == k then frame else []
 frame_taken _ _ k = []
@@ -39,7 +39,7 @@ frame_taken _ _ k = []
 abbrev pub entry_frame : State → Entry → ℕ → List ℕ
 entry_frame g entry k = unwrap_or (option_map (λ (o : Outcome). frame_taken entry.event o.answer k) (entry_step g entry)) []
 
--- what went out in this session: the frames that its writer took, joined
+-- what went out in this session: the frames that its writer took, joined (this tool's profile, sessions)
 abbrev pub session_out : State → List Entry → ℕ → List ℕ
 session_out g [] k = []
 session_out g (entry ∷ entries) k = entry_frame g entry k ++ session_out (entry_after g entry) entries k

@@ -5,11 +5,12 @@ use Rattle.tool_events.specs.declared.event.Event.{Event}
 use Rattle.tool_events.specs.declared.config.Config.{Config}
 use Rattle.tool_events.specs.Sizes.{event_bytes}
 
--- the bytes of text of the recorded frames
+-- the bytes of text of the recorded frames (this tool's profile, statuses)
 abbrev pub bytes_of : List Entry → ℕ
 bytes_of entries = sum_by (λ (e : Entry). event_bytes e.event) entries
 
 -- the history takes this event no more: it has the greatest number of entries, or its text would be too much
+-- (this tool's profile, statuses)
 abbrev pub is_full : Config → List Entry → Event → Bool
 is_full c history event =
     nat_le c.max_entries (length history) || nat_lt c.max_bytes (bytes_of history + event_bytes event)

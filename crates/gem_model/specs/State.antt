@@ -7,6 +7,7 @@ use Rattle.hsms_link.specs.Links as links
 use Rattle.tool_events.specs.declared.config.Config.{Config}
 use Rattle.gem_ids.specs.Moments.{last_moment}
 
+-- the state of the tool
 pub record State : Type 0 where
   -- what the configuration says; it never changes
   pub config : Config
@@ -19,7 +20,7 @@ pub record State : Type 0 where
   -- the frames that wait for the writer, the oldest first
   pub waiting : List (List ℕ)
 
--- the first state: no session came yet, and the link is down
+-- the first state: no session came yet, and the link is down (this tool's profile, states of the link, and time)
 abbrev pub opening : Config → State
 opening c = record {
   config = c;
@@ -38,10 +39,11 @@ abbrev pub is_session_up : State → ℕ → Bool
 is_session_up g session = is_up g && (g.link.session == session)
 
 -- a step begins by raising the moment to the given one, where that is greater, at most to the last
+-- (this tool's profile, time)
 abbrev pub raised : State → ℕ → State
 raised g at = record g { moment = min (max g.moment at) last_moment }
 
--- the system bytes after these; they wrap
+-- the system bytes after these; they wrap (this tool's profile, data messages)
 abbrev pub system_after : ℕ → ℕ
 system_after system = (system + 1) % 2 ^ 32
 
@@ -49,6 +51,6 @@ system_after system = (system + 1) % 2 ^ 32
 abbrev pub with_frame : State → List ℕ → State
 with_frame g frame = record g { waiting = g.waiting ++ frame ∷ [] }
 
--- the session ends: the link is down, and the frames that wait are gone
+-- the session ends: the link is down, and the frames that wait are gone (this tool's profile, states of the link)
 abbrev pub without_session : State → State
 without_session g = record g { link = record g.link { phase = Down; ping = Off }; waiting = [] }

@@ -22,6 +22,7 @@ use Rattle.tool_events.specs.declared.config.Config.{Config}
 use Rattle.gem_model.specs.State.{State, is_up, is_session_up, raised, with_frame, without_session, system_after}
 use Rattle.gem_model.specs.Messages.{Verdict, Silent, Stream9, Reply, verdict, header_of, is_too_long, data_frame, stream9_frame}
 
+-- what an event does: its answer, whether it ended the session, and the state after it
 pub record Outcome : Type 0 where
   pub answer : Answer
   -- why the session that was up ended in this step, if it did
@@ -36,7 +37,8 @@ answered answer g = record { answer = answer; ended = None; after = g }
 abbrev pub ends : Answer → SessionCause → State → Outcome
 ends answer cause g = record { answer = answer; ended = Some cause; after = without_session g }
 
--- what a data message is answered waits for the writer; a message of stream 9 draws system bytes
+-- what a data message is answered waits for the writer; a message of stream 9 draws system bytes (this tool's profile,
+-- data messages)
 abbrev pub data_done : State → Header → Verdict → State
 data_done g h Silent = g
 data_done g h (Stream9 function) =
@@ -59,15 +61,16 @@ abbrev pub taken : State → List (List ℕ) → Option Outcome
 taken g [] = None
 taken g (frame ∷ frames) = Some (answered (answer.Frame frame) (record g { waiting = frames }))
 
--- the times of the link; the tool asks no linktest yet
+-- the times of the link; the tool asks no linktest yet (this tool's profile, time)
 abbrev pub link_times : Config → LinkTimes
 link_times c = record { t6 = 500; t7 = c.t7; period = 0 }
 
--- the heartbeat comes so many hundredths after the last moment
+-- the heartbeat comes so many hundredths after the last moment (this tool's profile, time)
 abbrev pub heartbeat : ℕ
 heartbeat = 100
 
--- a look at the clock, by what is due on the link: T7 or T6 ends the session; else it counts where the heartbeat has come
+-- a look at the clock, by what is due on the link: T7 or T6 ends the session; else it counts where the heartbeat has
+-- come (this tool's profile, time)
 abbrev pub ticked : ℕ → State → Option LinkDue → Option Outcome
 ticked before g (Some due.T7) = Some (ends answer.Done cause.T7 g)
 ticked before g (Some due.T6) = Some (ends answer.Done cause.T6 g)
@@ -75,8 +78,9 @@ ticked before g (Some due.AskLinktest) = None
 ticked before g None = if has_come (before + heartbeat) g.moment then Some (answered answer.Done g) else None
 
 -- The step of an event in a state whose moment is raised from the one before. There is none where the event has to
--- wait: a Take that finds no frame, a Tick that finds nothing due, a Listen; and a Fetch and a Watch, since the tool has
--- no modules and no ports yet. Until they are built, signals change nothing and no operator command is accepted.
+-- wait: a Take that finds no frame, a Tick that finds nothing due, a Listen; and a Fetch and a Watch, since the tool
+-- has no modules and no ports yet. Until they are built, signals change nothing and no operator command is accepted.
+-- (This tool's profile, states of the link, what a header does, and time.)
 abbrev pub step_from : ℕ → State → Event → Option Outcome
 step_from before g event.LinkUp =
     if is_up g then Some (answered answer.Ended g)

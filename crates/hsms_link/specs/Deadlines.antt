@@ -1,4 +1,4 @@
--- The deadlines of a link (SEMI E37, T6 and T7, and this tool's linktest period).
+-- The deadlines of a link (SEMI E37, T6 and T7; this tool's linktest period; this tool's profile, time).
 use Rattle.std.specs.Prelude.{ℕ, ◌+◌, Bool, ◌&&◌, ◌==◌, nat_le, if◌then◌else◌, Option, Some, None, option_and_then}
 use Rattle.gem_ids.specs.Moments.{last_moment}
 use Rattle.hsms_link.specs.declared.state.LinkState.{LinkState}

@@ -1,4 +1,4 @@
--- What a header does on a link (SEMI E37, message exchange procedures, as this tool's profile has them).
+-- What a header does on a link (SEMI E37, message exchange procedures; this tool's profile, what a header does).
 use Rattle.std.specs.Prelude.{ℕ, Bool, true, not, ◌&&◌, ◌==◌, if◌then◌else◌, List, [], ◌∷◌}
 use Rattle.hsms_frame.specs.declared.frame.Header.{Header}
 use Rattle.hsms_link.specs.declared.state.LinkState.{LinkState}

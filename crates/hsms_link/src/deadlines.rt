@@ -1,3 +1,5 @@
+//! The deadlines of a link: T7, T6 and the linktest period (SEMI E37).
+
 ghost use Rattle.std.specs.Prelude.{◌≡◌, ◌+◌};
 ghost use Rattle.hsms_link.specs.Deadlines.{has_come, due_at};
 
@@ -21,7 +23,8 @@ pub enum LinkDue {
     AskLinktest,
 }
 
-// This time after `since` has come. A sum past the last moment never comes.
+/// Whether this time after `since`, in hundredths of a second, has come at the moment `at`. A sum past the last moment
+/// never comes.
 pub fn has_come(since: Moment, time: u32, at: Moment) -> bool
     ensures { result ≡ has_come (since.0 + time) at.0 }
 {

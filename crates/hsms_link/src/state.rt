@@ -1,3 +1,5 @@
+//! The state of a link, and how it comes up and goes down (SEMI E37, connection states).
+
 ghost use Rattle.std.specs.Prelude.{◌≡◌, true, false};
 ghost use Rattle.hsms_link.specs.Links.{is_selected, is_open};
 ghost use Rattle.hsms_link.specs.declared.state.Phase.TheVariants as phase;

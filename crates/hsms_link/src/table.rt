@@ -1,3 +1,5 @@
+//! What a header does on a link (SEMI E37, message exchange procedures).
+
 ghost use Rattle.std.specs.Prelude.{◌≡◌, true};
 ghost use Rattle.hsms_link.specs.Links.{is_up, is_asked};
 ghost use Rattle.hsms_link.specs.LinkTable.{response, reject, link_act, link_after};

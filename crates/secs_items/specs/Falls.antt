@@ -8,6 +8,7 @@ use Rattle.secs_items.specs.declared.item.Items.TheDeep.{deep-Item}
 use Rattle.secs_items.specs.Height.{height, highest}
 use Rattle.secs_items.specs.View.{view, items_of}
 
+-- an item is no deeper than it is high
 deep-height : (x : Item) → deep-Item x ≤ height (view x)
 deep-height (kind.List ds) = omega arith
 deep-height (kind.Binary bs) = omega arith
@@ -22,6 +23,7 @@ deep-height (kind.U2 ns) = omega arith
 deep-height (kind.U4 ns) = omega arith
 deep-height (kind.U8 ns) = omega arith
 
+-- the deepest of some items is no deeper than the highest of them
 pub most-highest : (xs : List Item) → max (most deep-Item xs) 0 ≤ highest (items_of xs)
 most-highest [] = omega arith
 most-highest (x ∷ xs) = omega (arith, deep-height x, most-highest xs)

@@ -20,7 +20,7 @@ Begins (suc depth) front =
 abbrev pub BeginsAt : List ℕ → ℕ → ℕ → Type 0
 BeginsAt input place depth = Begins depth (take place input) × (place < length input)
 
--- The fault stands in the input (SEMI E5, item header and item formats, and this tool's profile).
+-- The fault stands in the input (SEMI E5, item header and item formats, and this tool's profile, how it is read).
 abbrev pub Stands : List ℕ → ItemFault → Type 0
 -- the input ends before the item does
 Stands input (fault.Truncated place) = Open input × (place ≡ length input)
@@ -50,7 +50,7 @@ place_of (fault.BadAscii place) = place
 place_of (fault.TooDeep place) = place
 place_of fault.NoMemory = 0
 
--- the rank of a fault among those at one place (this tool's profile, item faults)
+-- the rank of a fault among those at one place (this tool's profile, items, how it is read)
 abbrev pub rank_of : ItemFault → ℕ
 rank_of (fault.Truncated place) = 0
 rank_of (fault.BadLengthBytes place) = 1
@@ -64,6 +64,6 @@ rank_of fault.NoMemory = 6
 abbrev pub Precedes : ItemFault → ItemFault → Type 0
 Precedes f g = (place_of f < place_of g) ⊎ ((place_of f ≡ place_of g) × (rank_of f < rank_of g))
 
--- the fault of the least place (this tool's profile, item faults)
+-- the fault of the least place (this tool's profile, items, how it is read)
 abbrev pub IsFirst : List ℕ → ItemFault → Type 0
 IsFirst input f = Stands input f × ((g : ItemFault) → Stands input g → Precedes g f → ⊥)

@@ -30,10 +30,11 @@ plain_head code n =
     else (if nat_lt n (2 ^ 16) then (4 * code + 2) ∷ to_be_bytes w16 n
     else (4 * code + 3) ∷ drop 1 (to_be_bytes w32 n))
 
--- unsigned and signed numbers, the most significant byte first, and signed ones in two's complement
+-- unsigned numbers, the most significant byte first (SEMI E5, item formats)
 abbrev pub unsigned_bytes : Width → List ℕ → List ℕ
 unsigned_bytes w ns = flat_map (to_be_bytes w) ns
 
+-- signed numbers in two's complement, the most significant byte first (SEMI E5, item formats)
 abbrev pub signed_bytes : Width → List ℤ → List ℕ
 signed_bytes w zs = flat_map (λ z. to_be_bytes w (cast_unsigned w z)) zs
 
@@ -42,6 +43,7 @@ abbrev pub truth_bytes : List Bool → List ℕ
 truth_bytes bs = map (λ b. if b then 1 else 0) bs
 
 abbrev mutual
+  -- the header and the body of an item (SEMI E5, item formats)
   pub plain : Data → List ℕ
   plain (list ds) = plain_head 0 (count_of ds) ++ plain_all ds
   plain (binary bs) = plain_head 8 (length bs) ++ bs

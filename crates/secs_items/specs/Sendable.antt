@@ -30,7 +30,7 @@ abbrev mutual
   HaveShortBodies no_items = Unit {0}
   HaveShortBodies (item d ds) = HasShortBodies d × HaveShortBodies ds
 
--- at most 16 lists stand inside one another (this tool's profile), and each body has a spelling
+-- at most 16 lists stand inside one another (this tool's profile, items), and each body has a spelling
 pub record IsSendable (d : Data) : Type 0 where
   pub depth : height d ≤ 16
   pub bodies : HasShortBodies d

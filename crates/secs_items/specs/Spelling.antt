@@ -39,7 +39,7 @@ AreSigned w zs body = AllByRecursion (FitsSigned w) zs × (body ≡ signed_bytes
 
 abbrev mutual
   -- The bytes spell the item inside so many lists (SEMI E5, item formats). A list announces how many items it has,
-  -- and stands inside fewer than 16 lists (this tool's profile); any other item announces the bytes of its body.
+  -- and stands inside fewer than 16 lists (this tool's profile, items); any other item announces the bytes of its body.
   pub Spells : Data → ℕ → List ℕ → Type 0
   Spells (list ds) depth bytes =
       (depth < 16) × (head : List ℕ) × (body : List ℕ) × IsHead format.List (count_of ds) head × SpellAll ds (suc depth) body × (bytes ≡ head ++ body)

@@ -86,6 +86,7 @@ last_made [] = no_items
 last_made (ds ∷ made) = ds
 
 mutual
+  -- the steps of an item put it before what is made so far, as a list of one
   run-steps : (d : Data) (ss : List Step) (made : List DataList) → run (steps d ++ ss) made ≡ run ss (item d no_items ∷ made)
   run-steps (list ds) ss made = rw append_assoc (run-steps_of ds (unsigned 2 [] ++ ss) made)
   run-steps (boolean bs) ss made = refl
@@ -100,6 +101,7 @@ mutual
   run-steps (i4 zs) ss made = refl
   run-steps (i8 zs) ss made = refl
 
+  -- the steps of a list put it before what is made so far
   run-steps_of : (ds : DataList) (ss : List Step) (made : List DataList) → run (steps_of ds ++ ss) made ≡ run ss (ds ∷ made)
   run-steps_of no_items ss made = refl
   run-steps_of (item d ds) ss made =
@@ -109,6 +111,7 @@ mutual
 abbrev pub built : List Step → DataList
 built ss = last_made (run ss [])
 
+-- the steps that build a list build it
 pub built-steps_of : (ds : DataList) → built (steps_of ds) ≡ ds
 built-steps_of ds = ap last_made (rw append-nil at (run-steps_of ds [] []))
 

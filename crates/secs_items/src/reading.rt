@@ -23,10 +23,10 @@ const MOST_LISTS: usize = 16;
 /// Reads the item at the front of the bytes, whatever follows it, and tells how many bytes it takes (SEMI E5, item
 /// formats). A length may have 1, 2 or 3 bytes, and any byte but 0 is true. What is read can be sent again.
 ///
-/// Where no item stands there, the fault of the least place is told, and of those at one place the one that stands first
-/// in `ItemFault`: `Truncated` where the bytes are a proper front of an item, and each other fault where its variant
-/// says. `NoMemory` comes only where memory runs out. Lists stand inside one another at most 16 deep, and no memory is
-/// taken for what is announced and not there.
+/// Where no item stands there, the fault of the least place is told, and of those at one place the one that stands
+/// first in `ItemFault`: `Truncated` where the bytes are a proper front of an item, and each other fault where its
+/// variant says. Besides, `NoMemory` may come at any call. Lists stand inside one another at most 16 deep. That no
+/// memory is taken for what is announced and not there is measured (`bench/items.sh`) and not proved.
 pub fn decode(alloc: Global, bytes: &[u8]) -> Result<(Item, usize), ItemFault>
     ensures within { IfOk result (λ r. r.1 ≤ length bytes.now) }
     // What is read is spelled so.

@@ -13,7 +13,8 @@ use crate::item::{Item, NoMemory};
 /// true as 1. `NoMemory` comes where `out` can't grow; it then holds what it held before.
 ///
 /// What is asked of the item: at most 16 lists stand inside one another, the characters of ASCII items are at most 127,
-/// each body is under 16,777,216 bytes, and each list has under 16,777,216 items.
+/// the body of each item that is no list is shorter than 16,777,216 bytes, and each list has fewer than 16,777,216
+/// items.
 pub fn encode(item: &Item, out: &mut Vec<u8>) -> Result<(), NoMemory>
     requires { IsSendable (view item.now) }
     ensures ok { OnOk result (out.new.items ≡ out.old.items ++ plain (view item.now)) }

@@ -4,6 +4,7 @@ use Rattle.tool_core.specs.declared.data.DataAct.{DataAct}
 use Rattle.tool_core.specs.declared.data.DataAct.TheVariants as act
 use Rattle.gem_model.specs.Messages.{Verdict, Silent, Stream9, Reply, on_line_data}
 
+-- the verdict of the tables that a verdict of the code stands for
 abbrev pub verdict_of : Config → DataAct → Verdict
 verdict_of c act.Silent = Silent
 verdict_of c (act.Stream9 function) = Stream9 function

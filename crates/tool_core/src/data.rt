@@ -34,8 +34,8 @@ pub fn is_too_long(arrival: &Arrival) -> bool
     matches!(arrival, Arrival::TooLong(_, _))
 }
 
-/// What a data message is answered, by the first rule that fits (SEMI E5, stream 9, and
-/// this tool's profile, messages).
+/// What a data message is answered, by the first rule that fits (SEMI E5, stream 9, and this tool's profile, data
+/// messages).
 pub fn data_act(config: &Config, header: &Header, too_long: bool) -> DataAct
     ensures { verdict_of config.now result ≡ verdict config.now header.now too_long }
 {

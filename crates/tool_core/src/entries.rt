@@ -1,3 +1,5 @@
+//! The history as it is handed out.
+
 ghost use Rattle.std.specs.Prelude.{◌≡◌};
 
 use std::marker::Model;

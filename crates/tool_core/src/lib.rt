@@ -3,7 +3,8 @@
 //! The same events give the same history: the core reads no clock, no file and no link. Moments are handed in, and
 //! frames are handed out when the writer takes them. Begin with `Core::open`, then `Core::apply`.
 //!
-//! Built are the whole link table and T7 (SEMI E37), and of the data messages S1F1 and the errors of stream 9 (SEMI E5).
+//! Built are the whole link table and T7 (SEMI E37), and of the data messages S1F1 and the errors S9F1, S9F3, S9F5 and
+//! S9F11 (SEMI E5).
 #![tactic(auto)]
 
 mod counts;

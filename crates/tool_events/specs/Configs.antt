@@ -3,6 +3,7 @@ use Rattle.std.specs.Prelude.{ℕ, ◌≤◌, length}
 use Rattle.gem_ids.specs.Moments.{last_moment}
 use Rattle.tool_events.specs.declared.config.Config.{Config}
 
+-- the configuration keeps its bounds (this tool's profile, other configurations)
 pub record IsConfig (c : Config) : Type 0 where
   pub device : c.device ≤ 32767
   pub mdln_some : 1 ≤ length c.mdln

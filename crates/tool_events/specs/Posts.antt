@@ -12,19 +12,22 @@ pub record Post : Type 0 where
   pub event : Event
   pub answer : Answer
 
+-- the post was answered Full
 abbrev pub is_full : Result Answer PostFault → Bool
 is_full (Ok answer) = false
 is_full (Err fault.Again) = false
 is_full (Err (fault.Full entries)) = true
 is_full (Err fault.NoMemory) = false
 
+-- the post was answered NoMemory
 abbrev pub is_want : Result Answer PostFault → Bool
 is_want (Ok answer) = false
 is_want (Err fault.Again) = false
 is_want (Err (fault.Full entries)) = false
 is_want (Err fault.NoMemory) = true
 
--- a count rises by one where the test holds, and stands still at its type's end; else it stays
+-- a count rises by one where the test holds, and stands still at the greatest number of 64 bits; else it stays (this
+-- tool's profile, limits)
 abbrev pub Rises : Bool → ℕ → ℕ → Type 0
 Rises b before after = after ≡ (if b then min (before + 1) (2 ^ 64 - 1) else before)
 

@@ -5,7 +5,7 @@ use Rattle.hsms_frame.specs.declared.frame.Arrival.TheVariants as arrival
 use Rattle.tool_events.specs.declared.event.Event.{Event}
 use Rattle.tool_events.specs.declared.event.Event.TheVariants as event
 
--- the text of a frame; one that is too long counts 0 (this tool's profile, limits)
+-- the text of a frame; one that is too long counts 0 (this tool's profile, statuses)
 abbrev pub arrival_bytes : Arrival → ℕ
 arrival_bytes (arrival.Frame f) = length f.text
 arrival_bytes (arrival.TooLong header field) = 0

@@ -28,7 +28,7 @@ pub enum Answer {
     Frame(Bytes),
     /// The command that was fetched.
     Command(Command),
-    /// The session is not up, or another one is up already.
+    /// The session is not up after the event, or another one is up already.
     Ended,
     /// Whether the operator's command was accepted.
     Oper(bool),
@@ -39,7 +39,7 @@ pub enum Answer {
 pub enum PostFault {
     /// The event has to wait: what it wants is not there yet. Nothing has changed.
     Again,
-    /// The history has so many entries, and takes no more, or not so much text. Nothing has changed.
+    /// The history has this many entries. It takes no more, or not so much text. Nothing has changed.
     Full(u64),
     /// There was no memory. The history is as before.
     NoMemory,

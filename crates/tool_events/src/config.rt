@@ -15,6 +15,7 @@ pub struct Config {
     pub max_entries: u64,
     /// The greatest number of bytes of text in the history, at most 536,870,912.
     pub max_bytes: u64,
-    /// The first moment.
+    /// The first moment, in hundredths of a second since the beginning of the year 2000, at most 25,245,561,599,999,
+    /// the last of the year 9999.
     pub start_moment: Moment,
 }

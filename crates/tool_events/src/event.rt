@@ -58,16 +58,23 @@ pub enum JobWord {
 /// What an operator wants.
 #[derive(Clone, Copy, Debug, PartialEq, Eq)]
 pub enum OperCmd {
+    /// Communication is enabled (SEMI E30, communication states).
     Enable,
+    /// Communication is disabled.
     Disable,
+    /// The equipment goes on-line (SEMI E30, control states).
     Online,
+    /// The equipment goes off-line.
     Offline,
+    /// On-line, the operator has control.
     Local,
+    /// On-line, the host has control.
     Remote,
     /// A port goes in service, or out of it.
     Service(PortNo, bool),
     /// The access of a port is automatic, or manual.
     Access(PortNo, bool),
+    /// What a process job is told.
     Job(JobId, JobWord),
     /// A command, 1 to 8, to a control job.
     CtlJob(JobId, u8),
@@ -77,6 +84,7 @@ pub enum OperCmd {
     Clear(u32),
     /// A substrate is lost.
     Lost(SubstrateId),
+    /// The run ends.
     Quit,
 }
 
@@ -91,13 +99,15 @@ pub enum Event {
     Host { session: u64, arrival: Arrival },
     /// The writer of this session wants the next frame that waits.
     Take { session: u64 },
+    /// An operator wants something.
     Oper(OperCmd),
+    /// The equipment tells something.
     Signal(Signal),
     /// This module wants its command.
     Fetch(ModuleId),
     /// The clock is looked at.
     Tick,
-    /// The door has no link.
+    /// No link came where one was awaited.
     Listen,
     /// A script waits until this port is ready to unload.
     Watch(PortNo),

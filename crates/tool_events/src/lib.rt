@@ -1,6 +1,6 @@
 //! What happens to the tool, what it answers, and how both are recorded.
 //!
-//! These are the types that the core, the actors and the lines share; nothing here decides anything. Begin with `Event`,
+//! These are the types that the core and the lines share; nothing here decides anything. Begin with `Event`,
 //! and with `Answer`, what it is answered. A `Desk` takes events one at a time. `Config` is what a configuration says.
 #![tactic(auto)]
 

@@ -10,6 +10,7 @@ use Rattle.top_calls.specs.declared.input.InputEnd.{InputEnd}
 use Rattle.top_calls.specs.declared.input.InputEnd.TheVariants as input
 use Rattle.top_calls.specs.Fed.{SourceView, IsRefused}
 
+-- why a run ended, by how the reading of its input ended (this tool's profile, statuses)
 abbrev pub cause_after : InputEnd → ℕ → List Entry → ℕ → Cause
 cause_after input.Whole count history number = cause.Done
 cause_after input.Fault count history number = cause.ReadFault

@@ -18,6 +18,7 @@ pub record SinkView : Type 0 where
   pub faults : ℕ
   pub refusals : ℕ
 
+-- what a sink tells, by the functions of its type that tell it
 abbrev pub seen : {K : Type 0} → (K → Option (List ℕ)) → (K → ℕ) → (K → ℕ) → K → SinkView
 seen held faults refusals out = record { held = held out; faults = faults out; refusals = refusals out }
 

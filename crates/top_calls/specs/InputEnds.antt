@@ -11,6 +11,8 @@ use Rattle.top_calls.specs.Fed.{SourceView}
 use Rattle.top_calls.specs.Limits.{input_bytes}
 use Rattle.top_calls.specs.Standing.{AllTaken, StopsAt}
 
+-- What a text was that was read, by how its reading ended: all of it was taken; its whole lines were; or the reader
+-- stopped in it.
 abbrev pub InputEnds : InputEnd → List ℕ → Reader → SourceView → SourceView → Type 0
 InputEnds input.Whole text reader source source' = AllTaken text reader × Whole source.left text × Rose source.ends source'.ends
 InputEnds input.Fault text reader source source' = AllTaken (whole_lines text) reader × Rose source.faults source'.faults

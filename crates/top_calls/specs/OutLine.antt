@@ -7,6 +7,7 @@ use Rattle.gem_model.specs.Printed.{ended_line, end_lines}
 use Rattle.top_calls.specs.declared.print.OutLine.{OutLine}
 use Rattle.top_calls.specs.declared.print.OutLine.TheVariants.{Up, Ended, Frame, Oper}
 
+-- a line with its line feed (this tool's profile, output lines)
 abbrev pub out_line_bytes : OutLine → List ℕ
 out_line_bytes (Up k) = ended_line (codes "+ " ++ decimal k)
 out_line_bytes (Ended k cause) = end_lines k (Some cause)

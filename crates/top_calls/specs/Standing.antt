@@ -61,6 +61,7 @@ abbrev pub StandsOrStopped : List ℕ → Reader → Result (Unit {0}) Halt → 
 StandsOrStopped text reader (Ok done) = Stands text reader
 StandsOrStopped text reader (Err why) = (more : List ℕ) → StopsAt (text ++ more) reader why
 
+-- bytes are taken behind this text: where the reader stands then, and what is out
 pub record Takes (text bytes : List ℕ) (old new : Reader) (out out' : SinkView) (result : Result (Unit {0}) Halt) : Type 0 where
   pub stands : StandsOrStopped (text ++ bytes) new result
   pub prints : Prints old.feeder.core new.feeder.core out out' result
@@ -75,6 +76,7 @@ abbrev pub AllOrStopped : List ℕ → Reader → Result (Unit {0}) Halt → Typ
 AllOrStopped text reader (Ok done) = AllTaken text reader
 AllOrStopped text reader (Err why) = StopsAt text reader why
 
+-- the text ends: what the reader took of it, and what is out
 pub record Finishes (text : List ℕ) (old new : Reader) (out out' : SinkView) (result : Result (Unit {0}) Halt) : Type 0 where
   pub ends : AllOrStopped text new result
   pub prints : Prints old.feeder.core new.feeder.core out out' result

@@ -3,6 +3,7 @@ use Rattle.std.specs.Prelude.{ℕ}
 use Rattle.top_calls.specs.declared.ended.Cause.{Cause}
 use Rattle.top_calls.specs.declared.ended.Cause.TheVariants as cause
 
+-- the status of a cause
 abbrev pub status_of : Cause → ℕ
 status_of cause.Done = 0
 status_of (cause.Words place) = 1

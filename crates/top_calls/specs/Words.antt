@@ -9,5 +9,6 @@ use Rattle.top_calls.specs.declared.words.WordsFault.TheVariants.{Place}
 abbrev pub file_of : Words → List ℕ
 file_of (Feed file) = file
 
+-- the place of the first word that does not fit
 abbrev pub place_of : WordsFault → ℕ
 place_of (Place place) = place

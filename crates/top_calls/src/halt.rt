@@ -7,7 +7,7 @@ pub enum Halt {
     Write,
     /// There was no memory.
     NoMemory,
-    /// A line is outside the grammar, from this byte on.
+    /// A line is outside the grammar, from this byte on. Until the whole grammar is read the place is 0.
     Line(u64),
     /// The next entry would not fit the history's limits.
     Full,

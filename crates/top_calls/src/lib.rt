@@ -7,8 +7,8 @@
 
 mod ended;
 mod engine;
-mod feeding;
 mod feeder;
+mod feeding;
 mod halt;
 mod input;
 mod lines;

@@ -120,8 +120,8 @@ pub fn a_link_is_selected_in_time_or_ends()
     ensures at { answer_to (codes "L+\nT 999\nT 1000\n") ≡ codes "+ 1\n- 1 T7\n" }
 {}
 
-/// A message to another device, an unknown stream and an unknown function are each told by a message of stream 9, which
-/// has the ten header bytes and system bytes of the tool's own.
+/// A message to another device, an unknown stream and an unknown function are each answered with a message of stream 9,
+/// which has the ten header bytes and system bytes of the tool's own.
 pub fn a_message_that_is_not_known_is_told()
     ensures device { answer_to (codes "L+\nH 0000000AFFFF0000000100000001\nH 0000000A0001810100000000000B\n")
         ≡ codes "+ 1\n> 0000000AFFFF0000000200000001\n> 0000001600000901000000000001210A0001810100000000000B\n" }
@@ -131,8 +131,8 @@ pub fn a_message_that_is_not_known_is_told()
         ≡ codes "+ 1\n> 0000000AFFFF0000000200000001\n> 0000001600000905000000000001210A0000810300000000000A\n" }
 {}
 
-/// A text that is too long, here by one byte, is told by S9F11, which has the ten header bytes and system bytes of the
-/// tool's own. The next message is answered as ever.
+/// A text that is too long, here by one byte, is answered with S9F11, which has the ten header bytes and system bytes of
+/// the tool's own. The next message is answered as ever.
 pub fn a_text_that_is_too_long_is_told()
     ensures { answer_to_events (LinkUp ∷ message_of (select_request 1) [] ∷ take_one
         ∷ too_long_of (request 1 3 10) 262155 ∷ take_one

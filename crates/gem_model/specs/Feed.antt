@@ -1,4 +1,4 @@
--- The history that a text of lines makes.
+-- The history that a text of lines makes (this tool's profile, what an input line does).
 use Rattle.std.specs.Prelude.{ℕ, ◌+◌, Bool, ◌&&◌, is_some, if◌then◌else◌, List, [], ◌∷◌, ◌++◌, length, drop, map, Option, Some, None}
 use Rattle.hsms_frame.specs.declared.frame.Arrival.{Arrival}
 use Rattle.hsms_frame.specs.Cut.{arrivals_of, behind_of, is_short}

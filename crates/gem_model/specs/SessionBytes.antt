@@ -1,4 +1,4 @@
--- How many bytes a text of lines gives to each session.
+-- How many bytes a text of lines gives to each session (this tool's profile, sessions).
 use Rattle.std.specs.Prelude.{ℕ, ◌+◌, if◌then◌else◌, List, [], ◌∷◌, length, Option, Some, None}
 use Rattle.tool_events.specs.declared.config.Config.{Config}
 use Rattle.gem_model.specs.State.{is_session_up}

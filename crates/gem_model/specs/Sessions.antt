@@ -1,4 +1,4 @@
--- The sessions of a history: how many came, how each ended, and what went out in it.
+-- The sessions of a history: how many came, how each ended, and what went out in it (this tool's profile, sessions).
 use Rattle.std.specs.Prelude.{ℕ, ◌-◌, nat_lt, ◌==◌, if◌then◌else◌, List, [], ◌∷◌, ◌++◌, Option, None, option_and_then, option_map, unwrap_or, slice_get}
 use Rattle.std.specs.Option.{option_to_list}
 use Rattle.tool_events.specs.declared.entry.Entry.{Entry}

@@ -78,7 +78,7 @@ impl Items {
         }
     }
 
-    /// Adds an item at the end. `NoMemory` comes where the list can't grow; it then has the items that it had.
+    /// Adds an item at the end. After `NoMemory` the list has the items that it had.
     pub fn push(&mut self, item: Item) -> Result<(), NoMemory>
         ensures ok { OnOk result (self.new ≡ added self.old (view item)) }
         ensures no_memory { OnErr result (self.new ≡ self.old) }

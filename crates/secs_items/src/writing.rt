@@ -10,7 +10,7 @@ use crate::format::Format;
 use crate::item::{Item, NoMemory};
 
 /// Appends the one spelling of the item that the tool sends (SEMI E5, item formats): with the fewest length bytes, and
-/// true as 1. `NoMemory` comes where `out` can't grow; it then holds what it held before.
+/// true as 1. After `NoMemory` `out` holds what it held before.
 ///
 /// What is asked of the item: at most 16 lists stand inside one another, the characters of ASCII items are at most 127,
 /// the body of each item that is no list is shorter than 16,777,216 bytes, and each list has fewer than 16,777,216

@@ -1,5 +1,5 @@
-ghost use Rattle.std.specs.Prelude.{◌≡◌, true};
-ghost use Rattle.hsms_link.specs.Links.{is_up};
+ghost use Rattle.std.specs.Prelude.{◌≡◌, true, false};
+ghost use Rattle.hsms_link.specs.Links.{is_up, is_selected, is_open};
 
 use super::*;
 use gem_ids::Moment;
@@ -99,29 +99,64 @@ fn data_and_separate_belong_to_a_selected_link(rt: HostRuntime) {
     assert_eq!(rt; link.session, 1);
 }
 
+// A selected link, on which no linktest is open since moment 0.
+fn quiet_link() -> LinkState
+    ensures selected { is_selected result.phase ≡ true }
+    ensures none_open { is_open result.ping ≡ false }
+{
+    LinkState {
+        session: 1,
+        phase: Phase::Selected,
+        ping: Ping::Quiet { since: Moment(0) },
+    }
+}
+
+// A selected link, on which linktest 1 is open since moment 200.
+fn asked_link() -> LinkState
+    ensures { is_up result.phase ≡ true }
+{
+    let mut link = quiet_link();
+    link.asked(1, Moment(200));
+    link
+}
+
 #[test]
-fn t7_ends_a_link_that_is_not_selected(rt: HostRuntime) {
+fn t7_is_due_where_a_link_is_not_selected_in_time(rt: HostRuntime) {
     let link = new_link();
     assert_eq!(rt; link.due(TIMES, Moment(999)), None);
     assert_eq!(rt; link.due(TIMES, Moment(1000)), Some(LinkDue::T7));
 }
 
 #[test]
-fn linktests_are_asked_and_answered_or_t6_ends_the_link(rt: HostRuntime) {
-    let mut link = LinkState {
-        session: 1,
-        phase: Phase::Selected,
-        ping: Ping::Quiet { since: Moment(0) },
-    };
+fn a_linktest_is_due_when_the_period_is_over(rt: HostRuntime) {
+    let link = quiet_link();
     assert_eq!(rt; link.due(TIMES, Moment(199)), None);
     assert_eq!(rt; link.due(TIMES, Moment(200)), Some(LinkDue::AskLinktest));
-    link.asked(1, Moment(200));
+}
+
+#[test]
+fn t6_is_due_where_a_linktest_is_not_answered_in_time(rt: HostRuntime) {
+    let link = asked_link();
     assert_eq!(rt; link.due(TIMES, Moment(699)), None);
     assert_eq!(rt; link.due(TIMES, Moment(700)), Some(LinkDue::T6));
+}
+
+#[test]
+fn a_response_closes_the_linktest_and_begins_the_period(rt: HostRuntime) {
+    let mut link = asked_link();
     let answer = link.take(&header(0xFFFF, (0, 0), (0, 6), 1), Moment(650));
     assert_eq!(rt; answer, LinkAct::Nothing);
+    assert_eq!(rt; link.ping, Ping::Quiet { since: Moment(650) });
     assert_eq!(rt; link.due(TIMES, Moment(849)), None);
     assert_eq!(rt; link.due(TIMES, Moment(850)), Some(LinkDue::AskLinktest));
-    let asked = link.take(&header(0xFFFF, (0, 0), (0, 5), 9), Moment(650));
-    assert_eq!(rt; asked, LinkAct::Reply(header(0xFFFF, (0, 0), (0, 6), 9)));
+}
+
+#[test]
+fn a_linktest_of_the_host_is_answered_and_begins_no_period(rt: HostRuntime) {
+    let mut link = asked_link();
+    link.take(&header(0xFFFF, (0, 0), (0, 6), 1), Moment(650));
+    let answer = link.take(&header(0xFFFF, (0, 0), (0, 5), 9), Moment(700));
+    assert_eq!(rt; answer, LinkAct::Reply(header(0xFFFF, (0, 0), (0, 6), 9)));
+    assert_eq!(rt; link.due(TIMES, Moment(849)), None);
+    assert_eq!(rt; link.due(TIMES, Moment(850)), Some(LinkDue::AskLinktest));
 }

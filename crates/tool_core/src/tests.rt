@@ -161,17 +161,90 @@ fn s1f1_before_select_is_rejected_with_reason_four(rt: HostRuntime) -> Result<()
 #[test]
 fn a_message_of_another_device_is_told_by_s9f1(rt: HostRuntime) -> Result<(), Fail> {
     let alloc = rt.alloc();
-    let mut core = linked(alloc, &config(10, 0)?)?;
-    arrives(alloc, &mut core, header(0xFFFF, (0, 0), (0, 1), 1))?;
-    // The select response: status 0, SType 2, system bytes 1.
-    let selected = [0, 0, 0, 10, 0xFF, 0xFF, 0, 0, 0, 2, 0, 0, 0, 1];
-    sends(&rt, alloc, &mut core, selected.as_slice())?;
+    let mut core = selected(&rt, alloc)?;
     arrives(alloc, &mut core, header(1, (0x81, 1), (0, 0), 11))?;
     // Length 22, device 0, S9F1, system bytes 1; a binary item of the ten bytes of the message's header.
     let told = [
         0, 0, 0, 22, 0, 0, 9, 1, 0, 0, 0, 0, 0, 1, 0x21, 10, 0, 1, 0x81, 1, 0, 0, 0, 0, 0, 11,
     ];
     sends(&rt, alloc, &mut core, told.as_slice())
+}
+
+// A core in which a link came up at moment 0 and is selected, and no frame waits.
+fn selected(rt: &impl Abort, alloc: Global) -> Result<Core, Fail> {
+    let mut core = linked(alloc, &config(10, 0)?)?;
+    arrives(alloc, &mut core, header(0xFFFF, (0, 0), (0, 1), 1))?;
+    // The select response: status 0, SType 2, system bytes 1.
+    let response = [0, 0, 0, 10, 0xFF, 0xFF, 0, 0, 0, 2, 0, 0, 0, 1];
+    sends(rt, alloc, &mut core, response.as_slice())?;
+    Ok(core)
+}
+
+#[test]
+fn a_message_of_stream_9_of_the_host_is_not_answered(rt: HostRuntime) -> Result<(), Fail> {
+    let alloc = rt.alloc();
+    let mut core = selected(&rt, alloc)?;
+    // S9F1, without the W-bit and with it.
+    for byte2 in [0x09, 0x89] {
+        arrives(alloc, &mut core, header(0, (byte2, 1), (0, 0), 12))?;
+        assert_eq!(rt; core.idle(Moment(0), &Event::Take { session: 1 }), true);
+    }
+    Ok(())
+}
+
+#[test]
+fn too_long_a_text_is_told_by_s9f11_also_of_an_even_function(rt: HostRuntime) -> Result<(), Fail> {
+    let alloc = rt.alloc();
+    let mut core = selected(&rt, alloc)?;
+    // S1F2, with a length field of 10 and 262,145.
+    let event = Event::Host {
+        session: 1,
+        arrival: Arrival::TooLong(header(0, (1, 2), (0, 0), 13), 262_155),
+    };
+    let answer = posted(alloc, &mut core, 0, event)?;
+    assert_eq!(rt; matches!(answer, Answer::Done), true);
+    // Length 22, device 0, S9F11, system bytes 1; a binary item of the ten bytes of the message's header.
+    let told = [
+        0, 0, 0, 22, 0, 0, 9, 11, 0, 0, 0, 0, 0, 1, 0x21, 10, 0, 0, 1, 2, 0, 0, 0, 0, 0, 13,
+    ];
+    sends(&rt, alloc, &mut core, told.as_slice())
+}
+
+// A take and a loss of this session are answered `Ended`.
+fn is_ended(rt: &impl Abort, alloc: Global, core: &mut Core, session: u64) -> Result<(), Fail> {
+    let take = posted(alloc, core, 0, Event::Take { session })?;
+    assert_eq!(rt; matches!(take, Answer::Ended), true);
+    let cause = SessionCause::PeerEnd;
+    let down = posted(alloc, core, 0, Event::LinkDown { session, cause })?;
+    assert_eq!(rt; matches!(down, Answer::Ended), true);
+    Ok(())
+}
+
+#[test]
+fn a_session_that_is_not_up_is_answered_ended(rt: HostRuntime) -> Result<(), Fail> {
+    let alloc = rt.alloc();
+    let mut core = linked(alloc, &config(10, 0)?)?;
+    is_ended(&rt, alloc, &mut core, 2)?;
+    assert_eq!(rt; core.session_up(), Some(1));
+    let cause = SessionCause::WriteFault;
+    let down = posted(alloc, &mut core, 0, Event::LinkDown { session: 1, cause })?;
+    assert_eq!(rt; matches!(down, Answer::Done), true);
+    assert_eq!(rt; core.session_up(), None);
+    is_ended(&rt, alloc, &mut core, 1)?;
+    assert_eq!(rt; core.session_end(1), Some(SessionCause::WriteFault));
+    Ok(())
+}
+
+#[test]
+fn t7_comes_before_the_heartbeat(rt: HostRuntime) -> Result<(), Fail> {
+    let alloc = rt.alloc();
+    let mut core = linked(alloc, &config(10, 0)?)?;
+    // At 1,000 hundredths both have come, T7 and the heartbeat.
+    posted(alloc, &mut core, 1000, Event::Tick)?;
+    assert_eq!(rt; core.session_end(1), Some(SessionCause::T7));
+    assert_eq!(rt; core.idle(Moment(1099), &Event::Tick), true);
+    assert_eq!(rt; core.idle(Moment(1100), &Event::Tick), false);
+    Ok(())
 }
 
 #[test]

@@ -192,16 +192,12 @@ fn a_text_that_is_too_long_is_told_and_the_next_message_is_answered(
     rt: HostRuntime,
 ) -> Result<(), Fail> {
     let alloc = rt.alloc();
-    let mut lines = Vec::from_slice(alloc, b"H 0004000B00008101000000000007")?;
+    let mut lines = Vec::from_slice(alloc, b"H 0004000B0000810300000000000A")?;
     lines.extend_from_slice(&vec![in alloc; b'0'; 524_290]?)?;
-    let lines = joined(alloc, &lines, b"\nH 0000000AFFFF0000000500000008\n")?;
-    prints_selected(
-        &rt,
-        alloc,
-        &lines,
-        0,
-        b"> 000000160000090B000000000001210A00008101000000000007\n> 0000000AFFFF0000000600000008\n",
-    )
+    let lines = joined(alloc, &lines, b"\nH 0000000A00008101000000000002\n")?;
+    let s9f11 = b"> 000000160000090B000000000001210A0000810300000000000A\n".as_slice();
+    let s1f2 = b"> 0000001C000001020000000000020102410647454D3330304106312E302E3030\n".as_slice();
+    prints_selected(&rt, alloc, &lines, 0, &joined(alloc, s9f11, s1f2)?)
 }
 
 #[test]
@@ -462,10 +458,11 @@ fn a_sink_that_fails_or_takes_nothing_ends_the_run(rt: HostRuntime) -> Result<()
     Ok(())
 }
 
-/// A sink of a test's own that takes one byte at a time.
+/// A sink of a test's own that takes one byte at a time. A write fails where there is no memory.
 #[derive(Drop)]
 struct Narrow {
-    taken: usize,
+    taken: Vec<u8>,
+    faults: u64,
 }
 
 impl Sink for Narrow {
@@ -473,24 +470,35 @@ impl Sink for Narrow {
 
     ghost held = { λ _. None };
 
-    ghost faults = { λ _. 0 };
+    ghost faults = { λ s. s.faults };
 
     ghost refusals = { λ _. 0 };
 
     fn write(&mut self, bytes: &[u8]) -> Result<usize, Failed> {
-        let count = bytes.len().min(1);
-        self.taken = self.taken.saturating_add(count);
-        Ok(count)
+        if bytes.is_empty() {
+            return Ok(0);
+        }
+        match self.taken.push(bytes[0]) {
+            Ok(()) => Ok(1),
+            Err(_) => {
+                self.faults = self.faults.saturating_add(1);
+                Err(Failed)
+            }
+        }
     }
 }
 
 #[test]
 fn a_sink_that_takes_a_byte_at_a_time_gets_all(rt: HostRuntime) -> Result<(), Fail> {
-    let mut input = source(rt.alloc(), SELECTED, &[])?;
-    let mut out = Narrow { taken: 0 };
-    let ended = run_lines(rt.alloc(), &mut input, &mut out)?;
+    let alloc = rt.alloc();
+    let mut input = source(alloc, SELECTED, &[])?;
+    let mut out = Narrow {
+        taken: Vec::new(alloc),
+        faults: 0,
+    };
+    let ended = run_lines(alloc, &mut input, &mut out)?;
     assert_eq!(rt; ended.status, 0);
-    assert_eq!(rt; out.taken, SELECTED_OUT.len());
+    assert_eq!(rt; out.taken.as_slice(), SELECTED_OUT);
     Ok(())
 }
 

@@ -120,6 +120,21 @@ pub fn a_link_is_selected_in_time_or_ends()
     ensures at { answer_to (codes "L+\nT 999\nT 1000\n") ≡ codes "+ 1\n- 1 T7\n" }
 {}
 
+/// A heartbeat raises the moment, from which T7 runs for a link that comes up then; a look at the clock that comes sooner
+/// than the heartbeat does not.
+pub fn a_heartbeat_raises_the_moment()
+    ensures before { answer_to (codes "T 500\nL+\nT 1499\n") ≡ codes "+ 1\n" }
+    ensures at { answer_to (codes "T 500\nL+\nT 1499\nT 1500\n") ≡ codes "+ 1\n- 1 T7\n" }
+    ensures sooner_before { answer_to (codes "T 50\nL+\nT 999\n") ≡ codes "+ 1\n" }
+    ensures sooner { answer_to (codes "T 50\nL+\nT 1000\n") ≡ codes "+ 1\n- 1 T7\n" }
+{}
+
+/// The system bytes of the messages of stream 9 go on over the end of a session.
+pub fn system_bytes_go_on_over_the_end_of_a_session()
+    ensures { answer_to (codes "L+\nH 0000000AFFFF0000000100000001\nH 0000000A0000810300000000000A\nL-\nL+\nH 0000000AFFFF0000000100000002\nH 0000000A0000810300000000000B\n")
+        ≡ codes "+ 1\n> 0000000AFFFF0000000200000001\n> 0000001600000905000000000001210A0000810300000000000A\n- 1 PeerEnd\n+ 2\n> 0000000AFFFF0000000200000002\n> 0000001600000905000000000002210A0000810300000000000B\n" }
+{}
+
 /// A message to another device, an unknown stream and an unknown function are each answered with a message of stream 9,
 /// which has the ten header bytes and system bytes of the tool's own.
 pub fn a_message_that_is_not_known_is_told()

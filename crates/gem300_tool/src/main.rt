@@ -7,9 +7,8 @@
 use gem_ids::Text80;
 use outside::{FileSource, StdinSource, StdoutSink};
 use std::alloc::{AllocError, Global};
-use std::env;
-use std::io;
 use std::process::ExitCode;
+use std::{env, io};
 use top_calls::feed;
 
 /// The words behind the program's name. One that is no text of at most 80 bytes that print is handed in as an empty

@@ -140,6 +140,12 @@ fn a_separate_message_ends_the_session_and_drops_what_is_behind_it(
 }
 
 #[test]
+fn a_link_that_comes_up_while_one_is_up_prints_nothing(rt: HostRuntime) -> Result<(), Fail> {
+    prints(&rt, rt.alloc(), b"L+\nL+\n", 0, b"+ 1\n")?;
+    prints_selected(&rt, rt.alloc(), b"L+\n", 0, b"")
+}
+
+#[test]
 fn nothing_comes_of_nothing(rt: HostRuntime) -> Result<(), Fail> {
     prints(&rt, rt.alloc(), b"", 0, b"")?;
     prints(&rt, rt.alloc(), b"\n# a comment\n\nL-\n", 0, b"")

@@ -1,5 +1,5 @@
 -- What each step keeps.
-use Rattle.std.proofs.Common.{◌≡◌, ℕ, suc, ◌+◌, ◌≤◌, Bool, true, false, if◌then◌else◌, List, [], ◌∷◌, length, Option, Some, None, refl, sym, ◌∙◌, ap, subst, arith}
+use Rattle.std.proofs.Common.{◌≡◌, ℕ, suc, ◌+◌, ◌≤◌, Bool, true, false, if◌then◌else◌, List, [], ◌∷◌, length, Option, Some, None, IfSome, refl, sym, ◌∙◌, ap, subst, arith}
 use Rattle.std.specs.Option.{option_to_list}
 use Rattle.std.proofs.lemmas.Bool.{true≢false}
 use Rattle.hsms_frame.specs.declared.frame.Header.{Header}
@@ -15,6 +15,7 @@ use Rattle.hsms_link.specs.Deadlines.{due_at, has_come}
 use Rattle.tool_events.specs.declared.event.Event.{Event}
 use Rattle.tool_events.specs.declared.event.Event.TheVariants as event
 use Rattle.tool_events.specs.declared.event.SessionCause.{SessionCause}
+use Rattle.tool_events.specs.declared.event.SessionEnd.{SessionEnd}
 use Rattle.tool_events.specs.declared.answer.Answer.{Answer}
 use Rattle.tool_events.specs.declared.answer.Answer.TheVariants as answer
 use Rattle.hsms_link.specs.declared.state.Phase.TheVariants.{NotSelected}
@@ -28,13 +29,14 @@ use Rattle.gem_model.proofs.Links.{link_after-keeps, due-down}
 abbrev pub up_count : State → ℕ
 up_count g = if is_up g then 1 else 0
 
--- The configuration stays; at most one session comes; the sessions that are over and the one that is up are counted; and
--- none ends where none is up.
+-- The configuration stays; at most one session comes; the sessions that are over and the one that is up are counted;
+-- none ends where none is up; and the one that ends is the one that was up.
 pub record Keeping (g : State) (o : Outcome) : Type 0 where
   pub config : o.after.config ≡ g.config
   pub session : o.after.link.session ≤ suc g.link.session
   pub counts : o.after.link.session + up_count g ≡ g.link.session + (length (option_to_list o.ended) + up_count o.after)
   pub none : is_up g ≡ false → o.ended ≡ None
+  pub numbered : IfSome o.ended (λ (e : SessionEnd). e.session ≡ g.link.session)
 
 -- which way a test went
 pub went : {P A : Type 0} (b : Bool) (x y z : A) → (b ≡ true → x ≡ z → P) → (b ≡ false → y ≡ z → P) → if b then x else y ≡ z → P
@@ -57,6 +59,7 @@ keeps_on g h answer config session up = record {
   session = omega arith;
   counts = let count : up_count h ≡ up_count g = ap (λ (b : Bool). if b then 1 else 0) up in omega arith;
   none = λ _. refl;
+  numbered = tt;
 }
 
 keeps_end : (g : State) (answer : Answer) (cause : SessionCause) → is_up g ≡ true → Keeping g (ends answer cause g)
@@ -65,6 +68,7 @@ keeps_end g answer cause up = record {
   session = omega arith;
   counts = let count : up_count g ≡ 1 = count_up g up in omega arith;
   none = λ down. absurd (true≢false (sym up ∙ down));
+  numbered = refl;
 }
 
 keeps_data : (g : State) (h : Header) (v : Verdict) (answer : Answer) → Keeping g (answered answer (data_done g h v))
@@ -114,6 +118,7 @@ keeps_up g down = record {
   session = omega arith;
   counts = let count : up_count g ≡ 0 = count_down g down in omega arith;
   none = λ _. refl;
+  numbered = tt;
 }
 
 pub step_keeps-from : (before : ℕ) (g : State) (e : Event) (o : Outcome) → step_from before g e ≡ Some o → Keeping g o
@@ -132,4 +137,4 @@ step_keeps-from before g (event.Watch port) o here = absurd (cc)
 pub step_keeps : (g : State) (at : ℕ) (e : Event) (o : Outcome) → step g at e ≡ Some o → Keeping g o
 step_keeps g at e o here =
     let k = step_keeps-from g.moment (raised g at) e o here in
-    record { config = k.config; session = k.session; counts = k.counts; none = k.none }
+    record { config = k.config; session = k.session; counts = k.counts; none = k.none; numbered = k.numbered }

@@ -1,5 +1,5 @@
 -- Histories: the steps of their entries, one after another.
-use Rattle.std.specs.Prelude.{◌≡◌, List, [], ◌∷◌, Option, Some}
+use Rattle.std.specs.Prelude.{◌≡◌, List, [], ◌∷◌, ◌++◌, Option, Some, None}
 use Rattle.tool_events.specs.declared.entry.Entry.{Entry}
 use Rattle.gem_model.specs.State.{State}
 use Rattle.gem_model.specs.Step.{Outcome, step, after}
@@ -21,3 +21,18 @@ Run g (entry ∷ entries) h = (o : Outcome) × (entry_step g entry ≡ Some o) �
 abbrev pub after_all : State → List Entry → State
 after_all g [] = g
 after_all g (entry ∷ entries) = after_all (entry_after g entry) entries
+
+-- an entry, with what its step did
+pub record Recorded : Type 0 where
+  pub entry : Entry
+  pub outcome : Outcome
+
+-- an entry with what it did; one that had to wait did nothing
+abbrev pub recorded_as : Entry → Option Outcome → List Recorded
+recorded_as entry None = []
+recorded_as entry (Some o) = record { entry = entry; outcome = o } ∷ []
+
+-- the entries of a history, each with what its step did
+abbrev pub recorded : State → List Entry → List Recorded
+recorded g [] = []
+recorded g (entry ∷ entries) = recorded_as entry (entry_step g entry) ++ recorded (entry_after g entry) entries

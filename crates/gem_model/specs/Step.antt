@@ -17,25 +17,30 @@ use Rattle.tool_events.specs.declared.event.Event.TheVariants as event
 use Rattle.tool_events.specs.declared.answer.Answer.{Answer}
 use Rattle.tool_events.specs.declared.answer.Answer.TheVariants as answer
 use Rattle.tool_events.specs.declared.event.SessionCause.{SessionCause}
+use Rattle.tool_events.specs.declared.event.SessionEnd.{SessionEnd}
 use Rattle.tool_events.specs.declared.event.SessionCause.TheVariants as cause
 use Rattle.tool_events.specs.declared.config.Config.{Config}
 use Rattle.gem_model.specs.State.{State, is_up, is_session_up, raised, with_frame, without_session, system_after}
 use Rattle.gem_model.specs.Messages.{Verdict, Silent, Stream9, Reply, verdict, header_of, is_too_long, data_frame, stream9_frame}
 
--- what an event does: its answer, whether it ended the session, and the state after it
+-- what an event does: its answer, the session that it ended, and the state after it
 pub record Outcome : Type 0 where
   pub answer : Answer
-  -- why the session that was up ended in this step, if it did
-  pub ended : Option SessionCause
+  -- the session that ended in this step, if one did, and why
+  pub ended : Option SessionEnd
   pub after : State
 
 -- an answer, with no session ended
 abbrev pub answered : Answer → State → Outcome
 answered answer g = record { answer = answer; ended = None; after = g }
 
--- the session ends, for this cause
+-- the session that is up ends, for this cause
 abbrev pub ends : Answer → SessionCause → State → Outcome
-ends answer cause g = record { answer = answer; ended = Some cause; after = without_session g }
+ends answer cause g = record {
+  answer = answer;
+  ended = Some (record { session = g.link.session; cause = cause });
+  after = without_session g;
+}
 
 -- what a data message is answered waits for the writer; a message of stream 9 draws system bytes (this tool's profile,
 -- data messages)

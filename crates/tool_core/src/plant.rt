@@ -16,7 +16,7 @@ use hsms_link::{LinkAct, LinkDue, LinkState, LinkTimes, Phase, Ping, has_come};
 use std::alloc::{AllocError, Global};
 use std::collections::VecDeque;
 use std::marker::Model;
-use tool_events::{Answer, Config, Event, SessionCause};
+use tool_events::{Answer, Config, Event, SessionCause, SessionEnd};
 
 /// How long no answer may come to the tool's linktest, in hundredths of a second (SEMI E37, T6).
 const T6: u32 = 500;
@@ -24,11 +24,11 @@ const T6: u32 = 500;
 /// The heartbeat comes so many hundredths of a second after the last moment.
 const HEARTBEAT: u32 = 100;
 
-/// What an event is answered, and why it ended the session that was up, if it did.
+/// What an event is answered, and the session that it ended, if it ended one.
 #[derive(Debug, Drop)]
 pub struct Reaction {
     pub answer: Answer,
-    pub ended: Option<SessionCause>,
+    pub ended: Option<SessionEnd>,
 }
 
 impl Reaction {
@@ -41,12 +41,12 @@ impl Reaction {
         }
     }
 
-    fn ended(answer: Answer, cause: SessionCause) -> Reaction
-        ensures { result ≡ record { answer = answer; ended = Some cause } }
+    fn ended(answer: Answer, session: u64, cause: SessionCause) -> Reaction
+        ensures { result ≡ record { answer = answer; ended = Some (record { session = session; cause = cause }) } }
     {
         Reaction {
             answer,
-            ended: Some(cause),
+            ended: Some(SessionEnd { session, cause }),
         }
     }
 }
@@ -170,7 +170,7 @@ impl Plant {
             return Reaction::answered(Answer::Ended);
         }
         self.end_session();
-        Reaction::ended(Answer::Done, cause)
+        Reaction::ended(Answer::Done, session, cause)
     }
 
     /// The oldest frame that waits leaves.
@@ -225,8 +225,9 @@ impl Plant {
             }
             LinkAct::Data => self.data(alloc, &header, is_too_long(arrival))?,
             LinkAct::Ended => {
+                let session = self.link.session;
                 self.end_session();
-                return Ok(Reaction::ended(Answer::Ended, SessionCause::Separated));
+                return Ok(Reaction::ended(Answer::Ended, session, SessionCause::Separated));
             }
             LinkAct::Nothing => self.link = link,
         }
@@ -264,12 +265,14 @@ impl Plant {
     {
         match self.due(self.moment) {
             Some(LinkDue::T7) => {
+                let session = self.link.session;
                 self.end_session();
-                Some(Reaction::ended(Answer::Done, SessionCause::T7))
+                Some(Reaction::ended(Answer::Done, session, SessionCause::T7))
             }
             Some(LinkDue::T6) => {
+                let session = self.link.session;
                 self.end_session();
-                Some(Reaction::ended(Answer::Done, SessionCause::T6))
+                Some(Reaction::ended(Answer::Done, session, SessionCause::T6))
             }
             Some(LinkDue::AskLinktest) => None,
             None if has_come(before, HEARTBEAT, self.moment) => {

@@ -1,7 +1,8 @@
 //! The core: the plant and the history that led to it.
-ghost use Rattle.std.specs.Prelude.{ℕ, ◌≡◌, ◌≤◌, ◌+◌, ◌^◌, ◌<◌, ◌↔◌, [], ◌∷◌, ◌++◌, length, IsTrue, true, false, ◌&&◌, ◌||◌, not, nat_le, nat_lt, Some, None, Err, OnOk, OnErr, IfOk, IfSome, IsErrOf, if◌then◌else◌, vec_len, vec_capacity};
+ghost use Rattle.std.specs.Prelude.{ℕ, ◌≡◌, ◌≤◌, ◌+◌, ◌^◌, ◌<◌, ◌↔◌, [], ◌∷◌, ◌++◌, length, IsTrue, true, false, ◌&&◌, ◌||◌, not, nat_le, nat_lt, Some, None, Err, OnOk, OnErr, IfOk, IfSome, IsErrOf, if◌then◌else◌, vec_len, vec_capacity, slice_get, option_map};
 ghost use Rattle.std.specs.Option.{option_to_list};
 ghost use Rattle.tool_events.specs.declared.answer.PostFault.TheVariants as PostFault;
+ghost use Rattle.tool_events.specs.declared.event.SessionEnd.{SessionEnd};
 ghost use Rattle.tool_events.specs.Configs.{IsConfig};
 ghost use Rattle.tool_events.specs.Posts as posts;
 ghost use Rattle.tool_events.specs.Sizes.{event_bytes};
@@ -19,7 +20,7 @@ use gem_ids::Moment;
 use hsms_frame::Arrival;
 use std::alloc::{AllocError, Global};
 use std::marker::Model;
-use tool_events::{Answer, Config, Entry, Event, PostFault, SessionCause};
+use tool_events::{Answer, Config, Entry, Event, PostFault, SessionCause, SessionEnd};
 
 /// How much text an event holds, in bytes: that of a frame of the host. One that is too long holds none.
 fn event_bytes(event: &Event) -> u64
@@ -35,14 +36,22 @@ fn event_bytes(event: &Event) -> u64
     }
 }
 
-/// Adds the cause of a session that ended, where one did.
-fn add_end(ends: &mut Vec<SessionCause>, ended: Option<SessionCause>)
+/// Adds the session that ended, where one did.
+fn add_end(ends: &mut Vec<SessionEnd>, ended: Option<SessionEnd>)
     requires { vec_len ends.old < vec_capacity ends.old }
     ensures { ends.new.items ≡ ends.old.items ++ option_to_list ended }
 {
-    if let Some(cause) = ended {
-        ends.push_reserved(cause);
+    if let Some(end) = ended {
+        ends.push_reserved(end);
     }
+}
+
+/// The cause of the end at this place, where there is one.
+fn cause_at(ends: &[SessionEnd], place: usize) -> Option<SessionCause>
+    ensures { result ≡ option_map (λ (e : SessionEnd). e.cause) (slice_get ends.now place) }
+{
+    let end = ends.get(place)?;
+    Some(end.cause)
 }
 
 /// Makes room for the count of this session, where there is one.
@@ -75,7 +84,7 @@ pub struct Core {
     config: Config,
     plant: Plant,
     entries: Vec<Entry>,
-    ends: Vec<SessionCause>,
+    ends: Vec<SessionEnd>,
     written: SessionCounts,
     bytes: u64,
     is_whole: bool,
@@ -128,6 +137,13 @@ impl Core {
         Entries::from_vec(entries)
     }
 
+    /// Whether the core can go on: false exactly where an event was answered `NoMemory`.
+    pub fn is_whole(&self) -> bool
+        ensures whole { result ≡ self.now.is_whole }
+    {
+        self.is_whole
+    }
+
     /// The session that is up. Sessions are numbered from 1.
     pub fn session_up(&self) -> Option<u64>
         ensures session { result ≡ (if is_up self.now.state then Some self.now.state.link.session else None) }
@@ -147,10 +163,11 @@ impl Core {
     pub fn session_end(&self, session: u64) -> Option<SessionCause>
         ensures { result ≡ session_end (opening self.now.config) self.now.history session }
     {
+        let ends = self.ends.as_slice();
         if session == 0 {
             return None;
         }
-        self.ends.get((session - 1) as usize).copied()
+        cause_at(ends, (session - 1) as usize)
     }
 
     /// How many sessions came. They are numbered from 1.

@@ -24,6 +24,13 @@ pub enum SessionCause {
     Stopped,
 }
 
+/// A session that ended, and why. Sessions are numbered from 1.
+#[derive(Clone, Copy, Debug, PartialEq, Eq)]
+pub struct SessionEnd {
+    pub session: u64,
+    pub cause: SessionCause,
+}
+
 /// What the equipment tells.
 #[derive(Clone, Copy, Debug, PartialEq, Eq)]
 pub enum Signal {

@@ -14,4 +14,4 @@ pub use answer::{Answer, Command, PostFault, Task};
 pub use config::Config;
 pub use desk::Desk;
 pub use entry::Entry;
-pub use event::{Event, JobWord, OperCmd, SessionCause, Signal};
+pub use event::{Event, JobWord, OperCmd, SessionCause, SessionEnd, Signal};

@@ -1,5 +1,5 @@
 -- One part of feed after another.
-use Rattle.std.proofs.Common.{◌≡◌, ℕ, ◌≤◌, inl, inr, Bool, true, false, List, [], ◌∷◌, ◌++◌, Option, Some, None, Result, Ok, Err, refl, sym, ◌∙◌, ap, append_assoc, arith, length, length-append, option_map, option_and_then, if◌then◌else◌}
+use Rattle.std.proofs.Common.{◌≡◌, ℕ, ◌≤◌, inl, inr, Bool, true, false, List, [], ◌∷◌, ◌++◌, Option, Some, None, IfSome, Result, Ok, Err, refl, sym, ◌∙◌, ap, append_assoc, arith, length, length-append, option_map, option_and_then, if◌then◌else◌}
 use Rattle.std.proofs.lemmas.List.{append-nil}
 use Rattle.outside.specs.Told.{Written}
 use Rattle.tool_events.specs.declared.entry.Entry.{Entry}
@@ -19,8 +19,7 @@ use Rattle.gem_model.specs.Sizes.{is_full}
 use Rattle.tool_events.specs.declared.config.Config.{Config}
 use Rattle.gem_model.proofs.Printing.{printed-snoc}
 use Rattle.tool_events.specs.declared.answer.Answer.{Answer}
-use Rattle.tool_events.specs.declared.event.SessionCause.{SessionCause}
-use Rattle.top_calls.specs.OutLine.{ended_bytes}
+use Rattle.tool_events.specs.declared.event.SessionEnd.{SessionEnd}
 use Rattle.tool_core.specs.CoreView.{CoreView}
 use Rattle.top_calls.specs.declared.halt.Halt.{Halt}
 use Rattle.top_calls.specs.declared.halt.Halt.TheVariants as halt
@@ -91,14 +90,14 @@ abbrev pub one : CoreView → Entry → Given
 one core entry = record { entries = entry ∷ []; state = entry_after core.state entry }
 
 -- the lines of a history to which an entry was added
-added_lines : (core core' : CoreView) (entry : Entry) (o : Outcome) → Added core core' entry o → printed (opening core'.config) core'.history ≡ printed (opening core.config) core.history ++ outcome_lines core.state o
+added_lines : (core core' : CoreView) (entry : Entry) (o : Outcome) → Added core core' entry o → printed (opening core'.config) core'.history ≡ printed (opening core.config) core.history ++ outcome_lines o
 added_lines core core' entry o added =
     ap (λ (c : Config). printed (opening c) core'.history) added.config ∙ ap (printed (opening core.config)) added.history ∙ printed-snoc (opening core.config) core.history core.state entry o added.ran added.here
 
 added_grows : (core core' : CoreView) (entry : Entry) (o : Outcome) → Added core core' entry o → IsFront core.history core'.history
 added_grows core core' entry o added = record { behind = entry ∷ []; joined = added.history }
 
-pub Goes-added : (core core' : CoreView) (out out' : SinkView) (entry : Entry) (o : Outcome) (lines : List ℕ) → Added core core' entry o → lines ≡ outcome_lines core.state o → Written out.held out'.held lines → out.faults ≤ out'.faults → out.refusals ≤ out'.refusals → Goes core core' out out' (one core entry) (Ok tt)
+pub Goes-added : (core core' : CoreView) (out out' : SinkView) (entry : Entry) (o : Outcome) (lines : List ℕ) → Added core core' entry o → lines ≡ outcome_lines o → Written out.held out'.held lines → out.faults ≤ out'.faults → out.refusals ≤ out'.refusals → Goes core core' out out' (one core entry) (Ok tt)
 Goes-added core core' out out' entry o lines added is written faults refusals = record {
   config = added.config;
   went = (added.history, added.state ∙ sym (after-step core.state entry.at.0 entry.event o added.here));
@@ -110,7 +109,7 @@ Goes-added core core' out out' entry o lines added is written faults refusals = 
   refusals_stay = refusals;
 }
 
-pub Goes-added-write : (core core' : CoreView) (out out' : SinkView) (entry : Entry) (o : Outcome) (lines : List ℕ) → Added core core' entry o → lines ≡ outcome_lines core.state o → WrittenFront out.held out'.held lines → Failed out.faults out'.faults out.refusals out'.refusals → out.faults ≤ out'.faults → out.refusals ≤ out'.refusals → Goes core core' out out' (one core entry) (Err halt.Write)
+pub Goes-added-write : (core core' : CoreView) (out out' : SinkView) (entry : Entry) (o : Outcome) (lines : List ℕ) → Added core core' entry o → lines ≡ outcome_lines o → WrittenFront out.held out'.held lines → Failed out.faults out'.faults out.refusals out'.refusals → out.faults ≤ out'.faults → out.refusals ≤ out'.refusals → Goes core core' out out' (one core entry) (Err halt.Write)
 Goes-added-write core core' out out' entry o lines added is written cause faults refusals = record {
   config = added.config;
   went = rw added.history (record { behind = []; joined = sym (append-nil (core.history ++ entry ∷ [])) });
@@ -128,35 +127,36 @@ Goes-added-memory core core' out entry o added = record {
   went = rw added.history (record { behind = []; joined = sym (append-nil (core.history ++ entry ∷ [])) });
   grows = added_grows core core' entry o added;
   wrote = λ e. absurd (cc);
-  shows = λ start shows. rw (added_lines core core' entry o added) (WrittenFront-wider start out.held (printed (opening core.config) core.history) (outcome_lines core.state o) (WrittenFront-all start out.held (printed (opening core.config) core.history) shows));
+  shows = λ start shows. rw (added_lines core core' entry o added) (WrittenFront-wider start out.held (printed (opening core.config) core.history) (outcome_lines o) (WrittenFront-all start out.held (printed (opening core.config) core.history) shows));
   cause = λ e. absurd (cc);
   faults_stay = omega arith;
   refusals_stay = omega arith;
 }
 
--- the session that ended, by its number and its cause
-abbrev pub end_after : CoreView → Option ℕ → Option (ℕ × SessionCause)
-end_after core before = option_and_then (λ k. option_map (λ cause. (k, cause)) (session_end (opening core.config) core.history k)) before
+-- the session that ended, by the core after it
+abbrev pub end_after : CoreView → Option ℕ → Option SessionEnd
+end_after core before = option_and_then (λ k. option_map (λ cause. record { session = k; cause = cause }) (session_end (opening core.config) core.history k)) before
 
-ended_lines : (k : ℕ) (cause : Option SessionCause) → ended_bytes (option_map (λ c. (k, c)) cause) ≡ end_lines k cause
-ended_lines k None = refl
-ended_lines k (Some c) = refl
+-- an end is put together again of its number and its cause
+end_again : (k : ℕ) (ended : Option SessionEnd) → IfSome ended (λ (e : SessionEnd). e.session ≡ k) → option_map (λ cause. record { session = k; cause = cause }) (option_map (λ (e : SessionEnd). e.cause) ended) ≡ ended
+end_again k None numbered = refl
+end_again k (Some e) numbered = rw (sym numbered) refl
 
-ends_shown : (core core' : CoreView) (entry : Entry) (o : Outcome) → Added core core' entry o → (up : Bool) → is_up core.state ≡ up → ended_bytes (end_after core' (if up then Some core.state.link.session else None)) ≡ end_lines core.state.link.session o.ended
+ends_shown : (core core' : CoreView) (entry : Entry) (o : Outcome) → Added core core' entry o → (up : Bool) → is_up core.state ≡ up → end_after core' (if up then Some core.state.link.session else None) ≡ o.ended
 ends_shown core core' entry o added true up =
-    ap (λ (c : Option SessionCause). ended_bytes (option_map (λ c. (core.state.link.session, c)) c))
+    ap (option_map (λ cause. record { session = core.state.link.session; cause = cause }))
     (ap (λ (c : Config). session_end (opening c) core'.history core.state.link.session) added.config ∙ ap (λ (h : List Entry). session_end (opening core.config) h core.state.link.session) added.history ∙ session_end-now core.config core.history core.state entry o added.ran added.here up)
-    ∙ ended_lines core.state.link.session o.ended
+    ∙ end_again core.state.link.session o.ended (step_keeps core.state entry.at.0 entry.event o added.here).numbered
 ends_shown core core' entry o added false down =
-    sym (ap (end_lines core.state.link.session) ((step_keeps core.state entry.at.0 entry.event o added.here).none down))
+    sym ((step_keeps core.state entry.at.0 entry.event o added.here).none down)
 
 -- the lines of an outcome are those of its answer and of the session that ended
-pub outcome_shown : (core core' : CoreView) (entry : Entry) (o : Outcome) → Added core core' entry o → (answer : Answer) → o.answer ≡ answer → (before : Option ℕ) → before ≡ if is_up core.state then Some core.state.link.session else None → (ended : Option (ℕ × SessionCause)) → ended ≡ end_after core' before → (text : List ℕ) → text ≡ answer_lines answer ++ ended_bytes ended → text ≡ outcome_lines core.state o
+pub outcome_shown : (core core' : CoreView) (entry : Entry) (o : Outcome) → Added core core' entry o → (answer : Answer) → o.answer ≡ answer → (before : Option ℕ) → before ≡ if is_up core.state then Some core.state.link.session else None → (ended : Option SessionEnd) → ended ≡ end_after core' before → (text : List ℕ) → text ≡ answer_lines answer ++ end_lines ended → text ≡ outcome_lines o
 outcome_shown core core' entry o added answer is before was ended now text made =
     made
-    ∙ ap (λ (a : Answer). answer_lines a ++ ended_bytes ended) (sym is)
-    ∙ ap (λ (lines : List ℕ). answer_lines o.answer ++ lines)
-    (ap ended_bytes (now ∙ ap (end_after core') was) ∙ ends_shown core core' entry o added (is_up core.state) refl)
+    ∙ ap (λ (a : Answer). answer_lines a ++ end_lines ended) (sym is)
+    ∙ ap (λ (e : Option SessionEnd). answer_lines o.answer ++ end_lines e)
+    (now ∙ ap (end_after core') was ∙ ends_shown core core' entry o added (is_up core.state) refl)
 
 pub Failed-wider : (f1 f2 f3 r1 r2 r3 : ℕ) → f1 ≤ f2 → f2 ≤ f3 → r1 ≤ r2 → r2 ≤ r3 → Failed f2 f3 r2 r3 → Failed f1 f3 r1 r3
 Failed-wider f1 f2 f3 r1 r2 r3 h i j k (inl faults) = inl (Rose-wider f1 f2 f3 f3 h i faults (omega arith))

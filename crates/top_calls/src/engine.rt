@@ -7,7 +7,6 @@ ghost use Rattle.gem_model.specs.Step.{step, after};
 ghost use Rattle.gem_model.specs.Run.{after_all};
 ghost use Rattle.gem_model.specs.Feed.{entry_of, taken_all, input, message, messages};
 ghost use Rattle.top_calls.specs.Going.{Goes, seen};
-ghost use Rattle.top_calls.specs.OutLine.{ended_bytes};
 
 use crate::halt::Halt;
 use crate::print::{OutLine, answer_line, print_out_line};
@@ -17,7 +16,7 @@ use hsms_frame::Arrival;
 use outside::Sink;
 use std::alloc::{AllocError, Global};
 use tool_core::Core;
-use tool_events::{Answer, Event, PostFault, SessionCause};
+use tool_events::{Answer, Event, PostFault, SessionCause, SessionEnd};
 
 /// The moment of what isn't a look at the clock: it raises no moment.
 pub const AT_ONCE: Moment = Moment(0);
@@ -26,16 +25,16 @@ pub const AT_ONCE: Moment = Moment(0);
 fn outcome_text(
     alloc: Global,
     answer: Answer,
-    ended: Option<(u64, SessionCause)>,
+    ended: Option<SessionEnd>,
 ) -> Result<Vec<u8>, AllocError>
-    ensures { IfOk result (λ text. text.items ≡ answer_lines answer ++ ended_bytes ended) }
+    ensures { IfOk result (λ text. text.items ≡ answer_lines answer ++ end_lines ended) }
 {
     let mut text = Vec::new(alloc);
     if let Some(line) = answer_line(answer) {
         print_out_line(alloc, &line, &mut text)?;
     }
-    if let Some((session, cause)) = ended {
-        print_out_line(alloc, &OutLine::Ended(session, cause), &mut text)?;
+    if let Some(end) = ended {
+        print_out_line(alloc, &OutLine::Ended(end.session, end.cause), &mut text)?;
     }
     Ok(text)
 }
@@ -70,12 +69,12 @@ fn post<K: Sink>(
 }
 
 /// The session that was up before and has ended now, with its cause.
-fn ended_now(core: &Core, before: Option<u64>) -> Option<(u64, SessionCause)>
-    ensures { result ≡ option_and_then (λ k. option_map (λ cause. (k, cause)) (session_end (opening core.now.config) core.now.history k)) before }
+fn ended_now(core: &Core, before: Option<u64>) -> Option<SessionEnd>
+    ensures { result ≡ option_and_then (λ k. option_map (λ cause. record { session = k; cause = cause }) (session_end (opening core.now.config) core.now.history k)) before }
 {
     let session = before?;
     let cause = core.session_end(session)?;
-    Some((session, cause))
+    Some(SessionEnd { session, cause })
 }
 
 /// The writer of this session takes each frame that waits.

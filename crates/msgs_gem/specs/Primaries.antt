@@ -66,10 +66,15 @@ abbrev pub reading : ℕ → ℕ → Option Data → Result GemMsg BodyFault
 reading = by_line lines
 
 -- the printed body is "ignored"
-abbrev pub takes_any : Body → Bool
-takes_any (ignored m) = true
-takes_any (printed form) = false
+abbrev pub is_any : Body → Bool
+is_any (ignored m) = true
+is_any (printed form) = false
+
+-- the line is there, and its body is "ignored"
+abbrev pub takes_any : Option Line → Bool
+takes_any (Some l) = is_any l.body
+takes_any None = false
 
 -- the text of the message is ignored: it is not read, and need not be one item
 abbrev pub ignores : ℕ → ℕ → Bool
-ignores stream function = list_any (λ l. (l.stream == stream) && (l.function == function) && takes_any l.body) lines
+ignores stream function = takes_any (line_of lines stream function)

@@ -1,7 +1,6 @@
 -- The bodies of the tool's replies and of its own primaries, as they are printed (SEMI E5; this tool's profile, messages).
 use Rattle.std.specs.Prelude.{ℕ, List, [], ◌∷◌}
 use Rattle.secs_items.specs.Data.{Data, DataList, list, binary, ascii, no_items, item}
-use Rattle.msgs_gem.specs.declared.reply.Identity.{Identity}
 use Rattle.msgs_gem.specs.declared.reply.GemReply.{GemReply}
 use Rattle.msgs_gem.specs.declared.reply.GemReply.TheVariants as reply
 

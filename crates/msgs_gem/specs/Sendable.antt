@@ -2,7 +2,6 @@
 use Rattle.std.specs.Prelude.{ℕ, ◌<◌, List, length}
 use Rattle.std.specs.List.{All}
 use Rattle.secs_items.specs.Sendable.{IsLength}
-use Rattle.msgs_gem.specs.declared.reply.Identity.{Identity}
 use Rattle.msgs_gem.specs.declared.reply.GemReply.{GemReply}
 use Rattle.msgs_gem.specs.declared.reply.GemReply.TheVariants as reply
 

@@ -7,6 +7,7 @@
 
 mod acknowledge;
 mod fault;
+mod laws;
 mod part;
 mod primary;
 mod reply;
@@ -15,5 +16,6 @@ mod tests;
 
 pub use acknowledge::accepts_communication;
 pub use fault::BodyFault;
+pub use laws::an_ignored_text_makes_no_difference;
 pub use primary::{GemMsg, is_ignored, read_gem};
 pub use reply::{GemReply, Identity, gem_item};

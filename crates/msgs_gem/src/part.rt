@@ -7,6 +7,7 @@ ghost use Rattle.msgs_gem.specs.Given.{Gives};
 
 use crate::fault::BodyFault;
 use secs_items::{Bytes, Item};
+use std::alloc::Global;
 
 // The item of a text. A text that is not one item has none.
 pub(crate) fn one(item: Option<&Item>) -> Result<&Item, BodyFault>
@@ -19,11 +20,11 @@ pub(crate) fn one(item: Option<&Item>) -> Result<&Item, BodyFault>
 }
 
 // The characters of an A.
-pub(crate) fn characters(item: &Item) -> Result<Bytes, BodyFault>
+pub(crate) fn characters(alloc: Global, item: &Item) -> Result<Bytes, BodyFault>
     ensures { Gives (λ text. text) result (characters_form (view item.now)) }
 {
     match item {
-        Item::Ascii(text) => Ok(text.clone()?),
+        Item::Ascii(text) => Ok(Bytes::from_vec(Vec::from_slice(alloc, text.as_slice())?)),
         _ => Err(BodyFault::IllegalData),
     }
 }

@@ -41,14 +41,13 @@ pub fn read_gem(
 ) -> Result<GemMsg, BodyFault>
     ensures { Answers result (reading stream function (option_map (λ i. view i.now) item.entry)) }
 {
-    let _ = alloc;
     match (stream, function) {
         (1, 1) => Ok(GemMsg::S1F1),
         (1, 13) => Ok(GemMsg::S1F13),
         (1, 15) => Ok(GemMsg::S1F15),
         (1, 17) => Ok(GemMsg::S1F17),
         (2, 17) => Ok(GemMsg::S2F17),
-        (2, 31) => Ok(GemMsg::S2F31(characters(one(item)?)?)),
+        (2, 31) => Ok(GemMsg::S2F31(characters(alloc, one(item)?)?)),
         (1 | 2, _) => Err(BodyFault::UnknownFunction),
         _ => Err(BodyFault::UnknownStream),
     }

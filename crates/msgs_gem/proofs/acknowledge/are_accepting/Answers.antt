@@ -1,4 +1,4 @@
-use Rattle.std.proofs.Common.{◌≡◌, ◌∙◌, sym}
+use Rattle.std.proofs.Common.{◌∙◌, sym}
 use Rattle.msgs_gem.proofs.Accepting.{accepts-two, accepts-fewer, accepts-more}
 use Rattle.msgs_gem.proofs.acknowledge.are_accepting.Goals as goal
 

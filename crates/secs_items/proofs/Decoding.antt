@@ -31,7 +31,7 @@ spelled_front input rest x below read =
 pub sendable_front : (input rest : List ℕ) (x : Data) → AreBelow 256 input → item_at 16 (length input) input ≡ Ok (x, rest) → IsSendable x
 sendable_front input rest x below read = sendable x (take (length input - length rest) input) (spelled_front input rest x below read)
 
-spelled_read : (input : List ℕ) (d : Data) (n : ℕ) → Spells d 0 (take n input) → item_at 16 (length input) input ≡ Ok (d, drop n input)
+pub spelled_read : (input : List ℕ) (d : Data) (n : ℕ) → Spells d 0 (take n input) → item_at 16 (length input) input ≡ Ok (d, drop n input)
 spelled_read input d n spells =
     ap (item_at 16 (length input)) (sym (take-append-drop n input)) ∙ again 16 d 0 (take n input) (drop n input) (length input) refl spells
 

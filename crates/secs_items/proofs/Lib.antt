@@ -10,6 +10,7 @@ pub mod Heads
 pub mod InTurn
 pub mod Leaves
 pub mod Lists
+pub mod OneItem
 pub mod PlainSpelling
 pub mod Sends
 pub mod Standing

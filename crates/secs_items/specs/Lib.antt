@@ -6,6 +6,7 @@ pub mod Given
 pub mod Grows
 pub mod Height
 pub mod Ids
+pub mod One
 pub mod Plain
 pub mod Ranges
 pub mod Reading

@@ -1,8 +1,9 @@
 //! Laws of the grammar of items, for proofs to cite. Each function is empty: what it ensures holds of the definitions.
 
-ghost use Rattle.std.specs.Prelude.{◌≡◌, ◌⊎◌, ◌≤◌, ℕ, List, ◌++◌, length, take};
+ghost use Rattle.std.specs.Prelude.{◌≡◌, ◌⊎◌, ◌↔◌, ◌≤◌, ℕ, List, ◌++◌, length, take, Some};
 ghost use Rattle.secs_items.specs.Data.{Data};
 ghost use Rattle.secs_items.specs.Faults.{Stands, IsFirst, place_of};
+ghost use Rattle.secs_items.specs.One.{one_item};
 ghost use Rattle.secs_items.specs.Plain.{plain};
 ghost use Rattle.secs_items.specs.Ranges.{IsInRange};
 ghost use Rattle.secs_items.specs.Sendable.{IsSendable};
@@ -34,4 +35,9 @@ pub fn a_fault_stands_behind_open_bytes()
 pub fn bytes_spell_or_have_a_fault()
     ensures { (input : List ℕ) → AreBelow 256 input →
         ((d : Data) × (n : ℕ) × (n ≤ length input) × Spells d 0 (take n input)) ⊎ ((e : ItemFault) × IsFirst input e) }
+{}
+
+/// A text is one item exactly where it is a spelling of it from its first byte to its last.
+pub fn one_item_is_the_item_that_is_spelled()
+    ensures { (text : List ℕ) (d : Data) → AreBelow 256 text → (one_item text ≡ Some d ↔ Spells d 0 text) }
 {}

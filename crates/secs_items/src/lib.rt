@@ -2,7 +2,7 @@
 //! bytes. Every spelling is read, with 1, 2 or 3 length bytes, and one is written, the shortest. Bytes that spell no item
 //! are told by the fault of the least place. Floating numbers, JIS-8 and two-byte characters are no formats here, and lists
 //! stand inside one another at most 16 deep. What an item means to a message is left to the crates above. Begin with
-//! `decode`, which reads an item, and `encode`, which appends one.
+//! `decode`, which reads an item, `read_one`, which reads a text that is one item, and `encode`, which appends one.
 #![tactic(auto)]
 
 mod cloning;
@@ -12,6 +12,7 @@ mod fault;
 mod format;
 mod item;
 mod laws;
+mod one;
 mod reading;
 mod values;
 mod writing;
@@ -21,8 +22,10 @@ pub use fault::ItemFault;
 pub use item::{Item, Items, NoMemory};
 pub use laws::{
     a_fault_stands_behind_open_bytes, bytes_spell_or_have_a_fault, no_spelling_begins_another,
-    what_is_sent_spells_the_item, what_is_spelled_can_be_sent,
+    one_item_is_the_item_that_is_spelled, what_is_sent_spells_the_item,
+    what_is_spelled_can_be_sent,
 };
+pub use one::read_one;
 pub use reading::decode;
 pub use writing::encode;
 

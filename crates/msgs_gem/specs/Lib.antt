@@ -1,0 +1,6 @@
+pub mod Acknowledge
+pub mod Bodies
+pub mod Given
+pub mod Primaries
+pub mod Replies
+pub mod Sendable

@@ -3,3 +3,4 @@ pub mod SystemBytes
 pub mod Endings
 pub mod Sought
 pub mod Kept
+pub mod Earlier

@@ -1,13 +1,13 @@
 -- How system bytes are drawn, and a transaction is started (SEMI E5, block and message identification; this tool's
 -- profile, the link).
-use Rattle.std.specs.Prelude.{ℕ, zero, suc, ◌+◌, ◌%◌, Bool, not, if◌then◌else◌, List, [], ◌∷◌, ◌++◌, length, find, unwrap_or}
+use Rattle.std.specs.Prelude.{ℕ, zero, suc, ◌+◌, ◌%◌, ◌^◌, Bool, not, if◌then◌else◌, List, [], ◌∷◌, ◌++◌, length, find, unwrap_or}
 use Rattle.transactions.specs.declared.transaction.Open.{Open}
 use Rattle.transactions.specs.declared.transaction.What.{What}
 use Rattle.transactions.specs.Table.{Table, has_system, is_full}
 
 -- the system bytes so many behind these: they are four bytes, and 0 follows the last
 abbrev pub behind : ℕ → ℕ → ℕ
-behind system steps = (system + steps) % 4294967296
+behind system steps = (system + steps) % 2 ^ 32
 
 -- so many system bytes in turn, from the one that is this many behind
 abbrev pub in_turn : ℕ → ℕ → ℕ → List ℕ

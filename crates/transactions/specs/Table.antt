@@ -1,5 +1,5 @@
 -- The tool's open transactions (SEMI E5, transaction protocol; this tool's profile, tool primaries).
-use Rattle.std.specs.Prelude.{◌≡◌, ℕ, ◌+◌, ◌%◌, ◌≤◌, Bool, false, true, not, ◌==◌, nat_le, List, [], ◌∷◌, ◌++◌, length, filter, Option, Some, None}
+use Rattle.std.specs.Prelude.{◌≡◌, ℕ, ◌≤◌, Bool, false, not, ◌==◌, nat_le, List, [], ◌∷◌, length, filter, Option, Some, None}
 use Rattle.std.specs.List.{list_any}
 use Rattle.transactions.specs.declared.transaction.Open.{Open}
 use Rattle.transactions.specs.declared.transaction.What.{What}

@@ -1,0 +1,5 @@
+pub mod Finding
+pub mod Systems
+pub mod Keeping
+pub mod Drawing
+pub mod Expiring

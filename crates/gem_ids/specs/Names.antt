@@ -1,13 +1,9 @@
 -- What the names of carriers, jobs and substrates hold.
 use Rattle.std.specs.Prelude.{ℕ, ◌+◌, ◌/◌, ◌%◌, ◌≤◌, List, [], ◌∷◌, ◌++◌, length}
 
--- a text that can name a carrier or a job: 1 to 64 bytes (this tool's profile, names)
-abbrev pub IsName : List ℕ → Type 0
-IsName text = (1 ≤ length text) × (length text ≤ 64)
-
--- a text that can name a substrate: 4 to 67 bytes (this tool's profile, names)
-abbrev pub IsSubstrateName : List ℕ → Type 0
-IsSubstrateName text = (4 ≤ length text) × (length text ≤ 67)
+-- a text of at least so many bytes and at most so many: 1 to 64 name a carrier or a job, 4 to 67 a substrate (this tool's profile, names)
+abbrev pub HasLength : ℕ → ℕ → List ℕ → Type 0
+HasLength least most text = (least ≤ length text) × (length text ≤ most)
 
 -- two decimal digits, in ASCII
 abbrev pub two_digits : ℕ → List ℕ

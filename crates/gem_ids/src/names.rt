@@ -1,46 +1,51 @@
 ghost use Rattle.std.specs.Prelude.{◌≡◌, ℕ, ◌≤◌, ◌↔◌, List, length, IsSome, IfSome};
 ghost use Rattle.gem_ids.specs.Texts.{IsText};
-ghost use Rattle.gem_ids.specs.Names.{IsName, IsSubstrateName, name_in_slot};
+ghost use Rattle.gem_ids.specs.Names.{HasLength, name_in_slot};
 
 use crate::numbers::SlotNo;
 use crate::text::Text80;
-use std::marker::Model;
+use std::marker::{Model, PhantomData};
 
-/// The name of a carrier, 1 to 64 bytes, which contracts see as the list of its bytes.
+/// The name of a thing of kind `K`, a text of `LEAST` to `MOST` bytes (this tool's profile, names). Contracts see it
+/// as the list of its bytes. Names of two kinds are of two types, and are never mistaken for one another.
 #[derive(Clone, Copy, Debug, PartialEq, Eq)]
-pub struct CarrierId {
+pub struct Name<K, const LEAST: usize, const MOST: usize> {
     text: Text80,
+    kind: PhantomData<K>,
 }
 
-impl Model for CarrierId {
+impl<K, const LEAST: usize, const MOST: usize> Model for Name<K, LEAST, MOST> {
     ghost use Rattle.std.specs.Prelude.{ℕ, List};
-    ghost use Rattle.gem_ids.specs.Names.{IsName};
+    ghost use Rattle.gem_ids.specs.Names.{HasLength};
 
     ghost Value = { List ℕ };
 
-    ghost view = { λ c. c.text };
+    ghost view = { λ n. n.text };
 
-    ghost invariant = { λ c. IsName c.text };
+    ghost invariant = { λ n. HasLength LEAST MOST n.text };
 
-    ghost inverse = { λ bytes. record { text = bytes } };
+    ghost inverse = { λ bytes. record { text = bytes; kind = record {} } };
 }
 
-impl CarrierId {
-    /// The carrier of this name. None where the text has no bytes, or more than 64.
-    pub fn read(t: Text80) -> Option<CarrierId>
-        ensures name { IfSome result (λ id. id ≡ t) }
-        ensures some { IsSome result ↔ IsName t }
+impl<K, const LEAST: usize, const MOST: usize> Name<K, LEAST, MOST> {
+    /// The name of these bytes. None where the text has fewer than `LEAST` bytes, or more than `MOST`.
+    pub fn read(t: Text80) -> Option<Name<K, LEAST, MOST>>
+        ensures name { IfSome result (λ name. name ≡ t) }
+        ensures some { IsSome result ↔ HasLength LEAST MOST t }
     {
-        if t.is_empty() || t.len() > 64 {
+        if t.len() < LEAST || t.len() > MOST {
             return None;
         }
-        Some(CarrierId { text: t })
+        Some(Name {
+            text: t,
+            kind: PhantomData,
+        })
     }
 
     /// The bytes of the name.
     pub fn as_bytes(&self) -> &[u8]
         ensures value { result.now ≡ self.now }
-        ensures name { IsName self.now }
+        ensures name { HasLength LEAST MOST self.now }
         ensures text { IsText self.now }
     {
         self.text.as_bytes()
@@ -49,109 +54,32 @@ impl CarrierId {
     /// The name as a text.
     pub fn text(self) -> Text80
         ensures value { result ≡ self }
-        ensures name { IsName self }
+        ensures name { HasLength LEAST MOST self }
     {
         self.text
     }
 }
 
-/// The name of a process job or a control job, 1 to 64 bytes, which contracts see as the list of its bytes.
+/// The kind of `CarrierId`.
 #[derive(Clone, Copy, Debug, PartialEq, Eq)]
-pub struct JobId {
-    text: Text80,
-}
+pub struct CarrierKind;
 
-impl Model for JobId {
-    ghost use Rattle.std.specs.Prelude.{ℕ, List};
-    ghost use Rattle.gem_ids.specs.Names.{IsName};
-
-    ghost Value = { List ℕ };
-
-    ghost view = { λ j. j.text };
-
-    ghost invariant = { λ j. IsName j.text };
-
-    ghost inverse = { λ bytes. record { text = bytes } };
-}
-
-impl JobId {
-    /// The job of this name. None where the text has no bytes, or more than 64.
-    pub fn read(t: Text80) -> Option<JobId>
-        ensures name { IfSome result (λ id. id ≡ t) }
-        ensures some { IsSome result ↔ IsName t }
-    {
-        if t.is_empty() || t.len() > 64 {
-            return None;
-        }
-        Some(JobId { text: t })
-    }
-
-    /// The bytes of the name.
-    pub fn as_bytes(&self) -> &[u8]
-        ensures value { result.now ≡ self.now }
-        ensures name { IsName self.now }
-        ensures text { IsText self.now }
-    {
-        self.text.as_bytes()
-    }
-
-    /// The name as a text.
-    pub fn text(self) -> Text80
-        ensures value { result ≡ self }
-        ensures name { IsName self }
-    {
-        self.text
-    }
-}
-
-/// The name of a substrate, 4 to 67 bytes, which contracts see as the list of its bytes.
+/// The kind of `JobId`.
 #[derive(Clone, Copy, Debug, PartialEq, Eq)]
-pub struct SubstrateId {
-    text: Text80,
-}
+pub struct JobKind;
 
-impl Model for SubstrateId {
-    ghost use Rattle.std.specs.Prelude.{ℕ, List};
-    ghost use Rattle.gem_ids.specs.Names.{IsSubstrateName};
+/// The kind of `SubstrateId`.
+#[derive(Clone, Copy, Debug, PartialEq, Eq)]
+pub struct SubstrateKind;
 
-    ghost Value = { List ℕ };
+/// The name of a carrier, 1 to 64 bytes (SEMI E87, carrier).
+pub type CarrierId = Name<CarrierKind, 1, 64>;
 
-    ghost view = { λ s. s.text };
+/// The name of a process job or a control job, 1 to 64 bytes.
+pub type JobId = Name<JobKind, 1, 64>;
 
-    ghost invariant = { λ s. IsSubstrateName s.text };
-
-    ghost inverse = { λ bytes. record { text = bytes } };
-}
-
-impl SubstrateId {
-    /// The substrate of this name. None where the text has fewer than 4 bytes, or more than 67.
-    pub fn read(t: Text80) -> Option<SubstrateId>
-        ensures name { IfSome result (λ id. id ≡ t) }
-        ensures some { IsSome result ↔ IsSubstrateName t }
-    {
-        if t.len() < 4 || t.len() > 67 {
-            return None;
-        }
-        Some(SubstrateId { text: t })
-    }
-
-    /// The bytes of the name.
-    pub fn as_bytes(&self) -> &[u8]
-        ensures value { result.now ≡ self.now }
-        ensures name { IsSubstrateName self.now }
-        ensures text { IsText self.now }
-    {
-        self.text.as_bytes()
-    }
-
-    /// The name as a text.
-    pub fn text(self) -> Text80
-        ensures value { result ≡ self }
-        ensures name { IsSubstrateName self }
-    {
-        self.text
-    }
-}
+/// The name of a substrate, 4 to 67 bytes.
+pub type SubstrateId = Name<SubstrateKind, 4, 67>;
 
 /// The name that this tool gives the substrate in a slot of a carrier, the slot being 1 to 25: the carrier's name, a
 /// point, and the slot in two digits.
@@ -164,7 +92,10 @@ pub fn substrate_id(carrier: CarrierId, slot: SlotNo) -> SubstrateId
     text.push(b'.');
     text.push(b'0' + slot.0 / 10);
     text.push(b'0' + slot.0 % 10);
-    SubstrateId { text }
+    Name {
+        text,
+        kind: PhantomData,
+    }
 }
 
 #[cfg(test)]

@@ -1,55 +1,7 @@
-ghost use Rattle.std.specs.Prelude.{◌≡◌};
+use gem_ids::Listed;
 
-use std::alloc::AllocError;
-use std::marker::Model;
-
-/// The elements of an item that are all of one kind. Contracts see it as the list.
-#[derive(Debug, Drop)]
-pub struct Elements<T> {
-    elements: Vec<T>,
-}
-
-impl<T> Model for Elements<T> {
-    ghost use Rattle.std.specs.Prelude.{List};
-
-    ghost Value = { List T };
-
-    ghost view = { λ e. e.elements.items };
-}
-
-impl<T> Elements<T> {
-    /// The elements of a vector. Takes no memory.
-    pub fn from_vec(elements: Vec<T>) -> Elements<T>
-        ensures { result ≡ elements.items }
-    {
-        Elements { elements }
-    }
-
-    /// Gives the vector back. Takes no memory.
-    pub fn into_vec(self) -> Vec<T>
-        ensures { result.items ≡ self }
-    {
-        let Elements { elements } = self;
-        elements
-    }
-
-    /// The elements as a slice.
-    pub fn as_slice(&self) -> &[T]
-        ensures { result.now ≡ self.now }
-    {
-        self.elements.as_slice()
-    }
-}
-
-impl<T: Copy> Clone for Elements<T> {
-    ghost is_clone = { λ x y. y ≡ x };
-
-    fn clone(&self) -> Result<Elements<T>, AllocError> {
-        let elements = Vec::from_slice(*self.elements.allocator(), self.elements.as_slice())?;
-        Ok(Elements { elements })
-    }
-}
-
+/// The elements of an item that are all of one kind.
+pub type Elements<T> = Listed<T>;
 /// The bytes of a binary item, or the characters of an ASCII item.
 pub type Bytes = Elements<u8>;
 /// The truth values of a boolean item.

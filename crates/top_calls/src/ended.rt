@@ -1,7 +1,6 @@
 //! How a run ended.
-use gem_ids::Text80;
+use gem_ids::{Listed, Text80};
 use std::alloc::{AllocError, Global};
-use std::marker::Model;
 use tool_core::Entries;
 use tool_events::SessionCause;
 
@@ -84,104 +83,11 @@ pub struct SessionNote {
     pub cause: SessionCause,
 }
 
-/// A list of session notes, which contracts see as the list.
-#[derive(Debug, Drop)]
-pub struct Notes {
-    notes: Vec<SessionNote>,
-}
+/// A list of session notes.
+pub type Notes = Listed<SessionNote>;
 
-impl Model for Notes {
-    ghost use Rattle.std.specs.Prelude.{List};
-    ghost use Rattle.top_calls.specs.declared.ended.SessionNote.{SessionNote};
-
-    ghost Value = { List SessionNote };
-
-    ghost view = { λ n. n.notes.items };
-}
-
-impl Notes {
-    ghost use Rattle.std.specs.Prelude.{◌≡◌, []};
-
-    /// No notes.
-    pub fn none(alloc: Global) -> Notes
-        ensures { result ≡ [] }
-    {
-        Notes {
-            notes: Vec::new(alloc),
-        }
-    }
-
-    /// The notes of a vector. Takes no memory.
-    pub fn from_vec(notes: Vec<SessionNote>) -> Notes
-        ensures { result ≡ notes.items }
-    {
-        Notes { notes }
-    }
-
-    /// Gives the vector back. Takes no memory.
-    pub fn into_vec(self) -> Vec<SessionNote>
-        ensures { result.items ≡ self }
-    {
-        let Notes { notes } = self;
-        notes
-    }
-
-    /// The notes as a slice.
-    pub fn as_slice(&self) -> &[SessionNote]
-        ensures { result.now ≡ self.now }
-    {
-        self.notes.as_slice()
-    }
-}
-
-/// A list of panels, seven numbers each, which contracts see as the list.
-#[derive(Debug, Drop)]
-pub struct Panels {
-    panels: Vec<[u64; 7]>,
-}
-
-impl Model for Panels {
-    ghost use Rattle.std.specs.Prelude.{ℕ, List};
-
-    ghost Value = { List (List ℕ) };
-
-    ghost view = { λ p. p.panels.items };
-}
-
-impl Panels {
-    ghost use Rattle.std.specs.Prelude.{◌≡◌, []};
-
-    /// No panels.
-    pub fn none(alloc: Global) -> Panels
-        ensures { result ≡ [] }
-    {
-        Panels {
-            panels: Vec::new(alloc),
-        }
-    }
-
-    /// The panels of a vector. Takes no memory.
-    pub fn from_vec(panels: Vec<[u64; 7]>) -> Panels
-        ensures { result ≡ panels.items }
-    {
-        Panels { panels }
-    }
-
-    /// Gives the vector back. Takes no memory.
-    pub fn into_vec(self) -> Vec<[u64; 7]>
-        ensures { result.items ≡ self }
-    {
-        let Panels { panels } = self;
-        panels
-    }
-
-    /// The panels as a slice.
-    pub fn as_slice(&self) -> &[[u64; 7]]
-        ensures { result.now ≡ self.now }
-    {
-        self.panels.as_slice()
-    }
-}
+/// A list of panels, seven numbers each.
+pub type Panels = Listed<[u64; 7]>;
 
 /// How a run ended: its status and cause, the history, a note for each session, and, once they are built, the panels that
 /// were read. Until then that list is empty.

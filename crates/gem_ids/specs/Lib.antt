@@ -2,3 +2,4 @@ pub mod Moments
 pub mod Texts
 pub mod Held
 pub mod Names
+pub mod Civil

@@ -2,6 +2,8 @@
 use Rattle.std.specs.Prelude.{ℕ, ◌+◌, Bool, ◌&&◌, not, if◌then◌else◌, List, [], ◌∷◌, codes, Option, Some, None, nat_eq}
 use Rattle.std.specs.Str.{bytes_eq}
 use Rattle.tool_events.specs.declared.config.Config.{Config}
+use Rattle.tool_events.specs.declared.config.CommStart.TheVariants as start
+use Rattle.tool_events.specs.declared.config.ControlStart.TheVariants as begin
 use Rattle.std.specs.List.{starts_with}
 
 -- a word that can name a file: it isn't empty and doesn't begin with a minus (this tool's profile, the program's words)
@@ -38,7 +40,13 @@ known_config = record {
   device = 0;
   mdln = codes "GEM300";
   softrev = codes "1.0.00";
+  communication = start.Communicating;
+  control = begin.OnlineRemote;
+  t3 = 4500;
+  t6 = 500;
   t7 = 1000;
+  establish = 1000;
+  linktest = 0;
   max_entries = 4000000;
   max_bytes = 536870912;
   start_moment = record { 0 = 0 };

@@ -1,7 +1,14 @@
-pub mod Choose
 pub mod Front
 pub mod State
-pub mod Messages
+pub mod Sending
+pub mod Fire
+pub mod Direct
+pub mod Ready
+pub mod Measure
+pub mod Settle
+pub mod Verdict
+pub mod Act
+pub mod Due
 pub mod Step
 pub mod Run
 pub mod Sessions

@@ -1,11 +1,34 @@
 -- What the tool is at a moment: plain numbers and lists, with no index and no count beside them.
-use Rattle.std.specs.Prelude.{ℕ, ◌+◌, ◌%◌, ◌^◌, min, max, Bool, ◌&&◌, ◌==◌, List, [], ◌∷◌, ◌++◌}
+use Rattle.std.specs.Prelude.{ℕ, ◌+◌, ◌-◌, min, max, Bool, true, false, ◌&&◌, ◌==◌, List, [], ◌∷◌, ◌++◌}
+use Rattle.gem_ids.specs.Moments.{last_moment}
+use Rattle.gem_states.specs.declared.communication.Comm.{Comm}
+use Rattle.gem_states.specs.declared.communication.Comm.TheVariants as comm
+use Rattle.gem_states.specs.declared.control.Control.{Control}
+use Rattle.gem_states.specs.declared.control.Control.TheVariants as control
 use Rattle.hsms_link.specs.declared.state.LinkState.{LinkState}
 use Rattle.hsms_link.specs.declared.state.Phase.TheVariants.{Down}
 use Rattle.hsms_link.specs.declared.state.Ping.TheVariants.{Off}
 use Rattle.hsms_link.specs.Links as links
 use Rattle.tool_events.specs.declared.config.Config.{Config}
-use Rattle.gem_ids.specs.Moments.{last_moment}
+use Rattle.tool_events.specs.declared.config.CommStart.{CommStart}
+use Rattle.tool_events.specs.declared.config.CommStart.TheVariants as start
+use Rattle.tool_events.specs.declared.config.ControlStart.{ControlStart}
+use Rattle.tool_events.specs.declared.config.ControlStart.TheVariants as begin
+use Rattle.transactions.specs.Table.{Table, none_open}
+
+-- the clock that the host sees: what it showed, and the moment at which it did (this tool's profile, time)
+pub record Clock : Type 0 where
+  pub shown : ℕ
+  pub at : ℕ
+
+-- times that the host may change, in hundredths of a second: T3, T6 and T7, how long the tool waits before it asks for
+-- communication again, and the linktest period (this tool's profile, constants)
+pub record Times : Type 0 where
+  pub t3 : ℕ
+  pub t6 : ℕ
+  pub t7 : ℕ
+  pub establish : ℕ
+  pub linktest : ℕ
 
 -- the state of the tool
 pub record State : Type 0 where
@@ -13,22 +36,65 @@ pub record State : Type 0 where
   pub config : Config
   -- the greatest moment that was given, in hundredths of a second since 2000
   pub moment : ℕ
+  pub clock : Clock
+  -- the operator ended the run
+  pub quitting : Bool
   -- the link of the last session; sessions are numbered from 1, and 0 says that none came yet
   pub link : LinkState
-  -- the system bytes of the tool's next message of its own
-  pub next_system : ℕ
+  -- communication with the host, and control (SEMI E30)
+  pub comm : Comm
+  pub control : Control
+  -- the operator's switch stands at local, and else at remote
+  pub switch_local : Bool
+  -- the open transactions, and the counter of system bytes
+  pub transactions : Table
+  pub times : Times
   -- the frames that wait for the writer, the oldest first
   pub waiting : List (List ℕ)
+
+-- ---- the first state
+
+-- the first state of communication; in WAIT DELAY the delay is over (this tool's profile, configuration)
+abbrev pub first_comm : CommStart → Comm
+first_comm start.Disabled = comm.Disabled
+first_comm start.Enabled = comm.WaitDelay 0
+first_comm start.Communicating = comm.Communicating
+
+-- the first state of control (this tool's profile, configuration)
+abbrev pub first_control : ControlStart → Control
+first_control begin.EquipmentOffline = control.EquipmentOffline
+first_control begin.HostOffline = control.HostOffline
+first_control begin.OnlineLocal = control.Local
+first_control begin.OnlineRemote = control.Remote
+
+-- the switch begins at local exactly where the tool begins in ON-LINE LOCAL (this tool's profile, configuration)
+abbrev pub first_switch : ControlStart → Bool
+first_switch begin.EquipmentOffline = false
+first_switch begin.HostOffline = false
+first_switch begin.OnlineLocal = true
+first_switch begin.OnlineRemote = false
+
+-- the times that the configuration gives
+abbrev pub times_of : Config → Times
+times_of c = record { t3 = c.t3; t6 = c.t6; t7 = c.t7; establish = c.establish; linktest = c.linktest }
 
 -- the first state: no session came yet, and the link is down (this tool's profile, states of the link, and time)
 abbrev pub opening : Config → State
 opening c = record {
   config = c;
   moment = c.start_moment.0;
+  clock = record { shown = c.start_moment.0; at = c.start_moment.0 };
+  quitting = false;
   link = record { session = 0; phase = Down; ping = Off };
-  next_system = 1;
+  comm = first_comm c.communication;
+  control = first_control c.control;
+  switch_local = first_switch c.control;
+  transactions = none_open;
+  times = times_of c;
   waiting = [];
 }
+
+-- ---- what a state says
 
 -- a session is up
 abbrev pub is_up : State → Bool
@@ -38,19 +104,49 @@ is_up g = links.is_up g.link.phase
 abbrev pub is_session_up : State → ℕ → Bool
 is_session_up g session = is_up g && (g.link.session == session)
 
+-- the link is selected
+abbrev pub is_selected : State → Bool
+is_selected g = links.is_selected g.link.phase
+
+-- communication is DISABLED (SEMI E30)
+abbrev pub is_disabled : Comm → Bool
+is_disabled comm.Disabled = true
+is_disabled _ = false
+
+-- host and tool communicate: COMMUNICATING (SEMI E30)
+abbrev pub is_communicating : Comm → Bool
+is_communicating comm.Communicating = true
+is_communicating _ = false
+
+-- control is ON-LINE, local or remote (SEMI E30)
+abbrev pub is_online : Control → Bool
+is_online control.Local = true
+is_online control.Remote = true
+is_online _ = false
+
+-- the tool can ask the host: they communicate, and the link is selected
+abbrev pub can_ask : State → Bool
+can_ask g = is_communicating g.comm && is_selected g
+
+-- the clock that the host sees, which stops at the last moment (this tool's profile, time)
+abbrev pub clock_now : State → ℕ
+clock_now g = min (g.clock.shown + (g.moment - g.clock.at)) last_moment
+
+-- ---- small changes
+
 -- a step begins by raising the moment to the given one, where that is greater, at most to the last
 -- (this tool's profile, time)
 abbrev pub raised : State → ℕ → State
 raised g at = record g { moment = min (max g.moment at) last_moment }
 
--- the system bytes after these; they wrap (this tool's profile, data messages)
-abbrev pub system_after : ℕ → ℕ
-system_after system = (system + 1) % 2 ^ 32
-
 -- a frame waits behind the others
-abbrev pub with_frame : State → List ℕ → State
-with_frame g frame = record g { waiting = g.waiting ++ frame ∷ [] }
+abbrev pub with_frame : List ℕ → State → State
+with_frame frame g = record g { waiting = g.waiting ++ frame ∷ [] }
 
--- the session ends: the link is down, and the frames that wait are gone (this tool's profile, states of the link)
+-- no transaction is open any more
+abbrev pub none_asked : State → State
+none_asked g = record g { transactions = record g.transactions { opened = [] } }
+
+-- the link is down, the frames that wait are gone, and every transaction has failed (this tool's profile, sessions)
 abbrev pub without_session : State → State
-without_session g = record g { link = record g.link { phase = Down; ping = Off }; waiting = [] }
+without_session g = record (none_asked g) { link = record g.link { phase = Down; ping = Off }; waiting = [] }

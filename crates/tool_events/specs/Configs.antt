@@ -10,8 +10,15 @@ pub record IsConfig (c : Config) : Type 0 where
   pub mdln : length c.mdln ≤ 20
   pub softrev_some : 1 ≤ length c.softrev
   pub softrev : length c.softrev ≤ 20
+  pub t3_least : 100 ≤ c.t3
+  pub t3 : c.t3 ≤ 12000
+  pub t6_least : 100 ≤ c.t6
+  pub t6 : c.t6 ≤ 12000
   pub t7_least : 100 ≤ c.t7
   pub t7 : c.t7 ≤ 12000
+  pub establish_least : 1 ≤ c.establish
+  pub establish : c.establish ≤ 60000
+  pub linktest : c.linktest ≤ 60000
   pub entries_some : 1 ≤ c.max_entries
   pub entries : c.max_entries ≤ 4000000
   pub bytes : c.max_bytes ≤ 536870912

@@ -1,6 +1,26 @@
 use gem_ids::{Moment, Text80};
 
-/// What a configuration says (this tool's profile, configuration). It has the keys that are built by now.
+/// The first state of communication (SEMI E30, communication states): DISABLED, WAIT DELAY with the delay over, or
+/// COMMUNICATING.
+#[derive(Clone, Copy, Debug, PartialEq, Eq)]
+pub enum CommStart {
+    Disabled,
+    Enabled,
+    Communicating,
+}
+
+/// The first state of control (SEMI E30, control states). The operator's switch begins at local exactly for
+/// `OnlineLocal`.
+#[derive(Clone, Copy, Debug, PartialEq, Eq)]
+pub enum ControlStart {
+    EquipmentOffline,
+    HostOffline,
+    OnlineLocal,
+    OnlineRemote,
+}
+
+/// What a configuration says (this tool's profile, configuration). It has the keys that are built by now. Times are in
+/// hundredths of a second.
 #[derive(Clone, Copy, Debug, PartialEq, Eq)]
 pub struct Config {
     /// The session id of the tool's messages, at most 32,767.
@@ -9,8 +29,21 @@ pub struct Config {
     pub mdln: Text80,
     /// The software revision, 1 to 20 bytes.
     pub softrev: Text80,
-    /// How long a link may stay unselected, 100 to 12,000 hundredths of a second (SEMI E37, T7).
+    /// How communication begins.
+    pub communication: CommStart,
+    /// How control begins.
+    pub control: ControlStart,
+    /// How long the tool waits for an answer to a primary of its own, 100 to 12,000 (SEMI E37, T3).
+    pub t3: u32,
+    /// How long the tool waits for an answer to its linktest, 100 to 12,000 (SEMI E37, T6).
+    pub t6: u32,
+    /// How long a link may stay unselected, 100 to 12,000 (SEMI E37, T7).
     pub t7: u32,
+    /// How long the tool waits before it asks for communication again, 1 to 60,000 (SEMI E30, establish communications
+    /// timeout).
+    pub establish: u32,
+    /// How long a link is quiet before the tool asks a linktest, at most 60,000; 0 means that it asks none.
+    pub linktest: u32,
     /// The greatest number of entries of the history, 1 to 4,000,000.
     pub max_entries: u64,
     /// The greatest number of bytes of text in the history, at most 536,870,912.

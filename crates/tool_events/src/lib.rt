@@ -11,7 +11,7 @@ mod entry;
 mod event;
 
 pub use answer::{Answer, Command, PostFault, Task};
-pub use config::Config;
+pub use config::{CommStart, Config, ControlStart};
 pub use desk::Desk;
 pub use entry::Entry;
 pub use event::{Event, JobWord, OperCmd, SessionCause, SessionEnd, Signal};

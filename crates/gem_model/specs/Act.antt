@@ -1,0 +1,59 @@
+-- What a data message does: its reply, what it writes, and its direct rows (this tool's profile, data messages).
+use Rattle.std.specs.Prelude.{ℕ, ◌+◌, if◌then◌else◌, List, [], Option, Some, None}
+use Rattle.gem_ids.specs.Civil.{moment_in}
+use Rattle.hsms_frame.specs.declared.frame.Header.{Header}
+use Rattle.hsms_frame.specs.declared.frame.Arrival.{Arrival}
+use Rattle.secs_items.specs.Data.{Data}
+use Rattle.secs_items.specs.Plain.{plain}
+use Rattle.msgs_gem.specs.declared.primary.GemMsg.{GemMsg}
+use Rattle.msgs_gem.specs.declared.primary.GemMsg.TheVariants as msg
+use Rattle.msgs_gem.specs.Replies.{reply_body}
+use Rattle.transactions.specs.declared.transaction.Open.{Open}
+use Rattle.transactions.specs.Table.{taken_out}
+use Rattle.transactions.specs.Endings.{answered}
+use Rattle.gem_model.specs.State.{State, without_session}
+use Rattle.gem_model.specs.Fire.{fire_listed}
+use Rattle.gem_model.specs.Direct.{message_rows, answer_rows, session_end_rows}
+use Rattle.gem_model.specs.Sending.{replies, sends_stream9}
+use Rattle.gem_model.specs.Verdict.{Verdict, Discarded, Stream9, Aborted, Answers, Taken, verdict, header_of, item_of, wants_reply, stream_of, function_of, reply_to}
+
+-- the host's clock is set to this moment, where there is one
+abbrev pub clock_set : Option ℕ → State → State
+clock_set None g = g
+clock_set (Some shown) g = record g { clock = record { shown = shown; at = g.moment } }
+
+-- what a message writes: S2F31 sets the clock (SEMI E5, S2F31)
+abbrev pub written : GemMsg → State → State
+written (msg.S2F31 text) g = clock_set (moment_in text) g
+written _ g = g
+
+-- a reply is sent where one is wanted, under the same system bytes
+abbrev pub replied : Header → ℕ → List ℕ → State → State
+replied h function text g = if wants_reply h then replies (stream_of h) function h.system text g else g
+
+-- a message that is taken: its reply, what it writes, and then its direct rows
+abbrev pub taken : Header → GemMsg → State → State
+taken h m g =
+    fire_listed (message_rows m g) (written m (replied h (function_of h + 1) (plain (reply_body (reply_to g m))) g))
+
+-- the transaction that a message answers is closed, and its rows fire; without one the message is discarded
+abbrev pub closed_by : Header → Option Data → Option Open → State → State
+closed_by h item None g = g
+closed_by h item (Some one) g =
+    fire_listed (answer_rows one.what (function_of h) item g) (record g { transactions = taken_out (Some one) g.transactions })
+
+-- a data message, by its verdict
+abbrev pub data_act : Header → Option Data → Verdict → State → State
+data_act h item Discarded g = g
+data_act h item (Stream9 function) g = sends_stream9 function h g
+data_act h item Aborted g = replied h 0 [] g
+data_act h item Answers g = closed_by h item (answered h.system (stream_of h) (function_of h) g.transactions.opened) g
+data_act h item (Taken m) g = taken h m g
+
+-- a data message
+abbrev pub data_done : Arrival → State → State
+data_done arrival g = data_act (header_of arrival) (item_of arrival) (verdict g arrival) g
+
+-- the session ends: its direct rows fire in the state without it
+abbrev pub session_ended : State → State
+session_ended g = fire_listed (session_end_rows g) (without_session g)

@@ -1,0 +1,75 @@
+-- The direct rows of each input, in order (this tool's profile, direct rows). A listed row that does not start at the
+-- present state is left out when they fire.
+use Rattle.std.specs.Prelude.{ℕ, ◌==◌, Bool, true, false, if◌then◌else◌, List, [], ◌++◌, Option, Some, None, is_some}
+use Rattle.secs_items.specs.Data.{Data}
+use Rattle.gem_states.specs.declared.communication.CommTrigger.{CommTrigger}
+use Rattle.gem_states.specs.declared.communication.CommTrigger.TheVariants as comm
+use Rattle.gem_states.specs.declared.control.ControlTrigger.{ControlTrigger}
+use Rattle.gem_states.specs.declared.control.ControlTrigger.TheVariants as control
+use Rattle.gem_states.specs.Meaning.{comm_rows, control_rows}
+use Rattle.gem_tables.specs.Table.{Firing}
+use Rattle.msgs_gem.specs.declared.primary.GemMsg.{GemMsg}
+use Rattle.msgs_gem.specs.declared.primary.GemMsg.TheVariants as msg
+use Rattle.msgs_gem.specs.Acknowledge.{accepts}
+use Rattle.tool_events.specs.declared.event.OperCmd.{OperCmd}
+use Rattle.tool_events.specs.declared.event.OperCmd.TheVariants as oper
+use Rattle.transactions.specs.declared.transaction.What.{What}
+use Rattle.transactions.specs.declared.transaction.What.TheVariants as what
+use Rattle.transactions.specs.Endings.{first_of}
+use Rattle.gem_model.specs.State.{State}
+use Rattle.gem_model.specs.Fire.{of_comm, of_control}
+
+-- the rows of table 1 that a trigger fires
+abbrev pub by_comm : CommTrigger → List Firing
+by_comm t = of_comm (comm_rows t)
+
+-- the rows of table 2 that a trigger fires, by the operator's switch
+abbrev pub by_control : ControlTrigger → State → List Firing
+by_control t g = of_control (control_rows t g.switch_local)
+
+-- the rows of every open transaction that fails: 2.3 where the tool's S1F1 was open
+abbrev pub all_fail : State → List Firing
+all_fail g = if is_some (first_of what.Attempt g.transactions.opened) then by_control control.Failed g else []
+
+-- the session ends
+abbrev pub session_end_rows : State → List Firing
+session_end_rows g = by_comm comm.SessionEnd ++ all_fail g
+
+-- an operator's command
+abbrev pub operator_rows : OperCmd → State → List Firing
+operator_rows oper.Enable g = by_comm comm.Enable
+operator_rows oper.Disable g = by_comm comm.Disable ++ all_fail g
+operator_rows oper.Online g = by_control control.Online g
+operator_rows oper.Offline g = by_control control.Offline g
+operator_rows oper.Local g = by_control control.Local g
+operator_rows oper.Remote g = by_control control.Remote g
+operator_rows _ g = []
+
+-- a primary of the host that is accepted
+abbrev pub message_rows : GemMsg → State → List Firing
+message_rows msg.S1F1 g = []
+message_rows msg.S1F13 g = by_comm comm.HostS1F13
+message_rows msg.S1F15 g = by_control control.HostS1F15 g
+message_rows msg.S1F17 g = by_control control.HostS1F17 g
+message_rows msg.S2F17 g = []
+message_rows (msg.S2F31 text) g = []
+
+-- what the answer to the tool's S1F13 does: S1F14 with COMMACK 0 accepts, another S1F14 and S1F0 refuse
+abbrev pub establish_answer : ℕ → Option Data → CommTrigger
+establish_answer function item = if function == 0 then comm.Refused else (if accepts item then comm.Accepted else comm.Refused)
+
+-- what the answer to the tool's S1F1 does: S1F2, and S1F0 by which it fails
+abbrev pub attempt_answer : ℕ → ControlTrigger
+attempt_answer function = if function == 0 then control.Failed else control.HostS1F2
+
+-- a message of this function, whose text is this item, that answers a transaction of this kind
+abbrev pub answer_rows : What → ℕ → Option Data → State → List Firing
+answer_rows what.Establish function item g = by_comm (establish_answer function item)
+answer_rows what.Attempt function item g = by_control (attempt_answer function) g
+answer_rows (what.Note n) function item g = []
+
+-- T3 of a transaction of this kind is over
+abbrev pub timeout_rows : What → State → List Firing
+timeout_rows what.Establish g = by_comm comm.Refused
+timeout_rows what.Attempt g = by_control control.Failed g
+timeout_rows (what.Note n) g = []

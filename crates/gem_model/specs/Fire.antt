@@ -1,0 +1,83 @@
+-- What a row does when it fires: its state and its effect, and then the note that it makes. Direct and automatic rows
+-- fire alike (this tool's profile, transition tables; the printed rows stand in gem_tables).
+use Rattle.std.specs.Prelude.{ℕ, ◌+◌, ◌==◌, Bool, false, if◌then◌else◌, List, [], ◌∷◌, map}
+use Rattle.gem_states.specs.Meaning.{comm_number, comm_fired, control_number, control_fired}
+use Rattle.gem_tables.specs.Table.{Firing, firing, starts}
+use Rattle.gem_tables.specs.Communication.{communication_table}
+use Rattle.gem_tables.specs.Control.{control_table}
+use Rattle.transactions.specs.declared.transaction.What.{What}
+use Rattle.transactions.specs.declared.transaction.What.TheVariants as what
+use Rattle.transactions.specs.Table.{taken_out}
+use Rattle.transactions.specs.Endings.{first_of}
+use Rattle.gem_model.specs.State.{State, can_ask, none_asked}
+use Rattle.gem_model.specs.Sending.{asks, identity_text}
+
+-- the transaction of this kind is open no more
+abbrev pub forgets : What → State → State
+forgets kind g = record g { transactions = taken_out (first_of kind g.transactions.opened) g.transactions }
+
+-- ---- table 1, communication
+
+-- when WAIT DELAY is over behind a row: row 5 waits for the establish timeout; behind rows 1 and 7 it is over at once
+abbrev pub delay_end : ℕ → State → ℕ
+delay_end row g = if row == 5 then g.moment + g.times.establish else 0
+
+-- row 2: every open transaction fails; row 3: S1F13 is sent; row 6: the tool's S1F13 is forgotten
+abbrev pub comm_effect : ℕ → State → State
+comm_effect row g =
+    if row == 2 then none_asked g
+    else (if row == 3 then asks 1 13 what.Establish (identity_text g.config) g
+    else (if row == 6 then forgets what.Establish g else g))
+
+abbrev pub fire_comm : ℕ → State → State
+fire_comm row g = comm_effect row (record g { comm = comm_fired row (delay_end row g) g.comm })
+
+-- ---- table 2, control
+
+-- row 1: S1F1 is sent where the tool can ask; row 6: the tool's S1F1 is forgotten
+abbrev pub control_effect : ℕ → State → State
+control_effect row g =
+    if row == 1 then (if can_ask g then asks 1 1 what.Attempt [] g else g)
+    else (if row == 6 then forgets what.Attempt g else g)
+
+abbrev pub fire_control : ℕ → State → State
+fire_control row g = control_effect row (record g { control = control_fired row g.control })
+
+-- ---- all tables
+
+-- the row of a firing starts at the present state
+abbrev pub row_starts : State → Firing → Bool
+row_starts g f =
+    if f.table == 1 then starts communication_table f.row (comm_number g.comm)
+    else (if f.table == 2 then starts control_table f.row (control_number g.control) else false)
+
+-- the row's state and effect; all else stays
+abbrev pub takes_effect : State → Firing → State
+takes_effect g f = if f.table == 1 then fire_comm f.row g else (if f.table == 2 then fire_control f.row g else g)
+
+-- the note that a firing makes, with the values behind its effect: no event is reported yet
+abbrev pub noted : State → Firing → State → State
+noted before f g = g
+
+-- a row fires
+abbrev pub fire : State → Firing → State
+fire g f = noted g f (takes_effect g f)
+
+-- the rows of the objects that a firing created, which are fired straight after it: no row creates one yet
+abbrev pub creations : State → Firing → List Firing
+creations g f = []
+
+-- ---- direct rows
+
+-- the listed rows fire in order; one that does not start at the state then reached is left out (this tool's profile,
+-- direct rows)
+abbrev pub fire_listed : List Firing → State → State
+fire_listed [] g = g
+fire_listed (f ∷ fs) g = fire_listed fs (if row_starts g f then fire g f else g)
+
+-- these rows of table 1, and these of table 2; each of these tables has one object
+abbrev pub of_comm : List ℕ → List Firing
+of_comm rows = map (firing 1 0) rows
+
+abbrev pub of_control : List ℕ → List Firing
+of_control rows = map (firing 2 0) rows

@@ -1,0 +1,19 @@
+-- The number that falls at each automatic firing, which is why settling ends.
+use Rattle.std.specs.Prelude.{ℕ, ◌+◌, Bool, true, false, if◌then◌else◌}
+use Rattle.gem_states.specs.declared.communication.Comm.{Comm}
+use Rattle.gem_states.specs.declared.communication.Comm.TheVariants as comm
+use Rattle.gem_model.specs.State.{State}
+use Rattle.gem_model.specs.Ready.{is_attempt}
+
+-- WAIT DELAY
+abbrev pub is_wait_delay : Comm → Bool
+is_wait_delay (comm.WaitDelay until) = true
+is_wait_delay _ = false
+
+-- one for a test that holds
+abbrev pub one_if : Bool → ℕ
+one_if b = if b then 1 else 0
+
+-- what is left to fire by itself: WAIT DELAY and ATTEMPT ON-LINE count 1 each
+abbrev pub left : State → ℕ
+left g = one_if (is_wait_delay g.comm) + one_if (is_attempt g.control)

@@ -1,0 +1,129 @@
+-- What a data message of the host is answered, by the state before it (SEMI E5, streams and functions; this tool's
+-- profile, data messages).
+use Rattle.std.specs.Prelude.{ℕ, ◌+◌, ◌%◌, ◌==◌, Bool, true, false, not, ◌&&◌, ◌||◌, nat_le, if◌then◌else◌, List, [], ◌∷◌, Option, Some, None, is_some, unwrap_or, Result, Ok, Err}
+use Rattle.gem_ids.specs.Civil.{moment_in, time_digits}
+use Rattle.gem_tables.specs.Table.{choose}
+use Rattle.gem_states.specs.declared.control.Control.{Control}
+use Rattle.gem_states.specs.declared.control.Control.TheVariants as control
+use Rattle.hsms_frame.specs.declared.frame.Header.{Header}
+use Rattle.hsms_frame.specs.declared.frame.Arrival.{Arrival}
+use Rattle.hsms_frame.specs.declared.frame.Arrival.TheVariants as arrival
+use Rattle.secs_items.specs.Data.{Data}
+use Rattle.secs_items.specs.One.{one_item}
+use Rattle.msgs_gem.specs.declared.fault.BodyFault.{BodyFault}
+use Rattle.msgs_gem.specs.declared.fault.BodyFault.TheVariants as fault
+use Rattle.msgs_gem.specs.declared.primary.GemMsg.{GemMsg}
+use Rattle.msgs_gem.specs.declared.primary.GemMsg.TheVariants as msg
+use Rattle.msgs_gem.specs.declared.reply.GemReply.{GemReply}
+use Rattle.msgs_gem.specs.declared.reply.GemReply.TheVariants as reply
+use Rattle.msgs_gem.specs.Primaries.{reading}
+use Rattle.tool_events.specs.declared.config.Config.{Config}
+use Rattle.transactions.specs.declared.transaction.Open.{Open}
+use Rattle.transactions.specs.declared.transaction.What.TheVariants as what
+use Rattle.transactions.specs.Endings.{answered, same_kind}
+use Rattle.gem_model.specs.State.{State, is_disabled, is_communicating, is_online, clock_now}
+
+-- ---- the arrival
+
+-- the header of what arrived
+abbrev pub header_of : Arrival → Header
+header_of (arrival.Frame f) = f.header
+header_of (arrival.TooLong header field) = header
+
+-- its text is too long to be taken (this tool's profile, limits)
+abbrev pub is_too_long : Arrival → Bool
+is_too_long (arrival.Frame f) = false
+is_too_long (arrival.TooLong header field) = true
+
+-- its text as one item, where it is one (SEMI E5, message text)
+abbrev pub item_of : Arrival → Option Data
+item_of (arrival.Frame f) = one_item f.text
+item_of (arrival.TooLong header field) = None
+
+-- the W-bit, the highest of header byte 2, asks for a reply (SEMI E37, message header)
+abbrev pub wants_reply : Header → Bool
+wants_reply h = nat_le 128 h.byte2
+
+-- the stream is the rest of header byte 2, and the function is header byte 3 (SEMI E37, message header)
+abbrev pub stream_of : Header → ℕ
+stream_of h = h.byte2 % 128
+
+abbrev pub function_of : Header → ℕ
+function_of h = h.byte3
+
+-- it is this stream and function
+abbrev pub is_message : ℕ → ℕ → Header → Bool
+is_message stream function h = (stream_of h == stream) && (function_of h == function)
+
+-- ---- the verdict
+
+-- what a data message does: nothing; it is told by a message of stream 9 of this function; it is answered by function 0
+-- of its stream; it answers a transaction of the tool, if that is open; or it is taken
+pub data Verdict : Type 0 where
+  Discarded : Verdict
+  Stream9 : ℕ → Verdict
+  Aborted : Verdict
+  Answers : Verdict
+  Taken : GemMsg → Verdict
+
+-- the transaction is the tool's S1F13
+abbrev pub is_establish : Option Open → Bool
+is_establish None = false
+is_establish (Some one) = same_kind one.what what.Establish
+
+-- the message may establish communication: S1F13, or S1F14 or S1F0 that answers the tool's S1F13
+abbrev pub may_establish : State → Header → Bool
+may_establish g h = is_message 1 13 h || is_establish (answered h.system (stream_of h) (function_of h) g.transactions.opened)
+
+-- an unknown stream is told by S9F3, an unknown function by S9F5, and a text that is no item of the body by S9F7
+abbrev pub read_as : Result GemMsg BodyFault → Verdict
+read_as (Ok m) = Taken m
+read_as (Err fault.UnknownStream) = Stream9 3
+read_as (Err fault.UnknownFunction) = Stream9 5
+read_as (Err fault.IllegalData) = Stream9 7
+read_as (Err fault.NoMemory) = Discarded
+
+-- The rules that come before a message is read, of which the first that fits decides: communication is DISABLED; it is
+-- not COMMUNICATING, and the message cannot establish it; another device, S9F1; too long a text, S9F11; a message of
+-- stream 9; an even function; and while control is not ON-LINE all but S1F13 and S1F17 (SEMI E5, stream 9; SEMI E30,
+-- communication and control; this tool's profile, data messages).
+abbrev pub first_rules : State → Header → Bool → List (Bool × Verdict)
+first_rules g h too_long =
+    (is_disabled g.comm, Discarded)
+    ∷ (not (is_communicating g.comm) && not (may_establish g h), Discarded)
+    ∷ (not (h.session == g.config.device), Stream9 1)
+    ∷ (too_long, Stream9 11)
+    ∷ (stream_of h == 9, Discarded)
+    ∷ (function_of h % 2 == 0, Answers)
+    ∷ (not (is_online g.control) && not (is_message 1 13 h || is_message 1 17 h), Aborted)
+    ∷ []
+
+-- what a data message does, by the state before it
+abbrev pub verdict : State → Arrival → Verdict
+verdict g arrival =
+    unwrap_or (choose (first_rules g (header_of arrival) (is_too_long arrival)))
+    (read_as (reading (stream_of (header_of arrival)) (function_of (header_of arrival)) (item_of arrival)))
+
+-- ---- the reply
+
+-- ONLACK: 0 in HOST OFF-LINE, 1 in EQUIPMENT OFF-LINE and ATTEMPT ON-LINE, 2 on-line (SEMI E5, S1F18; this tool's
+-- profile, messages)
+abbrev pub onlack : Control → ℕ
+onlack control.HostOffline = 0
+onlack control.EquipmentOffline = 1
+onlack control.Attempt = 1
+onlack control.Local = 2
+onlack control.Remote = 2
+
+-- TIACK: 0 where the text is a moment, else 1 (SEMI E5, S2F32; this tool's profile, messages)
+abbrev pub tiack : List ℕ → ℕ
+tiack text = if is_some (moment_in text) then 0 else 1
+
+-- what a message is answered, by the state before it (this tool's profile, messages)
+abbrev pub reply_to : State → GemMsg → GemReply
+reply_to g msg.S1F1 = reply.S1F2 g.config.mdln g.config.softrev
+reply_to g msg.S1F13 = reply.S1F14 (record { mdln = g.config.mdln; softrev = g.config.softrev })
+reply_to g msg.S1F15 = reply.S1F16
+reply_to g msg.S1F17 = reply.S1F18 (onlack g.control)
+reply_to g msg.S2F17 = reply.S2F18 (time_digits (clock_now g))
+reply_to g (msg.S2F31 text) = reply.S2F32 (tiack text)

@@ -1,5 +1,5 @@
 -- Laws of transactions that are kept under keys.
-use Rattle.std.proofs.Common.{◌≡◌, ◌≢◌, ℕ, zero, suc, ◌<◌, ◌≤◌, ◌+◌, ◌==◌, Bool, true, false, List, [], ◌∷◌, ◌++◌, length, Option, Some, None, slice_get, get_or, refl, sym, ◌∙◌, ap, subst, arith, IsSome, filter_map, take, drop, remove}
+use Rattle.std.proofs.Common.{◌≡◌, ◌≢◌, ℕ, zero, suc, ◌<◌, ◌==◌, true, false, List, [], ◌∷◌, ◌++◌, length, Option, Some, None, slice_get, get_or, refl, sym, ◌∙◌, ap, subst, arith, IsSome, remove}
 use Rattle.std.specs.List.{cons_option}
 use Rattle.std.proofs.lemmas.Bool.Decides.{nat_tests}
 use Rattle.slab.specs.Slab.{Slab, get, Updates}
@@ -7,7 +7,7 @@ use Rattle.transactions.specs.declared.transaction.Open.{Open}
 use Rattle.transactions.specs.Table.{has_system, AreDifferent}
 use Rattle.transactions.specs.Kept.{Holds, under}
 use Rattle.transactions.proofs.Finding.{some-at}
-use Rattle.transactions.proofs.Systems.{has-at, without-remove, different-remove, different-push}
+use Rattle.transactions.proofs.Systems.{has-at, different-remove, different-push}
 
 -- as many keys as transactions
 pub holds-length : (slab : Slab Open) (keys : List ℕ) (opened : List Open) → Holds slab keys opened → length keys ≡ length opened

@@ -1,7 +1,6 @@
 -- How system bytes are drawn, and a transaction is started (SEMI E5, block and message identification; this tool's
 -- profile, the link).
-use Rattle.std.specs.Prelude.{ℕ, zero, suc, ◌+◌, ◌%◌, ◌^◌, Bool, not, if◌then◌else◌, List, [], ◌∷◌, ◌++◌, length, find, unwrap_or}
-use Rattle.transactions.specs.declared.transaction.Open.{Open}
+use Rattle.std.specs.Prelude.{ℕ, zero, suc, ◌+◌, ◌%◌, ◌^◌, not, if◌then◌else◌, List, [], ◌∷◌, ◌++◌, length, find, unwrap_or}
 use Rattle.transactions.specs.declared.transaction.What.{What}
 use Rattle.transactions.specs.Table.{Table, has_system, is_full}
 

@@ -1,7 +1,7 @@
-use Rattle.std.proofs.Common.{◌≡◌, ◌<◌, ◌≤◌, ◌∙◌, ◌++◌, ◌∷◌, [], false, sym, ap, nat_le, length, arith}
+use Rattle.std.proofs.Common.{◌<◌, length, arith}
 use Rattle.std.proofs.lemmas.Bool.Decides.{nat_tests}
 use Rattle.std.proofs.lemmas.List.{length_push}
-use Rattle.transactions.specs.Table.{has_system, limit}
+use Rattle.transactions.specs.Table.{limit}
 use Rattle.transactions.specs.Kept.{under}
 use Rattle.transactions.proofs.Keeping.{holds-length, after-push}
 use Rattle.transactions.proofs.table.Transactions.add.Goals as goal

@@ -1,4 +1,4 @@
-use Rattle.std.proofs.Common.{◌≡◌, ◌∙◌, ◌+◌, ◌-◌, length, sym, arith}
+use Rattle.std.proofs.Common.{◌∙◌, ◌-◌, sym, arith}
 use Rattle.transactions.proofs.Systems.{latest-at}
 use Rattle.transactions.proofs.table.Transactions.latest.Goals as goal
 

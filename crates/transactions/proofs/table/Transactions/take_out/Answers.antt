@@ -1,6 +1,6 @@
-use Rattle.std.proofs.Common.{◌≡◌, ◌<◌, ◌≤◌, ◌∙◌, List, sym, ap, length, arith}
+use Rattle.std.proofs.Common.{◌∙◌, List, sym, ap, arith}
 use Rattle.transactions.specs.declared.transaction.Open.{Open}
-use Rattle.transactions.specs.Table.{Table, without}
+use Rattle.transactions.specs.Table.{Table}
 use Rattle.transactions.specs.Kept.{under}
 use Rattle.transactions.proofs.Systems.{taken-none, taken-at}
 use Rattle.transactions.proofs.Keeping.{holds-length, after-remove, has-key}

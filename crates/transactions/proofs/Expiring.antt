@@ -75,7 +75,7 @@ first-kept at opened None new h e = any-push (is_expired at) opened new h e
 first-kept at opened (Some one) new h e = record {
   stands = record { place = h.stands.place; is = stands-push opened h.stands.place one new h.stands.is };
   expired = h.expired;
-  none_before = any-push (λ (other : Open). is_expired at other && is_before other one) opened new h.none_before (rw e refl)
+  none_before = any-push (λ (other : Open). is_expired at other && is_before other one) opened new h.none_before (rw e refl);
 }
 
 and_not : (a b : Bool) → a ≡ true → (a && b) ≡ false → b ≡ false
@@ -101,7 +101,7 @@ first-earlier at opened None new h e = record {
   expired = e;
   none_before = any-push (λ (other : Open). is_expired at other && is_before other new) opened new
       (any-weaken (is_expired at) (λ (other : Open). is_expired at other && is_before other new) opened (λ one f. not_left (is_expired at one) (is_before one new) f) h)
-      (not_right (is_expired at new) (is_before new new) (before-itself new))
+      (not_right (is_expired at new) (is_before new new) (before-itself new));
 }
 first-earlier at opened (Some one) new h e = by_test (is_before new one) refl where
   by_test : (b : Bool) → is_before new one ≡ b → IsFirst at (opened ++ new ∷ []) (Some (earlier (Some one) new))
@@ -110,13 +110,13 @@ first-earlier at opened (Some one) new h e = by_test (is_before new one) refl wh
     expired = e;
     none_before = any-push (λ (other : Open). is_expired at other && is_before other new) opened new
         (any-weaken (λ (other : Open). is_expired at other && is_before other one) (λ (other : Open). is_expired at other && is_before other new) opened
-            (λ other f. both_not (is_expired at other) (is_before other one) (is_before other new) (λ g. before-trans new one other q g) f) h.none_before)
-        (not_right (is_expired at new) (is_before new new) (before-itself new))
+        (λ other f. both_not (is_expired at other) (is_before other one) (is_before other new) (λ g. before-trans new one other q g) f) h.none_before)
+        (not_right (is_expired at new) (is_before new new) (before-itself new));
   })
   by_test false q = rw q (record {
     stands = record { place = h.stands.place; is = stands-push opened h.stands.place one new h.stands.is };
     expired = h.expired;
-    none_before = any-push (λ (other : Open). is_expired at other && is_before other one) opened new h.none_before (not_right (is_expired at new) (is_before new one) q)
+    none_before = any-push (λ (other : Open). is_expired at other && is_before other one) opened new h.none_before (not_right (is_expired at new) (is_before new one) q);
   })
 
 -- nothing is found where nothing passes
@@ -155,13 +155,13 @@ first-is at opened None d h =
     sym (find-none (is_first_expired at opened) opened (λ i one e. not_left (is_expired at one) (not (list_any (λ other. is_expired at other && is_before other one) opened)) (any-at (is_expired at) opened i one h e)))
 first-is at opened (Some one) d h =
     sym (find-only (is_first_expired at opened) opened h.stands.place one h.stands.is
-        (both (is_expired at one) (list_any (λ other. is_expired at other && is_before other one) opened) h.expired h.none_before)
-        (λ i other e q.
-            let expired = and_left (is_expired at other) (list_any (λ third. is_expired at third && is_before third other) opened) q in
-            let none_before = and_right (is_expired at other) (list_any (λ third. is_expired at third && is_before third other) opened) q in
-            let before_one = and_not (is_expired at other) (is_before other one) expired (any-at (λ (third : Open). is_expired at third && is_before third one) opened i other h.none_before e) in
-            let before_other = and_not (is_expired at one) (is_before one other) h.expired (any-at (λ (third : Open). is_expired at third && is_before third other) opened h.stands.place one none_before h.stands.is) in
-            same-system opened i h.stands.place other one d e h.stands.is (before-total other one before_one before_other)))
+    (both (is_expired at one) (list_any (λ other. is_expired at other && is_before other one) opened) h.expired h.none_before)
+    (λ i other e q.
+    let expired = and_left (is_expired at other) (list_any (λ third. is_expired at third && is_before third other) opened) q in
+    let none_before = and_right (is_expired at other) (list_any (λ third. is_expired at third && is_before third other) opened) q in
+    let before_one = and_not (is_expired at other) (is_before other one) expired (any-at (λ (third : Open). is_expired at third && is_before third one) opened i other h.none_before e) in
+    let before_other = and_not (is_expired at one) (is_before one other) h.expired (any-at (λ (third : Open). is_expired at third && is_before third other) opened h.stands.place one none_before h.stands.is) in
+    same-system opened i h.stands.place other one d e h.stands.is (before-total other one before_one before_other)))
 
 -- one more of a list
 pub take-at : (opened : List Open) (place : ℕ) (one : Open) → slice_get opened place ≡ Some one → take (suc place) opened ≡ take place opened ++ one ∷ []

@@ -26,7 +26,7 @@ after_draw table = record table { next = behind (drawn table) 1 }
 abbrev pub with_started : ℕ → ℕ → ℕ → What → Table → Table
 with_started stream function deadline what table = record {
   next = behind (drawn table) 1;
-  opened = table.opened ++ record { system = drawn table; stream = stream; function = function; deadline = deadline; what = what } ∷ []
+  opened = table.opened ++ record { system = drawn table; stream = stream; function = function; deadline = deadline; what = what } ∷ [];
 }
 
 -- the table after a start, which changes nothing where no more can be started

@@ -278,6 +278,7 @@ impl Transactions {
     }
 
     // The transaction that was started last.
+    #[tactic(auto, using(crate::proofs::Systems::latest_is))]
     fn latest(&self) -> Option<Open>
         ensures { result ≡ latest self.now.opened }
     {

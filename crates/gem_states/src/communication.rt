@@ -65,9 +65,8 @@ impl Comm {
     {
         match (t, self) {
             (CommTrigger::Enable, Comm::Disabled) => Some(1),
-            (CommTrigger::Disable, Comm::WaitDelay { .. } | Comm::WaitCra | Comm::Communicating) => {
-                Some(2)
-            }
+            (CommTrigger::Disable, Comm::WaitDelay { .. } | Comm::WaitCra | Comm::Communicating) =>
+                { Some(2) }
             (CommTrigger::Accepted, Comm::WaitCra) => Some(4),
             (CommTrigger::Refused, Comm::WaitCra) => Some(5),
             (CommTrigger::HostS1F13, Comm::WaitDelay { .. } | Comm::WaitCra) => Some(6),

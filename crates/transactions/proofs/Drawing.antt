@@ -1,5 +1,5 @@
 -- Why there are system bytes to be drawn: of so many and one in turn not all are open.
-use Rattle.std.proofs.Common.{◌≡◌, ◌≢◌, ℕ, zero, suc, ◌<◌, ◌≤◌, ◌+◌, ◌%◌, ◌^◌, ◌==◌, ◌||◌, not, Bool, true, false, List, [], ◌∷◌, length, Option, Some, None, unwrap_or, refl, sym, ◌∙◌, ap, subst, arith, find}
+use Rattle.std.proofs.Common.{◌≡◌, ◌≢◌, ℕ, zero, suc, ◌<◌, ◌≤◌, ◌+◌, ◌^◌, ◌==◌, ◌||◌, not, Bool, true, false, List, [], ◌∷◌, length, Option, Some, unwrap_or, refl, sym, ◌∙◌, ap, arith, find}
 use Rattle.std.proofs.lemmas.Bool.Decides.{nat_tests}
 use Rattle.transactions.specs.declared.transaction.Open.{Open}
 use Rattle.transactions.specs.Table.{Table, has_system, without}
@@ -50,7 +50,7 @@ all_open opened system steps (suc n) f l =
     let here : has_system opened (behind system steps) ≡ true = f steps (omega arith) (omega arith) in
     let less = shorter opened (behind system steps) here in
     let others : (k : ℕ) → steps + 1 ≤ k → k < (steps + 1) + n → has_system (without (behind system steps) opened) (behind system k) ≡ true =
-        λ k a b. stays opened (behind system steps) (behind system k) (f k (omega arith) (omega arith)) (differ system steps k (omega arith) (omega arith)) in
+    λ k a b. stays opened (behind system steps) (behind system k) (f k (omega arith) (omega arith)) (differ system steps k (omega arith) (omega arith)) in
     let rest = all_open (without (behind system steps) opened) system (steps + 1) n others (omega arith) in
     omega arith
 

@@ -1,7 +1,6 @@
 -- Laws of finding the first of a list.
-use Rattle.std.proofs.Common.{◌≡◌, ℕ, zero, suc, ◌<◌, ◌+◌, Bool, ◌||◌, true, false, List, [], ◌∷◌, length, Option, Some, None, IfSome, IfNone, IsSome, is_some, slice_get, refl, sym, ◌∙◌, ap, subst, arith, add-one, find, drop, cond}
+use Rattle.std.proofs.Common.{◌≡◌, ℕ, zero, suc, ◌<◌, ◌+◌, Bool, ◌||◌, true, false, List, [], ◌∷◌, length, Option, Some, None, IfSome, IfNone, IsSome, is_some, slice_get, refl, sym, ◌∙◌, ap, arith, add-one, find, drop, cond}
 use Rattle.std.specs.List.{list_any}
-use Rattle.std.proofs.lemmas.Bool.Decides.{nat_tests}
 
 -- there is one at each place
 pub some-at : {X : Type 0} (xs : List X) (i : ℕ) → i < length xs → IsSome (slice_get xs i)

@@ -1,5 +1,5 @@
 -- Laws of transactions that are kept under keys.
-use Rattle.std.proofs.Common.{◌≡◌, ◌≢◌, ℕ, zero, suc, ◌<◌, ◌≤◌, ◌+◌, ◌==◌, Bool, true, false, List, [], ◌∷◌, ◌++◌, length, Option, Some, None, slice_get, get_or, refl, sym, ◌∙◌, ap, subst, arith, IsSome, filter_map, take, drop, remove}
+use Rattle.std.proofs.Common.{◌≡◌, ◌≢◌, ℕ, zero, suc, ◌<◌, ◌==◌, true, false, List, [], ◌∷◌, ◌++◌, length, Option, Some, None, slice_get, get_or, refl, sym, ◌∙◌, ap, subst, arith, IsSome, remove}
 use Rattle.std.specs.List.{cons_option}
 use Rattle.std.proofs.lemmas.Bool.Decides.{nat_tests}
 use Rattle.slab.specs.Slab.{Slab, get, Updates}
@@ -7,7 +7,7 @@ use Rattle.transactions.specs.declared.transaction.Open.{Open}
 use Rattle.transactions.specs.Table.{has_system, AreDifferent}
 use Rattle.transactions.specs.Kept.{Holds, under}
 use Rattle.transactions.proofs.Finding.{some-at}
-use Rattle.transactions.proofs.Systems.{has-at, without-remove, different-remove, different-push}
+use Rattle.transactions.proofs.Systems.{has-at, different-remove, different-push}
 
 -- as many keys as transactions
 pub holds-length : (slab : Slab Open) (keys : List ℕ) (opened : List Open) → Holds slab keys opened → length keys ≡ length opened
@@ -52,10 +52,10 @@ holds-keep slab later (k ∷ ks) (o ∷ os) key one h there absent u =
     let rest : has_system os one.system ≡ false = grind (arith, nat_tests) in
     let other : (o.system == one.system) ≡ false = grind (arith, nat_tests) in
     let ne : k ≢ key = λ (e : k ≡ key).
-        let same : get slab k ≡ get slab key = ap (get slab) e in
-        let equal : o ≡ one = cc in
-        let systems : o.system ≡ one.system = ap (λ (x : Open). x.system) equal in
-        grind (arith, nat_tests) in
+    let same : get slab k ≡ get slab key = ap (get slab) e in
+    let equal : o ≡ one = cc in
+    let systems : o.system ≡ one.system = ap (λ (x : Open). x.system) equal in
+    grind (arith, nat_tests) in
     (u.others k ne ∙ here, holds-keep slab later ks os key one h.1 there rest u)
 
 -- a transaction that is taken out at its place
@@ -73,10 +73,10 @@ holds-remove slab later (k ∷ ks) (o ∷ os) (suc i) d one h a e f u =
     let there : has_system os one.system ≡ true = has-at os i one e in
     let absent : has_system os o.system ≡ false = a.0 in
     let ne : k ≢ get_or ks i d = λ (q : k ≡ get_or ks i d).
-        let same : get slab k ≡ get slab (get_or ks i d) = ap (get slab) q in
-        let equal : o ≡ one = cc in
-        let systems : has_system os o.system ≡ has_system os one.system = ap (λ (x : Open). has_system os x.system) equal in
-        cc in
+    let same : get slab k ≡ get slab (get_or ks i d) = ap (get slab) q in
+    let equal : o ≡ one = cc in
+    let systems : has_system os o.system ≡ has_system os one.system = ap (λ (x : Open). has_system os x.system) equal in
+    cc in
     (u.others k ne ∙ here, holds-remove slab later ks os i d one h.1 a.1 e f u)
 
 -- a key that was read at a place has the transaction at that place
@@ -97,19 +97,19 @@ pub after-remove : (slab later : Slab Open) (keys : List ℕ) (i key : ℕ) → 
 after-remove slab later keys i key h a l e u =
     let one = read-at slab keys i key h l e in
     by_one (get slab key) refl (has-key slab keys i key h l e) where
-    by_one : (o : Option Open) → get slab key ≡ o → IsSome o → AfterRemove slab later keys i
-    by_one None q s = absurd (cc)
-    by_one (Some one) q s =
-        let at_place : slice_get (under slab keys) i ≡ Some one = sym (read-at slab keys i key h l e) ∙ q in
-        let there : get slab (get_or keys i key) ≡ Some one = ap (get slab) (sym e) ∙ q in
-        let updates : Updates slab later (get_or keys i key) None = subst (λ (k : ℕ). Updates slab later k None) e u in
-        let holds = holds-remove slab later keys (under slab keys) i key one h a at_place there updates in
-        let same : under later (remove keys i) ≡ remove (under slab keys) i = holds-under later (remove keys i) (remove (under slab keys) i) holds in
-        record {
-          opened = same;
-          holds = subst (λ (os : List Open). Holds later (remove keys i) os) (sym same) holds;
-          different = subst (λ (os : List Open). AreDifferent os) (sym same) (different-remove (under slab keys) i a)
-        }
+      by_one : (o : Option Open) → get slab key ≡ o → IsSome o → AfterRemove slab later keys i
+      by_one None q s = absurd (cc)
+      by_one (Some one) q s =
+          let at_place : slice_get (under slab keys) i ≡ Some one = sym (read-at slab keys i key h l e) ∙ q in
+          let there : get slab (get_or keys i key) ≡ Some one = ap (get slab) (sym e) ∙ q in
+          let updates : Updates slab later (get_or keys i key) None = subst (λ (k : ℕ). Updates slab later k None) e u in
+          let holds = holds-remove slab later keys (under slab keys) i key one h a at_place there updates in
+          let same : under later (remove keys i) ≡ remove (under slab keys) i = holds-under later (remove keys i) (remove (under slab keys) i) holds in
+          record {
+            opened = same;
+            holds = subst (λ (os : List Open). Holds later (remove keys i) os) (sym same) holds;
+            different = subst (λ (os : List Open). AreDifferent os) (sym same) (different-remove (under slab keys) i a);
+          }
 
 -- what is kept after a transaction was added
 pub record AfterPush (slab later : Slab Open) (keys : List ℕ) (key : ℕ) (one : Open) : Type 0 where
@@ -124,5 +124,5 @@ after-push slab later keys key one h a free none u =
     record {
       opened = same;
       holds = subst (λ (os : List Open). Holds later (keys ++ key ∷ []) os) (sym same) holds;
-      different = subst (λ (os : List Open). AreDifferent os) (sym same) (different-push (under slab keys) one a free)
+      different = subst (λ (os : List Open). AreDifferent os) (sym same) (different-push (under slab keys) one a free);
     }

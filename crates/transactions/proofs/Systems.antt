@@ -1,5 +1,5 @@
 -- Laws of system bytes in a list of open transactions.
-use Rattle.std.proofs.Common.{◌≡◌, ℕ, zero, suc, ◌<◌, ◌≤◌, ◌+◌, ◌==◌, ◌||◌, not, cond, Bool, true, false, List, [], ◌∷◌, ◌++◌, length, Option, Some, None, slice_get, refl, sym, ◌∙◌, ap, arith, subst, filter, find, IsSome, is_some, take, drop, remove}
+use Rattle.std.proofs.Common.{◌≡◌, ℕ, zero, suc, ◌<◌, ◌+◌, ◌==◌, true, false, List, [], ◌∷◌, ◌++◌, length, Option, Some, None, slice_get, refl, sym, ◌∙◌, ap, arith, subst, find, IsSome, is_some, remove}
 use Rattle.std.proofs.lemmas.Bool.Decides.{nat_tests}
 use Rattle.transactions.specs.declared.transaction.Open.{Open}
 use Rattle.transactions.specs.Table.{Table, has_system, without, taken_out, AreDifferent}
@@ -86,12 +86,16 @@ different-push (first ∷ others) one d e =
     (has-push others one first.system d.0 here, different-push others one d.1 rest)
 
 -- the last is the latest
-pub latest-at : (opened : List Open) (place : ℕ) → place + 1 ≡ length opened → slice_get opened place ≡ latest opened
-latest-at [] place e = absurd (omega arith)
-latest-at (one ∷ []) zero e = refl
-latest-at (one ∷ []) (suc place) e = absurd (omega arith)
-latest-at (one ∷ (other ∷ others)) zero e = absurd (omega arith)
-latest-at (one ∷ (other ∷ others)) (suc place) e = latest-at (other ∷ others) place (omega arith)
+latest_at : (opened : List Open) (place : ℕ) → place + 1 ≡ length opened → slice_get opened place ≡ latest opened
+latest_at [] place e = absurd (omega arith)
+latest_at (one ∷ []) zero e = refl
+latest_at (one ∷ []) (suc place) e = absurd (omega arith)
+latest_at (one ∷ (other ∷ others)) zero e = absurd (omega arith)
+latest_at (one ∷ (other ∷ others)) (suc place) e = latest_at (other ∷ others) place (omega arith)
+
+-- what stands last is the latest
+pub latest_is : (opened : List Open) (place : ℕ) (one : Open) → slice_get opened place ≡ Some one → place + 1 ≡ length opened → Some one ≡ latest opened
+latest_is opened place one e l = sym e ∙ latest_at opened place l
 
 -- those of the same system bytes are the same
 pub same-system : (opened : List Open) (i j : ℕ) (one other : Open) → AreDifferent opened → slice_get opened i ≡ Some one → slice_get opened j ≡ Some other → one.system ≡ other.system → one ≡ other

@@ -1,5 +1,5 @@
 -- The earlier of two transactions.
-use Rattle.std.specs.Prelude.{Bool, if◌then◌else◌, Option, Some, None}
+use Rattle.std.specs.Prelude.{if◌then◌else◌, Option, Some, None}
 use Rattle.transactions.specs.declared.transaction.Open.{Open}
 use Rattle.transactions.specs.Endings.{is_before}
 

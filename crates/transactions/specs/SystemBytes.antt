@@ -1,7 +1,6 @@
 -- How system bytes are drawn, and a transaction is started (SEMI E5, block and message identification; this tool's
 -- profile, the link).
-use Rattle.std.specs.Prelude.{ℕ, zero, suc, ◌+◌, ◌%◌, ◌^◌, Bool, not, if◌then◌else◌, List, [], ◌∷◌, ◌++◌, length, find, unwrap_or}
-use Rattle.transactions.specs.declared.transaction.Open.{Open}
+use Rattle.std.specs.Prelude.{ℕ, zero, suc, ◌+◌, ◌%◌, ◌^◌, not, if◌then◌else◌, List, [], ◌∷◌, ◌++◌, length, find, unwrap_or}
 use Rattle.transactions.specs.declared.transaction.What.{What}
 use Rattle.transactions.specs.Table.{Table, has_system, is_full}
 
@@ -27,7 +26,7 @@ after_draw table = record table { next = behind (drawn table) 1 }
 abbrev pub with_started : ℕ → ℕ → ℕ → What → Table → Table
 with_started stream function deadline what table = record {
   next = behind (drawn table) 1;
-  opened = table.opened ++ record { system = drawn table; stream = stream; function = function; deadline = deadline; what = what } ∷ []
+  opened = table.opened ++ record { system = drawn table; stream = stream; function = function; deadline = deadline; what = what } ∷ [];
 }
 
 -- the table after a start, which changes nothing where no more can be started

@@ -2,7 +2,6 @@
 use Rattle.std.specs.Prelude.{◌≡◌, ℕ, ◌≤◌, Bool, false, not, ◌==◌, nat_le, List, [], ◌∷◌, length, filter, Option, Some, None}
 use Rattle.std.specs.List.{list_any}
 use Rattle.transactions.specs.declared.transaction.Open.{Open}
-use Rattle.transactions.specs.declared.transaction.What.{What}
 
 -- the counter of system bytes, which numbers the tool's next message, and the open transactions in the order of their
 -- start, the oldest first

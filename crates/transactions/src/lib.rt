@@ -6,11 +6,9 @@
 //! the transaction that has ended. Begin with `Transactions::new`.
 #![tactic(auto)]
 
-mod transaction;
 mod sought;
 mod table;
-#[cfg(test)]
-mod tests;
+mod transaction;
 
-pub use transaction::{Open, What};
 pub use table::{Full, NoMemory, Transactions};
+pub use transaction::{Open, What};

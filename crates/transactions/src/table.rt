@@ -8,12 +8,15 @@ ghost use Rattle.transactions.specs.Endings.{answered, is_expired, first_expired
 ghost use Rattle.transactions.specs.Sought.{fits};
 ghost use Rattle.transactions.specs.Earlier.{earlier};
 
-use crate::transaction::{Open, What};
 use crate::sought::Sought;
+use crate::transaction::{Open, What};
 use gem_ids::Moment;
 use slab::Slab;
 use std::alloc::{AllocError, Global};
 use std::marker::Model;
+
+#[cfg(test)]
+mod tests;
 
 /// Memory ran out.
 pub type NoMemory = AllocError;
@@ -275,11 +278,16 @@ impl Transactions {
     }
 
     // The transaction that was started last.
+    #[tactic(auto, using(crate::proofs::Systems::latest_is))]
     fn latest(&self) -> Option<Open>
         ensures { result ≡ latest self.now.opened }
     {
         let len = self.len();
-        if len == 0 { None } else { Some(self.at(len - 1)) }
+        if len == 0 {
+            None
+        } else {
+            Some(self.at(len - 1))
+        }
     }
 
     /// Takes out the transaction that was started last. `None` exactly where none is open; then nothing has changed.

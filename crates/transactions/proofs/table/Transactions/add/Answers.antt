@@ -1,7 +1,7 @@
-use Rattle.std.proofs.Common.{◌≡◌, ◌<◌, ◌≤◌, ◌∙◌, ◌++◌, ◌∷◌, [], false, sym, ap, nat_le, length, arith}
+use Rattle.std.proofs.Common.{◌<◌, length, arith}
 use Rattle.std.proofs.lemmas.Bool.Decides.{nat_tests}
 use Rattle.std.proofs.lemmas.List.{length_push}
-use Rattle.transactions.specs.Table.{has_system, limit}
+use Rattle.transactions.specs.Table.{limit}
 use Rattle.transactions.specs.Kept.{under}
 use Rattle.transactions.proofs.Keeping.{holds-length, after-push}
 use Rattle.transactions.proofs.table.Transactions.add.Goals as goal
@@ -27,7 +27,7 @@ invariant_of-self c =
     let free = rw (← c.self.view_is) at c.requires.free in
     let below : length (under c.self.inside.slab c.self.inside.order.items) < limit = grind (arith, nat_tests) in
     let added = after-push c.self.inside.slab c.insert_reserved-key.new.self c.self.inside.order.items c.insert_reserved-key.result c.args.one
-        c.self.invariant.holds c.self.invariant.different free c.insert_reserved-key.ensures.was_vacant c.insert_reserved-key.ensures.updates in
+    c.self.invariant.holds c.self.invariant.different free c.insert_reserved-key.ensures.was_vacant c.insert_reserved-key.ensures.updates in
     let longer = length_push c.self.inside.order.items c.insert_reserved-key.result in
     record {
       holds = rw c.push_reserved.ensures.items added.holds;
@@ -35,12 +35,12 @@ invariant_of-self c =
       count = rw c.push_reserved.ensures.items (omega (arith, longer, c.insert_reserved-key.ensures.len, c.self.invariant.count));
       within = rw c.push_reserved.ensures.items (omega (arith, longer));
       slab_room = omega (arith, c.insert_reserved-key.ensures.capacity, c.self.invariant.slab_room);
-      order_room = omega (arith, c.push_reserved.ensures.capacity, c.self.invariant.order_room)
+      order_room = omega (arith, c.push_reserved.ensures.capacity, c.self.invariant.order_room);
     }
 
 pub returns-clause-opened : goal.returns-clause-opened
 returns-clause-opened c =
     let free = rw (← c.self.view_is) at c.requires.free in
     let added = after-push c.self.inside.slab c.insert_reserved-key.new.self c.self.inside.order.items c.insert_reserved-key.result c.args.one
-        c.self.invariant.holds c.self.invariant.different free c.insert_reserved-key.ensures.was_vacant c.insert_reserved-key.ensures.updates in
+    c.self.invariant.holds c.self.invariant.different free c.insert_reserved-key.ensures.was_vacant c.insert_reserved-key.ensures.updates in
     rw (← c.self.view_is, c.push_reserved.ensures.items) added.opened

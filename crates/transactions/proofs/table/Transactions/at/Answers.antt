@@ -1,6 +1,4 @@
-use Rattle.std.proofs.Common.{◌≡◌, ◌<◌, ◌∙◌, Some, sym, ap, List, length, slice_get, get_or, arith}
-use Rattle.transactions.specs.declared.transaction.Open.{Open}
-use Rattle.transactions.specs.Kept.{under}
+use Rattle.std.proofs.Common.{◌∙◌, sym, arith}
 use Rattle.transactions.proofs.Keeping.{holds-length, read-at, has-key}
 use Rattle.transactions.proofs.table.Transactions.at.Goals as goal
 

@@ -1,4 +1,4 @@
-use Rattle.std.proofs.Common.{◌≡◌, ◌==◌, ◌∙◌}
+use Rattle.std.proofs.Common.{◌==◌, ◌∙◌}
 use Rattle.transactions.specs.declared.transaction.Open.{Open}
 use Rattle.transactions.proofs.Finding.{found-any}
 use Rattle.transactions.proofs.table.Transactions.has_system.Goals as goal

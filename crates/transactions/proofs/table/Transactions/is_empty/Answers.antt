@@ -1,4 +1,4 @@
-use Rattle.std.proofs.Common.{◌≡◌, ◌==◌, ◌∙◌, ap, ℕ, length}
+use Rattle.std.proofs.Common.{◌==◌, ◌∙◌, ap, ℕ}
 use Rattle.transactions.proofs.Keeping.{holds-length}
 use Rattle.transactions.proofs.table.Transactions.is_empty.Goals as goal
 

@@ -1,4 +1,4 @@
-use Rattle.std.proofs.Common.{◌≡◌, ◌∙◌, length, arith}
+use Rattle.std.proofs.Common.{◌∙◌, arith}
 use Rattle.transactions.proofs.Keeping.{holds-length}
 use Rattle.transactions.proofs.table.Transactions.len.Goals as goal
 

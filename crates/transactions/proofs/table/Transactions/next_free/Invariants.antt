@@ -6,7 +6,7 @@ use Rattle.transactions.proofs.table.Transactions.next_free.Given as goal
 abbrev pub invariant-loop-skipped : goal.invariant-loop-skipped
 invariant-loop-skipped l = record {
   all_open : (k : ℕ) → k < l.skipped → has_system l.self.opened (behind l.self.next k) ≡ true;
-  few : l.skipped ≤ length l.self.opened
+  few : l.skipped ≤ length l.self.opened;
 }
 
 abbrev pub decreases-loop-skipped : goal.decreases-loop-skipped

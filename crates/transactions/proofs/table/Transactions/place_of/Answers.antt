@@ -1,4 +1,4 @@
-use Rattle.std.proofs.Common.{◌≡◌, ◌∙◌, sym}
+use Rattle.std.proofs.Common.{◌∙◌, sym}
 use Rattle.transactions.specs.Sought.{fits}
 use Rattle.transactions.proofs.Finding.{find-here, find-past}
 use Rattle.transactions.proofs.table.Transactions.place_of.Goals as goal

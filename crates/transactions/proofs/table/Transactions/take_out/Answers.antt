@@ -1,6 +1,6 @@
-use Rattle.std.proofs.Common.{◌≡◌, ◌<◌, ◌≤◌, ◌∙◌, List, sym, ap, length, arith}
+use Rattle.std.proofs.Common.{◌∙◌, List, sym, ap, arith}
 use Rattle.transactions.specs.declared.transaction.Open.{Open}
-use Rattle.transactions.specs.Table.{Table, without}
+use Rattle.transactions.specs.Table.{Table}
 use Rattle.transactions.specs.Kept.{under}
 use Rattle.transactions.proofs.Systems.{taken-none, taken-at}
 use Rattle.transactions.proofs.Keeping.{holds-length, after-remove, has-key}
@@ -25,14 +25,14 @@ pub invariant_of-self : goal.invariant_of-self
 invariant_of-self c =
     let within = rw (← c.self.view_is) at c.in-Some-place_of.ensures.within in
     let removed = after-remove c.self.inside.slab c.remove.new.self c.self.inside.order.items c.in-Some-place_of.place c.remove-key.result
-        c.self.invariant.holds c.self.invariant.different within c.remove-key.ensures.value c.remove.ensures.updates in
+    c.self.invariant.holds c.self.invariant.different within c.remove-key.ensures.value c.remove.ensures.updates in
     record {
       holds = rw c.remove-key.ensures.items removed.holds;
       different = rw c.remove-key.ensures.items removed.different;
       count = omega (arith, c.remove-key.new.self.ok.0, c.self.inside.order.ok.0, c.remove-key.ensures.len, c.remove.ensures.len, c.self.invariant.count);
       within = omega (arith, c.remove-key.new.self.ok.0, c.self.inside.order.ok.0, c.remove-key.ensures.len, c.self.invariant.within);
       slab_room = omega (arith, c.remove.ensures.capacity, c.self.invariant.slab_room);
-      order_room = omega (arith, c.remove-key.ensures.capacity, c.self.invariant.order_room)
+      order_room = omega (arith, c.remove-key.ensures.capacity, c.self.invariant.order_room);
     }
 
 pub returns : goal.returns
@@ -40,7 +40,7 @@ returns c =
     let within = rw (← c.self.view_is) at c.in-Some-place_of.ensures.within in
     let first = rw (← c.self.view_is) at c.in-Some-place_of.ensures.first in
     let removed = after-remove c.self.inside.slab c.remove.new.self c.self.inside.order.items c.in-Some-place_of.place c.remove-key.result
-        c.self.invariant.holds c.self.invariant.different within c.remove-key.ensures.value c.remove.ensures.updates in
+    c.self.invariant.holds c.self.invariant.different within c.remove-key.ensures.value c.remove.ensures.updates in
     let taken = taken-at (under c.self.inside.slab c.self.inside.order.items) c.in-Some-place_of.place c.in-Some.one.system c.self.invariant.different within first in
     let opened = ap (under c.remove.new.self) c.remove-key.ensures.items ∙ removed.opened ∙ sym taken in
     rw (← c.self.view_is, c.in-Some.is) (ap (λ (os : List Open). let t : Table = record { next = c.self.inside.next; opened = os } in t) opened)

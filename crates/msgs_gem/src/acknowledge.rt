@@ -21,6 +21,7 @@ pub fn accepts_communication(item: Option<&Item>) -> bool
 }
 
 // Whether these are the elements of such a list.
+#[tactic(auto, using(crate::proofs::Accepting::accepts_two, crate::proofs::Accepting::accepts_fewer, crate::proofs::Accepting::accepts_more))]
 fn are_accepting(items: &[Item]) -> bool
     ensures { result ≡ is_some (accepting (list (items_of items.now))) }
 {

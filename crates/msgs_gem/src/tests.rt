@@ -1,5 +1,266 @@
+ghost use Rattle.std.specs.Prelude.{◌≡◌, IfOk};
+ghost use Rattle.msgs_gem.specs.Sendable.{HasSendableParts};
+
 use super::*;
-use secs_items::{Bytes, Item, decode, encode};
+use secs_items::{Bytes, NoMemory, encode, read_one};
 use std::alloc::Global;
 use std::test::*;
 
+// The header of an S1F5 with W and system bytes 7.
+const HEADER: [u8; 10] = [0x00, 0x00, 0x81, 0x05, 0x00, 0x00, 0x00, 0x00, 0x00, 0x07];
+
+// Reads a message by the bytes of its text.
+fn read(alloc: Global, stream: u8, function: u8, text: &[u8]) -> Result<GemMsg, BodyFault> {
+    let item = read_one(alloc, text)?;
+    read_gem(alloc, stream, function, item.as_ref())
+}
+
+#[test]
+fn an_ignored_text_may_be_anything(rt: HostRuntime) {
+    // no text, an empty list, a list of ids, bytes behind an item, and no item at all
+    let texts: [&[u8]; 5] = [
+        b"",
+        b"\x01\x00",
+        b"\x01\x01\xA5\x01\x07",
+        b"\x01\x00\x00",
+        b"\xFF",
+    ];
+    for text in texts {
+        assert!(rt;
+            matches!(&read(rt.alloc(), 1, 1, text), Ok(GemMsg::S1F1)),
+            "at {text:?}"
+        );
+        assert!(rt;
+            matches!(&read(rt.alloc(), 1, 13, text), Ok(GemMsg::S1F13)),
+            "at {text:?}"
+        );
+        assert!(rt;
+            matches!(&read(rt.alloc(), 1, 15, text), Ok(GemMsg::S1F15)),
+            "at {text:?}"
+        );
+        assert!(rt;
+            matches!(&read(rt.alloc(), 1, 17, text), Ok(GemMsg::S1F17)),
+            "at {text:?}"
+        );
+        assert!(rt;
+            matches!(&read(rt.alloc(), 2, 17, text), Ok(GemMsg::S2F17)),
+            "at {text:?}"
+        );
+    }
+}
+
+#[test]
+fn s2f31_has_the_characters_that_were_sent(rt: HostRuntime) {
+    let alloc = rt.alloc();
+    let time = read(alloc, 2, 31, b"\x41\x102026112711094700");
+    assert!(rt;
+        matches!(&time, Ok(GemMsg::S2F31(text)) if text.as_slice() == b"2026112711094700".as_slice())
+    );
+    let none = read(alloc, 2, 31, b"\x41\x00");
+    assert!(rt; matches!(&none, Ok(GemMsg::S2F31(text)) if text.as_slice().is_empty()));
+    let control = read(alloc, 2, 31, b"\x41\x02\x00\x7F");
+    assert!(rt;
+        matches!(&control, Ok(GemMsg::S2F31(text)) if text.as_slice() == [0, 127].as_slice())
+    );
+}
+
+// An A of so many blanks, which is spelled with two length bytes.
+fn blanks(alloc: Global, count: u16) -> Result<Vec<u8>, NoMemory> {
+    let mut text = vec![in alloc; 0x42]?;
+    text.extend_from_slice(&count.to_be_bytes())?;
+    for _ in 0..count {
+        text.push(b' ')?;
+    }
+    Ok(text)
+}
+
+// How many characters are read of so many.
+fn count_read(alloc: Global, count: u16) -> Result<Option<usize>, NoMemory> {
+    let text = blanks(alloc, count)?;
+    match read(alloc, 2, 31, text.as_slice()) {
+        Ok(GemMsg::S2F31(text)) => Ok(Some(text.as_slice().len())),
+        _ => Ok(None),
+    }
+}
+
+#[test]
+fn s2f31_has_any_number_of_characters(rt: HostRuntime) {
+    for count in [0, 1, 16, 256, 65_535] {
+        let read = count_read(rt.alloc(), count);
+        assert!(rt;
+            matches!(&read, Ok(Some(n)) if *n == usize::from(count)),
+            "at {count}"
+        );
+    }
+}
+
+#[test]
+fn s2f31_that_is_no_a_is_illegal(rt: HostRuntime) {
+    // no text, B, a list of an A, an integer, and a byte behind the A
+    let texts: [&[u8]; 5] = [
+        b"",
+        b"\x21\x01\x30",
+        b"\x01\x01\x41\x01\x30",
+        b"\xA5\x01\x30",
+        b"\x41\x01\x30\x00",
+    ];
+    for text in texts {
+        let read = read(rt.alloc(), 2, 31, text);
+        assert!(rt; matches!(&read, Err(BodyFault::IllegalData)), "at {text:?}");
+    }
+}
+
+#[test]
+fn what_is_not_known_is_told_by_its_stream_or_function(rt: HostRuntime) {
+    for stream in 0..255 {
+        let read = read_gem(rt.alloc(), stream, 5, None);
+        if stream == 1 || stream == 2 {
+            assert!(rt;
+                matches!(&read, Err(BodyFault::UnknownFunction)),
+                "at {stream}"
+            );
+        } else {
+            assert!(rt;
+                matches!(&read, Err(BodyFault::UnknownStream)),
+                "at {stream}"
+            );
+        }
+    }
+}
+
+#[test]
+fn five_messages_have_an_ignored_text(rt: HostRuntime) {
+    for stream in 0..4 {
+        for function in 0..255 {
+            let ignored = [(1, 1), (1, 13), (1, 15), (1, 17), (2, 17)].contains(&(
+                stream, function,
+            ));
+            assert_eq!(rt;
+                is_ignored(stream, function),
+                ignored,
+                "at {stream}, {function}"
+            );
+        }
+    }
+}
+
+#[test]
+fn a_fault_is_printed(rt: HostRuntime) {
+    for (fault, want) in [
+        (BodyFault::UnknownStream, "unknown stream"),
+        (BodyFault::UnknownFunction, "unknown function"),
+        (BodyFault::IllegalData, "illegal data"),
+        (BodyFault::NoMemory, "out of memory"),
+    ] {
+        let printed = format!(in rt.alloc(); "{fault}");
+        assert!(rt;
+            matches!(&printed, Ok(text) if text.as_str() == want),
+            "at {want}"
+        );
+    }
+}
+
+fn bytes(alloc: Global, bytes: &[u8]) -> Result<Bytes, NoMemory>
+    ensures { IfOk result (λ b. b ≡ bytes.now) }
+{
+    Ok(Bytes::from_vec(Vec::from_slice(alloc, bytes)?))
+}
+
+// The text of a reply.
+fn sent(alloc: Global, reply: &GemReply) -> Result<Vec<u8>, NoMemory>
+    requires { HasSendableParts reply.now }
+{
+    let mut text = Vec::new(alloc);
+    encode(&gem_item(alloc, reply)?, &mut text)?;
+    Ok(text)
+}
+
+// What the tool tells of itself.
+fn identities(alloc: Global) -> Result<[Vec<u8>; 3], NoMemory> {
+    let (mdln, softrev) = (bytes(alloc, b"GEM300")?, bytes(alloc, b"1.0.01")?);
+    let data = sent(alloc, &GemReply::S1F2(mdln, softrev))?;
+    let (mdln, softrev) = (bytes(alloc, b"GEM300")?, bytes(alloc, b"1.0.01")?);
+    let establish = sent(alloc, &GemReply::S1F13(mdln, softrev))?;
+    let (mdln, softrev) = (bytes(alloc, b"GEM300")?, bytes(alloc, b"1.0.01")?);
+    let acknowledge = sent(alloc, &GemReply::S1F14(Identity { mdln, softrev }))?;
+    Ok([data, establish, acknowledge])
+}
+
+#[test]
+fn the_tool_tells_its_model_and_then_its_revision(rt: HostRuntime) {
+    let identity = b"\x01\x02\x41\x06GEM300\x41\x061.0.01".as_slice();
+    let accepted = b"\x01\x02\x21\x01\x00\x01\x02\x41\x06GEM300\x41\x061.0.01".as_slice();
+    let sent = identities(rt.alloc());
+    assert!(rt;
+        matches!(&sent, Ok([data, establish, acknowledge]) if data.as_slice() == identity
+            && establish.as_slice() == identity
+            && acknowledge.as_slice() == accepted)
+    );
+}
+
+// The codes, and the time.
+fn codes(alloc: Global) -> Result<[Vec<u8>; 4], NoMemory> {
+    Ok([
+        sent(alloc, &GemReply::S1F16)?,
+        sent(alloc, &GemReply::S1F18(2))?,
+        sent(alloc, &GemReply::S2F32(1))?,
+        sent(alloc, &GemReply::S2F18(bytes(alloc, b"2026112711094700")?))?,
+    ])
+}
+
+#[test]
+fn a_code_is_one_binary_byte_and_the_time_is_ascii(rt: HostRuntime) {
+    let sent = codes(rt.alloc());
+    assert!(rt;
+        matches!(&sent, Ok([offline, online, set, time]) if offline.as_slice() == [0x21, 1, 0].as_slice()
+            && online.as_slice() == [0x21, 1, 2].as_slice()
+            && set.as_slice() == [0x21, 1, 1].as_slice()
+            && time.as_slice() == b"\x41\x102026112711094700".as_slice())
+    );
+}
+
+// The messages of stream 9.
+fn errors(alloc: Global) -> Result<[Vec<u8>; 6], NoMemory> {
+    Ok([
+        sent(alloc, &GemReply::S9F1(bytes(alloc, &HEADER)?))?,
+        sent(alloc, &GemReply::S9F3(bytes(alloc, &HEADER)?))?,
+        sent(alloc, &GemReply::S9F5(bytes(alloc, &HEADER)?))?,
+        sent(alloc, &GemReply::S9F7(bytes(alloc, &HEADER)?))?,
+        sent(alloc, &GemReply::S9F9(bytes(alloc, &HEADER)?))?,
+        sent(alloc, &GemReply::S9F11(bytes(alloc, &HEADER)?))?,
+    ])
+}
+
+#[test]
+fn stream_9_tells_the_header_as_binary(rt: HostRuntime) {
+    let want = b"\x21\x0A\x00\x00\x81\x05\x00\x00\x00\x00\x00\x07".as_slice();
+    let sent = errors(rt.alloc());
+    assert!(rt; matches!(&sent, Ok(texts) if texts.iter().all(|text| text.as_slice() == want)));
+}
+
+// Texts of S1F14, and whether they accept.
+const ACKNOWLEDGES: [(&[u8], bool); 11] = [
+    (b"\x01\x02\x21\x01\x00\x01\x00", true),
+    (b"\x02\x00\x02\x22\x00\x01\x00\x41\x01\x41", true),
+    (b"\x01\x02\x21\x01\x01\x01\x00", false),
+    (b"\x01\x01\x21\x01\x00", false),
+    (b"\x01\x03\x21\x01\x00\x01\x00\x01\x00", false),
+    (b"\x01\x02\xA5\x01\x00\x01\x00", false),
+    (b"\x01\x02\x21\x02\x00\x00\x01\x00", false),
+    (b"\x01\x02\x21\x00\x01\x00", false),
+    (b"\x21\x01\x00", false),
+    (b"\x01\x02\x21\x01\x00\x01\x00\x00", false),
+    (b"", false),
+];
+
+fn accepted(alloc: Global, text: &[u8]) -> Result<bool, NoMemory> {
+    let item = read_one(alloc, text)?;
+    Ok(accepts_communication(item.as_ref()))
+}
+
+#[test]
+fn a_list_of_two_whose_first_is_b_0_accepts(rt: HostRuntime) {
+    for (text, want) in ACKNOWLEDGES {
+        assert_eq!(rt; accepted(rt.alloc(), text), Ok(want), "at {text:?}");
+    }
+}

@@ -270,6 +270,61 @@ fn numbers_are_twos_complement_and_the_most_significant_byte_comes_first(rt: Hos
     );
 }
 
+// A B of so many bytes, as it is spelled, and the number of bytes that are read of it. None where what is read is
+// written otherwise.
+fn bytes_there_and_back(
+    alloc: Global,
+    head: &[u8],
+    count: usize,
+) -> Result<Option<usize>, ItemFault> {
+    let mut spelled = Vec::from_slice(alloc, head)?;
+    for _ in 0..count {
+        spelled.push(0x5A)?;
+    }
+    let (item, _) = decode(alloc, spelled.as_slice())?;
+    let mut written = Vec::new(alloc);
+    encode(&item, &mut written)?;
+    match item {
+        Item::Binary(bytes) if written.as_slice() == spelled.as_slice() => Ok(Some(
+            bytes.as_slice().len(),
+        )),
+        _ => Ok(None),
+    }
+}
+
+#[test]
+fn long_items_are_read_and_written(rt: HostRuntime) {
+    let heads: [(&[u8], usize); 4] = [
+        (b"\x21\xFF", 255),
+        (b"\x22\x01\x00", 256),
+        (b"\x22\xFF\xFF", 65_535),
+        (b"\x23\x01\x00\x00", 65_536),
+    ];
+    for (head, count) in heads {
+        let read = bytes_there_and_back(rt.alloc(), head, count);
+        assert!(rt; matches!(&read, Ok(Some(n)) if *n == count), "at {count}");
+    }
+}
+
+#[test]
+fn a_text_is_one_item_from_its_first_byte_to_its_last(rt: HostRuntime) {
+    let alloc = rt.alloc();
+    let list = read_one(alloc, b"\x01\x01\xA5\x01\x07");
+    assert!(rt; matches!(&list, Ok(Some(Item::List(items))) if items.as_slice().len() == 1));
+    // no bytes, a byte behind an item, a second item, an item that is cut off, and a fault
+    let others: [&[u8]; 5] = [
+        b"",
+        b"\x21\x01\x00\x00",
+        b"\x01\x00\x01\x00",
+        b"\x01\x01\x21",
+        b"\x41\x01\x80",
+    ];
+    for text in others {
+        let read = read_one(alloc, text);
+        assert!(rt; matches!(&read, Ok(None)), "at {text:?}");
+    }
+}
+
 // Lists and elements made of vectors, and the vectors taken out of them.
 fn in_and_out(alloc: Global) -> Result<(Vec<Item>, Vec<u16>), NoMemory> {
     let items = Items::from_vec(vec![in alloc; ascii(alloc, b"A")?]?);

@@ -4,15 +4,20 @@ use Rattle.hsms_frame.specs.declared.frame.Header.{Header}
 use Rattle.hsms_frame.specs.declared.frame.Arrival.TheVariants as arrival
 use Rattle.tool_events.specs.declared.event.Event.{Event}
 use Rattle.tool_events.specs.declared.event.Event.TheVariants as event
+use Rattle.tool_events.specs.declared.config.Config.{Config}
 use Rattle.tool_events.specs.declared.entry.Entry.{Entry}
 use Rattle.gem_model.specs.State.{opening}
 use Rattle.gem_model.specs.Command.{known_config}
 use Rattle.gem_model.specs.Feed.{Stop, entry_of, feed_entries}
 use Rattle.gem_model.specs.Printed.{printed}
 
--- what the tool prints for a text of lines, under the known configuration (this tool's profile, input and output lines)
+-- what the tool prints for a text of lines, under a configuration (this tool's profile, input and output lines)
+abbrev pub answers_under : Config → List ℕ → List ℕ
+answers_under c text = printed (opening c) (feed_entries c text).entries
+
+-- the same under the known configuration
 abbrev pub answer_to : List ℕ → List ℕ
-answer_to text = printed (opening known_config) (feed_entries known_config text).entries
+answer_to text = answers_under known_config text
 
 -- where it stops reading the text (this tool's profile, statuses)
 abbrev pub stop_of : List ℕ → Stop

@@ -6,6 +6,7 @@ pub mod Direct
 pub mod Ready
 pub mod Measure
 pub mod Settle
+pub mod Valid
 pub mod Verdict
 pub mod Act
 pub mod Due

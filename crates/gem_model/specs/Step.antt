@@ -82,15 +82,14 @@ switched oper.Local g = record g { switch_local = true }
 switched oper.Remote g = record g { switch_local = false }
 switched _ g = g
 
--- `quit` ends the session that is up, and the run
-abbrev pub quits : State → Outcome
-quits g =
-    if is_up g then record (ends (answer.Oper true) cause.Quit g) { after = record (session_ended g) { quitting = true } }
-    else answered (answer.Oper true) (record g { quitting = true })
+-- `quit` ends the session, where one is up, and the run
+abbrev pub quits : Bool → State → Outcome
+quits true g = record (ends (answer.Oper true) cause.Quit g) { after = record (session_ended g) { quitting = true } }
+quits false g = answered (answer.Oper true) (record g { quitting = true })
 
 -- an operator's command
 abbrev pub operated : OperCmd → State → Outcome
-operated oper.Quit g = quits g
+operated oper.Quit g = quits (is_up g) g
 operated command g = answered (answer.Oper (is_accepted command g)) (fire_listed (operator_rows command g) (switched command g))
 
 -- ---- the clock

@@ -5,10 +5,12 @@
 
 ghost use Rattle.std.specs.Prelude.{◌≡◌, true, false, [], ◌∷◌, codes};
 ghost use Rattle.tool_events.specs.declared.event.Event.TheVariants.{LinkUp, Tick};
+ghost use Rattle.tool_events.specs.declared.config.CommStart.TheVariants.{Enabled};
+ghost use Rattle.tool_events.specs.declared.config.ControlStart.TheVariants.{HostOffline};
 ghost use Rattle.gem_model.specs.Command.{known_config};
 ghost use Rattle.gem_model.specs.Sizes.{is_full};
 ghost use Rattle.gem_model.specs.Feed.{AllRead, OutsideGrammar};
-ghost use Rattle.gem_model.specs.Conversation.{answer_to, stop_of, answer_to_events, posted, message_of, too_long_of, take_one, select_request, request};
+ghost use Rattle.gem_model.specs.Conversation.{answers_under, answer_to, stop_of, answer_to_events, posted, message_of, too_long_of, take_one, select_request, request};
 
 /// Where nothing comes, nothing is printed.
 pub fn no_lines()
@@ -129,10 +131,11 @@ pub fn a_heartbeat_raises_the_moment()
     ensures sooner { answer_to (codes "T 50\nL+\nT 1000\n") ≡ codes "+ 1\n- 1 T7\n" }
 {}
 
-/// The system bytes of the messages of stream 9 go on over the end of a session.
+/// The system bytes of the tool's own messages go on over the end of a session: S9F5 has 1 in the first, and in the second
+/// the S1F13 with which the tool establishes communication again has 2.
 pub fn system_bytes_go_on_over_the_end_of_a_session()
-    ensures { answer_to (codes "L+\nH 0000000AFFFF0000000100000001\nH 0000000A0000810300000000000A\nL-\nL+\nH 0000000AFFFF0000000100000002\nH 0000000A0000810300000000000B\n")
-        ≡ codes "+ 1\n> 0000000AFFFF0000000200000001\n> 0000001600000905000000000001210A0000810300000000000A\n- 1 PeerEnd\n+ 2\n> 0000000AFFFF0000000200000002\n> 0000001600000905000000000002210A0000810300000000000B\n" }
+    ensures { answer_to (codes "L+\nH 0000000AFFFF0000000100000001\nH 0000000A0000810300000000000A\nL-\nL+\nH 0000000AFFFF0000000100000002\n")
+        ≡ codes "+ 1\n> 0000000AFFFF0000000200000001\n> 0000001600000905000000000001210A0000810300000000000A\n- 1 PeerEnd\n+ 2\n> 0000000AFFFF0000000200000002\n> 0000001C0000810D0000000000020102410647454D3330304106312E302E3030\n" }
 {}
 
 /// A message to another device, an unknown stream and an unknown function are each answered with a message of stream 9,
@@ -140,8 +143,8 @@ pub fn system_bytes_go_on_over_the_end_of_a_session()
 pub fn a_message_that_is_not_known_is_told()
     ensures device { answer_to (codes "L+\nH 0000000AFFFF0000000100000001\nH 0000000A0001810100000000000B\n")
         ≡ codes "+ 1\n> 0000000AFFFF0000000200000001\n> 0000001600000901000000000001210A0001810100000000000B\n" }
-    ensures stream { answer_to (codes "L+\nH 0000000AFFFF0000000100000001\nH 0000000A0000821100000000000A\n")
-        ≡ codes "+ 1\n> 0000000AFFFF0000000200000001\n> 0000001600000903000000000001210A0000821100000000000A\n" }
+    ensures stream { answer_to (codes "L+\nH 0000000AFFFF0000000100000001\nH 0000000A0000831100000000000A\n")
+        ≡ codes "+ 1\n> 0000000AFFFF0000000200000001\n> 0000001600000903000000000001210A0000831100000000000A\n" }
     ensures function { answer_to (codes "L+\nH 0000000AFFFF0000000100000001\nH 0000000A0000810300000000000A\n")
         ≡ codes "+ 1\n> 0000000AFFFF0000000200000001\n> 0000001600000905000000000001210A0000810300000000000A\n" }
 {}
@@ -153,6 +156,48 @@ pub fn a_text_that_is_too_long_is_told()
         ∷ too_long_of (request 1 3 10) 262155 ∷ take_one
         ∷ message_of (request 1 1 2) [] ∷ take_one ∷ [])
         ≡ codes "+ 1\n> 0000000AFFFF0000000200000001\n> 000000160000090B000000000001210A0000810300000000000A\n> 0000001C000001020000000000020102410647454D3330304106312E302E3030\n" }
+{}
+
+/// A tool that begins in WAIT DELAY asks for communication once a link is selected. S1F14 with COMMACK 0 accepts, and then
+/// S1F1 is answered.
+pub fn communication_is_established_by_the_tool()
+    ensures asked { answers_under (record known_config { communication = Enabled }) (codes "L+\nH 0000000AFFFF0000000100000001\n")
+        ≡ codes "+ 1\n> 0000000AFFFF0000000200000001\n> 0000001C0000810D0000000000010102410647454D3330304106312E302E3030\n" }
+    ensures accepted { answers_under (record known_config { communication = Enabled }) (codes "L+\nH 0000000AFFFF0000000100000001\nH 000000110000010E00000000000101022101000100\nH 0000000A00008101000000000002\n")
+        ≡ codes "+ 1\n> 0000000AFFFF0000000200000001\n> 0000001C0000810D0000000000010102410647454D3330304106312E302E3030\n> 0000001C000001020000000000020102410647454D3330304106312E302E3030\n" }
+{}
+
+/// Until then all but S1F13 and its answer is discarded. An S1F13 of the host establishes communication too, and the tool's
+/// own is forgotten: the host's answer to it is discarded.
+pub fn communication_is_established_by_the_host()
+    ensures { answers_under (record known_config { communication = Enabled }) (codes "L+\nH 0000000AFFFF0000000100000001\nH 0000000A00008101000000000002\nH 0000000A0000810D000000000003\nH 000000110000010E00000000000101022101010100\nH 0000000A00008101000000000004\n")
+        ≡ codes "+ 1\n> 0000000AFFFF0000000200000001\n> 0000001C0000810D0000000000010102410647454D3330304106312E302E3030\n> 000000210000010E00000000000301022101000102410647454D3330304106312E302E3030\n> 0000001C000001020000000000040102410647454D3330304106312E302E3030\n" }
+{}
+
+/// T3 of the tool's S1F13 is over after 4,500 hundredths: S9F9 tells its header. The tool asks again 1,000 later, and not
+/// before.
+pub fn an_s1f13_that_is_not_answered_is_sent_again()
+    ensures before { answers_under (record known_config { communication = Enabled }) (codes "L+\nH 0000000AFFFF0000000100000001\nT 4500\nT 5499\n")
+        ≡ codes "+ 1\n> 0000000AFFFF0000000200000001\n> 0000001C0000810D0000000000010102410647454D3330304106312E302E3030\n> 0000001600000909000000000002210A0000810D000000000001\n" }
+    ensures at { answers_under (record known_config { communication = Enabled }) (codes "L+\nH 0000000AFFFF0000000100000001\nT 4500\nT 5499\nT 5500\n")
+        ≡ codes "+ 1\n> 0000000AFFFF0000000200000001\n> 0000001C0000810D0000000000010102410647454D3330304106312E302E3030\n> 0000001600000909000000000002210A0000810D000000000001\n> 0000001C0000810D0000000000030102410647454D3330304106312E302E3030\n" }
+{}
+
+/// A linktest of the tool goes out after its period, here 200, and T6 ends the session where it is not answered.
+pub fn a_linktest_of_the_tool_is_answered_or_ends_the_session()
+    ensures asked { answers_under (record known_config { linktest = 200 }) (codes "L+\nH 0000000AFFFF0000000100000001\nT 200\n")
+        ≡ codes "+ 1\n> 0000000AFFFF0000000200000001\n> 0000000AFFFF0000000500000001\n" }
+    ensures ended { answers_under (record known_config { linktest = 200 }) (codes "L+\nH 0000000AFFFF0000000100000001\nT 200\nT 700\n")
+        ≡ codes "+ 1\n> 0000000AFFFF0000000200000001\n> 0000000AFFFF0000000500000001\n- 1 T6\n" }
+    ensures answered { answers_under (record known_config { linktest = 200 }) (codes "L+\nH 0000000AFFFF0000000100000001\nT 200\nH 0000000AFFFF0000000600000001\nT 300\n")
+        ≡ codes "+ 1\n> 0000000AFFFF0000000200000001\n> 0000000AFFFF0000000500000001\n" }
+{}
+
+/// In HOST OFF-LINE a message is answered by function 0 of its stream, and S1F17 takes the tool on-line: ONLACK 0. A second
+/// one is answered by 2, and S1F15 takes the tool off-line again.
+pub fn the_host_takes_the_tool_on_line()
+    ensures { answers_under (record known_config { control = HostOffline }) (codes "L+\nH 0000000AFFFF0000000100000001\nH 0000000A00008101000000000007\nH 0000000A00008111000000000008\nH 0000000A00008111000000000009\nH 0000000A0000810F00000000000A\nH 0000000A0000821100000000000B\n")
+        ≡ codes "+ 1\n> 0000000AFFFF0000000200000001\n> 0000000A00000100000000000007\n> 0000000D00000112000000000008210100\n> 0000000D00000112000000000009210102\n> 0000000D0000011000000000000A210100\n> 0000000A0000020000000000000B\n" }
 {}
 
 /// A history is full once it has its greatest number of entries, here 2, and not one before.

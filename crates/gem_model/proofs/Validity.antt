@@ -1,0 +1,127 @@
+-- Every state that a history leads to is valid.
+use Rattle.std.proofs.Common.{◌≡◌, ℕ, Bool, true, false, ◌&&◌, not, if◌then◌else◌, List, [], ◌∷◌, ◌++◌, ◌≤◌, nat_le, arith, Option, Some, None, option_map, refl, sym, ◌∙◌, ap, subst}
+use Rattle.std.specs.Option.{option_or}
+use Rattle.hsms_link.specs.declared.state.Phase.{Phase}
+use Rattle.hsms_link.specs.declared.state.Phase.TheVariants.{Down, NotSelected, Selected}
+use Rattle.hsms_link.specs.Links as links
+use Rattle.gem_tables.specs.Table.{Firing, firing}
+use Rattle.gem_states.specs.declared.communication.Comm.{Comm}
+use Rattle.gem_states.specs.declared.communication.Comm.TheVariants as comm
+use Rattle.tool_events.specs.declared.config.Config.{Config}
+use Rattle.tool_events.specs.declared.config.CommStart.{CommStart}
+use Rattle.tool_events.specs.declared.config.CommStart.TheVariants as start
+use Rattle.tool_events.specs.declared.config.ControlStart.{ControlStart}
+use Rattle.tool_events.specs.declared.config.ControlStart.TheVariants as begin
+use Rattle.tool_events.specs.declared.entry.Entry.{Entry}
+use Rattle.tool_events.specs.declared.event.Event.{Event}
+use Rattle.gem_model.specs.State.{State, opening, is_up, is_selected, raised, first_control}
+use Rattle.gem_model.specs.Fire.{fire, creations}
+use Rattle.gem_model.specs.Ready.{delay_is_over, least, ready_comm, ready_control, is_attempt}
+use Rattle.gem_model.specs.Settle.{Path, settled, settling}
+use Rattle.gem_model.specs.Step.{Outcome, step, step_from, acts, settles}
+use Rattle.gem_model.specs.Run.{Run}
+use Rattle.gem_model.specs.Valid.{Valid}
+use Rattle.gem_model.proofs.Tests.{went, none_some}
+use Rattle.gem_model.proofs.Settling.{settles_so}
+use Rattle.gem_model.proofs.Steps.{Keeping, step_keeps-from}
+
+-- at the end of a path no row is ready
+path_end : (g : State) (due fs : List Firing) (h : State) → Path g due fs h → least h ≡ None
+path_end g [] [] h path = ap least path.1 ∙ path.0
+path_end g [] (f ∷ fs) h path = path_end (fire g f) (creations g f) fs h path.1
+path_end g (d ∷ due) [] h path = absurd path
+path_end g (d ∷ due) (f ∷ fs) h path = path_end (fire g d) (creations g d ++ due) fs h path.1
+
+pub settled_least : (g : State) → least (settled g) ≡ None
+settled_least g = path_end g [] (settling g) (settled g) (settles_so g)
+
+-- ---- without a session a rise of the moment makes no row ready
+
+down_selected : (phase : Phase) → links.is_up phase ≡ false → links.is_selected phase ≡ false
+down_selected Down down = refl
+down_selected (NotSelected since) down = refl
+down_selected Selected down = absurd (cc)
+
+never : (a b : Bool) (f : Firing) → b ≡ false → (if a && b then Some f else None) ≡ None
+never true true f h = absurd (cc)
+never true false f h = refl
+never false b f h = refl
+
+behind_none : (x y : Option Firing) → option_or x y ≡ None → y ≡ None
+behind_none None y h = h
+behind_none (Some f) y h = absurd (cc)
+
+raised_quiet : (g : State) (at : ℕ) → is_up g ≡ false → least g ≡ None → least (raised g at) ≡ None
+raised_quiet g at down quiet =
+    ap (λ (x : Option Firing). option_or x (ready_control g)) (never _ (is_selected g) _ (down_selected g.link.phase down))
+    ∙ behind_none (ready_comm g) (ready_control g) quiet
+
+-- ---- an earlier moment makes no row ready
+
+earlier_over : (early late : ℕ) (c : Comm) → early ≤ late → delay_is_over late c ≡ false → delay_is_over early c ≡ false
+earlier_over early late (comm.WaitDelay until) less over = grind (arith, less, over)
+earlier_over early late comm.Disabled less over = refl
+earlier_over early late comm.WaitCra less over = refl
+earlier_over early late comm.Communicating less over = refl
+
+test_of : (b : Bool) (f : Firing) → (if b then Some f else None) ≡ None → b ≡ false
+test_of true f h = absurd (cc)
+test_of false f h = refl
+
+not_both : (early late selected : Bool) → (late ≡ false → early ≡ false) → (late && selected) ≡ false → (early && selected) ≡ false
+not_both early true true h both = absurd (cc)
+not_both true late false h both = refl
+not_both false late selected h both = refl
+not_both early false true h both = ap (λ b. b && true) (h refl)
+
+first_none : (x y : Option Firing) → option_or x y ≡ None → x ≡ None
+first_none None y h = refl
+first_none (Some f) y h = absurd (cc)
+
+-- what differs by an earlier moment and by the frames that wait has no row that is ready either
+pub earlier_quiet : (g : State) (moment : ℕ) (waiting : List (List ℕ)) → moment ≤ g.moment → least g ≡ None → least (record g { moment = moment; waiting = waiting }) ≡ None
+earlier_quiet g moment waiting less quiet =
+    let late = test_of _ _ (first_none (ready_comm g) (ready_control g) quiet) in
+    let early : (delay_is_over moment g.comm && is_selected g) ≡ false = not_both _ (delay_is_over g.moment g.comm) (is_selected g) (earlier_over moment g.moment g.comm less) late in
+    ap (λ (b : Bool). option_or (if b then Some (firing 1 0 3) else None) (ready_control g)) early
+    ∙ behind_none (ready_comm g) (ready_control g) quiet
+
+-- ---- a step
+
+valid_mapped : (before : ℕ) (g : State) (e : Event) (x : Option Outcome) (o : Outcome) → g.quitting ≡ false → step_from before g e ≡ Some o → option_map settles x ≡ Some o → Valid o.after
+valid_mapped before g e None o goes here is = none_some o is
+valid_mapped before g e (Some p) o goes here is =
+    let same : settles p ≡ o = cc in
+    record {
+      settled = subst (λ (q : Outcome). least q.after ≡ None) same (settled_least p.after);
+      quit = (step_keeps-from before g e o here).quit goes;
+    }
+
+pub step_valid : (g : State) (at : ℕ) (e : Event) (o : Outcome) → Valid g → step g at e ≡ Some o → Valid o.after
+step_valid g at e o valid here =
+    went g.quitting _ _ _
+    (λ quitting is.
+        let same : raised g at ≡ o.after = cc in
+        subst Valid same (record { settled = raised_quiet g at (valid.quit quitting) valid.settled; quit = λ _. valid.quit quitting }))
+    (λ goes is. valid_mapped g.moment (raised g at) e (acts g.moment (raised g at) e) o goes here is)
+    here
+
+no_attempt : (c : ControlStart) → is_attempt (first_control c) ≡ false
+no_attempt begin.EquipmentOffline = refl
+no_attempt begin.HostOffline = refl
+no_attempt begin.OnlineLocal = refl
+no_attempt begin.OnlineRemote = refl
+
+never_first : (a b : Bool) (f : Firing) → a ≡ false → (if a && b then Some f else None) ≡ None
+never_first true b f h = absurd (cc)
+never_first false b f h = refl
+
+pub opening_valid : (c : Config) → Valid (opening c)
+opening_valid c = record {
+  settled = ap (λ (x : Option Firing). option_or x (ready_control (opening c))) (never _ false _ refl) ∙ never_first (is_attempt (first_control c.control)) _ _ (no_attempt c.control);
+  quit = λ _. refl;
+}
+
+pub run_valid : (g : State) (entries : List Entry) (h : State) → Valid g → Run g entries h → Valid h
+run_valid g [] h valid run = subst Valid (sym run) valid
+run_valid g (e ∷ entries) h valid run = run_valid run.0.after entries h (step_valid g e.at.0 e.event run.0 valid run.1) run.2

@@ -1,6 +1,6 @@
 ghost use Rattle.std.specs.Prelude.{◌≡◌, ℕ, ◌≤◌, None, length, IfOk};
 
-use crate::counts::count_answer;
+use crate::counts::Counts;
 use crate::source::{Failed, Source};
 use std::io::Read;
 use std::marker::Model;
@@ -14,8 +14,7 @@ pub struct FileSource<'a, R: Files> {
     rt: &'a R,
     path: &'a str,
     file: Option<R::File>,
-    faults: u64,
-    ends: u64,
+    counts: Counts,
 }
 
 impl<'a, R: Files> Model for FileSource<'a, R> {
@@ -23,7 +22,7 @@ impl<'a, R: Files> Model for FileSource<'a, R> {
 
     ghost Value = { FileCounts };
 
-    ghost view = { λ s. record { path = s.path.now; faults = s.faults; ends = s.ends } };
+    ghost view = { λ s. record { path = s.path.now; faults = s.counts.faults; ends = s.counts.zeros } };
 }
 
 impl<'a, R: Files> FileSource<'a, R> {
@@ -37,8 +36,7 @@ impl<'a, R: Files> FileSource<'a, R> {
             rt,
             path,
             file: None,
-            faults: 0,
-            ends: 0,
+            counts: Counts::none(),
         }
     }
 
@@ -46,14 +44,14 @@ impl<'a, R: Files> FileSource<'a, R> {
     pub fn faults(&self) -> u64
         ensures { result ≡ self.now.faults }
     {
-        self.faults
+        self.counts.faults
     }
 
     /// How many reads of a buffer that isn't empty were answered 0.
     pub fn ends(&self) -> u64
         ensures { result ≡ self.now.ends }
     {
-        self.ends
+        self.counts.zeros
     }
 }
 
@@ -66,7 +64,7 @@ impl<R: Files> Source for FileSource<'_, R> {
 
     fn read(&mut self, buf: &mut [u8]) -> Result<usize, Failed> {
         let answer = read_opened(self.rt, self.path, &mut self.file, buf);
-        count_answer(answer, buf.len(), &mut self.faults, &mut self.ends)
+        self.counts.count(answer, buf.len())
     }
 }
 

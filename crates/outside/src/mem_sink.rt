@@ -3,7 +3,7 @@ ghost use Rattle.outside.specs.Counts.{Rose, one_more};
 ghost use Rattle.outside.specs.Memory.{is_zero_of};
 ghost use Rattle.outside.specs.Told.{Written};
 
-use crate::counts::count_if;
+use crate::counts::Counts;
 use crate::sink::Sink;
 use crate::source::Failed;
 use std::alloc::{AllocError, Global};
@@ -20,8 +20,7 @@ pub struct MemSink {
     limit: usize,
     fails: Vec<u64>,
     writes: u64,
-    faults: u64,
-    refusals: u64,
+    counts: Counts,
 }
 
 impl Model for MemSink {
@@ -36,8 +35,8 @@ impl Model for MemSink {
       room = vec_capacity s.held;
       fails = s.fails.items;
       writes = s.writes;
-      faults = s.faults;
-      refusals = s.refusals;
+      faults = s.counts.faults;
+      refusals = s.counts.zeros;
     } };
 }
 
@@ -56,8 +55,7 @@ impl MemSink {
             limit: usize::MAX,
             fails,
             writes: 0,
-            faults: 0,
-            refusals: 0,
+            counts: Counts::none(),
         }
     }
 
@@ -99,14 +97,14 @@ impl MemSink {
     pub fn faults(&self) -> u64
         ensures { result ≡ self.now.faults }
     {
-        self.faults
+        self.counts.faults
     }
 
     /// How many writes of a piece that isn't empty were answered 0.
     pub fn refusals(&self) -> u64
         ensures { result ≡ self.now.refusals }
     {
-        self.refusals
+        self.counts.zeros
     }
 }
 
@@ -144,15 +142,15 @@ impl Sink for MemSink {
     {
         self.writes = self.writes.saturating_add(1);
         if self.fails.contains(&self.writes) {
-            self.faults = self.faults.saturating_add(1);
+            self.counts.failed();
             return Err(Failed);
         }
         let n = bytes.len().min(self.limit.saturating_sub(self.held.len()));
         if self.held.extend_from_slice(&bytes[..n]).is_err() {
-            self.faults = self.faults.saturating_add(1);
+            self.counts.failed();
             return Err(Failed);
         }
-        self.refusals = count_if(self.refusals, n == 0 && !bytes.is_empty());
+        self.counts.answered(n, bytes.len());
         Ok(n)
     }
 }

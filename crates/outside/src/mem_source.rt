@@ -3,7 +3,7 @@ ghost use Rattle.outside.specs.Counts.{Rose, one_more};
 ghost use Rattle.outside.specs.Memory.{is_zero_of};
 ghost use Rattle.outside.specs.Told.{Taken, NothingLeft};
 
-use crate::counts::count_if;
+use crate::counts::Counts;
 use crate::source::{Failed, Source};
 use std::marker::Model;
 
@@ -15,8 +15,7 @@ pub struct MemSource {
     most: usize,
     fails: Vec<u64>,
     reads: u64,
-    faults: u64,
-    ends: u64,
+    counts: Counts,
 }
 
 impl Model for MemSource {
@@ -30,8 +29,8 @@ impl Model for MemSource {
       most = s.most;
       fails = s.fails.items;
       reads = s.reads;
-      faults = s.faults;
-      ends = s.ends;
+      faults = s.counts.faults;
+      ends = s.counts.zeros;
     } };
 
     ghost invariant = { λ s. (s.at ≤ length s.bytes.items) × (0 < s.most) };
@@ -53,8 +52,7 @@ impl MemSource {
             most: usize::MAX,
             fails,
             reads: 0,
-            faults: 0,
-            ends: 0,
+            counts: Counts::none(),
         }
     }
 
@@ -79,14 +77,14 @@ impl MemSource {
     pub fn faults(&self) -> u64
         ensures { result ≡ self.now.faults }
     {
-        self.faults
+        self.counts.faults
     }
 
     /// How many reads of a buffer that isn't empty were answered 0.
     pub fn ends(&self) -> u64
         ensures { result ≡ self.now.ends }
     {
-        self.ends
+        self.counts.zeros
     }
 }
 
@@ -122,12 +120,12 @@ impl Source for MemSource {
     {
         self.reads = self.reads.saturating_add(1);
         if self.fails.contains(&self.reads) {
-            self.faults = self.faults.saturating_add(1);
+            self.counts.failed();
             return Err(Failed);
         }
         let n = copy_front(rest_of(self.bytes.as_slice(), self.at), self.most, buf);
         self.at += n;
-        self.ends = count_if(self.ends, n == 0 && !buf.is_empty());
+        self.counts.answered(n, buf.len());
         Ok(n)
     }
 }

@@ -1,6 +1,6 @@
 ghost use Rattle.std.specs.Prelude.{◌≡◌, ℕ, None};
 
-use crate::counts::count_answer;
+use crate::counts::Counts;
 use crate::sink::Sink;
 use crate::source::{Failed, Source};
 use std::io::Read;
@@ -10,8 +10,7 @@ use std::marker::Model;
 #[derive(Drop)]
 pub struct StdinSource<R: Input> {
     input: R::Reader,
-    faults: u64,
-    ends: u64,
+    counts: Counts,
 }
 
 impl<R: Input> Model for StdinSource<R> {
@@ -19,7 +18,7 @@ impl<R: Input> Model for StdinSource<R> {
 
     ghost Value = { SourceCounts };
 
-    ghost view = { λ s. record { faults = s.faults; ends = s.ends } };
+    ghost view = { λ s. record { faults = s.counts.faults; ends = s.counts.zeros } };
 }
 
 impl<R: Input> StdinSource<R> {
@@ -30,8 +29,7 @@ impl<R: Input> StdinSource<R> {
     {
         StdinSource {
             input: rt.reader(),
-            faults: 0,
-            ends: 0,
+            counts: Counts::none(),
         }
     }
 
@@ -39,14 +37,14 @@ impl<R: Input> StdinSource<R> {
     pub fn faults(&self) -> u64
         ensures { result ≡ self.now.faults }
     {
-        self.faults
+        self.counts.faults
     }
 
     /// How many reads of a buffer that isn't empty were answered 0.
     pub fn ends(&self) -> u64
         ensures { result ≡ self.now.ends }
     {
-        self.ends
+        self.counts.zeros
     }
 }
 
@@ -59,7 +57,7 @@ impl<R: Input> Source for StdinSource<R> {
 
     fn read(&mut self, buf: &mut [u8]) -> Result<usize, Failed> {
         let answer = self.input.read(buf);
-        count_answer(answer, buf.len(), &mut self.faults, &mut self.ends)
+        self.counts.count(answer, buf.len())
     }
 }
 
@@ -67,8 +65,7 @@ impl<R: Input> Source for StdinSource<R> {
 #[derive(Drop)]
 pub struct StdoutSink<'a, R: Print> {
     rt: &'a R,
-    faults: u64,
-    refusals: u64,
+    counts: Counts,
 }
 
 impl<'a, R: Print> Model for StdoutSink<'a, R> {
@@ -76,7 +73,7 @@ impl<'a, R: Print> Model for StdoutSink<'a, R> {
 
     ghost Value = { SinkCounts };
 
-    ghost view = { λ s. record { faults = s.faults; refusals = s.refusals } };
+    ghost view = { λ s. record { faults = s.counts.faults; refusals = s.counts.zeros } };
 }
 
 impl<'a, R: Print> StdoutSink<'a, R> {
@@ -87,8 +84,7 @@ impl<'a, R: Print> StdoutSink<'a, R> {
     {
         StdoutSink {
             rt,
-            faults: 0,
-            refusals: 0,
+            counts: Counts::none(),
         }
     }
 
@@ -96,14 +92,14 @@ impl<'a, R: Print> StdoutSink<'a, R> {
     pub fn faults(&self) -> u64
         ensures { result ≡ self.now.faults }
     {
-        self.faults
+        self.counts.faults
     }
 
     /// How many writes of a piece that isn't empty were answered 0.
     pub fn refusals(&self) -> u64
         ensures { result ≡ self.now.refusals }
     {
-        self.refusals
+        self.counts.zeros
     }
 }
 
@@ -116,7 +112,7 @@ impl<R: Print> Sink for StdoutSink<'_, R> {
 
     fn write(&mut self, bytes: &[u8]) -> Result<usize, Failed> {
         let answer = self.rt.write_some(bytes);
-        count_answer(answer, bytes.len(), &mut self.faults, &mut self.refusals)
+        self.counts.count(answer, bytes.len())
     }
 }
 

@@ -1,3 +1,5 @@
 pub mod Sizes
 pub mod Posts
+pub mod Answering
+pub mod Scripted
 pub mod Configs

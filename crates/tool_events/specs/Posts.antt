@@ -6,12 +6,6 @@ use Rattle.tool_events.specs.declared.answer.PostFault.{PostFault}
 use Rattle.tool_events.specs.declared.answer.PostFault.TheVariants as fault
 use Rattle.tool_events.specs.Sizes.{event_bytes}
 
--- a post that was answered Ok
-pub record Post : Type 0 where
-  pub at : ℕ
-  pub event : Event
-  pub answer : Answer
-
 -- the post was answered Full
 abbrev pub is_full : Result Answer PostFault → Bool
 is_full (Ok answer) = false

@@ -1,3 +1,4 @@
+use crate::answer::Answer;
 use crate::event::Event;
 use gem_ids::Moment;
 
@@ -7,4 +8,12 @@ pub struct Entry {
     pub seat: u32,
     pub at: Moment,
     pub event: Event,
+}
+
+/// A post that a desk answered `Ok`: the moment that was given with it, the event, and its answer.
+#[derive(Debug, Drop)]
+pub struct Post {
+    pub at: Moment,
+    pub event: Event,
+    pub answer: Answer,
 }

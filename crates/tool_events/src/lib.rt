@@ -1,7 +1,8 @@
 //! What happens to the tool, what it answers, and how both are recorded.
 //!
 //! These are the types that the core and the lines share; nothing here decides anything. Begin with `Event`,
-//! and with `Answer`, what it is answered. A `Desk` takes events one at a time. `Config` is what a configuration says.
+//! and with `Answer`, what it is answered. A `Desk` takes events one at a time; a test begins with `MemDesk::new`, a desk
+//! in memory. `Config` is what a configuration says.
 #![tactic(auto)]
 
 mod answer;
@@ -9,9 +10,11 @@ mod config;
 mod desk;
 mod entry;
 mod event;
+mod mem_desk;
 
 pub use answer::{Answer, Command, PostFault, Task};
 pub use config::{CommStart, Config, ControlStart};
 pub use desk::Desk;
-pub use entry::Entry;
+pub use entry::{Entry, Post};
 pub use event::{Event, JobWord, OperCmd, SessionCause, SessionEnd, Signal};
+pub use mem_desk::MemDesk;

@@ -9,7 +9,7 @@ use Rattle.transactions.specs.SystemBytes.{behind, in_turn, drawn}
 differ : (system i j : ℕ) → i < j → j < 2 ^ 32 → behind system i ≢ behind system j
 differ system i j l m = λ (e : behind system i ≡ behind system j). omega arith
 
-not_longer : (opened : List Open) (system : ℕ) → length (without system opened) ≤ length opened
+pub not_longer : (opened : List Open) (system : ℕ) → length (without system opened) ≤ length opened
 not_longer [] system = omega arith
 not_longer (one ∷ others) system = by_test (one.system == system) refl (not_longer others system) where
   by_test : (b : Bool) → (one.system == system) ≡ b → length (without system others) ≤ length others → length (without system (one ∷ others)) ≤ length (one ∷ others)
@@ -17,7 +17,7 @@ not_longer (one ∷ others) system = by_test (one.system == system) refl (not_lo
   by_test false q rest = rw q (omega arith)
 
 -- one that is taken out makes the list shorter
-shorter : (opened : List Open) (system : ℕ) → has_system opened system ≡ true → length (without system opened) < length opened
+pub shorter : (opened : List Open) (system : ℕ) → has_system opened system ≡ true → length (without system opened) < length opened
 shorter [] system e = absurd (cc)
 shorter (one ∷ others) system e = by_test (one.system == system) refl (shorter others system) where
   by_test : (b : Bool) → (one.system == system) ≡ b → (has_system others system ≡ true → length (without system others) < length others) → length (without system (one ∷ others)) < length (one ∷ others)

@@ -3,3 +3,4 @@ pub mod Systems
 pub mod Keeping
 pub mod Drawing
 pub mod Expiring
+pub mod Laws

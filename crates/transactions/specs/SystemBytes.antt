@@ -13,8 +13,8 @@ abbrev pub in_turn : ℕ → ℕ → ℕ → List ℕ
 in_turn system steps zero = []
 in_turn system steps (suc n) = behind system steps ∷ in_turn system (steps + 1) n
 
--- The system bytes that are drawn: the first, from the counter on, that no open transaction has. With so many open it is
--- one of the first so many and one.
+-- The system bytes that are drawn: the first, from the counter on, that no open transaction has. Of one more in turn
+-- than are open, one is free.
 abbrev pub drawn : Table → ℕ
 drawn table = unwrap_or (find (λ system. not (has_system table.opened system)) (in_turn table.next 0 (suc (length table.opened)))) table.next
 

@@ -1,5 +1,5 @@
--- The forms of bodies, in small words that read as a body is printed (this tool's profile, items and messages). What a
--- form gives is the value of an item that has it, and None for any other item.
+-- The forms of bodies, in small words that read as a body is printed (this tool's profile, messages). What a form
+-- gives is the value of an item that has it, and None for any other item.
 use Rattle.std.specs.Prelude.{ℕ, Bool, ◌==◌, if◌then◌else◌, List, Option, Some, None, option_map, option_and_then}
 use Rattle.secs_items.specs.Data.{Data, DataList, list, binary, ascii, no_items, item}
 use Rattle.secs_items.specs.Ids.{only}

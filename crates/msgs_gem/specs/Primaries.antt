@@ -21,6 +21,7 @@ pub record Line : Type 0 where
   pub function : ℕ
   pub body : Body
 
+-- one line
 abbrev line : ℕ → ℕ → Body → Line
 line stream function body = record { stream = stream; function = function; body = body }
 

@@ -8,7 +8,7 @@ ghost use Rattle.msgs_gem.specs.Bodies.{byte, fixed};
 
 use secs_items::Item;
 
-/// Whether an S1F14 has COMMACK 0 (SEMI E5, S1F14; this tool's profile, communication states): exactly where its text is
+/// Whether an S1F14 has COMMACK 0 (SEMI E5, S1F14; this tool's profile, messages): exactly where its text is
 /// one item, a list of two elements of which the first is `B 0`. `item` is its text, and None where the text is not one
 /// item. Takes no memory.
 pub fn accepts_communication(item: Option<&Item>) -> bool

@@ -35,8 +35,8 @@ pub front_one : (text : List ℕ) (d : Data) (n : ℕ) → n ≡ length text →
 front_one text d n whole_text spells = spelled_one text d (subst (Spells d 0) (take_all n text (omega arith)) spells)
 
 -- bytes stand behind the item
-pub longer_none : (text : List ℕ) (d : Data) (n : ℕ) → n ≤ length text → n ≢ length text → Spells d 0 (take n text) → one_item text ≡ None
-longer_none text d n within other spells =
+pub longer_none : (text : List ℕ) (d : Data) (n : ℕ) → n < length text → Spells d 0 (take n text) → one_item text ≡ None
+longer_none text d n shorter spells =
     let size : length (drop n text) ≡ length text - n = length-drop n text in
     ap whole (spelled_read text d n spells) ∙ whole_longer d (drop n text) (omega arith)
 

@@ -1,4 +1,4 @@
-use Rattle.std.proofs.Common.{sym}
+use Rattle.std.proofs.Common.{sym, arith}
 use Rattle.secs_items.specs.View.{view}
 use Rattle.secs_items.proofs.Decoding.{bytes_below}
 use Rattle.secs_items.proofs.OneItem.{front_one, longer_none, fault_none}
@@ -6,11 +6,11 @@ use Rattle.secs_items.proofs.one.read_one.Goals as goal
 
 pub returns-then-used-bytes-clause-exact : goal.returns-then-used-bytes-clause-exact
 returns-then-used-bytes-clause-exact c =
-    sym (front_one c.args.bytes.now (view c.in-Ok.item) c.in-Ok.used c.if-used-bytes.true c.in-Ok.ensures.found)
+    sym (front_one c.args.bytes.now (view c.in-Ok.item) c.in-Ok.used (omega (arith, c.if-used-bytes.true, c.in-Ok.ensures.within)) c.in-Ok.ensures.found)
 
 pub returns-else-used-bytes-clause-exact : goal.returns-else-used-bytes-clause-exact
 returns-else-used-bytes-clause-exact c =
-    sym (longer_none c.args.bytes.now (view c.in-Ok.item) c.in-Ok.used c.in-Ok.ensures.within c.if-used-bytes.false c.in-Ok.ensures.found)
+    sym (longer_none c.args.bytes.now (view c.in-Ok.item) c.in-Ok.used (omega (arith, c.if-used-bytes.false, c.in-Ok.ensures.within)) c.in-Ok.ensures.found)
 
 pub returns-in_default : goal.returns-in_default
 returns-in_default c =

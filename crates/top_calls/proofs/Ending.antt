@@ -1,5 +1,5 @@
 -- What a run of feed did, from how its input ended.
-use Rattle.std.proofs.Common.{◌≡◌, ◌≢◌, ℕ, List, [], ◌++◌, Option, Err, inl, inr, refl, sym, ap, subst, length, arith}
+use Rattle.std.proofs.Common.{◌≡◌, ℕ, List, [], ◌++◌, Option, inl, inr, refl, sym, ap, subst, length, arith}
 use Rattle.tool_events.specs.declared.entry.Entry.{Entry}
 use Rattle.tool_events.specs.declared.config.Config.{Config}
 use Rattle.gem_model.specs.State.{State, opening}
@@ -85,20 +85,6 @@ read_to_end (input.Halted (halt.Line place)) text count history number reader so
 read_to_end (input.Halted halt.Full) text count history number reader source source' h is = absurd (cc)
 read_to_end (input.Halted halt.Write) text count history number reader source source' h is = absurd (cc)
 read_to_end (input.Halted halt.NoMemory) text count history number reader source source' h is = absurd (cc)
-
--- where the cause is another, no read failed
-pub not_fault : (end : InputEnd) (count : ℕ) (history : List Entry) (number : ℕ) → cause_after end count history number ≢ cause.ReadFault → end ≢ input.Fault
-not_fault end count history number other is = other (rw is refl)
-
--- where the cause is another, no write failed
-pub not_write : (end : InputEnd) (count : ℕ) (history : List Entry) (number : ℕ) → cause_after end count history number ≢ cause.WriteFault → as_result end ≢ Err halt.Write
-not_write input.Whole count history number other is = absurd (cc)
-not_write input.Fault count history number other is = absurd (cc)
-not_write input.Bound count history number other is = absurd (cc)
-not_write (input.Halted (halt.Line place)) count history number other is = absurd (cc)
-not_write (input.Halted halt.Full) count history number other is = absurd (cc)
-not_write (input.Halted halt.Write) count history number other is = other refl
-not_write (input.Halted halt.NoMemory) count history number other is = absurd (cc)
 
 -- no session came
 no_notes : (c : Config) (read : ℕ → ℕ) → AreNotes c [] read []

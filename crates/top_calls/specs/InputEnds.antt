@@ -1,5 +1,5 @@
 -- How the reading of an input ended.
-use Rattle.std.specs.Prelude.{◌≡◌, List, length, Result, Ok, Err}
+use Rattle.std.specs.Prelude.{◌≡◌, ℕ, List, length, Result, Ok, Err}
 use Rattle.outside.specs.Counts.{Rose}
 use Rattle.gem_model.specs.Lines.{whole_lines}
 use Rattle.top_calls.specs.declared.halt.Halt.{Halt}

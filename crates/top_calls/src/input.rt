@@ -67,7 +67,9 @@ pub fn read_lines<S: Source, K: Sink>(
                 count,
             };
         };
-        if more == 0 {
+        // A read gives nothing only at the end; one that gives less than there is room for is no end.
+        let is_end = more == 0;
+        if is_end {
             let end = match reader.finish(alloc, out) {
                 Ok(()) => InputEnd::Whole,
                 Err(halt) => InputEnd::Halted(halt),

@@ -1,4 +1,4 @@
-ghost use Rattle.std.specs.Prelude.{◌≡◌, ℕ, ◌+◌, ◌-◌, ◌^◌, ◌<◌, ◌≤◌, ◌↔◌, ◌⊎◌, min, if◌then◌else◌, List, [], ◌++◌, length, take, Contains, Some, IfOk, OnOk, OnErr, IsErr, is_err};
+ghost use Rattle.std.specs.Prelude.{◌≡◌, ◌≢◌, ℕ, ◌+◌, ◌-◌, ◌^◌, ◌<◌, ◌≤◌, ◌↔◌, ◌⊎◌, min, if◌then◌else◌, List, [], ◌++◌, length, take, Contains, Some, Ok, IfOk, OnOk, OnErr, IsErr, is_err};
 ghost use Rattle.outside.specs.Counts.{Rose, one_more};
 ghost use Rattle.outside.specs.Memory.{is_zero_of};
 ghost use Rattle.outside.specs.Told.{Written};
@@ -121,7 +121,9 @@ impl Sink for MemSink {
         ensures fits { IfOk result (λ n. n ≤ length bytes.now) }
         ensures written { IfOk result (λ n. Written (Some self.old.held) (Some self.new.held) (take n bytes.now)) }
         ensures refused { IfOk result (λ n. n ≡ 0 → 0 < length bytes.now → Rose self.old.refusals self.new.refusals) }
+        ensures unrefused { result ≢ Ok 0 → self.new.refusals ≡ self.old.refusals }
         ensures failed { OnErr result (Rose self.old.faults self.new.faults) }
+        ensures unfailed { OnOk result (self.new.faults ≡ self.old.faults) }
         ensures unwritten { OnErr result (Some self.new.held ≡ Some self.old.held) }
         ensures faults_stay { self.old.faults ≤ self.new.faults }
         ensures refusals_stay { self.old.refusals ≤ self.new.refusals }

@@ -1,4 +1,4 @@
-ghost use Rattle.std.specs.Prelude.{◌≡◌, ℕ, ◌+◌, ◌-◌, ◌^◌, ◌<◌, ◌≤◌, ◌↔◌, min, if◌then◌else◌, List, [], ◌++◌, length, take, drop, Contains, Some, IfOk, OnErr, IsErr, is_err};
+ghost use Rattle.std.specs.Prelude.{◌≡◌, ℕ, ◌+◌, ◌-◌, ◌^◌, ◌<◌, ◌≤◌, ◌↔◌, min, if◌then◌else◌, List, [], ◌++◌, length, take, drop, Contains, Some, IfOk, OnOk, OnErr, IsErr, is_err};
 ghost use Rattle.outside.specs.Counts.{Rose, one_more};
 ghost use Rattle.outside.specs.Memory.{is_zero_of};
 ghost use Rattle.outside.specs.Told.{Taken, NothingLeft};
@@ -102,6 +102,7 @@ impl Source for MemSource {
         ensures end { IfOk result (λ n. n ≡ 0 → 0 < length buf.old
             → NothingLeft (Some self.old.left) × Rose self.old.ends self.new.ends) }
         ensures failed { OnErr result (Rose self.old.faults self.new.faults) }
+        ensures unfailed { OnOk result (self.new.faults ≡ self.old.faults) }
         ensures untaken { OnErr result (Some self.new.left ≡ Some self.old.left) }
         ensures faults_stay { self.old.faults ≤ self.new.faults }
         ensures ends_stay { self.old.ends ≤ self.new.ends }

@@ -120,18 +120,22 @@ impl Core {
         })
     }
 
-    /// The history, the oldest entry first. It is a run from the first state.
+    /// The history, the oldest entry first. It is a run from the first state, and within the limits.
     pub fn history(&self) -> &[Entry]
         ensures history { result.now ≡ self.now.history }
         ensures run { Run (opening self.now.config) self.now.history self.now.state }
+        ensures entries_fit { length self.now.history ≤ self.now.config.max_entries }
+        ensures bytes_fit { bytes_of self.now.history ≤ self.now.config.max_bytes }
     {
         self.entries.as_slice()
     }
 
-    /// Hands out the history.
+    /// Hands out the history. It is a run from the first state, and within the limits.
     pub fn close(self) -> Entries
         ensures history { result ≡ self.history }
         ensures run { Run (opening self.config) self.history self.state }
+        ensures entries_fit { length self.history ≤ self.config.max_entries }
+        ensures bytes_fit { bytes_of self.history ≤ self.config.max_bytes }
     {
         let Core { entries, .. } = self;
         Entries::from_vec(entries)

@@ -1,7 +1,5 @@
 -- What a run of feed did, from how its input ended.
-use Rattle.std.proofs.Common.{◌≡◌, ℕ, List, [], ◌++◌, Option, Some, None, inl, inr, refl, sym, ◌∙◌, ap, subst, length, length-append, arith}
-use Rattle.std.proofs.lemmas.List.{append-nil, nil_from_length}
-use Rattle.outside.specs.Told.{Taken}
+use Rattle.std.proofs.Common.{◌≡◌, ℕ, List, [], ◌++◌, Option, inl, inr, refl, sym, ap, subst, length, arith}
 use Rattle.tool_events.specs.declared.entry.Entry.{Entry}
 use Rattle.tool_events.specs.declared.config.Config.{Config}
 use Rattle.gem_model.specs.State.{State, opening}
@@ -18,7 +16,7 @@ use Rattle.top_calls.specs.declared.input.InputEnd.TheVariants as input
 use Rattle.top_calls.specs.CauseOf.{cause_after, Refuses}
 use Rattle.top_calls.specs.Fed.{SourceView, FedBy, Fed, Shown, ReadToEnd}
 use Rattle.top_calls.specs.Going.{SinkView, Shows}
-use Rattle.top_calls.specs.Input.{Whole}
+use Rattle.top_calls.specs.Stopping.{GivenBy}
 use Rattle.top_calls.specs.InputEnds.{InputEnds, as_result}
 use Rattle.top_calls.specs.Standing.{Prints}
 use Rattle.gem_model.specs.SessionBytes.{session_in}
@@ -28,14 +26,14 @@ use Rattle.top_calls.specs.Noted.{NotedBy}
 use Rattle.top_calls.proofs.Reading.{Taken-nothing}
 use Rattle.top_calls.proofs.Writing.{Written-nothing, WrittenFront-all}
 
-pub FedBy-end : (end : InputEnd) (text : List ℕ) (count : ℕ) (reader : Reader) (source source' : SourceView) → length text ≡ count → InputEnds end text reader source source' → FedBy reader.feeder.core.config (cause_after end count reader.feeder.core.history reader.number) text reader.feeder.core.history
+pub FedBy-end : (end : InputEnd) (text : List ℕ) (count : ℕ) (reader : Reader) (source source' : SourceView) → length text ≡ count → InputEnds end text reader source source' → FedBy reader.feeder.core.config (cause_after end count reader.feeder.core.history reader.number) (ReadToEnd source source') text reader.feeder.core.history
 FedBy-end input.Whole text count reader source source' size h = h.0.told
 FedBy-end input.Fault text count reader source source' size h = h.0.told
 FedBy-end input.Bound text count reader source source' size h = (inl (h.0.told, h.1), refl, refl, sym size)
-FedBy-end (input.Halted (halt.Line place)) text count reader source source' size h = h.told
+FedBy-end (input.Halted (halt.Line place)) text count reader source source' size h = (h.told.0, h.told.1, h.at_line)
 FedBy-end (input.Halted halt.Full) text count reader source source' size h = (inr h.told, refl, refl, sym size)
-FedBy-end (input.Halted halt.Write) text count reader source source' size h = h.told
-FedBy-end (input.Halted halt.NoMemory) text count reader source source' size h = h.told
+FedBy-end (input.Halted halt.Write) text count reader source source' size h = h.given
+FedBy-end (input.Halted halt.NoMemory) text count reader source source' size h = h.given
 
 -- the history is a run from the first state
 pub run_from : (c k : Config) (history : List Entry) (state : State) → c ≡ k → Run (opening c) history state → Run (opening k) history (after_all (opening k) history)
@@ -47,7 +45,7 @@ run_from c k history state same run =
 abbrev pub NotesFrom : Reader → List SessionNote → Type 0
 NotesFrom reader notes = (read : ℕ → ℕ) → AreCounts reader.feeder.reads read → AreNotes reader.feeder.core.config reader.feeder.core.history read notes
 
-pub NotedBy-end : (end : InputEnd) (text : List ℕ) (count : ℕ) (reader : Reader) (notes : List SessionNote) (source source' : SourceView) → NotesFrom reader notes → InputEnds end text reader source source' → NotedBy reader.feeder.core.config (cause_after end count reader.feeder.core.history reader.number) text reader.feeder.core.history notes
+pub NotedBy-end : (end : InputEnd) (text : List ℕ) (count : ℕ) (reader : Reader) (notes : List SessionNote) (source source' : SourceView) → NotesFrom reader notes → InputEnds end text reader source source' → NotedBy reader.feeder.core.config (cause_after end count reader.feeder.core.history reader.number) (ReadToEnd source source') text reader.feeder.core.history notes
 NotedBy-end input.Whole text count reader notes source source' are h = are _ h.0.read
 NotedBy-end input.Fault text count reader notes source source' are h = are _ h.0.read
 NotedBy-end input.Bound text count reader notes source source' are h = inl ((h.0.told, h.1), are _ h.0.read)
@@ -79,34 +77,28 @@ Shown-memory (input.Halted halt.Full) core core' out out' none h = WrittenFront-
 Shown-memory (input.Halted halt.Write) core core' out out' none h = h.shows out.held (shows_first core out none)
 Shown-memory (input.Halted halt.NoMemory) core core' out out' none h = h.shows out.held (shows_first core out none)
 
-rest_none : (text rest : List ℕ) → text ≡ text ++ rest → rest ≡ []
-rest_none text rest h = nil_from_length rest (omega (arith, ap length h, length-append text rest))
-
-whole_any : (left left' : Option (List ℕ)) (text other : List ℕ) → Taken left left' text → Whole left text → Taken left left' other → Whole left other
-whole_any None left' text other first whole second = tt
-whole_any (Some bytes) left' text other first whole second =
-    let none : first.0 ≡ [] = rest_none text first.0 (sym whole ∙ first.1) in
-    let same : first.0 ≡ second.0 = cc (first.2, second.2) in
-    second.1 ∙ ap (λ (rest : List ℕ). other ++ rest) (sym same ∙ none) ∙ append-nil other
-
-pub read_to_end : (end : InputEnd) (text : List ℕ) (count : ℕ) (history : List Entry) (number : ℕ) (reader : Reader) (source source' : SourceView) → Taken source.left source'.left text → InputEnds end text reader source source' → cause_after end count history number ≡ cause.Done → ReadToEnd source source'
-read_to_end input.Whole text count history number reader source source' taken h is = (h.2, λ other also. whole_any source.left source'.left text other taken h.1 also)
-read_to_end input.Fault text count history number reader source source' taken h is = absurd (cc)
-read_to_end input.Bound text count history number reader source source' taken h is = absurd (cc)
-read_to_end (input.Halted (halt.Line place)) text count history number reader source source' taken h is = absurd (cc)
-read_to_end (input.Halted halt.Full) text count history number reader source source' taken h is = absurd (cc)
-read_to_end (input.Halted halt.Write) text count history number reader source source' taken h is = absurd (cc)
-read_to_end (input.Halted halt.NoMemory) text count history number reader source source' taken h is = absurd (cc)
+pub read_to_end : (end : InputEnd) (text : List ℕ) (count : ℕ) (history : List Entry) (number : ℕ) (reader : Reader) (source source' : SourceView) → InputEnds end text reader source source' → cause_after end count history number ≡ cause.Done → ReadToEnd source source'
+read_to_end input.Whole text count history number reader source source' h is = h.1
+read_to_end input.Fault text count history number reader source source' h is = absurd (cc)
+read_to_end input.Bound text count history number reader source source' h is = absurd (cc)
+read_to_end (input.Halted (halt.Line place)) text count history number reader source source' h is = absurd (cc)
+read_to_end (input.Halted halt.Full) text count history number reader source source' h is = absurd (cc)
+read_to_end (input.Halted halt.Write) text count history number reader source source' h is = absurd (cc)
+read_to_end (input.Halted halt.NoMemory) text count history number reader source source' h is = absurd (cc)
 
 -- no session came
 no_notes : (c : Config) (read : ℕ → ℕ) → AreNotes c [] read []
 no_notes c read = record { count = refl; each = λ k less. absurd (omega (arith, less)) }
 
+-- nothing gives no history
+nothing_given : (c : Config) (Over : Type 0) → GivenBy Over c [] []
+nothing_given c Over = ([], record { front = record { behind = []; joined = refl }; ends = inl refl }, record { behind = []; joined = refl })
+
 -- without a configuration nothing was read of the input, no session came, and nothing was written
 pub Fed-refused : (c : Config) (why : Cause) (config config' input : SourceView) → Refuses why config config' → Fed c why input input [] []
 Fed-refused c (cause.Config rule key) config config' input h = ([], Taken-nothing input.left, (refl, refl), refl)
 Fed-refused c cause.ReadFault config config' input h = ([], Taken-nothing input.left, refl, no_notes c _)
-Fed-refused c cause.NoMemory config config' input h = ([], Taken-nothing input.left, record { behind = []; joined = refl }, inl refl)
+Fed-refused c cause.NoMemory config config' input h = ([], Taken-nothing input.left, nothing_given c _, inl refl)
 Fed-refused c cause.Done config config' input h = absurd h
 Fed-refused c (cause.Words place) config config' input h = absurd h
 Fed-refused c cause.WriteFault config config' input h = absurd h

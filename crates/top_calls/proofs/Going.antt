@@ -60,6 +60,7 @@ Goes-unmoved core core' out given same = record {
   wrote = λ e. absurd (cc);
   shows = λ start shows. WrittenFront-all start out.held (printed (opening core'.config) core'.history) (shows_unmoved start core core' out same shows);
   cause = λ e. absurd (cc);
+  unfailed = λ other. (refl, refl);
   faults_stay = omega arith;
   refusals_stay = omega arith;
 }
@@ -73,6 +74,7 @@ Goes-full core core' out given entry behind same is full = record {
   wrote = λ e. absurd (cc);
   shows = λ start shows. shows_unmoved start core core' out same shows;
   cause = λ e. absurd (cc);
+  unfailed = λ other. (refl, refl);
   faults_stay = omega arith;
   refusals_stay = omega arith;
 }
@@ -97,16 +99,17 @@ added_lines core core' entry o added =
 added_grows : (core core' : CoreView) (entry : Entry) (o : Outcome) → Added core core' entry o → IsFront core.history core'.history
 added_grows core core' entry o added = record { behind = entry ∷ []; joined = added.history }
 
-pub Goes-added : (core core' : CoreView) (out out' : SinkView) (entry : Entry) (o : Outcome) (lines : List ℕ) → Added core core' entry o → lines ≡ outcome_lines o → Written out.held out'.held lines → out.faults ≤ out'.faults → out.refusals ≤ out'.refusals → Goes core core' out out' (one core entry) (Ok tt)
-Goes-added core core' out out' entry o lines added is written faults refusals = record {
+pub Goes-added : (core core' : CoreView) (out out' : SinkView) (entry : Entry) (o : Outcome) (lines : List ℕ) → Added core core' entry o → lines ≡ outcome_lines o → Written out.held out'.held lines → (out'.faults ≡ out.faults) × (out'.refusals ≡ out.refusals) → Goes core core' out out' (one core entry) (Ok tt)
+Goes-added core core' out out' entry o lines added is written stay = record {
   config = added.config;
   went = (added.history, added.state ∙ sym (after-step core.state entry.at.0 entry.event o added.here));
   grows = added_grows core core' entry o added;
   wrote = λ e. absurd (cc);
   shows = λ start shows. rw (added_lines core core' entry o added, ← is) (Written-more start out.held out'.held (printed (opening core.config) core.history) lines shows written);
   cause = λ e. absurd (cc);
-  faults_stay = faults;
-  refusals_stay = refusals;
+  unfailed = λ other. stay;
+  faults_stay = omega (arith, stay.0);
+  refusals_stay = omega (arith, stay.1);
 }
 
 pub Goes-added-write : (core core' : CoreView) (out out' : SinkView) (entry : Entry) (o : Outcome) (lines : List ℕ) → Added core core' entry o → lines ≡ outcome_lines o → WrittenFront out.held out'.held lines → Failed out.faults out'.faults out.refusals out'.refusals → out.faults ≤ out'.faults → out.refusals ≤ out'.refusals → Goes core core' out out' (one core entry) (Err halt.Write)
@@ -117,6 +120,7 @@ Goes-added-write core core' out out' entry o lines added is written cause faults
   wrote = λ e. omega (arith, ap length added.history, length-append core.history (entry ∷ []));
   shows = λ start shows. rw (added_lines core core' entry o added, ← is) (WrittenFront-more start out.held out'.held (printed (opening core.config) core.history) lines shows written);
   cause = λ e. cause;
+  unfailed = λ other. absurd (other refl);
   faults_stay = faults;
   refusals_stay = refusals;
 }
@@ -129,6 +133,7 @@ Goes-added-memory core core' out entry o added = record {
   wrote = λ e. absurd (cc);
   shows = λ start shows. rw (added_lines core core' entry o added) (WrittenFront-wider start out.held (printed (opening core.config) core.history) (outcome_lines o) (WrittenFront-all start out.held (printed (opening core.config) core.history) shows));
   cause = λ e. absurd (cc);
+  unfailed = λ other. (refl, refl);
   faults_stay = omega arith;
   refusals_stay = omega arith;
 }
@@ -177,6 +182,10 @@ went_then a b c first more (Err (halt.Line place)) b_c h i = i
 went_then a b c first more (Err halt.Write) b_c h i = record { behind = i.behind; joined = sym (append_assoc a.history first.entries more.entries) ∙ ap (λ (es : List Entry). es ++ more.entries) (sym h.0) ∙ i.joined }
 went_then a b c first more (Err halt.NoMemory) b_c h i = record { behind = i.behind; joined = sym (append_assoc a.history first.entries more.entries) ∙ ap (λ (es : List Entry). es ++ more.entries) (sym h.0) ∙ i.joined }
 
+-- no write failed in the one and in the other
+pub stay_then : (o1 o2 o3 : SinkView) → (o2.faults ≡ o1.faults) × (o2.refusals ≡ o1.refusals) → (o3.faults ≡ o2.faults) × (o3.refusals ≡ o2.refusals) → (o3.faults ≡ o1.faults) × (o3.refusals ≡ o1.refusals)
+stay_then o1 o2 o3 h i = (i.0 ∙ h.0, i.1 ∙ h.1)
+
 -- one part, and then another
 pub Goes-then : (a b c : CoreView) (o1 o2 o3 : SinkView) (first more : Given) (result : Result (Unit {0}) Halt) → Goes a b o1 o2 first (Ok tt) → Goes b c o2 o3 more result → Goes a c o1 o3 (behind first.entries more) result
 Goes-then a b c o1 o2 o3 first more result h i = record {
@@ -186,6 +195,7 @@ Goes-then a b c o1 o2 o3 first more result h i = record {
   wrote = λ e. omega (arith, IsFront-length a.history b.history h.grows, i.wrote e);
   shows = λ start shows. i.shows start (h.shows start shows);
   cause = λ e. Failed-wider o1.faults o2.faults o3.faults o1.refusals o2.refusals o3.refusals h.faults_stay i.faults_stay h.refusals_stay i.refusals_stay (i.cause e);
+  unfailed = λ other. stay_then o1 o2 o3 (h.unfailed (λ e. cc)) (i.unfailed other);
   faults_stay = omega (arith, h.faults_stay, i.faults_stay);
   refusals_stay = omega (arith, h.refusals_stay, i.refusals_stay);
 }
@@ -210,6 +220,7 @@ Goes-halts a b o1 o2 first more why h = record {
   wrote = h.wrote;
   shows = h.shows;
   cause = h.cause;
+  unfailed = h.unfailed;
   faults_stay = h.faults_stay;
   refusals_stay = h.refusals_stay;
 }
@@ -223,6 +234,7 @@ Goes-nothing core out = record {
   wrote = λ e. absurd (cc);
   shows = λ start shows. shows;
   cause = λ e. absurd (cc);
+  unfailed = λ other. (refl, refl);
   faults_stay = omega arith;
   refusals_stay = omega arith;
 }

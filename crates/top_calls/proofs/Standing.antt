@@ -1,5 +1,6 @@
 -- The reader of a text, byte by byte.
 use Rattle.std.proofs.Common.{◌≡◌, ◌≢◌, ◌⊎◌, inl, inr, ℕ, ◌+◌, ◌<◌, ◌≤◌, List, [], ◌∷◌, ◌++◌, length, Option, Some, None, Result, Ok, Err, refl, sym, ◌∙◌, ap, subst, append_assoc, arith, length-append}
+use Rattle.std.specs.Prelude.{⊤}
 use Rattle.std.proofs.lemmas.List.{append-nil}
 use Rattle.tool_events.specs.declared.entry.Entry.{Entry}
 use Rattle.tool_events.specs.declared.config.Config.{Config}
@@ -19,17 +20,17 @@ use Rattle.top_calls.specs.Limits.{IsFullAt}
 use Rattle.top_calls.specs.Going.{SinkView, WentOn, Shows, ShowsAtEnd, Goes}
 use Rattle.top_calls.specs.Reads.{AreCounts, HaveRead}
 use Rattle.top_calls.specs.Reading.{IsReading, TreatsLine}
-use Rattle.top_calls.specs.Stopping.{CountsTo}
+use Rattle.top_calls.specs.Stopping.{IsLong, GivenBy, CountsTo}
 use Rattle.top_calls.specs.Standing.{IsOneLine, Stands, StoppedAs, StopsAt, AllTaken, Prints, StandsOrStopped, Takes, AllOrStopped}
-use Rattle.top_calls.proofs.Going.{IsFront-append, Failed-wider}
+use Rattle.top_calls.proofs.Going.{IsFront-append, Failed-wider, stay_then}
 use Rattle.top_calls.proofs.Writing.{WrittenFront-all}
 use Rattle.top_calls.proofs.AtText.{text_goes, at_end, last_line, text_in}
-use Rattle.top_calls.proofs.Stopping.{stopped_before, stopped_outside, line_counts}
+use Rattle.top_calls.proofs.Stopping.{stopped_before, given_before, stopped_outside, line_at, line_gives, line_counts}
 
 -- ---- the output
 
 pub Prints-goes : (core core' : CoreView) (out out' : SinkView) (given : Given) (result : Result (Unit {0}) Halt) → Goes core core' out out' given result → Prints core core' out out' result
-Prints-goes core core' out out' given result h = record { config = h.config; shows = h.shows; cause = h.cause; faults_stay = h.faults_stay; refusals_stay = h.refusals_stay }
+Prints-goes core core' out out' given result h = record { config = h.config; shows = h.shows; cause = h.cause; unfailed = h.unfailed; faults_stay = h.faults_stay; refusals_stay = h.refusals_stay }
 
 shows_stays : (start : Option (List ℕ)) (core : CoreView) (out : SinkView) (result : Result (Unit {0}) Halt) → Shows start out core → ShowsAtEnd start out core result
 shows_stays start core out (Ok done) h = h
@@ -44,6 +45,7 @@ Prints-stays core out result other = record {
   config = refl;
   shows = λ start h. shows_stays start core out result h;
   cause = λ e. absurd (other e);
+  unfailed = λ _. (refl, refl);
   faults_stay = omega arith;
   refusals_stay = omega arith;
 }
@@ -164,6 +166,7 @@ Stands-open c reader line number history config is none = record {
   text_is = sym line;
   line = rw line refl;
   ends = λ part one. whole-none part one;
+  count = λ more. rw number (omega arith);
   goes_on = λ more. rw (number, history, config) refl;
   is = is;
   read = λ session. rw none (no_count session);
@@ -177,6 +180,7 @@ Stands-push text byte old new other stands line feeder number = record {
   text_is = ap (λ (t : List ℕ). t ++ byte ∷ []) stands.text_is ∙ append_assoc stands.whole old.line.items (byte ∷ []) ∙ ap (λ (l : List ℕ). stands.whole ++ l) (sym line);
   line = rw line (IsOneLine-more old.line.items byte stands.line other);
   ends = stands.ends;
+  count = λ more. rw number (stands.count more);
   goes_on = λ more. ap (λ (f : Feeder). feed_entries f.core.config (stands.whole ++ more)) feeder ∙ stands.goes_on more ∙ ap (λ (n : ℕ). told_behind old.feeder.core.history (feed_lines n stands.reading (lines_of more))) (sym number) ∙ ap (λ (f : Feeder). told_behind f.core.history (feed_lines new.number stands.reading (lines_of more))) (sym feeder);
   is = subst (λ (f : Feeder). IsReading stands.reading f.core f.cutter) (sym feeder) stands.is;
   read = subst (λ (f : Feeder). HaveRead f.core.config stands.whole f.reads) (sym feeder) stands.read;
@@ -187,12 +191,14 @@ Stands-push text byte old new other stands line feeder number = record {
 front_of : (text bytes more : List ℕ) → IsFront text ((text ++ bytes) ++ more)
 front_of text bytes more = record { behind = bytes ++ more; joined = append_assoc text bytes more }
 
-pub Stands-memory : (text bytes more : List ℕ) (reader : Reader) → Stands text reader → StopsAt ((text ++ bytes) ++ more) reader halt.NoMemory
+pub Stands-memory : (text bytes more : List ℕ) (reader : Reader) → Stands text reader → StopsAt ⊥ ((text ++ bytes) ++ more) reader halt.NoMemory
 Stands-memory text bytes more reader stands =
     let goes = ap (feed_entries reader.feeder.core.config) (append_assoc text bytes more) ∙ text_goes text reader stands (bytes ++ more) in
     record {
       told = rw goes (IsFront-append reader.feeder.core.history _);
-      counts = stopped_before text ((text ++ bytes) ++ more) reader reader.feeder.core.history reader.feeder.reads stands (front_of text bytes more) refl refl;
+      at_line = tt;
+      given = given_before ⊥ text ((text ++ bytes) ++ more) reader reader.feeder.core.history stands (front_of text bytes more) refl;
+      counts = stopped_before ⊥ text ((text ++ bytes) ++ more) reader reader.feeder.core.history reader.feeder.reads stands (front_of text bytes more) refl refl;
     }
 
 long_told : (number : ℕ) (r : Reading) (history : List Entry) (line : List ℕ) (lines : List (List ℕ)) → line_bytes < length line → told_behind history (feed_lines number r (line ∷ lines)) ≡ record { entries = history; stop = OutsideGrammar number }
@@ -205,15 +211,34 @@ long_text number r history (b ∷ front) text one long =
     let f = first-long b front text one in
     ap (λ (ls : List (List ℕ)). told_behind history (feed_lines number r ls)) f.lines ∙ long_told number r history f.first f.rest (omega (arith, f.long, long))
 
-long_counts : (text all : List ℕ) (front rest : List ℕ) (reader : Reader) (stands : Stands text reader) → IsOneLine front → line_bytes < length front → ((session : ℕ) → session_in reader.feeder.core.config all session ≡ session_in reader.feeder.core.config stands.whole session + lines_bytes_in stands.reading (lines_of (front ++ rest)) session) → CountsTo (halt.Line 0) reader.feeder.core.config all reader.feeder.core.history reader.feeder.reads
+long_counts : (text all : List ℕ) (front rest : List ℕ) (reader : Reader) (stands : Stands text reader) → IsOneLine front → line_bytes < length front → ((session : ℕ) → session_in reader.feeder.core.config all session ≡ session_in reader.feeder.core.config stands.whole session + lines_bytes_in stands.reading (lines_of (front ++ rest)) session) → CountsTo (halt.Line 0) ⊥ reader.feeder.core.config all reader.feeder.core.history reader.feeder.reads
 long_counts text all [] rest reader stands one long goes = absurd (omega (arith, long))
 long_counts text all (b ∷ front) rest reader stands one long goes =
     let f = first-long b front rest one in
-    stopped_outside text all 0 reader reader.feeder.core.history reader.feeder.reads stands f.first f.rest
+    stopped_outside ⊥ text all 0 reader reader.feeder.core.history reader.feeder.reads stands f.first f.rest
     (λ session. goes session ∙ ap (λ (ls : List (List ℕ)). session_in reader.feeder.core.config stands.whole session + lines_bytes_in stands.reading ls session) f.lines)
     (too-long f.first (omega (arith, f.long, long))) refl
 
-pub Stands-long : (text : List ℕ) (byte : ℕ) (more : List ℕ) (reader : Reader) → byte ≢ 10 → line_bytes ≤ length reader.line.items → Stands text reader → StopsAt ((text ++ byte ∷ []) ++ more) reader (halt.Line 0)
+long_text_is : (text : List ℕ) (byte : ℕ) (reader : Reader) (stands : Stands text reader) → text ++ byte ∷ [] ≡ stands.whole ++ (reader.line.items ++ byte ∷ [])
+long_text_is text byte reader stands = ap (λ (t : List ℕ). t ++ byte ∷ []) stands.text_is ∙ append_assoc stands.whole reader.line.items (byte ∷ [])
+
+long_line : (text : List ℕ) (byte : ℕ) (more : List ℕ) (reader : Reader) (stands : Stands text reader) → IsOneLine (reader.line.items ++ byte ∷ []) → line_bytes < length (reader.line.items ++ byte ∷ []) → IsLong ((text ++ byte ∷ []) ++ more) (text ++ byte ∷ [])
+long_line text byte more reader stands one size =
+    let is = long_text_is text byte reader stands in
+    record {
+      front = record { behind = more; joined = refl };
+      line = reader.line.items ++ byte ∷ [];
+      is = is ∙ ap (λ (t : List ℕ). t ++ (reader.line.items ++ byte ∷ [])) (sym (ap whole_lines is ∙ stands.ends (reader.line.items ++ byte ∷ []) one));
+      long = size;
+    }
+
+long_number : (text : List ℕ) (byte : ℕ) (reader : Reader) (stands : Stands text reader) → IsOneLine (reader.line.items ++ byte ∷ []) → length (lines_of (text ++ byte ∷ [])) ≡ reader.number
+long_number text byte reader stands one =
+    let all = ap (λ (t : List ℕ). length (lines_of t)) (long_text_is text byte reader stands) in
+    let last = ap length (last_line (reader.line.items ++ byte ∷ []) one (λ e. absurd (omega (arith, ap length e, length-append reader.line.items (byte ∷ []))))) in
+    omega (arith, all, last, stands.count (reader.line.items ++ byte ∷ []))
+
+pub Stands-long : (text : List ℕ) (byte : ℕ) (more : List ℕ) (reader : Reader) → byte ≢ 10 → line_bytes ≤ length reader.line.items → Stands text reader → StopsAt ⊥ ((text ++ byte ∷ []) ++ more) reader (halt.Line 0)
 Stands-long text byte more reader other long stands =
     let goes = ap (feed_entries reader.feeder.core.config) (append_assoc text (byte ∷ []) more) ∙ text_goes text reader stands ((byte ∷ []) ++ more) in
     let regrouped = ap (λ (t : List ℕ). told_behind reader.feeder.core.history (feed_lines reader.number stands.reading (lines_of t))) (sym (append_assoc reader.line.items (byte ∷ []) more)) in
@@ -221,6 +246,8 @@ Stands-long text byte more reader other long stands =
     let one = IsOneLine-more reader.line.items byte stands.line other in
     record {
       told = (refl, goes ∙ regrouped ∙ long_text reader.number stands.reading reader.feeder.core.history (reader.line.items ++ byte ∷ []) more one size);
+      at_line = (text ++ byte ∷ [], inr (inl (long_line text byte more reader stands one size)), long_number text byte reader stands one);
+      given = given_before ⊥ text ((text ++ byte ∷ []) ++ more) reader reader.feeder.core.history stands (front_of text (byte ∷ []) more) refl;
       counts = long_counts text ((text ++ byte ∷ []) ++ more) (reader.line.items ++ byte ∷ []) more reader stands one size
           (λ session. ap (λ (t : List ℕ). session_in reader.feeder.core.config t session) (append_assoc text (byte ∷ []) more)
           ∙ text_in text reader stands ((byte ∷ []) ++ more) session
@@ -253,6 +280,13 @@ line_reads_on text more old new stands one session =
     let next = one.reads_on (lines_of more) session in
     omega (arith, all, here, next)
 
+-- the line counts as one
+line_count : (text more : List ℕ) (old : Reader) (stands : Stands text old) → length (lines_of ((text ++ 10 ∷ []) ++ more)) + 1 ≡ (old.number + 1) + length (lines_of more)
+line_count text more old stands =
+    let all = ap (λ (t : List ℕ). length (lines_of t)) (append_assoc text (10 ∷ []) more ∙ ap (λ (t : List ℕ). t ++ 10 ∷ more) stands.text_is ∙ append_assoc stands.whole old.line.items (10 ∷ more)) in
+    let one = ap length (lines-line old.line.items more stands.line) in
+    omega (arith, all, one, stands.count (old.line.items ++ 10 ∷ more))
+
 pub Stands-line : (text : List ℕ) (old new : Reader) (out out' : SinkView) (stands : Stands text old) → TreatsLine stands.reading (line_of old.line.items) old.feeder new.feeder out out' (Ok tt) → new.line.items ≡ [] → new.number ≡ old.number + 1 → Stands (text ++ 10 ∷ []) new
 Stands-line text old new out out' stands treats line number =
     let one = took old.number stands.reading old.line.items old.feeder new.feeder out out' treats in
@@ -262,6 +296,7 @@ Stands-line text old new out out' stands treats line number =
       text_is = rw line (sym (append-nil (text ++ 10 ∷ [])));
       line = rw line refl;
       ends = λ part none. ap whole_lines (append_assoc text (10 ∷ []) part) ∙ whole-feed text part ∙ ap (λ (bs : List ℕ). text ++ 10 ∷ bs) (whole-none part none);
+      count = λ more. rw number (line_count text more old stands);
       goes_on = λ more. ap (λ (c : Config). feed_entries c ((text ++ 10 ∷ []) ++ more)) (line_config stands.reading (line_of old.line.items) old.feeder new.feeder out out' (Ok tt) treats) ∙ line_goes text more old stands ∙ one.goes_on (lines_of more) ∙ ap (λ (n : ℕ). told_behind new.feeder.core.history (feed_lines n one.next (lines_of more))) (sym number);
       is = one.is;
       read = subst (λ (c : Config). HaveRead c (text ++ 10 ∷ []) new.feeder.reads) (sym (line_config stands.reading (line_of old.line.items) old.feeder new.feeder out out' (Ok tt) treats))
@@ -270,14 +305,17 @@ Stands-line text old new out out' stands treats line number =
           (line_reads_on text more old new.feeder stands one session);
     }
 
-pub Stands-line-stopped : (text more : List ℕ) (old new : Reader) (out out' : SinkView) (why : Halt) (stands : Stands text old) → TreatsLine stands.reading (line_of old.line.items) old.feeder new.feeder out out' (Err why) → new.number ≡ old.number → StopsAt ((text ++ 10 ∷ []) ++ more) new why
+pub Stands-line-stopped : (text more : List ℕ) (old new : Reader) (out out' : SinkView) (why : Halt) (stands : Stands text old) → TreatsLine stands.reading (line_of old.line.items) old.feeder new.feeder out out' (Err why) → new.number ≡ old.number → StopsAt ⊥ ((text ++ 10 ∷ []) ++ more) new why
 Stands-line-stopped text more old new out out' why stands treats number =
     let same = sym (line_config stands.reading (line_of old.line.items) old.feeder new.feeder out out' (Err why) treats) in
     record {
       told = subst (λ (c : Config). StoppedAs c (feed_entries c ((text ++ 10 ∷ []) ++ more)) new.feeder.core.history new.number why) same
           (rw (line_goes text more old stands, number) (stopped old.number stands.reading old.line.items old.feeder new.feeder out out' why treats (lines_of more)));
-      counts = subst (λ (c : Config). CountsTo why c ((text ++ 10 ∷ []) ++ more) new.feeder.core.history new.feeder.reads) same
-          (line_counts text ((text ++ 10 ∷ []) ++ more) old new.feeder out out' why stands (lines_of more) (inr (more, append_assoc text (10 ∷ []) more)) (line_feed_in text more old stands) treats);
+      at_line = rw number (line_at ⊥ text ((text ++ 10 ∷ []) ++ more) old new.feeder out out' why stands (inl (more, append_assoc text (10 ∷ []) more)) treats);
+      given = subst (λ (c : Config). GivenBy ⊥ c ((text ++ 10 ∷ []) ++ more) new.feeder.core.history) same
+          (line_gives ⊥ text ((text ++ 10 ∷ []) ++ more) old new.feeder out out' why stands (inl (more, append_assoc text (10 ∷ []) more)) treats);
+      counts = subst (λ (c : Config). CountsTo why ⊥ c ((text ++ 10 ∷ []) ++ more) new.feeder.core.history new.feeder.reads) same
+          (line_counts ⊥ text ((text ++ 10 ∷ []) ++ more) old new.feeder out out' why stands (lines_of more) (inl (more, append_assoc text (10 ∷ []) more)) (line_feed_in text more old stands) treats);
     }
 
 -- ---- the end of the text
@@ -321,8 +359,10 @@ ends-line text old new out out' (Err why) stands some treats =
       told = subst (λ (c : Config). StoppedAs c (feed_entries c text) new.core.history old.number why) same
           (rw (at_end text old stands ∙ ap (λ (ls : List (List ℕ)). told_behind old.feeder.core.history (feed_lines old.number stands.reading ls)) (last_line old.line.items stands.line some))
           (stopped old.number stands.reading old.line.items old.feeder new out out' why treats []));
-      counts = subst (λ (c : Config). CountsTo why c text new.core.history new.reads) same
-          (line_counts text text old new out out' why stands [] (inl refl) (last_in text old stands some) treats);
+      at_line = line_at ⊤ text text old new out out' why stands (inr (inr (refl, tt))) treats;
+      given = subst (λ (c : Config). GivenBy ⊤ c text new.core.history) same (line_gives ⊤ text text old new out out' why stands (inr (inr (refl, tt))) treats);
+      counts = subst (λ (c : Config). CountsTo why ⊤ c text new.core.history new.reads) same
+          (line_counts ⊤ text text old new out out' why stands [] (inr (inr (refl, tt))) (last_in text old stands some) treats);
     }
 
 -- ---- one piece after another
@@ -332,6 +372,7 @@ Prints-then a b c o1 o2 o3 result h i = record {
   config = i.config ∙ h.config;
   shows = λ start shows. i.shows start (h.shows start shows);
   cause = λ e. Failed-wider o1.faults o2.faults o3.faults o1.refusals o2.refusals o3.refusals h.faults_stay i.faults_stay h.refusals_stay i.refusals_stay (i.cause e);
+  unfailed = λ other. stay_then o1 o2 o3 (h.unfailed (λ e. cc)) (i.unfailed other);
   faults_stay = omega (arith, h.faults_stay, i.faults_stay);
   refusals_stay = omega (arith, h.refusals_stay, i.refusals_stay);
 }
@@ -348,7 +389,7 @@ Takes-then text front bytes a b c o1 o2 o3 result h i = record {
 -- a reader that stopped has stopped whatever follows
 pub Takes-stopped : (text front bytes : List ℕ) (a c : Reader) (o1 o3 : SinkView) (why : Halt) → Takes text front a c o1 o3 (Err why) → Takes text (front ++ bytes) a c o1 o3 (Err why)
 Takes-stopped text front bytes a c o1 o3 why h = record {
-  stands = λ more. subst (λ (t : List ℕ). StopsAt t c why)
+  stands = λ more. subst (λ (t : List ℕ). StopsAt ⊥ t c why)
       (sym (append_assoc (text ++ front) bytes more) ∙ ap (λ (t : List ℕ). t ++ more) (append_assoc text front bytes))
       (h.stands (bytes ++ more));
   prints = h.prints;
@@ -371,6 +412,6 @@ Stands-whole text reader stands =
       read = subst (λ (t : List ℕ). HaveRead reader.feeder.core.config t reader.feeder.reads) (sym is) stands.read;
     }
 
--- the history is a front of what the text gives
-pub Stands-front : (text : List ℕ) (reader : Reader) → Stands text reader → IsFront reader.feeder.core.history (feed_entries reader.feeder.core.config text).entries
-Stands-front text reader stands = rw (at_end text reader stands) (IsFront-append reader.feeder.core.history _)
+-- the whole lines gave the history
+pub Stands-given : (Over : Type 0) (text : List ℕ) (reader : Reader) → Stands text reader → GivenBy Over reader.feeder.core.config text reader.feeder.core.history
+Stands-given Over text reader stands = given_before Over text text reader reader.feeder.core.history stands (record { behind = []; joined = sym (append-nil text) }) refl

@@ -1,11 +1,18 @@
 -- What is written, one piece after another.
-use Rattle.std.proofs.Common.{◌≡◌, ℕ, ◌+◌, ◌<◌, ◌≤◌, ◌⊎◌, inl, inr, List, [], ◌++◌, take, drop, Option, Some, None, sym, ◌∙◌, ap, append_assoc, arith}
+use Rattle.std.proofs.Common.{◌≡◌, ℕ, ◌+◌, ◌<◌, ◌≤◌, ◌⊎◌, inl, inr, List, [], ◌++◌, take, drop, Option, Some, None, Result, Ok, sym, ◌∙◌, ap, append_assoc, arith}
 use Rattle.std.proofs.Math.Seq.{take-add}
 use Rattle.std.proofs.lemmas.List.{take-append-drop, append-nil}
 use Rattle.std.proofs.lemmas.Bool.{cases_lt}
 use Rattle.outside.specs.Counts.{Rose}
 use Rattle.outside.specs.Told.{Written}
 use Rattle.top_calls.specs.Printing.{WrittenFront}
+
+abbrev pub result_of : {A E : Type 0} → A → Result A E
+result_of a = Ok a
+
+-- the values of equal results are equal
+pub Ok-same : {A E : Type 0} → (a b : A) → result_of {E = E} a ≡ Ok b → a ≡ b
+Ok-same a b same = cc
 
 -- nothing was written
 pub Written-nothing : (held : Option (List ℕ)) → Written held held []

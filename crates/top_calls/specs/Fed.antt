@@ -4,7 +4,6 @@ use Rattle.outside.specs.Counts.{Rose}
 use Rattle.outside.specs.Told.{Taken, Written}
 use Rattle.tool_events.specs.declared.entry.Entry.{Entry}
 use Rattle.tool_events.specs.declared.config.Config.{Config}
-use Rattle.gem_model.specs.Front.{IsFront}
 use Rattle.gem_model.specs.State.{opening}
 use Rattle.gem_model.specs.Sizes.{bytes_of}
 use Rattle.gem_model.specs.Command.{known_configuration, configuration_bytes}
@@ -16,6 +15,7 @@ use Rattle.top_calls.specs.declared.ended.Cause.TheVariants as cause
 use Rattle.top_calls.specs.declared.ended.SessionNote.{SessionNote}
 use Rattle.top_calls.specs.Limits.{IsFullAt, MeetsBound}
 use Rattle.top_calls.specs.Input.{Whole}
+use Rattle.top_calls.specs.Stopping.{NumberEnded, GivenBy}
 use Rattle.top_calls.specs.Noted.{NotedBy}
 use Rattle.top_calls.specs.Printing.{WrittenFront}
 
@@ -28,28 +28,33 @@ pub record SourceView : Type 0 where
 abbrev pub looked : {S : Type 0} → (S → Option (List ℕ)) → (S → ℕ) → (S → ℕ) → S → SourceView
 looked left faults ends source = record { left = left source; faults = faults source; ends = ends source }
 
--- The history is what the text gave: all of it; of its whole lines, where the reading broke off; up to a line that
--- stopped it; up to an entry that doesn't fit the limits; or, after want of memory or a write fault, a front of it.
-abbrev pub FedBy : Config → Cause → List ℕ → List Entry → Type 0
-FedBy c cause.Done text history = feed_entries c text ≡ record { entries = history; stop = AllRead }
-FedBy c cause.ReadFault text history = feed_entries c (whole_lines text) ≡ record { entries = history; stop = AllRead }
-FedBy c (cause.Full entries bytes input) text history =
+-- The history is what the text gave that was read: all of it; of its whole lines, where the reading broke off; up to a
+-- line that stopped it, which has ended; up to an entry that doesn't fit the limits; or, after want of memory or a write
+-- fault, a front of what lines give that have ended. Over says of the text that no more follows.
+abbrev pub FedBy : Config → Cause → Type 0 → List ℕ → List Entry → Type 0
+FedBy c cause.Done Over text history = feed_entries c text ≡ record { entries = history; stop = AllRead }
+FedBy c cause.ReadFault Over text history = feed_entries c (whole_lines text) ≡ record { entries = history; stop = AllRead }
+FedBy c (cause.Full entries bytes input) Over text history =
     (MeetsBound c text history ⊎ IsFullAt c history (feed_entries c text).entries)
     × (entries ≡ length history) × (bytes ≡ bytes_of history) × (input ≡ length text)
-FedBy c (cause.Line number place) text history = (place ≡ 0) × (feed_entries c text ≡ record { entries = history; stop = OutsideGrammar number })
-FedBy c cause.WriteFault text history = IsFront history (feed_entries c text).entries
-FedBy c cause.NoMemory text history = IsFront history (feed_entries c text).entries
-FedBy c (cause.Words place) text history = (text ≡ []) × (history ≡ [])
-FedBy c (cause.Config rule key) text history = (text ≡ []) × (history ≡ [])
+FedBy c (cause.Line number place) Over text history =
+    (place ≡ 0) × (feed_entries c text ≡ record { entries = history; stop = OutsideGrammar number })
+    × NumberEnded Over text number
+FedBy c cause.WriteFault Over text history = GivenBy Over c text history
+FedBy c cause.NoMemory Over text history = GivenBy Over c text history
+FedBy c (cause.Words place) Over text history = (text ≡ []) × (history ≡ [])
+FedBy c (cause.Config rule key) Over text history = (text ≡ []) × (history ≡ [])
 
--- this text was read of the input, gave the history, and the notes are of it
-abbrev pub Fed : Config → Cause → SourceView → SourceView → List Entry → List SessionNote → Type 0
-Fed c cause input input' history notes =
-    (text : List ℕ) × Taken input.left input'.left text × FedBy c cause text history × NotedBy c cause text history notes
-
--- done only where the input was read to its end
+-- the input was read to its end: what was taken off it is all that it had
 abbrev pub ReadToEnd : SourceView → SourceView → Type 0
 ReadToEnd input input' = Rose input.ends input'.ends × ((text : List ℕ) → Taken input.left input'.left text → Whole input.left text)
+
+-- this text was read of the input, gave the history, and the notes are of it; no more follows where the input was read to
+-- its end
+abbrev pub Fed : Config → Cause → SourceView → SourceView → List Entry → List SessionNote → Type 0
+Fed c cause input input' history notes =
+    (text : List ℕ) × Taken input.left input'.left text × FedBy c cause (ReadToEnd input input') text history
+    × NotedBy c cause (ReadToEnd input input') text history notes
 
 -- behind what was held the lines of the history are out, all of them, or, after want of memory or a write fault, a front
 abbrev pub Shown : Config → Cause → Option (List ℕ) → Option (List ℕ) → List Entry → Type 0

@@ -1,5 +1,5 @@
 -- What a part of feed does to the core and to the output.
-use Rattle.std.specs.Prelude.{◌≡◌, ℕ, ◌<◌, ◌≤◌, List, ◌++◌, length, Option, Result, Ok, Err, IsErrOf}
+use Rattle.std.specs.Prelude.{◌≡◌, ◌≢◌, ℕ, ◌<◌, ◌≤◌, List, ◌++◌, length, Option, Result, Ok, Err, IsErrOf}
 use Rattle.outside.specs.Told.{Written}
 use Rattle.gem_model.specs.Front.{IsFront}
 use Rattle.gem_model.specs.State.{opening}
@@ -52,5 +52,6 @@ pub record Goes (core core' : CoreView) (out out' : SinkView) (given : Given) (r
   pub wrote : IsErrOf result halt.Write → length core.history < length core'.history
   pub shows : (start : Option (List ℕ)) → Shows start out core → ShowsAtEnd start out' core' result
   pub cause : IsErrOf result halt.Write → Failed out.faults out'.faults out.refusals out'.refusals
+  pub unfailed : result ≢ Err halt.Write → (out'.faults ≡ out.faults) × (out'.refusals ≡ out.refusals)
   pub faults_stay : out.faults ≤ out'.faults
   pub refusals_stay : out.refusals ≤ out'.refusals

@@ -6,18 +6,17 @@ use Rattle.top_calls.specs.declared.halt.Halt.{Halt}
 use Rattle.top_calls.specs.declared.input.InputEnd.{InputEnd}
 use Rattle.top_calls.specs.declared.input.InputEnd.TheVariants as input
 use Rattle.top_calls.specs.declared.reader.Reader.{Reader}
-use Rattle.top_calls.specs.Input.{Whole}
-use Rattle.top_calls.specs.Fed.{SourceView}
+use Rattle.top_calls.specs.Fed.{SourceView, ReadToEnd}
 use Rattle.top_calls.specs.Limits.{input_bytes}
 use Rattle.top_calls.specs.Standing.{AllTaken, StopsAt}
 
 -- What a text was that was read, by how its reading ended: all of it was taken; its whole lines were; or the reader
 -- stopped in it.
 abbrev pub InputEnds : InputEnd → List ℕ → Reader → SourceView → SourceView → Type 0
-InputEnds input.Whole text reader source source' = AllTaken text reader × Whole source.left text × Rose source.ends source'.ends
+InputEnds input.Whole text reader source source' = AllTaken text reader × ReadToEnd source source'
 InputEnds input.Fault text reader source source' = AllTaken (whole_lines text) reader × Rose source.faults source'.faults
 InputEnds input.Bound text reader source source' = AllTaken (whole_lines text) reader × (length text ≡ input_bytes)
-InputEnds (input.Halted why) text reader source source' = StopsAt text reader why
+InputEnds (input.Halted why) text reader source source' = StopsAt (ReadToEnd source source') text reader why
 
 -- how the lines ended, as a part of feed
 abbrev pub as_result : InputEnd → Result (Unit {0}) Halt

@@ -17,17 +17,17 @@ NotesOf c history notes taken = AreNotes c history (session_in c taken) notes
 
 -- The notes count all lines of the text; its whole lines, where the reading broke off; up to the line of the entry that
 -- does not fit the limits, or whose lines could not be written; and after want of memory there are none, or they count
--- up to the line in which it came.
-abbrev pub NotedBy : Config → Cause → List ℕ → List Entry → List SessionNote → Type 0
-NotedBy c cause.Done text history notes = NotesOf c history notes text
-NotedBy c cause.ReadFault text history notes = NotesOf c history notes (whole_lines text)
-NotedBy c (cause.Full entries bytes input) text history notes =
+-- up to the line in which it came. Over says of the text that no more follows.
+abbrev pub NotedBy : Config → Cause → Type 0 → List ℕ → List Entry → List SessionNote → Type 0
+NotedBy c cause.Done Over text history notes = NotesOf c history notes text
+NotedBy c cause.ReadFault Over text history notes = NotesOf c history notes (whole_lines text)
+NotedBy c (cause.Full entries bytes input) Over text history notes =
     (MeetsBound c text history × NotesOf c history notes (whole_lines text))
-    ⊎ ((taken : List ℕ) × FullIn c text history taken × NotesOf c history notes taken)
-NotedBy c (cause.Line number place) text history notes = NotesOf c history notes text
-NotedBy c cause.WriteFault text history notes =
-    (taken : List ℕ) × FaultIn c text history taken × NotesOf c history notes taken
-NotedBy c cause.NoMemory text history notes =
-    (notes ≡ []) ⊎ ((taken : List ℕ) × StoppedIn c text history taken × NotesOf c history notes taken)
-NotedBy c (cause.Words place) text history notes = notes ≡ []
-NotedBy c (cause.Config rule key) text history notes = notes ≡ []
+    ⊎ ((taken : List ℕ) × FullIn Over c text history taken × NotesOf c history notes taken)
+NotedBy c (cause.Line number place) Over text history notes = NotesOf c history notes text
+NotedBy c cause.WriteFault Over text history notes =
+    (taken : List ℕ) × FaultIn Over c text history taken × NotesOf c history notes taken
+NotedBy c cause.NoMemory Over text history notes =
+    (notes ≡ []) ⊎ ((taken : List ℕ) × StoppedIn Over c text history taken × NotesOf c history notes taken)
+NotedBy c (cause.Words place) Over text history notes = notes ≡ []
+NotedBy c (cause.Config rule key) Over text history notes = notes ≡ []

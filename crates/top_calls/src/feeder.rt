@@ -1,8 +1,9 @@
 //! One line after another: what each says is put in, in the session that is up.
-ghost use Rattle.std.specs.Prelude.{◌≡◌, ◌<◌, ℕ, List, [], true, IfOk, OnOk, OnErr};
+ghost use Rattle.std.specs.Prelude.{◌≡◌, ◌<◌, ◌≤◌, ℕ, List, [], length, true, IfOk, OnOk, OnErr};
 ghost use Rattle.tool_events.specs.Configs.{IsConfig};
 ghost use Rattle.gem_model.specs.State.{opening, is_session_up};
 ghost use Rattle.gem_model.specs.Run.{Run};
+ghost use Rattle.gem_model.specs.Sizes.{bytes_of};
 ghost use Rattle.gem_model.specs.Lines as model;
 ghost use Rattle.gem_model.specs.Feed.{Reading, first_reading, text_bytes};
 ghost use Rattle.hsms_frame.specs.Cut.{IsCutOf, arrivals_of};
@@ -73,6 +74,8 @@ impl Feeder {
     pub fn into_history(self) -> Entries
         ensures history { result ≡ self.core.history }
         ensures run { Run (opening self.core.config) self.core.history self.core.state }
+        ensures entries_fit { length self.core.history ≤ self.core.config.max_entries }
+        ensures bytes_fit { bytes_of self.core.history ≤ self.core.config.max_bytes }
     {
         let Feeder { core, .. } = self;
         core.close()

@@ -1,10 +1,11 @@
 //! `feed`: lines in, lines out.
-ghost use Rattle.std.specs.Prelude.{◌≡◌, ◌≢◌, ◌≤◌, ◌↔◌, ◌⊎◌, ℕ, Some, [], List, OnOk, IfErr};
+ghost use Rattle.std.specs.Prelude.{◌≡◌, ◌≢◌, ◌≤◌, ◌↔◌, ◌⊎◌, ℕ, Some, [], List, length, Err, OnOk, IfErr};
 ghost use Rattle.gem_ids.specs.Texts.{IsText};
 ghost use Rattle.outside.specs.Counts.{Rose};
 ghost use Rattle.tool_events.specs.Configs.{IsConfig};
 ghost use Rattle.gem_model.specs.State.{opening};
 ghost use Rattle.gem_model.specs.Run.{Run, after_all};
+ghost use Rattle.gem_model.specs.Sizes.{bytes_of};
 ghost use Rattle.gem_model.specs.Command.{misfit, known_config};
 ghost use Rattle.top_calls.specs.declared.ended.Cause.TheVariants as cause;
 ghost use Rattle.top_calls.specs.Counts.{Failed};
@@ -34,6 +35,7 @@ const KNOWN_CONFIGURATION: &[u8] = b"communication = \"communicating\"\n";
 /// Reads the configuration. Until there are others, one text is known, and any other breaks rule 0.
 fn check_configuration<C: Source>(alloc: Global, config: &mut C) -> Result<(), Cause>
     ensures known { OnOk result (IsKnown (looked C.left C.faults C.ends config.old) (looked C.left C.faults C.ends config.new)) }
+    ensures unfailed { result ≢ Err Cause.ReadFault → C.faults config.new ≡ C.faults config.old }
     ensures refused { IfErr result (λ cause. Refuses cause (looked C.left C.faults C.ends config.old) (looked C.left C.faults C.ends config.new)) }
 {
     match read_text(alloc, config, CONFIGURATION_BYTES) {
@@ -101,6 +103,9 @@ pub fn feed_config<S: Source, K: Sink>(
     requires { IsConfig config.now }
     // The history is a run from the first state.
     ensures run { Run (opening config.now) result.history (after_all (opening config.now) result.history) }
+    // It is within the limits.
+    ensures entries_fit { length result.history ≤ config.now.max_entries }
+    ensures bytes_fit { bytes_of result.history ≤ config.now.max_bytes }
     // It is what the text gave that was read of the input, and so are the notes, one for each session.
     ensures fed { Fed config.now result.cause (looked S.left S.faults S.ends input.old) (looked S.left S.faults S.ends input.new) result.history result.sessions }
     // Its lines are written, and no others.
@@ -112,6 +117,10 @@ pub fn feed_config<S: Source, K: Sink>(
     ensures read_fault { result.cause ≡ cause.ReadFault → Rose (S.faults input.old) (S.faults input.new) }
     ensures write_fault { result.cause ≡ cause.WriteFault
         → Failed (K.faults out.old) (K.faults out.new) (K.refusals out.old) (K.refusals out.new) }
+    // What failed is told, unless memory runs out after it: at no other cause did a read or a write fail.
+    ensures no_read_failed { result.cause ≢ cause.ReadFault → result.cause ≢ cause.NoMemory → S.faults input.new ≡ S.faults input.old }
+    ensures no_write_failed { result.cause ≢ cause.WriteFault → result.cause ≢ cause.NoMemory
+        → (K.faults out.new ≡ K.faults out.old) × (K.refusals out.new ≡ K.refusals out.old) }
     ensures words { (place : ℕ) → result.cause ≢ cause.Words place }
     ensures config { (rule : ℕ) (key : List ℕ) → result.cause ≢ cause.Config rule key }
 
@@ -145,6 +154,9 @@ pub fn feed<C: Source, S: Source, K: Sink>(
 ) -> Ended
     // The history is a run from the first state.
     ensures run { Run (opening known_config) result.history (after_all (opening known_config) result.history) }
+    // It is within the limits.
+    ensures entries_fit { length result.history ≤ known_config.max_entries }
+    ensures bytes_fit { bytes_of result.history ≤ known_config.max_bytes }
     // It is what the text gave that was read of the input, and so are the notes, one for each session.
     ensures fed { Fed known_config result.cause (looked S.left S.faults S.ends input.old) (looked S.left S.faults S.ends input.new) result.history result.sessions }
     // Its lines are written, and no others.
@@ -159,6 +171,11 @@ pub fn feed<C: Source, S: Source, K: Sink>(
         → Rose (C.faults config.old) (C.faults config.new) ⊎ Rose (S.faults input.old) (S.faults input.new) }
     ensures write_fault { result.cause ≡ cause.WriteFault
         → Failed (K.faults out.old) (K.faults out.new) (K.refusals out.old) (K.refusals out.new) }
+    // What failed is told, unless memory runs out after it: at no other cause did a read or a write fail.
+    ensures no_read_failed { result.cause ≢ cause.ReadFault → result.cause ≢ cause.NoMemory
+        → (C.faults config.new ≡ C.faults config.old) × (S.faults input.new ≡ S.faults input.old) }
+    ensures no_write_failed { result.cause ≢ cause.WriteFault → result.cause ≢ cause.NoMemory
+        → (K.faults out.new ≡ K.faults out.old) × (K.refusals out.new ≡ K.refusals out.old) }
 
     // Until they are built.
     ensures no_panels { result.panels ≡ [] }

@@ -1,11 +1,10 @@
 //! The input, from its first byte to its end.
-ghost use Rattle.std.specs.Prelude.{◌≡◌, ◌≤◌, ℕ, List, [], length};
+ghost use Rattle.std.specs.Prelude.{◌≡◌, ◌≢◌, ◌≤◌, ℕ, List, [], length};
 ghost use Rattle.outside.specs.Told.{Taken};
-ghost use Rattle.gem_model.specs.Front.{IsFront};
-ghost use Rattle.gem_model.specs.Feed.{feed_entries};
 ghost use Rattle.top_calls.specs.Going.{seen};
-ghost use Rattle.top_calls.specs.Fed.{looked};
+ghost use Rattle.top_calls.specs.Fed.{looked, ReadToEnd};
 ghost use Rattle.top_calls.specs.InputEnds.{InputEnds, as_result};
+ghost use Rattle.top_calls.specs.Stopping.{GivenBy};
 ghost use Rattle.top_calls.specs.Standing.{Stands, Prints};
 
 use crate::halt::Halt;
@@ -50,10 +49,11 @@ pub fn read_lines<S: Source, K: Sink>(
     requires stands { Stands [] reader.old }
     requires first { reader.old.number ≡ 1 }
     ensures read { (text : List ℕ) × (length text ≡ result.count) × Taken (S.left input.old) (S.left input.new) text
-        × IsFront reader.new.feeder.core.history (feed_entries reader.new.feeder.core.config text).entries
+        × GivenBy (ReadToEnd (looked S.left S.faults S.ends input.old) (looked S.left S.faults S.ends input.new)) reader.new.feeder.core.config text reader.new.feeder.core.history
         × InputEnds result.end text reader.new (looked S.left S.faults S.ends input.old) (looked S.left S.faults S.ends input.new) }
     ensures prints { Prints reader.old.feeder.core reader.new.feeder.core
         (seen K.held K.faults K.refusals out.old) (seen K.held K.faults K.refusals out.new) (as_result result.end) }
+    ensures unfailed { result.end ≢ InputEnd.Fault → S.faults input.new ≡ S.faults input.old }
     ensures faults_stay { S.faults input.old ≤ S.faults input.new }
     ensures ends_stay { S.ends input.old ≤ S.ends input.new }
 {
@@ -67,7 +67,9 @@ pub fn read_lines<S: Source, K: Sink>(
                 count,
             };
         };
-        if more == 0 {
+        // A read gives nothing only at the end; one that gives less than there is room for is no end.
+        let is_end = more == 0;
+        if is_end {
             let end = match reader.finish(alloc, out) {
                 Ok(()) => InputEnd::Whole,
                 Err(halt) => InputEnd::Halted(halt),

@@ -1,5 +1,5 @@
 //! Reading from sources.
-ghost use Rattle.std.specs.Prelude.{◌≡◌, ◌<◌, ◌≤◌, length, take, IfOk, OnErr, IsErrOf};
+ghost use Rattle.std.specs.Prelude.{◌≡◌, ◌≢◌, ◌<◌, ◌≤◌, length, take, Err, IfOk, OnOk, OnErr, IsErrOf};
 ghost use Rattle.outside.specs.Counts.{Rose};
 ghost use Rattle.outside.specs.Told.{Taken, NothingLeft};
 ghost use Rattle.top_calls.specs.Input.{Whole};
@@ -33,6 +33,7 @@ pub fn read_front<S: Source>(source: &mut S, buf: &mut [u8], room: usize) -> Res
     ensures end { IfOk result (λ n. n ≡ 0 → NothingLeft (S.left source.old)) }
     ensures end_rose { IfOk result (λ n. n ≡ 0 → Rose (S.ends source.old) (S.ends source.new)) }
     ensures failed { OnErr result (Rose (S.faults source.old) (S.faults source.new)) }
+    ensures unfailed { OnOk result (S.faults source.new ≡ S.faults source.old) }
     ensures untaken { OnErr result (S.left source.new ≡ S.left source.old) }
     ensures faults_stay { S.faults source.old ≤ S.faults source.new }
     ensures ends_stay { S.ends source.old ≤ S.ends source.new }
@@ -51,6 +52,7 @@ pub fn read_text<S: Source>(
     ensures whole { IfOk result (λ text. length text.items < most → Whole (S.left source.old) text.items) }
     ensures end { IfOk result (λ text. length text.items < most → Rose (S.ends source.old) (S.ends source.new)) }
     ensures failed { IsErrOf result TextFault.Read → Rose (S.faults source.old) (S.faults source.new) }
+    ensures unfailed { result ≢ Err TextFault.Read → S.faults source.new ≡ S.faults source.old }
     ensures faults_stay { S.faults source.old ≤ S.faults source.new }
     ensures ends_stay { S.ends source.old ≤ S.ends source.new }
 {

@@ -22,6 +22,7 @@ fn rest_from(bytes: &[u8], at: usize) -> &[u8]
 pub fn write_all<K: Sink>(out: &mut K, bytes: &[u8]) -> Result<(), WriteFault>
     ensures all { OnOk result (Written (K.held out.old) (K.held out.new) bytes.now) }
     ensures front { OnErr result (WrittenFront (K.held out.old) (K.held out.new) bytes.now) }
+    ensures unfailed { OnOk result ((K.faults out.new ≡ K.faults out.old) × (K.refusals out.new ≡ K.refusals out.old)) }
     ensures cause { OnErr result (Failed (K.faults out.old) (K.faults out.new) (K.refusals out.old) (K.refusals out.new)) }
     ensures faults_stay { K.faults out.old ≤ K.faults out.new }
     ensures refusals_stay { K.refusals out.old ≤ K.refusals out.new }

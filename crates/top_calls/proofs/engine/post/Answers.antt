@@ -13,7 +13,7 @@ returns-in-Ok-write_all g c =
     let added : Added c.args.core.now c.apply.new.self _ step.0 = record { config = c.apply.ensures.config; ran = c.apply.ensures.ran; here = step.1; history = c.in-Ok.ensures.entry; state = step.3 } in
     Goes-added _ _ _ _ _ step.0 _ added
     (outcome_shown _ _ _ _ added _ step.2 _ c.session_up-before.ensures.session _ c.ended_now-ended.ensures _ (c.deref.ensures.value ∙ c.in-Ok-outcome_text.ensures))
-    c.in-Ok-write_all.ensures.all c.write_all.ensures.faults_stay c.write_all.ensures.refusals_stay
+    c.in-Ok-write_all.ensures.all c.in-Ok-write_all.ensures.unfailed
 
 pub returns : goal.returns
 returns g c =

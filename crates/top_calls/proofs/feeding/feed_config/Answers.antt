@@ -3,7 +3,7 @@ use Rattle.tool_events.specs.declared.config.Config.{Config}
 use Rattle.top_calls.specs.declared.ended.Cause.TheVariants as cause
 use Rattle.top_calls.specs.declared.ended.Ended.{Ended}
 use Rattle.top_calls.specs.CauseOf.{cause_after}
-use Rattle.top_calls.specs.Fed.{FedBy, Shown}
+use Rattle.top_calls.specs.Fed.{looked, FedBy, ReadToEnd, Shown}
 use Rattle.top_calls.specs.Noted.{NotedBy}
 use Rattle.top_calls.proofs.Ending.{run_from, FedBy-end, NotedBy-end, Shown-end, Shown-memory, read_to_end}
 use Rattle.top_calls.proofs.feeding.feed_config.Goals as goal
@@ -33,12 +33,14 @@ returns-clause-fed g c =
     let end = c.read_lines-read.result.end in
     let count = c.read_lines-read.result.count in
     let same : core.config ≡ c.args.config.now = c.read_lines-read.ensures.prints.config ∙ c.in-Ok.ensures.config in
+    let look = looked g.S.Source.left g.S.Source.faults g.S.Source.ends in
+    let over = ReadToEnd (look c.args.input.now) (look c.read_lines-read.new.input) in
     let read = c.read_lines-read.ensures.read in
     rw (c.with_history-2.ensures, c.cause_of-cause.ensures, c.into_history.ensures.history) (
       read.0,
       read.2,
-      subst (λ (k : Config). FedBy k (cause_after end count core.history reader.number) read.0 core.history) same (FedBy-end end read.0 count reader _ _ read.1 read.4),
-      subst (λ (k : Config). NotedBy k (cause_after end count core.history reader.number) read.0 core.history c.in-Ok-session_notes.sessions) same (NotedBy-end end read.0 count reader c.in-Ok-session_notes.sessions _ _ c.in-Ok-session_notes.ensures read.4),
+      subst (λ (k : Config). FedBy k (cause_after end count core.history reader.number) over read.0 core.history) same (FedBy-end end read.0 count reader _ _ read.1 read.4),
+      subst (λ (k : Config). NotedBy k (cause_after end count core.history reader.number) over read.0 core.history c.in-Ok-session_notes.sessions) same (NotedBy-end end read.0 count reader c.in-Ok-session_notes.sessions _ _ c.in-Ok-session_notes.ensures read.4),
     )
 
 pub returns-clause-printed : goal.returns-clause-printed
@@ -53,4 +55,4 @@ pub returns-clause-done : goal.returns-clause-done
 returns-clause-done g c = λ done.
     let read = c.read_lines-read.ensures.read in
     let is = sym (c.cause_of-cause.ensures) ∙ (sym (ap (λ (e : Ended). e.cause) c.with_history-2.ensures) ∙ done) in
-    read_to_end c.read_lines-read.result.end read.0 c.read_lines-read.result.count _ c.read_lines-read.new.reader.number c.read_lines-read.new.reader _ _ read.2 read.4 is
+    read_to_end c.read_lines-read.result.end read.0 c.read_lines-read.result.count _ c.read_lines-read.new.reader.number c.read_lines-read.new.reader _ _ read.4 is

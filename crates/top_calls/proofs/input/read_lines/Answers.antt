@@ -1,18 +1,28 @@
 use Rattle.std.proofs.Common.{◌≡◌, ℕ, List, take, length, arith, ap}
 use Rattle.std.proofs.lemmas.List.{length-take-le}
 use Rattle.top_calls.specs.Fed.{looked}
-use Rattle.top_calls.proofs.Progress.{ends-last, ends-halted, Progress-more}
+use Rattle.top_calls.proofs.Progress.{ends-whole, ends-last, ends-halted, Progress-more}
 use Rattle.top_calls.proofs.input.read_lines.Goals as goal
+
+pub returns-in-Ok-finish-clause-read : goal.returns-in-Ok-finish-clause-read
+returns-in-Ok-finish-clause-read g c =
+    let look = looked g.S.Source.left g.S.Source.faults g.S.Source.ends in
+    (ends-whole _ _ c.finish.new.self _ _ _ _ _ (look c.read_front.new.source) _ (take c.in-Ok.more c.read_front.new.buf) c.loop-count.invariant.progress (ap (λ (n : ℕ). take n c.read_front.new.buf) c.if-is_end.true) c.in-Ok.ensures.taken (c.in-Ok.ensures.end c.if-is_end.true) (c.in-Ok.ensures.end_rose c.if-is_end.true) c.read_front.ensures.ends_stay c.in-Ok-finish.ensures.finishes).0
+
+pub returns-in-Ok-finish-clause-prints : goal.returns-in-Ok-finish-clause-prints
+returns-in-Ok-finish-clause-prints g c =
+    let look = looked g.S.Source.left g.S.Source.faults g.S.Source.ends in
+    (ends-whole _ _ c.finish.new.self _ _ _ _ _ (look c.read_front.new.source) _ (take c.in-Ok.more c.read_front.new.buf) c.loop-count.invariant.progress (ap (λ (n : ℕ). take n c.read_front.new.buf) c.if-is_end.true) c.in-Ok.ensures.taken (c.in-Ok.ensures.end c.if-is_end.true) (c.in-Ok.ensures.end_rose c.if-is_end.true) c.read_front.ensures.ends_stay c.in-Ok-finish.ensures.finishes).1
 
 pub returns-in-Err-clause-read : goal.returns-in-Err-clause-read
 returns-in-Err-clause-read g c =
     let look = looked g.S.Source.left g.S.Source.faults g.S.Source.ends in
-    (ends-last _ _ c.finish.new.self _ _ _ _ _ (look c.read_front.new.source) _ (take c.in-Ok.more c.read_front.new.buf) c.in-Err.halt c.loop-count.invariant.progress (ap (λ (n : ℕ). take n c.read_front.new.buf) c.if-more-eq0.true) c.in-Ok.ensures.taken c.in-Err.ensures.finishes).0
+    (ends-last _ _ c.finish.new.self _ _ _ _ _ (look c.read_front.new.source) _ (take c.in-Ok.more c.read_front.new.buf) c.in-Err.halt c.loop-count.invariant.progress (ap (λ (n : ℕ). take n c.read_front.new.buf) c.if-is_end.true) c.in-Ok.ensures.taken (c.in-Ok.ensures.end c.if-is_end.true) (c.in-Ok.ensures.end_rose c.if-is_end.true) c.read_front.ensures.ends_stay c.in-Err.ensures.finishes).0
 
 pub returns-in-Err-clause-prints : goal.returns-in-Err-clause-prints
 returns-in-Err-clause-prints g c =
     let look = looked g.S.Source.left g.S.Source.faults g.S.Source.ends in
-    (ends-last _ _ c.finish.new.self _ _ _ _ _ (look c.read_front.new.source) _ (take c.in-Ok.more c.read_front.new.buf) c.in-Err.halt c.loop-count.invariant.progress (ap (λ (n : ℕ). take n c.read_front.new.buf) c.if-more-eq0.true) c.in-Ok.ensures.taken c.in-Err.ensures.finishes).1
+    (ends-last _ _ c.finish.new.self _ _ _ _ _ (look c.read_front.new.source) _ (take c.in-Ok.more c.read_front.new.buf) c.in-Err.halt c.loop-count.invariant.progress (ap (λ (n : ℕ). take n c.read_front.new.buf) c.if-is_end.true) c.in-Ok.ensures.taken (c.in-Ok.ensures.end c.if-is_end.true) (c.in-Ok.ensures.end_rose c.if-is_end.true) c.read_front.ensures.ends_stay c.in-Err.ensures.finishes).1
 
 pub returns-in-Err-taken-clause-read : goal.returns-in-Err-taken-clause-read
 returns-in-Err-taken-clause-read g c =
@@ -39,7 +49,7 @@ loop-count-preserved g c =
     let room = c.min-room.ensures in
     let size : length piece ≡ c.in-Ok.more = length-take-le c.in-Ok.more c.read_front.new.buf (omega arith) in
     record {
-      progress = Progress-more _ _ c.take_piece-taken.new.self _ _ _ _ _ (look c.read_front.new.source) _ c.in-Ok.more piece c.loop-count.invariant.progress c.in-Ok.ensures.taken size c.read_front.ensures.faults_stay c.read_front.ensures.ends_stay (rw c.front.ensures at c.take_piece-taken.ensures.number) (rw c.front.ensures at c.in-Ok-taken.ensures.takes);
+      progress = Progress-more _ _ c.take_piece-taken.new.self _ _ _ _ _ (look c.read_front.new.source) _ c.in-Ok.more piece c.loop-count.invariant.progress c.in-Ok.ensures.taken size c.in-Ok.ensures.unfailed c.read_front.ensures.ends_stay (rw c.front.ensures at c.take_piece-taken.ensures.number) (rw c.front.ensures at c.in-Ok-taken.ensures.takes);
       within = omega (arith, c.loop-count-test.true);
       buffer = buffer;
     }

@@ -10,7 +10,7 @@ invariant-loop-buf g l =
       taken : Taken (S.left l.fn.source) (S.left l.source) l.text.items;
       most : length l.text.items ≤ l.most;
       buffer : length l.buf ≡ 1024;
-      faults : S.faults l.fn.source ≤ S.faults l.source;
+      faults : S.faults l.source ≡ S.faults l.fn.source;
       ends : S.ends l.fn.source ≤ S.ends l.source;
     }
 

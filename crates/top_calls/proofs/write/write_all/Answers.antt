@@ -1,5 +1,5 @@
-use Rattle.std.proofs.Common.{arith, ◌+◌, length-drop, ℕ, ap, length}
-use Rattle.top_calls.proofs.Writing.{Written-same, Written-next, WrittenFront-at}
+use Rattle.std.proofs.Common.{arith, ◌∙◌, ◌+◌, length-drop, ℕ, ap, length}
+use Rattle.top_calls.proofs.Writing.{Ok-same, Written-same, Written-next, WrittenFront-at}
 use Rattle.top_calls.proofs.write.write_all.Goals as goal
 
 pub returns-in-Ok-eq0-clause-front : goal.returns-in-Ok-eq0-clause-front
@@ -11,8 +11,8 @@ loop-at-preserved g c =
     record {
       within = omega (arith, ensured.fits, ap length c.rest_from.ensures, length-drop {A = ℕ});
       front = Written-next _ _ _ _ _ _ c.loop-at.invariant.front (rw c.rest_from.ensures at ensured.written);
-      faults = omega (arith, ensured.faults_stay, c.loop-at.invariant.faults);
-      refusals = omega (arith, ensured.refusals_stay, c.loop-at.invariant.refusals);
+      faults = ensured.unfailed ∙ c.loop-at.invariant.faults;
+      refusals = ensured.unrefused (λ e. c.in-Ok.count-test.1 (Ok-same _ _ e)) ∙ c.loop-at.invariant.refusals;
     }
 
 pub returns-in-Err-clause-front : goal.returns-in-Err-clause-front

@@ -8,4 +8,4 @@ returns-then-len-ge-LINE_BYTES-clause-stands c = λ text stands more. Stands-lon
 pub returns-in-Err-clause-stands : goal.returns-in-Err-clause-stands
 returns-in-Err-clause-stands c = λ text stands more.
     let stops = Stands-memory text (c.args.byte ∷ []) more c.args.self.now stands in
-    record { told = stops.told; counts = stops.counts }
+    record { told = stops.told; at_line = stops.at_line; given = stops.given; counts = stops.counts }

@@ -109,13 +109,13 @@ same_taken g h m =
     let text = plain (reply_body (reply_to g m)) in
     let told : State = replied h (function_of h + 1) text g in
     same_then g told (taken h m g) (same_replied g h (function_of h + 1) text)
-    (same_then told (written m told) (taken h m g) (same_written told m) (same_listed (message_rows m g) (written m told)))
+    (same_then told (written m told) (taken h m g) (same_written told m) (same_listed (message_rows m (written m told)) (written m told)))
 
 same_closed : (g : State) (h : Header) (item : Option Data) (one : Option Open) → Same g (closed_by h item one g)
 same_closed g h item None = same_at g
 same_closed g h item (Some one) =
     let out : State = record g { transactions = taken_out (Some one) g.transactions } in
-    same_then g out _ (record { config = refl; link = refl; quitting = refl }) (same_listed (answer_rows one.what (function_of h) item g) out)
+    same_then g out _ (record { config = refl; link = refl; quitting = refl }) (same_listed (answer_rows one.what (function_of h) item out) out)
 
 same_act : (g : State) (h : Header) (item : Option Data) (v : Verdict) → Same g (data_act h item v g)
 same_act g h item Discarded = same_at g
@@ -132,7 +132,7 @@ same_data g arrival = same_act g (header_of arrival) (item_of arrival) (verdict 
 pub same_timeout : (g : State) (one : Open) → Same g (timed_out one g)
 same_timeout g one =
     let told : State = sends_stream9 9 (data_header g.config.device true one.stream one.function one.system) (record g { transactions = taken_out (Some one) g.transactions }) in
-    same_then g told (timed_out one g) (record { config = refl; link = refl; quitting = refl }) (same_listed (timeout_rows one.what g) told)
+    same_then g told (timed_out one g) (record { config = refl; link = refl; quitting = refl }) (same_listed (timeout_rows one.what told) told)
 
 pub same_switched : (g : State) (command : OperCmd) → Same g (switched command g)
 same_switched g oper.Local = record { config = refl; link = refl; quitting = refl }

@@ -12,7 +12,7 @@ use Rattle.transactions.specs.declared.transaction.Open.{Open}
 use Rattle.transactions.specs.Table.{taken_out}
 use Rattle.transactions.specs.Endings.{answered}
 use Rattle.gem_model.specs.State.{State, without_session}
-use Rattle.gem_model.specs.Fire.{fire_listed}
+use Rattle.gem_model.specs.Fire.{fire_listed, fires}
 use Rattle.gem_model.specs.Direct.{message_rows, answer_rows, session_end_rows}
 use Rattle.gem_model.specs.Sending.{replies, sends_stream9}
 use Rattle.gem_model.specs.Verdict.{Verdict, Discarded, Stream9, Aborted, Answers, Taken, verdict, header_of, item_of, wants_reply, stream_of, function_of, reply_to}
@@ -34,13 +34,13 @@ replied h function text g = if wants_reply h then replies (stream_of h) function
 -- a message that is taken: its reply, what it writes, and then its direct rows
 abbrev pub taken : Header → GemMsg → State → State
 taken h m g =
-    fire_listed (message_rows m g) (written m (replied h (function_of h + 1) (plain (reply_body (reply_to g m))) g))
+    fires (message_rows m) (written m (replied h (function_of h + 1) (plain (reply_body (reply_to g m))) g))
 
 -- the transaction that a message answers is closed, and its rows fire; without one the message is discarded
 abbrev pub closed_by : Header → Option Data → Option Open → State → State
 closed_by h item None g = g
 closed_by h item (Some one) g =
-    fire_listed (answer_rows one.what (function_of h) item g) (record g { transactions = taken_out (Some one) g.transactions })
+    fires (answer_rows one.what (function_of h) item) (record g { transactions = taken_out (Some one) g.transactions })
 
 -- a data message, by its verdict
 abbrev pub data_act : Header → Option Data → Verdict → State → State

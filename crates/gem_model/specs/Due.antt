@@ -16,7 +16,7 @@ use Rattle.transactions.specs.Table.{without, taken_out}
 use Rattle.transactions.specs.SystemBytes.{drawn}
 use Rattle.transactions.specs.Endings.{first_expired}
 use Rattle.gem_model.specs.State.{State, Times, is_selected, with_frame}
-use Rattle.gem_model.specs.Fire.{fire_listed}
+use Rattle.gem_model.specs.Fire.{fires}
 use Rattle.gem_model.specs.Direct.{timeout_rows}
 use Rattle.gem_model.specs.Sending.{data_header, draws, sends_stream9}
 use Rattle.gem_model.specs.Act.{session_ended}
@@ -83,7 +83,7 @@ asks_linktest g =
 -- T3 of a transaction is over: it is open no more, S9F9 tells its header, and its rows fire (SEMI E5, S9F9)
 abbrev pub timed_out : Open → State → State
 timed_out one g =
-    fire_listed (timeout_rows one.what g)
+    fires (timeout_rows one.what)
     (sends_stream9 9 (data_header g.config.device true one.stream one.function one.system)
     (record g { transactions = taken_out (Some one) g.transactions }))
 

@@ -75,6 +75,10 @@ abbrev pub fire_listed : List Firing → State → State
 fire_listed [] g = g
 fire_listed (f ∷ fs) g = fire_listed fs (if row_starts g f then fire g f else g)
 
+-- the rows that are listed in a state fire in it
+abbrev pub fires : (State → List Firing) → State → State
+fires rows g = fire_listed (rows g) g
+
 -- these rows of table 1, and these of table 2; each of these tables has one object
 abbrev pub of_comm : List ℕ → List Firing
 of_comm rows = map (firing 1 0) rows

@@ -1,5 +1,3 @@
-pub mod Reply
 pub mod Counts
-pub mod CoreView
-pub mod CoreInside
-pub mod Steps
+pub mod Views
+pub mod Firing

@@ -3,19 +3,17 @@
 //! The same events give the same history: the core reads no clock, no file and no link. Moments are handed in, and
 //! frames are handed out when the writer takes them. Begin with `Core::open`, then `Core::apply`.
 //!
-//! Built are the whole link table and T7 (SEMI E37), and of the data messages S1F1 and the errors S9F1, S9F3, S9F5 and
-//! S9F11 (SEMI E5).
+//! Built are the whole link table with T6, T7 and the tool's linktest (SEMI E37), the tables of communication and of
+//! control with the tool's transactions and T3 (SEMI E30), S1F1, S1F13, S1F15, S1F17, S2F17 and S2F31, and the errors of
+//! stream 9 (SEMI E5).
 #![tactic(auto)]
 
 mod counts;
-mod data;
 mod entries;
+mod frames;
 mod plant;
-mod reply;
-#[cfg(test)]
-mod tests;
-mod tool;
+mod rows;
+mod sending;
 
 pub use counts::SessionCounts;
 pub use entries::Entries;
-pub use tool::Core;

@@ -1,10 +1,9 @@
 //! The open transactions in the order of their start, and the counter of system bytes.
 
 ghost use Rattle.std.specs.Prelude.{◌≡◌, ◌+◌, ◌<◌, ◌++◌, [], ◌∷◌, length, true, false, is_some, ◌==◌, Ok, Err, Some, None, find, slice_get, if◌then◌else◌, IfOk, IfSome, IfNone};
-ghost use Rattle.std.specs.List.{list_any};
-ghost use Rattle.transactions.specs.Table.{IsTable, none_open, limit, is_full, has_system, without, taken_out};
+ghost use Rattle.transactions.specs.Table.{IsTable, none_open, limit, is_full, has_system, taken_out};
 ghost use Rattle.transactions.specs.SystemBytes.{behind, drawn, after_draw, after_start};
-ghost use Rattle.transactions.specs.Endings.{answered, is_expired, first_expired, same_kind, first_of, latest};
+ghost use Rattle.transactions.specs.Endings.{answered, first_expired, first_of, latest};
 ghost use Rattle.transactions.specs.Sought.{fits};
 ghost use Rattle.transactions.specs.Earlier.{earlier};
 

@@ -1,0 +1,92 @@
+//! The frames that the tool sends.
+ghost use Rattle.std.specs.Prelude.{◌≡◌, ◌≤◌, length, [], IfOk};
+ghost use Rattle.secs_items.specs.View.{view};
+ghost use Rattle.hsms_frame.specs.Spelling.{message_bytes, header_bytes};
+ghost use Rattle.msgs_gem.specs.Replies.{reply_body, B};
+ghost use Rattle.msgs_gem.specs.Sendable.{HasSendableParts};
+ghost use Rattle.gem_model.specs.Sending.{data_header, data_frame, identity_text, stream9_text};
+ghost use Rattle.secs_items.specs.Plain.{plain};
+ghost use Rattle.secs_items.specs.Sendable.{IsSendable};
+
+use hsms_frame::{Bytes, Frame, Header, write_frame, write_header};
+use msgs_gem::{GemReply, gem_item};
+use secs_items::{Item, encode};
+use std::alloc::{AllocError, Global};
+use tool_events::Config;
+
+/// A frame without text.
+pub fn header_frame(alloc: Global, header: Header) -> Result<Bytes, AllocError>
+    ensures { IfOk result (λ frame. frame ≡ message_bytes header []) }
+{
+    let frame = Vec::from_slice(alloc, &write_header(header))?;
+    Ok(Bytes::from_vec(frame))
+}
+
+/// The header of a data message of the tool, with the W-bit where a reply is wanted. The stream is below 128.
+pub fn data_header(device: u16, wants: bool, stream: u8, function: u8, system: u32) -> Header
+    requires { stream ≤ 127 }
+    ensures { result ≡ data_header device wants stream function system }
+{
+    Header {
+        session: device,
+        byte2: if wants { 128 + stream } else { stream },
+        byte3: function,
+        ptype: 0,
+        stype: 0,
+        system,
+    }
+}
+
+/// A data message of the tool.
+pub fn data_frame(alloc: Global, header: Header, text: Bytes) -> Result<Bytes, AllocError>
+    requires { length text ≤ 16777216 }
+    ensures { IfOk result (λ frame. frame ≡ message_bytes header text) }
+{
+    let mut frame = Vec::new(alloc);
+    write_frame(&Frame { header, text }, &mut frame)?;
+    Ok(Bytes::from_vec(frame))
+}
+
+/// The text of an item.
+fn text_of(alloc: Global, item: &Item) -> Result<Bytes, AllocError>
+    requires { IsSendable (view item.now) }
+    ensures { IfOk result (λ text. text ≡ plain (view item.now)) }
+{
+    let mut text = Vec::new(alloc);
+    encode(item, &mut text)?;
+    Ok(Bytes::from_vec(text))
+}
+
+/// The text of a reply.
+pub fn reply_text(alloc: Global, reply: &GemReply) -> Result<Bytes, AllocError>
+    requires { HasSendableParts reply.now }
+    ensures { IfOk result (λ text. text ≡ plain (reply_body reply.now)) }
+{
+    let item = gem_item(alloc, reply)?;
+    text_of(alloc, &item)
+}
+
+/// The ten bytes of a header.
+#[tactic(auto, unfolding(hsms_frame::specs::Spelling::message_bytes))]
+fn ten_bytes(header: Header) -> [u8; 10]
+    ensures { result ≡ header_bytes header }
+{
+    let [_, _, _, _, b0, b1, b2, b3, b4, b5, b6, b7, b8, b9] = write_header(header);
+    [b0, b1, b2, b3, b4, b5, b6, b7, b8, b9]
+}
+
+/// The text of a message of stream 9: the ten bytes of the header that it is about.
+pub fn stream9_text(alloc: Global, about: Header) -> Result<Bytes, AllocError>
+    ensures text { IfOk result (λ text. text ≡ stream9_text about) }
+    ensures short { IfOk result (λ text. length text ≤ 200) }
+{
+    let bytes = Vec::from_slice(alloc, &ten_bytes(about))?;
+    text_of(alloc, &Item::Binary(secs_items::Bytes::from_vec(bytes)))
+}
+
+/// Bytes of a text, as a part of an item.
+fn part(alloc: Global, text: &[u8]) -> Result<secs_items::Bytes, AllocError>
+    ensures { IfOk result (λ bytes. bytes ≡ text.now) }
+{
+    Ok(secs_items::Bytes::from_vec(Vec::from_slice(alloc, text)?))
+}

@@ -1,0 +1,185 @@
+//! The rows of the transition tables: what each does, which are ready, and settling.
+ghost use Rattle.std.specs.Prelude.{◌≡◌, ◌+◌, ◌≤◌, ◌<◌, length, OnOk, IfOk, is_some};
+ghost use Rattle.gem_tables.specs.Table.{first_starting};
+ghost use Rattle.gem_states.specs.Meaning.{comm_rows, control_rows};
+ghost use Rattle.transactions.specs.Table.{Table};
+ghost use Rattle.gem_model.specs.State.{State, none_asked};
+ghost use Rattle.gem_model.specs.Sending.{identity_text};
+ghost use Rattle.gem_model.specs.Fire.{fire_comm, comm_effect, fire_control, control_effect, forgets, fire_listed, fires};
+ghost use Rattle.gem_model.specs.Direct.{by_comm, by_control, session_end_rows};
+ghost use Rattle.gem_model.specs.Ready.{delay_is_over, least};
+ghost use Rattle.gem_model.specs.Settle.{settled};
+ghost use Rattle.gem_model.specs.Act.{session_ended};
+ghost use Rattle.tool_core.specs.Firing.{fire_first};
+
+use crate::frames::reply_text;
+use crate::plant::Plant;
+use gem_ids::Text80;
+use gem_states::{Comm, CommTrigger, Control, ControlTrigger};
+use hsms_frame::Bytes;
+use msgs_gem::GemReply;
+use std::alloc::{AllocError, Global};
+use tool_events::Config;
+use transactions::{Transactions, What};
+
+/// No transaction is open any more.
+fn close_all(transactions: &mut Transactions)
+    ensures { transactions.new ≡ record transactions.old { opened = [] } }
+{
+    while transactions.close_one().is_some() {}
+}
+
+/// The bytes of a text, as a part of an item.
+pub fn part(alloc: Global, text: Text80) -> Result<secs_items::Bytes, AllocError>
+    ensures { IfOk result (λ bytes. bytes ≡ text) }
+{
+    Ok(secs_items::Bytes::from_vec(Vec::from_slice(alloc, text.as_bytes())?))
+}
+
+/// The text of S1F2 and S1F13: the model and the software revision.
+fn identity_text(alloc: Global, config: &Config) -> Result<Bytes, AllocError>
+    ensures text { IfOk result (λ text. text ≡ identity_text config.now) }
+    ensures short { IfOk result (λ text. length text ≤ 16777216) }
+{
+    let mdln = part(alloc, config.mdln)?;
+    let softrev = part(alloc, config.softrev)?;
+    reply_text(alloc, &GemReply::S1F13(mdln, softrev))
+}
+
+impl Plant {
+    /// The transaction of this kind is open no more.
+    fn forget(&mut self, what: What)
+        ensures { self.new ≡ forgets what self.old }
+    {
+        self.transactions.forget(what);
+    }
+
+    /// No transaction is open any more.
+    pub fn close_all(&mut self)
+        ensures { self.new ≡ none_asked self.old }
+    {
+        close_all(&mut self.transactions);
+    }
+
+    /// What a row of communication does besides its state.
+    fn comm_effect(&mut self, alloc: Global, row: u8) -> Result<(), AllocError>
+        ensures { OnOk result (self.new ≡ comm_effect row self.old) }
+    {
+        match row {
+            2 => self.close_all(),
+            3 => {
+                let text = identity_text(alloc, &self.config)?;
+                self.ask(alloc, 1, 13, What::Establish, text)?;
+            }
+            6 => self.forget(What::Establish),
+            _ => {}
+        }
+        Ok(())
+    }
+
+    /// A row of communication fires.
+    fn fire_comm(&mut self, alloc: Global, row: u8) -> Result<(), AllocError>
+        ensures { OnOk result (self.new ≡ fire_comm row self.old) }
+    {
+        let until = if row == 5 {
+            self.moment.0 + u64::from(self.times.establish)
+        } else {
+            0
+        };
+        self.comm.fire(row, until);
+        self.comm_effect(alloc, row)
+    }
+
+    /// What a row of control does besides its state.
+    fn control_effect(&mut self, alloc: Global, row: u8) -> Result<(), AllocError>
+        ensures { OnOk result (self.new ≡ control_effect row self.old) }
+    {
+        match row {
+            1 if self.can_ask() => {
+                let text = Bytes::from_vec(Vec::new(alloc));
+                self.ask(alloc, 1, 1, What::Attempt, text)?;
+            }
+            6 => self.forget(What::Attempt),
+            _ => {}
+        }
+        Ok(())
+    }
+
+    /// A row of control fires.
+    fn fire_control(&mut self, alloc: Global, row: u8) -> Result<(), AllocError>
+        ensures { OnOk result (self.new ≡ fire_control row self.old) }
+    {
+        self.control.fire(row);
+        self.control_effect(alloc, row)
+    }
+
+    /// The direct row of communication that a trigger fires, if one starts at the present state.
+    pub fn by_comm(&mut self, alloc: Global, trigger: CommTrigger) -> Result<(), AllocError>
+        ensures { OnOk result (self.new ≡ fire_listed (by_comm trigger) self.old) }
+    {
+        match self.comm.row_for(trigger) {
+            Some(row) => self.fire_comm(alloc, row),
+            None => Ok(()),
+        }
+    }
+
+    /// The direct row of control that a trigger fires, if one starts at the present state.
+    pub fn by_control(&mut self, alloc: Global, trigger: ControlTrigger) -> Result<(), AllocError>
+        ensures { OnOk result (self.new ≡ fires (by_control trigger) self.old) }
+    {
+        match self.control.row_for(trigger, self.switch_local) {
+            Some(row) => self.fire_control(alloc, row),
+            None => Ok(()),
+        }
+    }
+
+    /// The session ends: the link is down, the frames that wait are gone, every transaction has failed, and the direct
+    /// rows fire.
+    pub fn end_session(&mut self, alloc: Global) -> Result<(), AllocError>
+        ensures { OnOk result (self.new ≡ session_ended self.old) }
+    {
+        let attempted = self.transactions.is_open(What::Attempt);
+        self.close_all();
+        self.link.down();
+        self.waiting.clear();
+        self.by_comm(alloc, CommTrigger::SessionEnd)?;
+        if attempted {
+            self.by_control(alloc, ControlTrigger::Failed)?;
+        }
+        Ok(())
+    }
+
+    /// Whether communication is in WAIT DELAY, and the delay is over.
+    fn delay_is_over(&self) -> bool
+        ensures { result ≡ delay_is_over self.now.moment self.now.comm }
+    {
+        match self.comm {
+            Comm::WaitDelay { until } => until <= self.moment.0,
+            _ => false,
+        }
+    }
+
+    /// Fires the least automatic row that is ready, and tells whether there was one.
+    fn fire_least(&mut self, alloc: Global) -> Result<bool, AllocError>
+        ensures fired { IfOk result (λ fired. fired ≡ is_some (least self.old)) }
+        ensures after { OnOk result (self.new ≡ fire_first (least self.old) self.old) }
+    {
+        if self.delay_is_over() && self.is_selected() {
+            self.fire_comm(alloc, 3)?;
+            return Ok(true);
+        }
+        if self.control == Control::Attempt && !self.can_ask() {
+            self.fire_control(alloc, 2)?;
+            return Ok(true);
+        }
+        Ok(false)
+    }
+
+    /// Fires the least automatic row that is ready, again and again, until none is.
+    pub fn follow(&mut self, alloc: Global) -> Result<(), AllocError>
+        ensures { OnOk result (self.new ≡ settled self.old) }
+    {
+        while self.fire_least(alloc)? {}
+        Ok(())
+    }
+}

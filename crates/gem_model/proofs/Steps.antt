@@ -26,7 +26,7 @@ use Rattle.tool_events.specs.declared.answer.Answer.TheVariants as answer
 use Rattle.tool_events.specs.declared.config.Config.{Config}
 use Rattle.transactions.specs.declared.transaction.Open.{Open}
 use Rattle.gem_model.specs.State.{State, is_up, is_session_up, raised, without_session}
-use Rattle.gem_model.specs.Fire.{fire_listed}
+use Rattle.gem_model.specs.Fire.{fires}
 use Rattle.gem_model.specs.Direct.{session_end_rows, operator_rows}
 use Rattle.gem_model.specs.Verdict.{header_of}
 use Rattle.gem_model.specs.Act.{session_ended}
@@ -101,10 +101,10 @@ keeps_end g h answer cause up same = record {
   config = same.config ∙ (ended_link g).config;
   session = let is = ended_session g in let at = ap (λ (l : LinkState). l.session) same.link in omega arith;
   counts = let is = ended_session g in
-    let at = ap (λ (l : LinkState). l.session) same.link in
-    let down : up_count h ≡ 0 = count_down h (ap (λ (l : LinkState). links.is_up l.phase) same.link ∙ ended_down g) in
-    let count : up_count g ≡ 1 = count_up g up in
-    omega arith;
+      let at = ap (λ (l : LinkState). l.session) same.link in
+      let down : up_count h ≡ 0 = count_down h (ap (λ (l : LinkState). links.is_up l.phase) same.link ∙ ended_down g) in
+      let count : up_count g ≡ 1 = count_up g up in
+      omega arith;
   none = λ down. absurd (true≢false (sym up ∙ down));
   numbered = refl;
   quit = λ _ _. ap (λ (l : LinkState). links.is_up l.phase) same.link ∙ ended_down g;
@@ -143,8 +143,8 @@ keeps_taken g (frame ∷ frames) o here = the_some g _ o (keeps_same g (record g
 
 -- ---- operators
 
-keeps_command : (g : State) (command : OperCmd) → Keeping g (answered (answer.Oper (is_accepted command g)) (fire_listed (operator_rows command g) (switched command g)))
-keeps_command g command = keeps_same g _ _ (same_then g _ _ (same_switched g command) (same_listed (operator_rows command g) (switched command g)))
+keeps_command : (g : State) (command : OperCmd) → Keeping g (answered (answer.Oper (is_accepted command g)) (fires (operator_rows command) (switched command g)))
+keeps_command g command = keeps_same g _ _ (same_then g _ _ (same_switched g command) (same_listed (operator_rows command (switched command g)) (switched command g)))
 
 keeps_quit : (g : State) (up : Bool) → is_up g ≡ up → Keeping g (quits up g)
 keeps_quit g true up = keeps_end g (record (session_ended g) { quitting = true }) (answer.Oper true) cause.Quit up (record { config = refl; link = refl })
@@ -194,7 +194,7 @@ goes_then : (g h k : State) → GoesOn g h → GoesOn h k → GoesOn g k
 goes_then g h k first next = record { config = next.config ∙ first.config; session = next.session ∙ first.session; up = next.up ∙ first.up; quitting = next.quitting ∙ first.quitting }
 
 -- none of these ends the session
-abbrev NoneEnds : List Due → Type 0
+abbrev pub NoneEnds : List Due → Type 0
 NoneEnds [] = Unit {0}
 NoneEnds (EndOfSession cause ∷ dues) = ⊥
 NoneEnds (Linktest ∷ dues) = NoneEnds dues
@@ -208,11 +208,11 @@ goes_all (Linktest ∷ ds) g none =
 goes_all (Timeout one ∷ ds) g none =
     goes_then g (timed_out one g) _ (goes_same g _ (same_timeout g one)) (goes_all ds (timed_out one g) none)
 
-timeouts_end_none : (ones : List Open) → NoneEnds (map (λ one. Timeout one) ones)
+pub timeouts_end_none : (ones : List Open) → NoneEnds (map (λ one. Timeout one) ones)
 timeouts_end_none [] = tt
 timeouts_end_none (one ∷ ones) = timeouts_end_none ones
 
-none_ended : (ds : List Due) (g : State) → NoneEnds ds → ended_by ds g ≡ None
+pub none_ended : (ds : List Due) (g : State) → NoneEnds ds → ended_by ds g ≡ None
 none_ended [] g none = refl
 none_ended (EndOfSession cause ∷ ds) g none = absurd none
 none_ended (Linktest ∷ ds) g none = refl

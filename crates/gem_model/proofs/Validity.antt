@@ -101,8 +101,8 @@ pub step_valid : (g : State) (at : ℕ) (e : Event) (o : Outcome) → Valid g �
 step_valid g at e o valid here =
     went g.quitting _ _ _
     (λ quitting is.
-        let same : raised g at ≡ o.after = cc in
-        subst Valid same (record { settled = raised_quiet g at (valid.quit quitting) valid.settled; quit = λ _. valid.quit quitting }))
+    let same : raised g at ≡ o.after = cc in
+    subst Valid same (record { settled = raised_quiet g at (valid.quit quitting) valid.settled; quit = λ _. valid.quit quitting }))
     (λ goes is. valid_mapped g.moment (raised g at) e (acts g.moment (raised g at) e) o goes here is)
     here
 

@@ -1,5 +1,5 @@
 -- What the tool sends, and how (SEMI E5, messages; this tool's profile, data messages and tool primaries).
-use Rattle.std.specs.Prelude.{ℕ, ◌+◌, Bool, true, false, if◌then◌else◌, List, []}
+use Rattle.std.specs.Prelude.{ℕ, ◌+◌, ◌%◌, Bool, true, false, if◌then◌else◌, List, []}
 use Rattle.hsms_frame.specs.declared.frame.Header.{Header}
 use Rattle.hsms_frame.specs.Spelling.{header_bytes, message_bytes}
 use Rattle.secs_items.specs.Plain.{plain}
@@ -10,11 +10,11 @@ use Rattle.transactions.specs.Table.{is_full}
 use Rattle.transactions.specs.SystemBytes.{drawn, after_draw, after_start}
 use Rattle.gem_model.specs.State.{State, with_frame}
 
--- the header of a data message of the tool: the device id as session id, the stream with the W-bit where a reply is
--- wanted, and the function (SEMI E37, message header)
+-- the header of a data message of the tool: the device id as session id, the seven bits of the stream behind the W-bit,
+-- which is set where a reply is wanted, and the function (SEMI E37, message header)
 abbrev pub data_header : ℕ → Bool → ℕ → ℕ → ℕ → Header
 data_header device wants stream function system =
-    record { session = device; byte2 = if wants then 128 + stream else stream; byte3 = function; ptype = 0; stype = 0; system = system }
+    record { session = device; byte2 = (if wants then 128 else 0) + stream % 128; byte3 = function; ptype = 0; stype = 0; system = system }
 
 -- a data message of the tool
 abbrev pub data_frame : ℕ → Bool → ℕ → ℕ → ℕ → List ℕ → List ℕ

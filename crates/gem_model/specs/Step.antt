@@ -19,7 +19,7 @@ use Rattle.tool_events.specs.declared.event.SessionCause.{SessionCause}
 use Rattle.tool_events.specs.declared.event.SessionCause.TheVariants as cause
 use Rattle.tool_events.specs.declared.event.SessionEnd.{SessionEnd}
 use Rattle.gem_model.specs.State.{State, is_up, is_session_up, raised, with_frame}
-use Rattle.gem_model.specs.Fire.{row_starts, fire_listed}
+use Rattle.gem_model.specs.Fire.{row_starts, fires}
 use Rattle.gem_model.specs.Direct.{operator_rows}
 use Rattle.gem_model.specs.Verdict.{header_of}
 use Rattle.gem_model.specs.Act.{data_done, session_ended}
@@ -90,7 +90,7 @@ quits false g = answered (answer.Oper true) (record g { quitting = true })
 -- an operator's command
 abbrev pub operated : OperCmd → State → Outcome
 operated oper.Quit g = quits (is_up g) g
-operated command g = answered (answer.Oper (is_accepted command g)) (fire_listed (operator_rows command g) (switched command g))
+operated command g = answered (answer.Oper (is_accepted command g)) (fires (operator_rows command) (switched command g))
 
 -- ---- the clock
 

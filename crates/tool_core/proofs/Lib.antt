@@ -1,1 +1,5 @@
-
+pub mod ShortReplies
+pub mod Firings
+pub mod Functions
+pub mod Timeouts
+pub mod Replaying

@@ -3,7 +3,7 @@ ghost use Rattle.std.specs.Prelude.{◌≡◌, ◌≤◌, length, [], IfOk};
 ghost use Rattle.secs_items.specs.View.{view};
 ghost use Rattle.hsms_frame.specs.Spelling.{message_bytes, header_bytes};
 ghost use Rattle.msgs_gem.specs.Replies.{reply_body, B};
-ghost use Rattle.msgs_gem.specs.Sendable.{HasSendableParts};
+ghost use Rattle.tool_core.specs.ShortReply.{IsShort};
 ghost use Rattle.gem_model.specs.Sending.{data_header, data_frame, identity_text, stream9_text};
 ghost use Rattle.secs_items.specs.Plain.{plain};
 ghost use Rattle.secs_items.specs.Sendable.{IsSendable};
@@ -22,14 +22,13 @@ pub fn header_frame(alloc: Global, header: Header) -> Result<Bytes, AllocError>
     Ok(Bytes::from_vec(frame))
 }
 
-/// The header of a data message of the tool, with the W-bit where a reply is wanted. The stream is below 128.
+/// The header of a data message of the tool, with the W-bit where a reply is wanted.
 pub fn data_header(device: u16, wants: bool, stream: u8, function: u8, system: u32) -> Header
-    requires { stream ≤ 127 }
     ensures { result ≡ data_header device wants stream function system }
 {
     Header {
         session: device,
-        byte2: if wants { 128 + stream } else { stream },
+        byte2: if wants { 128 } else { 0 } + stream % 128,
         byte3: function,
         ptype: 0,
         stype: 0,
@@ -57,10 +56,12 @@ fn text_of(alloc: Global, item: &Item) -> Result<Bytes, AllocError>
     Ok(Bytes::from_vec(text))
 }
 
-/// The text of a reply.
+/// The text of a reply whose parts are short.
+#[tactic(auto, using(crate::proofs::ShortReplies::sendable_parts, crate::proofs::ShortReplies::short_text))]
 pub fn reply_text(alloc: Global, reply: &GemReply) -> Result<Bytes, AllocError>
-    requires { HasSendableParts reply.now }
-    ensures { IfOk result (λ text. text ≡ plain (reply_body reply.now)) }
+    requires { IsShort reply.now }
+    ensures text { IfOk result (λ text. text ≡ plain (reply_body reply.now)) }
+    ensures short { IfOk result (λ text. length text ≤ 200) }
 {
     let item = gem_item(alloc, reply)?;
     text_of(alloc, &item)
@@ -82,11 +83,4 @@ pub fn stream9_text(alloc: Global, about: Header) -> Result<Bytes, AllocError>
 {
     let bytes = Vec::from_slice(alloc, &ten_bytes(about))?;
     text_of(alloc, &Item::Binary(secs_items::Bytes::from_vec(bytes)))
-}
-
-/// Bytes of a text, as a part of an item.
-fn part(alloc: Global, text: &[u8]) -> Result<secs_items::Bytes, AllocError>
-    ensures { IfOk result (λ bytes. bytes ≡ text.now) }
-{
-    Ok(secs_items::Bytes::from_vec(Vec::from_slice(alloc, text)?))
 }

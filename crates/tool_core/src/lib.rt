@@ -8,12 +8,17 @@
 //! stream 9 (SEMI E5).
 #![tactic(auto)]
 
+mod clock;
 mod counts;
+mod data;
 mod entries;
 mod frames;
 mod plant;
+mod react;
 mod rows;
 mod sending;
+mod tool;
 
 pub use counts::SessionCounts;
 pub use entries::Entries;
+pub use tool::Core;

@@ -54,17 +54,17 @@ impl Model for Plant {
     ghost Value = { State };
 
     ghost view = { λ p. record {
-        config = p.config;
-        moment = p.moment.0;
-        clock = record { shown = p.shown.0; at = p.shown_at.0 };
-        quitting = p.quitting;
-        link = p.link;
-        comm = p.comm;
-        control = p.control;
-        switch_local = p.switch_local;
-        transactions = p.transactions;
-        times = times_view p.times;
-        waiting = p.waiting.items
+      config = p.config;
+      moment = p.moment.0;
+      clock = record { shown = p.shown.0; at = p.shown_at.0 };
+      quitting = p.quitting;
+      link = p.link;
+      comm = p.comm;
+      control = p.control;
+      switch_local = p.switch_local;
+      transactions = p.transactions;
+      times = times_view p.times;
+      waiting = p.waiting.items;
     } };
 
     ghost invariant = { λ p. p.moment.0 ≤ last_moment };

@@ -1,8 +1,8 @@
 //! The rows of the transition tables: what each does, which are ready, and settling.
-ghost use Rattle.std.specs.Prelude.{◌≡◌, ◌+◌, ◌≤◌, ◌<◌, length, OnOk, IfOk, is_some};
+ghost use Rattle.std.specs.Prelude.{◌≡◌, ◌+◌, ◌≤◌, ◌<◌, length, [], OnOk, IfOk, is_some};
+ghost use Rattle.gem_ids.specs.Texts.{IsText};
 ghost use Rattle.gem_tables.specs.Table.{first_starting};
 ghost use Rattle.gem_states.specs.Meaning.{comm_rows, control_rows};
-ghost use Rattle.transactions.specs.Table.{Table};
 ghost use Rattle.gem_model.specs.State.{State, none_asked};
 ghost use Rattle.gem_model.specs.Sending.{identity_text};
 ghost use Rattle.gem_model.specs.Fire.{fire_comm, comm_effect, fire_control, control_effect, forgets, fire_listed, fires};
@@ -20,18 +20,12 @@ use hsms_frame::Bytes;
 use msgs_gem::GemReply;
 use std::alloc::{AllocError, Global};
 use tool_events::Config;
-use transactions::{Transactions, What};
-
-/// No transaction is open any more.
-fn close_all(transactions: &mut Transactions)
-    ensures { transactions.new ≡ record transactions.old { opened = [] } }
-{
-    while transactions.close_one().is_some() {}
-}
+use transactions::What;
 
 /// The bytes of a text, as a part of an item.
 pub fn part(alloc: Global, text: Text80) -> Result<secs_items::Bytes, AllocError>
-    ensures { IfOk result (λ bytes. bytes ≡ text) }
+    ensures bytes { IfOk result (λ bytes. bytes ≡ text) }
+    ensures text { IfOk result IsText }
 {
     Ok(secs_items::Bytes::from_vec(Vec::from_slice(alloc, text.as_bytes())?))
 }
@@ -39,7 +33,7 @@ pub fn part(alloc: Global, text: Text80) -> Result<secs_items::Bytes, AllocError
 /// The text of S1F2 and S1F13: the model and the software revision.
 fn identity_text(alloc: Global, config: &Config) -> Result<Bytes, AllocError>
     ensures text { IfOk result (λ text. text ≡ identity_text config.now) }
-    ensures short { IfOk result (λ text. length text ≤ 16777216) }
+    ensures short { IfOk result (λ text. length text ≤ 200) }
 {
     let mdln = part(alloc, config.mdln)?;
     let softrev = part(alloc, config.softrev)?;
@@ -58,7 +52,7 @@ impl Plant {
     pub fn close_all(&mut self)
         ensures { self.new ≡ none_asked self.old }
     {
-        close_all(&mut self.transactions);
+        self.transactions.close_all();
     }
 
     /// What a row of communication does besides its state.

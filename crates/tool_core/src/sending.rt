@@ -1,5 +1,5 @@
 //! What the plant sends.
-ghost use Rattle.std.specs.Prelude.{◌≡◌, ◌≤◌, length, OnOk, true};
+ghost use Rattle.std.specs.Prelude.{◌≡◌, ◌≤◌, length, OnOk, true, false};
 ghost use Rattle.hsms_frame.specs.Spelling.{message_bytes};
 ghost use Rattle.transactions.specs.SystemBytes.{drawn};
 ghost use Rattle.gem_model.specs.State.{with_frame};
@@ -22,7 +22,7 @@ impl Plant {
         self.transactions.draw()
     }
 
-    /// A reply waits for the writer, under the system bytes of its primary. The stream is below 128.
+    /// A reply waits for the writer, under the system bytes of its primary.
     pub fn reply(
         &mut self,
         alloc: Global,
@@ -31,8 +31,7 @@ impl Plant {
         system: u32,
         text: Bytes,
     ) -> Result<(), AllocError>
-        requires stream { stream ≤ 127 }
-        requires short { length text ≤ 16777216 }
+        requires { length text ≤ 16777216 }
         ensures { OnOk result (self.new ≡ replies stream function system text self.old) }
     {
         let header = data_header(self.config.device, false, stream, function, system);
@@ -56,7 +55,7 @@ impl Plant {
         self.put(frame)
     }
 
-    /// A primary of the tool waits for the writer, and its transaction is open until T3. The stream is below 128.
+    /// A primary of the tool waits for the writer, and its transaction is open until T3.
     pub fn ask(
         &mut self,
         alloc: Global,
@@ -65,8 +64,7 @@ impl Plant {
         what: What,
         text: Bytes,
     ) -> Result<(), AllocError>
-        requires stream { stream ≤ 127 }
-        requires short { length text ≤ 16777216 }
+        requires { length text ≤ 16777216 }
         ensures { OnOk result (self.new ≡ asks stream function what text self.old) }
     {
         let deadline = self.moment.0 + u64::from(self.times.t3);

@@ -298,6 +298,14 @@ impl Transactions {
         self.take_out(found);
         found
     }
+
+    /// No transaction is open any more. The counter of system bytes stays.
+    pub fn close_all(&mut self)
+        ensures { self.new ≡ record self.old { opened = [] } }
+    {
+        self.slab.clear();
+        self.order.clear();
+    }
 }
 
 // The earlier one of a transaction and the one that was first so far.

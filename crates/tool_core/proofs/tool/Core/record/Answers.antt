@@ -1,0 +1,49 @@
+use Rattle.std.proofs.Common.{◌≡◌, true, Some, refl, ap, subst, sym, ◌∙◌}
+use Rattle.tool_events.specs.declared.entry.Entry.{Entry}
+use Rattle.gem_model.specs.State.{State, is_up}
+use Rattle.gem_model.specs.Step.{Outcome, step}
+use Rattle.tool_core.specs.CoreInside.{state_of}
+use Rattle.tool_core.specs.CoreView.{CoreView}
+use Rattle.tool_core.proofs.Replaying.{GoesOn, goes-snoc, state-snoc}
+use Rattle.tool_core.proofs.tool.Core.record.Goals as goal
+
+pub invariant_of-self-3 : goal.invariant_of-self-3
+invariant_of-self-3 c =
+    let k = c.self.inside in
+    let i = c.self.invariant in
+    let whole : k.is_whole ≡ true = ap (λ (v : CoreView). v.is_whole) c.self.view_is ∙ c.requires.whole in
+    let o : Outcome = record { answer = c.in-Some.reaction.answer; ended = c.in-Some.reaction.ended; after = c.react.new.self } in
+    let reacted : step k.plant c.args.at.0 c.args.event ≡ Some o = rw c.in-Some.is at c.in-Ok-react.ensures.some in
+    let here : step (state_of k.config k.entries.items) c.args.at.0 c.args.event ≡ Some o = subst (λ (g : State). step g c.args.at.0 c.args.event ≡ Some o) (i.plant_is whole) reacted in
+    let before : GoesOn k.config k.entries.items k.ends.items k.written k.bytes = record { config = i.config; run = i.run; sessions = rw i.sessions_are at i.sessions; ended = i.ended; written = i.written; bytes_are = i.bytes_are; entries_fit = i.entries_fit; bytes_fit = i.bytes_fit } in
+    let entry : Entry = record { seat = c.args.seat; at = c.args.at; event = c.args.event } in
+    let after = state-snoc k.config k.entries.items entry o i.run here in
+    let goes = goes-snoc k.config k.entries.items k.ends.items k.written c.add_taken.new.counts k.bytes entry o before (rw (← c.self.view_is) at c.requires.room) here (λ n count is. c.add_taken.ensures n count (c.in-Ok-make_room.ensures.counts n ∙ is)) in
+    rw (c.push_reserved.ensures.items, c.in-Ok.ensures.items, c.add_end.ensures, c.in-Ok-reserve.ensures.items, c.event_bytes.ensures.value, c.session_count-self-inside.ensures, c.is_up-self-inside.ensures) (record {
+      config = goes.config;
+      run = goes.run;
+      plant_is = λ _. sym after;
+      sessions_are = ap (λ (g : State). g.link.session) (sym after);
+      up_is = ap is_up (sym after);
+      sessions = rw after at goes.sessions;
+      ended = goes.ended;
+      written = goes.written;
+      bytes_are = goes.bytes_are;
+      entries_fit = goes.entries_fit;
+      bytes_fit = goes.bytes_fit;
+    })
+
+pub returns-clause-step : goal.returns-clause-step
+returns-clause-step c =
+    let k = c.self.inside in
+    let i = c.self.invariant in
+    let whole : k.is_whole ≡ true = ap (λ (v : CoreView). v.is_whole) c.self.view_is ∙ c.requires.whole in
+    let o : Outcome = record { answer = c.in-Some.reaction.answer; ended = c.in-Some.reaction.ended; after = c.react.new.self } in
+    let reacted : step k.plant c.args.at.0 c.args.event ≡ Some o = rw c.in-Some.is at c.in-Ok-react.ensures.some in
+    let here : step (state_of k.config k.entries.items) c.args.at.0 c.args.event ≡ Some o = subst (λ (g : State). step g c.args.at.0 c.args.event ≡ Some o) (i.plant_is whole) reacted in
+    let entry : Entry = record { seat = c.args.seat; at = c.args.at; event = c.args.event } in (
+      o,
+      subst (λ (g : State). step g c.args.at.0 c.args.event ≡ Some o) (ap (λ (v : CoreView). v.state) c.self.view_is) here,
+      refl,
+      rw (c.push_reserved.ensures.items, c.in-Ok.ensures.items) (state-snoc k.config k.entries.items entry o i.run here),
+    )

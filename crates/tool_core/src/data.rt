@@ -1,0 +1,395 @@
+//! Data messages of the host: what each is answered, and what it does.
+ghost use Rattle.std.specs.Prelude.{◌≡◌, ◌+◌, ◌≤◌, ◌<◌, length, [], OnOk, IfOk, IfSome, Some, None, option_map, unwrap_or, true};
+ghost use Rattle.gem_ids.specs.Texts.{IsText};
+ghost use Rattle.gem_ids.specs.Civil.{moment_in, time_digits};
+ghost use Rattle.gem_model.specs.State.{clock_now};
+ghost use Rattle.gem_model.specs.Fire.{fires, fire_listed};
+ghost use Rattle.gem_tables.specs.Table.{choose};
+ghost use Rattle.secs_items.specs.View.{view};
+ghost use Rattle.secs_items.specs.Plain.{plain};
+ghost use Rattle.msgs_gem.specs.Primaries.{reading};
+ghost use Rattle.msgs_gem.specs.Acknowledge.{accepts};
+ghost use Rattle.msgs_gem.specs.Replies.{reply_body};
+ghost use Rattle.gem_model.specs.Direct.{by_comm, message_rows, establish_answer};
+ghost use Rattle.gem_model.specs.Verdict.{header_of, is_too_long, item_of, wants_reply, stream_of, function_of, is_message, may_establish, is_establish, first_rules, verdict, read_as, onlack, tiack, reply_to};
+ghost use Rattle.gem_model.specs.Act.{clock_set, written, replied, taken, closed_by, data_done};
+ghost use Rattle.transactions.specs.Endings.{answered};
+ghost use Rattle.tool_core.specs.Verdicts.{verdict_view, HasNext};
+ghost use Rattle.tool_core.specs.ShortReply.{IsShort};
+
+use crate::frames::reply_text;
+use crate::plant::Plant;
+use crate::rows::part;
+use gem_ids::{Moment, moment_of, time16};
+use gem_states::{Comm, CommTrigger, Control, ControlTrigger};
+use hsms_frame::{Arrival, Bytes, Header};
+use msgs_gem::{
+    BodyFault, GemMsg, GemReply, Identity, accepts_communication, is_ignored, read_gem,
+};
+use secs_items::{Item, read_one};
+use std::alloc::{AllocError, Global};
+use transactions::What;
+
+/// What a data message does: nothing; it is told by a message of stream 9 of this function; it is answered by function 0
+/// of its stream; it answers a transaction of the tool, if that is open; or it is taken.
+#[derive(Debug, Drop)]
+pub enum Verdict {
+    Discarded,
+    Stream9(u8),
+    Aborted,
+    Answers,
+    Taken(GemMsg),
+}
+
+/// The header of what arrived.
+pub fn header_of(arrival: &Arrival) -> Header
+    ensures { result ≡ header_of arrival.now }
+{
+    match arrival {
+        Arrival::Frame(frame) => frame.header,
+        Arrival::TooLong(header, _) => *header,
+    }
+}
+
+/// Whether the text of what arrived was too long to be taken.
+fn is_too_long(arrival: &Arrival) -> bool
+    ensures { result ≡ is_too_long arrival.now }
+{
+    matches!(arrival, Arrival::TooLong(_, _))
+}
+
+/// The text of what arrived as one item, where it is one.
+fn item_of(alloc: Global, arrival: &Arrival) -> Result<Option<Item>, AllocError>
+    ensures { IfOk result (λ item. option_map view item ≡ item_of arrival.now) }
+{
+    match arrival {
+        Arrival::Frame(frame) => read_one(alloc, frame.text.as_slice()),
+        Arrival::TooLong(_, _) => Ok(None),
+    }
+}
+
+/// Whether the W-bit asks for a reply.
+fn wants_reply(header: &Header) -> bool
+    ensures { result ≡ wants_reply header.now }
+{
+    header.byte2 >= 128
+}
+
+/// The stream of a message.
+fn stream_of(header: &Header) -> u8
+    ensures { result ≡ stream_of header.now }
+{
+    header.byte2 % 128
+}
+
+/// Whether it is a message of this stream and function.
+fn is_message(stream: u8, function: u8, header: &Header) -> bool
+    ensures { result ≡ is_message stream function header.now }
+{
+    stream_of(header) == stream && header.byte3 == function
+}
+
+/// What a message is read as.
+#[tactic(auto, using(crate::proofs::Functions::read_function))]
+fn read_message(alloc: Global, header: &Header, arrival: &Arrival) -> Result<Verdict, AllocError>
+    ensures verdict { IfOk result (λ verdict. verdict_view verdict ≡ read_as (reading (stream_of header.now) (function_of header.now) (item_of arrival.now))) }
+    ensures next { IfOk result (HasNext header.now) }
+{
+    let stream = stream_of(header);
+    let item = if is_ignored(stream, header.byte3) {
+        None
+    } else {
+        item_of(alloc, arrival)?
+    };
+    match read_gem(alloc, stream, header.byte3, item.as_ref()) {
+        Ok(message) => Ok(Verdict::Taken(message)),
+        Err(fault) => match fault {
+            BodyFault::UnknownStream => Ok(Verdict::Stream9(3)),
+            BodyFault::UnknownFunction => Ok(Verdict::Stream9(5)),
+            BodyFault::IllegalData => Ok(Verdict::Stream9(7)),
+            BodyFault::NoMemory => Err(AllocError),
+        },
+    }
+}
+
+/// Whether the text of what arrived is that of an S1F14 with COMMACK 0.
+fn accepts(alloc: Global, arrival: &Arrival) -> Result<bool, AllocError>
+    ensures { IfOk result (λ accepted. accepted ≡ accepts (item_of arrival.now)) }
+{
+    let item = item_of(alloc, arrival)?;
+    Ok(accepts_communication(item.as_ref()))
+}
+
+/// What an answer to the tool's S1F13 does: S1F14 with COMMACK 0 accepts, another S1F14 and S1F0 refuse.
+fn establish_answer(
+    alloc: Global,
+    header: &Header,
+    arrival: &Arrival,
+) -> Result<CommTrigger, AllocError>
+    ensures { IfOk result (λ trigger. trigger ≡ establish_answer (function_of header.now) (item_of arrival.now)) }
+{
+    if header.byte3 == 0 {
+        return Ok(CommTrigger::Refused);
+    }
+    if accepts(alloc, arrival)? {
+        Ok(CommTrigger::Accepted)
+    } else {
+        Ok(CommTrigger::Refused)
+    }
+}
+
+/// ONLACK: 0 in HOST OFF-LINE, 1 in EQUIPMENT OFF-LINE and ATTEMPT ON-LINE, 2 on-line.
+fn onlack(control: Control) -> u8
+    ensures { result ≡ onlack control }
+{
+    match control {
+        Control::HostOffline => 0,
+        Control::EquipmentOffline | Control::Attempt => 1,
+        Control::Local | Control::Remote => 2,
+    }
+}
+
+/// TIACK: 0 where the text is a moment, else 1.
+fn tiack(text: &[u8]) -> u8
+    ensures { result ≡ tiack text.now }
+{
+    if moment_in(text).is_some() { 0 } else { 1 }
+}
+
+/// The moment that a text of any length says, if it says one.
+fn moment_in(text: &[u8]) -> Option<Moment>
+    ensures { option_map (λ m. m.0) result ≡ moment_in text.now }
+{
+    match <&[u8; 16]>::try_from(text) {
+        Ok(digits) => moment_of(digits),
+        Err(_) => None,
+    }
+}
+
+impl Plant {
+    /// What the tool tells of itself.
+    fn identity(&self, alloc: Global) -> Result<Identity, AllocError>
+        ensures identity { IfOk result (λ tool. tool ≡ record { mdln = self.now.config.mdln; softrev = self.now.config.softrev }) }
+        ensures mdln { IfOk result (λ tool. IsText tool.mdln) }
+        ensures softrev { IfOk result (λ tool. IsText tool.softrev) }
+    {
+        Ok(Identity {
+            mdln: part(alloc, self.config.mdln)?,
+            softrev: part(alloc, self.config.softrev)?,
+        })
+    }
+
+    /// The text of the time that the host's clock shows.
+    fn time_text(&self, alloc: Global) -> Result<secs_items::Bytes, AllocError>
+        ensures digits { IfOk result (λ text. text ≡ time_digits (clock_now self.now)) }
+        ensures text { IfOk result IsText }
+    {
+        let digits = time16(self.clock_now());
+        Ok(secs_items::Bytes::from_vec(Vec::from_slice(alloc, &digits)?))
+    }
+
+    /// What a message is answered.
+    fn reply_to(&self, alloc: Global, message: &GemMsg) -> Result<GemReply, AllocError>
+        ensures reply { IfOk result (λ reply. reply ≡ reply_to self.now message.now) }
+        ensures short { IfOk result IsShort }
+    {
+        match message {
+            GemMsg::S1F1 => {
+                let Identity { mdln, softrev } = self.identity(alloc)?;
+                Ok(GemReply::S1F2(mdln, softrev))
+            }
+            GemMsg::S1F13 => Ok(GemReply::S1F14(self.identity(alloc)?)),
+            GemMsg::S1F15 => Ok(GemReply::S1F16),
+            GemMsg::S1F17 => Ok(GemReply::S1F18(onlack(self.control))),
+            GemMsg::S2F17 => Ok(GemReply::S2F18(self.time_text(alloc)?)),
+            GemMsg::S2F31(text) => Ok(GemReply::S2F32(tiack(text.as_slice()))),
+        }
+    }
+
+    /// Whether a message may establish communication: S1F13, or S1F14 or S1F0 that answers the tool's S1F13.
+    fn may_establish(&self, header: &Header) -> bool
+        ensures { result ≡ may_establish self.now header.now }
+    {
+        is_message(1, 13, header) || self.answers_establish(header)
+    }
+
+    /// Whether a message answers the tool's S1F13.
+    fn answers_establish(&self, header: &Header) -> bool
+        ensures { result ≡ is_establish (answered header.now.system (stream_of header.now) (function_of header.now) self.now.transactions.opened) }
+    {
+        match self
+            .transactions
+            .find(header.system, stream_of(header), header.byte3)
+        {
+            Some(one) => matches!(one.what, What::Establish),
+            None => false,
+        }
+    }
+
+    /// What a data message does by the rules that come before it is read.
+    fn first_rule(&self, header: &Header, too_long: bool) -> Option<Verdict>
+        ensures verdict { option_map verdict_view result ≡ choose (first_rules self.now header.now too_long) }
+        ensures next { IfSome result (HasNext header.now) }
+    {
+        let communicating = self.comm == Comm::Communicating;
+        let online = matches!(self.control, Control::Local | Control::Remote);
+        if self.comm == Comm::Disabled {
+            Some(Verdict::Discarded)
+        } else if !communicating && !self.may_establish(header) {
+            Some(Verdict::Discarded)
+        } else if header.session != self.config.device {
+            Some(Verdict::Stream9(1))
+        } else if too_long {
+            Some(Verdict::Stream9(11))
+        } else if stream_of(header) == 9 {
+            Some(Verdict::Discarded)
+        } else if header.byte3 % 2 == 0 {
+            Some(Verdict::Answers)
+        } else if !online && !(is_message(1, 13, header) || is_message(1, 17, header)) {
+            Some(Verdict::Aborted)
+        } else {
+            None
+        }
+    }
+
+    /// What a data message does.
+    fn verdict(&self, alloc: Global, arrival: &Arrival) -> Result<Verdict, AllocError>
+        ensures verdict { IfOk result (λ v. verdict_view v ≡ verdict self.now arrival.now) }
+        ensures next { IfOk result (HasNext (header_of arrival.now)) }
+    {
+        let header = header_of(arrival);
+        match self.first_rule(&header, is_too_long(arrival)) {
+            Some(verdict) => Ok(verdict),
+            None => read_message(alloc, &header, arrival),
+        }
+    }
+
+    /// The host's clock is set to this moment, where there is one.
+    fn set_clock(&mut self, shown: Option<Moment>)
+        ensures { self.new ≡ clock_set (option_map (λ m. m.0) shown) self.old }
+    {
+        if let Some(shown) = shown {
+            self.shown = shown;
+            self.shown_at = self.moment;
+        }
+    }
+
+    /// What a message writes: S2F31 sets the clock.
+    fn write(&mut self, message: &GemMsg)
+        ensures { self.new ≡ written message.now self.old }
+    {
+        if let GemMsg::S2F31(text) = message {
+            self.set_clock(moment_in(text.as_slice()));
+        }
+    }
+
+    /// The text of what a message is answered.
+    fn reply_text_to(&self, alloc: Global, message: &GemMsg) -> Result<Bytes, AllocError>
+        ensures text { IfOk result (λ text. text ≡ plain (reply_body (reply_to self.now message.now))) }
+        ensures short { IfOk result (λ text. length text ≤ 200) }
+    {
+        let reply = self.reply_to(alloc, message)?;
+        reply_text(alloc, &reply)
+    }
+
+    /// A message that is taken is answered, where a reply is wanted.
+    fn answer(&mut self, alloc: Global, header: &Header, message: &GemMsg) -> Result<(), AllocError>
+        requires { function_of header.now < 255 }
+        ensures { OnOk result (self.new ≡ replied header.now (function_of header.now + 1) (plain (reply_body (reply_to self.old message.now))) self.old) }
+    {
+        if !wants_reply(header) {
+            return Ok(());
+        }
+        let text = self.reply_text_to(alloc, message)?;
+        self.reply(
+            alloc,
+            stream_of(header),
+            header.byte3 + 1,
+            header.system,
+            text,
+        )
+    }
+
+    /// The direct rows of a message that is taken.
+    fn message_rows(&mut self, alloc: Global, message: &GemMsg) -> Result<(), AllocError>
+        ensures { OnOk result (self.new ≡ fires (message_rows message.now) self.old) }
+    {
+        match message {
+            GemMsg::S1F13 => self.by_comm(alloc, CommTrigger::HostS1F13),
+            GemMsg::S1F15 => self.by_control(alloc, ControlTrigger::HostS1F15),
+            GemMsg::S1F17 => self.by_control(alloc, ControlTrigger::HostS1F17),
+            GemMsg::S1F1 | GemMsg::S2F17 | GemMsg::S2F31(_) => Ok(()),
+        }
+    }
+
+    /// A message is taken: its reply, what it writes, and its direct rows.
+    fn take_message(
+        &mut self,
+        alloc: Global,
+        header: &Header,
+        message: &GemMsg,
+    ) -> Result<(), AllocError>
+        requires { function_of header.now < 255 }
+        ensures { OnOk result (self.new ≡ taken header.now message.now self.old) }
+    {
+        self.answer(alloc, header, message)?;
+        self.write(message);
+        self.message_rows(alloc, message)
+    }
+
+    /// What an answer to the tool's S1F13 does.
+    fn establish_answered(
+        &mut self,
+        alloc: Global,
+        header: &Header,
+        arrival: &Arrival,
+    ) -> Result<(), AllocError>
+        ensures { OnOk result (self.new ≡ fire_listed (by_comm (establish_answer (function_of header.now) (item_of arrival.now))) self.old) }
+    {
+        let trigger = establish_answer(alloc, header, arrival)?;
+        self.by_comm(alloc, trigger)
+    }
+
+    /// The transaction that a message answers is closed, and its rows fire. Without one nothing changes.
+    fn close(&mut self, alloc: Global, header: &Header, arrival: &Arrival) -> Result<(), AllocError>
+        ensures { OnOk result (self.new ≡ closed_by header.now (item_of arrival.now) (answered header.now.system (stream_of header.now) (function_of header.now) self.old.transactions.opened) self.old) }
+    {
+        let answered = self
+            .transactions
+            .answer(header.system, stream_of(header), header.byte3);
+        let Some(one) = answered else {
+            return Ok(());
+        };
+        match one.what {
+            What::Establish => self.establish_answered(alloc, header, arrival),
+            What::Attempt if header.byte3 == 0 => self.by_control(alloc, ControlTrigger::Failed),
+            What::Attempt => self.by_control(alloc, ControlTrigger::HostS1F2),
+            What::Note(_) => Ok(()),
+        }
+    }
+
+    /// Function 0 of the stream of a message, where a reply is wanted.
+    fn abort(&mut self, alloc: Global, header: &Header) -> Result<(), AllocError>
+        ensures { OnOk result (self.new ≡ replied header.now 0 [] self.old) }
+    {
+        if !wants_reply(header) {
+            return Ok(());
+        }
+        let text = Bytes::from_vec(Vec::new(alloc));
+        self.reply(alloc, stream_of(header), 0, header.system, text)
+    }
+
+    /// A data message of the host arrives.
+    pub fn data(&mut self, alloc: Global, arrival: &Arrival) -> Result<(), AllocError>
+        ensures { OnOk result (self.new ≡ data_done arrival.now self.old) }
+    {
+        let header = header_of(arrival);
+        match self.verdict(alloc, arrival)? {
+            Verdict::Discarded => Ok(()),
+            Verdict::Stream9(function) => self.send_stream9(alloc, function, header),
+            Verdict::Aborted => self.abort(alloc, &header),
+            Verdict::Answers => self.close(alloc, &header, arrival),
+            Verdict::Taken(message) => self.take_message(alloc, &header, &message),
+        }
+    }
+}

@@ -1,0 +1,311 @@
+//! The core: the plant and the history that led to it.
+ghost use Rattle.std.specs.Prelude.{ℕ, ◌≡◌, ◌≤◌, ◌+◌, ◌^◌, ◌<◌, ◌↔◌, [], ◌∷◌, ◌++◌, length, IsTrue, true, false, ◌&&◌, ◌||◌, not, nat_le, nat_lt, Some, None, Err, OnOk, OnErr, IfOk, IfSome, IsErrOf, if◌then◌else◌, vec_len, vec_capacity, slice_get, option_map};
+ghost use Rattle.std.specs.Option.{option_to_list};
+ghost use Rattle.tool_events.specs.declared.answer.PostFault.TheVariants as PostFault;
+ghost use Rattle.tool_events.specs.declared.event.SessionEnd.{SessionEnd};
+ghost use Rattle.tool_events.specs.Configs.{IsConfig};
+ghost use Rattle.tool_events.specs.Posts as posts;
+ghost use Rattle.tool_events.specs.Sizes.{event_bytes};
+ghost use Rattle.gem_model.specs.State.{opening, is_up, is_session_up};
+ghost use Rattle.gem_model.specs.Step.{Outcome, step};
+ghost use Rattle.gem_model.specs.Run.{Run};
+ghost use Rattle.gem_model.specs.Sessions.{session_count, session_end, session_out, frame_taken};
+ghost use Rattle.gem_model.specs.Sizes.{bytes_of, counted, is_full};
+ghost use Rattle.tool_core.specs.Counts.{count_of, taker};
+
+use crate::counts::SessionCounts;
+use crate::entries::Entries;
+use crate::plant::Plant;
+use gem_ids::Moment;
+use hsms_frame::Arrival;
+use std::alloc::{AllocError, Global};
+use std::marker::Model;
+use tool_events::{Answer, Config, Entry, Event, PostFault, SessionCause, SessionEnd};
+
+/// How much text an event holds, in bytes: that of a frame of the host. One that is too long holds none.
+fn event_bytes(event: &Event) -> u64
+    ensures value { result ≡ event_bytes event.now }
+    ensures short { result < 2 ^ 63 }
+{
+    match event {
+        Event::Host {
+            arrival: Arrival::Frame(frame),
+            ..
+        } => frame.text.as_slice().len() as u64,
+        _ => 0,
+    }
+}
+
+/// Adds the session that ended, where one did.
+fn add_end(ends: &mut Vec<SessionEnd>, ended: Option<SessionEnd>)
+    requires { vec_len ends.old < vec_capacity ends.old }
+    ensures { ends.new.items ≡ ends.old.items ++ option_to_list ended }
+{
+    if let Some(end) = ended {
+        ends.push_reserved(end);
+    }
+}
+
+/// The cause of the end at this place, where there is one.
+fn cause_at(ends: &[SessionEnd], place: usize) -> Option<SessionCause>
+    ensures { result ≡ option_map (λ (e : SessionEnd). e.cause) (slice_get ends.now place) }
+{
+    let end = ends.get(place)?;
+    Some(end.cause)
+}
+
+/// Makes room for the count of this session, where there is one.
+fn make_room(counts: &mut SessionCounts, session: Option<u64>) -> Result<(), AllocError>
+    ensures counts { (k : ℕ) → count_of counts.new k ≡ count_of counts.old k }
+    ensures room { OnOk result (IfSome session (λ k. k ≤ length counts.new)) }
+{
+    match session {
+        Some(session) => counts.make_room(session),
+        None => Ok(()),
+    }
+}
+
+/// Adds the bytes of a frame to the count of the session whose writer took it.
+fn add_taken(counts: &mut SessionCounts, event: &Event, answer: &Answer)
+    requires { IfSome (taker event.now answer.now) (λ session. (0 < session) × (session ≤ length counts.old)) }
+    ensures { (k n : ℕ) → count_of counts.old k ≡ counted n → count_of counts.new k ≡ counted (n + length (frame_taken event.now answer.now k)) }
+{
+    match (event, answer) {
+        (Event::Take { session }, Answer::Frame(frame)) => {
+            counts.add(*session, frame.as_slice().len() as u64);
+        }
+        _ => {}
+    }
+}
+
+/// The tool, with its history. Contracts see its configuration, the state that its history leads to, the history, and
+/// whether it can go on. The state is that of the plant while the core is whole.
+#[derive(Drop)]
+pub struct Core {
+    config: Config,
+    plant: Plant,
+    entries: Vec<Entry>,
+    ends: Vec<SessionEnd>,
+    written: SessionCounts,
+    bytes: u64,
+    sessions: u64,
+    is_up: bool,
+    is_whole: bool,
+}
+
+impl Model for Core {
+    ghost use Rattle.tool_core.specs.CoreView.{CoreView};
+
+    ghost Value = { CoreView };
+
+    ghost use Rattle.tool_core.specs.CoreInside.{state_of, Replays};
+
+    ghost view = { λ c. record { config = c.config; state = state_of c.config c.entries.items; history = c.entries.items; is_whole = c.is_whole } };
+
+    ghost invariant = { λ c. Replays c.config c.plant c.entries.items c.ends.items c.written c.bytes c.sessions c.is_up c.is_whole };
+}
+
+impl Core {
+    /// The core in its first state, with no history. The configuration keeps its bounds (docs/profile/configuration.md).
+    pub fn open(alloc: Global, config: &Config) -> Result<Core, AllocError>
+        requires { IsConfig config.now }
+        ensures { IfOk result (λ core. core ≡ record { config = config.now; state = opening config.now; history = []; is_whole = true }) }
+    {
+        Ok(Core {
+            config: *config,
+            plant: Plant::open(alloc, config)?,
+            entries: Vec::new(alloc),
+            ends: Vec::new(alloc),
+            written: SessionCounts::none(alloc),
+            bytes: 0,
+            sessions: 0,
+            is_up: false,
+            is_whole: true,
+        })
+    }
+
+    /// The history, the oldest entry first. It is a run from the first state, and within the limits.
+    pub fn history(&self) -> &[Entry]
+        ensures history { result.now ≡ self.now.history }
+        ensures run { Run (opening self.now.config) self.now.history self.now.state }
+        ensures entries_fit { length self.now.history ≤ self.now.config.max_entries }
+        ensures bytes_fit { bytes_of self.now.history ≤ self.now.config.max_bytes }
+    {
+        self.entries.as_slice()
+    }
+
+    /// Hands out the history. It is a run from the first state, and within the limits.
+    pub fn close(self) -> Entries
+        ensures history { result ≡ self.history }
+        ensures run { Run (opening self.config) self.history self.state }
+        ensures entries_fit { length self.history ≤ self.config.max_entries }
+        ensures bytes_fit { bytes_of self.history ≤ self.config.max_bytes }
+    {
+        let Core { entries, .. } = self;
+        Entries::from_vec(entries)
+    }
+
+    /// Whether the core can go on: false exactly where an event was answered `NoMemory`.
+    pub fn is_whole(&self) -> bool
+        ensures whole { result ≡ self.now.is_whole }
+    {
+        self.is_whole
+    }
+
+    /// The session that is up. Sessions are numbered from 1.
+    pub fn session_up(&self) -> Option<u64>
+        ensures session { result ≡ (if is_up self.now.state then Some self.now.state.link.session else None) }
+        ensures numbered { IfSome result (λ session. 0 < session) }
+    {
+        self.is_up.then_some(self.sessions)
+    }
+
+    /// Whether this session is up.
+    pub fn is_session_up(&self, session: u64) -> bool
+        ensures { result ≡ is_session_up self.now.state session }
+    {
+        self.is_up && self.sessions == session
+    }
+
+    /// Why a session ended. None: it is up, or never came.
+    pub fn session_end(&self, session: u64) -> Option<SessionCause>
+        ensures { result ≡ session_end (opening self.now.config) self.now.history session }
+    {
+        let ends = self.ends.as_slice();
+        if session == 0 {
+            return None;
+        }
+        cause_at(ends, (session - 1) as usize)
+    }
+
+    /// How many sessions came. They are numbered from 1.
+    pub fn session_count(&self) -> u64
+        ensures { result ≡ session_count (opening self.now.config) self.now.history }
+    {
+        self.sessions
+    }
+
+    /// How many bytes went out in a session: those of the frames that its writer took. The count stands still at the
+    /// greatest number of 64 bits. 0: nothing went out, or the session never came.
+    pub fn session_bytes(&self, session: u64) -> u64
+        ensures { result ≡ counted (length (session_out (opening self.now.config) self.now.history session)) }
+    {
+        self.written.of(session)
+    }
+
+    /// How much text the history holds, in bytes.
+    pub fn bytes(&self) -> u64
+        ensures { result ≡ bytes_of self.now.history }
+    {
+        self.bytes
+    }
+
+    /// Whether an event has to wait that is posted at this moment. The core is whole.
+    pub fn idle(&self, at: Moment, event: &Event) -> bool
+        requires { self.now.is_whole ≡ true }
+        ensures { IsTrue result ↔ (step self.now.state at.0 event.now ≡ None) }
+    {
+        self.plant.must_wait(at, event)
+    }
+
+    /// Whether the history takes no event with so much text, in bytes, any more.
+    fn is_full(&self, bytes: u64) -> bool
+        requires { bytes < 2 ^ 63 }
+        ensures { result ≡ (nat_le self.now.config.max_entries (length self.now.history) || nat_lt self.now.config.max_bytes (bytes_of self.now.history + bytes)) }
+    {
+        self.entries.len() as u64 >= self.config.max_entries
+            || self.bytes + bytes > self.config.max_bytes
+    }
+
+    /// Answers an event for which there is room, and adds it to the history.
+    fn record(
+        &mut self,
+        alloc: Global,
+        seat: u32,
+        at: Moment,
+        event: Event,
+    ) -> Result<Answer, PostFault>
+        requires room { is_full self.old.config self.old.history event ≡ false }
+        requires whole { self.old.is_whole ≡ true }
+        ensures step { IfOk result (λ answer. (o : Outcome) × (step self.old.state at.0 event ≡ Some o)
+            × (o.answer ≡ answer) × (self.new.state ≡ o.after)) }
+        ensures entry { OnOk result (self.new.history
+            ≡ self.old.history ++ record { seat = seat; at = at; event = event } ∷ []) }
+        ensures again { IsErrOf result PostFault.Again → step self.old.state at.0 event ≡ None }
+        ensures waits { step self.old.state at.0 event ≡ None → result ≡ Err PostFault.Again }
+        ensures not_full { posts.is_full result ≡ false }
+        ensures unchanged { OnErr result (self.new ≡ record self.old { is_whole = self.new.is_whole }) }
+        ensures config { self.new.config ≡ self.old.config }
+        ensures whole { posts.is_want result ≡ false → self.new.is_whole ≡ true }
+    {
+        // Asked first, so that want of memory is not told of an event that has to wait.
+        if self.plant.must_wait(at, &event) {
+            return Err(PostFault::Again);
+        }
+        let Ok(()) = self.entries.reserve(1) else {
+            return Err(PostFault::NoMemory);
+        };
+        let Ok(()) = self.ends.reserve(1) else {
+            return Err(PostFault::NoMemory);
+        };
+        let up = self.session_up();
+        let Ok(()) = make_room(&mut self.written, up) else {
+            return Err(PostFault::NoMemory);
+        };
+        // What an event that finds no memory leaves of the plant counts for nothing.
+        self.is_whole = false;
+        let Ok(reacted) = self.plant.react(alloc, at, &event) else {
+            return Err(PostFault::NoMemory);
+        };
+        let Some(reaction) = reacted else {
+            return Err(PostFault::Again);
+        };
+        add_taken(&mut self.written, &event, &reaction.answer);
+        self.bytes += event_bytes(&event);
+        self.sessions = self.plant.session_count();
+        self.is_up = self.plant.is_up();
+        self.entries.push_reserved(Entry { seat, at, event });
+        add_end(&mut self.ends, reaction.ended);
+        self.is_whole = true;
+        Ok(reaction.answer)
+    }
+
+    /// Takes an event that this seat posts at this moment, answers it, and adds it to the history. `Full`: the history
+    /// takes no more entries, or not so much text. `Again`: the event has to wait, which takes no memory. After want of
+    /// memory the history is as before, and every later event that is not answered `Full` is answered `NoMemory`.
+    pub fn apply(
+        &mut self,
+        alloc: Global,
+        seat: u32,
+        at: Moment,
+        event: Event,
+    ) -> Result<Answer, PostFault>
+        ensures step { IfOk result (λ answer. (o : Outcome) × (step self.old.state at.0 event ≡ Some o)
+            × (o.answer ≡ answer) × (self.new.state ≡ o.after)) }
+        ensures entry { OnOk result (self.new.history
+            ≡ self.old.history ++ record { seat = seat; at = at; event = event } ∷ []) }
+        ensures full { posts.is_full result ≡ is_full self.old.config self.old.history event }
+        ensures full_entries { (n : ℕ) → IsErrOf result (PostFault.Full n) → n ≡ length self.old.history }
+        ensures not_whole { self.old.is_whole ≡ false → is_full self.old.config self.old.history event ≡ false → result ≡ Err PostFault.NoMemory }
+        ensures again { IsErrOf result PostFault.Again → step self.old.state at.0 event ≡ None }
+        ensures waits { self.old.is_whole ≡ true → is_full self.old.config self.old.history event ≡ false → step self.old.state at.0 event ≡ None → result ≡ Err PostFault.Again }
+        ensures config { self.new.config ≡ self.old.config }
+        ensures whole { self.new.is_whole ≡ (self.old.is_whole && not (posts.is_want result)) }
+        ensures unchanged { OnErr result (self.new ≡ record self.old { is_whole = self.new.is_whole }) }
+        // The history is a run from the first state, before the call and after it.
+        ensures ran { Run (opening self.old.config) self.old.history self.old.state }
+        ensures run { Run (opening self.new.config) self.new.history self.new.state }
+    {
+        if self.is_full(event_bytes(&event)) {
+            return Err(PostFault::Full(self.entries.len() as u64));
+        }
+        if !self.is_whole {
+            return Err(PostFault::NoMemory);
+        }
+        let answer = self.record(alloc, seat, at, event);
+        if matches!(answer, Err(PostFault::NoMemory)) {
+            self.is_whole = false;
+        }
+        answer
+    }
+}

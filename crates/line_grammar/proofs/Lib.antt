@@ -5,3 +5,4 @@ pub mod Engine
 pub mod Unique
 pub mod Public
 pub mod Watch
+pub mod OnLiterals

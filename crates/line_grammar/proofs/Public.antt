@@ -1,7 +1,7 @@
 -- What is computed of a text is exactly what the grammar relates.
-use Rattle.std.proofs.Common.{◌≡◌, ◌≢◌, ℕ, ◌-◌, zero, List, [], ◌∷◌, length, max, nat_lt, refl, sym, ◌∙◌, ap, subst, Result, Ok, Err, arith}
+use Rattle.std.proofs.Common.{◌≡◌, ℕ, List, length, subst, Result, Ok, Err, arith}
 use Rattle.line_grammar.specs.Grammar.{Grammar, Says, LeavesAt, ReadAs, Reads}
-use Rattle.line_grammar.specs.Reading.{read, Gives, either_of}
+use Rattle.line_grammar.specs.Reading.{read, Gives}
 use Rattle.line_grammar.specs.Lines.{operator_words, service_words, access_words, job_word, job_words, control_job_words, up_words, clear_words, lost_words, all_lines, feed_lines, script_lines, common_lines, link_lines, watch_line, skipped_line, moment_line, signal_line, placed_line, done_line, failed_line, removed_line, down_line, operator_line, hex_line}
 use Rattle.line_grammar.specs.declared.line.LineFault.{LineFault}
 use Rattle.line_grammar.specs.declared.line.LineFault.TheVariants as fault

@@ -1,10 +1,9 @@
 -- Lines that begin with W.
-use Rattle.std.proofs.Common.{◌≡◌, ◌≢◌, ℕ, ◌-◌, ◌==◌, nat_eq, true, false, List, [], ◌∷◌, length, codes, max, inl, inr, refl, sym, ap, Result, Ok, Err, arith}
-use Rattle.std.proofs.lemmas.Bool.{cases_eq, eq-eqb, ne_eqb}
+use Rattle.std.proofs.Common.{◌≡◌, ℕ, ◌-◌, nat_eq, true, false, List, [], ◌∷◌, length, codes, max, inl, inr, refl, sym, ap, Result, Ok, Err, arith}
+use Rattle.std.proofs.lemmas.Bool.{cases_eq, ne_eqb}
 use Rattle.std.specs.List.{starts_with}
 use Rattle.line_grammar.specs.Reading.{read, either_of, end_at, literal_at}
-use Rattle.line_grammar.specs.Lines.{operator_words, service_words, access_words, job_word, job_words, control_job_words, up_words, clear_words, lost_words, all_lines, feed_lines, common_lines, link_lines, watch_line, skipped_line, moment_line, signal_line, placed_line, done_line, failed_line, removed_line, down_line, operator_line, hex_line}
-use Rattle.line_grammar.specs.declared.line.Line.{Line}
+use Rattle.line_grammar.specs.Lines.{all_lines, feed_lines, common_lines, link_lines, watch_line, skipped_line, moment_line, signal_line, placed_line, done_line, failed_line, removed_line, down_line, operator_line, hex_line}
 
 -- a reading that fails at place 0 adds nothing
 nothing_added : {V : Type 0} (r : Result V ℕ) → either_of r (Err 0) ≡ r

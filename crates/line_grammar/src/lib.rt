@@ -10,6 +10,7 @@ mod kind;
 pub mod laws;
 mod line;
 mod out_line;
+pub mod worked;
 
 pub use kind::WordKind;
 pub use line::{Line, LineFault};

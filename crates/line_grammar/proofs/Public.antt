@@ -2,7 +2,7 @@
 use Rattle.std.proofs.Common.{◌≡◌, ℕ, List, length, subst, Result, Ok, Err, arith}
 use Rattle.line_grammar.specs.Grammar.{Grammar, Says, LeavesAt, ReadAs, Reads}
 use Rattle.line_grammar.specs.Reading.{read, Gives}
-use Rattle.line_grammar.specs.Lines.{operator_words, service_words, access_words, job_word, job_words, control_job_words, up_words, clear_words, lost_words, all_lines, feed_lines, script_lines, common_lines, link_lines, watch_line, skipped_line, moment_line, signal_line, placed_line, done_line, failed_line, removed_line, down_line, operator_line, hex_line}
+use Rattle.line_grammar.specs.Lines.{operator_words, service_words, access_words, job_word, job_words, control_job_words, up_words, clear_words, lost_words, all_lines, feed_lines, script_lines, common_lines, link_lines, watch_line, skipped_line, comment_line, moment_line, signal_line, placed_line, done_line, failed_line, removed_line, down_line, operator_line, hex_line}
 use Rattle.line_grammar.specs.declared.line.LineFault.{LineFault}
 use Rattle.line_grammar.specs.declared.line.LineFault.TheVariants as fault
 use Rattle.line_grammar.proofs.Exact.{Exact}
@@ -36,7 +36,7 @@ unfolding operator_words service_words access_words job_word job_words control_j
 operators_clear = search
 
 pub all_lines_clear : Clear all_lines
-unfolding all_lines feed_lines common_lines link_lines watch_line skipped_line moment_line signal_line placed_line done_line failed_line removed_line down_line operator_line hex_line operator_words service_words access_words job_word job_words control_job_words up_words clear_words lost_words
+unfolding all_lines feed_lines common_lines link_lines watch_line skipped_line comment_line moment_line signal_line placed_line done_line failed_line removed_line down_line operator_line hex_line operator_words service_words access_words job_word job_words control_job_words up_words clear_words lost_words
 all_lines_clear = search
 
 pub feed_lines_clear : Clear feed_lines
@@ -44,5 +44,5 @@ unfolding all_lines
 feed_lines_clear = all_lines_clear.1
 
 pub script_lines_clear : Clear script_lines
-unfolding script_lines common_lines watch_line skipped_line signal_line placed_line done_line failed_line removed_line down_line operator_line operator_words service_words access_words job_word job_words control_job_words up_words clear_words lost_words
+unfolding script_lines common_lines watch_line skipped_line comment_line signal_line placed_line done_line failed_line removed_line down_line operator_line operator_words service_words access_words job_word job_words control_job_words up_words clear_words lost_words
 script_lines_clear = search

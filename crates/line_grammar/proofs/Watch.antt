@@ -3,7 +3,7 @@ use Rattle.std.proofs.Common.{◌≡◌, ℕ, ◌-◌, nat_eq, true, false, List
 use Rattle.std.proofs.lemmas.Bool.{cases_eq, ne_eqb}
 use Rattle.std.specs.List.{starts_with}
 use Rattle.line_grammar.specs.Reading.{read, either_of, end_at, literal_at}
-use Rattle.line_grammar.specs.Lines.{all_lines, feed_lines, common_lines, link_lines, watch_line, skipped_line, moment_line, signal_line, placed_line, done_line, failed_line, removed_line, down_line, operator_line, hex_line}
+use Rattle.line_grammar.specs.Lines.{all_lines, feed_lines, common_lines, link_lines, watch_line, skipped_line, comment_line, moment_line, signal_line, placed_line, done_line, failed_line, removed_line, down_line, operator_line, hex_line}
 
 -- a reading that fails at place 0 adds nothing
 nothing_added : {V : Type 0} (r : Result V ℕ) → either_of r (Err 0) ≡ r
@@ -24,7 +24,7 @@ unfolding all_lines
 other line not = rw (not_watched line not) (sym (nothing_added (read feed_lines (length line) line)))
 
 at_front : (total : ℕ) (bs : List ℕ) → total - length (87 ∷ bs) ≡ 0 → read feed_lines total (87 ∷ bs) ≡ Err 0
-unfolding end_at literal_at feed_lines common_lines link_lines skipped_line moment_line signal_line placed_line done_line failed_line removed_line down_line operator_line hex_line
+unfolding end_at literal_at feed_lines common_lines link_lines skipped_line comment_line moment_line signal_line placed_line done_line failed_line removed_line down_line operator_line hex_line
 at_front total bs same = rw same refl
 
 pub watch : (line : List ℕ) → starts_with nat_eq line (codes "W") ≡ true → read feed_lines (length line) line ≡ Err 0

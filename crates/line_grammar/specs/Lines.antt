@@ -118,9 +118,13 @@ down_line = literal (codes "S down ") >> last (number 255) (λ m. signal.Down (r
 
 -- ---- the lines
 
--- nothing, or `#` and anything behind it (this tool's profile, input lines)
+-- `#` and anything behind it (this tool's profile, input lines)
+unfoldable pub comment_line : Grammar Line
+comment_line = literal (codes "#") >> anything line.Skip
+
+-- the empty line, and a comment, which say nothing (this tool's profile, input lines)
 unfoldable pub skipped_line : Grammar Line
-skipped_line = gives line.Skip or (literal (codes "#") >> anything line.Skip)
+skipped_line = gives line.Skip or comment_line
 
 -- `T n`: a look at the clock, at a moment up to the last (this tool's profile, input lines)
 unfoldable pub moment_line : Grammar Line

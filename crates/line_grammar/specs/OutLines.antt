@@ -64,12 +64,12 @@ task_words (task.Process sub recipe) = codes "process " ++ sub ++ codes " " ++ r
 
 -- `! m n TASK`: command n of module m (this tool's profile, output lines)
 abbrev pub command_line : ℕ → Command → List ℕ
-command_line for_module command = ended_line (codes "! " ++ decimal for_module ++ codes " " ++ decimal command.number.0 ++ codes " " ++ task_words command.task)
+command_line «module» command = ended_line (codes "! " ++ decimal «module» ++ codes " " ++ decimal command.number.0 ++ codes " " ++ task_words command.task)
 
 -- an output line, with its line feed (this tool's profile, output lines)
 abbrev pub out_line_bytes : OutLine → List ℕ
 out_line_bytes (out_line.Up k) = up_line k
 out_line_bytes (out_line.Ended k cause) = end_line k cause
 out_line_bytes (out_line.Frame frame) = frame_line frame
-out_line_bytes (out_line.Command for_module command) = command_line for_module.0 command
+out_line_bytes (out_line.Command «module» command) = command_line «module».0 command
 out_line_bytes (out_line.Oper accepted) = oper_line accepted

@@ -1,11 +1,13 @@
 -- What is computed of a text is exactly what the grammar relates.
-use Rattle.std.proofs.Common.{◌≡◌, ℕ, List, length, subst, Result, Ok, Err, arith}
+use Rattle.std.proofs.Common.{◌≡◌, ◌<◌, ◌≤◌, ℕ, List, length, refl, sym, subst, Result, Ok, Err, arith}
 use Rattle.line_grammar.specs.Grammar.{Grammar, Says, LeavesAt, ReadAs, Reads}
-use Rattle.line_grammar.specs.Reading.{read, Gives}
+use Rattle.line_grammar.specs.Reading.{read, Gives, line_bytes, feed_line_of}
 use Rattle.line_grammar.specs.Lines.{operator_words, service_words, access_words, job_word, job_words, control_job_words, up_words, clear_words, lost_words, all_lines, feed_lines, script_lines, common_lines, link_lines, watch_line, skipped_line, comment_line, moment_line, signal_line, placed_line, done_line, failed_line, removed_line, down_line, operator_line, hex_line}
+use Rattle.line_grammar.specs.declared.line.Line.{Line}
 use Rattle.line_grammar.specs.declared.line.LineFault.{LineFault}
 use Rattle.line_grammar.specs.declared.line.LineFault.TheVariants as fault
 use Rattle.line_grammar.proofs.Exact.{Exact}
+use Rattle.std.proofs.lemmas.Bool.{lt-ltb, le-ltb}
 use Rattle.line_grammar.proofs.Engine.{exact}
 use Rattle.line_grammar.proofs.Unique.{Clear, unique}
 
@@ -46,3 +48,21 @@ feed_lines_clear = all_lines_clear.1
 pub script_lines_clear : Clear script_lines
 unfolding script_lines common_lines watch_line skipped_line comment_line signal_line placed_line done_line failed_line removed_line down_line operator_line operator_words service_words access_words job_word job_words control_job_words up_words clear_words lost_words
 script_lines_clear = search
+
+-- a line that is too long leaves at the limit
+pub long_line : (line : List ℕ) → line_bytes < length line → feed_line_of line ≡ Err line_bytes
+unfolding feed_line_of
+long_line line long = rw (lt-ltb line_bytes (length line) long) refl
+
+-- any other is read by the lines that `feed` takes
+pub short_line : (line : List ℕ) → length line ≤ line_bytes → feed_line_of line ≡ read feed_lines (length line) line
+unfolding feed_line_of
+short_line line short = rw (le-ltb line_bytes (length line) short) refl
+
+-- a reader over all of such a line gives what the line says to `feed`
+pub gives_fed : (line rest : List ℕ) (total : ℕ) (r : Result Line LineFault) → length line ≤ line_bytes → total ≡ length line → rest ≡ line →
+    Gives r (read feed_lines total rest) → Gives r (feed_line_of line)
+gives_fed line rest total r short all here gives =
+    let whole : Gives r (read feed_lines (length line) line) =
+    subst (λ (n : ℕ). Gives r (read feed_lines n line)) all (subst (λ (t : List ℕ). Gives r (read feed_lines total t)) here gives) in
+    subst (λ (s : Result Line ℕ). Gives r s) (sym (short_line line short)) whole

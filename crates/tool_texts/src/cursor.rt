@@ -7,7 +7,7 @@ ghost use Rattle.line_grammar.specs.Words.{run, least, most, has, hex_digit};
 use crate::kind::{has, least, most};
 use gem_ids::Text80;
 use hsms_frame::Bytes;
-use line_grammar::{LineFault, LineFault, WordKind, WordKind};
+use line_grammar::{LineFault, WordKind};
 use std::alloc::Global;
 
 /// What is left of a line.

@@ -4,7 +4,7 @@ use crate::{
 use gem_ids::{
     CarrierId, CmdNo, JobId, LocId, ModuleId, Moment, PortNo, SlotNo, SubstrateId, Text80,
 };
-use hsms_frame::Bytes;
+use hsms_frame::{Bytes, NoMemory};
 use tool_events::{Command, JobWord, OperCmd, SessionCause, Signal, Task};
 
 // Where `feed` refuses the line; none where it takes it.
@@ -348,33 +348,43 @@ fn a_line_of_six_hundred_thousand_bytes_is_read_and_no_longer_one(rt: HostRuntim
 }
 
 // The line as it is printed, behind a byte that stood there.
-fn printed(rt: &HostRuntime, line: &OutLine) -> Vec<u8> {
-    let mut out = vec![in rt.alloc(); b'|'].expect(rt, "memory");
-    print_out_line(rt.alloc(), line, &mut out).expect(rt, "memory");
-    out
+fn printed(rt: &HostRuntime, line: &OutLine) -> Result<Vec<u8>, NoMemory> {
+    let mut out = Vec::from_slice(rt.alloc(), b"|")?;
+    print_out_line(rt.alloc(), line, &mut out)?;
+    Ok(out)
 }
 
 #[test]
 fn lines_of_sessions_frames_and_operators_are_printed(rt: HostRuntime) {
     assert_eq!(rt;
-        printed(&rt, &OutLine::Up(18_446_744_073_709_551_615)).as_slice(),
+        printed(&rt, &OutLine::Up(18_446_744_073_709_551_615))
+            .expect(&rt, "memory")
+            .as_slice(),
         b"|+ 18446744073709551615\n".as_slice()
     );
     assert_eq!(rt;
-        printed(&rt, &OutLine::Ended(12, SessionCause::ShortLength)).as_slice(),
+        printed(&rt, &OutLine::Ended(12, SessionCause::ShortLength))
+            .expect(&rt, "memory")
+            .as_slice(),
         b"|- 12 ShortLength\n".as_slice()
     );
     let frame = vec![in rt.alloc(); 10, 255].expect(&rt, "memory");
     assert_eq!(rt;
-        printed(&rt, &OutLine::Frame(Bytes::from_vec(frame))).as_slice(),
+        printed(&rt, &OutLine::Frame(Bytes::from_vec(frame)))
+            .expect(&rt, "memory")
+            .as_slice(),
         b"|> 0AFF\n".as_slice()
     );
     assert_eq!(rt;
-        printed(&rt, &OutLine::Oper(true)).as_slice(),
+        printed(&rt, &OutLine::Oper(true))
+            .expect(&rt, "memory")
+            .as_slice(),
         b"|= ok\n".as_slice()
     );
     assert_eq!(rt;
-        printed(&rt, &OutLine::Oper(false)).as_slice(),
+        printed(&rt, &OutLine::Oper(false))
+            .expect(&rt, "memory")
+            .as_slice(),
         b"|= no\n".as_slice()
     );
 }
@@ -431,7 +441,9 @@ fn commands_are_printed(rt: HostRuntime) {
             task,
         };
         assert_eq!(rt;
-            printed(&rt, &OutLine::Command(ModuleId(3), command)).as_slice(),
+            printed(&rt, &OutLine::Command(ModuleId(3), command))
+                .expect(&rt, "memory")
+                .as_slice(),
             line
         );
     }
@@ -440,7 +452,7 @@ fn commands_are_printed(rt: HostRuntime) {
 #[test]
 fn a_long_frame_is_printed(rt: HostRuntime) {
     let frame = vec![in rt.alloc(); 171; 262_158].expect(&rt, "memory");
-    let line = printed(&rt, &OutLine::Frame(Bytes::from_vec(frame)));
+    let line = printed(&rt, &OutLine::Frame(Bytes::from_vec(frame))).expect(&rt, "memory");
     assert_eq!(rt; line.len(), 524_320);
     assert_eq!(rt; line[524_318], b'B');
     assert_eq!(rt; line[524_319], b'\n');

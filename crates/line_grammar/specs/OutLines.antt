@@ -48,7 +48,7 @@ end_line k cause = ended_line (codes "- " ++ decimal k ++ codes " " ++ cause_wor
 abbrev pub two_digits : ℕ → List ℕ
 two_digits n = if nat_lt n 10 then codes "0" ++ decimal n else decimal n
 
--- the name of a location: `P1.01` is slot 1 at port 1, `C1` chamber 1 (this tool's profile, object names)
+-- the name of a location: `P1.01` is slot 1 at port 1, `C1` chamber 1 (this tool's profile, output lines)
 abbrev pub location_name : LocId → List ℕ
 location_name (loc.Slot port slot) = codes "P" ++ decimal port.0 ++ codes "." ++ two_digits slot.0
 location_name loc.Aligner = codes "AL"

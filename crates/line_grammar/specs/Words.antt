@@ -5,7 +5,7 @@ use Rattle.std.specs.Char.{is_ascii_digit}
 use Rattle.line_grammar.specs.declared.kind.WordKind.{WordKind}
 use Rattle.line_grammar.specs.declared.kind.WordKind.TheVariants as kind
 
--- what decimal digits stand for
+-- what decimal digits stand for (this tool's profile, input lines)
 abbrev pub decimal_value : List ℕ → ℕ
 decimal_value digits = fold (λ n digit. 10 * n + (digit - 48)) 0 digits
 
@@ -15,26 +15,26 @@ is_number [] = false
 is_number (b ∷ []) = is_ascii_digit b
 is_number (b ∷ c ∷ digits) = not (b == 48) && list_all is_ascii_digit (b ∷ c ∷ digits)
 
--- the least length of such a word (this tool's profile, names)
+-- the least length of such a word (this tool's profile, input lines)
 abbrev pub least : WordKind → ℕ
 least kind.Name = 1
 least kind.Substrate = 4
 least kind.SlotMap = 25
 
--- the greatest length of such a word (this tool's profile, names)
+-- the greatest length of such a word (this tool's profile, input lines)
 abbrev pub most : WordKind → ℕ
 most kind.Name = 64
 most kind.Substrate = 67
 most kind.SlotMap = 25
 
 -- whether such a word may have the byte: names print and have no space, the digits of a slot map are 0 to 5 (this tool's
--- profile, names and slot maps)
+-- profile, input lines)
 abbrev pub has : WordKind → ℕ → Bool
 has kind.Name b = nat_le 33 b && nat_le b 126
 has kind.Substrate b = nat_le 33 b && nat_le b 126
 has kind.SlotMap b = nat_le 48 b && nat_le b 53
 
--- what a hex digit of either case stands for
+-- what a hex digit of either case stands for (this tool's profile, input lines)
 abbrev pub hex_digit : ℕ → Option ℕ
 hex_digit b = if nat_le 48 b && nat_le b 57 then Some (b - 48)
     else (if nat_le 65 b && nat_le b 70 then Some (b - 55)

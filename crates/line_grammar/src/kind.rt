@@ -1,4 +1,4 @@
-/// What a word of plain bytes names (this tool's profile, names and slot maps).
+/// What a word of plain bytes names (this tool's profile, input lines).
 #[derive(Clone, Copy, Debug, PartialEq, Eq)]
 pub enum WordKind {
     /// A carrier or a job: 1 to 64 bytes, 33 to 126.

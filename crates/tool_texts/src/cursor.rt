@@ -181,12 +181,12 @@ fn hex_digit(b: u8) -> Option<u8>
     ensures value { result ≡ hex_digit b }
     ensures small { IfSome result (λ v. v < 16) }
 {
-    if 48 <= b && b <= 57 {
-        Some(b - 48)
-    } else if 65 <= b && b <= 70 {
-        Some(b - 55)
-    } else if 97 <= b && b <= 102 {
-        Some(b - 87)
+    if b'0' <= b && b <= b'9' {
+        Some(b - b'0')
+    } else if b'A' <= b && b <= b'F' {
+        Some(b - b'A' + 10)
+    } else if b'a' <= b && b <= b'f' {
+        Some(b - b'a' + 10)
     } else {
         None
     }

@@ -327,9 +327,21 @@ fn words_with_a_name_are_read(rt: HostRuntime) {
     }
     let substrate = SubstrateId::read(Text80::read(b"C.01").unwrap()).unwrap();
     assert_eq!(rt; read_operator(b"lost C.01"), Ok(OperCmd::Lost(substrate)));
+}
+
+// The job whose name is 64 times `A`.
+fn longest_name() -> Option<JobId> {
+    JobId::read(Text80::read(&[b'A'; 64]).ok()?)
+}
+
+#[test]
+fn a_name_of_sixty_four_bytes_is_read(rt: HostRuntime) {
     let longest = b"pj stop AAAAAAAAAAAAAAAAAAAAAAAAAAAAAAAAAAAAAAAAAAAAAAAAAAAAAAAAAAAAAAAA";
-    let id = JobId::read(Text80::read(&[b'A'; 64]).unwrap()).unwrap();
-    assert_eq!(rt; read_operator(longest), Ok(OperCmd::Job(id, JobWord::Stop)));
+    assert!(rt; longest_name().is_some());
+    assert_eq!(rt;
+        read_operator(longest).ok(),
+        longest_name().map(|id| OperCmd::Job(id, JobWord::Stop))
+    );
 }
 
 #[test]

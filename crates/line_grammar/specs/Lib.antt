@@ -1,0 +1,5 @@
+pub mod Words
+pub mod Grammar
+pub mod Lines
+pub mod Reading
+pub mod OutLines

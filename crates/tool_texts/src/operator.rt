@@ -1,0 +1,159 @@
+//! The words of an operator.
+ghost use Rattle.std.specs.Prelude.{◌≡◌, ℕ};
+ghost use Rattle.line_grammar.specs.Grammar.{says};
+ghost use Rattle.line_grammar.specs.Reading.{read, either_of};
+ghost use Rattle.line_grammar.specs.Lines.{service_words, access_words, job_word, job_words, control_job_words, up_words, clear_words, lost_words, operator_words};
+
+use crate::cursor::Cursor;
+use gem_ids::{JobId, ModuleId, PortNo, SubstrateId};
+use line_grammar::WordKind;
+use tool_events::{JobWord, OperCmd};
+
+// What one reading or the other gives, and the farther place where both fail.
+pub(crate) fn either<T: Drop>(one: Result<T, usize>, other: Result<T, usize>) -> Result<T, usize>
+    ensures { result ≡ either_of one other }
+{
+    match (one, other) {
+        (Ok(value), _) => Ok(value),
+        (Err(_), Ok(value)) => Ok(value),
+        (Err(place), Err(farther)) => Err(place.max(farther)),
+    }
+}
+
+// The same, of values that are copied.
+pub(crate) fn either_copied<T: Copy>(
+    one: Result<T, usize>,
+    other: Result<T, usize>,
+) -> Result<T, usize>
+    ensures { result ≡ either_of one other }
+{
+    match one {
+        Ok(value) => Ok(value),
+        Err(place) => match other {
+            Ok(value) => Ok(value),
+            Err(farther) => Err(place.max(farther)),
+        },
+    }
+}
+
+// These very bytes, and no more, say the value.
+pub(crate) fn says<T: Drop>(mut text: Cursor, words: &[u8], value: T) -> Result<T, usize>
+    ensures { result ≡ read (says words.now value) text.entry.total text.entry.rest.now }
+{
+    text.literal(words)?;
+    text.end()?;
+    Ok(value)
+}
+
+// `service p in` and `service p out`.
+#[tactic(auto, unfolding(line_grammar::specs::Lines::service_words))]
+fn service(mut text: Cursor) -> Result<OperCmd, usize>
+    ensures { result ≡ read service_words text.entry.total text.entry.rest.now }
+{
+    text.literal(b"service ")?;
+    let port = PortNo(text.word().number(255)? as u8);
+    text.literal(b" ")?;
+    either(
+        says(text, b"in", OperCmd::Service(port, true)),
+        says(text, b"out", OperCmd::Service(port, false)),
+    )
+}
+
+// `access p auto` and `access p manual`.
+#[tactic(auto, unfolding(line_grammar::specs::Lines::access_words))]
+fn access(mut text: Cursor) -> Result<OperCmd, usize>
+    ensures { result ≡ read access_words text.entry.total text.entry.rest.now }
+{
+    text.literal(b"access ")?;
+    let port = PortNo(text.word().number(255)? as u8);
+    text.literal(b" ")?;
+    either(
+        says(text, b"auto", OperCmd::Access(port, true)),
+        says(text, b"manual", OperCmd::Access(port, false)),
+    )
+}
+
+// `up m`.
+#[tactic(auto, unfolding(line_grammar::specs::Lines::up_words))]
+fn up(mut text: Cursor) -> Result<OperCmd, usize>
+    ensures { result ≡ read up_words text.entry.total text.entry.rest.now }
+{
+    text.literal(b"up ")?;
+    Ok(OperCmd::Up(ModuleId(text.number(255)? as u8)))
+}
+
+// `clear n`.
+#[tactic(auto, unfolding(line_grammar::specs::Lines::clear_words))]
+fn clear(mut text: Cursor) -> Result<OperCmd, usize>
+    ensures { result ≡ read clear_words text.entry.total text.entry.rest.now }
+{
+    text.literal(b"clear ")?;
+    Ok(OperCmd::Clear(text.number(4_294_967_295)? as u32))
+}
+
+// A word to a process job, and the job's name behind it.
+#[tactic(auto, unfolding(line_grammar::specs::Lines::job_word))]
+fn tell(mut text: Cursor, verb: &[u8], word: JobWord) -> Result<OperCmd, usize>
+    ensures { result ≡ read (job_word verb.now word) text.entry.total text.entry.rest.now }
+{
+    text.literal(verb)?;
+    let id = JobId::read(text.run(WordKind::Name)?).unwrap();
+    Ok(OperCmd::Job(id, word))
+}
+
+// `pj WORD JOB`.
+#[tactic(auto, unfolding(line_grammar::specs::Lines::job_words))]
+fn job(mut text: Cursor) -> Result<OperCmd, usize>
+    ensures { result ≡ read job_words text.entry.total text.entry.rest.now }
+{
+    text.literal(b"pj ")?;
+    let told = tell(text, b"start ", JobWord::Start);
+    let told = either(told, tell(text, b"pause ", JobWord::Pause));
+    let told = either(told, tell(text, b"resume ", JobWord::Resume));
+    let told = either(told, tell(text, b"stop ", JobWord::Stop));
+    let told = either(told, tell(text, b"abort ", JobWord::Abort));
+    either(told, tell(text, b"cancel ", JobWord::Cancel))
+}
+
+// `cj n JOB`.
+#[tactic(auto, unfolding(line_grammar::specs::Lines::control_job_words))]
+fn control_job(mut text: Cursor) -> Result<OperCmd, usize>
+    ensures { result ≡ read control_job_words text.entry.total text.entry.rest.now }
+{
+    text.literal(b"cj ")?;
+    let number = text.word().number(255)? as u8;
+    text.literal(b" ")?;
+    let id = JobId::read(text.run(WordKind::Name)?).unwrap();
+    Ok(OperCmd::CtlJob(id, number))
+}
+
+// `lost SUBSTRATE`.
+#[tactic(auto, unfolding(line_grammar::specs::Lines::lost_words))]
+fn lost(mut text: Cursor) -> Result<OperCmd, usize>
+    ensures { result ≡ read lost_words text.entry.total text.entry.rest.now }
+{
+    text.literal(b"lost ")?;
+    let id = SubstrateId::read(text.run(WordKind::Substrate)?).unwrap();
+    Ok(OperCmd::Lost(id))
+}
+
+// What an operator says.
+#[tactic(auto, unfolding(line_grammar::specs::Lines::operator_words))]
+pub(crate) fn operator(text: Cursor) -> Result<OperCmd, usize>
+    ensures { result ≡ read operator_words text.entry.total text.entry.rest.now }
+{
+    let found = says(text, b"enable", OperCmd::Enable);
+    let found = either(found, says(text, b"disable", OperCmd::Disable));
+    let found = either(found, says(text, b"online", OperCmd::Online));
+    let found = either(found, says(text, b"offline", OperCmd::Offline));
+    let found = either(found, says(text, b"local", OperCmd::Local));
+    let found = either(found, says(text, b"remote", OperCmd::Remote));
+    let found = either(found, says(text, b"quit", OperCmd::Quit));
+    let found = either(found, service(text));
+    let found = either(found, access(text));
+    let found = either(found, job(text));
+    let found = either(found, control_job(text));
+    let found = either(found, up(text));
+    let found = either(found, clear(text));
+    either(found, lost(text))
+}

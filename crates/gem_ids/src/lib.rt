@@ -6,12 +6,14 @@
 //! list type of the whole tool.
 #![tactic(auto)]
 
+mod civil;
 mod listed;
 mod moment;
 mod names;
 mod numbers;
 mod text;
 
+pub use civil::computes;
 pub use listed::{Ids, Listed};
 pub use moment::Moment;
 pub use names::{

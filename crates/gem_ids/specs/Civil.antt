@@ -44,26 +44,27 @@ days_of_months year (suc months) = days_of_months year months + days_in_month ye
 abbrev pub days_before_month : ℕ → ℕ → ℕ
 days_before_month year month = days_of_months year (month - 1)
 
--- the days from 1 January 2000 to the date
-abbrev pub days_before : Civil → ℕ
-days_before c = days_before_year c.year + days_before_month c.year c.month + (c.day - 1)
+-- the days from 1 January 2000 to a date
+abbrev pub days_before : ℕ → ℕ → ℕ → ℕ
+days_before year month day = days_before_year year + days_before_month year month + (day - 1)
 
--- the hundredths of a second from midnight
-abbrev pub since_midnight : Civil → ℕ
-since_midnight c = c.hour * 360000 + c.minute * 6000 + c.second * 100 + c.hundredth
+-- the hundredths of a second from midnight to a time of day
+abbrev pub since_midnight : ℕ → ℕ → ℕ → ℕ → ℕ
+since_midnight hour minute second hundredth = hour * 360000 + minute * 6000 + second * 100 + hundredth
 
--- the moment: hundredths of a second since 2000-01-01 00:00:00, each day having 24 hours (this tool's profile, time)
+-- the moment of what calendar and clock show: hundredths of a second since 2000-01-01 00:00:00, where each day has 24
+-- hours (this tool's profile, time)
 abbrev pub moment_at : Civil → ℕ
-moment_at c = days_before c * 8640000 + since_midnight c
+moment_at c = days_before c.year c.month c.day * 8640000 + since_midnight c.hour c.minute c.second c.hundredth
 
--- the calendar has the date, and the year is one of 2000 to 9999
-abbrev pub is_date : Civil → Bool
-is_date c =
-    nat_le 2000 c.year && nat_le c.year 9999 && nat_le 1 c.month && nat_le c.month 12 && nat_le 1 c.day && nat_le c.day (days_in_month c.year c.month)
+-- the calendar has the date, in a year from 2000 to 9999
+abbrev pub is_date : ℕ → ℕ → ℕ → Bool
+is_date year month day =
+    nat_le 2000 year && nat_le year 9999 && nat_le 1 month && nat_le month 12 && nat_le 1 day && nat_le day (days_in_month year month)
 
--- a clock shows the time, which has no leap seconds
-abbrev pub is_time : Civil → Bool
-is_time c = nat_lt c.hour 24 && nat_lt c.minute 60 && nat_lt c.second 60 && nat_lt c.hundredth 100
+-- a clock shows the time of day; it has no leap seconds
+abbrev pub is_time : ℕ → ℕ → ℕ → ℕ → Bool
+is_time hour minute second hundredth = nat_lt hour 24 && nat_lt minute 60 && nat_lt second 60 && nat_lt hundredth 100
 
 -- of `first` and as many numbers after it, the latest that starts on the day or before it
 abbrev pub latest : (ℕ → ℕ) → ℕ → ℕ → ℕ → ℕ
@@ -71,31 +72,37 @@ latest starts day first zero = first
 latest starts day first (suc more) =
     if nat_le (starts (first + suc more)) day then first + suc more else latest starts day first more
 
--- the year that has a day, counted in days since 1 January 2000: a year has 365 days or 366
+-- the year of a day, which is counted from 0 on 1 January 2000: a year has 365 days or 366
 abbrev pub year_of : ℕ → ℕ
 year_of day = latest days_before_year day (2000 + day / 366) (day / 365 - day / 366)
 
--- the month that has a day of its year, counted from 0: a month has 28 days at least
-abbrev pub month_of : ℕ → ℕ → ℕ
-month_of year day = latest (days_before_month year) day 1 (min 11 (day / 28))
+-- the place of the day in its year, from 0
+abbrev pub day_of_year : ℕ → ℕ
+day_of_year day = day - days_before_year (year_of day)
 
--- the date of a day of its year, counted from 0
-abbrev pub date_in_year : ℕ → ℕ → ℕ → Civil
-date_in_year year day moment = record {
-  year = year;
-  month = month_of year day;
-  day = day - days_before_month year (month_of year day) + 1;
+-- the month that has the day of a year, which is counted from 0: a month has 28 days or more
+abbrev pub month_in_year : ℕ → ℕ → ℕ
+month_in_year year day = latest (days_before_month year) day 1 (min 11 (day / 28))
+
+-- the month of a day
+abbrev pub month_of : ℕ → ℕ
+month_of day = month_in_year (year_of day) (day_of_year day)
+
+-- the place of the day in its month, from 1
+abbrev pub day_of_month : ℕ → ℕ
+day_of_month day = day_of_year day - days_before_month (year_of day) (month_of day) + 1
+
+-- what calendar and clock show at a moment (this tool's profile, time)
+abbrev pub civil_at : ℕ → Civil
+civil_at moment = record {
+  year = year_of (moment / 8640000);
+  month = month_of (moment / 8640000);
+  day = day_of_month (moment / 8640000);
   hour = moment / 360000 % 24;
   minute = moment / 6000 % 60;
   second = moment / 100 % 60;
   hundredth = moment % 100;
 }
-
--- what calendar and clock show at a moment
-abbrev pub civil_at : ℕ → Civil
-civil_at moment =
-    let day = moment / 8640000 in
-    date_in_year (year_of day) (day - days_before_year (year_of day)) moment
 
 -- the sixteen digits YYYYMMDDhhmmsscc, in ASCII
 abbrev pub digits_of : Civil → List ℕ
@@ -127,10 +134,13 @@ civil_in text = record {
   hundredth = two_at text 14;
 }
 
--- a text is sixteen digits of a civil moment
+-- calendar and clock show it, in a year from 2000 to 9999
+abbrev pub is_civil : Civil → Bool
+is_civil c = is_date c.year c.month c.day && is_time c.hour c.minute c.second c.hundredth
+
+-- a text is sixteen digits that calendar and clock show
 abbrev pub is_moment : List ℕ → Bool
-is_moment text =
-    (length text == 16) && list_all is_digit text && is_date (civil_in text) && is_time (civil_in text)
+is_moment text = (length text == 16) && list_all is_digit text && is_civil (civil_in text)
 
 -- the moment that a text says, where it is sixteen digits of a civil moment (this tool's profile, time)
 abbrev pub moment_in : List ℕ → Option ℕ

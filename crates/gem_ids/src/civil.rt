@@ -1,13 +1,128 @@
-ghost use Rattle.std.specs.Prelude.{◌≡◌, Some, None, codes};
-ghost use Rattle.gem_ids.specs.Civil.{time_digits, moment_in};
+ghost use Rattle.std.specs.Prelude.{true, ◌≡◌, ◌+◌, ◌/◌, ◌%◌, ◌<◌, ◌≤◌, length, Some, None, option_map, pos, if◌then◌else◌};
+ghost use Rattle.std.specs.List.{list_all};
+ghost use Rattle.gem_ids.specs.Moments.{last_moment};
+ghost use Rattle.gem_ids.specs.Civil.{is_date, is_time, days_before, since_midnight, year_of, month_of, day_of_month, time_digits, is_digit, two_at, moment_in};
 
-/// x
-pub fn computes()
-    ensures first { time_digits 0 ≡ codes "2000010100000000" }
-    ensures last { time_digits 25245561599999 ≡ codes "9999123123595999" }
-    ensures one { moment_in (codes "9999123123595999") ≡ Some 25245561599999 }
-    ensures two { moment_in (codes "2000010100000000") ≡ Some 0 }
-    ensures three { moment_in (codes "2000023000000000") ≡ None }
-    ensures four { moment_in (codes "200002300000000") ≡ None }
-    ensures five { moment_in (codes "200002300000000A") ≡ None }
-{}
+use crate::moment::Moment;
+use jiff::civil::{Date, date};
+
+// The hundredths of a second of a day.
+const DAY: u64 = 8_640_000;
+
+/// The sixteen digits of a moment that is at most `Moment::LAST`: YYYYMMDDhhmmsscc in ASCII, by the Gregorian calendar
+/// and a clock without leap seconds (this tool's profile, time). Takes no memory.
+pub fn time16(m: Moment) -> [u8; 16]
+    requires { m.0 ≤ last_moment }
+    ensures digits { result ≡ time_digits m.0 }
+    ensures sixteen { length result ≡ 16 }
+{
+    let (year, month, day) = date_of(m.0 / DAY);
+    let hour = (m.0 / 360_000 % 24) as u8;
+    let minute = (m.0 / 6_000 % 60) as u8;
+    let second = (m.0 / 100 % 60) as u8;
+    let hundredth = (m.0 % 100) as u8;
+    let century = (year / 100) as u8;
+    let year = (year % 100) as u8;
+    [
+        tens(century),
+        ones(century),
+        tens(year),
+        ones(year),
+        tens(month),
+        ones(month),
+        tens(day),
+        ones(day),
+        tens(hour),
+        ones(hour),
+        tens(minute),
+        ones(minute),
+        tens(second),
+        ones(second),
+        tens(hundredth),
+        ones(hundredth),
+    ]
+}
+
+/// The moment that sixteen bytes say as YYYYMMDDhhmmsscc. None exactly where they are not sixteen ASCII digits of a date
+/// of the years 2000 to 9999 and a time of day from 00:00:00.00 to 23:59:59.99 (this tool's profile, time). Takes no
+/// memory.
+pub fn moment_of(t: &[u8; 16]) -> Option<Moment>
+    ensures { option_map (λ m. m.0) result ≡ moment_in t.now }
+{
+    if !are_digits(t) {
+        return None;
+    }
+    let year = two(t, 0) as u16 * 100 + two(t, 2) as u16;
+    let days = days_to(year, two(t, 4), two(t, 6))?;
+    let clock = clock_of(two(t, 8), two(t, 10), two(t, 12), two(t, 14))?;
+    Some(Moment(days * DAY + clock))
+}
+
+// The year, the month and the day of the month, of a day that is counted from 0 on 1 January 2000.
+fn date_of(day: u64) -> (u16, u8, u8)
+    requires { day ≤ 2921939 }
+    ensures year { result.0 ≡ year_of day }
+    ensures month { result.1 ≡ month_of day }
+    ensures day { result.2 ≡ day_of_month day }
+    ensures last { result.0 ≤ 9999 }
+    ensures months { result.1 ≤ 12 }
+    ensures days { result.2 ≤ 31 }
+{
+    let date = date(2000, 1, 1).to_plain().checked_add(day as i64).unwrap();
+    (date.year as u16, date.month, date.day)
+}
+
+// How many days after 1 January 2000 a date comes. None where the calendar does not have it in the years from 2000 on.
+fn days_to(year: u16, month: u8, day: u8) -> Option<u64>
+    requires year { year ≤ 9999 }
+    requires month { month < 100 }
+    requires day { day < 100 }
+    ensures value { result ≡ (if is_date year month day then Some (days_before year month day) else None) }
+{
+    if year < 2000 {
+        return None;
+    }
+    let found = Date::new(year as i16, month as i8, day as i8).ok()?;
+    Some(date(2000, 1, 1).to_plain().until(found.to_plain()) as u64)
+}
+
+// The hundredths of a second from midnight to a time of day. None where a clock does not show it.
+fn clock_of(hour: u8, minute: u8, second: u8, hundredth: u8) -> Option<u64>
+    requires { hundredth < 100 }
+    ensures { result ≡ (if is_time hour minute second hundredth then Some (since_midnight hour minute second hundredth) else None) }
+{
+    if hour > 23 || minute > 59 || second > 59 {
+        return None;
+    }
+    Some(hour as u64 * 360_000 + minute as u64 * 6_000 + second as u64 * 100 + hundredth as u64)
+}
+
+fn tens(number: u8) -> u8
+    requires { number < 100 }
+    ensures { result ≡ 48 + number / 10 }
+{
+    b'0' + number / 10
+}
+
+fn ones(number: u8) -> u8
+    ensures { result ≡ 48 + number % 10 }
+{
+    b'0' + number % 10
+}
+
+// Whether each byte is an ASCII digit.
+fn are_digits(t: &[u8; 16]) -> bool
+    ensures { result ≡ list_all is_digit t.now }
+{
+    t.iter().all(|byte| byte.is_ascii_digit())
+}
+
+// The number that the two digits at a place and behind it write.
+fn two(t: &[u8; 16], place: usize) -> u8
+    requires place { place < 15 }
+    requires digits { list_all is_digit t.now ≡ true }
+    ensures value { result ≡ two_at t.now place }
+    ensures two { result < 100 }
+{
+    (t[place] - b'0') * 10 + (t[place + 1] - b'0')
+}

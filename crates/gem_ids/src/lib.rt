@@ -13,7 +13,7 @@ mod names;
 mod numbers;
 mod text;
 
-pub use civil::computes;
+pub use civil::{moment_of, time16};
 pub use listed::{Ids, Listed};
 pub use moment::Moment;
 pub use names::{

@@ -67,6 +67,15 @@ one_year day year other h k =
       | inr (inr more) ↦ absurd (omega (arith, years_before (other + 1) year (omega arith) (omega arith)))
     ]
 
+-- the last day of 9999, counted from 0 on 1 January 2000, is 2,921,939
+pub year_of_last : (day : ℕ) → day ≤ 2921939 → year_of day ≤ 9999
+year_of_last day h =
+    elim (cases_order 9999 (year_of day)) [
+      | inl same ↦ omega arith
+      | inr (inl less) ↦ absurd (omega (arith, years_before 10000 (year_of day) (omega arith) (omega arith), year_of_is day))
+      | inr (inr more) ↦ omega arith
+    ]
+
 -- ---- months
 
 pub days_in_month_bounds : (year month : ℕ) → (28 ≤ days_in_month year month) × (days_in_month year month ≤ 31)

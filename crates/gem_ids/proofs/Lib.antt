@@ -1,1 +1,3 @@
 pub mod Calendar
+pub mod EpochDays
+pub mod CivilTests

@@ -1,10 +1,12 @@
 ghost use Rattle.std.specs.Prelude.{true, ◌≡◌, ◌+◌, ◌/◌, ◌%◌, ◌<◌, ◌≤◌, length, Some, None, option_map, pos, if◌then◌else◌};
 ghost use Rattle.std.specs.List.{list_all};
+ghost use Rattle.jiff.specs.Words.{epoch_day};
 ghost use Rattle.gem_ids.specs.Moments.{last_moment};
 ghost use Rattle.gem_ids.specs.Civil.{is_date, is_time, days_before, since_midnight, year_of, month_of, day_of_month, time_digits, is_digit, two_at, moment_in};
 
 use crate::moment::Moment;
 use jiff::civil::{Date, date};
+use jiff_core::civil::Date as Plain;
 
 // The hundredths of a second of a day.
 const DAY: u64 = 8_640_000;
@@ -16,18 +18,18 @@ pub fn time16(m: Moment) -> [u8; 16]
     ensures digits { result ≡ time_digits m.0 }
     ensures sixteen { length result ≡ 16 }
 {
-    let (year, month, day) = date_of(m.0 / DAY);
+    let Plain { year, month, day } = date_after(m.0 / DAY);
     let hour = (m.0 / 360_000 % 24) as u8;
     let minute = (m.0 / 6_000 % 60) as u8;
     let second = (m.0 / 100 % 60) as u8;
     let hundredth = (m.0 % 100) as u8;
     let century = (year / 100) as u8;
-    let year = (year % 100) as u8;
+    let year_of_century = (year % 100) as u8;
     [
         tens(century),
         ones(century),
-        tens(year),
-        ones(year),
+        tens(year_of_century),
+        ones(year_of_century),
         tens(month),
         ones(month),
         tens(day),
@@ -58,18 +60,21 @@ pub fn moment_of(t: &[u8; 16]) -> Option<Moment>
     Some(Moment(days * DAY + clock))
 }
 
-// The year, the month and the day of the month, of a day that is counted from 0 on 1 January 2000.
-fn date_of(day: u64) -> (u16, u8, u8)
-    requires { day ≤ 2921939 }
-    ensures year { result.0 ≡ year_of day }
-    ensures month { result.1 ≡ month_of day }
-    ensures day { result.2 ≡ day_of_month day }
-    ensures last { result.0 ≤ 9999 }
-    ensures months { result.1 ≤ 12 }
-    ensures days { result.2 ≤ 31 }
+// The date that many days after 1 January 2000.
+fn date_after(days: u64) -> Plain
+    requires { days ≤ 2921939 }
+    ensures year { result.year ≡ pos (year_of days) }
+    ensures month { result.month ≡ month_of days }
+    ensures day { result.day ≡ day_of_month days }
 {
-    let date = date(2000, 1, 1).to_plain().checked_add(day as i64).unwrap();
-    (date.year as u16, date.month, date.day)
+    first_date().checked_add(days as i64).unwrap()
+}
+
+// 1 January 2000, from which the tool counts its days.
+fn first_date() -> Plain
+    ensures { epoch_day result ≡ pos 10957 }
+{
+    date(2000, 1, 1).to_plain()
 }
 
 // How many days after 1 January 2000 a date comes. None where the calendar does not have it in the years from 2000 on.
@@ -82,8 +87,10 @@ fn days_to(year: u16, month: u8, day: u8) -> Option<u64>
     if year < 2000 {
         return None;
     }
-    let found = Date::new(year as i16, month as i8, day as i8).ok()?;
-    Some(date(2000, 1, 1).to_plain().until(found.to_plain()) as u64)
+    let Ok(found) = Date::new(year as i16, month as i8, day as i8) else {
+        return None;
+    };
+    Some(first_date().until(found.to_plain()) as u64)
 }
 
 // The hundredths of a second from midnight to a time of day. None where a clock does not show it.

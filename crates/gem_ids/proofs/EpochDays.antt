@@ -5,7 +5,7 @@ use Rattle.jiff_core.specs.Date.{epoch_day}
 use Rattle.jiff_core.specs.declared.civil.date.Date.{Date}
 use Rattle.jiff_core.proofs.SignedLemmas.{signed_arith, back_small}
 use Rattle.jiff_core.proofs.CalendarLemmas.{days_from_civil-day_count, day_count-day_of_year}
-use Rattle.jiff_core.proofs.DateLemmas.{epoch_day_injective}
+use Rattle.jiff_core.proofs.DateLemmas.{epoch_day_injective, epoch_day_range}
 use Rattle.jiff_core.proofs.MarchLemmas.{day_count-early}
 use Rattle.gem_ids.specs.Civil.{days_in_month, days_before_year, days_of_months, days_before_month, days_before, year_of, month_of, day_of_month}
 use Rattle.std.specs.Int.{Width}
@@ -70,6 +70,10 @@ date_found d year month day y m n from last =
       first_day = omega (arith, d.day_in, days);
       last_day = there;
     }
+
+-- and no later than the last day of 9999
+pub day_bound : (d : Date) (day : ℕ) → epoch_day d ≡ pos (10957 + day) → day ≤ 2921939
+day_bound d day e = omega (arith, signed_arith, e, epoch_day_range d)
 
 -- a small number keeps its value in a signed type
 pub small_signed : (w : Width) (n : ℕ) → n < 2 ^ hbits w → to_z w n ≡ pos n

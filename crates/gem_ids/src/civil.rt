@@ -1,4 +1,4 @@
-ghost use Rattle.std.specs.Prelude.{true, ◌≡◌, ◌+◌, ◌/◌, ◌%◌, ◌<◌, ◌≤◌, length, Some, None, option_map, pos, if◌then◌else◌};
+ghost use Rattle.std.specs.Prelude.{true, ◌≡◌, ◌+◌, ◌/◌, ◌%◌, ◌<◌, ◌≤◌, length, Some, None, IfSome, option_map, pos, if◌then◌else◌};
 ghost use Rattle.std.specs.List.{list_all};
 ghost use Rattle.jiff.specs.Words.{epoch_day};
 ghost use Rattle.gem_ids.specs.Moments.{last_moment};
@@ -83,6 +83,7 @@ fn days_to(year: u16, month: u8, day: u8) -> Option<u64>
     requires month { month < 100 }
     requires day { day < 100 }
     ensures value { result ≡ (if is_date year month day then Some (days_before year month day) else None) }
+    ensures last { IfSome result (λ days. days ≤ 2921939) }
 {
     if year < 2000 {
         return None;
@@ -96,7 +97,8 @@ fn days_to(year: u16, month: u8, day: u8) -> Option<u64>
 // The hundredths of a second from midnight to a time of day. None where a clock does not show it.
 fn clock_of(hour: u8, minute: u8, second: u8, hundredth: u8) -> Option<u64>
     requires { hundredth < 100 }
-    ensures { result ≡ (if is_time hour minute second hundredth then Some (since_midnight hour minute second hundredth) else None) }
+    ensures value { result ≡ (if is_time hour minute second hundredth then Some (since_midnight hour minute second hundredth) else None) }
+    ensures last { IfSome result (λ hundredths. hundredths < 8640000) }
 {
     if hour > 23 || minute > 59 || second > 59 {
         return None;

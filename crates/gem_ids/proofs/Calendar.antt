@@ -168,6 +168,10 @@ dated_year : (day year month of_month : ℕ) → IsDated day year month of_month
 dated_year day year month of_month h =
     (h.from, omega (arith, h.whole), omega (arith, h.whole, h.first_day, h.last_day, year_follows year h.from, days_of_months_more year month h.first_month, months_before year month 12 h.last_month, months_of_a_year year))
 
+pub dated_last : (day year month of_month : ℕ) → IsDated day year month of_month → year ≤ 9999 → day ≤ 2921939
+dated_last day year month of_month h last =
+    omega (arith, dated_year day year month of_month h, years_before (year + 1) 10000 (omega (arith, h.from)) (omega arith))
+
 -- and no other
 pub one_date : (day y m d year month of_month : ℕ) → IsDated day y m d → IsDated day year month of_month → (y ≡ year) × (m ≡ month) × (d ≡ of_month)
 one_date day y m d year month of_month h k =

@@ -87,8 +87,8 @@ digits_say c date time =
     let from_month = two_digits c.month ++ from_day in
     let from_year = two_digits (c.year % 100) ++ from_month in
     let digits : list_all is_digit (digits_of c) ≡ true =
-        two_are_digits (c.year / 100) from_year century (two_are_digits (c.year % 100) from_month of_century (two_are_digits c.month from_day month (two_are_digits c.day from_hour day
-        (two_are_digits c.hour from_minute hour (two_are_digits c.minute from_second minute (two_are_digits c.second (two_digits c.hundredth) second (two_are_digits c.hundredth [] time.hundredths refl))))))) in
+    two_are_digits (c.year / 100) from_year century (two_are_digits (c.year % 100) from_month of_century (two_are_digits c.month from_day month (two_are_digits c.day from_hour day
+    (two_are_digits c.hour from_minute hour (two_are_digits c.minute from_second minute (two_are_digits c.second (two_digits c.hundredth) second (two_are_digits c.hundredth [] time.hundredths refl))))))) in
     sym (a_moment (digits_of c) c.year c.month c.day c.hour c.minute c.second c.hundredth
     (days_before c.year c.month c.day) (since_midnight c.hour c.minute c.second c.hundredth) refl digits
     year (two_back c.month month) (two_back c.day day) (two_back c.hour hour) (two_back c.minute minute) (two_back c.second second) (two_back c.hundredth time.hundredths)
@@ -110,7 +110,7 @@ moment_is moment =
 pub say_it : (moment : ℕ) → moment ≤ last_moment → moment_in (time_digits moment) ≡ Some moment
 say_it moment h =
     let time : IsTime (moment / 360000 % 24) (moment / 6000 % 60) (moment / 100 % 60) (moment % 100) =
-        record { hours = omega arith; minutes = omega arith; seconds = omega arith; hundredths = omega arith } in
+    record { hours = omega arith; minutes = omega arith; seconds = omega arith; hundredths = omega arith } in
     digits_say (civil_at moment) (date_at (moment / 8640000) (omega arith)) time ∙ ap Some (moment_is moment)
 
 -- ---- a text that says a moment is its digits

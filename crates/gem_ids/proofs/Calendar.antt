@@ -1,8 +1,8 @@
 -- Years follow one another, months too, and each day has one date.
-use Rattle.std.proofs.Common.{◌≡◌, ℕ, zero, suc, ◌+◌, ◌-◌, ◌*◌, ◌/◌, ◌%◌, ◌<◌, ◌≤◌, min, ◌⊎◌, inl, inr, Bool, true, false, nat_le, if◌then◌else◌, refl, sym, ap, ◌∙◌, arith}
+use Rattle.std.proofs.Common.{◌≡◌, ℕ, zero, suc, ◌+◌, ◌-◌, ◌*◌, ◌/◌, ◌<◌, ◌≤◌, min, inl, inr, Bool, true, false, nat_le, if◌then◌else◌, refl, arith}
 use Rattle.std.proofs.lemmas.Bool.{cases_order}
 use Rattle.std.proofs.lemmas.Bool.Decides.{nat_tests}
-use Rattle.gem_ids.specs.Civil.{is_leap_year, days_in_year, days_in_month, leap_years_to, days_before_year, days_of_months, days_before_month, days_before, latest, year_of, day_of_year, month_in_year, month_of, day_of_month}
+use Rattle.gem_ids.specs.Civil.{days_in_year, days_in_month, days_before_year, days_of_months, days_before_month, days_before, latest, year_of, day_of_year, month_in_year, month_of, day_of_month}
 
 -- ---- the latest that starts on the day or before it
 

@@ -1,5 +1,5 @@
 -- The calendar of `jiff`, whose days are counted from 1 January 1970, is the one of the definitions.
-use Rattle.std.proofs.Common.{◌≡◌, ℕ, zero, suc, ◌+◌, ◌-◌, ◌*◌, ◌/◌, ◌<◌, ◌≤◌, Bool, true, refl, sym, ap, ◌∙◌, arith, ◌^◌, w32, to_z, of_z, ℤ, pos, ◌+ℤ◌, ◌-ℤ◌, ◌≤ℤ◌}
+use Rattle.std.proofs.Common.{◌≡◌, ℕ, zero, suc, ◌+◌, ◌-◌, ◌<◌, ◌≤◌, refl, sym, ap, ◌∙◌, arith, ◌^◌, w32, to_z, of_z, ℤ, pos, ◌+ℤ◌}
 use Rattle.jiff_core.specs.Calendar as jiff
 use Rattle.jiff_core.specs.Date.{epoch_day}
 use Rattle.jiff_core.specs.declared.civil.date.Date.{Date}
@@ -7,11 +7,11 @@ use Rattle.jiff_core.proofs.SignedLemmas.{signed_arith, back_small}
 use Rattle.jiff_core.proofs.CalendarLemmas.{days_from_civil-day_count, day_count-day_of_year}
 use Rattle.jiff_core.proofs.DateLemmas.{epoch_day_injective, epoch_day_range}
 use Rattle.jiff_core.proofs.MarchLemmas.{day_count-early}
-use Rattle.gem_ids.specs.Civil.{days_in_month, days_before_year, days_of_months, days_before_month, days_before, year_of, month_of, day_of_month}
+use Rattle.gem_ids.specs.Civil.{days_in_month, days_of_months, days_before, year_of, month_of, day_of_month}
 use Rattle.std.specs.Int.{Width}
 use mir.Val.{hbits}
 use Rattle.gem_ids.proofs.CivilTests.{IsDate}
-use Rattle.gem_ids.proofs.Calendar.{IsDated, date_is, one_date, year_of_last}
+use Rattle.gem_ids.proofs.Calendar.{date_is, year_of_last}
 
 same_month : (year month : ℕ) → jiff.days_in_month (pos year) month ≡ days_in_month year month
 same_month year month = refl

@@ -1,10 +1,10 @@
 -- What a text says, by its date and its time of day.
-use Rattle.std.proofs.Common.{◌≡◌, ℕ, ◌+◌, ◌-◌, ◌*◌, ◌/◌, ◌%◌, ◌<◌, ◌≤◌, Bool, true, false, ◌&&◌, ◌==◌, if◌then◌else◌, List, [], ◌∷◌, ◌++◌, length, slice_index, Option, Some, None, refl, sym, ap, ◌∙◌, arith}
+use Rattle.std.proofs.Common.{◌≡◌, ℕ, ◌+◌, ◌-◌, ◌*◌, ◌/◌, ◌%◌, ◌<◌, ◌≤◌, Bool, true, false, ◌&&◌, ◌==◌, if◌then◌else◌, List, [], ◌∷◌, ◌++◌, length, Some, None, refl, sym, ap, ◌∙◌, arith}
 use Rattle.std.proofs.lemmas.Bool.Decides.{nat_tests}
 use Rattle.std.specs.List.{list_all}
 use Rattle.gem_ids.specs.Names.{two_digits}
 use Rattle.gem_ids.specs.Moments.{last_moment}
-use Rattle.gem_ids.specs.Civil.{Civil, days_in_month, digits_of, civil_at, time_digits, year_of, month_of, day_of_month, is_date, is_time, is_digit, days_before, since_midnight, two_at, civil_in, moment_at, moment_in}
+use Rattle.gem_ids.specs.Civil.{Civil, digits_of, civil_at, time_digits, year_of, month_of, day_of_month, is_date, is_time, is_digit, days_before, since_midnight, two_at, civil_in, moment_at, moment_in}
 use Rattle.gem_ids.proofs.CivilTests.{IsDate, IsTime, date_true, date_parts, time_true, time_parts}
 use Rattle.gem_ids.proofs.Calendar.{IsDated, date_is, one_date, year_of_last, dated_last, days_in_month_bounds}
 

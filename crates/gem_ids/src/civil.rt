@@ -61,7 +61,7 @@ pub fn moment_of(t: &[u8; 16]) -> Option<Moment>
     Some(Moment(days * DAY + clock))
 }
 
-// The date that many days after 1 January 2000. 31 December 9999 is the 2,921,939th.
+// The date that many days after 1 January 2000. 31 December 9999 comes 2,921,939 days after it.
 fn date_after(days: u64) -> Plain
     requires { days ≤ 2921939 }
     ensures year { result.year ≡ pos (year_of days) }
@@ -89,10 +89,10 @@ fn days_to(year: u16, month: u8, day: u8) -> Option<u64>
     if year < 2000 {
         return None;
     }
-    let Ok(found) = Date::new(year as i16, month as i8, day as i8) else {
-        return None;
-    };
-    Some(first_date().until(found.to_plain()) as u64)
+    match Date::new(year as i16, month as i8, day as i8) {
+        Ok(found) => Some(first_date().until(found.to_plain()) as u64),
+        Err(_) => None,
+    }
 }
 
 // The hundredths of a second from midnight to a time of day. None where a clock does not show it.

@@ -1,8 +1,8 @@
-use Rattle.std.proofs.Common.{◌≡◌, ◌∙◌, ◌+◌, ◌-◌, ◌<◌, ◌^◌, true, pos, arith, refl, to_z, of_z, w8, w32}
+use Rattle.std.proofs.Common.{◌≡◌, ◌∙◌, ◌+◌, ◌<◌, ◌^◌, pos, arith, refl, to_z, of_z, w8, w32}
 use mir.Syntax.{w16}
 use Rattle.jiff.specs.Words.{epoch_day}
 use Rattle.jiff.proofs.SpanFacts.{signed_arith}
-use Rattle.gem_ids.specs.Civil.{is_date, days_before}
+use Rattle.gem_ids.specs.Civil.{days_before}
 use Rattle.gem_ids.proofs.CivilTests.{IsDate, date_true}
 use Rattle.gem_ids.proofs.EpochDays.{epoch_of, date_found, day_bound, small_signed, through_i32}
 use Rattle.gem_ids.proofs.civil.days_to.Goals as goal
@@ -37,8 +37,8 @@ date c = date_found c.in-Ok.found c.args.year c.args.month c.args.day (year c) (
 pub overflow_cast-result : goal.overflow_cast-result
 overflow_cast-result c = rw (days c) (tt, omega (arith, signed_arith, days_small c))
 
-pub returns-clause-value : goal.returns-clause-value
-returns-clause-value c = rw (days c, date_true _ _ _ (date c)) refl
+pub returns-in-Ok-clause-value : goal.returns-in-Ok-clause-value
+returns-in-Ok-clause-value c = rw (days c, date_true _ _ _ (date c)) refl
 
-pub returns-clause-last : goal.returns-clause-last
-returns-clause-last c = rw (days c) (day_bound c.in-Ok.found (days_before c.args.year c.args.month c.args.day) (epoch c))
+pub returns-in-Ok-clause-last : goal.returns-in-Ok-clause-last
+returns-in-Ok-clause-last c = rw (days c) (day_bound c.in-Ok.found (days_before c.args.year c.args.month c.args.day) (epoch c))

@@ -1,4 +1,4 @@
-use Rattle.std.proofs.Common.{◌≡◌, ◌∙◌, ◌+◌, ◌*◌, length, true, false, arith, rules, refl, sym}
+use Rattle.std.proofs.Common.{◌≡◌, ◌∙◌, ◌+◌, ◌*◌, length, arith, sym}
 use Rattle.gem_ids.specs.Civil.{two_at}
 use Rattle.gem_ids.proofs.MomentTexts.{no_date, no_time, a_moment}
 use Rattle.gem_ids.proofs.civil.moment_of.Goals as goal

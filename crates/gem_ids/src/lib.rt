@@ -7,6 +7,7 @@
 #![tactic(auto)]
 
 mod civil;
+mod laws;
 mod listed;
 mod moment;
 mod names;
@@ -14,6 +15,10 @@ mod numbers;
 mod text;
 
 pub use civil::{moment_of, time16};
+pub use laws::{
+    a_text_that_says_a_moment_is_its_digits, the_digits_of_a_moment_say_it,
+    the_years_follow_one_another,
+};
 pub use listed::{Ids, Listed};
 pub use moment::Moment;
 pub use names::{

@@ -1,0 +1,4 @@
+pub mod Calendar
+pub mod EpochDays
+pub mod CivilTests
+pub mod MomentTexts

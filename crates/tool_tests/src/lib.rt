@@ -1,6 +1,6 @@
-//! Tests of the whole tool: of its crates by their public names, one file for each, in the order of the floors. It has no
-//! code of its own, and nothing stands on it. Expected values are worked by hand from the printed formats, and calls are
-//! made with ample memory, on small input and on large. What needs a private name is tested in its own crate.
+//! Tests of the tool's crates by their public names, one file for each crate. It has no code of its own, and nothing
+//! stands on it. Expected values are worked by hand from the printed formats, and calls are made with ample memory, on
+//! small input and on large. What needs a private name is tested in its own crate.
 #![tactic(auto)]
 
 #[cfg(test)]

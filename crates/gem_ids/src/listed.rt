@@ -94,31 +94,3 @@ impl<T: Copy> Clone for Listed<T> {
 /// A list of ids, each a number of four bytes: of variables, reports, collection events, alarms or equipment constants
 /// (SEMI E5, data items).
 pub type Ids = Listed<u32>;
-
-#[cfg(test)]
-mod tests {
-    use super::*;
-
-    #[test]
-    fn what_is_pushed_stands_behind(rt: HostRuntime) {
-        let mut ids = Ids::new(rt.alloc());
-        assert!(rt; ids.is_empty());
-        for id in 1..=300 {
-            ids.push(id).expect(&rt, "memory");
-        }
-        assert_eq!(rt; ids.len(), 300);
-        assert_eq!(rt; &ids.as_slice()[..3], [1, 2, 3].as_slice());
-        assert_eq!(rt; ids.as_slice()[299], 300);
-        assert!(rt; !ids.is_empty());
-    }
-
-    #[test]
-    fn a_vector_is_given_back(rt: HostRuntime) {
-        let ids = Ids::from_vec(vec![in rt.alloc(); 7, 7, 5].expect(&rt, "memory"));
-        assert_eq!(rt;
-            ids.clone().expect(&rt, "memory").as_slice(),
-            [7, 7, 5].as_slice()
-        );
-        assert_eq!(rt; ids.into_vec().as_slice(), [7, 7, 5].as_slice());
-    }
-}

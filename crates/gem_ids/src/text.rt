@@ -124,32 +124,3 @@ fn first_unprintable(bytes: &[u8]) -> Option<usize>
     }
     None
 }
-
-#[cfg(test)]
-mod tests {
-    use super::*;
-
-    #[test]
-    fn eighty_bytes_are_a_text_and_one_more_is_not(rt: HostRuntime) {
-        assert_eq!(rt; Text80::read(&[b'A'; 80]).map(|t| t.len()), Ok(80));
-        assert_eq!(rt; Text80::read(&[b'A'; 81]), Err(TextFault::TooLong(81)));
-        assert_eq!(rt; Text80::read(&[0; 81]), Err(TextFault::TooLong(81)));
-    }
-
-    #[test]
-    fn space_and_tilde_print_and_their_neighbours_do_not(rt: HostRuntime) {
-        assert!(rt; Text80::read(b" ~").is_ok());
-        assert_eq!(rt;
-            Text80::read(b"A\x1fB\x7f"),
-            Err(TextFault::NotPrintable(1))
-        );
-        assert_eq!(rt; Text80::read(b"AB\x7f"), Err(TextFault::NotPrintable(2)));
-    }
-
-    #[test]
-    fn the_empty_text_is_read_from_no_bytes(rt: HostRuntime) {
-        assert_eq!(rt; Text80::read(b""), Ok(Text80::empty()));
-        assert!(rt; Text80::empty().is_empty());
-        assert_eq!(rt; Text80::empty().as_bytes(), b"".as_slice());
-    }
-}

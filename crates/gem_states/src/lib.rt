@@ -8,8 +8,6 @@
 
 mod communication;
 mod control;
-#[cfg(test)]
-mod tests;
 
 pub use communication::{Comm, CommTrigger};
 pub use control::{Control, ControlTrigger};

@@ -9,8 +9,6 @@
 mod deadlines;
 mod state;
 mod table;
-#[cfg(test)]
-mod tests;
 
 pub use deadlines::{LinkDue, LinkTimes, has_come};
 pub use state::{LinkState, Phase, Ping};

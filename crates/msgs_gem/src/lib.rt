@@ -11,8 +11,6 @@ mod laws;
 mod part;
 mod primary;
 mod reply;
-#[cfg(test)]
-mod tests;
 
 pub use acknowledge::accepts_communication;
 pub use fault::BodyFault;

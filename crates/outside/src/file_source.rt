@@ -85,30 +85,3 @@ fn read_opened<R: Files>(
     *file = Some(opened);
     answer
 }
-
-#[cfg(test)]
-mod tests {
-    use super::*;
-    use std::test::Fail;
-
-    #[test]
-    fn a_missing_file_fails_at_its_first_read(rt: HostRuntime) {
-        let mut file = FileSource::new(&rt, "no-such-file");
-        assert_eq!(rt; file.faults(), 0);
-        assert_eq!(rt; file.read(&mut [0; 4]), Err(Failed));
-        assert_eq!(rt; (file.faults(), file.ends()), (1, 0));
-    }
-
-    #[test]
-    fn a_file_is_read_to_its_end(rt: HostRuntime) -> Result<(), Fail> {
-        fs::write(&rt, "three-bytes", "abc")?;
-        let mut file = FileSource::new(&rt, "three-bytes");
-        let mut buf = [0; 4];
-        assert_eq!(rt; file.read(&mut buf), Ok(3));
-        assert_eq!(rt; buf.as_slice(), b"abc\0".as_slice());
-        assert_eq!(rt; file.read(&mut buf), Ok(0));
-        assert_eq!(rt; (file.faults(), file.ends()), (0, 1));
-        fs::remove_file(&rt, "three-bytes")?;
-        Ok(())
-    }
-}

@@ -149,39 +149,3 @@ fn copy_front(bytes: &[u8], most: usize, buf: &mut [u8]) -> usize
     buf[..n].copy_from_slice(&bytes[..n]);
     n
 }
-
-#[cfg(test)]
-mod tests {
-    use super::*;
-    use std::test::Fail;
-
-    #[test]
-    fn bytes_come_in_pieces_and_then_the_end_is_counted(rt: HostRuntime) -> Result<(), Fail> {
-        let bytes = Vec::from_slice(rt.alloc(), b"abcde")?;
-        let mut source = MemSource::new(bytes, Vec::new(rt.alloc())).with_piece(3);
-        let mut buf = [0; 4];
-        assert_eq!(rt; source.read(&mut buf), Ok(3));
-        assert_eq!(rt; buf.as_slice(), b"abc\0".as_slice());
-        assert_eq!(rt; source.left(), b"de".as_slice());
-        assert_eq!(rt; source.read(&mut buf), Ok(2));
-        assert_eq!(rt; buf.as_slice(), b"dec\0".as_slice());
-        assert_eq!(rt; source.read(&mut []), Ok(0));
-        assert_eq!(rt; (source.faults(), source.ends()), (0, 0));
-        assert_eq!(rt; source.read(&mut buf), Ok(0));
-        assert_eq!(rt; (source.faults(), source.ends()), (0, 1));
-        Ok(())
-    }
-
-    #[test]
-    fn the_second_read_fails_and_takes_nothing(rt: HostRuntime) -> Result<(), Fail> {
-        let bytes = Vec::from_slice(rt.alloc(), b"abc")?;
-        let mut source = MemSource::new(bytes, Vec::from_slice(rt.alloc(), &[2])?);
-        let mut buf = [0; 2];
-        assert_eq!(rt; source.read(&mut buf), Ok(2));
-        assert_eq!(rt; source.read(&mut buf), Err(Failed));
-        assert_eq!(rt; (source.faults(), source.ends()), (1, 0));
-        assert_eq!(rt; source.left(), b"c".as_slice());
-        assert_eq!(rt; source.read(&mut buf), Ok(1));
-        Ok(())
-    }
-}

@@ -115,18 +115,3 @@ impl<R: Print> Sink for StdoutSink<'_, R> {
         self.counts.count(answer, bytes.len())
     }
 }
-
-#[cfg(test)]
-mod tests {
-    use super::*;
-
-    #[test]
-    fn an_empty_buffer_meets_no_end_and_no_refusal(rt: HostRuntime) {
-        let mut input = StdinSource::new(&rt);
-        let mut out = StdoutSink::new(&rt);
-        assert_eq!(rt; input.read(&mut []), Ok(0));
-        assert_eq!(rt; out.write(&[]), Ok(0));
-        assert_eq!(rt; (input.faults(), input.ends()), (0, 0));
-        assert_eq!(rt; (out.faults(), out.refusals()), (0, 0));
-    }
-}

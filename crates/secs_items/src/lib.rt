@@ -28,6 +28,3 @@ pub use laws::{
 pub use one::read_one;
 pub use reading::decode;
 pub use writing::encode;
-
-#[cfg(test)]
-mod tests;

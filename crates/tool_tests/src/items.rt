@@ -1,10 +1,12 @@
+//! SECS-II items (`secs_items`).
+
 ghost use Rattle.std.specs.Prelude.{◌≡◌, IfOk};
 ghost use Rattle.secs_items.specs.Data.{ascii as ascii_data};
 ghost use Rattle.secs_items.specs.View.{view};
 
-use super::*;
+use secs_items::{Bytes, Item, ItemFault, Items, NoMemory, U16s, decode, encode, read_one};
 use std::alloc::Global;
-use std::test::*;
+use std::test::Fail;
 
 // Spellings, after the item header and the item formats of SEMI E5, and the spelling that the tool sends of each item.
 const SPELLINGS: [(&[u8], &[u8]); 37] = [
@@ -160,6 +162,69 @@ fn each_spelling_is_read_and_sent_in_the_plain_one(rt: HostRuntime) {
     }
 }
 
+// A B of so many bytes, behind this head.
+fn binary(alloc: Global, head: &[u8], count: usize) -> Result<Vec<u8>, NoMemory> {
+    let mut spelled = Vec::from_slice(alloc, head)?;
+    for place in 0..count {
+        spelled.push((place % 256) as u8)?;
+    }
+    Ok(spelled)
+}
+
+// A list of so many numbers, behind this head.
+fn numbers(alloc: Global, head: &[u8], count: usize) -> Result<Vec<u8>, NoMemory> {
+    let mut spelled = Vec::from_slice(alloc, head)?;
+    for place in 0..count {
+        spelled.extend_from_slice(&[0xA5, 1, (place % 256) as u8])?;
+    }
+    Ok(spelled)
+}
+
+// The bytes of a B, or the elements of a list.
+fn size(item: &Item) -> Option<usize> {
+    match item {
+        Item::Binary(bytes) => Some(bytes.as_slice().len()),
+        Item::List(items) => Some(items.as_slice().len()),
+        _ => None,
+    }
+}
+
+// Whether this spelling is read whole, as an item of so many bytes or elements, and written again.
+fn is_there_and_back(alloc: Global, spelled: &[u8], count: usize) -> Result<bool, ItemFault> {
+    let (item, used) = decode(alloc, spelled)?;
+    let mut written = Vec::new(alloc);
+    encode(&item, &mut written)?;
+    Ok(used == spelled.len() && size(&item) == Some(count) && written.as_slice() == spelled)
+}
+
+#[test]
+fn long_items_are_read_and_written(rt: HostRuntime) -> Result<(), Fail> {
+    let alloc = rt.alloc();
+    let binaries: [(&[u8], usize); 4] = [
+        (b"\x21\xFF", 255),
+        (b"\x22\x01\x00", 256),
+        (b"\x22\xFF\xFF", 65_535),
+        (b"\x23\x01\x00\x00", 65_536),
+    ];
+    for (head, count) in binaries {
+        let spelled = binary(alloc, head, count)?;
+        let back = is_there_and_back(alloc, spelled.as_slice(), count);
+        assert_eq!(rt; back, Ok(true), "at {count}");
+    }
+    let lists: [(&[u8], usize); 4] = [
+        (b"\x01\xFF", 255),
+        (b"\x02\x01\x00", 256),
+        (b"\x02\x02\x58", 600),
+        (b"\x03\x01\x00\x00", 65_536),
+    ];
+    for (head, count) in lists {
+        let spelled = numbers(alloc, head, count)?;
+        let back = is_there_and_back(alloc, spelled.as_slice(), count);
+        assert_eq!(rt; back, Ok(true), "at {count}");
+    }
+    Ok(())
+}
+
 fn ascii(alloc: Global, text: &[u8]) -> Result<Item, NoMemory>
     ensures { IfOk result (λ item. view item ≡ ascii_data text.now) }
 {
@@ -268,39 +333,6 @@ fn numbers_are_twos_complement_and_the_most_significant_byte_comes_first(rt: Hos
     assert!(rt;
         matches!(&unsigned, Ok((Item::U4(numbers), 6)) if numbers.as_slice() == [2_147_483_649].as_slice())
     );
-}
-
-fn is_binary_of(item: &Item, count: usize) -> bool {
-    match item {
-        Item::Binary(bytes) => bytes.as_slice().len() == count,
-        _ => false,
-    }
-}
-
-// Whether a B of so many bytes is read from its spelling, and written in it.
-fn is_there_and_back(alloc: Global, head: &[u8], count: usize) -> Result<bool, ItemFault> {
-    let mut spelled = Vec::from_slice(alloc, head)?;
-    for _ in 0..count {
-        spelled.push(0x5A)?;
-    }
-    let (item, _) = decode(alloc, spelled.as_slice())?;
-    let mut written = Vec::new(alloc);
-    encode(&item, &mut written)?;
-    Ok(is_binary_of(&item, count) && written.as_slice() == spelled.as_slice())
-}
-
-#[test]
-fn long_items_are_read_and_written(rt: HostRuntime) {
-    let heads: [(&[u8], usize); 4] = [
-        (b"\x21\xFF", 255),
-        (b"\x22\x01\x00", 256),
-        (b"\x22\xFF\xFF", 65_535),
-        (b"\x23\x01\x00\x00", 65_536),
-    ];
-    for (head, count) in heads {
-        let back = is_there_and_back(rt.alloc(), head, count);
-        assert!(rt; matches!(&back, Ok(true)), "at {count}");
-    }
 }
 
 #[test]

@@ -1,9 +1,11 @@
+//! The state of a link (`hsms_link`).
+
 ghost use Rattle.std.specs.Prelude.{◌≡◌, true, false};
 ghost use Rattle.hsms_link.specs.Links.{is_up, is_selected, is_open};
 
-use super::*;
 use gem_ids::Moment;
 use hsms_frame::Header;
+use hsms_link::{LinkAct, LinkDue, LinkState, LinkTimes, Phase, Ping};
 
 const TIMES: LinkTimes = LinkTimes {
     t6: 500,
@@ -121,40 +123,26 @@ fn asked_link() -> LinkState
 }
 
 #[test]
-fn t7_is_due_where_a_link_is_not_selected_in_time(rt: HostRuntime) {
-    let link = new_link();
-    assert_eq!(rt; link.due(TIMES, Moment(999)), None);
-    assert_eq!(rt; link.due(TIMES, Moment(1000)), Some(LinkDue::T7));
+fn a_deadline_is_due_at_its_moment_and_not_before(rt: HostRuntime) {
+    for (link, moment, due) in [
+        // Not selected in time, the period is over, and no answer in time.
+        (new_link(), 1000, LinkDue::T7),
+        (quiet_link(), 200, LinkDue::AskLinktest),
+        (asked_link(), 700, LinkDue::T6),
+    ] {
+        assert_eq!(rt; link.due(TIMES, Moment(moment - 1)), None);
+        assert_eq!(rt; link.due(TIMES, Moment(moment)), Some(due));
+    }
 }
 
 #[test]
-fn a_linktest_is_due_when_the_period_is_over(rt: HostRuntime) {
-    let link = quiet_link();
-    assert_eq!(rt; link.due(TIMES, Moment(199)), None);
-    assert_eq!(rt; link.due(TIMES, Moment(200)), Some(LinkDue::AskLinktest));
-}
-
-#[test]
-fn t6_is_due_where_a_linktest_is_not_answered_in_time(rt: HostRuntime) {
-    let link = asked_link();
-    assert_eq!(rt; link.due(TIMES, Moment(699)), None);
-    assert_eq!(rt; link.due(TIMES, Moment(700)), Some(LinkDue::T6));
-}
-
-#[test]
-fn a_response_closes_the_linktest_and_begins_the_period(rt: HostRuntime) {
+fn a_response_begins_the_period_and_a_linktest_of_the_host_begins_none(rt: HostRuntime) {
     let mut link = asked_link();
-    let answer = link.take(&header(0xFFFF, (0, 0), (0, 6), 1), Moment(650));
-    assert_eq!(rt; answer, LinkAct::Nothing);
+    let closed = link.take(&header(0xFFFF, (0, 0), (0, 6), 1), Moment(650));
+    assert_eq!(rt; closed, LinkAct::Nothing);
     assert_eq!(rt; link.ping, Ping::Quiet { since: Moment(650) });
     assert_eq!(rt; link.due(TIMES, Moment(849)), None);
     assert_eq!(rt; link.due(TIMES, Moment(850)), Some(LinkDue::AskLinktest));
-}
-
-#[test]
-fn a_linktest_of_the_host_is_answered_and_begins_no_period(rt: HostRuntime) {
-    let mut link = asked_link();
-    link.take(&header(0xFFFF, (0, 0), (0, 6), 1), Moment(650));
     let answer = link.take(&header(0xFFFF, (0, 0), (0, 5), 9), Moment(700));
     assert_eq!(rt; answer, LinkAct::Reply(header(0xFFFF, (0, 0), (0, 6), 9)));
     assert_eq!(rt; link.due(TIMES, Moment(849)), None);

@@ -1,10 +1,14 @@
+//! Bodies of messages (`msgs_gem`).
+
 ghost use Rattle.std.specs.Prelude.{◌≡◌, IfOk};
 ghost use Rattle.msgs_gem.specs.Sendable.{HasSendableParts};
 
-use super::*;
+use msgs_gem::{
+    BodyFault, GemMsg, GemReply, Identity, accepts_communication, gem_item, is_ignored, read_gem,
+};
 use secs_items::{Bytes, NoMemory, encode, read_one};
 use std::alloc::Global;
-use std::test::*;
+use std::test::Fail;
 
 // The header of an S1F5 with W and system bytes 7.
 const HEADER: [u8; 10] = [0x00, 0x00, 0x81, 0x05, 0x00, 0x00, 0x00, 0x00, 0x00, 0x07];
@@ -13,6 +17,21 @@ const HEADER: [u8; 10] = [0x00, 0x00, 0x81, 0x05, 0x00, 0x00, 0x00, 0x00, 0x00, 
 fn read(alloc: Global, stream: u8, function: u8, text: &[u8]) -> Result<GemMsg, BodyFault> {
     let item = read_one(alloc, text)?;
     read_gem(alloc, stream, function, item.as_ref())
+}
+
+// The messages whose text is ignored, by stream and function.
+const IGNORED: [(u8, u8); 5] = [(1, 1), (1, 13), (1, 15), (1, 17), (2, 17)];
+
+// The stream and function of a message.
+fn numbers(message: &GemMsg) -> (u8, u8) {
+    match message {
+        GemMsg::S1F1 => (1, 1),
+        GemMsg::S1F13 => (1, 13),
+        GemMsg::S1F15 => (1, 15),
+        GemMsg::S1F17 => (1, 17),
+        GemMsg::S2F17 => (2, 17),
+        GemMsg::S2F31(_) => (2, 31),
+    }
 }
 
 #[test]
@@ -26,42 +45,52 @@ fn an_ignored_text_may_be_anything(rt: HostRuntime) {
         b"\xFF",
     ];
     for text in texts {
-        assert!(rt;
-            matches!(&read(rt.alloc(), 1, 1, text), Ok(GemMsg::S1F1)),
-            "at {text:?}"
-        );
-        assert!(rt;
-            matches!(&read(rt.alloc(), 1, 13, text), Ok(GemMsg::S1F13)),
-            "at {text:?}"
-        );
-        assert!(rt;
-            matches!(&read(rt.alloc(), 1, 15, text), Ok(GemMsg::S1F15)),
-            "at {text:?}"
-        );
-        assert!(rt;
-            matches!(&read(rt.alloc(), 1, 17, text), Ok(GemMsg::S1F17)),
-            "at {text:?}"
-        );
-        assert!(rt;
-            matches!(&read(rt.alloc(), 2, 17, text), Ok(GemMsg::S2F17)),
-            "at {text:?}"
-        );
+        for (stream, function) in IGNORED {
+            let read = read(rt.alloc(), stream, function, text);
+            assert!(rt;
+                matches!(&read, Ok(message) if numbers(message) == (stream, function)),
+                "S{stream}F{function} at {text:?}"
+            );
+        }
+    }
+}
+
+#[test]
+fn five_messages_have_an_ignored_text(rt: HostRuntime) {
+    for stream in 0..4 {
+        for function in 0..255 {
+            let ignored = IGNORED.contains(&(stream, function));
+            assert_eq!(rt;
+                is_ignored(stream, function),
+                ignored,
+                "at {stream}, {function}"
+            );
+        }
+    }
+}
+
+// The characters of an S2F31, or why it has none.
+fn time(alloc: Global, text: &[u8]) -> Result<Vec<u8>, BodyFault> {
+    match read(alloc, 2, 31, text)? {
+        GemMsg::S2F31(text) => Ok(text.into_vec()),
+        _ => Err(BodyFault::UnknownFunction),
     }
 }
 
 #[test]
 fn s2f31_has_the_characters_that_were_sent(rt: HostRuntime) {
-    let alloc = rt.alloc();
-    let time = read(alloc, 2, 31, b"\x41\x102026112711094700");
-    assert!(rt;
-        matches!(&time, Ok(GemMsg::S2F31(text)) if text.as_slice() == b"2026112711094700".as_slice())
-    );
-    let none = read(alloc, 2, 31, b"\x41\x00");
-    assert!(rt; matches!(&none, Ok(GemMsg::S2F31(text)) if text.as_slice().is_empty()));
-    let control = read(alloc, 2, 31, b"\x41\x02\x00\x7F");
-    assert!(rt;
-        matches!(&control, Ok(GemMsg::S2F31(text)) if text.as_slice() == [0, 127].as_slice())
-    );
+    let texts: [(&[u8], &[u8]); 3] = [
+        (b"\x41\x102026112711094700", b"2026112711094700"),
+        (b"\x41\x00", b""),
+        (b"\x41\x02\x00\x7F", b"\x00\x7F"),
+    ];
+    for (text, want) in texts {
+        let time = time(rt.alloc(), text);
+        assert!(rt;
+            matches!(&time, Ok(characters) if characters.as_slice() == want),
+            "at {text:?}"
+        );
+    }
 }
 
 // An A of so many blanks, which is spelled with two length bytes.
@@ -74,24 +103,15 @@ fn blanks(alloc: Global, count: u16) -> Result<Vec<u8>, NoMemory> {
     Ok(text)
 }
 
-// How many characters are read of so many.
-fn count_read(alloc: Global, count: u16) -> Result<Option<usize>, NoMemory> {
-    let text = blanks(alloc, count)?;
-    match read(alloc, 2, 31, text.as_slice()) {
-        Ok(GemMsg::S2F31(text)) => Ok(Some(text.as_slice().len())),
-        _ => Ok(None),
-    }
-}
-
 #[test]
-fn s2f31_has_any_number_of_characters(rt: HostRuntime) {
+fn s2f31_has_any_number_of_characters(rt: HostRuntime) -> Result<(), Fail> {
     for count in [0, 1, 16, 256, 65_535] {
-        let read = count_read(rt.alloc(), count);
-        assert!(rt;
-            matches!(&read, Ok(Some(n)) if *n == usize::from(count)),
-            "at {count}"
-        );
+        let text = blanks(rt.alloc(), count)?;
+        let time = time(rt.alloc(), text.as_slice())?;
+        assert_eq!(rt; time.len(), usize::from(count));
+        assert!(rt; time.iter().all(|character| *character == b' '));
     }
+    Ok(())
 }
 
 #[test]
@@ -105,42 +125,24 @@ fn s2f31_that_is_no_a_is_illegal(rt: HostRuntime) {
         b"\x41\x01\x30\x00",
     ];
     for text in texts {
-        let read = read(rt.alloc(), 2, 31, text);
-        assert!(rt; matches!(&read, Err(BodyFault::IllegalData)), "at {text:?}");
+        let time = time(rt.alloc(), text);
+        assert!(rt; matches!(&time, Err(BodyFault::IllegalData)), "at {text:?}");
     }
 }
 
 #[test]
 fn what_is_not_known_is_told_by_its_stream_or_function(rt: HostRuntime) {
     for stream in 0..255 {
-        let read = read_gem(rt.alloc(), stream, 5, None);
-        if stream == 1 || stream == 2 {
-            assert!(rt;
-                matches!(&read, Err(BodyFault::UnknownFunction)),
-                "at {stream}"
-            );
+        let want = if stream == 1 || stream == 2 {
+            BodyFault::UnknownFunction
         } else {
-            assert!(rt;
-                matches!(&read, Err(BodyFault::UnknownStream)),
-                "at {stream}"
-            );
-        }
-    }
-}
-
-#[test]
-fn five_messages_have_an_ignored_text(rt: HostRuntime) {
-    for stream in 0..4 {
-        for function in 0..255 {
-            let ignored = [(1, 1), (1, 13), (1, 15), (1, 17), (2, 17)].contains(&(
-                stream, function,
-            ));
-            assert_eq!(rt;
-                is_ignored(stream, function),
-                ignored,
-                "at {stream}, {function}"
-            );
-        }
+            BodyFault::UnknownStream
+        };
+        let read = read_gem(rt.alloc(), stream, 5, None);
+        assert!(rt;
+            matches!(&read, Err(fault) if *fault == want),
+            "at {stream}"
+        );
     }
 }
 

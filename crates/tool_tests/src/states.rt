@@ -1,4 +1,6 @@
-use super::*;
+//! The states of communication and control (`gem_states`).
+
+use gem_states::{Comm, CommTrigger, Control, ControlTrigger};
 
 #[test]
 fn the_tool_establishes_communication(rt: HostRuntime) {

@@ -1,0 +1,23 @@
+//! Tests of the tool's crates by their public names, one file for each crate. It has no code of its own, and nothing
+//! stands on it. Expected values are worked by hand from the printed formats, and calls are made with ample memory, on
+//! small input and on large. What needs a private name is tested in its own crate.
+#![tactic(auto)]
+
+#[cfg(test)]
+mod desks;
+#[cfg(test)]
+mod frames;
+#[cfg(test)]
+mod items;
+#[cfg(test)]
+mod links;
+#[cfg(test)]
+mod messages;
+#[cfg(test)]
+mod names;
+#[cfg(test)]
+mod open_transactions;
+#[cfg(test)]
+mod sources_and_sinks;
+#[cfg(test)]
+mod states;

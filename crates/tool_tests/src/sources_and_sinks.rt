@@ -1,0 +1,139 @@
+//! Sources and sinks (`outside`). What standard input and output pass on, the program's run shows.
+
+use outside::{Failed, FileSource, MemSink, MemSource, Sink, Source, StdinSource, StdoutSink};
+use std::alloc::Global;
+use std::fs;
+use std::test::Fail;
+
+#[test]
+fn bytes_come_in_pieces_and_then_the_end_is_counted(rt: HostRuntime) -> Result<(), Fail> {
+    let bytes = Vec::from_slice(rt.alloc(), b"abcde")?;
+    let mut source = MemSource::new(bytes, Vec::new(rt.alloc())).with_piece(3);
+    let mut buf = [0; 4];
+    assert_eq!(rt; source.read(&mut buf), Ok(3));
+    assert_eq!(rt; buf.as_slice(), b"abc\0".as_slice());
+    assert_eq!(rt; source.left(), b"de".as_slice());
+    assert_eq!(rt; source.read(&mut buf), Ok(2));
+    assert_eq!(rt; buf.as_slice(), b"dec\0".as_slice());
+    assert_eq!(rt; source.read(&mut []), Ok(0));
+    assert_eq!(rt; (source.faults(), source.ends()), (0, 0));
+    assert_eq!(rt; source.read(&mut buf), Ok(0));
+    assert_eq!(rt; (source.faults(), source.ends()), (0, 1));
+    Ok(())
+}
+
+#[test]
+fn the_second_read_fails_and_takes_nothing(rt: HostRuntime) -> Result<(), Fail> {
+    let bytes = Vec::from_slice(rt.alloc(), b"abc")?;
+    let mut source = MemSource::new(bytes, Vec::from_slice(rt.alloc(), &[2])?);
+    let mut buf = [0; 2];
+    assert_eq!(rt; source.read(&mut buf), Ok(2));
+    assert_eq!(rt; source.read(&mut buf), Err(Failed));
+    assert_eq!(rt; (source.faults(), source.ends()), (1, 0));
+    assert_eq!(rt; source.left(), b"c".as_slice());
+    assert_eq!(rt; source.read(&mut buf), Ok(1));
+    Ok(())
+}
+
+#[test]
+fn what_is_written_is_held_in_order(rt: HostRuntime) -> Result<(), Fail> {
+    let mut sink = MemSink::new(rt.alloc(), Vec::new(rt.alloc()));
+    sink.reserve(5)?;
+    assert_eq!(rt; sink.write(b"abc"), Ok(3));
+    assert_eq!(rt; sink.write(b"de"), Ok(2));
+    assert_eq!(rt; sink.as_bytes(), b"abcde".as_slice());
+    assert_eq!(rt; (sink.faults(), sink.refusals()), (0, 0));
+    assert_eq!(rt; sink.into_bytes().as_slice(), b"abcde".as_slice());
+    Ok(())
+}
+
+#[test]
+fn the_second_write_fails_and_leaves_what_was_held(rt: HostRuntime) -> Result<(), Fail> {
+    let mut sink = MemSink::new(rt.alloc(), Vec::from_slice(rt.alloc(), &[2])?);
+    assert_eq!(rt; sink.write(b"a"), Ok(1));
+    assert_eq!(rt; sink.write(b"b"), Err(Failed));
+    assert_eq!(rt; sink.write(b"c"), Ok(1));
+    assert_eq!(rt; sink.as_bytes(), b"ac".as_slice());
+    assert_eq!(rt; (sink.faults(), sink.refusals()), (1, 0));
+    Ok(())
+}
+
+#[test]
+fn a_full_sink_takes_a_front_and_then_nothing(rt: HostRuntime) {
+    let mut sink = MemSink::new(rt.alloc(), Vec::new(rt.alloc())).with_limit(3);
+    assert_eq!(rt; sink.write(b"abcde"), Ok(3));
+    assert_eq!(rt; sink.write(b""), Ok(0));
+    assert_eq!(rt; sink.refusals(), 0);
+    assert_eq!(rt; sink.write(b"de"), Ok(0));
+    assert_eq!(rt; sink.as_bytes(), b"abc".as_slice());
+    assert_eq!(rt; (sink.faults(), sink.refusals()), (0, 1));
+}
+
+#[test]
+fn a_missing_file_fails_at_its_first_read(rt: HostRuntime) {
+    let mut file = FileSource::new(&rt, "no-such-file");
+    assert_eq!(rt; file.faults(), 0);
+    assert_eq!(rt; file.read(&mut [0; 4]), Err(Failed));
+    assert_eq!(rt; (file.faults(), file.ends()), (1, 0));
+}
+
+#[test]
+fn a_file_is_read_to_its_end(rt: HostRuntime) -> Result<(), Fail> {
+    fs::write(&rt, "three-bytes", "abc")?;
+    let mut file = FileSource::new(&rt, "three-bytes");
+    let mut buf = [0; 4];
+    assert_eq!(rt; file.read(&mut buf), Ok(3));
+    assert_eq!(rt; buf.as_slice(), b"abc\0".as_slice());
+    assert_eq!(rt; file.read(&mut buf), Ok(0));
+    assert_eq!(rt; (file.faults(), file.ends()), (0, 1));
+    fs::remove_file(&rt, "three-bytes")?;
+    Ok(())
+}
+
+// A text of so many lines, each with its number in five digits.
+fn numbered(alloc: Global, lines: u32) -> Result<String, Fail> {
+    let mut text = String::new(alloc);
+    for line in 0..lines {
+        text.push_str(format!(in alloc; "line {line:05}\n")?.as_str())?;
+    }
+    Ok(text)
+}
+
+// All that a source gives to a buffer of seven bytes, in its order.
+fn all_of(alloc: Global, source: &mut impl Source) -> Result<Vec<u8>, Fail> {
+    let mut all = Vec::new(alloc);
+    let mut buf = [0; 7];
+    for _ in 0..100_000 {
+        let Ok(count) = source.read(&mut buf) else {
+            return Err("a read that does not fail".into());
+        };
+        if count == 0 {
+            return Ok(all);
+        }
+        all.extend_from_slice(&buf[..count])?;
+    }
+    Err("an end".into())
+}
+
+#[test]
+fn a_file_comes_in_pieces_with_all_bytes_in_their_order(rt: HostRuntime) -> Result<(), Fail> {
+    let text = numbered(rt.alloc(), 1000)?;
+    fs::write(&rt, "eleven-thousand-bytes", text.as_str())?;
+    let mut file = FileSource::new(&rt, "eleven-thousand-bytes");
+    let all = all_of(rt.alloc(), &mut file)?;
+    assert_eq!(rt; all.len(), 11_000);
+    assert!(rt; all.as_slice() == text.as_bytes());
+    assert_eq!(rt; (file.faults(), file.ends()), (0, 1));
+    fs::remove_file(&rt, "eleven-thousand-bytes")?;
+    Ok(())
+}
+
+#[test]
+fn an_empty_buffer_meets_no_end_and_no_refusal(rt: HostRuntime) {
+    let mut input = StdinSource::new(&rt);
+    let mut out = StdoutSink::new(&rt);
+    assert_eq!(rt; input.read(&mut []), Ok(0));
+    assert_eq!(rt; out.write(&[]), Ok(0));
+    assert_eq!(rt; (input.faults(), input.ends()), (0, 0));
+    assert_eq!(rt; (out.faults(), out.refusals()), (0, 0));
+}

@@ -22,8 +22,8 @@ use Rattle.top_calls.specs.Stopping.{GivenBy, CountsTo, AtLine}
 abbrev pub IsOneLine : List ℕ → Type 0
 IsOneLine bytes = list_any (λ b. b == 10) bytes ≡ false
 
--- The text up to now is whole lines and then a part of a line. The history is what the whole lines gave, the counts are
--- of their bytes, and whatever follows them goes on from here.
+-- The text up to now is whole lines and then a part of a line, whose number is told. The history is what the whole lines
+-- gave, the counts are of their bytes, and whatever follows them goes on from here.
 pub record Stands (text : List ℕ) (reader : Reader) : Type 0 where
   pub whole : List ℕ
   pub reading : Reading

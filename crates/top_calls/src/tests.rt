@@ -358,6 +358,23 @@ fn a_line_outside_the_grammar_is_told_by_its_number(rt: HostRuntime) -> Result<(
     Ok(())
 }
 
+/// `T 10` of `T 1000` would be too soon, and `T ` is outside the grammar.
+#[test]
+fn a_line_that_short_reads_cut_off_is_judged_when_it_has_ended(
+    rt: HostRuntime,
+) -> Result<(), Fail> {
+    let alloc = rt.alloc();
+    for piece in [1, 2, 3, 4, 5, 6, 7, 8] {
+        let lines = b"L+\nT 999\nT 1000".as_slice();
+        let mut input = source(alloc, lines, &[])?.with_piece(piece);
+        let mut out = MemSink::new(alloc, Vec::new(alloc));
+        let ended = run_lines(alloc, &mut input, &mut out)?;
+        assert_eq!(rt; ended.status, 0);
+        assert_eq!(rt; out.as_bytes(), b"+ 1\n- 1 T7\n".as_slice());
+    }
+    Ok(())
+}
+
 #[test]
 fn a_line_of_over_six_hundred_thousand_bytes_is_refused(rt: HostRuntime) -> Result<(), Fail> {
     let alloc = rt.alloc();

@@ -6,23 +6,27 @@ use Rattle.top_calls.proofs.input.read_lines.Goals as goal
 
 pub returns-in-Ok-finish-clause-read : goal.returns-in-Ok-finish-clause-read
 returns-in-Ok-finish-clause-read g c =
+    let none : c.in-Ok.more ≡ 0 = omega (arith, c.if-is_end.true) in
     let look = looked g.S.Source.left g.S.Source.faults g.S.Source.ends in
-    (ends-whole _ _ c.finish.new.self _ _ _ _ _ (look c.read_front.new.source) _ (take c.in-Ok.more c.read_front.new.buf) c.loop-count.invariant.progress (ap (λ (n : ℕ). take n c.read_front.new.buf) c.if-is_end.true) c.in-Ok.ensures.taken (c.in-Ok.ensures.end c.if-is_end.true) (c.in-Ok.ensures.end_rose c.if-is_end.true) c.read_front.ensures.ends_stay c.in-Ok-finish.ensures.finishes).0
+    (ends-whole _ _ c.finish.new.self _ _ _ _ _ (look c.read_front.new.source) _ (take c.in-Ok.more c.read_front.new.buf) c.loop-count.invariant.progress (ap (λ (n : ℕ). take n c.read_front.new.buf) none) c.in-Ok.ensures.taken (c.in-Ok.ensures.end none) (c.in-Ok.ensures.end_rose none) c.read_front.ensures.ends_stay c.in-Ok-finish.ensures.finishes).0
 
 pub returns-in-Ok-finish-clause-prints : goal.returns-in-Ok-finish-clause-prints
 returns-in-Ok-finish-clause-prints g c =
+    let none : c.in-Ok.more ≡ 0 = omega (arith, c.if-is_end.true) in
     let look = looked g.S.Source.left g.S.Source.faults g.S.Source.ends in
-    (ends-whole _ _ c.finish.new.self _ _ _ _ _ (look c.read_front.new.source) _ (take c.in-Ok.more c.read_front.new.buf) c.loop-count.invariant.progress (ap (λ (n : ℕ). take n c.read_front.new.buf) c.if-is_end.true) c.in-Ok.ensures.taken (c.in-Ok.ensures.end c.if-is_end.true) (c.in-Ok.ensures.end_rose c.if-is_end.true) c.read_front.ensures.ends_stay c.in-Ok-finish.ensures.finishes).1
+    (ends-whole _ _ c.finish.new.self _ _ _ _ _ (look c.read_front.new.source) _ (take c.in-Ok.more c.read_front.new.buf) c.loop-count.invariant.progress (ap (λ (n : ℕ). take n c.read_front.new.buf) none) c.in-Ok.ensures.taken (c.in-Ok.ensures.end none) (c.in-Ok.ensures.end_rose none) c.read_front.ensures.ends_stay c.in-Ok-finish.ensures.finishes).1
 
 pub returns-in-Err-clause-read : goal.returns-in-Err-clause-read
 returns-in-Err-clause-read g c =
+    let none : c.in-Ok.more ≡ 0 = omega (arith, c.if-is_end.true) in
     let look = looked g.S.Source.left g.S.Source.faults g.S.Source.ends in
-    (ends-last _ _ c.finish.new.self _ _ _ _ _ (look c.read_front.new.source) _ (take c.in-Ok.more c.read_front.new.buf) c.in-Err.halt c.loop-count.invariant.progress (ap (λ (n : ℕ). take n c.read_front.new.buf) c.if-is_end.true) c.in-Ok.ensures.taken (c.in-Ok.ensures.end c.if-is_end.true) (c.in-Ok.ensures.end_rose c.if-is_end.true) c.read_front.ensures.ends_stay c.in-Err.ensures.finishes).0
+    (ends-last _ _ c.finish.new.self _ _ _ _ _ (look c.read_front.new.source) _ (take c.in-Ok.more c.read_front.new.buf) c.in-Err.halt c.loop-count.invariant.progress (ap (λ (n : ℕ). take n c.read_front.new.buf) none) c.in-Ok.ensures.taken (c.in-Ok.ensures.end none) (c.in-Ok.ensures.end_rose none) c.read_front.ensures.ends_stay c.in-Err.ensures.finishes).0
 
 pub returns-in-Err-clause-prints : goal.returns-in-Err-clause-prints
 returns-in-Err-clause-prints g c =
+    let none : c.in-Ok.more ≡ 0 = omega (arith, c.if-is_end.true) in
     let look = looked g.S.Source.left g.S.Source.faults g.S.Source.ends in
-    (ends-last _ _ c.finish.new.self _ _ _ _ _ (look c.read_front.new.source) _ (take c.in-Ok.more c.read_front.new.buf) c.in-Err.halt c.loop-count.invariant.progress (ap (λ (n : ℕ). take n c.read_front.new.buf) c.if-is_end.true) c.in-Ok.ensures.taken (c.in-Ok.ensures.end c.if-is_end.true) (c.in-Ok.ensures.end_rose c.if-is_end.true) c.read_front.ensures.ends_stay c.in-Err.ensures.finishes).1
+    (ends-last _ _ c.finish.new.self _ _ _ _ _ (look c.read_front.new.source) _ (take c.in-Ok.more c.read_front.new.buf) c.in-Err.halt c.loop-count.invariant.progress (ap (λ (n : ℕ). take n c.read_front.new.buf) none) c.in-Ok.ensures.taken (c.in-Ok.ensures.end none) (c.in-Ok.ensures.end_rose none) c.read_front.ensures.ends_stay c.in-Err.ensures.finishes).1
 
 pub returns-in-Err-taken-clause-read : goal.returns-in-Err-taken-clause-read
 returns-in-Err-taken-clause-read g c =

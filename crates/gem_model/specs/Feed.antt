@@ -135,8 +135,8 @@ is_quit _ = false
 abbrev pub line_told : ℕ → Reading → Result Line ℕ → (Reading → Told) → Told
 line_told number r (Err place) more = record { entries = []; stop = OutsideGrammar number place }
 line_told number r (Ok says) more =
-    if is_quit says then record { entries = (line_given r says).entries; stop = QuitAt number }
-    else told_behind (line_given r says).entries (more (reading_after r says))
+    told_behind (line_given r says).entries
+    (if is_quit says then record { entries = []; stop = QuitAt number } else more (reading_after r says))
 
 -- what lines tell, the first of which has this number
 abbrev pub feed_lines : ℕ → Reading → List (List ℕ) → Told

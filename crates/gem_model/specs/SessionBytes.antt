@@ -18,7 +18,7 @@ line_bytes_in r _ session = 0
 abbrev pub line_and_more : Reading → Result Line ℕ → ℕ → (Reading → ℕ) → ℕ
 line_and_more r (Err place) session more = 0
 line_and_more r (Ok says) session more =
-    if is_quit says then 0 else line_bytes_in r says session + more (reading_after r says)
+    line_bytes_in r says session + (if is_quit says then 0 else more (reading_after r says))
 
 -- the bytes that lines give to this session; none come from a line outside the grammar on, and none behind `O quit` (this
 -- tool's profile, sessions)

@@ -44,7 +44,7 @@ whole_told text reader stands =
     ∙ ap (λ (told : Told). told.entries) (stands.goes_on [])
     ∙ append-nil reader.feeder.core.history
 
-abbrev said_so : Line → Result Line ℕ
+abbrev pub said_so : Line → Result Line ℕ
 said_so says = Ok says
 
 -- an empty line says nothing
@@ -60,9 +60,9 @@ none_behind : (number : ℕ) (quits : Bool) (told : Told) → told ≡ record { 
 none_behind number true told is = refl
 none_behind number false told is = ap (λ (t : Told). t.entries) is
 
-zero_behind : (quits : Bool) → (if quits then 0 else 0) ≡ 0
-zero_behind true = refl
-zero_behind false = refl
+zero_behind : (quits : Bool) (n : ℕ) → n ≡ 0 → (if quits then 0 else n) ≡ n
+zero_behind true n none = sym none
+zero_behind false n none = refl
 
 -- what the last line gives, which may be empty
 line_entries : (number : ℕ) (r : Reading) (line : List ℕ) (says : Line) → IsOneLine line → feed_line_of line ≡ Ok says → (feed_lines number r (lines_of line)).entries ≡ (line_given r says).entries
@@ -80,7 +80,7 @@ line_in r [] says session one is =
 line_in r (b ∷ line) says session one is =
     ap (λ (ls : List (List ℕ)). lines_bytes_in r ls session) (last_line (b ∷ line) one (λ e. cc))
     ∙ ap (λ (o : Result Line ℕ). line_and_more r o session (λ next. lines_bytes_in next [] session)) is
-    ∙ ap (λ (n : ℕ). line_bytes_in r says session + n) (zero_behind (is_quit says))
+    ∙ ap (λ (n : ℕ). line_bytes_in r says session + n) (zero_behind (is_quit says) (lines_bytes_in (reading_after r says) [] session) refl)
     ∙ omega arith
 
 -- the part of a line, taken as a line, gives what it says

@@ -1,5 +1,5 @@
 -- One part of feed after another.
-use Rattle.std.proofs.Common.{◌≡◌, ℕ, ◌≤◌, inl, inr, Bool, true, false, ◌&&◌, not, List, [], ◌∷◌, ◌++◌, Option, Some, None, IfSome, Result, Ok, Err, OnOk, refl, sym, ◌∙◌, ap, append_assoc, arith, length, length-append, option_map, option_and_then, if◌then◌else◌}
+use Rattle.std.proofs.Common.{◌≡◌, ℕ, ◌≤◌, inl, inr, Bool, true, false, List, [], ◌∷◌, ◌++◌, Option, Some, None, IfSome, Result, Ok, Err, refl, sym, ◌∙◌, ap, append_assoc, arith, length, length-append, option_map, option_and_then, if◌then◌else◌}
 use Rattle.std.proofs.lemmas.List.{append-nil}
 use Rattle.outside.specs.Told.{Written}
 use Rattle.tool_events.specs.declared.entry.Entry.{Entry}
@@ -55,7 +55,6 @@ shows_unmoved start core core' out same shows = rw (same.config, same.history) s
 pub Goes-unmoved : (core core' : CoreView) (out : SinkView) (given : Given) → Unmoved core core' → Goes core core' out out given (Err halt.NoMemory)
 Goes-unmoved core core' out given same = record {
   config = same.config;
-  whole = tt;
   went = rw same.history (IsFront-append core.history given.entries);
   grows = IsFront-same core.history core'.history same.history;
   wrote = λ e. absurd (cc);
@@ -70,7 +69,6 @@ Goes-unmoved core core' out given same = record {
 pub Goes-full : (core core' : CoreView) (out : SinkView) (given : Given) (entry : Entry) (behind : List Entry) → Unmoved core core' → given.entries ≡ entry ∷ behind → is_full core.config core.history entry.event ≡ true → Goes core core' out out given (Err halt.Full)
 Goes-full core core' out given entry behind same is full = record {
   config = same.config;
-  whole = tt;
   went = record { next = entry; behind = behind; joined = rw same.history (ap (λ (es : List Entry). core.history ++ es) is); full = rw same.history full };
   grows = IsFront-same core.history core'.history same.history;
   wrote = λ e. absurd (cc);
@@ -84,15 +82,10 @@ Goes-full core core' out given entry behind same is full = record {
 -- one entry was added to the history
 pub record Added (core core' : CoreView) (entry : Entry) (o : Outcome) : Type 0 where
   pub config : core'.config ≡ core.config
-  pub whole : core.is_whole ≡ true → core'.is_whole ≡ true
   pub ran : Run (opening core.config) core.history core.state
   pub here : entry_step core.state entry ≡ Some o
   pub history : core'.history ≡ core.history ++ entry ∷ []
   pub state : core'.state ≡ o.after
-
--- a core stays whole unless memory ran out
-pub whole_after : (before after want : Bool) → after ≡ (before && not want) → want ≡ false → before ≡ true → after ≡ true
-whole_after before after want is none whole = is ∙ rw (whole, none) refl
 
 -- what one entry gives
 abbrev pub one : CoreView → Entry → Given
@@ -109,7 +102,6 @@ added_grows core core' entry o added = record { behind = entry ∷ []; joined = 
 pub Goes-added : (core core' : CoreView) (out out' : SinkView) (entry : Entry) (o : Outcome) (lines : List ℕ) → Added core core' entry o → lines ≡ outcome_lines o → Written out.held out'.held lines → (out'.faults ≡ out.faults) × (out'.refusals ≡ out.refusals) → Goes core core' out out' (one core entry) (Ok tt)
 Goes-added core core' out out' entry o lines added is written stay = record {
   config = added.config;
-  whole = added.whole;
   went = (added.history, added.state ∙ sym (after-step core.state entry.at.0 entry.event o added.here));
   grows = added_grows core core' entry o added;
   wrote = λ e. absurd (cc);
@@ -123,7 +115,6 @@ Goes-added core core' out out' entry o lines added is written stay = record {
 pub Goes-added-write : (core core' : CoreView) (out out' : SinkView) (entry : Entry) (o : Outcome) (lines : List ℕ) → Added core core' entry o → lines ≡ outcome_lines o → WrittenFront out.held out'.held lines → Failed out.faults out'.faults out.refusals out'.refusals → out.faults ≤ out'.faults → out.refusals ≤ out'.refusals → Goes core core' out out' (one core entry) (Err halt.Write)
 Goes-added-write core core' out out' entry o lines added is written cause faults refusals = record {
   config = added.config;
-  whole = tt;
   went = rw added.history (record { behind = []; joined = sym (append-nil (core.history ++ entry ∷ [])) });
   grows = added_grows core core' entry o added;
   wrote = λ e. omega (arith, ap length added.history, length-append core.history (entry ∷ []));
@@ -137,7 +128,6 @@ Goes-added-write core core' out out' entry o lines added is written cause faults
 pub Goes-added-memory : (core core' : CoreView) (out : SinkView) (entry : Entry) (o : Outcome) → Added core core' entry o → Goes core core' out out (one core entry) (Err halt.NoMemory)
 Goes-added-memory core core' out entry o added = record {
   config = added.config;
-  whole = tt;
   went = rw added.history (record { behind = []; joined = sym (append-nil (core.history ++ entry ∷ [])) });
   grows = added_grows core core' entry o added;
   wrote = λ e. absurd (cc);
@@ -197,15 +187,10 @@ went_then a b c first more (Err halt.NoMemory) b_c h i = record { behind = i.beh
 pub stay_then : (o1 o2 o3 : SinkView) → (o2.faults ≡ o1.faults) × (o2.refusals ≡ o1.refusals) → (o3.faults ≡ o2.faults) × (o3.refusals ≡ o2.refusals) → (o3.faults ≡ o1.faults) × (o3.refusals ≡ o1.refusals)
 stay_then o1 o2 o3 h i = (i.0 ∙ h.0, i.1 ∙ h.1)
 
-whole_then : (a b c : CoreView) (result : Result (Unit {0}) Halt) → (a.is_whole ≡ true → b.is_whole ≡ true) → OnOk result (b.is_whole ≡ true → c.is_whole ≡ true) → OnOk result (a.is_whole ≡ true → c.is_whole ≡ true)
-whole_then a b c (Ok done) h i = λ whole. i (h whole)
-whole_then a b c (Err why) h i = tt
-
 -- one part, and then another
 pub Goes-then : (a b c : CoreView) (o1 o2 o3 : SinkView) (first more : Given) (result : Result (Unit {0}) Halt) → Goes a b o1 o2 first (Ok tt) → Goes b c o2 o3 more result → Goes a c o1 o3 (behind first.entries more) result
 Goes-then a b c o1 o2 o3 first more result h i = record {
   config = i.config ∙ h.config;
-  whole = whole_then a b c result h.whole i.whole;
   went = went_then a b c first more result h.config h.went i.went;
   grows = IsFront-then a.history b.history c.history h.grows i.grows;
   wrote = λ e. omega (arith, IsFront-length a.history b.history h.grows, i.wrote e);
@@ -232,7 +217,6 @@ went_halts a b first more halt.NoMemory h = rw (← append_assoc a.history first
 pub Goes-halts : (a b : CoreView) (o1 o2 : SinkView) (first more : Given) (why : Halt) → Goes a b o1 o2 first (Err why) → Goes a b o1 o2 (behind first.entries more) (Err why)
 Goes-halts a b o1 o2 first more why h = record {
   config = h.config;
-  whole = tt;
   went = went_halts a b first more why h.went;
   grows = h.grows;
   wrote = h.wrote;
@@ -247,7 +231,6 @@ Goes-halts a b o1 o2 first more why h = record {
 pub Goes-nothing : (core : CoreView) (out : SinkView) → Goes core core out out (nothing core.state) (Ok tt)
 Goes-nothing core out = record {
   config = refl;
-  whole = λ whole. whole;
   went = (sym (append-nil core.history), refl);
   grows = IsFront-same core.history core.history refl;
   wrote = λ e. absurd (cc);

@@ -34,9 +34,9 @@ session_is : (up : Bool) (n k : ℕ) → (if up then Some n else None) ≡ Some 
 session_is true n k h = (refl, cc)
 session_is false n k h = absurd (cc)
 
-reading_at : (r : Reading) (given : Given) (core' : CoreView) (cutter' : Kept) (stream : List ℕ) (result : Result (Unit {0}) Halt) (core : CoreView) → core.is_whole ≡ true → OnOk result (core.is_whole ≡ true → core'.is_whole ≡ true) → WentOn core core' given result → cutter'.max ≡ text_bytes → IsCutOf stream (arrivals_of text_bytes stream) cutter' → OnOk result (IsReading (record { state = given.state; stream = stream }) core' cutter')
-reading_at r given core' cutter' stream (Ok done) core is whole went max cut = record { state = went.1; whole = whole is; max = λ _. max; cut = λ _. cut }
-reading_at r given core' cutter' stream (Err why) core is whole went max cut = tt
+reading_at : (r : Reading) (given : Given) (core' : CoreView) (cutter' : Kept) (stream : List ℕ) (result : Result (Unit {0}) Halt) (core : CoreView) → WentOn core core' given result → cutter'.max ≡ text_bytes → IsCutOf stream (arrivals_of text_bytes stream) cutter' → OnOk result (IsReading (record { state = given.state; stream = stream }) core' cutter')
+reading_at r given core' cutter' stream (Ok done) core went max cut = record { state = went.1; max = λ _. max; cut = λ _. cut }
+reading_at r given core' cutter' stream (Err why) core went max cut = tt
 
 pub TakesLine-bytes : (r : Reading) (bytes : List ℕ) (old : Feeder) (core' : CoreView) (cutter' : Kept) (reads' : List ℕ) (out out' : SinkView) (arrivals : List Arrival) (short : Bool) (session : ℕ) (result : Result (Unit {0}) Halt) → IsReading r old.core old.cutter → (if is_up old.core.state then Some old.core.state.link.session else None) ≡ Some session → cutter'.max ≡ old.cutter.max → ((stream : List ℕ) → old.cutter.max ≡ text_bytes → IsCutOf stream (arrivals_of text_bytes stream) old.cutter → Cuts bytes old.cutter cutter' arrivals short stream) → Goes old.core core' out out' (messages old.core.state session arrivals short) result → AddsLine r (line.Bytes bytes) old.reads reads' → TakesLine r (line.Bytes bytes) old (record { core = core'; cutter = cutter'; reads = reads' }) out out' result
 TakesLine-bytes r bytes old core' cutter' reads' out out' arrivals short session result reading told same cuts goes adds =
@@ -55,6 +55,6 @@ TakesLine-bytes r bytes old core' cutter' reads' out out' arrivals short session
     let all = subst (λ (given : Given). Goes old.core core' out out' given result) (is ∙ sym given) goes in
     record {
       goes = all;
-      reading = reading_at r (line_given r (line.Bytes bytes)) core' cutter' (r.stream ++ bytes) result old.core reading.whole all.whole all.went (same ∙ max) cut.cut;
+      reading = reading_at r (line_given r (line.Bytes bytes)) core' cutter' (r.stream ++ bytes) result old.core all.went (same ∙ max) cut.cut;
       counts = counts_any r (line.Bytes bytes) old.reads reads' old.core core' result adds;
     }

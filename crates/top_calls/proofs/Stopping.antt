@@ -6,7 +6,7 @@ use Rattle.tool_events.specs.declared.entry.Entry.{Entry}
 use Rattle.gem_model.specs.Front.{IsFront}
 use Rattle.gem_model.specs.Lines.{lines_of, whole_lines}
 use Rattle.line_grammar.specs.declared.line.Line.{Line}
-use Rattle.line_grammar.specs.declared.line.Line.TheVariants as line
+use Rattle.line_grammar.specs.declared.line.Line.TheVariants.{Skip}
 use Rattle.line_grammar.specs.Reading.{feed_line_of}
 use Rattle.gem_model.specs.Feed.{Given, line_given, reading_after, feed_entries, is_quit}
 use Rattle.gem_model.specs.Sizes.{counted}
@@ -212,18 +212,18 @@ pub line_gives : (Over : Type 0) (text all : List ℕ) (old : Reader) (new : Fee
 line_gives Over text all old new out out' why stands ends h = gives_by Over text all old new out out' why stands (feed_line_of old.line.items) refl ends h
 
 -- an empty line skips
-empty_skips : (line : List ℕ) → line ≡ [] → feed_line_of line ≡ Ok line.Skip
+empty_skips : (line : List ℕ) → line ≡ [] → feed_line_of line ≡ Ok Skip
 empty_skips line e = ap feed_line_of e ∙ empty_line
 
 -- a line outside the grammar is not empty, nor is one that ends the run
-not_empty : (line : List ℕ) (says : Result Line ℕ) → feed_line_of line ≡ says → says ≢ Ok line.Skip → line ≢ []
+not_empty : (line : List ℕ) (says : Result Line ℕ) → feed_line_of line ≡ says → says ≢ Ok Skip → line ≢ []
 not_empty line says is other = λ e. other (sym is ∙ empty_skips line e)
 
-other_place : (place : ℕ) → refused_at place ≢ Ok line.Skip
+other_place : (place : ℕ) → refused_at place ≢ Ok Skip
 other_place place = λ e. cc e
 
-other_quit : (says : Line) → is_quit says ≡ true → said_so says ≢ Ok line.Skip
-other_quit says quits = λ e. let same : says ≡ line.Skip = cc e in let no : false ≡ true = sym (ap is_quit same) ∙ quits in cc no
+other_quit : (says : Line) → is_quit says ≡ true → said_so says ≢ Ok Skip
+other_quit says quits = λ e. let same : says ≡ Skip = cc e in let no : false ≡ true = sym (ap is_quit same) ∙ quits in cc no
 
 -- so it is the last
 last_number : (text : List ℕ) (reader : Reader) (stands : Stands text reader) → reader.line.items ≢ [] → length (lines_of text) ≡ reader.number

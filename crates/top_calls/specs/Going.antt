@@ -1,5 +1,5 @@
 -- What a part of feed does to the core and to the output.
-use Rattle.std.specs.Prelude.{◌≡◌, ◌≢◌, ℕ, ◌<◌, ◌≤◌, List, ◌++◌, length, Option, true, Result, Ok, Err, OnOk, IsErrOf}
+use Rattle.std.specs.Prelude.{◌≡◌, ◌≢◌, ℕ, ◌<◌, ◌≤◌, List, ◌++◌, length, Option, Result, Ok, Err, IsErrOf}
 use Rattle.outside.specs.Told.{Written}
 use Rattle.gem_model.specs.Front.{IsFront}
 use Rattle.gem_model.specs.State.{opening}
@@ -49,8 +49,6 @@ ShowsAtEnd start out core (Err halt.NoMemory) = WrittenFront start out.held (pri
 pub record Goes (core core' : CoreView) (out out' : SinkView) (given : Given) (result : Result (Unit {0}) Halt) : Type 0 where
   pub config : core'.config ≡ core.config
   pub went : WentOn core core' given result
-  -- a core that is whole stays so
-  pub whole : OnOk result (core.is_whole ≡ true → core'.is_whole ≡ true)
   -- what was in the history stays; a write fault comes with an entry that was added
   pub grows : IsFront core.history core'.history
   pub wrote : IsErrOf result halt.Write → length core.history < length core'.history

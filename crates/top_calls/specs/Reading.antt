@@ -11,10 +11,9 @@ use Rattle.top_calls.specs.declared.feeder.Feeder.{Feeder}
 use Rattle.top_calls.specs.Going.{SinkView, Goes}
 use Rattle.top_calls.specs.Reads.{CountsLine}
 
--- the core is whole and in the state of the reading, and where a session is up the cutter has cut its bytes
+-- the core is in the state of the reading, and where a session is up the cutter has cut its bytes
 pub record IsReading (r : Reading) (core : CoreView) (cutter : Kept) : Type 0 where
   pub state : core.state ≡ r.state
-  pub whole : core.is_whole ≡ true
   pub max : is_up r.state ≡ true → cutter.max ≡ text_bytes
   pub cut : is_up r.state ≡ true → IsCutOf r.stream (arrivals_of text_bytes r.stream) cutter
 

@@ -1,5 +1,5 @@
 //! One input after another: events are posted to the core, and the lines of their answers are written.
-ghost use Rattle.std.specs.Prelude.{◌≡◌, ◌≢◌, [], ◌∷◌, ◌++◌, Some, None, true, IfOk, option_map, option_and_then};
+ghost use Rattle.std.specs.Prelude.{◌≡◌, ◌≢◌, [], ◌∷◌, ◌++◌, Some, None, true, IfOk, OnOk, option_map, option_and_then};
 ghost use Rattle.gem_model.specs.State.{opening, is_session_up};
 ghost use Rattle.gem_model.specs.Sessions.{session_end};
 ghost use Rattle.gem_model.specs.Printed.{answer_line, end_line, line_bytes};
@@ -48,9 +48,11 @@ fn post<K: Sink>(
     event: Event,
     out: &mut K,
 ) -> Result<(), Halt>
-    requires { step core.old.state at.0 event ≢ None }
-    ensures { Goes core.old core.new (seen K.held K.faults K.refusals out.old) (seen K.held K.faults K.refusals out.new)
+    requires step { step core.old.state at.0 event ≢ None }
+    requires whole { core.old.is_whole ≡ true }
+    ensures goes { Goes core.old core.new (seen K.held K.faults K.refusals out.old) (seen K.held K.faults K.refusals out.new)
         (record { entries = entry_of at.0 event ∷ []; state = after core.old.state at.0 event }) result }
+    ensures whole { OnOk result (core.new.is_whole ≡ true) }
 {
     let before = core.session_up();
     let answer = match core.apply(alloc, 0, at, event) {
@@ -87,8 +89,9 @@ fn take_frames<K: Sink>(
 ) -> Result<(), Halt>
     requires up { is_session_up core.old.state session ≡ true }
     requires whole { core.old.is_whole ≡ true }
-    ensures { Goes core.old core.new (seen K.held K.faults K.refusals out.old) (seen K.held K.faults K.refusals out.new)
+    ensures goes { Goes core.old core.new (seen K.held K.faults K.refusals out.old) (seen K.held K.faults K.refusals out.new)
         (taken_all core.old.state) result }
+    ensures whole { OnOk result (core.new.is_whole ≡ true) }
 {
     while !core.idle(AT_ONCE, &Event::Take { session }) {
         match post(alloc, core, AT_ONCE, Event::Take { session }, out) {
@@ -102,8 +105,9 @@ fn take_frames<K: Sink>(
 /// The writer takes each frame that waits.
 fn take_waiting<K: Sink>(alloc: Global, core: &mut Core, out: &mut K) -> Result<(), Halt>
     requires { core.old.is_whole ≡ true }
-    ensures { Goes core.old core.new (seen K.held K.faults K.refusals out.old) (seen K.held K.faults K.refusals out.new)
+    ensures goes { Goes core.old core.new (seen K.held K.faults K.refusals out.old) (seen K.held K.faults K.refusals out.new)
         (taken_all core.old.state) result }
+    ensures whole { OnOk result (core.new.is_whole ≡ true) }
 {
     match core.session_up() {
         Some(session) => take_frames(alloc, core, session, out),
@@ -121,8 +125,9 @@ pub fn input<K: Sink>(
 ) -> Result<(), Halt>
     requires step { step core.old.state at.0 event ≢ None }
     requires whole { core.old.is_whole ≡ true }
-    ensures { Goes core.old core.new (seen K.held K.faults K.refusals out.old) (seen K.held K.faults K.refusals out.new)
+    ensures goes { Goes core.old core.new (seen K.held K.faults K.refusals out.old) (seen K.held K.faults K.refusals out.new)
         (input core.old.state at.0 event) result }
+    ensures whole { OnOk result (core.new.is_whole ≡ true) }
 {
     match post(alloc, core, at, event, out) {
         Ok(()) => take_waiting(alloc, core, out),
@@ -140,8 +145,9 @@ fn take_message<K: Sink>(
 ) -> Result<(), Halt>
     requires up { is_session_up core.old.state session ≡ true }
     requires whole { core.old.is_whole ≡ true }
-    ensures { Goes core.old core.new (seen K.held K.faults K.refusals out.old) (seen K.held K.faults K.refusals out.new)
+    ensures goes { Goes core.old core.new (seen K.held K.faults K.refusals out.old) (seen K.held K.faults K.refusals out.new)
         (message core.old.state session arrival) result }
+    ensures whole { OnOk result (core.new.is_whole ≡ true) }
 {
     input(alloc, core, AT_ONCE, Event::Host { session, arrival }, out)
 }
@@ -156,8 +162,9 @@ pub fn take_messages<K: Sink>(
     out: &mut K,
 ) -> Result<(), Halt>
     requires { core.old.is_whole ≡ true }
-    ensures { Goes core.old core.new (seen K.held K.faults K.refusals out.old) (seen K.held K.faults K.refusals out.new)
+    ensures goes { Goes core.old core.new (seen K.held K.faults K.refusals out.old) (seen K.held K.faults K.refusals out.new)
         (messages core.old.state session arrivals.items short) result }
+    ensures whole { OnOk result (core.new.is_whole ≡ true) }
 {
     for arrival in arrivals {
         if !core.is_session_up(session) {
@@ -180,8 +187,9 @@ fn end_messages<K: Sink>(
     out: &mut K,
 ) -> Result<(), Halt>
     requires { core.old.is_whole ≡ true }
-    ensures { Goes core.old core.new (seen K.held K.faults K.refusals out.old) (seen K.held K.faults K.refusals out.new)
+    ensures goes { Goes core.old core.new (seen K.held K.faults K.refusals out.old) (seen K.held K.faults K.refusals out.new)
         (messages core.old.state session [] short) result }
+    ensures whole { OnOk result (core.new.is_whole ≡ true) }
 {
     if short && core.is_session_up(session) {
         let cause = SessionCause::ShortLength;

@@ -84,8 +84,10 @@ impl Feeder {
 
     /// A link comes up. A new session begins with no bytes.
     fn link_up<K: Sink>(&mut self, alloc: Global, out: &mut K) -> Result<(), Halt>
-        ensures { (r : Reading) → IsReading r self.old.core self.old.cutter
+        requires whole { self.old.core.is_whole ≡ true }
+        ensures takes { (r : Reading) → IsReading r self.old.core self.old.cutter
             → TakesLine r line.Up self.old self.new (seen K.held K.faults K.refusals out.old) (seen K.held K.faults K.refusals out.new) result }
+        ensures whole { OnOk result (self.new.core.is_whole ≡ true) }
     {
         if self.core.session_up().is_none() {
             match Cutter::new(alloc, TEXT_BYTES) {
@@ -98,8 +100,10 @@ impl Feeder {
 
     /// The peer closes the link. Without a session nothing happens.
     fn link_down<K: Sink>(&mut self, alloc: Global, out: &mut K) -> Result<(), Halt>
-        ensures { (r : Reading) → IsReading r self.old.core self.old.cutter
+        requires whole { self.old.core.is_whole ≡ true }
+        ensures takes { (r : Reading) → IsReading r self.old.core self.old.cutter
             → TakesLine r line.Down self.old self.new (seen K.held K.faults K.refusals out.old) (seen K.held K.faults K.refusals out.new) result }
+        ensures whole { OnOk result (self.new.core.is_whole ≡ true) }
     {
         let Some(session) = self.core.session_up() else {
             return Ok(());
@@ -116,8 +120,10 @@ impl Feeder {
 
     /// The clock is looked at, at this moment. Where nothing is due nothing happens.
     fn look<K: Sink>(&mut self, alloc: Global, at: Moment, out: &mut K) -> Result<(), Halt>
-        ensures { (r : Reading) → IsReading r self.old.core self.old.cutter
+        requires whole { self.old.core.is_whole ≡ true }
+        ensures takes { (r : Reading) → IsReading r self.old.core self.old.cutter
             → TakesLine r (line.Moment at) self.old self.new (seen K.held K.faults K.refusals out.old) (seen K.held K.faults K.refusals out.new) result }
+        ensures whole { OnOk result (self.new.core.is_whole ≡ true) }
     {
         if self.core.idle(at, &Event::Tick) {
             return Ok(());
@@ -141,8 +147,10 @@ impl Feeder {
 
     /// Bytes of the host come. Without a session they are dropped.
     fn take_bytes<K: Sink>(&mut self, alloc: Global, bytes: &[u8], out: &mut K) -> Result<(), Halt>
-        ensures { (r : Reading) → IsReading r self.old.core self.old.cutter
+        requires whole { self.old.core.is_whole ≡ true }
+        ensures takes { (r : Reading) → IsReading r self.old.core self.old.cutter
             → TakesLine r (line.Bytes bytes.now) self.old self.new (seen K.held K.faults K.refusals out.old) (seen K.held K.faults K.refusals out.new) result }
+        ensures whole { OnOk result (self.new.core.is_whole ≡ true) }
     {
         let Some(session) = self.core.session_up() else {
             return Ok(());
@@ -164,8 +172,10 @@ impl Feeder {
         command: OperCmd,
         out: &mut K,
     ) -> Result<(), Halt>
-        ensures { (r : Reading) → IsReading r self.old.core self.old.cutter
+        requires whole { self.old.core.is_whole ≡ true }
+        ensures takes { (r : Reading) → IsReading r self.old.core self.old.cutter
             → TreatsLine r (Ok (line.Oper command)) self.old self.new (seen K.held K.faults K.refusals out.old) (seen K.held K.faults K.refusals out.new) result }
+        ensures whole { OnOk result (self.new.core.is_whole ≡ true) }
     {
         let quits = matches!(command, OperCmd::Quit);
         match input(
@@ -187,8 +197,10 @@ impl Feeder {
         signal: Signal,
         out: &mut K,
     ) -> Result<(), Halt>
-        ensures { (r : Reading) → IsReading r self.old.core self.old.cutter
+        requires whole { self.old.core.is_whole ≡ true }
+        ensures takes { (r : Reading) → IsReading r self.old.core self.old.cutter
             → TakesLine r (line.Signal signal) self.old self.new (seen K.held K.faults K.refusals out.old) (seen K.held K.faults K.refusals out.new) result }
+        ensures whole { OnOk result (self.new.core.is_whole ≡ true) }
     {
         input(
             alloc,
@@ -206,12 +218,15 @@ impl Feeder {
         line: &[u8],
         out: &mut K,
     ) -> Result<(), Halt>
-        ensures { (r : Reading) → IsReading r self.old.core self.old.cutter
+        requires whole { self.old.core.is_whole ≡ true }
+        ensures takes { (r : Reading) → IsReading r self.old.core self.old.cutter
             → TreatsLine r (feed_line_of line.now) self.old self.new (seen K.held K.faults K.refusals out.old) (seen K.held K.faults K.refusals out.new) result }
+        ensures whole { OnOk result (self.new.core.is_whole ≡ true) }
     {
         match read_feed_line(alloc, line) {
+            Ok(Line::Skip) => Ok(()),
             // No line of `feed` waits for a port.
-            Ok(Line::Skip | Line::Watch(_)) => Ok(()),
+            Ok(Line::Watch(_)) => Ok(()),
             Ok(Line::Up) => self.link_up(alloc, out),
             Ok(Line::Down) => self.link_down(alloc, out),
             Ok(Line::Moment(at)) => self.look(alloc, at, out),

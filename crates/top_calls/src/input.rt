@@ -1,5 +1,5 @@
 //! The input, from its first byte to its end.
-ghost use Rattle.std.specs.Prelude.{◌≡◌, ◌≢◌, ◌≤◌, ℕ, List, [], length};
+ghost use Rattle.std.specs.Prelude.{◌≡◌, ◌≢◌, ◌≤◌, ℕ, List, [], length, true};
 ghost use Rattle.outside.specs.Told.{Taken};
 ghost use Rattle.top_calls.specs.Going.{seen};
 ghost use Rattle.top_calls.specs.Fed.{looked, ReadToEnd};
@@ -48,6 +48,7 @@ pub fn read_lines<S: Source, K: Sink>(
 ) -> InputRead
     requires stands { Stands [] reader.old }
     requires first { reader.old.number ≡ 1 }
+    requires whole { reader.old.feeder.core.is_whole ≡ true }
     ensures read { (text : List ℕ) × (length text ≡ result.count) × Taken (S.left input.old) (S.left input.new) text
         × GivenBy (ReadToEnd (looked S.left S.faults S.ends input.old) (looked S.left S.faults S.ends input.new)) reader.new.feeder.core.config text reader.new.feeder.core.history
         × InputEnds result.end text reader.new (looked S.left S.faults S.ends input.old) (looked S.left S.faults S.ends input.new) }

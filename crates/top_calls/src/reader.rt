@@ -1,5 +1,5 @@
 //! The input as lines: bytes are gathered to lines, and each line is taken at its line feed.
-ghost use Rattle.std.specs.Prelude.{◌≡◌, ◌+◌, ◌<◌, ◌≤◌, ◌≢◌, ◌^◌, ℕ, List, [], ◌∷◌, ◌++◌, length, Err, IfOk};
+ghost use Rattle.std.specs.Prelude.{◌≡◌, ◌+◌, ◌<◌, ◌≤◌, ◌≢◌, ◌^◌, ℕ, List, [], ◌∷◌, ◌++◌, length, true, Err, IfOk, OnOk};
 ghost use Rattle.tool_events.specs.Configs.{IsConfig};
 ghost use Rattle.top_calls.specs.Going.{seen};
 
@@ -30,6 +30,7 @@ impl Reader {
         ensures number { IfOk result (λ reader. reader.number ≡ 1) }
         ensures history { IfOk result (λ reader. reader.feeder.core.history ≡ []) }
         ensures config { IfOk result (λ reader. reader.feeder.core.config ≡ config.now) }
+        ensures whole { IfOk result (λ reader. reader.feeder.core.is_whole ≡ true) }
     {
         let feeder = Feeder::open(alloc, config)?;
         Ok(Reader {
@@ -41,10 +42,12 @@ impl Reader {
 
     /// The line is whole: it is taken, and the next begins.
     fn end_line<K: Sink>(&mut self, alloc: Global, out: &mut K) -> Result<(), Halt>
-        requires { self.old.number + 1 < 2 ^ 64 }
+        requires number { self.old.number + 1 < 2 ^ 64 }
+        requires whole { self.old.feeder.core.is_whole ≡ true }
         ensures takes { (text : List ℕ) → Stands text self.old
             → Takes text (10 ∷ []) self.old self.new (seen K.held K.faults K.refusals out.old) (seen K.held K.faults K.refusals out.new) result }
         ensures number { self.new.number ≤ self.old.number + 1 }
+        ensures whole { OnOk result (self.new.feeder.core.is_whole ≡ true) }
     {
         match self.feeder.take_line(alloc, &self.line, out) {
             Ok(()) => {}
@@ -74,10 +77,12 @@ impl Reader {
 
     /// The next byte of the text comes.
     fn take_byte<K: Sink>(&mut self, alloc: Global, byte: u8, out: &mut K) -> Result<(), Halt>
-        requires { self.old.number + 1 < 2 ^ 64 }
+        requires number { self.old.number + 1 < 2 ^ 64 }
+        requires whole { self.old.feeder.core.is_whole ≡ true }
         ensures takes { (text : List ℕ) → Stands text self.old
             → Takes text (byte ∷ []) self.old self.new (seen K.held K.faults K.refusals out.old) (seen K.held K.faults K.refusals out.new) result }
         ensures number { self.new.number ≤ self.old.number + 1 }
+        ensures whole { OnOk result (self.new.feeder.core.is_whole ≡ true) }
     {
         if byte == b'\n' {
             self.end_line(alloc, out)
@@ -93,10 +98,12 @@ impl Reader {
         piece: &[u8],
         out: &mut K,
     ) -> Result<(), Halt>
-        requires { self.old.number + length piece.now < 2 ^ 64 }
+        requires number { self.old.number + length piece.now < 2 ^ 64 }
+        requires whole { self.old.feeder.core.is_whole ≡ true }
         ensures takes { (text : List ℕ) → Stands text self.old
             → Takes text piece.now self.old self.new (seen K.held K.faults K.refusals out.old) (seen K.held K.faults K.refusals out.new) result }
         ensures number { self.new.number ≤ self.old.number + length piece.now }
+        ensures whole { OnOk result (self.new.feeder.core.is_whole ≡ true) }
     {
         for byte in piece {
             match self.take_byte(alloc, *byte, out) {
@@ -109,6 +116,7 @@ impl Reader {
 
     /// The text ends: what came of its last line is a line too.
     pub fn finish<K: Sink>(&mut self, alloc: Global, out: &mut K) -> Result<(), Halt>
+        requires { self.old.feeder.core.is_whole ≡ true }
         ensures finishes { (text : List ℕ) → Stands text self.old
             → Finishes text self.old self.new (seen K.held K.faults K.refusals out.old) (seen K.held K.faults K.refusals out.new) result }
         ensures number { self.new.number ≡ self.old.number }

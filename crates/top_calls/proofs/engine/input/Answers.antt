@@ -1,5 +1,5 @@
 use Rattle.top_calls.proofs.Parts.{Goes-input-halts}
 use Rattle.top_calls.proofs.engine.input.Goals as goal
 
-pub returns-in-Err : goal.returns-in-Err
-returns-in-Err g c = Goes-input-halts _ _ _ _ _ _ c.in-Err.halt c.in-Err.ensures
+pub returns-in-Err-clause-goes : goal.returns-in-Err-clause-goes
+returns-in-Err-clause-goes g c = Goes-input-halts _ _ _ _ _ _ c.in-Err.halt c.in-Err.ensures.goes

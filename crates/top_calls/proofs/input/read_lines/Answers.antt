@@ -54,6 +54,7 @@ loop-count-preserved g c =
     let size : length piece ≡ c.in-Ok.more = length-take-le c.in-Ok.more c.read_front.new.buf (omega arith) in
     record {
       progress = Progress-more _ _ c.take_piece-taken.new.self _ _ _ _ _ (look c.read_front.new.source) _ c.in-Ok.more piece c.loop-count.invariant.progress c.in-Ok.ensures.taken size c.in-Ok.ensures.unfailed c.read_front.ensures.ends_stay (rw c.front.ensures at c.take_piece-taken.ensures.number) (rw c.front.ensures at c.in-Ok-taken.ensures.takes);
+      whole = c.in-Ok-taken.ensures.whole;
       within = omega (arith, c.loop-count-test.true);
       buffer = buffer;
     }

@@ -1,4 +1,4 @@
-use Rattle.std.proofs.Common.{◌≡◌, ◌-◌, ◌≤◌, length}
+use Rattle.std.proofs.Common.{◌≡◌, true, ◌-◌, ◌≤◌, length}
 use Rattle.top_calls.specs.Fed.{looked}
 use Rattle.top_calls.specs.Limits.{input_bytes}
 use Rattle.top_calls.specs.Going.{seen}
@@ -11,6 +11,7 @@ invariant-loop-count g l =
     let look = looked g.S.Source.left g.S.Source.faults g.S.Source.ends in
     record {
       progress : Progress l.fn.reader l.reader (see l.fn.out) (see l.out) (look l.fn.input) (look l.input) l.count;
+      whole : l.reader.feeder.core.is_whole ≡ true;
       within : l.count ≤ input_bytes;
       buffer : length l.buf ≡ 4096;
     }

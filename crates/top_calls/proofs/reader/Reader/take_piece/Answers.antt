@@ -22,6 +22,7 @@ loop-byte-preserved g c =
     let i : ℕ = c.loop-byte.byte-index in
     let piece : List ℕ = c.args.piece.now in
     record {
+      whole = c.in-Ok.ensures.whole;
       number = omega (arith, c.loop-byte.invariant.number, c.in-Ok.ensures.number);
       taken = λ text stands.
           let front = c.loop-byte.invariant.taken text stands in

@@ -27,19 +27,19 @@ asks_control : (b : Bool) (g h : State) → g.control ≡ h.control → (if b th
 asks_control true g h same = refl
 asks_control false g h same = sym same
 
-waits : (at : ℕ) (c : Comm) → delay_is_over at c ≡ true → is_wait_delay c ≡ true
+pub waits : (at : ℕ) (c : Comm) → delay_is_over at c ≡ true → is_wait_delay c ≡ true
 waits at (WaitDelay until) over = refl
 waits at Disabled over = absurd (cc)
 waits at WaitCra over = absurd (cc)
 waits at Communicating over = absurd (cc)
 
-fired_3 : (until : ℕ) (c : Comm) → is_wait_delay c ≡ true → comm_fired 3 until c ≡ WaitCra
+pub fired_3 : (until : ℕ) (c : Comm) → is_wait_delay c ≡ true → comm_fired 3 until c ≡ WaitCra
 fired_3 until (WaitDelay since) waits = refl
 fired_3 until Disabled waits = absurd (cc)
 fired_3 until WaitCra waits = absurd (cc)
 fired_3 until Communicating waits = absurd (cc)
 
-fired_2 : (c : Control) → is_attempt c ≡ true → control_fired 2 c ≡ control.EquipmentOffline
+pub fired_2 : (c : Control) → is_attempt c ≡ true → control_fired 2 c ≡ control.EquipmentOffline
 fired_2 control.Attempt is = refl
 fired_2 control.EquipmentOffline is = absurd (cc)
 fired_2 control.HostOffline is = absurd (cc)

@@ -1,17 +1,13 @@
 -- Settling ends, in one way.
-use Rattle.std.proofs.Common.{◌≡◌, ℕ, zero, suc, ◌+◌, ◌<◌, ◌≤◌, Bool, true, false, ◌&&◌, not, if◌then◌else◌, List, [], ◌∷◌, Option, Some, None, refl, sym, ◌∙◌, ap, subst, arith}
-use Rattle.std.specs.Option.{option_or}
+use Rattle.std.proofs.Common.{◌≡◌, ℕ, zero, suc, ◌<◌, ◌≤◌, Bool, true, false, if◌then◌else◌, List, [], ◌∷◌, Option, Some, None, refl, sym, ◌∙◌, ap, subst, arith}
 use Rattle.gem_states.specs.declared.communication.Comm.{Comm}
 use Rattle.gem_states.specs.declared.communication.Comm.TheVariants.{Disabled, WaitDelay, WaitCra, Communicating}
 use Rattle.gem_states.specs.declared.control.Control.{Control}
 use Rattle.gem_states.specs.declared.control.Control.TheVariants as control
 use Rattle.gem_states.specs.Meaning.{comm_fired, control_fired}
 use Rattle.gem_tables.specs.Table.{Firing, firing}
-use Rattle.transactions.specs.declared.transaction.What.{What}
-use Rattle.transactions.specs.Table.{is_full}
-use Rattle.gem_model.specs.State.{State, is_selected, can_ask}
-use Rattle.gem_model.specs.Sending.{asks}
-use Rattle.gem_model.specs.Fire.{fire, creations}
+use Rattle.gem_model.specs.State.{State}
+use Rattle.gem_model.specs.Fire.{fire}
 use Rattle.gem_model.specs.Ready.{least, ready_comm, ready_control, delay_is_over, is_attempt}
 use Rattle.gem_model.specs.Measure.{left, is_wait_delay, one_if}
 use Rattle.gem_model.specs.Settle.{Path, Settles, settling, settling_by, settled, fire_all}

@@ -33,6 +33,7 @@ count-found test searched (first ∷ others) one found passes = by_test (searche
   by_system : (b : Bool) → (first.system == one.system) ≡ b → suc (count_of test (without one.system others)) ≤ count_of test others → suc (count_of test (without one.system (first ∷ others))) ≤ count_of test (first ∷ others)
   by_system true q rest = rw q (omega arith)
   by_system false q rest = rw q (omega arith)
+
   by_test : (b : Bool) → searched first ≡ b → (find searched others ≡ Some one → suc (count_of test (without one.system others)) ≤ count_of test others) → suc (count_of test (without one.system (first ∷ others))) ≤ count_of test (first ∷ others)
   by_test true q rest =
       let is : Some first ≡ Some one = rw q at found in

@@ -6,4 +6,5 @@
 //! `specs/Step.antt`. `worked` has conversations that show what the definitions mean.
 #![tactic(auto)]
 
+pub mod laws;
 pub mod worked;

@@ -3,7 +3,7 @@ use Rattle.std.specs.Prelude.{ℕ, zero, suc, ◌+◌, ◌-◌, ◌*◌, ◌/◌
 use Rattle.std.specs.List.{list_all}
 use Rattle.gem_ids.specs.Names.{two_digits}
 
--- what a calendar and a clock show: months and days are counted from 1, all else from 0
+-- what calendar and clock show; months, and the days of a month, are counted from 1
 pub record Civil : Type 0 where
   pub year : ℕ
   pub month : ℕ
@@ -27,7 +27,7 @@ days_in_month year month =
     if month == 2 then (if is_leap_year year then 29 else 28)
     else (if (month == 4) || (month == 6) || (month == 9) || (month == 11) then 30 else 31)
 
--- the leap years from the year 1 to this one
+-- how many leap years there are from the year 1 to this one, both included
 abbrev pub leap_years_to : ℕ → ℕ
 leap_years_to year = year / 4 - year / 100 + year / 400
 
@@ -66,7 +66,7 @@ is_date year month day =
 abbrev pub is_time : ℕ → ℕ → ℕ → ℕ → Bool
 is_time hour minute second hundredth = nat_lt hour 24 && nat_lt minute 60 && nat_lt second 60 && nat_lt hundredth 100
 
--- of `first` and as many numbers after it, the latest that starts on the day or before it
+-- of `first` and so many numbers behind it, the last that starts on the day or before it
 abbrev pub latest : (ℕ → ℕ) → ℕ → ℕ → ℕ → ℕ
 latest starts day first zero = first
 latest starts day first (suc more) =

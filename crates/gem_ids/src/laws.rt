@@ -1,6 +1,6 @@
 //! Laws of the calendar and of the sixteen digits. Each function is a statement about the definitions, and has no code.
 
-ghost use Rattle.std.specs.Prelude.{◌≡◌, ℕ, ◌+◌, ◌≤◌, List, Some};
+ghost use Rattle.std.specs.Prelude.{◌≡◌, ℕ, ◌+◌, ◌≤◌, List, Some, None, codes};
 ghost use Rattle.gem_ids.specs.Moments.{last_moment};
 ghost use Rattle.gem_ids.specs.Civil.{days_in_year, days_before_year, days_of_months, time_digits, moment_in};
 
@@ -20,4 +20,14 @@ pub fn the_years_follow_one_another()
     ensures first { days_before_year 2000 ≡ 0 }
     ensures next { (year : ℕ) → 2000 ≤ year → days_before_year (year + 1) ≡ days_before_year year + days_in_year year }
     ensures months { (year : ℕ) → days_of_months year 12 ≡ days_in_year year }
+{}
+
+/// Moments and texts worked by hand: the first moment and the last, a leap day, the 29th of February of a year that has
+/// none, and a text of fifteen digits.
+pub fn a_few_moments_are_computed()
+    ensures first { time_digits 0 ≡ codes "2000010100000000" }
+    ensures last { time_digits 25245561599999 ≡ codes "9999123123595999" }
+    ensures leap_day { moment_in (codes "2024022906070809") ≡ Some 76250202809 }
+    ensures no_leap_day { moment_in (codes "2100022900000000") ≡ None }
+    ensures short { moment_in (codes "200001010000000") ≡ None }
 {}

@@ -2,7 +2,7 @@
 use Rattle.std.proofs.Common.{◌≡◌, ◌≢◌, ℕ, ◌<◌, ◌≤◌, Bool, true, false, ◌||◌, ◌==◌, if◌then◌else◌, List, [], ◌∷◌, ◌++◌, length, None, refl, ◌∙◌, ap, arith}
 use Rattle.std.specs.List.{list_any}
 use Rattle.std.proofs.lemmas.Bool.{lt-ltb, true≢false, eqb-true}
-use Rattle.gem_model.specs.Lines.{lines_of, whole_lines, onto_first, line_of, line_by_text, line_bytes}
+use Rattle.gem_model.specs.Lines.{lines_of, whole_lines, onto_first}
 
 abbrev is_feed : ℕ → Bool
 is_feed b = b == 10
@@ -87,6 +87,3 @@ first-long b (c ∷ front) text h =
       lines = lines-cons b ((c ∷ front) ++ text) parts.0 ∙ ap (onto_first b) next.lines;
       long = omega (arith, next.long);
     }
-
-pub too-long : (line : List ℕ) → line_bytes < length line → line_of line ≡ None
-too-long line long = ap (λ (t : Bool). if t then None else line_by_text line) (lt-ltb line_bytes (length line) long)

@@ -1,5 +1,5 @@
 -- The history that a text of lines makes (this tool's profile, what an input line does).
-use Rattle.std.specs.Prelude.{ℕ, ◌+◌, Bool, ◌&&◌, is_some, if◌then◌else◌, List, [], ◌∷◌, ◌++◌, length, drop, map, Option, Some, None}
+use Rattle.std.specs.Prelude.{ℕ, ◌+◌, Bool, ◌&&◌, is_some, if◌then◌else◌, List, [], ◌∷◌, ◌++◌, length, drop, map, Result, Ok, Err, true, false}
 use Rattle.hsms_frame.specs.declared.frame.Arrival.{Arrival}
 use Rattle.hsms_frame.specs.Cut.{arrivals_of, behind_of, is_short}
 use Rattle.tool_events.specs.declared.event.Event.{Event}
@@ -10,7 +10,12 @@ use Rattle.tool_events.specs.declared.config.Config.{Config}
 use Rattle.gem_model.specs.State.{State, opening, is_up, is_session_up}
 use Rattle.gem_model.specs.Step.{step, after}
 use Rattle.gem_model.specs.Run.{after_all}
-use Rattle.gem_model.specs.Lines.{Line, Skip, Up, Down, Bytes, Time, line_of, lines_of}
+use Rattle.gem_model.specs.Lines.{lines_of}
+use Rattle.line_grammar.specs.declared.line.Line.{Line}
+use Rattle.line_grammar.specs.declared.line.Line.TheVariants as line
+use Rattle.line_grammar.specs.Reading.{feed_line_of}
+use Rattle.tool_events.specs.declared.event.OperCmd.{OperCmd}
+use Rattle.tool_events.specs.declared.event.OperCmd.TheVariants as oper
 
 -- the longest text of a message, in bytes (this tool's profile, limits)
 abbrev pub text_bytes : ℕ
@@ -82,31 +87,34 @@ bytes_given r bytes =
     let arrivals = drop (length (arrivals_of text_bytes r.stream)) (arrivals_of text_bytes (r.stream ++ bytes)) in
     messages r.state r.state.link.session arrivals (is_short (behind_of (r.stream ++ bytes)))
 
--- what a line gives; without a session bytes are dropped, and a lost link is skipped; a moment at which nothing is due
--- gives nothing (this tool's profile, what an input line does)
+-- What a line gives; without a session bytes are dropped, and a lost link is skipped; a moment at which nothing is due
+-- gives nothing (this tool's profile, what an input line does). A line that `feed` refuses gives nothing.
 abbrev pub line_given : Reading → Line → Given
-line_given r Skip = nothing r.state
-line_given r Up = input r.state 0 event.LinkUp
-line_given r Down = if is_up r.state then input r.state 0 (event.LinkDown r.state.link.session PeerEnd) else nothing r.state
-line_given r (Bytes bytes) = if is_up r.state then bytes_given r bytes else nothing r.state
-line_given r (Time at) = if is_some (step r.state at event.Tick) then input r.state at event.Tick else nothing r.state
+line_given r line.Skip = nothing r.state
+line_given r line.Up = input r.state 0 event.LinkUp
+line_given r line.Down = if is_up r.state then input r.state 0 (event.LinkDown r.state.link.session PeerEnd) else nothing r.state
+line_given r (line.Bytes bytes) = if is_up r.state then bytes_given r bytes else nothing r.state
+line_given r (line.Moment at) = if is_some (step r.state at.0 event.Tick) then input r.state at.0 event.Tick else nothing r.state
+line_given r (line.Oper command) = input r.state 0 (event.Oper command)
+line_given r (line.Signal signal) = input r.state 0 (event.Signal signal)
+line_given r (line.Watch port) = nothing r.state
 
 -- the bytes of the session after a line: a new session begins with none (this tool's profile, cutting a stream)
 abbrev pub stream_after : Reading → Line → List ℕ
-stream_after r Skip = r.stream
-stream_after r Up = if is_up r.state then r.stream else []
-stream_after r Down = r.stream
-stream_after r (Bytes bytes) = r.stream ++ bytes
-stream_after r (Time at) = r.stream
+stream_after r line.Up = if is_up r.state then r.stream else []
+stream_after r (line.Bytes bytes) = r.stream ++ bytes
+stream_after r _ = r.stream
 
 -- the reading after a line
 abbrev pub reading_after : Reading → Line → Reading
-reading_after r line = record { state = (line_given r line).state; stream = stream_after r line }
+reading_after r says = record { state = (line_given r says).state; stream = stream_after r says }
 
--- where a text of lines stops, by the number of the line, counted from 1 (this tool's profile, statuses)
+-- Where a text of lines stops: nowhere, at the line of this number that is outside the grammar, at this place of it, or
+-- behind the line of this number, which is `O quit` (this tool's profile, statuses). Lines are counted from 1.
 pub data Stop : Type 0 where
   AllRead : Stop
-  OutsideGrammar : ℕ → Stop
+  OutsideGrammar : ℕ → ℕ → Stop
+  QuitAt : ℕ → Stop
 
 -- the entries of a text, and where it stops
 pub record Told : Type 0 where
@@ -117,16 +125,23 @@ pub record Told : Type 0 where
 abbrev pub told_behind : List Entry → Told → Told
 told_behind entries told = record told { entries = entries ++ told.entries }
 
+-- the line ends the run: `O quit`
+abbrev pub is_quit : Line → Bool
+is_quit (line.Oper oper.Quit) = true
+is_quit _ = false
+
 -- What a line tells, by what it says, and what follows it tells in the reading after it. A text stops before a line
--- outside the grammar (this tool's profile, input lines).
-abbrev pub line_told : ℕ → Reading → Option Line → (Reading → Told) → Told
-line_told number r None more = record { entries = []; stop = OutsideGrammar number }
-line_told number r (Some line) more = told_behind (line_given r line).entries (more (reading_after r line))
+-- outside the grammar, and behind `O quit` (this tool's profile, input lines).
+abbrev pub line_told : ℕ → Reading → Result Line ℕ → (Reading → Told) → Told
+line_told number r (Err place) more = record { entries = []; stop = OutsideGrammar number place }
+line_told number r (Ok says) more =
+    told_behind (line_given r says).entries
+    (if is_quit says then record { entries = []; stop = QuitAt number } else more (reading_after r says))
 
 -- what lines tell, the first of which has this number
 abbrev pub feed_lines : ℕ → Reading → List (List ℕ) → Told
 feed_lines number r [] = record { entries = []; stop = AllRead }
-feed_lines number r (line ∷ lines) = line_told number r (line_of line) (λ next. feed_lines (number + 1) next lines)
+feed_lines number r (text ∷ lines) = line_told number r (feed_line_of text) (λ next. feed_lines (number + 1) next lines)
 
 -- the entries of a text, where no limit of the history stops it
 abbrev pub feed_entries : Config → List ℕ → Told

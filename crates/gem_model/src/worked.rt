@@ -9,7 +9,7 @@ ghost use Rattle.tool_events.specs.declared.config.CommStart.TheVariants.{Enable
 ghost use Rattle.tool_events.specs.declared.config.ControlStart.TheVariants.{HostOffline};
 ghost use Rattle.gem_model.specs.Command.{known_config};
 ghost use Rattle.gem_model.specs.Sizes.{is_full};
-ghost use Rattle.gem_model.specs.Feed.{AllRead, OutsideGrammar};
+ghost use Rattle.gem_model.specs.Feed.{AllRead, OutsideGrammar, QuitAt};
 ghost use Rattle.gem_model.specs.Conversation.{answers_under, answer_to, stop_of, answer_to_events, posted, message_of, too_long_of, take_one, select_request, request};
 
 /// Where nothing comes, nothing is printed.
@@ -98,7 +98,7 @@ pub fn the_host_separates()
 /// A line outside the grammar stops the reading.
 pub fn a_line_is_outside_the_grammar()
     ensures printed { answer_to (codes "L+\nH 0\nL-\n") ≡ codes "+ 1\n" }
-    ensures stop { stop_of (codes "L+\nH 0\nL-\n") ≡ OutsideGrammar 2 }
+    ensures stop { stop_of (codes "L+\nH 0\nL-\n") ≡ OutsideGrammar 2 3 }
 {}
 
 /// A data message before the link is selected is rejected, with reason 4.
@@ -198,6 +198,28 @@ pub fn a_linktest_of_the_tool_is_answered_or_ends_the_session()
 pub fn the_host_takes_the_tool_on_line()
     ensures { answers_under (record known_config { control = HostOffline }) (codes "L+\nH 0000000AFFFF0000000100000001\nH 0000000A00008101000000000007\nH 0000000A00008111000000000008\nH 0000000A00008111000000000009\nH 0000000A0000810F00000000000A\nH 0000000A0000821100000000000B\n")
         ≡ codes "+ 1\n> 0000000AFFFF0000000200000001\n> 0000000A00000100000000000007\n> 0000000D00000112000000000008210100\n> 0000000D00000112000000000009210102\n> 0000000D0000011000000000000A210100\n> 0000000A0000020000000000000B\n" }
+{}
+
+/// The operator disables communication, and then every message is discarded; enabled again, the tool asks for
+/// communication. A command whose row cannot fire is not accepted.
+pub fn the_operator_disables_communication()
+    ensures { answer_to (codes "L+\nH 0000000AFFFF0000000100000001\nO enable\nO disable\nH 0000000A00008101000000000002\nO enable\n")
+        ≡ codes "+ 1\n> 0000000AFFFF0000000200000001\n= no\n= ok\n= ok\n> 0000001C0000810D0000000000010102410647454D3330304106312E302E3030\n" }
+{}
+
+/// The operator takes the tool off-line and on-line again: the tool asks by S1F1, and the host's S1F2 lets it.
+pub fn the_operator_takes_the_tool_on_line()
+    ensures asked { answer_to (codes "L+\nH 0000000AFFFF0000000100000001\nO offline\nO offline\nO online\n")
+        ≡ codes "+ 1\n> 0000000AFFFF0000000200000001\n= ok\n= no\n= ok\n> 0000000A00008101000000000001\n" }
+    ensures answered { answer_to (codes "L+\nH 0000000AFFFF0000000100000001\nO offline\nO online\nH 0000000C000001020000000000010100\nH 0000000A00008111000000000002\n")
+        ≡ codes "+ 1\n> 0000000AFFFF0000000200000001\n= ok\n= ok\n> 0000000A00008101000000000001\n> 0000000D00000112000000000002210102\n" }
+{}
+
+/// `quit` ends the session that is up, and nothing is read behind it.
+pub fn the_operator_quits()
+    ensures printed { answer_to (codes "L+\nO quit\nL+\n") ≡ codes "+ 1\n= ok\n- 1 Quit\n" }
+    ensures stop { stop_of (codes "L+\nO quit\nL+\n") ≡ QuitAt 2 }
+    ensures no_session { answer_to (codes "O quit\n") ≡ codes "= ok\n" }
 {}
 
 /// A history is full once it has its greatest number of entries, here 2, and not one before.

@@ -16,6 +16,7 @@ cause_after input.Whole count history number = cause.Done
 cause_after input.Fault count history number = cause.ReadFault
 cause_after input.Bound count history number = cause.Full (length history) (bytes_of history) count
 cause_after (input.Halted (halt.Line place)) count history number = cause.Line number place
+cause_after (input.Halted halt.Quit) count history number = cause.Done
 cause_after (input.Halted halt.Full) count history number = cause.Full (length history) (bytes_of history) count
 cause_after (input.Halted halt.Write) count history number = cause.WriteFault
 cause_after (input.Halted halt.NoMemory) count history number = cause.NoMemory

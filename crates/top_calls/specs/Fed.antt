@@ -8,7 +8,7 @@ use Rattle.gem_model.specs.State.{opening}
 use Rattle.gem_model.specs.Sizes.{bytes_of}
 use Rattle.gem_model.specs.Command.{known_configuration, configuration_bytes}
 use Rattle.gem_model.specs.Lines.{whole_lines}
-use Rattle.gem_model.specs.Feed.{AllRead, OutsideGrammar, feed_entries}
+use Rattle.gem_model.specs.Feed.{AllRead, OutsideGrammar, QuitAt, feed_entries}
 use Rattle.gem_model.specs.Printed.{printed}
 use Rattle.top_calls.specs.declared.ended.Cause.{Cause}
 use Rattle.top_calls.specs.declared.ended.Cause.TheVariants as cause
@@ -28,17 +28,20 @@ pub record SourceView : Type 0 where
 abbrev pub looked : {S : Type 0} → (S → Option (List ℕ)) → (S → ℕ) → (S → ℕ) → S → SourceView
 looked left faults ends source = record { left = left source; faults = faults source; ends = ends source }
 
--- The history is what the text gave that was read: all of it; of its whole lines, where the reading broke off; up to a
+-- The history is what the text gave that was read: all of it, where no more follows; up to the line that ended the run,
+-- which has ended; of its whole lines, where the reading broke off; up to a
 -- line that stopped it, which has ended; up to an entry that doesn't fit the limits; or, after want of memory or a write
 -- fault, a front of what lines give that have ended. Over says of the text that no more follows.
 abbrev pub FedBy : Config → Cause → Type 0 → List ℕ → List Entry → Type 0
-FedBy c cause.Done Over text history = feed_entries c text ≡ record { entries = history; stop = AllRead }
+FedBy c cause.Done Over text history =
+    ((feed_entries c text ≡ record { entries = history; stop = AllRead }) × Over)
+    ⊎ ((number : ℕ) × (feed_entries c text ≡ record { entries = history; stop = QuitAt number }) × NumberEnded Over text number)
 FedBy c cause.ReadFault Over text history = feed_entries c (whole_lines text) ≡ record { entries = history; stop = AllRead }
 FedBy c (cause.Full entries bytes input) Over text history =
     (MeetsBound c text history ⊎ IsFullAt c history (feed_entries c text).entries)
     × (entries ≡ length history) × (bytes ≡ bytes_of history) × (input ≡ length text)
 FedBy c (cause.Line number place) Over text history =
-    (place ≡ 0) × (feed_entries c text ≡ record { entries = history; stop = OutsideGrammar number })
+    (feed_entries c text ≡ record { entries = history; stop = OutsideGrammar number place })
     × NumberEnded Over text number
 FedBy c cause.WriteFault Over text history = GivenBy Over c text history
 FedBy c cause.NoMemory Over text history = GivenBy Over c text history

@@ -1,5 +1,5 @@
 -- What a part of feed does to the core and to the output.
-use Rattle.std.specs.Prelude.{◌≡◌, ◌≢◌, ℕ, ◌<◌, ◌≤◌, List, ◌++◌, length, Option, Result, Ok, Err, IsErrOf}
+use Rattle.std.specs.Prelude.{◌≡◌, ◌≢◌, ℕ, ◌<◌, ◌≤◌, List, ◌++◌, length, Option, true, Result, Ok, Err, OnOk, IsErrOf}
 use Rattle.outside.specs.Told.{Written}
 use Rattle.gem_model.specs.Front.{IsFront}
 use Rattle.gem_model.specs.State.{opening}
@@ -22,13 +22,14 @@ pub record SinkView : Type 0 where
 abbrev pub seen : {K : Type 0} → (K → Option (List ℕ)) → (K → ℕ) → (K → ℕ) → K → SinkView
 seen held faults refusals out = record { held = held out; faults = faults out; refusals = refusals out }
 
--- The history went on by all that is given; up to an entry that doesn't fit the limits; or, after want of memory or a
+-- The history went on by all that is given, also where the run was ended by it; up to an entry that doesn't fit the limits; or, after want of memory or a
 -- write fault, by a front of it.
 abbrev pub WentOn : CoreView → CoreView → Given → Result (Unit {0}) Halt → Type 0
 WentOn core core' given (Ok done) = (core'.history ≡ core.history ++ given.entries) × (core'.state ≡ given.state)
 WentOn core core' given (Err halt.Full) = IsFullAt core.config core'.history (core.history ++ given.entries)
 WentOn core core' given (Err halt.Write) = IsFront core'.history (core.history ++ given.entries)
 WentOn core core' given (Err halt.NoMemory) = IsFront core'.history (core.history ++ given.entries)
+WentOn core core' given (Err halt.Quit) = (core'.history ≡ core.history ++ given.entries) × (core'.state ≡ given.state)
 WentOn core core' given (Err (halt.Line place)) = ⊥
 
 -- behind what was held at the start, all lines of the history are out
@@ -40,6 +41,7 @@ abbrev pub ShowsAtEnd : Option (List ℕ) → SinkView → CoreView → Result (
 ShowsAtEnd start out core (Ok done) = Shows start out core
 ShowsAtEnd start out core (Err halt.Full) = Shows start out core
 ShowsAtEnd start out core (Err (halt.Line place)) = Shows start out core
+ShowsAtEnd start out core (Err halt.Quit) = Shows start out core
 ShowsAtEnd start out core (Err halt.Write) = WrittenFront start out.held (printed (opening core.config) core.history)
 ShowsAtEnd start out core (Err halt.NoMemory) = WrittenFront start out.held (printed (opening core.config) core.history)
 
@@ -47,6 +49,8 @@ ShowsAtEnd start out core (Err halt.NoMemory) = WrittenFront start out.held (pri
 pub record Goes (core core' : CoreView) (out out' : SinkView) (given : Given) (result : Result (Unit {0}) Halt) : Type 0 where
   pub config : core'.config ≡ core.config
   pub went : WentOn core core' given result
+  -- a core that is whole stays so
+  pub whole : OnOk result (core.is_whole ≡ true → core'.is_whole ≡ true)
   -- what was in the history stays; a write fault comes with an entry that was added
   pub grows : IsFront core.history core'.history
   pub wrote : IsErrOf result halt.Write → length core.history < length core'.history

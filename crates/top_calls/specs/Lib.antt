@@ -1,6 +1,4 @@
 pub mod Words
-pub mod Lines
-pub mod OutLine
 pub mod Printing
 pub mod Counts
 pub mod Limits

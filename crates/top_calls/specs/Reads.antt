@@ -1,7 +1,7 @@
 -- The counts of the bytes that came in each session.
 use Rattle.std.specs.Prelude.{◌≡◌, ℕ, ◌+◌, ◌⊎◌, List, Result, Err}
 use Rattle.tool_events.specs.declared.config.Config.{Config}
-use Rattle.gem_model.specs.Lines.{Line}
+use Rattle.line_grammar.specs.declared.line.Line.{Line}
 use Rattle.gem_model.specs.Feed.{Reading}
 use Rattle.gem_model.specs.Sizes.{counted}
 use Rattle.gem_model.specs.SessionBytes.{line_bytes_in, session_in}

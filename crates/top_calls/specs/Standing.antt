@@ -6,7 +6,7 @@ use Rattle.tool_events.specs.declared.config.Config.{Config}
 use Rattle.gem_model.specs.Front.{IsFront}
 use Rattle.gem_model.specs.Lines.{lines_of, whole_lines}
 use Rattle.gem_model.specs.SessionBytes.{lines_bytes_in, session_in}
-use Rattle.gem_model.specs.Feed.{Reading, Told, AllRead, OutsideGrammar, feed_lines, feed_entries, told_behind}
+use Rattle.gem_model.specs.Feed.{Reading, Told, AllRead, OutsideGrammar, QuitAt, feed_lines, feed_entries, told_behind}
 use Rattle.tool_core.specs.CoreView.{CoreView}
 use Rattle.top_calls.specs.declared.halt.Halt.{Halt}
 use Rattle.top_calls.specs.declared.halt.Halt.TheVariants as halt
@@ -39,7 +39,8 @@ pub record Stands (text : List ℕ) (reader : Reader) : Type 0 where
 -- where the reader stopped: its history is what is told, up to an entry that doesn't fit the limits, or, after want of
 -- memory or a write fault, a front of it
 abbrev pub StoppedAs : Config → Told → List Entry → ℕ → Halt → Type 0
-StoppedAs c told history number (halt.Line place) = (place ≡ 0) × (told ≡ record { entries = history; stop = OutsideGrammar number })
+StoppedAs c told history number (halt.Line place) = told ≡ record { entries = history; stop = OutsideGrammar number place }
+StoppedAs c told history number halt.Quit = told ≡ record { entries = history; stop = QuitAt number }
 StoppedAs c told history number halt.Full = IsFullAt c history told.entries
 StoppedAs c told history number halt.Write = IsFront history told.entries
 StoppedAs c told history number halt.NoMemory = IsFront history told.entries

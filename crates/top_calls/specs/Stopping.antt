@@ -3,7 +3,8 @@ use Rattle.std.specs.Prelude.{◌≡◌, ◌⊎◌, ℕ, ◌<◌, ⊤, List, ◌
 use Rattle.tool_events.specs.declared.config.Config.{Config}
 use Rattle.tool_events.specs.declared.entry.Entry.{Entry}
 use Rattle.gem_model.specs.Front.{IsFront}
-use Rattle.gem_model.specs.Lines.{lines_of, whole_lines, line_bytes}
+use Rattle.gem_model.specs.Lines.{lines_of, whole_lines}
+use Rattle.line_grammar.specs.Reading.{line_bytes}
 use Rattle.gem_model.specs.Feed.{feed_entries}
 use Rattle.top_calls.specs.declared.halt.Halt.{Halt}
 use Rattle.top_calls.specs.declared.halt.Halt.TheVariants as halt
@@ -55,9 +56,11 @@ pub record FaultIn (Over : Type 0) (c : Config) (text : List ℕ) (history : Lis
   pub ends : LineEnded Over text taken
   pub last : length (feed_entries c (whole_lines taken)).entries < length history
 
--- The lines that were taken, by why it stopped; what is behind a line outside the grammar gives nothing.
+-- The lines that were taken, by why it stopped; what is behind a line outside the grammar, or behind the one that ended
+-- the run, gives nothing.
 abbrev pub TakenTo : Halt → Type 0 → Config → List ℕ → List Entry → List ℕ → Type 0
 TakenTo (halt.Line place) Over c text history taken = taken ≡ text
+TakenTo halt.Quit Over c text history taken = taken ≡ text
 TakenTo halt.Full Over c text history taken = FullIn Over c text history taken
 TakenTo halt.Write Over c text history taken = FaultIn Over c text history taken
 TakenTo halt.NoMemory Over c text history taken = StoppedIn Over c text history taken
@@ -68,9 +71,10 @@ pub record CountsTo (why : Halt) (Over : Type 0) (c : Config) (text : List ℕ) 
   pub marks : TakenTo why Over c text history taken
   pub read : HaveRead c taken counts
 
--- where a line outside the grammar stopped it, that line has ended
+-- where a line outside the grammar stopped it, or one that ended the run, that line has ended
 abbrev pub AtLine : Halt → Type 0 → List ℕ → ℕ → Type 0
 AtLine (halt.Line place) Over text number = NumberEnded Over text number
+AtLine halt.Quit Over text number = NumberEnded Over text number
 AtLine halt.Full Over text number = ⊤
 AtLine halt.Write Over text number = ⊤
 AtLine halt.NoMemory Over text number = ⊤

@@ -2,14 +2,14 @@
 ghost use Rattle.std.specs.Prelude.{◌≡◌, ◌≢◌, [], ◌∷◌, ◌++◌, Some, None, true, IfOk, option_map, option_and_then};
 ghost use Rattle.gem_model.specs.State.{opening, is_session_up};
 ghost use Rattle.gem_model.specs.Sessions.{session_end};
-ghost use Rattle.gem_model.specs.Printed.{answer_lines, end_lines};
+ghost use Rattle.gem_model.specs.Printed.{answer_line, end_line, line_bytes};
 ghost use Rattle.gem_model.specs.Step.{step, after};
 ghost use Rattle.gem_model.specs.Run.{after_all};
 ghost use Rattle.gem_model.specs.Feed.{entry_of, taken_all, input, message, messages};
 ghost use Rattle.top_calls.specs.Going.{Goes, seen};
 
 use crate::halt::Halt;
-use crate::print::{OutLine, answer_line, print_out_line};
+use crate::print::{answer_line, end_line};
 use crate::write::write_all;
 use gem_ids::Moment;
 use hsms_frame::Arrival;
@@ -17,6 +17,7 @@ use outside::Sink;
 use std::alloc::{AllocError, Global};
 use tool_core::Core;
 use tool_events::{Answer, Event, PostFault, SessionCause, SessionEnd};
+use tool_texts::print_out_line;
 
 /// The moment of what isn't a look at the clock: it raises no moment.
 pub const AT_ONCE: Moment = Moment(0);
@@ -27,14 +28,14 @@ fn outcome_text(
     answer: Answer,
     ended: Option<SessionEnd>,
 ) -> Result<Vec<u8>, AllocError>
-    ensures { IfOk result (λ text. text.items ≡ answer_lines answer ++ end_lines ended) }
+    ensures { IfOk result (λ text. text.items ≡ line_bytes (answer_line answer) ++ line_bytes (end_line ended)) }
 {
     let mut text = Vec::new(alloc);
     if let Some(line) = answer_line(answer) {
         print_out_line(alloc, &line, &mut text)?;
     }
-    if let Some(end) = ended {
-        print_out_line(alloc, &OutLine::Ended(end.session, end.cause), &mut text)?;
+    if let Some(line) = end_line(ended) {
+        print_out_line(alloc, &line, &mut text)?;
     }
     Ok(text)
 }
@@ -84,7 +85,8 @@ fn take_frames<K: Sink>(
     session: u64,
     out: &mut K,
 ) -> Result<(), Halt>
-    requires { is_session_up core.old.state session ≡ true }
+    requires up { is_session_up core.old.state session ≡ true }
+    requires whole { core.old.is_whole ≡ true }
     ensures { Goes core.old core.new (seen K.held K.faults K.refusals out.old) (seen K.held K.faults K.refusals out.new)
         (taken_all core.old.state) result }
 {
@@ -99,6 +101,7 @@ fn take_frames<K: Sink>(
 
 /// The writer takes each frame that waits.
 fn take_waiting<K: Sink>(alloc: Global, core: &mut Core, out: &mut K) -> Result<(), Halt>
+    requires { core.old.is_whole ≡ true }
     ensures { Goes core.old core.new (seen K.held K.faults K.refusals out.old) (seen K.held K.faults K.refusals out.new)
         (taken_all core.old.state) result }
 {
@@ -116,7 +119,8 @@ pub fn input<K: Sink>(
     event: Event,
     out: &mut K,
 ) -> Result<(), Halt>
-    requires { step core.old.state at.0 event ≢ None }
+    requires step { step core.old.state at.0 event ≢ None }
+    requires whole { core.old.is_whole ≡ true }
     ensures { Goes core.old core.new (seen K.held K.faults K.refusals out.old) (seen K.held K.faults K.refusals out.new)
         (input core.old.state at.0 event) result }
 {
@@ -134,7 +138,8 @@ fn take_message<K: Sink>(
     arrival: Arrival,
     out: &mut K,
 ) -> Result<(), Halt>
-    requires { is_session_up core.old.state session ≡ true }
+    requires up { is_session_up core.old.state session ≡ true }
+    requires whole { core.old.is_whole ≡ true }
     ensures { Goes core.old core.new (seen K.held K.faults K.refusals out.old) (seen K.held K.faults K.refusals out.new)
         (message core.old.state session arrival) result }
 {
@@ -150,6 +155,7 @@ pub fn take_messages<K: Sink>(
     short: bool,
     out: &mut K,
 ) -> Result<(), Halt>
+    requires { core.old.is_whole ≡ true }
     ensures { Goes core.old core.new (seen K.held K.faults K.refusals out.old) (seen K.held K.faults K.refusals out.new)
         (messages core.old.state session arrivals.items short) result }
 {
@@ -173,6 +179,7 @@ fn end_messages<K: Sink>(
     short: bool,
     out: &mut K,
 ) -> Result<(), Halt>
+    requires { core.old.is_whole ≡ true }
     ensures { Goes core.old core.new (seen K.held K.faults K.refusals out.old) (seen K.held K.faults K.refusals out.new)
         (messages core.old.state session [] short) result }
 {

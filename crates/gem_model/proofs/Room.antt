@@ -253,21 +253,11 @@ few-off_line g few =
     few-one (firing 2 0 6) g few
     (λ _. fits-control _ _ _ g.comm g.control (control_fired 6 g.control) (is_selected g) none (few-out g (first_of what.Attempt g.transactions.opened) few))
 
--- a row of table 2 that does not start in ATTEMPT ON-LINE, and has no effect
-few-on_7 : (g : State) → Few g → Few (fire_listed (firing 2 0 7 ∷ []) g)
-few-on_7 g few = few-one (firing 2 0 7) g few (λ _. fits-elsewhere 7 _ _ _ g.comm g.control (is_selected g) refl few)
-
-few-on_8 : (g : State) → Few g → Few (fire_listed (firing 2 0 8 ∷ []) g)
-few-on_8 g few = few-one (firing 2 0 8) g few (λ _. fits-elsewhere 8 _ _ _ g.comm g.control (is_selected g) refl few)
-
-few-on_9 : (g : State) → Few g → Few (fire_listed (firing 2 0 9 ∷ []) g)
-few-on_9 g few = few-one (firing 2 0 9) g few (λ _. fits-elsewhere 9 _ _ _ g.comm g.control (is_selected g) refl few)
-
-few-on_10 : (g : State) → Few g → Few (fire_listed (firing 2 0 10 ∷ []) g)
-few-on_10 g few = few-one (firing 2 0 10) g few (λ _. fits-elsewhere 10 _ _ _ g.comm g.control (is_selected g) refl few)
-
-few-on_11 : (g : State) → Few g → Few (fire_listed (firing 2 0 11 ∷ []) g)
-few-on_11 g few = few-one (firing 2 0 11) g few (λ _. fits-elsewhere 11 _ _ _ g.comm g.control (is_selected g) refl few)
+-- the other rows of table 2 do not start in ATTEMPT ON-LINE, and have no effect
+few-elsewhere : (row : ℕ) (g : State) → starts control_table row attempt_online ≡ false → (row == 1) ≡ false → (row == 6) ≡ false → Few g → Few (fire_listed (firing 2 0 row ∷ []) g)
+few-elsewhere row g never sends_none forgets_none few =
+    few-one (firing 2 0 row) g few
+    (λ _. rw (sends_none, forgets_none) (fits-elsewhere row _ _ _ g.comm g.control (is_selected g) never few))
 
 -- row 1 of table 2: S1F1 is sent where the tool can ask
 few-attempted : (g : State) → Few g → Few (fire_listed (firing 2 0 1 ∷ []) g)
@@ -442,8 +432,8 @@ few-operator oper.Enable g few = few-enabled g few
 few-operator oper.Disable g few = few-disabled g few
 few-operator oper.Online g few = few-attempted g few
 few-operator oper.Offline g few = few-off_line g few
-few-operator oper.Local g few = few-on_11 (switched oper.Local g) few
-few-operator oper.Remote g few = few-on_10 (switched oper.Remote g) few
+few-operator oper.Local g few = few-elsewhere 11 (switched oper.Local g) refl refl refl few
+few-operator oper.Remote g few = few-elsewhere 10 (switched oper.Remote g) refl refl refl few
 few-operator oper.Quit g few = few
 few-operator (oper.Service p on) g few = few
 few-operator (oper.Access p on) g few = few
@@ -491,13 +481,13 @@ few-replied : (h : Header) (function : ℕ) (text : List ℕ) (g : State) → Fe
 few-replied h function text g few = few_either (wants_reply h) _ g few few
 
 few-on_either : (local : Bool) (g : State) → Few g → Few (fire_listed (of_control (if local then 7 ∷ [] else 8 ∷ [])) g)
-few-on_either true g few = few-on_7 g few
-few-on_either false g few = few-on_8 g few
+few-on_either true g few = few-elsewhere 7 g refl refl refl few
+few-on_either false g few = few-elsewhere 8 g refl refl refl few
 
 few-message : (m : GemMsg) (g : State) → Few g → Few (fires (message_rows m) g)
 few-message msg.S1F1 g few = few
 few-message msg.S1F13 g few = few-met g few
-few-message msg.S1F15 g few = few-on_9 g few
+few-message msg.S1F15 g few = few-elsewhere 9 g refl refl refl few
 few-message msg.S1F17 g few = few-on_either g.switch_local g few
 few-message msg.S2F17 g few = few
 few-message (msg.S2F31 text) g few = few

@@ -48,11 +48,11 @@ use Rattle.gem_model.specs.Sending.{asks, identity_text, sends_stream9, data_hea
 use Rattle.gem_model.specs.Fire.{fire, fires, fire_listed, row_starts, delay_end, of_control}
 use Rattle.gem_model.specs.Direct.{by_comm, by_control, operator_rows, message_rows, answer_rows, timeout_rows}
 use Rattle.gem_model.specs.Ready.{least, ready_comm, ready_control, is_attempt}
-use Rattle.gem_model.specs.Measure.{one_if, is_wait_delay}
+use Rattle.gem_model.specs.Measure.{one_if, is_wait_delay, left}
 use Rattle.gem_model.specs.Verdict.{Verdict, Discarded, Stream9, Aborted, Answers, Taken, verdict, header_of, item_of, wants_reply, stream_of, function_of, reply_to}
 use Rattle.gem_model.specs.Act.{written, clock_set, replied, taken, closed_by, data_act, session_ended}
 use Rattle.gem_model.specs.Due.{Timeout, dues_with, expired_from, link_times, is_due, all_done, asks_linktest, timed_out}
-use Rattle.gem_model.specs.Settle.{settled}
+use Rattle.gem_model.specs.Settle.{settled, settling, settling_by, Along}
 use Rattle.gem_model.specs.Step as steps
 use Rattle.gem_model.specs.Step.{Outcome, step_from, acts, linked, hosted, operated, switched, quits, ticked, settles}
 use Rattle.gem_model.specs.Valid.{is_wait_cra, establishes, attempts, is_note, notes, count_of}
@@ -556,7 +556,7 @@ few-up g down few =
     subst (λ (s : Bool). Fits (count_of establishes g.transactions.opened) (count_of attempts g.transactions.opened) (count_of notes g.transactions.opened) g.comm g.control s)
     (not_selected g.link.phase down) few
 
-few-acts : (before : ℕ) (g : State) (e : Event) (o : Outcome) → Few g → acts before g e ≡ Some o → Few o.after
+pub few-acts : (before : ℕ) (g : State) (e : Event) (o : Outcome) → Few g → acts before g e ≡ Some o → Few o.after
 few-acts before g event.LinkUp o few here = went (is_up g) _ _ _ (λ _ e. few_some _ o few e) (λ down e. few_some _ o (few-up g down few) e) here
 few-acts before g (event.LinkDown session cause) o few here = went (is_session_up g session) _ _ _ (λ _ e. few_some _ o (few-ended g) e) (λ _ e. few_some _ o few e) here
 few-acts before g (event.Host session arrival) o few here =
@@ -598,3 +598,12 @@ few-one_open g few =
 
 pub few-room : (g : State) → Few g → is_full g.transactions ≡ false
 few-room g few = let one = few-one_open g few in grind (arith, nat_tests)
+
+-- nor is the table full on the way to the settled state
+along_by : (n : ℕ) (g : State) (f : Option Firing) → least g ≡ f → Few g → Along (λ (k : State). is_full k.transactions ≡ false) g (settling_by n g f)
+along_by n g None is few = few-room g few
+along_by zero g (Some f) is few = few-room g few
+along_by (suc n) g (Some f) is few = (few-room g few, along_by n (fire g f) (least (fire g f)) refl (few-automatic g f is few))
+
+pub few-along : (g : State) → Few g → Along (λ (k : State). is_full k.transactions ≡ false) g (settling g)
+few-along g few = along_by (left g) g (least g) refl few

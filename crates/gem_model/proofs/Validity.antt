@@ -16,14 +16,14 @@ use Rattle.tool_events.specs.declared.event.Event.{Event}
 use Rattle.gem_model.specs.State.{State, opening, is_up, is_selected, raised, first_control}
 use Rattle.gem_model.specs.Fire.{fire, creations}
 use Rattle.gem_model.specs.Ready.{delay_is_over, least, ready_comm, ready_control, is_attempt}
-use Rattle.gem_model.specs.Settle.{Path, settled, settling}
+use Rattle.gem_model.specs.Settle.{Path, settled, settling, Along}
 use Rattle.gem_model.specs.Step.{Outcome, step, step_from, acts, settles}
 use Rattle.gem_model.specs.Run.{Run}
 use Rattle.gem_model.specs.Valid.{Valid}
 use Rattle.gem_model.proofs.Tests.{went, none_some}
 use Rattle.gem_model.proofs.Settling.{settles_so}
 use Rattle.gem_model.proofs.Steps.{step_keeps-from}
-use Rattle.gem_model.proofs.Room.{Few, few-step, few-one_open, few-room}
+use Rattle.gem_model.proofs.Room.{Few, few-step, few-one_open, few-room, few-acts, few-along}
 
 -- at the end of a path no row is ready
 path_end : (g : State) (due fs : List Firing) (h : State) → Path g due fs h → least h ≡ None
@@ -137,9 +137,16 @@ pub run_valid : (g : State) (entries : List Entry) (h : State) → Valid g → R
 run_valid g [] h valid run = subst Valid (sym run) valid
 run_valid g (e ∷ entries) h valid run = run_valid run.0.after entries h (step_valid g e.at.0 e.event run.0 valid run.1) run.2
 
--- in a state that a history leads to a start finds room
+-- few transactions are open in a state that a history leads to, and so a start finds room
+run-few : (c : Config) (entries : List Entry) (h : State) → Run (opening c) entries h → Few h
+run-few c entries h run = valid-few h (run_valid (opening c) entries h (opening_valid c) run)
+
 pub run-one_open : (c : Config) (entries : List Entry) (h : State) → Run (opening c) entries h → length h.transactions.opened ≤ 1
-run-one_open c entries h run = few-one_open h (valid-few h (run_valid (opening c) entries h (opening_valid c) run))
+run-one_open c entries h run = few-one_open h (run-few c entries h run)
 
 pub run-room : (c : Config) (entries : List Entry) (h : State) → Run (opening c) entries h → is_full h.transactions ≡ false
-run-room c entries h run = few-room h (valid-few h (run_valid (opening c) entries h (opening_valid c) run))
+run-room c entries h run = few-room h (run-few c entries h run)
+
+-- and so it does while the tool settles behind an event
+pub run-along : (c : Config) (entries : List Entry) (h : State) (at : ℕ) (e : Event) (o : Outcome) → Run (opening c) entries h → acts h.moment (raised h at) e ≡ Some o → Along (λ (g : State). is_full g.transactions ≡ false) o.after (settling o.after)
+run-along c entries h at e o run here = few-along o.after (few-acts h.moment (raised h at) e o (run-few c entries h run) here)

@@ -2,7 +2,7 @@
 use Rattle.std.proofs.Common.{◌≡◌, ℕ, Bool, true, false, if◌then◌else◌, List, [], ◌∷◌, None, refl}
 use Rattle.hsms_frame.specs.declared.frame.Header.{Header}
 use Rattle.hsms_link.specs.declared.state.LinkState.{LinkState}
-use Rattle.hsms_link.specs.Links.{is_up}
+use Rattle.hsms_link.specs.Links.{is_up, is_selected}
 use Rattle.hsms_link.specs.LinkTable.{Line, stays, selects, closes_linktest, link_table, first_next, link_after}
 use Rattle.hsms_link.specs.declared.state.Phase.{Phase}
 use Rattle.hsms_link.specs.declared.state.Phase.TheVariants.{Down, NotSelected, Selected}
@@ -10,19 +10,20 @@ use Rattle.hsms_link.specs.declared.state.Ping.{Ping}
 use Rattle.hsms_link.specs.declared.deadlines.LinkTimes.{LinkTimes}
 use Rattle.hsms_link.specs.Deadlines.{due_at}
 
--- the link is of the same session, and still up
+-- the link is of the same session, still up, and still selected
 pub record Keeps (before after : LinkState) : Type 0 where
   pub session : after.session ≡ before.session
   pub up : is_up before.phase ≡ true → is_up after.phase ≡ true
+  pub selected : is_selected before.phase ≡ true → is_selected after.phase ≡ true
 
 keeps_stays : (at : ℕ) (link : LinkState) → Keeps link (stays at link)
-keeps_stays at link = record { session = refl; up = λ up. up }
+keeps_stays at link = record { session = refl; up = λ up. up; selected = λ is. is }
 
 keeps_selects : (at : ℕ) (link : LinkState) → Keeps link (selects at link)
-keeps_selects at link = record { session = refl; up = λ up. refl }
+keeps_selects at link = record { session = refl; up = λ up. refl; selected = λ is. refl }
 
 keeps_closes : (at : ℕ) (link : LinkState) → Keeps link (closes_linktest at link)
-keeps_closes at link = record { session = refl; up = λ up. up }
+keeps_closes at link = record { session = refl; up = λ up. up; selected = λ is. is }
 
 one_of : (b : Bool) (link x y : LinkState) → Keeps link x → Keeps link y → Keeps link (if b then x else y)
 one_of true link x y at_x at_y = at_x

@@ -1,17 +1,13 @@
 -- Settling ends, in one way.
-use Rattle.std.proofs.Common.{◌≡◌, ℕ, zero, suc, ◌+◌, ◌<◌, ◌≤◌, Bool, true, false, ◌&&◌, not, if◌then◌else◌, List, [], ◌∷◌, Option, Some, None, refl, sym, ◌∙◌, ap, subst, arith}
-use Rattle.std.specs.Option.{option_or}
+use Rattle.std.proofs.Common.{◌≡◌, ℕ, zero, suc, ◌<◌, ◌≤◌, Bool, true, false, if◌then◌else◌, List, [], ◌∷◌, Option, Some, None, refl, sym, ◌∙◌, ap, subst, arith}
 use Rattle.gem_states.specs.declared.communication.Comm.{Comm}
 use Rattle.gem_states.specs.declared.communication.Comm.TheVariants.{Disabled, WaitDelay, WaitCra, Communicating}
 use Rattle.gem_states.specs.declared.control.Control.{Control}
 use Rattle.gem_states.specs.declared.control.Control.TheVariants as control
 use Rattle.gem_states.specs.Meaning.{comm_fired, control_fired}
 use Rattle.gem_tables.specs.Table.{Firing, firing}
-use Rattle.transactions.specs.declared.transaction.What.{What}
-use Rattle.transactions.specs.Table.{is_full}
-use Rattle.gem_model.specs.State.{State, is_selected, can_ask}
-use Rattle.gem_model.specs.Sending.{asks}
-use Rattle.gem_model.specs.Fire.{fire, creations}
+use Rattle.gem_model.specs.State.{State}
+use Rattle.gem_model.specs.Fire.{fire}
 use Rattle.gem_model.specs.Ready.{least, ready_comm, ready_control, delay_is_over, is_attempt}
 use Rattle.gem_model.specs.Measure.{left, is_wait_delay, one_if}
 use Rattle.gem_model.specs.Settle.{Path, Settles, settling, settling_by, settled, fire_all}
@@ -27,19 +23,19 @@ asks_control : (b : Bool) (g h : State) → g.control ≡ h.control → (if b th
 asks_control true g h same = refl
 asks_control false g h same = sym same
 
-waits : (at : ℕ) (c : Comm) → delay_is_over at c ≡ true → is_wait_delay c ≡ true
+pub waits : (at : ℕ) (c : Comm) → delay_is_over at c ≡ true → is_wait_delay c ≡ true
 waits at (WaitDelay until) over = refl
 waits at Disabled over = absurd (cc)
 waits at WaitCra over = absurd (cc)
 waits at Communicating over = absurd (cc)
 
-fired_3 : (until : ℕ) (c : Comm) → is_wait_delay c ≡ true → comm_fired 3 until c ≡ WaitCra
+pub fired_3 : (until : ℕ) (c : Comm) → is_wait_delay c ≡ true → comm_fired 3 until c ≡ WaitCra
 fired_3 until (WaitDelay since) waits = refl
 fired_3 until Disabled waits = absurd (cc)
 fired_3 until WaitCra waits = absurd (cc)
 fired_3 until Communicating waits = absurd (cc)
 
-fired_2 : (c : Control) → is_attempt c ≡ true → control_fired 2 c ≡ control.EquipmentOffline
+pub fired_2 : (c : Control) → is_attempt c ≡ true → control_fired 2 c ≡ control.EquipmentOffline
 fired_2 control.Attempt is = refl
 fired_2 control.EquipmentOffline is = absurd (cc)
 fired_2 control.HostOffline is = absurd (cc)

@@ -1,5 +1,5 @@
 -- Every state that a history leads to is valid.
-use Rattle.std.proofs.Common.{◌≡◌, ℕ, Bool, true, false, ◌&&◌, not, if◌then◌else◌, List, [], ◌∷◌, ◌++◌, ◌≤◌, nat_le, arith, Option, Some, None, option_map, refl, sym, ◌∙◌, ap, subst}
+use Rattle.std.proofs.Common.{◌≡◌, ℕ, Bool, true, false, ◌&&◌, if◌then◌else◌, List, [], ◌∷◌, ◌++◌, ◌≤◌, length, arith, Option, Some, None, option_map, refl, sym, ◌∙◌, ap, subst}
 use Rattle.std.specs.Option.{option_or}
 use Rattle.hsms_link.specs.declared.state.Phase.{Phase}
 use Rattle.hsms_link.specs.declared.state.Phase.TheVariants.{Down, NotSelected, Selected}
@@ -7,9 +7,8 @@ use Rattle.hsms_link.specs.Links as links
 use Rattle.gem_tables.specs.Table.{Firing, firing}
 use Rattle.gem_states.specs.declared.communication.Comm.{Comm}
 use Rattle.gem_states.specs.declared.communication.Comm.TheVariants as comm
+use Rattle.transactions.specs.Table.{is_full}
 use Rattle.tool_events.specs.declared.config.Config.{Config}
-use Rattle.tool_events.specs.declared.config.CommStart.{CommStart}
-use Rattle.tool_events.specs.declared.config.CommStart.TheVariants as start
 use Rattle.tool_events.specs.declared.config.ControlStart.{ControlStart}
 use Rattle.tool_events.specs.declared.config.ControlStart.TheVariants as begin
 use Rattle.tool_events.specs.declared.entry.Entry.{Entry}
@@ -17,13 +16,14 @@ use Rattle.tool_events.specs.declared.event.Event.{Event}
 use Rattle.gem_model.specs.State.{State, opening, is_up, is_selected, raised, first_control}
 use Rattle.gem_model.specs.Fire.{fire, creations}
 use Rattle.gem_model.specs.Ready.{delay_is_over, least, ready_comm, ready_control, is_attempt}
-use Rattle.gem_model.specs.Settle.{Path, settled, settling}
+use Rattle.gem_model.specs.Settle.{Path, settled, settling, Along}
 use Rattle.gem_model.specs.Step.{Outcome, step, step_from, acts, settles}
 use Rattle.gem_model.specs.Run.{Run}
 use Rattle.gem_model.specs.Valid.{Valid}
 use Rattle.gem_model.proofs.Tests.{went, none_some}
 use Rattle.gem_model.proofs.Settling.{settles_so}
-use Rattle.gem_model.proofs.Steps.{Keeping, step_keeps-from}
+use Rattle.gem_model.proofs.Steps.{step_keeps-from}
+use Rattle.gem_model.proofs.Room.{Few, few-step, few-one_open, few-room, few-acts, few-along}
 
 -- at the end of a path no row is ready
 path_end : (g : State) (due fs : List Firing) (h : State) → Path g due fs h → least h ≡ None
@@ -88,13 +88,21 @@ earlier_quiet g moment waiting less quiet =
 
 -- ---- a step
 
-valid_mapped : (before : ℕ) (g : State) (e : Event) (x : Option Outcome) (o : Outcome) → g.quitting ≡ false → step_from before g e ≡ Some o → option_map settles x ≡ Some o → Valid o.after
-valid_mapped before g e None o goes here is = none_some o is
-valid_mapped before g e (Some p) o goes here is =
+-- few transactions are open in a valid state
+pub valid-few : (g : State) → Valid g → Few g
+valid-few g valid = record { establish = valid.establish; attempt = valid.attempt; note = valid.note }
+
+valid_mapped : (before : ℕ) (g : State) (e : Event) (x : Option Outcome) (o : Outcome) → Few g → g.quitting ≡ false → step_from before g e ≡ Some o → option_map settles x ≡ Some o → Valid o.after
+valid_mapped before g e None o few goes here is = none_some o is
+valid_mapped before g e (Some p) o few goes here is =
     let same : settles p ≡ o = cc in
+    let after : Few o.after = few-step before g e o few here in
     record {
       settled = subst (λ (q : Outcome). least q.after ≡ None) same (settled_least p.after);
       quit = (step_keeps-from before g e o here).quit goes;
+      establish = after.establish;
+      attempt = after.attempt;
+      note = after.note;
     }
 
 pub step_valid : (g : State) (at : ℕ) (e : Event) (o : Outcome) → Valid g → step g at e ≡ Some o → Valid o.after
@@ -102,8 +110,8 @@ step_valid g at e o valid here =
     went g.quitting _ _ _
     (λ quitting is.
     let same : raised g at ≡ o.after = cc in
-    subst Valid same (record { settled = raised_quiet g at (valid.quit quitting) valid.settled; quit = λ _. valid.quit quitting }))
-    (λ goes is. valid_mapped g.moment (raised g at) e (acts g.moment (raised g at) e) o goes here is)
+    subst Valid same (record { settled = raised_quiet g at (valid.quit quitting) valid.settled; quit = λ _. valid.quit quitting; establish = valid.establish; attempt = valid.attempt; note = valid.note }))
+    (λ goes is. valid_mapped g.moment (raised g at) e (acts g.moment (raised g at) e) o (valid-few g valid) goes here is)
     here
 
 no_attempt : (c : ControlStart) → is_attempt (first_control c) ≡ false
@@ -120,8 +128,25 @@ pub opening_valid : (c : Config) → Valid (opening c)
 opening_valid c = record {
   settled = ap (λ (x : Option Firing). option_or x (ready_control (opening c))) (never _ false _ refl) ∙ never_first (is_attempt (first_control c.control)) _ _ (no_attempt c.control);
   quit = λ _. refl;
+  establish = omega arith;
+  attempt = omega arith;
+  note = refl;
 }
 
 pub run_valid : (g : State) (entries : List Entry) (h : State) → Valid g → Run g entries h → Valid h
 run_valid g [] h valid run = subst Valid (sym run) valid
 run_valid g (e ∷ entries) h valid run = run_valid run.0.after entries h (step_valid g e.at.0 e.event run.0 valid run.1) run.2
+
+-- few transactions are open in a state that a history leads to, and so a start finds room
+run-few : (c : Config) (entries : List Entry) (h : State) → Run (opening c) entries h → Few h
+run-few c entries h run = valid-few h (run_valid (opening c) entries h (opening_valid c) run)
+
+pub run-one_open : (c : Config) (entries : List Entry) (h : State) → Run (opening c) entries h → length h.transactions.opened ≤ 1
+run-one_open c entries h run = few-one_open h (run-few c entries h run)
+
+pub run-room : (c : Config) (entries : List Entry) (h : State) → Run (opening c) entries h → is_full h.transactions ≡ false
+run-room c entries h run = few-room h (run-few c entries h run)
+
+-- and so it does while the tool settles behind an event
+pub run-along : (c : Config) (entries : List Entry) (h : State) (at : ℕ) (e : Event) (o : Outcome) → Run (opening c) entries h → acts h.moment (raised h at) e ≡ Some o → Along (λ (g : State). is_full g.transactions ≡ false) o.after (settling o.after)
+run-along c entries h at e o run here = few-along o.after (few-acts h.moment (raised h at) e o (run-few c entries h run) here)

@@ -42,7 +42,8 @@ sends_stream9 function about g =
     with_frame (data_frame g.config.device false 9 function (drawn g.transactions) (stream9_text about)) (draws g)
 
 -- A primary of the tool waits for the writer, with the W-bit, and its transaction is open until T3. Where no more can be
--- open nothing is sent, which no reachable state meets (this tool's profile, tool primaries).
+-- open nothing is sent, which no reachable state meets: law `laws::no_start_meets_a_full_table` (this tool's profile, tool
+-- primaries).
 abbrev pub asks : ℕ → ℕ → What → List ℕ → State → State
 asks stream function what text g =
     if is_full g.transactions then g

@@ -32,6 +32,11 @@ abbrev pub fire_all : List Firing → State → State
 fire_all [] g = g
 fire_all (f ∷ fs) g = fire_all fs (fire g f)
 
--- The settled state. The law `settles_in_one_way` says that g settles by `settling g` and in no other way.
+-- The settled state. The law `laws::a_state_settles_in_one_way` says that g settles by `settling g` and in no other way.
 abbrev pub settled : State → State
 settled g = fire_all (settling g) g
+
+-- a fact holds of a state, and of each to which these firings lead from it
+abbrev pub Along : (State → Type 0) → State → List Firing → Type 0
+Along Fact g [] = Fact g
+Along Fact g (f ∷ fs) = Fact g × Along Fact (fire g f) fs

@@ -3,7 +3,8 @@
 //! follow SEMI E5 (streams and functions) and this tool's profile, and stand in `specs/`. What a header does on a link, and
 //! when its deadlines come (SEMI E37: select, linktest and separate, rejects, T6 and T7), is defined in `hsms_link`; a step
 //! takes it from there. The crates above cite the definitions in their contracts. Begin with `specs/State.antt` and
-//! `specs/Step.antt`. `worked` has conversations that show what the definitions mean.
+//! `specs/Step.antt`. `worked` has conversations that show what the definitions mean, and `laws` what holds of them.
 #![tactic(auto)]
 
+pub mod laws;
 pub mod worked;

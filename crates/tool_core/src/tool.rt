@@ -6,6 +6,7 @@ ghost use Rattle.tool_events.specs.declared.event.SessionEnd.{SessionEnd};
 ghost use Rattle.tool_events.specs.Configs.{IsConfig};
 ghost use Rattle.tool_events.specs.Posts as posts;
 ghost use Rattle.tool_events.specs.Sizes.{event_bytes};
+ghost use Rattle.transactions.specs.Table as transactions;
 ghost use Rattle.gem_model.specs.State.{opening, is_up, is_session_up};
 ghost use Rattle.gem_model.specs.Step.{Outcome, step};
 ghost use Rattle.gem_model.specs.Valid.{Valid};
@@ -125,10 +126,12 @@ impl Core {
         })
     }
 
-    /// The history, the oldest entry first. It is a run from the first state, and within the limits.
+    /// The history, the oldest entry first. It is a run from the first state, and within the limits, and where it leads
+    /// there is room to start a transaction.
     pub fn history(&self) -> &[Entry]
         ensures history { result.now ≡ self.now.history }
         ensures run { Run (opening self.now.config) self.now.history self.now.state }
+        ensures room { transactions.is_full self.now.state.transactions ≡ false }
         ensures entries_fit { length self.now.history ≤ self.now.config.max_entries }
         ensures bytes_fit { bytes_of self.now.history ≤ self.now.config.max_bytes }
     {

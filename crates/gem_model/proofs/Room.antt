@@ -1,0 +1,609 @@
+-- Few transactions are open: each step keeps it.
+use Rattle.std.proofs.Common.{◌≡◌, ℕ, zero, suc, ◌+◌, ◌≤◌, ◌==◌, ◌&&◌, not, Bool, true, false, if◌then◌else◌, List, [], ◌∷◌, length, map, find, Option, Some, None, option_map, is_some, refl, sym, ◌∙◌, ap, subst, arith}
+use Rattle.std.proofs.lemmas.Bool.{true≢false}
+use Rattle.std.proofs.lemmas.Bool.Decides.{nat_tests}
+use Rattle.hsms_frame.specs.declared.frame.Header.{Header}
+use Rattle.hsms_frame.specs.declared.frame.Arrival.{Arrival}
+use Rattle.hsms_link.specs.Links as links
+use Rattle.hsms_link.specs.declared.state.Phase.{Phase}
+use Rattle.hsms_link.specs.declared.state.Phase.TheVariants.{Down, NotSelected, Selected}
+use Rattle.hsms_link.specs.declared.state.Ping.TheVariants.{Off}
+use Rattle.hsms_link.specs.declared.table.LinkAct.{LinkAct}
+use Rattle.hsms_link.specs.declared.table.LinkAct.TheVariants as link
+use Rattle.hsms_link.specs.declared.deadlines.LinkDue.{LinkDue}
+use Rattle.hsms_link.specs.declared.deadlines.LinkDue.TheVariants as due
+use Rattle.hsms_link.specs.LinkTable.{link_act}
+use Rattle.hsms_link.specs.Deadlines.{due_at}
+use Rattle.secs_items.specs.Data.{Data}
+use Rattle.secs_items.specs.Plain.{plain}
+use Rattle.msgs_gem.specs.declared.primary.GemMsg.{GemMsg}
+use Rattle.msgs_gem.specs.declared.primary.GemMsg.TheVariants as msg
+use Rattle.msgs_gem.specs.Acknowledge.{accepts}
+use Rattle.msgs_gem.specs.Replies.{reply_body}
+use Rattle.gem_ids.specs.Civil.{moment_in}
+use Rattle.gem_tables.specs.Table.{Firing, firing, starts}
+use Rattle.gem_tables.specs.Communication.{communication_table, communicating}
+use Rattle.gem_tables.specs.Control.{control_table, attempt_online}
+use Rattle.gem_states.specs.declared.communication.Comm.{Comm}
+use Rattle.gem_states.specs.declared.communication.Comm.TheVariants.{Disabled, WaitDelay, WaitCra, Communicating}
+use Rattle.gem_states.specs.declared.communication.CommTrigger.{CommTrigger}
+use Rattle.gem_states.specs.declared.communication.CommTrigger.TheVariants as comm
+use Rattle.gem_states.specs.declared.control.Control.{Control}
+use Rattle.gem_states.specs.declared.control.Control.TheVariants as control
+use Rattle.gem_states.specs.declared.control.ControlTrigger.{ControlTrigger}
+use Rattle.gem_states.specs.declared.control.ControlTrigger.TheVariants as trigger
+use Rattle.gem_states.specs.Meaning.{comm_number, comm_fired, control_number, control_fired}
+use Rattle.tool_events.specs.declared.event.Event.{Event}
+use Rattle.tool_events.specs.declared.event.Event.TheVariants as event
+use Rattle.tool_events.specs.declared.event.OperCmd.{OperCmd}
+use Rattle.tool_events.specs.declared.event.OperCmd.TheVariants as oper
+use Rattle.transactions.specs.declared.transaction.Open.{Open}
+use Rattle.transactions.specs.declared.transaction.What.{What}
+use Rattle.transactions.specs.declared.transaction.What.TheVariants as what
+use Rattle.transactions.specs.Table.{Table, is_full, without, taken_out}
+use Rattle.transactions.specs.SystemBytes.{drawn, with_started}
+use Rattle.transactions.specs.Endings.{same_kind, answers, answered, first_of, first_expired, is_first_expired}
+use Rattle.gem_model.specs.State.{State, is_up, is_selected, is_session_up, is_communicating, can_ask, without_session, with_frame}
+use Rattle.gem_model.specs.Sending.{asks, identity_text, sends_stream9, data_header, data_frame}
+use Rattle.gem_model.specs.Fire.{fire, fires, fire_listed, row_starts, delay_end, of_control}
+use Rattle.gem_model.specs.Direct.{by_comm, by_control, operator_rows, message_rows, answer_rows, timeout_rows}
+use Rattle.gem_model.specs.Ready.{least, ready_comm, ready_control, is_attempt}
+use Rattle.gem_model.specs.Measure.{one_if, is_wait_delay, left}
+use Rattle.gem_model.specs.Verdict.{Verdict, Discarded, Stream9, Aborted, Answers, Taken, verdict, header_of, item_of, wants_reply, stream_of, function_of, reply_to}
+use Rattle.gem_model.specs.Act.{written, clock_set, replied, taken, closed_by, data_act, session_ended}
+use Rattle.gem_model.specs.Due.{Timeout, dues_with, expired_from, link_times, is_due, all_done, asks_linktest, timed_out}
+use Rattle.gem_model.specs.Settle.{settled, settling, settling_by, Along}
+use Rattle.gem_model.specs.Step as steps
+use Rattle.gem_model.specs.Step.{Outcome, step_from, acts, linked, hosted, operated, switched, quits, ticked, settles}
+use Rattle.gem_model.specs.Valid.{is_wait_cra, establishes, attempts, is_note, notes, count_of}
+use Rattle.gem_model.proofs.Tests.{went, either_way, or_went, and_parts_of, none_some}
+use Rattle.gem_model.proofs.Settling.{settled_keeps, waits, fired_3}
+use Rattle.gem_model.proofs.Links.{link_after-keeps}
+use Rattle.gem_model.proofs.Counts.{count-found, count-push, count-forgotten, count-out, all-counted}
+
+-- ---- by numbers
+
+-- So many transactions of each kind can be open beside these states of communication and control, on a link that is
+-- selected or not.
+pub record Fits (establish_count attempt_count note_count : ℕ) (comm : Comm) (control : Control) (selected : Bool) : Type 0 where
+  pub establish : establish_count ≤ one_if (is_wait_cra comm)
+  pub attempt : attempt_count ≤ one_if ((is_communicating comm && selected) && is_attempt control)
+  pub note : note_count ≡ 0
+
+one_if-most : (b : Bool) → one_if b ≤ 1
+one_if-most true = omega arith
+one_if-most false = omega arith
+
+fits-less : (e a n d b m : ℕ) (c : Comm) (k : Control) (s : Bool) → d ≤ e → b ≤ a → m ≤ n → Fits e a n c k s → Fits d b m c k s
+fits-less e a n d b m c k s less_e less_a less_n f = record { establish = omega (arith, f.establish); attempt = omega (arith, f.attempt); note = omega (arith, f.note) }
+
+-- the tool still can ask where it could
+fits_ask : (a : ℕ) (b s c t k : Bool) → (b ≡ true → c ≡ true) → (s ≡ true → t ≡ true) → a ≤ one_if ((b && s) && k) → a ≤ one_if ((c && t) && k)
+fits_ask a false s c t k talks selected f = omega (arith, f)
+fits_ask a true false c t k talks selected f = omega (arith, f)
+fits_ask a true true false t k talks selected f = absurd (true≢false (sym (talks refl)))
+fits_ask a true true true false k talks selected f = absurd (true≢false (sym (selected refl)))
+fits_ask a true true true true k talks selected f = f
+
+-- without an S1F13 communication can go to each state, but must not cease
+fits-comm : (e a n : ℕ) (c d : Comm) (k : Control) (s : Bool) → e ≡ 0 → (is_communicating c ≡ true → is_communicating d ≡ true) → Fits e a n c k s → Fits e a n d k s
+fits-comm e a n c d k s none talks f = record {
+  establish = omega (arith, none);
+  attempt = fits_ask a (is_communicating c) s (is_communicating d) s (is_attempt k) talks (λ is. is) f.attempt;
+  note = f.note;
+}
+
+-- a row that does not start in COMMUNICATING leaves it
+talks_on : (row until : ℕ) (c : Comm) → starts communication_table row communicating ≡ false → is_communicating c ≡ true → is_communicating (comm_fired row until c) ≡ true
+talks_on row until Communicating never is = rw never refl
+talks_on row until Disabled never is = absurd (cc)
+talks_on row until (WaitDelay since) never is = absurd (cc)
+talks_on row until WaitCra never is = absurd (cc)
+
+-- enable
+fits-enabled : (e a n until : ℕ) (c : Comm) (k : Control) (s : Bool) → Fits e a n c k s → Fits e a n (comm_fired 1 until c) k s
+fits-enabled e a n until Disabled k s f = record { establish = f.establish; attempt = f.attempt; note = f.note }
+fits-enabled e a n until (WaitDelay since) k s f = f
+fits-enabled e a n until WaitCra k s f = f
+fits-enabled e a n until Communicating k s f = f
+
+-- from WAIT DELAY to WAIT CRA, and S1F13 is open
+fits-asked : (e a n : ℕ) (c : Comm) (k : Control) (s : Bool) → is_wait_delay c ≡ true → Fits e a n c k s → Fits (e + 1) a n WaitCra k s
+fits-asked e a n (WaitDelay since) k s is f = record { establish = omega (arith, f.establish); attempt = f.attempt; note = f.note }
+fits-asked e a n Disabled k s is f = absurd (cc)
+fits-asked e a n WaitCra k s is f = absurd (cc)
+fits-asked e a n Communicating k s is f = absurd (cc)
+
+-- without an S1F1 control can go to each state
+fits-control : (e a n : ℕ) (c : Comm) (k j : Control) (s : Bool) → a ≡ 0 → Fits e a n c k s → Fits e a n c j s
+fits-control e a n c k j s none f = record { establish = f.establish; attempt = omega (arith, none); note = f.note }
+
+no_ask : (a : ℕ) (b : Bool) → a ≤ one_if (b && false) → a ≡ 0
+no_ask a true f = omega (arith, f)
+no_ask a false f = omega (arith, f)
+
+-- a row that does not start in ATTEMPT ON-LINE
+fits-elsewhere : (row e a n : ℕ) (c : Comm) (k : Control) (s : Bool) → starts control_table row attempt_online ≡ false → Fits e a n c k s → Fits e a n c (control_fired row k) s
+fits-elsewhere row e a n c control.Attempt s never f = rw never f
+fits-elsewhere row e a n c control.EquipmentOffline s never f = fits-control e a n c control.EquipmentOffline _ s (no_ask a (is_communicating c && s) f.attempt) f
+fits-elsewhere row e a n c control.HostOffline s never f = fits-control e a n c control.HostOffline _ s (no_ask a (is_communicating c && s) f.attempt) f
+fits-elsewhere row e a n c control.Local s never f = fits-control e a n c control.Local _ s (no_ask a (is_communicating c && s) f.attempt) f
+fits-elsewhere row e a n c control.Remote s never f = fits-control e a n c control.Remote _ s (no_ask a (is_communicating c && s) f.attempt) f
+
+-- what is known of a state from which the attempt starts
+record FromOffline (a : ℕ) (k : Control) : Type 0 where
+  pub none : a ≡ 0
+  pub leads : control_fired 1 k ≡ control.Attempt
+
+from_offline : (e a n : ℕ) (c : Comm) (k : Control) (s : Bool) → starts control_table 1 (control_number k) ≡ true → Fits e a n c k s → FromOffline a k
+from_offline e a n c control.EquipmentOffline s is f = record { none = no_ask a (is_communicating c && s) f.attempt; leads = refl }
+from_offline e a n c control.Attempt s is f = absurd (cc)
+from_offline e a n c control.HostOffline s is f = absurd (cc)
+from_offline e a n c control.Local s is f = absurd (cc)
+from_offline e a n c control.Remote s is f = absurd (cc)
+
+fits-attempted : (e a n : ℕ) (c : Comm) (k : Control) (s : Bool) → a ≡ 0 → (is_communicating c && s) ≡ true → Fits e a n c k s → Fits e (a + 1) n c control.Attempt s
+fits-attempted e a n c k s none can f = record { establish = f.establish; attempt = rw can (omega (arith, none)); note = f.note }
+
+-- ---- by states
+
+-- few transactions of a table are open, beside a state
+abbrev FewIn : Table → State → Type 0
+FewIn t g = Fits (count_of establishes t.opened) (count_of attempts t.opened) (count_of notes t.opened) g.comm g.control (is_selected g)
+
+-- few transactions of a state are open
+abbrev pub Few : State → Type 0
+Few g = FewIn g.transactions g
+
+few_either : (b : Bool) (x y : State) → Few x → Few y → Few (if b then x else y)
+few_either true x y at_x at_y = at_x
+few_either false x y at_x at_y = at_y
+
+few_where : (b : Bool) (x y : State) → (b ≡ true → Few x) → (b ≡ false → Few y) → Few (if b then x else y)
+few_where true x y at_x at_y = at_x refl
+few_where false x y at_x at_y = at_y refl
+
+in_either : (b : Bool) (t u : Table) (g : State) → FewIn t g → FewIn u g → FewIn (if b then t else u) g
+in_either true t u g at_t at_u = at_t
+in_either false t u g at_t at_u = at_u
+
+-- where none is open few are
+few-none : (g : State) → g.transactions.opened ≡ [] → Few g
+few-none g none =
+    subst (λ (opened : List Open). Fits (count_of establishes opened) (count_of attempts opened) (count_of notes opened) g.comm g.control (is_selected g))
+    (sym none) (record { establish = omega arith; attempt = omega arith; note = refl })
+
+few-out : (g : State) (found : Option Open) → Few g → FewIn (taken_out found g.transactions) g
+few-out g found few =
+    let t : Table = g.transactions in
+    fits-less (count_of establishes t.opened) (count_of attempts t.opened) (count_of notes t.opened) _ _ _ g.comm g.control (is_selected g)
+    (count-out establishes t found) (count-out attempts t found) (count-out notes t found) few
+
+-- ---- a start
+
+-- the counts with a transaction of this kind more
+abbrev FewWith : What → State → Type 0
+FewWith w g = Fits (count_of establishes g.transactions.opened + one_if (same_kind w what.Establish))
+    (count_of attempts g.transactions.opened + one_if (same_kind w what.Attempt))
+    (count_of notes g.transactions.opened + one_if (is_note w)) g.comm g.control (is_selected g)
+
+few-started : (g : State) (stream function deadline : ℕ) (w : What) → FewWith w g → FewIn (with_started stream function deadline w g.transactions) g
+few-started g stream function deadline w few =
+    let t : Table = g.transactions in
+    let one : Open = record { system = drawn t; stream = stream; function = function; deadline = deadline; what = w } in
+    let e = count-push establishes t.opened one in
+    let a = count-push attempts t.opened one in
+    let n = count-push notes t.opened one in
+    fits-less (count_of establishes t.opened + one_if (same_kind w what.Establish)) (count_of attempts t.opened + one_if (same_kind w what.Attempt)) (count_of notes t.opened + one_if (is_note w)) _ _ _ g.comm g.control (is_selected g)
+    (omega arith) (omega arith) (omega arith) few
+
+few-asks : (g : State) (stream function : ℕ) (w : What) (text : List ℕ) → Few g → FewWith w g → Few (asks stream function w text g)
+few-asks g stream function w text few with_one =
+    let t : Table = g.transactions in
+    few_either (is_full t) g
+    (with_frame (data_frame g.config.device true stream function (drawn t) text) (record g { transactions = if is_full t then t else with_started stream function (g.moment + g.times.t3) w t }))
+    few (in_either (is_full t) t (with_started stream function (g.moment + g.times.t3) w t) g few (few-started g stream function (g.moment + g.times.t3) w with_one))
+
+-- ---- one row
+
+few-one : (f : Firing) (g : State) → Few g → (row_starts g f ≡ true → Few (fire g f)) → Few (fire_listed (f ∷ []) g)
+few-one f g few fired = few_where (row_starts g f) (fire g f) g fired (λ _. few)
+
+-- rows 4 and 5 of table 1, where no S1F13 is open
+few-accepted : (g : State) → Few g → count_of establishes g.transactions.opened ≡ 0 → Few (fire_listed (firing 1 0 4 ∷ []) g)
+few-accepted g few none =
+    few-one (firing 1 0 4) g few
+    (λ _. fits-comm _ _ _ g.comm (comm_fired 4 (delay_end 4 g) g.comm) g.control (is_selected g) none (talks_on 4 (delay_end 4 g) g.comm refl) few)
+
+few-refused : (g : State) → Few g → count_of establishes g.transactions.opened ≡ 0 → Few (fire_listed (firing 1 0 5 ∷ []) g)
+few-refused g few none =
+    few-one (firing 1 0 5) g few
+    (λ _. fits-comm _ _ _ g.comm (comm_fired 5 (delay_end 5 g) g.comm) g.control (is_selected g) none (talks_on 5 (delay_end 5 g) g.comm refl) few)
+
+most_establish : (g : State) → Few g → count_of establishes g.transactions.opened ≤ 1
+most_establish g few = let most = one_if-most (is_wait_cra g.comm) in omega (arith, few.establish, most)
+
+most_attempt : (g : State) → Few g → count_of attempts g.transactions.opened ≤ 1
+most_attempt g few = let most = one_if-most (can_ask g && is_attempt g.control) in omega (arith, few.attempt, most)
+
+-- row 6 of table 1: the tool's S1F13 is forgotten
+few-met : (g : State) → Few g → Few (fire_listed (firing 1 0 6 ∷ []) g)
+few-met g few =
+    let none = count-forgotten establishes g.transactions (first_of what.Establish g.transactions.opened) refl (most_establish g few) in
+    few-one (firing 1 0 6) g few
+    (λ _. fits-comm _ _ _ g.comm (comm_fired 6 (delay_end 6 g) g.comm) g.control (is_selected g) none (talks_on 6 (delay_end 6 g) g.comm refl)
+    (few-out g (first_of what.Establish g.transactions.opened) few))
+
+few-enabled : (g : State) → Few g → Few (fire_listed (firing 1 0 1 ∷ []) g)
+few-enabled g few =
+    few-one (firing 1 0 1) g few (λ _. fits-enabled _ _ _ (delay_end 1 g) g.comm g.control (is_selected g) few)
+
+-- a row of table 2 that ends the attempt, where no S1F1 is open
+few-failed : (g : State) → Few g → count_of attempts g.transactions.opened ≡ 0 → Few (fire_listed (firing 2 0 3 ∷ []) g)
+few-failed g few none = few-one (firing 2 0 3) g few (λ _. fits-control _ _ _ g.comm g.control (control_fired 3 g.control) (is_selected g) none few)
+
+few-on_line : (local : Bool) (g : State) → Few g → count_of attempts g.transactions.opened ≡ 0 → Few (fire_listed (of_control (if local then 4 ∷ [] else 5 ∷ [])) g)
+few-on_line true g few none = few-one (firing 2 0 4) g few (λ _. fits-control _ _ _ g.comm g.control (control_fired 4 g.control) (is_selected g) none few)
+few-on_line false g few none = few-one (firing 2 0 5) g few (λ _. fits-control _ _ _ g.comm g.control (control_fired 5 g.control) (is_selected g) none few)
+
+-- row 6 of table 2: the tool's S1F1 is forgotten
+few-off_line : (g : State) → Few g → Few (fire_listed (firing 2 0 6 ∷ []) g)
+few-off_line g few =
+    let none = count-forgotten attempts g.transactions (first_of what.Attempt g.transactions.opened) refl (most_attempt g few) in
+    few-one (firing 2 0 6) g few
+    (λ _. fits-control _ _ _ g.comm g.control (control_fired 6 g.control) (is_selected g) none (few-out g (first_of what.Attempt g.transactions.opened) few))
+
+-- the other rows of table 2 do not start in ATTEMPT ON-LINE, and have no effect
+few-elsewhere : (row : ℕ) (g : State) → starts control_table row attempt_online ≡ false → (row == 1) ≡ false → (row == 6) ≡ false → Few g → Few (fire_listed (firing 2 0 row ∷ []) g)
+few-elsewhere row g never sends_none forgets_none few =
+    few-one (firing 2 0 row) g few
+    (λ _. rw (sends_none, forgets_none) (fits-elsewhere row _ _ _ g.comm g.control (is_selected g) never few))
+
+-- row 1 of table 2: S1F1 is sent where the tool can ask
+few-attempted : (g : State) → Few g → Few (fire_listed (firing 2 0 1 ∷ []) g)
+few-attempted g few = few-one (firing 2 0 1) g few (λ is. tries is)
+  where
+    tries : starts control_table 1 (control_number g.control) ≡ true → Few (fire g (firing 2 0 1))
+    tries is =
+        let from = from_offline _ _ _ g.comm g.control (is_selected g) is few in
+        let h : State = record g { control = control_fired 1 g.control } in
+        let quiet : Few h = fits-control _ _ _ g.comm g.control (control_fired 1 g.control) (is_selected g) from.none few in
+        few_where (can_ask h) (asks 1 1 what.Attempt [] h) h
+        (λ can. few-asks h 1 1 what.Attempt [] quiet (asked h from.leads can from.none quiet)) (λ _. quiet)
+      where
+        asked : (h : State) → h.control ≡ control.Attempt → can_ask h ≡ true → count_of attempts h.transactions.opened ≡ 0 → Few h → FewWith what.Attempt h
+        asked h leads can none quiet =
+            let f = fits-attempted _ _ _ h.comm h.control (is_selected h) none can quiet in
+            subst (λ (k : Control). Fits (count_of establishes h.transactions.opened + 0) (count_of attempts h.transactions.opened + 1) (count_of notes h.transactions.opened + 0) h.comm k (is_selected h)) (sym leads)
+            (fits-less _ _ _ _ _ _ h.comm control.Attempt (is_selected h) (omega arith) (omega arith) (omega arith) f)
+
+-- ---- settling
+
+few_firing : (g : State) (f one : Firing) → Few (fire g one) → Some one ≡ Some f → Few (fire g f)
+few_firing g f one few here = let same : one ≡ f = cc in subst (λ (x : Firing). Few (fire g x)) same few
+
+-- row 3 of table 1: S1F13 is sent
+few-asking : (g : State) → is_wait_delay g.comm ≡ true → Few g → Few (fire g (firing 1 0 3))
+few-asking g is few =
+    let h : State = record g { comm = comm_fired 3 (delay_end 3 g) g.comm } in
+    let leads : comm_fired 3 (delay_end 3 g) g.comm ≡ WaitCra = fired_3 (delay_end 3 g) g.comm is in
+    let f = fits-asked _ _ _ g.comm g.control (is_selected g) is few in
+    few-asks h 1 13 what.Establish (identity_text h.config)
+    (subst (λ (c : Comm). Fits (count_of establishes g.transactions.opened) (count_of attempts g.transactions.opened) (count_of notes g.transactions.opened) c g.control (is_selected g)) (sym leads)
+    (fits-less _ _ _ _ _ _ WaitCra g.control (is_selected g) (omega arith) (omega arith) (omega arith) f))
+    (subst (λ (c : Comm). Fits (count_of establishes g.transactions.opened + 1) (count_of attempts g.transactions.opened + 0) (count_of notes g.transactions.opened + 0) c g.control (is_selected g)) (sym leads)
+    (fits-less _ _ _ _ _ _ WaitCra g.control (is_selected g) (omega arith) (omega arith) (omega arith) f))
+
+cannot_ask : (a : ℕ) (b k : Bool) → not b ≡ true → a ≤ one_if (b && k) → a ≡ 0
+cannot_ask a true k not_b f = absurd (cc)
+cannot_ask a false k not_b f = omega (arith, f)
+
+-- row 2 of table 2: the tool cannot ask, so no S1F1 is open
+few-given_up : (g : State) → not (can_ask g) ≡ true → Few g → Few (fire g (firing 2 0 2))
+few-given_up g cannot few =
+    fits-control _ _ _ g.comm g.control (control_fired 2 g.control) (is_selected g) (cannot_ask _ (can_ask g) (is_attempt g.control) cannot few.attempt) few
+
+few-automatic : (g : State) (f : Firing) → least g ≡ Some f → Few g → Few (fire g f)
+few-automatic g f ready few =
+    or_went (ready_comm g) (ready_control g) f
+    (λ at. went _ _ _ _ (λ over e. few_firing g f (firing 1 0 3) (few-asking g (waits g.moment g.comm (and_parts_of _ _ over).0) few) e) (λ _ e. none_some f e) at)
+    (λ _ at. went _ _ _ _ (λ can e. few_firing g f (firing 2 0 2) (few-given_up g (and_parts_of _ _ can).1 few) e) (λ _ e. none_some f e) at)
+    ready
+
+pub few-settled : (g : State) → Few g → Few (settled g)
+few-settled g few = settled_keeps Few few-automatic g few
+
+-- ---- answers and timeouts
+
+-- no transaction of this kind is open
+abbrev Gone : What → State → Type 0
+Gone what.Establish g = count_of establishes g.transactions.opened ≡ 0
+Gone what.Attempt g = count_of attempts g.transactions.opened ≡ 0
+Gone (what.Note n) g = Unit {0}
+
+-- a state in which one that was found is open no more
+abbrev out_of : Open → State → State
+out_of one g = record g { transactions = taken_out (Some one) g.transactions }
+
+gone-out : (w : What) (g : State) (searched : Open → Bool) (one : Open) → find searched g.transactions.opened ≡ Some one → one.what ≡ w → Few g → Gone w (out_of one g)
+gone-out what.Establish g searched one found is few =
+    let less = count-found establishes searched g.transactions.opened one found (ap (λ (w : What). same_kind w what.Establish) is) in
+    let most = most_establish g few in
+    omega arith
+gone-out what.Attempt g searched one found is few =
+    let less = count-found attempts searched g.transactions.opened one found (ap (λ (w : What). same_kind w what.Attempt) is) in
+    let most = most_attempt g few in
+    omega arith
+gone-out (what.Note n) g searched one found is few = tt
+
+few-answer : (w : What) (function : ℕ) (item : Option Data) (g : State) → Few g → Gone w g → Few (fire_listed (answer_rows w function item g) g)
+few-answer what.Establish function item g few gone =
+    either_way (λ (t : CommTrigger). Few (fire_listed (by_comm t) g)) (function == 0) comm.Refused (if accepts item then comm.Accepted else comm.Refused)
+    (few-refused g few gone)
+    (either_way (λ (t : CommTrigger). Few (fire_listed (by_comm t) g)) (accepts item) comm.Accepted comm.Refused (few-accepted g few gone) (few-refused g few gone))
+few-answer what.Attempt function item g few gone =
+    either_way (λ (t : ControlTrigger). Few (fire_listed (by_control t g) g)) (function == 0) trigger.Failed trigger.HostS1F2
+    (few-failed g few gone) (few-on_line g.switch_local g few gone)
+few-answer (what.Note n) function item g few gone = few
+
+few-timeout : (w : What) (g : State) → Few g → Gone w g → Few (fire_listed (timeout_rows w g) g)
+few-timeout what.Establish g few gone = few-refused g few gone
+few-timeout what.Attempt g few gone = few-failed g few gone
+few-timeout (what.Note n) g few gone = few
+
+few-closed : (g : State) (h : Header) (item : Option Data) (searched : Open → Bool) (found : Option Open) → find searched g.transactions.opened ≡ found → Few g → Few (closed_by h item found g)
+few-closed g h item searched None is few = few
+few-closed g h item searched (Some one) is few =
+    few-answer one.what (function_of h) item (out_of one g) (few-out g (Some one) few) (gone-out one.what g searched one is refl few)
+
+-- the state in which a timeout is told
+abbrev told_of : Open → State → State
+told_of one g = sends_stream9 9 (data_header g.config.device true one.stream one.function one.system) (out_of one g)
+
+few-timed_out : (g : State) (searched : Open → Bool) (one : Open) → find searched g.transactions.opened ≡ Some one → Few g → Few (timed_out one g)
+few-timed_out g searched one found few =
+    few-timeout one.what (told_of one g) (few-out g (Some one) few) (told_gone one.what refl)
+  where
+    told_gone : (w : What) → one.what ≡ w → Gone w (told_of one g)
+    told_gone what.Establish is = gone-out what.Establish g searched one found is few
+    told_gone what.Attempt is = gone-out what.Attempt g searched one found is few
+    told_gone (what.Note n) is = tt
+
+opened_timeout : (w : What) (g : State) → (fire_listed (timeout_rows w g) g).transactions.opened ≡ g.transactions.opened
+opened_timeout what.Establish g = either_way (λ (h : State). h.transactions.opened ≡ g.transactions.opened) (row_starts g (firing 1 0 5)) (fire g (firing 1 0 5)) g refl refl
+opened_timeout what.Attempt g = either_way (λ (h : State). h.transactions.opened ≡ g.transactions.opened) (row_starts g (firing 2 0 3)) (fire g (firing 2 0 3)) g refl refl
+opened_timeout (what.Note n) g = refl
+
+few-timeouts : (n at : ℕ) (opened : List Open) (first : Option Open) (g : State) → g.transactions.opened ≡ opened → first_expired at opened ≡ first → Few g → Few (all_done (map (λ one. Timeout one) (expired_from n at opened first)) g)
+few-timeouts zero at opened first g is found few = few
+few-timeouts (suc n) at opened None g is found few = few
+few-timeouts (suc n) at opened (Some one) g is found few =
+    few-timeouts n at (without one.system opened) (first_expired at (without one.system opened)) (timed_out one g)
+    (opened_timeout one.what (told_of one g) ∙ ap (without one.system) is) refl
+    (few-timed_out g (is_first_expired at opened) one (ap (find (is_first_expired at opened)) is ∙ found) few)
+
+-- ---- the end of a session
+
+none_fired : (f : Firing) (g : State) → g.transactions.opened ≡ [] → (fire g f).transactions.opened ≡ [] → (if row_starts g f then fire g f else g).transactions.opened ≡ []
+none_fired f g here fired = either_way (λ (h : State). h.transactions.opened ≡ []) (row_starts g f) (fire g f) g fired here
+
+none_failed : (b : Bool) (g : State) → g.transactions.opened ≡ [] → (fire_listed (if b then firing 2 0 3 ∷ [] else []) g).transactions.opened ≡ []
+none_failed true g none = none_fired (firing 2 0 3) g none none
+none_failed false g none = none
+
+few-ended : (g : State) → Few (session_ended g)
+few-ended g =
+    let down : State = without_session g in
+    let one : State = if row_starts down (firing 1 0 7) then fire down (firing 1 0 7) else down in
+    few-none (session_ended g)
+    (none_failed (is_some (first_of what.Attempt g.transactions.opened)) one (none_fired (firing 1 0 7) down refl refl))
+
+-- ---- operators
+
+failed_where : (b : Bool) (g : State) → Few g → count_of attempts g.transactions.opened ≡ 0 → Few (fire_listed (if b then firing 2 0 3 ∷ [] else []) g)
+failed_where true g few none = few-failed g few none
+failed_where false g few none = few
+
+-- communication is disabled already where its row does not start, and so no S1F1 is open
+no_talk : (c : Comm) → starts communication_table 2 (comm_number c) ≡ false → not (is_communicating c) ≡ true
+no_talk Disabled is = refl
+no_talk (WaitDelay until) is = refl
+no_talk WaitCra is = refl
+no_talk Communicating is = absurd (cc)
+
+no_talk_no_ask : (b s : Bool) → not b ≡ true → not (b && s) ≡ true
+no_talk_no_ask true s is = absurd (cc)
+no_talk_no_ask false s is = refl
+
+-- the rows of `disable` behind the first, by whether that one starts
+few-disabling : (b failing : Bool) (g : State) → row_starts g (firing 1 0 2) ≡ b → Few g → Few (fire_listed (if failing then firing 2 0 3 ∷ [] else []) (if b then fire g (firing 1 0 2) else g))
+few-disabling true failing g is few =
+    let disabled : State = fire g (firing 1 0 2) in
+    few-none (fire_listed (if failing then firing 2 0 3 ∷ [] else []) disabled) (none_failed failing disabled refl)
+few-disabling false failing g is few =
+    failed_where failing g few
+    (cannot_ask _ (can_ask g) (is_attempt g.control) (no_talk_no_ask (is_communicating g.comm) (is_selected g) (no_talk g.comm is)) few.attempt)
+
+few-disabled : (g : State) → Few g → Few (fires (operator_rows oper.Disable) g)
+few-disabled g few = few-disabling (row_starts g (firing 1 0 2)) (is_some (first_of what.Attempt g.transactions.opened)) g refl few
+
+few-operator : (command : OperCmd) (g : State) → Few g → Few (fires (operator_rows command) (switched command g))
+few-operator oper.Enable g few = few-enabled g few
+few-operator oper.Disable g few = few-disabled g few
+few-operator oper.Online g few = few-attempted g few
+few-operator oper.Offline g few = few-off_line g few
+few-operator oper.Local g few = few-elsewhere 11 (switched oper.Local g) refl refl refl few
+few-operator oper.Remote g few = few-elsewhere 10 (switched oper.Remote g) refl refl refl few
+few-operator oper.Quit g few = few
+few-operator (oper.Service p on) g few = few
+few-operator (oper.Access p on) g few = few
+few-operator (oper.Job j w) g few = few
+few-operator (oper.CtlJob j n) g few = few
+few-operator (oper.Up m) g few = few
+few-operator (oper.Clear n) g few = few
+few-operator (oper.Lost s) g few = few
+
+few-quit : (up : Bool) (g : State) → Few g → Few (quits up g).after
+few-quit true g few = few-ended g
+few-quit false g few = few
+
+few-operated : (command : OperCmd) (g : State) → Few g → Few (operated command g).after
+few-operated oper.Quit g few = few-quit (is_up g) g few
+few-operated oper.Enable g few = few-operator oper.Enable g few
+few-operated oper.Disable g few = few-operator oper.Disable g few
+few-operated oper.Online g few = few-operator oper.Online g few
+few-operated oper.Offline g few = few-operator oper.Offline g few
+few-operated oper.Local g few = few-operator oper.Local g few
+few-operated oper.Remote g few = few-operator oper.Remote g few
+few-operated (oper.Service p on) g few = few
+few-operated (oper.Access p on) g few = few
+few-operated (oper.Job j w) g few = few
+few-operated (oper.CtlJob j n) g few = few
+few-operated (oper.Up m) g few = few
+few-operated (oper.Clear n) g few = few
+few-operated (oper.Lost s) g few = few
+
+-- ---- data messages
+
+few-clock : (shown : Option ℕ) (g : State) → Few g → Few (clock_set shown g)
+few-clock None g few = few
+few-clock (Some shown) g few = few
+
+few-written : (m : GemMsg) (g : State) → Few g → Few (written m g)
+few-written (msg.S2F31 text) g few = few-clock (moment_in text) g few
+few-written msg.S1F1 g few = few
+few-written msg.S1F13 g few = few
+few-written msg.S1F15 g few = few
+few-written msg.S1F17 g few = few
+few-written msg.S2F17 g few = few
+
+few-replied : (h : Header) (function : ℕ) (text : List ℕ) (g : State) → Few g → Few (replied h function text g)
+few-replied h function text g few = few_either (wants_reply h) _ g few few
+
+few-on_either : (local : Bool) (g : State) → Few g → Few (fire_listed (of_control (if local then 7 ∷ [] else 8 ∷ [])) g)
+few-on_either true g few = few-elsewhere 7 g refl refl refl few
+few-on_either false g few = few-elsewhere 8 g refl refl refl few
+
+few-message : (m : GemMsg) (g : State) → Few g → Few (fires (message_rows m) g)
+few-message msg.S1F1 g few = few
+few-message msg.S1F13 g few = few-met g few
+few-message msg.S1F15 g few = few-elsewhere 9 g refl refl refl few
+few-message msg.S1F17 g few = few-on_either g.switch_local g few
+few-message msg.S2F17 g few = few
+few-message (msg.S2F31 text) g few = few
+
+few-taken : (h : Header) (m : GemMsg) (g : State) → Few g → Few (taken h m g)
+few-taken h m g few =
+    let told : State = replied h (function_of h + 1) (plain (reply_body (reply_to g m))) g in
+    few-message m (written m told) (few-written m told (few-replied h (function_of h + 1) (plain (reply_body (reply_to g m))) g few))
+
+few-act : (h : Header) (item : Option Data) (v : Verdict) (g : State) → Few g → Few (data_act h item v g)
+few-act h item Discarded g few = few
+few-act h item (Stream9 function) g few = few
+few-act h item Aborted g few = few-replied h 0 [] g few
+few-act h item Answers g few =
+    few-closed g h item (answers h.system (stream_of h) (function_of h)) (answered h.system (stream_of h) (function_of h) g.transactions.opened) refl few
+few-act h item (Taken m) g few = few-taken h m g few
+
+-- ---- the link
+
+few-linked : (g : State) (h : Header) → Few g → Few (linked g h)
+few-linked g h few = record {
+  establish = few.establish;
+  attempt = fits_ask _ (is_communicating g.comm) (is_selected g) (is_communicating g.comm) (is_selected (linked g h)) (is_attempt g.control) (λ is. is) (link_after-keeps h g.moment g.link).selected few.attempt;
+  note = few.note;
+}
+
+few-hosted : (g : State) (arrival : Arrival) (act : LinkAct) → Few g → Few (hosted g arrival act).after
+few-hosted g arrival (link.Reply h) few = few
+few-hosted g arrival link.Data few = few-act (header_of arrival) (item_of arrival) (verdict g arrival) g few
+few-hosted g arrival link.Ended few = few-ended g
+few-hosted g arrival link.Nothing few = few
+
+-- ---- the clock
+
+few-due : (g : State) (d : Option LinkDue) → Few g → Few (all_done (dues_with g d) g)
+few-due g (Some due.T7) few = few-ended g
+few-due g (Some due.T6) few = few-ended g
+few-due g (Some due.AskLinktest) few =
+    few-timeouts (length g.transactions.opened) g.moment g.transactions.opened (first_expired g.moment g.transactions.opened) (asks_linktest g) refl refl few
+few-due g None few =
+    few-timeouts (length g.transactions.opened) g.moment g.transactions.opened (first_expired g.moment g.transactions.opened) g refl refl few
+
+-- ---- a step
+
+few_some : (p o : Outcome) → Few p.after → Some p ≡ Some o → Few o.after
+few_some p o few here = let is : p ≡ o = cc in subst (λ (q : Outcome). Few q.after) is few
+
+few-ticked : (before : ℕ) (g : State) (o : Outcome) → Few g → ticked before g ≡ Some o → Few o.after
+few-ticked before g o few here =
+    went (is_due before g) _ _ _
+    (λ _ e. few_some _ o (few-due g (due_at (link_times g.times) g.link g.moment) few) e)
+    (λ _ e. none_some o e) here
+
+few-frame : (g : State) (frames : List (List ℕ)) (o : Outcome) → Few g → steps.taken g frames ≡ Some o → Few o.after
+few-frame g [] o few here = none_some o here
+few-frame g (frame ∷ frames) o few here = few_some _ o few here
+
+not_selected : (phase : Phase) → links.is_up phase ≡ false → links.is_selected phase ≡ false
+not_selected Down down = refl
+not_selected (NotSelected since) down = refl
+not_selected Selected down = absurd (cc)
+
+-- a new session is not selected, and neither was the link before
+few-up : (g : State) → is_up g ≡ false → Few g → Few (record g { link = record { session = suc g.link.session; phase = NotSelected (record { 0 = g.moment }); ping = Off } })
+few-up g down few =
+    subst (λ (s : Bool). Fits (count_of establishes g.transactions.opened) (count_of attempts g.transactions.opened) (count_of notes g.transactions.opened) g.comm g.control s)
+    (not_selected g.link.phase down) few
+
+pub few-acts : (before : ℕ) (g : State) (e : Event) (o : Outcome) → Few g → acts before g e ≡ Some o → Few o.after
+few-acts before g event.LinkUp o few here = went (is_up g) _ _ _ (λ _ e. few_some _ o few e) (λ down e. few_some _ o (few-up g down few) e) here
+few-acts before g (event.LinkDown session cause) o few here = went (is_session_up g session) _ _ _ (λ _ e. few_some _ o (few-ended g) e) (λ _ e. few_some _ o few e) here
+few-acts before g (event.Host session arrival) o few here =
+    went (is_session_up g session) _ _ _
+    (λ _ e. few_some _ o (few-hosted (linked g (header_of arrival)) arrival (link_act (header_of arrival) g.link) (few-linked g (header_of arrival) few)) e)
+    (λ _ e. few_some _ o few e) here
+few-acts before g (event.Take session) o few here = went (is_session_up g session) _ _ _ (λ _ e. few-frame g g.waiting o few e) (λ _ e. few_some _ o few e) here
+few-acts before g (event.Oper command) o few here = few_some (operated command g) o (few-operated command g few) here
+few-acts before g (event.Signal signal) o few here = few_some _ o few here
+few-acts before g (event.Fetch m) o few here = none_some o here
+few-acts before g event.Tick o few here = few-ticked before g o few here
+few-acts before g event.Listen o few here = none_some o here
+few-acts before g (event.Watch port) o few here = none_some o here
+
+few-mapped : (x : Option Outcome) (o : Outcome) → ((p : Outcome) → x ≡ Some p → Few p.after) → option_map settles x ≡ Some o → Few o.after
+few-mapped None o few here = none_some o here
+few-mapped (Some p) o few here = few_some (settles p) o (few-settled p.after (few p refl)) here
+
+-- each step keeps few transactions open
+pub few-step : (before : ℕ) (g : State) (e : Event) (o : Outcome) → Few g → step_from before g e ≡ Some o → Few o.after
+few-step before g e o few here =
+    went g.quitting _ _ _ (λ _ at. few_some _ o few at) (λ _ at. few-mapped (acts before g e) o (λ p is. few-acts before g e p few is) at) here
+
+-- ---- room
+
+-- S1F13 and S1F1 are never open at once
+few_at : (e a : ℕ) (c : Comm) (s k : Bool) → e ≤ one_if (is_wait_cra c) → a ≤ one_if ((is_communicating c && s) && k) → e + a ≤ 1
+few_at e a WaitCra s k most_e most_a = omega (arith, most_e, most_a)
+few_at e a Disabled s k most_e most_a = omega (arith, most_e, most_a)
+few_at e a (WaitDelay until) s k most_e most_a = omega (arith, most_e, most_a)
+few_at e a Communicating s k most_e most_a = let one = one_if-most ((true && s) && k) in omega (arith, most_e, most_a, one)
+
+pub few-one_open : (g : State) → Few g → length g.transactions.opened ≤ 1
+few-one_open g few =
+    let counted = all-counted g.transactions.opened in
+    let most = few_at _ _ g.comm (is_selected g) (is_attempt g.control) few.establish few.attempt in
+    let none = few.note in
+    omega arith
+
+pub few-room : (g : State) → Few g → is_full g.transactions ≡ false
+few-room g few = let one = few-one_open g few in grind (arith, nat_tests)
+
+-- nor is the table full on the way to the settled state
+along_by : (n : ℕ) (g : State) (f : Option Firing) → least g ≡ f → Few g → Along (λ (k : State). is_full k.transactions ≡ false) g (settling_by n g f)
+along_by n g None is few = few-room g few
+along_by zero g (Some f) is few = few-room g few
+along_by (suc n) g (Some f) is few = (few-room g few, along_by n (fire g f) (least (fire g f)) refl (few-automatic g f is few))
+
+pub few-along : (g : State) → Few g → Along (λ (k : State). is_full k.transactions ≡ false) g (settling g)
+few-along g few = along_by (left g) g (least g) refl few

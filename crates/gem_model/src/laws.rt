@@ -1,0 +1,28 @@
+//! Laws of the definitions, for proofs to cite. Each function is empty: what it ensures holds of the definitions.
+
+ghost use Rattle.std.specs.Prelude.{◌≡◌, ℕ, ◌≤◌, false, List, length, Some};
+ghost use Rattle.transactions.specs.Table.{is_full};
+ghost use Rattle.tool_events.specs.declared.config.Config.{Config};
+ghost use Rattle.tool_events.specs.declared.entry.Entry.{Entry};
+ghost use Rattle.tool_events.specs.declared.event.Event.{Event};
+ghost use Rattle.gem_tables.specs.Table.{Firing};
+ghost use Rattle.gem_model.specs.State.{State, opening, raised};
+ghost use Rattle.gem_model.specs.Settle.{Settles, settling, settled, Along};
+ghost use Rattle.gem_model.specs.Step.{Outcome, acts};
+ghost use Rattle.gem_model.specs.Run.{Run};
+
+/// A primary of the tool always finds room among the open transactions: where a history leads, at most one is open, of the
+/// sixteen that can be; and there is room in each state that the tool passes while it settles behind an event.
+pub fn no_start_meets_a_full_table()
+    ensures room { (c : Config) (entries : List Entry) (h : State) → Run (opening c) entries h → is_full h.transactions ≡ false }
+    ensures one_open { (c : Config) (entries : List Entry) (h : State) → Run (opening c) entries h → length h.transactions.opened ≤ 1 }
+    ensures settling { (c : Config) (entries : List Entry) (h : State) (at : ℕ) (e : Event) (o : Outcome)
+        → Run (opening c) entries h → acts h.moment (raised h at) e ≡ Some o
+        → Along (λ (g : State). is_full g.transactions ≡ false) o.after (settling o.after) }
+{}
+
+/// A state settles by firings that are computed, and in no other way.
+pub fn a_state_settles_in_one_way()
+    ensures one { (g : State) → Settles g (settling g) (settled g) }
+    ensures only { (g : State) (fs : List Firing) (h : State) → Settles g fs h → (fs ≡ settling g) × (h ≡ settled g) }
+{}

@@ -2,12 +2,11 @@
 # Times the program on 100,000 and on 200,000 conversations, and prints, of each, the time and the peak memory for an entry
 # of the history, and then the ratio of the times and what an entry more takes of memory.
 #
-# A conversation is an S1F13 of the host with its S1F14, and an S1F1 with its S1F2, under system bytes of their own, on a link
-# that was selected once. It gives four entries: two messages, and two frames that are taken. Before the first come three: the
-# link, the select request and its response. So 200,000 conversations give 800,003 entries, with 400,000 bytes of text, of
-# 13.2 megabytes of input. All of it is well within the limits of the known configuration, which are 4,000,000 entries and
-# 536,870,912 bytes of text, and within the 4,294,967,296 bytes of input that a run reads; a run of a million conversations
-# would meet the first of these.
+# A conversation is an S1F13 of the host with its S1F14, and an S1F1 with its S1F2, under system bytes of their own, on a
+# link that was selected once. It gives four entries: two messages, and two frames that are taken. Before the first come
+# three: the link, the select request and its response. So 200,000 conversations give 800,003 entries, with 400,000 bytes of
+# text, of 13.2 megabytes of input. The known configuration has room for 4,000,000 entries and 536,870,912 bytes of text, and
+# a run reads 4,294,967,296 bytes of input; a million conversations would meet the first of these limits.
 #
 # A ratio of at most 2.2 is wanted: twice the conversations take about twice the time. The times are processor times, which a
 # busy machine changes little. The memory is the peak of the program's pages in kilobytes, as the system counts it. This is a

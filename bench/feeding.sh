@@ -1,0 +1,43 @@
+# What the measures of `feed` share: where the program is, and how a run of it is measured. It is sourced, at the top of the
+# repository, and leaves a folder in $work that goes when the script ends.
+program=crates/gem300_tool/out/gem300_tool
+config=examples/first.toml
+work=$(mktemp -d)
+trap 'rm -rf "$work"' EXIT
+TIMEFORMAT='%U %S'
+
+if [ ! -x "$program" ]; then
+    echo "$program is missing: build it first, as the head of this script says" >&2
+    exit 2
+fi
+
+# Feeds the lines in $work/lines, and leaves the output in $work/out and the processor time in $seconds.
+feed() {
+    { time "$program" feed "$config" < "$work/lines" > "$work/out" 2> "$work/err"; } 2> "$work/time" \
+        || { cat "$work/err" >&2; exit 1; }
+    seconds=$(awk 'END { printf "%.2f", $1 + $2 }' "$work/time")
+}
+
+# Feeds the lines in $work/lines again, and leaves the peak memory of the program in $peak, in kilobytes.
+feed_for_peak() {
+    if [ -x /usr/bin/time ]; then
+        /usr/bin/time -o "$work/peak" -f '%M' "$program" feed "$config" < "$work/lines" > /dev/null
+    else
+        "$program" feed "$config" < "$work/lines" > /dev/null &
+        local pid=$! now
+        while now=$(awk '/VmHWM/ { print $2 }' "/proc/$pid/status" 2> /dev/null) && [ -n "$now" ]; do
+            echo "$now" > "$work/peak"
+            sleep 0.01
+        done
+        wait "$pid"
+    fi
+    peak=$(cat "$work/peak")
+}
+
+# Prints the ratio of two times, of which the second is of twice as much.
+ratio() {
+    awk -v a="$1" -v b="$2" 'BEGIN {
+        if (a > 0) printf "ratio %.2f (at most 2.2 is wanted)\n", b / a
+        else print "ratio unknown: the first run was too short to be timed"
+    }'
+}

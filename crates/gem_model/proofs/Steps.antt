@@ -85,7 +85,7 @@ ended_link g = same_listed (session_end_rows g) (without_session g)
 ended_session : (g : State) → (session_ended g).link.session ≡ g.link.session
 ended_session g = ap (λ (l : LinkState). l.session) (ended_link g).link
 
-ended_down : (g : State) → is_up (session_ended g) ≡ false
+pub ended_down : (g : State) → is_up (session_ended g) ≡ false
 ended_down g = ap (λ (l : LinkState). links.is_up l.phase) (ended_link g).link
 
 -- the state is that in which the session has ended, but for the end of the run
@@ -182,7 +182,7 @@ pub record GoesOn (g h : State) : Type 0 where
   pub up : is_up h ≡ is_up g
   pub quitting : h.quitting ≡ g.quitting
 
-goes_same : (g h : State) → Same g h → GoesOn g h
+pub goes_same : (g h : State) → Same g h → GoesOn g h
 goes_same g h same = record {
   config = same.config;
   session = ap (λ (l : LinkState). l.session) same.link;
@@ -200,7 +200,7 @@ NoneEnds (EndOfSession cause ∷ dues) = ⊥
 NoneEnds (Linktest ∷ dues) = NoneEnds dues
 NoneEnds (Timeout one ∷ dues) = NoneEnds dues
 
-goes_all : (ds : List Due) (g : State) → NoneEnds ds → GoesOn g (all_done ds g)
+pub goes_all : (ds : List Due) (g : State) → NoneEnds ds → GoesOn g (all_done ds g)
 goes_all [] g none = goes_same g g (same_at g)
 goes_all (EndOfSession cause ∷ ds) g none = absurd none
 goes_all (Linktest ∷ ds) g none =
@@ -243,7 +243,7 @@ keeps_looked g (Some due.T6) none = keeps_end g _ _ _ (up_due g due.T6 none) (en
 keeps_looked g (Some due.AskLinktest) none = keeps_goes (Linktest ∷ timeouts g) g (timeouts_end_none (expired g))
 keeps_looked g None none = keeps_goes (timeouts g) g (timeouts_end_none (expired g))
 
-due_up : (g : State) → is_up g ≡ false → due_at (link_times g.times) g.link g.moment ≡ None
+pub due_up : (g : State) → is_up g ≡ false → due_at (link_times g.times) g.link g.moment ≡ None
 due_up g down = due-down (link_times g.times) g.link.session g.link.phase g.link.ping g.moment down
 
 keeps_ticked : (before : ℕ) (g : State) (o : Outcome) → ticked before g ≡ Some o → Keeping g o

@@ -1,11 +1,17 @@
 -- What a line does, joined from its parts.
-use Rattle.std.proofs.Common.{◌≡◌, ℕ, inr, Bool, true, false, if◌then◌else◌, List, ◌++◌, length, drop, Option, Some, None, Result, Ok, Err, OnOk, refl, sym, ◌∙◌, ap, subst}
+use Rattle.std.proofs.Common.{◌≡◌, ◌≢◌, ℕ, is_some, inr, Bool, true, false, if◌then◌else◌, List, ◌++◌, length, drop, Option, Some, None, Result, Ok, Err, OnOk, refl, sym, ◌∙◌, ap, subst}
+use Rattle.std.proofs.lemmas.Bool.{true≢false}
 use Rattle.hsms_frame.specs.declared.frame.Arrival.{Arrival}
 use Rattle.hsms_frame.specs.Cut.{Kept, IsCutOf, arrivals_of, behind_of, is_short}
+use Rattle.gem_ids.specs.declared.moment.Moment.{Moment}
+use Rattle.gem_ids.specs.declared.numbers.PortNo.{PortNo}
+use Rattle.tool_events.specs.declared.event.Event.TheVariants.{Tick, Oper}
+use Rattle.tool_events.specs.declared.event.OperCmd.{OperCmd}
 use Rattle.gem_model.specs.State.{State, is_up}
+use Rattle.gem_model.specs.Step.{Outcome, step}
 use Rattle.line_grammar.specs.declared.line.Line.{Line}
 use Rattle.line_grammar.specs.declared.line.Line.TheVariants as line
-use Rattle.gem_model.specs.Feed.{Given, Reading, messages, nothing, bytes_given, line_given, text_bytes, is_quit}
+use Rattle.gem_model.specs.Feed.{Given, Reading, input, messages, nothing, bytes_given, line_given, text_bytes, is_quit}
 use Rattle.tool_core.specs.CoreView.{CoreView}
 use Rattle.top_calls.specs.declared.halt.Halt.{Halt}
 use Rattle.top_calls.specs.declared.halt.Halt.TheVariants as halt
@@ -14,8 +20,9 @@ use Rattle.top_calls.specs.Cuts.{Cuts}
 use Rattle.top_calls.specs.Going.{SinkView, Goes, WentOn}
 use Rattle.top_calls.specs.Reading.{IsReading, TakesLine, TreatsLine, quit_behind}
 use Rattle.top_calls.specs.Reads.{AddsLine}
-use Rattle.top_calls.proofs.Going.{Goes-unmoved}
-use Rattle.top_calls.proofs.Counting.{counts_any}
+use Rattle.gem_model.proofs.Downs.{tick_down, oper_down}
+use Rattle.top_calls.proofs.Going.{Goes-nothing, Goes-unmoved}
+use Rattle.top_calls.proofs.Counting.{counts_any, counts_skip, counts_time, counts_oper, counts_watch}
 
 abbrev pub failed : Halt → Result (Unit {0}) Halt
 failed why = Err why
@@ -37,6 +44,62 @@ session_is false n k h = absurd (cc)
 reading_at : (r : Reading) (given : Given) (core' : CoreView) (cutter' : Kept) (stream : List ℕ) (result : Result (Unit {0}) Halt) (core : CoreView) → WentOn core core' given result → cutter'.max ≡ text_bytes → IsCutOf stream (arrivals_of text_bytes stream) cutter' → OnOk result (IsReading (record { state = given.state; stream = stream }) core' cutter')
 reading_at r given core' cutter' stream (Ok done) core went max cut = record { state = went.1; max = λ _. max; cut = λ _. cut }
 reading_at r given core' cutter' stream (Err why) core went max cut = tt
+
+-- a line that does nothing
+pub TreatsLine-skip : (r : Reading) (feeder : Feeder) (out : SinkView) → IsReading r feeder.core feeder.cutter → TreatsLine r (Ok line.Skip) feeder feeder out out (Ok tt)
+TreatsLine-skip r feeder out reading = (Ok tt, refl, record {
+  goes = subst (λ (g : State). Goes feeder.core feeder.core out out (nothing g) (Ok tt)) reading.state (Goes-nothing feeder.core out);
+  reading = record { state = reading.state; max = reading.max; cut = reading.cut };
+  counts = counts_skip r feeder.reads feeder.core feeder.core (Ok tt);
+})
+
+pub TreatsLine-watch : (r : Reading) (port : PortNo) (feeder : Feeder) (out : SinkView) → IsReading r feeder.core feeder.cutter → TreatsLine r (Ok (line.Watch port)) feeder feeder out out (Ok tt)
+TreatsLine-watch r port feeder out reading = (Ok tt, refl, record {
+  goes = subst (λ (g : State). Goes feeder.core feeder.core out out (nothing g) (Ok tt)) reading.state (Goes-nothing feeder.core out);
+  reading = record { state = reading.state; max = reading.max; cut = reading.cut };
+  counts = counts_watch r port feeder.reads feeder.core feeder.core (Ok tt);
+})
+
+-- a session that is up after it was up before it
+up_before : (g h : State) (up : Bool) → is_up g ≡ up → (is_up g ≡ false → is_up h ≡ false) → is_up h ≡ true → is_up g ≡ true
+up_before g h true is stays after = is
+up_before g h false is stays after = absurd (true≢false (sym after ∙ stays is))
+
+-- the bytes of the session stay
+reading_kept : (r : Reading) (given : Given) (core core' : CoreView) (cutter : Kept) (result : Result (Unit {0}) Halt) → (is_up r.state ≡ false → is_up given.state ≡ false) → IsReading r core cutter → WentOn core core' given result → OnOk result (IsReading (record { state = given.state; stream = r.stream }) core' cutter)
+reading_kept r given core core' cutter (Ok done) stays reading went = record {
+  state = went.1;
+  max = λ up. reading.max (up_before r.state given.state (is_up r.state) refl stays up);
+  cut = λ up. reading.cut (up_before r.state given.state (is_up r.state) refl stays up);
+}
+reading_kept r given core core' cutter (Err why) stays reading went = tt
+
+some_is : (x : Option Outcome) → x ≢ None → is_some x ≡ true
+some_is None some = absurd (some refl)
+some_is (Some o) some = refl
+
+pub TakesLine-look : (r : Reading) (at : Moment) (old : Feeder) (core' : CoreView) (out out' : SinkView) (result : Result (Unit {0}) Halt) → IsReading r old.core old.cutter → step old.core.state at.0 Tick ≢ None → Goes old.core core' out out' (input old.core.state at.0 Tick) result → TakesLine r (line.Moment at) old (record { core = core'; cutter = old.cutter; reads = old.reads }) out out' result
+TakesLine-look r at old core' out out' result reading some goes =
+    let due : is_some (step r.state at.0 Tick) ≡ true = some_is (step r.state at.0 Tick) (subst (λ (g : State). step g at.0 Tick ≢ None) reading.state some) in
+    let given : line_given r (line.Moment at) ≡ input r.state at.0 Tick = ap (λ (b : Bool). if b then input r.state at.0 Tick else nothing r.state) due in
+    let all = subst (λ (given : Given). Goes old.core core' out out' given result) (ap (λ (g : State). input g at.0 Tick) reading.state ∙ sym given) goes in
+    record {
+      goes = all;
+      reading = reading_kept r (line_given r (line.Moment at)) old.core core' old.cutter result (λ down. ap (λ (given : Given). is_up given.state) given ∙ tick_down r.state at.0 down) reading all.went;
+      counts = counts_time r at old.reads old.core core' result;
+    }
+
+pub TreatsLine-oper : (r : Reading) (command : OperCmd) (old : Feeder) (core' : CoreView) (out out' : SinkView) (quits : Bool) (taken : Result (Unit {0}) Halt) → IsReading r old.core old.cutter → quits ≡ is_quit (line.Oper command) → Goes old.core core' out out' (input old.core.state 0 (Oper command)) taken → TreatsLine r (Ok (line.Oper command)) old (record { core = core'; cutter = old.cutter; reads = old.reads }) out out' (if quits then quit_behind taken else taken)
+TreatsLine-oper r command old core' out out' quits taken reading is goes =
+    let all = subst (λ (given : Given). Goes old.core core' out out' given taken) (ap (λ (g : State). input g 0 (Oper command)) reading.state) goes in (
+      taken,
+      ap (λ (b : Bool). if b then quit_behind taken else taken) is,
+      record {
+        goes = all;
+        reading = reading_kept r (line_given r (line.Oper command)) old.core core' old.cutter taken (oper_down r.state 0 command) reading all.went;
+        counts = counts_oper r command old.reads old.core core' taken;
+      },
+    )
 
 pub TakesLine-bytes : (r : Reading) (bytes : List ℕ) (old : Feeder) (core' : CoreView) (cutter' : Kept) (reads' : List ℕ) (out out' : SinkView) (arrivals : List Arrival) (short : Bool) (session : ℕ) (result : Result (Unit {0}) Halt) → IsReading r old.core old.cutter → (if is_up old.core.state then Some old.core.state.link.session else None) ≡ Some session → cutter'.max ≡ old.cutter.max → ((stream : List ℕ) → old.cutter.max ≡ text_bytes → IsCutOf stream (arrivals_of text_bytes stream) old.cutter → Cuts bytes old.cutter cutter' arrivals short stream) → Goes old.core core' out out' (messages old.core.state session arrivals short) result → AddsLine r (line.Bytes bytes) old.reads reads' → TakesLine r (line.Bytes bytes) old (record { core = core'; cutter = cutter'; reads = reads' }) out out' result
 TakesLine-bytes r bytes old core' cutter' reads' out out' arrivals short session result reading told same cuts goes adds =

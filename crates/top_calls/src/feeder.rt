@@ -6,11 +6,12 @@ ghost use Rattle.gem_model.specs.Run.{Run};
 ghost use Rattle.gem_model.specs.Sizes.{bytes_of};
 ghost use Rattle.line_grammar.specs.declared.line.Line.TheVariants as line;
 ghost use Rattle.line_grammar.specs.Reading.{feed_line_of};
-ghost use Rattle.gem_model.specs.Feed.{Reading, first_reading, text_bytes};
+ghost use Rattle.gem_model.specs.Feed.{Reading, first_reading, is_quit, text_bytes};
 ghost use Rattle.hsms_frame.specs.Cut.{IsCutOf, arrivals_of};
 ghost use Rattle.top_calls.specs.Going.{seen};
 ghost use Rattle.top_calls.specs.Cuts.{Cuts};
 ghost use Rattle.top_calls.specs.Reads.{AddsLine};
+ghost use Rattle.top_calls.specs.Reading.{quit_behind};
 
 use crate::engine::{AT_ONCE, input, take_messages};
 use crate::halt::Halt;
@@ -50,6 +51,23 @@ fn cut_bytes(
         Ok(()) => Ok(false),
         Err(CutFault::ShortLength(_)) => Ok(true),
         Err(CutFault::NoMemory) => Err(AllocError),
+    }
+}
+
+/// Whether an operator's command ends the run.
+fn ends_run(command: &OperCmd) -> bool
+    ensures { result ≡ is_quit (line.Oper command.now) }
+{
+    matches!(command, OperCmd::Quit)
+}
+
+/// What was done in full ends the run.
+fn quit_behind(taken: Result<(), Halt>) -> Result<(), Halt>
+    ensures { result ≡ quit_behind taken }
+{
+    match taken {
+        Ok(()) => Err(Halt::Quit),
+        Err(halt) => Err(halt),
     }
 }
 
@@ -177,17 +195,15 @@ impl Feeder {
             → TreatsLine r (Ok (line.Oper command)) self.old self.new (seen K.held K.faults K.refusals out.old) (seen K.held K.faults K.refusals out.new) result }
         ensures whole { OnOk result (self.new.core.is_whole ≡ true) }
     {
-        let quits = matches!(command, OperCmd::Quit);
-        match input(
+        let quits = ends_run(&command);
+        let taken = input(
             alloc,
             &mut self.core,
             AT_ONCE,
             Event::Oper(command),
             out,
-        ) {
-            Ok(()) if quits => Err(Halt::Quit),
-            other => other,
-        }
+        );
+        if quits { quit_behind(taken) } else { taken }
     }
 
     /// The equipment tells something.

@@ -10,9 +10,13 @@ mod frames;
 #[cfg(test)]
 mod items;
 #[cfg(test)]
+mod lines;
+#[cfg(test)]
 mod links;
 #[cfg(test)]
 mod messages;
+#[cfg(test)]
+mod moments;
 #[cfg(test)]
 mod names;
 #[cfg(test)]

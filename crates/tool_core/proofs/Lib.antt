@@ -3,3 +3,4 @@ pub mod Firings
 pub mod Functions
 pub mod Timeouts
 pub mod Replaying
+pub mod MomentTexts

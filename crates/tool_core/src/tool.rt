@@ -8,6 +8,7 @@ ghost use Rattle.tool_events.specs.Posts as posts;
 ghost use Rattle.tool_events.specs.Sizes.{event_bytes};
 ghost use Rattle.gem_model.specs.State.{opening, is_up, is_session_up};
 ghost use Rattle.gem_model.specs.Step.{Outcome, step};
+ghost use Rattle.gem_model.specs.Valid.{Valid};
 ghost use Rattle.gem_model.specs.Run.{Run};
 ghost use Rattle.gem_model.specs.Sessions.{session_count, session_end, session_out, frame_taken};
 ghost use Rattle.gem_model.specs.Sizes.{bytes_of, counted, is_full};
@@ -203,7 +204,9 @@ impl Core {
     /// Whether an event has to wait that is posted at this moment. The core is whole.
     pub fn idle(&self, at: Moment, event: &Event) -> bool
         requires { self.now.is_whole ≡ true }
-        ensures { IsTrue result ↔ (step self.now.state at.0 event.now ≡ None) }
+        ensures waits { IsTrue result ↔ (step self.now.state at.0 event.now ≡ None) }
+        // The state keeps what is true of each state that a history leads to.
+        ensures valid { Valid self.now.state }
     {
         self.plant.must_wait(at, event)
     }

@@ -27,10 +27,11 @@ use Rattle.top_calls.proofs.Reading.{Taken-nothing}
 use Rattle.top_calls.proofs.Writing.{Written-nothing, WrittenFront-all}
 
 pub FedBy-end : (end : InputEnd) (text : List ℕ) (count : ℕ) (reader : Reader) (source source' : SourceView) → length text ≡ count → InputEnds end text reader source source' → FedBy reader.feeder.core.config (cause_after end count reader.feeder.core.history reader.number) (ReadToEnd source source') text reader.feeder.core.history
-FedBy-end input.Whole text count reader source source' size h = h.0.told
+FedBy-end input.Whole text count reader source source' size h = inl (h.0.told, h.1)
 FedBy-end input.Fault text count reader source source' size h = h.0.told
 FedBy-end input.Bound text count reader source source' size h = (inl (h.0.told, h.1), refl, refl, sym size)
-FedBy-end (input.Halted (halt.Line place)) text count reader source source' size h = (h.told.0, h.told.1, h.at_line)
+FedBy-end (input.Halted (halt.Line place)) text count reader source source' size h = (h.told, h.at_line)
+FedBy-end (input.Halted halt.Quit) text count reader source source' size h = inr (reader.number, h.told, h.at_line)
 FedBy-end (input.Halted halt.Full) text count reader source source' size h = (inr h.told, refl, refl, sym size)
 FedBy-end (input.Halted halt.Write) text count reader source source' size h = h.given
 FedBy-end (input.Halted halt.NoMemory) text count reader source source' size h = h.given
@@ -51,6 +52,8 @@ NotedBy-end input.Fault text count reader notes source source' are h = are _ h.0
 NotedBy-end input.Bound text count reader notes source source' are h = inl ((h.0.told, h.1), are _ h.0.read)
 NotedBy-end (input.Halted (halt.Line place)) text count reader notes source source' are h =
     subst (λ (t : List ℕ). AreNotes reader.feeder.core.config reader.feeder.core.history (session_in reader.feeder.core.config t) notes) h.counts.marks (are _ h.counts.read)
+NotedBy-end (input.Halted halt.Quit) text count reader notes source source' are h =
+    subst (λ (t : List ℕ). AreNotes reader.feeder.core.config reader.feeder.core.history (session_in reader.feeder.core.config t) notes) h.counts.marks (are _ h.counts.read)
 NotedBy-end (input.Halted halt.Full) text count reader notes source source' are h = inr (h.counts.taken, h.counts.marks, are _ h.counts.read)
 NotedBy-end (input.Halted halt.Write) text count reader notes source source' are h = (h.counts.taken, h.counts.marks, are _ h.counts.read)
 NotedBy-end (input.Halted halt.NoMemory) text count reader notes source source' are h = inr (h.counts.taken, h.counts.marks, are _ h.counts.read)
@@ -63,6 +66,7 @@ Shown-end input.Whole core core' out out' count number none h = h.shows out.held
 Shown-end input.Fault core core' out out' count number none h = h.shows out.held (shows_first core out none)
 Shown-end input.Bound core core' out out' count number none h = h.shows out.held (shows_first core out none)
 Shown-end (input.Halted (halt.Line place)) core core' out out' count number none h = h.shows out.held (shows_first core out none)
+Shown-end (input.Halted halt.Quit) core core' out out' count number none h = h.shows out.held (shows_first core out none)
 Shown-end (input.Halted halt.Full) core core' out out' count number none h = h.shows out.held (shows_first core out none)
 Shown-end (input.Halted halt.Write) core core' out out' count number none h = h.shows out.held (shows_first core out none)
 Shown-end (input.Halted halt.NoMemory) core core' out out' count number none h = h.shows out.held (shows_first core out none)
@@ -73,18 +77,10 @@ Shown-memory input.Whole core core' out out' none h = WrittenFront-all out.held 
 Shown-memory input.Fault core core' out out' none h = WrittenFront-all out.held out'.held _ (h.shows out.held (shows_first core out none))
 Shown-memory input.Bound core core' out out' none h = WrittenFront-all out.held out'.held _ (h.shows out.held (shows_first core out none))
 Shown-memory (input.Halted (halt.Line place)) core core' out out' none h = WrittenFront-all out.held out'.held _ (h.shows out.held (shows_first core out none))
+Shown-memory (input.Halted halt.Quit) core core' out out' none h = WrittenFront-all out.held out'.held _ (h.shows out.held (shows_first core out none))
 Shown-memory (input.Halted halt.Full) core core' out out' none h = WrittenFront-all out.held out'.held _ (h.shows out.held (shows_first core out none))
 Shown-memory (input.Halted halt.Write) core core' out out' none h = h.shows out.held (shows_first core out none)
 Shown-memory (input.Halted halt.NoMemory) core core' out out' none h = h.shows out.held (shows_first core out none)
-
-pub read_to_end : (end : InputEnd) (text : List ℕ) (count : ℕ) (history : List Entry) (number : ℕ) (reader : Reader) (source source' : SourceView) → InputEnds end text reader source source' → cause_after end count history number ≡ cause.Done → ReadToEnd source source'
-read_to_end input.Whole text count history number reader source source' h is = h.1
-read_to_end input.Fault text count history number reader source source' h is = absurd (cc)
-read_to_end input.Bound text count history number reader source source' h is = absurd (cc)
-read_to_end (input.Halted (halt.Line place)) text count history number reader source source' h is = absurd (cc)
-read_to_end (input.Halted halt.Full) text count history number reader source source' h is = absurd (cc)
-read_to_end (input.Halted halt.Write) text count history number reader source source' h is = absurd (cc)
-read_to_end (input.Halted halt.NoMemory) text count history number reader source source' h is = absurd (cc)
 
 -- no session came
 no_notes : (c : Config) (read : ℕ → ℕ) → AreNotes c [] read []

@@ -1,5 +1,5 @@
 -- One part of feed after another.
-use Rattle.std.proofs.Common.{◌≡◌, ℕ, ◌≤◌, inl, inr, Bool, true, false, List, [], ◌∷◌, ◌++◌, Option, Some, None, IfSome, Result, Ok, Err, refl, sym, ◌∙◌, ap, append_assoc, arith, length, length-append, option_map, option_and_then, if◌then◌else◌}
+use Rattle.std.proofs.Common.{◌≡◌, ℕ, ◌≤◌, inl, inr, Bool, true, false, ◌&&◌, not, List, [], ◌∷◌, ◌++◌, Option, Some, None, IfSome, Result, Ok, Err, OnOk, refl, sym, ◌∙◌, ap, append_assoc, arith, length, length-append, option_map, option_and_then, if◌then◌else◌}
 use Rattle.std.proofs.lemmas.List.{append-nil}
 use Rattle.outside.specs.Told.{Written}
 use Rattle.tool_events.specs.declared.entry.Entry.{Entry}
@@ -12,7 +12,7 @@ use Rattle.gem_model.specs.Printed.{printed, outcome_lines}
 use Rattle.gem_model.proofs.Runs.{after-step}
 use Rattle.gem_model.specs.State.{is_up}
 use Rattle.gem_model.specs.Sessions.{session_end}
-use Rattle.gem_model.specs.Printed.{answer_lines, end_lines}
+use Rattle.gem_model.specs.Printed.{answer_line, end_line, line_bytes}
 use Rattle.gem_model.proofs.Ends.{session_end-now}
 use Rattle.gem_model.proofs.Steps.{step_keeps}
 use Rattle.gem_model.specs.Sizes.{is_full}
@@ -55,6 +55,7 @@ shows_unmoved start core core' out same shows = rw (same.config, same.history) s
 pub Goes-unmoved : (core core' : CoreView) (out : SinkView) (given : Given) → Unmoved core core' → Goes core core' out out given (Err halt.NoMemory)
 Goes-unmoved core core' out given same = record {
   config = same.config;
+  whole = tt;
   went = rw same.history (IsFront-append core.history given.entries);
   grows = IsFront-same core.history core'.history same.history;
   wrote = λ e. absurd (cc);
@@ -69,6 +70,7 @@ Goes-unmoved core core' out given same = record {
 pub Goes-full : (core core' : CoreView) (out : SinkView) (given : Given) (entry : Entry) (behind : List Entry) → Unmoved core core' → given.entries ≡ entry ∷ behind → is_full core.config core.history entry.event ≡ true → Goes core core' out out given (Err halt.Full)
 Goes-full core core' out given entry behind same is full = record {
   config = same.config;
+  whole = tt;
   went = record { next = entry; behind = behind; joined = rw same.history (ap (λ (es : List Entry). core.history ++ es) is); full = rw same.history full };
   grows = IsFront-same core.history core'.history same.history;
   wrote = λ e. absurd (cc);
@@ -82,10 +84,15 @@ Goes-full core core' out given entry behind same is full = record {
 -- one entry was added to the history
 pub record Added (core core' : CoreView) (entry : Entry) (o : Outcome) : Type 0 where
   pub config : core'.config ≡ core.config
+  pub whole : core.is_whole ≡ true → core'.is_whole ≡ true
   pub ran : Run (opening core.config) core.history core.state
   pub here : entry_step core.state entry ≡ Some o
   pub history : core'.history ≡ core.history ++ entry ∷ []
   pub state : core'.state ≡ o.after
+
+-- a core stays whole unless memory ran out
+pub whole_after : (before after want : Bool) → after ≡ (before && not want) → want ≡ false → before ≡ true → after ≡ true
+whole_after before after want is none whole = is ∙ rw (whole, none) refl
 
 -- what one entry gives
 abbrev pub one : CoreView → Entry → Given
@@ -102,6 +109,7 @@ added_grows core core' entry o added = record { behind = entry ∷ []; joined = 
 pub Goes-added : (core core' : CoreView) (out out' : SinkView) (entry : Entry) (o : Outcome) (lines : List ℕ) → Added core core' entry o → lines ≡ outcome_lines o → Written out.held out'.held lines → (out'.faults ≡ out.faults) × (out'.refusals ≡ out.refusals) → Goes core core' out out' (one core entry) (Ok tt)
 Goes-added core core' out out' entry o lines added is written stay = record {
   config = added.config;
+  whole = added.whole;
   went = (added.history, added.state ∙ sym (after-step core.state entry.at.0 entry.event o added.here));
   grows = added_grows core core' entry o added;
   wrote = λ e. absurd (cc);
@@ -115,6 +123,7 @@ Goes-added core core' out out' entry o lines added is written stay = record {
 pub Goes-added-write : (core core' : CoreView) (out out' : SinkView) (entry : Entry) (o : Outcome) (lines : List ℕ) → Added core core' entry o → lines ≡ outcome_lines o → WrittenFront out.held out'.held lines → Failed out.faults out'.faults out.refusals out'.refusals → out.faults ≤ out'.faults → out.refusals ≤ out'.refusals → Goes core core' out out' (one core entry) (Err halt.Write)
 Goes-added-write core core' out out' entry o lines added is written cause faults refusals = record {
   config = added.config;
+  whole = tt;
   went = rw added.history (record { behind = []; joined = sym (append-nil (core.history ++ entry ∷ [])) });
   grows = added_grows core core' entry o added;
   wrote = λ e. omega (arith, ap length added.history, length-append core.history (entry ∷ []));
@@ -128,6 +137,7 @@ Goes-added-write core core' out out' entry o lines added is written cause faults
 pub Goes-added-memory : (core core' : CoreView) (out : SinkView) (entry : Entry) (o : Outcome) → Added core core' entry o → Goes core core' out out (one core entry) (Err halt.NoMemory)
 Goes-added-memory core core' out entry o added = record {
   config = added.config;
+  whole = tt;
   went = rw added.history (record { behind = []; joined = sym (append-nil (core.history ++ entry ∷ [])) });
   grows = added_grows core core' entry o added;
   wrote = λ e. absurd (cc);
@@ -156,11 +166,11 @@ ends_shown core core' entry o added false down =
     sym ((step_keeps core.state entry.at.0 entry.event o added.here).none down)
 
 -- the lines of an outcome are those of its answer and of the session that ended
-pub outcome_shown : (core core' : CoreView) (entry : Entry) (o : Outcome) → Added core core' entry o → (answer : Answer) → o.answer ≡ answer → (before : Option ℕ) → before ≡ if is_up core.state then Some core.state.link.session else None → (ended : Option SessionEnd) → ended ≡ end_after core' before → (text : List ℕ) → text ≡ answer_lines answer ++ end_lines ended → text ≡ outcome_lines o
+pub outcome_shown : (core core' : CoreView) (entry : Entry) (o : Outcome) → Added core core' entry o → (answer : Answer) → o.answer ≡ answer → (before : Option ℕ) → before ≡ if is_up core.state then Some core.state.link.session else None → (ended : Option SessionEnd) → ended ≡ end_after core' before → (text : List ℕ) → text ≡ line_bytes (answer_line answer) ++ line_bytes (end_line ended) → text ≡ outcome_lines o
 outcome_shown core core' entry o added answer is before was ended now text made =
     made
-    ∙ ap (λ (a : Answer). answer_lines a ++ end_lines ended) (sym is)
-    ∙ ap (λ (e : Option SessionEnd). answer_lines o.answer ++ end_lines e)
+    ∙ ap (λ (a : Answer). line_bytes (answer_line a) ++ line_bytes (end_line ended)) (sym is)
+    ∙ ap (λ (e : Option SessionEnd). line_bytes (answer_line o.answer) ++ line_bytes (end_line e))
     (now ∙ ap (end_after core') was ∙ ends_shown core core' entry o added (is_up core.state) refl)
 
 pub Failed-wider : (f1 f2 f3 r1 r2 r3 : ℕ) → f1 ≤ f2 → f2 ≤ f3 → r1 ≤ r2 → r2 ≤ r3 → Failed f2 f3 r2 r3 → Failed f1 f3 r1 r3
@@ -178,7 +188,8 @@ went_then a b c first more (Err halt.Full) b_c h i = record {
   joined = sym (append_assoc a.history first.entries more.entries) ∙ ap (λ (es : List Entry). es ++ more.entries) (sym h.0) ∙ i.joined;
   full = rw (← b_c) i.full;
 }
-went_then a b c first more (Err (halt.Line place)) b_c h i = i
+went_then a b c first more (Err (halt.Line place)) b_c h i = absurd i
+went_then a b c first more (Err halt.Quit) b_c h i = absurd i
 went_then a b c first more (Err halt.Write) b_c h i = record { behind = i.behind; joined = sym (append_assoc a.history first.entries more.entries) ∙ ap (λ (es : List Entry). es ++ more.entries) (sym h.0) ∙ i.joined }
 went_then a b c first more (Err halt.NoMemory) b_c h i = record { behind = i.behind; joined = sym (append_assoc a.history first.entries more.entries) ∙ ap (λ (es : List Entry). es ++ more.entries) (sym h.0) ∙ i.joined }
 
@@ -186,10 +197,15 @@ went_then a b c first more (Err halt.NoMemory) b_c h i = record { behind = i.beh
 pub stay_then : (o1 o2 o3 : SinkView) → (o2.faults ≡ o1.faults) × (o2.refusals ≡ o1.refusals) → (o3.faults ≡ o2.faults) × (o3.refusals ≡ o2.refusals) → (o3.faults ≡ o1.faults) × (o3.refusals ≡ o1.refusals)
 stay_then o1 o2 o3 h i = (i.0 ∙ h.0, i.1 ∙ h.1)
 
+whole_then : (a b c : CoreView) (result : Result (Unit {0}) Halt) → (a.is_whole ≡ true → b.is_whole ≡ true) → OnOk result (b.is_whole ≡ true → c.is_whole ≡ true) → OnOk result (a.is_whole ≡ true → c.is_whole ≡ true)
+whole_then a b c (Ok done) h i = λ whole. i (h whole)
+whole_then a b c (Err why) h i = tt
+
 -- one part, and then another
 pub Goes-then : (a b c : CoreView) (o1 o2 o3 : SinkView) (first more : Given) (result : Result (Unit {0}) Halt) → Goes a b o1 o2 first (Ok tt) → Goes b c o2 o3 more result → Goes a c o1 o3 (behind first.entries more) result
 Goes-then a b c o1 o2 o3 first more result h i = record {
   config = i.config ∙ h.config;
+  whole = whole_then a b c result h.whole i.whole;
   went = went_then a b c first more result h.config h.went i.went;
   grows = IsFront-then a.history b.history c.history h.grows i.grows;
   wrote = λ e. omega (arith, IsFront-length a.history b.history h.grows, i.wrote e);
@@ -207,7 +223,8 @@ went_halts a b first more halt.Full h = record {
   joined = sym (append_assoc a.history first.entries more.entries) ∙ ap (λ (es : List Entry). es ++ more.entries) h.joined ∙ append_assoc b.history (h.next ∷ h.behind) more.entries;
   full = h.full;
 }
-went_halts a b first more (halt.Line place) h = h
+went_halts a b first more (halt.Line place) h = absurd h
+went_halts a b first more halt.Quit h = absurd h
 went_halts a b first more halt.Write h = rw (← append_assoc a.history first.entries more.entries) (IsFront-wider b.history (a.history ++ first.entries) more.entries h)
 went_halts a b first more halt.NoMemory h = rw (← append_assoc a.history first.entries more.entries) (IsFront-wider b.history (a.history ++ first.entries) more.entries h)
 
@@ -215,6 +232,7 @@ went_halts a b first more halt.NoMemory h = rw (← append_assoc a.history first
 pub Goes-halts : (a b : CoreView) (o1 o2 : SinkView) (first more : Given) (why : Halt) → Goes a b o1 o2 first (Err why) → Goes a b o1 o2 (behind first.entries more) (Err why)
 Goes-halts a b o1 o2 first more why h = record {
   config = h.config;
+  whole = tt;
   went = went_halts a b first more why h.went;
   grows = h.grows;
   wrote = h.wrote;
@@ -229,6 +247,7 @@ Goes-halts a b o1 o2 first more why h = record {
 pub Goes-nothing : (core : CoreView) (out : SinkView) → Goes core core out out (nothing core.state) (Ok tt)
 Goes-nothing core out = record {
   config = refl;
+  whole = λ whole. whole;
   went = (sym (append-nil core.history), refl);
   grows = IsFront-same core.history core.history refl;
   wrote = λ e. absurd (cc);

@@ -1,5 +1,4 @@
 pub mod Writing
-pub mod Numbers
 pub mod Going
 pub mod Parts
 pub mod Cutting

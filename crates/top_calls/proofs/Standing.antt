@@ -1,15 +1,18 @@
 -- The reader of a text, byte by byte.
-use Rattle.std.proofs.Common.{◌≡◌, ◌≢◌, ◌⊎◌, inl, inr, ℕ, ◌+◌, ◌<◌, ◌≤◌, List, [], ◌∷◌, ◌++◌, length, Option, Some, None, Result, Ok, Err, refl, sym, ◌∙◌, ap, subst, append_assoc, arith, length-append}
+use Rattle.std.proofs.Common.{◌≡◌, ◌≢◌, ◌⊎◌, inl, inr, ℕ, ◌+◌, ◌<◌, ◌≤◌, List, [], ◌∷◌, ◌++◌, length, Bool, true, false, if◌then◌else◌, Option, Result, Ok, Err, refl, sym, ◌∙◌, ap, subst, append_assoc, arith, length-append}
 use Rattle.std.specs.Prelude.{⊤}
 use Rattle.std.proofs.lemmas.List.{append-nil}
 use Rattle.tool_events.specs.declared.entry.Entry.{Entry}
 use Rattle.tool_events.specs.declared.config.Config.{Config}
 use Rattle.gem_model.specs.Front.{IsFront}
-use Rattle.gem_model.specs.Lines.{Line, lines_of, whole_lines, line_of, line_bytes}
-use Rattle.gem_model.specs.Feed.{Given, Reading, Told, AllRead, OutsideGrammar, line_given, line_told, told_behind, feed_lines, feed_entries, reading_after, first_reading}
+use Rattle.gem_model.specs.Lines.{lines_of, whole_lines}
+use Rattle.line_grammar.specs.declared.line.Line.{Line}
+use Rattle.line_grammar.specs.Reading.{feed_line_of, line_bytes}
+use Rattle.line_grammar.proofs.Public.{long_line as too-long}
+use Rattle.gem_model.specs.Feed.{Given, Reading, Told, AllRead, OutsideGrammar, QuitAt, is_quit, line_given, line_told, told_behind, feed_lines, feed_entries, reading_after, first_reading}
 use Rattle.gem_model.specs.Sizes.{counted}
 use Rattle.gem_model.specs.SessionBytes.{line_and_more, line_bytes_in, lines_bytes_in, session_in}
-use Rattle.gem_model.proofs.Texts.{IsOneLine-more, lines-line, whole-feed, whole-none, first-long, too-long}
+use Rattle.gem_model.proofs.Texts.{IsOneLine-more, lines-line, whole-feed, whole-none, first-long}
 use Rattle.tool_core.specs.Counts.{count_of}
 use Rattle.tool_core.specs.CoreView.{CoreView}
 use Rattle.top_calls.specs.declared.halt.Halt.{Halt}
@@ -19,13 +22,13 @@ use Rattle.top_calls.specs.declared.reader.Reader.{Reader}
 use Rattle.top_calls.specs.Limits.{IsFullAt}
 use Rattle.top_calls.specs.Going.{SinkView, WentOn, Shows, ShowsAtEnd, Goes}
 use Rattle.top_calls.specs.Reads.{AreCounts, HaveRead}
-use Rattle.top_calls.specs.Reading.{IsReading, TreatsLine}
+use Rattle.top_calls.specs.Reading.{IsReading, TakesLine, TreatsLine, quit_behind}
 use Rattle.top_calls.specs.Stopping.{IsLong, GivenBy, CountsTo}
 use Rattle.top_calls.specs.Standing.{IsOneLine, Stands, StoppedAs, StopsAt, AllTaken, Prints, StandsOrStopped, Takes, AllOrStopped}
 use Rattle.top_calls.proofs.Going.{IsFront-append, Failed-wider, stay_then}
 use Rattle.top_calls.proofs.Writing.{WrittenFront-all}
 use Rattle.top_calls.proofs.AtText.{text_goes, at_end, last_line, text_in}
-use Rattle.top_calls.proofs.Stopping.{stopped_before, given_before, stopped_outside, line_at, line_gives, line_counts}
+use Rattle.top_calls.proofs.Stopping.{stopped_before, given_before, stopped_outside, line_at, line_gives, line_counts, stopped_cases}
 
 -- ---- the output
 
@@ -36,6 +39,7 @@ shows_stays : (start : Option (List ℕ)) (core : CoreView) (out : SinkView) (re
 shows_stays start core out (Ok done) h = h
 shows_stays start core out (Err (halt.Line place)) h = h
 shows_stays start core out (Err halt.Full) h = h
+shows_stays start core out (Err halt.Quit) h = h
 shows_stays start core out (Err halt.Write) h = WrittenFront-all start out.held _ h
 shows_stays start core out (Err halt.NoMemory) h = WrittenFront-all start out.held _ h
 
@@ -50,21 +54,42 @@ Prints-stays core out result other = record {
   refusals_stay = omega arith;
 }
 
-refused_not_write : (result : Result (Unit {0}) Halt) → (result ≡ Err (halt.Line 0)) ⊎ (result ≡ Err halt.NoMemory) → result ≢ Err halt.Write
-refused_not_write result (inl line) = λ e. cc
-refused_not_write result (inr memory) = λ e. cc
+refused_not_write : (place : ℕ) (result : Result (Unit {0}) Halt) → (result ≡ Err (halt.Line place)) ⊎ (result ≡ Err halt.NoMemory) → result ≢ Err halt.Write
+refused_not_write place result (inl line) = λ e. cc
+refused_not_write place result (inr memory) = λ e. cc
 
-pub Prints-line : (r : Reading) (line : Option Line) (old new : Feeder) (out out' : SinkView) (result : Result (Unit {0}) Halt) → TreatsLine r line old new out out' result → Prints old.core new.core out out' result
-Prints-line r None old new out out' result h =
-    rw (h.core_stays, h.out_stays) (Prints-stays old.core out result (refused_not_write result h.refused))
-Prints-line r (Some line) old new out out' result h = Prints-goes old.core new.core out out' (line_given r line) result h.goes
+-- what ends the run prints as what goes on
+Prints-quit : (core core' : CoreView) (out out' : SinkView) → Prints core core' out out' (Ok tt) → Prints core core' out out' (Err halt.Quit)
+Prints-quit core core' out out' h = record {
+  config = h.config;
+  shows = λ start shows. h.shows start shows;
+  cause = λ e. absurd (cc);
+  unfailed = λ _. h.unfailed (λ e. cc);
+  faults_stay = h.faults_stay;
+  refusals_stay = h.refusals_stay;
+}
+
+Prints-told : (core core' : CoreView) (out out' : SinkView) (quits : Bool) (taken : Result (Unit {0}) Halt) → Prints core core' out out' taken → Prints core core' out out' (if quits then quit_behind taken else taken)
+Prints-told core core' out out' true (Ok done) h = Prints-quit core core' out out' h
+Prints-told core core' out out' true (Err why) h = h
+Prints-told core core' out out' false taken h = h
+
+pub Prints-line : (r : Reading) (line : Result Line ℕ) (old new : Feeder) (out out' : SinkView) (result : Result (Unit {0}) Halt) → TreatsLine r line old new out out' result → Prints old.core new.core out out' result
+Prints-line r (Err place) old new out out' result h =
+    rw (h.core_stays, h.out_stays) (Prints-stays old.core out result (refused_not_write place result h.refused))
+Prints-line r (Ok line) old new out out' result h =
+    subst (λ (told : Result (Unit {0}) Halt). Prints old.core new.core out out' told) (sym h.1)
+    (Prints-told old.core new.core out out' (is_quit line) h.0 (Prints-goes old.core new.core out out' (line_given r line) h.0 h.2.goes))
 
 -- ---- one line
 
 -- the configuration stays
-line_config : (r : Reading) (line : Option Line) (old new : Feeder) (out out' : SinkView) (result : Result (Unit {0}) Halt) → TreatsLine r line old new out out' result → new.core.config ≡ old.core.config
-line_config r None old new out out' result h = ap (λ (c : CoreView). c.config) h.core_stays
-line_config r (Some line) old new out out' result h = h.goes.config
+line_config : (r : Reading) (line : Result Line ℕ) (old new : Feeder) (out out' : SinkView) (result : Result (Unit {0}) Halt) → TreatsLine r line old new out out' result → new.core.config ≡ old.core.config
+line_config r (Err place) old new out out' result h = ap (λ (c : CoreView). c.config) h.core_stays
+line_config r (Ok line) old new out out' result h = h.2.goes.config
+
+abbrev done_all : Result (Unit {0}) Halt
+done_all = Ok tt
 
 -- after a line the history has what it gave, its bytes are counted, and the next line goes on
 pub record Took (number : ℕ) (r : Reading) (line : List ℕ) (old new : Feeder) : Type 0 where
@@ -79,43 +104,65 @@ behind_told : (front back : List Entry) (told : Told) (history : List Entry) →
 behind_told front back told history is =
     ap (λ (es : List Entry). record told { entries = es }) (sym (append_assoc front back told.entries) ∙ ap (λ (es : List Entry). es ++ told.entries) (sym is))
 
--- what a line gives comes first
-line_begins : (number : ℕ) (r : Reading) (line : Line) (more : Reading → Told) → IsFront (line_given r line).entries (line_told number r (Some line) more).entries
-line_begins number r line more = record { behind = (more (reading_after r line)).entries; joined = refl }
+-- nothing more is told behind the line of this number, which ends the run
+abbrev told_quit : ℕ → Told
+told_quit number = record { entries = []; stop = QuitAt number }
 
-took_by : (number : ℕ) (r : Reading) (line : List ℕ) (says : Option Line) → line_of line ≡ says → (old new : Feeder) (out out' : SinkView) → TreatsLine r says old new out out' (Ok tt) → Took number r line old new
-took_by number r line None is old new out out' h = absurd (elim h.refused [ inl e ↦ cc | inr e ↦ cc ])
-took_by number r line (Some says) is old new out out' h = record {
+-- a line that goes on doesn't end the run
+goes_on_cases : (quits : Bool) (taken : Result (Unit {0}) Halt) → done_all ≡ (if quits then quit_behind taken else taken) → (quits ≡ false) × (taken ≡ done_all)
+goes_on_cases true (Ok done) e = absurd (cc e)
+goes_on_cases true (Err why) e = absurd (cc e)
+goes_on_cases false taken e = (refl, sym e)
+
+-- what a line gives comes first
+line_begins : (number : ℕ) (r : Reading) (line : Line) (more : Reading → Told) → IsFront (line_given r line).entries (line_told number r (Ok line) more).entries
+line_begins number r line more = record { behind = (if is_quit line then told_quit number else more (reading_after r line)).entries; joined = refl }
+
+took_on : (number : ℕ) (r : Reading) (line : List ℕ) (says : Line) → feed_line_of line ≡ Ok says → is_quit says ≡ false → (old new : Feeder) (out out' : SinkView) → TakesLine r says old new out out' (Ok tt) → Took number r line old new
+took_on number r line says is on old new out out' h = record {
   next = reading_after r says;
   bytes = line_bytes_in r says;
-  reads_on = λ lines session. ap (λ (o : Option Line). line_and_more r o session (λ next. lines_bytes_in next lines session)) is;
+  reads_on = λ lines session.
+      ap (λ (o : Result Line ℕ). line_and_more r o session (λ next. lines_bytes_in next lines session)) is
+      ∙ ap (λ (b : Bool). line_bytes_in r says session + (if b then 0 else lines_bytes_in (reading_after r says) lines session)) on;
   counts = h.counts;
   goes_on = λ lines.
-      ap (told_behind old.core.history) (ap (λ (o : Option Line). line_told number r o (λ next. feed_lines (number + 1) next lines)) is)
+      ap (told_behind old.core.history) (ap (λ (o : Result Line ℕ). line_told number r o (λ next. feed_lines (number + 1) next lines)) is
+        ∙ ap (λ (b : Bool). told_behind (line_given r says).entries (if b then told_quit number else feed_lines (number + 1) (reading_after r says) lines)) on)
       ∙ behind_told old.core.history (line_given r says).entries (feed_lines (number + 1) (reading_after r says) lines) new.core.history h.goes.went.0;
   is = h.reading;
 }
 
-pub took : (number : ℕ) (r : Reading) (line : List ℕ) (old new : Feeder) (out out' : SinkView) → TreatsLine r (line_of line) old new out out' (Ok tt) → Took number r line old new
-took number r line old new out out' h = took_by number r line (line_of line) refl old new out out' h
+took_by : (number : ℕ) (r : Reading) (line : List ℕ) (says : Result Line ℕ) → feed_line_of line ≡ says → (old new : Feeder) (out out' : SinkView) → TreatsLine r says old new out out' (Ok tt) → Took number r line old new
+took_by number r line (Err place) is old new out out' h = absurd (elim h.refused [ inl e ↦ cc | inr e ↦ cc ])
+took_by number r line (Ok says) is old new out out' h =
+    let cases = goes_on_cases (is_quit says) h.0 h.1 in
+    took_on number r line says is cases.0 old new out out' (subst (λ (taken : Result (Unit {0}) Halt). TakesLine r says old new out out' taken) cases.1 h.2)
+
+pub took : (number : ℕ) (r : Reading) (line : List ℕ) (old new : Feeder) (out out' : SinkView) → TreatsLine r (feed_line_of line) old new out out' (Ok tt) → Took number r line old new
+took number r line old new out out' h = took_by number r line (feed_line_of line) refl old new out out' h
 
 abbrev more_lines : ℕ → List (List ℕ) → Reading → Told
 more_lines number lines next = feed_lines (number + 1) next lines
 
-said : (number : ℕ) (r : Reading) (line : List ℕ) (lines : List (List ℕ)) (says : Option Line) → line_of line ≡ says → feed_lines number r (line ∷ lines) ≡ line_told number r says (more_lines number lines)
-said number r line lines says is = ap (λ (o : Option Line). line_told number r o (more_lines number lines)) is
+said : (number : ℕ) (r : Reading) (line : List ℕ) (lines : List (List ℕ)) (says : Result Line ℕ) → feed_line_of line ≡ says → feed_lines number r (line ∷ lines) ≡ line_told number r says (more_lines number lines)
+said number r line lines says is = ap (λ (o : Result Line ℕ). line_told number r o (more_lines number lines)) is
 
 abbrev failed : Halt → Result (Unit {0}) Halt
 failed why = Err why
 
-refused_stops : (c : Config) (number : ℕ) (history history' : List Entry) (why : Halt) (more : Told) → (failed why ≡ failed (halt.Line 0)) ⊎ (failed why ≡ failed halt.NoMemory) → history' ≡ history → more ≡ record { entries = []; stop = OutsideGrammar number } → StoppedAs c (told_behind history more) history' number why
-refused_stops c number history history' (halt.Line place) more (inl e) stays is = (cc, ap (told_behind history) is ∙ ap (λ (es : List Entry). record { entries = es; stop = OutsideGrammar number }) (append-nil history ∙ sym stays))
-refused_stops c number history history' (halt.Line place) more (inr e) stays is = absurd (cc)
-refused_stops c number history history' halt.Full more (inl e) stays is = absurd (cc)
-refused_stops c number history history' halt.Full more (inr e) stays is = absurd (cc)
-refused_stops c number history history' halt.Write more (inl e) stays is = absurd (cc)
-refused_stops c number history history' halt.Write more (inr e) stays is = absurd (cc)
-refused_stops c number history history' halt.NoMemory more e stays is = rw stays (IsFront-append history more.entries)
+refused_stops : (c : Config) (number place : ℕ) (history history' : List Entry) (why : Halt) (more : Told) → (failed why ≡ failed (halt.Line place)) ⊎ (failed why ≡ failed halt.NoMemory) → history' ≡ history → more ≡ record { entries = []; stop = OutsideGrammar number place } → StoppedAs c (told_behind history more) history' number why
+refused_stops c number place history history' (halt.Line here) more (inl e) stays is =
+    let same : place ≡ here = cc e in
+    ap (told_behind history) is ∙ ap (λ (es : List Entry). record { entries = es; stop = OutsideGrammar number place }) (append-nil history ∙ sym stays) ∙ ap (λ (p : ℕ). record { entries = history'; stop = OutsideGrammar number p }) same
+refused_stops c number place history history' (halt.Line here) more (inr e) stays is = absurd (cc)
+refused_stops c number place history history' halt.Full more (inl e) stays is = absurd (cc)
+refused_stops c number place history history' halt.Full more (inr e) stays is = absurd (cc)
+refused_stops c number place history history' halt.Quit more (inl e) stays is = absurd (cc)
+refused_stops c number place history history' halt.Quit more (inr e) stays is = absurd (cc)
+refused_stops c number place history history' halt.Write more (inl e) stays is = absurd (cc)
+refused_stops c number place history history' halt.Write more (inr e) stays is = absurd (cc)
+refused_stops c number place history history' halt.NoMemory more e stays is = rw stays (IsFront-append history more.entries)
 
 front_wider : (front history given : List Entry) (told : Told) → IsFront given told.entries → IsFront front (history ++ given) → IsFront front (told_behind history told).entries
 front_wider front history given told begins h =
@@ -136,23 +183,35 @@ full_wider c now history given told begins h =
       full = h.full;
     }
 
-taken_stops : (number : ℕ) (r : Reading) (says : Line) (more : Reading → Told) (core core' : CoreView) (why : Halt) → WentOn core core' (line_given r says) (Err why) → StoppedAs core.config (told_behind core.history (line_told number r (Some says) more)) core'.history number why
+taken_stops : (number : ℕ) (r : Reading) (says : Line) (more : Reading → Told) (core core' : CoreView) (why : Halt) → WentOn core core' (line_given r says) (Err why) → StoppedAs core.config (told_behind core.history (line_told number r (Ok says) more)) core'.history number why
 taken_stops number r says more core core' (halt.Line place) went = absurd went
+taken_stops number r says more core core' halt.Quit went = absurd went
 taken_stops number r says more core core' halt.Full went =
-    full_wider core.config core'.history core.history (line_given r says).entries (line_told number r (Some says) more) (line_begins number r says more) went
+    full_wider core.config core'.history core.history (line_given r says).entries (line_told number r (Ok says) more) (line_begins number r says more) went
 taken_stops number r says more core core' halt.Write went =
-    front_wider core'.history core.history (line_given r says).entries (line_told number r (Some says) more) (line_begins number r says more) went
+    front_wider core'.history core.history (line_given r says).entries (line_told number r (Ok says) more) (line_begins number r says more) went
 taken_stops number r says more core core' halt.NoMemory went =
-    front_wider core'.history core.history (line_given r says).entries (line_told number r (Some says) more) (line_begins number r says more) went
+    front_wider core'.history core.history (line_given r says).entries (line_told number r (Ok says) more) (line_begins number r says more) went
 
-stopped_by : (number : ℕ) (r : Reading) (line : List ℕ) (says : Option Line) → line_of line ≡ says → (old new : Feeder) (out out' : SinkView) (why : Halt) → TreatsLine r says old new out out' (Err why) → (lines : List (List ℕ)) → StoppedAs old.core.config (told_behind old.core.history (feed_lines number r (line ∷ lines))) new.core.history number why
-stopped_by number r line None is old new out out' why h lines =
-    refused_stops old.core.config number old.core.history new.core.history why (feed_lines number r (line ∷ lines)) h.refused (ap (λ (c : CoreView). c.history) h.core_stays) (said number r line lines None is)
-stopped_by number r line (Some says) is old new out out' why h lines =
-    rw (said number r line lines (Some says) is) (taken_stops number r says (more_lines number lines) old.core new.core why h.goes.went)
+-- the line that ends the run
+quit_stops : (number : ℕ) (r : Reading) (says : Line) (more : Reading → Told) (core core' : CoreView) → is_quit says ≡ true → WentOn core core' (line_given r says) (Ok tt) → StoppedAs core.config (told_behind core.history (line_told number r (Ok says) more)) core'.history number halt.Quit
+quit_stops number r says more core core' quits went =
+    ap (λ (b : Bool). told_behind core.history (told_behind (line_given r says).entries (if b then told_quit number else more (reading_after r says)))) quits
+    ∙ ap (λ (es : List Entry). record { entries = es; stop = QuitAt number })
+      (ap (λ (es : List Entry). core.history ++ es) (append-nil (line_given r says).entries) ∙ sym went.0)
 
-pub stopped : (number : ℕ) (r : Reading) (line : List ℕ) (old new : Feeder) (out out' : SinkView) (why : Halt) → TreatsLine r (line_of line) old new out out' (Err why) → (lines : List (List ℕ)) → StoppedAs old.core.config (told_behind old.core.history (feed_lines number r (line ∷ lines))) new.core.history number why
-stopped number r line old new out out' why h lines = stopped_by number r line (line_of line) refl old new out out' why h lines
+stopped_by : (number : ℕ) (r : Reading) (line : List ℕ) (says : Result Line ℕ) → feed_line_of line ≡ says → (old new : Feeder) (out out' : SinkView) (why : Halt) → TreatsLine r says old new out out' (Err why) → (lines : List (List ℕ)) → StoppedAs old.core.config (told_behind old.core.history (feed_lines number r (line ∷ lines))) new.core.history number why
+stopped_by number r line (Err place) is old new out out' why h lines =
+    refused_stops old.core.config number place old.core.history new.core.history why (feed_lines number r (line ∷ lines)) h.refused (ap (λ (c : CoreView). c.history) h.core_stays) (said number r line lines (Err place) is)
+stopped_by number r line (Ok says) is old new out out' why h lines =
+    rw (said number r line lines (Ok says) is) (elim (stopped_cases (is_quit says) h.0 why h.1) [
+      | inl halts ↦ taken_stops number r says (more_lines number lines) old.core new.core why (subst (λ (taken : Result (Unit {0}) Halt). TakesLine r says old new out out' taken) halts h.2).goes.went
+      | inr quits ↦ subst (λ (w : Halt). StoppedAs old.core.config (told_behind old.core.history (line_told number r (Ok says) (more_lines number lines))) new.core.history number w) (sym quits.2)
+          (quit_stops number r says (more_lines number lines) old.core new.core quits.0 (subst (λ (taken : Result (Unit {0}) Halt). TakesLine r says old new out out' taken) quits.1 h.2).goes.went)
+    ])
+
+pub stopped : (number : ℕ) (r : Reading) (line : List ℕ) (old new : Feeder) (out out' : SinkView) (why : Halt) → TreatsLine r (feed_line_of line) old new out out' (Err why) → (lines : List (List ℕ)) → StoppedAs old.core.config (told_behind old.core.history (feed_lines number r (line ∷ lines))) new.core.history number why
+stopped number r line old new out out' why h lines = stopped_by number r line (feed_line_of line) refl old new out out' why h lines
 
 -- ---- the text
 
@@ -201,23 +260,23 @@ Stands-memory text bytes more reader stands =
       counts = stopped_before ⊥ text ((text ++ bytes) ++ more) reader reader.feeder.core.history reader.feeder.reads stands (front_of text bytes more) refl refl;
     }
 
-long_told : (number : ℕ) (r : Reading) (history : List Entry) (line : List ℕ) (lines : List (List ℕ)) → line_bytes < length line → told_behind history (feed_lines number r (line ∷ lines)) ≡ record { entries = history; stop = OutsideGrammar number }
+long_told : (number : ℕ) (r : Reading) (history : List Entry) (line : List ℕ) (lines : List (List ℕ)) → line_bytes < length line → told_behind history (feed_lines number r (line ∷ lines)) ≡ record { entries = history; stop = OutsideGrammar number line_bytes }
 long_told number r history line lines long =
-    ap (told_behind history) (said number r line lines None (too-long line long)) ∙ ap (λ (es : List Entry). record { entries = es; stop = OutsideGrammar number }) (append-nil history)
+    ap (told_behind history) (said number r line lines (Err line_bytes) (too-long line long)) ∙ ap (λ (es : List Entry). record { entries = es; stop = OutsideGrammar number line_bytes }) (append-nil history)
 
-long_text : (number : ℕ) (r : Reading) (history : List Entry) (front text : List ℕ) → IsOneLine front → line_bytes < length front → told_behind history (feed_lines number r (lines_of (front ++ text))) ≡ record { entries = history; stop = OutsideGrammar number }
+long_text : (number : ℕ) (r : Reading) (history : List Entry) (front text : List ℕ) → IsOneLine front → line_bytes < length front → told_behind history (feed_lines number r (lines_of (front ++ text))) ≡ record { entries = history; stop = OutsideGrammar number line_bytes }
 long_text number r history [] text one long = absurd (omega (arith, long))
 long_text number r history (b ∷ front) text one long =
     let f = first-long b front text one in
     ap (λ (ls : List (List ℕ)). told_behind history (feed_lines number r ls)) f.lines ∙ long_told number r history f.first f.rest (omega (arith, f.long, long))
 
-long_counts : (text all : List ℕ) (front rest : List ℕ) (reader : Reader) (stands : Stands text reader) → IsOneLine front → line_bytes < length front → ((session : ℕ) → session_in reader.feeder.core.config all session ≡ session_in reader.feeder.core.config stands.whole session + lines_bytes_in stands.reading (lines_of (front ++ rest)) session) → CountsTo (halt.Line 0) ⊥ reader.feeder.core.config all reader.feeder.core.history reader.feeder.reads
+long_counts : (text all : List ℕ) (front rest : List ℕ) (reader : Reader) (stands : Stands text reader) → IsOneLine front → line_bytes < length front → ((session : ℕ) → session_in reader.feeder.core.config all session ≡ session_in reader.feeder.core.config stands.whole session + lines_bytes_in stands.reading (lines_of (front ++ rest)) session) → CountsTo (halt.Line line_bytes) ⊥ reader.feeder.core.config all reader.feeder.core.history reader.feeder.reads
 long_counts text all [] rest reader stands one long goes = absurd (omega (arith, long))
 long_counts text all (b ∷ front) rest reader stands one long goes =
     let f = first-long b front rest one in
-    stopped_outside ⊥ text all 0 reader reader.feeder.core.history reader.feeder.reads stands f.first f.rest
+    stopped_outside ⊥ text all line_bytes reader reader.feeder.core.history reader.feeder.reads stands f.first f.rest
     (λ session. goes session ∙ ap (λ (ls : List (List ℕ)). session_in reader.feeder.core.config stands.whole session + lines_bytes_in stands.reading ls session) f.lines)
-    (too-long f.first (omega (arith, f.long, long))) refl
+    line_bytes (too-long f.first (omega (arith, f.long, long))) refl
 
 long_text_is : (text : List ℕ) (byte : ℕ) (reader : Reader) (stands : Stands text reader) → text ++ byte ∷ [] ≡ stands.whole ++ (reader.line.items ++ byte ∷ [])
 long_text_is text byte reader stands = ap (λ (t : List ℕ). t ++ byte ∷ []) stands.text_is ∙ append_assoc stands.whole reader.line.items (byte ∷ [])
@@ -238,14 +297,14 @@ long_number text byte reader stands one =
     let last = ap length (last_line (reader.line.items ++ byte ∷ []) one (λ e. absurd (omega (arith, ap length e, length-append reader.line.items (byte ∷ []))))) in
     omega (arith, all, last, stands.count (reader.line.items ++ byte ∷ []))
 
-pub Stands-long : (text : List ℕ) (byte : ℕ) (more : List ℕ) (reader : Reader) → byte ≢ 10 → line_bytes ≤ length reader.line.items → Stands text reader → StopsAt ⊥ ((text ++ byte ∷ []) ++ more) reader (halt.Line 0)
+pub Stands-long : (text : List ℕ) (byte : ℕ) (more : List ℕ) (reader : Reader) → byte ≢ 10 → line_bytes ≤ length reader.line.items → Stands text reader → StopsAt ⊥ ((text ++ byte ∷ []) ++ more) reader (halt.Line line_bytes)
 Stands-long text byte more reader other long stands =
     let goes = ap (feed_entries reader.feeder.core.config) (append_assoc text (byte ∷ []) more) ∙ text_goes text reader stands ((byte ∷ []) ++ more) in
     let regrouped = ap (λ (t : List ℕ). told_behind reader.feeder.core.history (feed_lines reader.number stands.reading (lines_of t))) (sym (append_assoc reader.line.items (byte ∷ []) more)) in
     let size : line_bytes < length (reader.line.items ++ byte ∷ []) = omega (arith, length-append reader.line.items (byte ∷ []), long) in
     let one = IsOneLine-more reader.line.items byte stands.line other in
     record {
-      told = (refl, goes ∙ regrouped ∙ long_text reader.number stands.reading reader.feeder.core.history (reader.line.items ++ byte ∷ []) more one size);
+      told = goes ∙ regrouped ∙ long_text reader.number stands.reading reader.feeder.core.history (reader.line.items ++ byte ∷ []) more one size;
       at_line = (text ++ byte ∷ [], inr (inl (long_line text byte more reader stands one size)), long_number text byte reader stands one);
       given = given_before ⊥ text ((text ++ byte ∷ []) ++ more) reader reader.feeder.core.history stands (front_of text (byte ∷ []) more) refl;
       counts = long_counts text ((text ++ byte ∷ []) ++ more) (reader.line.items ++ byte ∷ []) more reader stands one size
@@ -287,7 +346,7 @@ line_count text more old stands =
     let one = ap length (lines-line old.line.items more stands.line) in
     omega (arith, all, one, stands.count (old.line.items ++ 10 ∷ more))
 
-pub Stands-line : (text : List ℕ) (old new : Reader) (out out' : SinkView) (stands : Stands text old) → TreatsLine stands.reading (line_of old.line.items) old.feeder new.feeder out out' (Ok tt) → new.line.items ≡ [] → new.number ≡ old.number + 1 → Stands (text ++ 10 ∷ []) new
+pub Stands-line : (text : List ℕ) (old new : Reader) (out out' : SinkView) (stands : Stands text old) → TreatsLine stands.reading (feed_line_of old.line.items) old.feeder new.feeder out out' (Ok tt) → new.line.items ≡ [] → new.number ≡ old.number + 1 → Stands (text ++ 10 ∷ []) new
 Stands-line text old new out out' stands treats line number =
     let one = took old.number stands.reading old.line.items old.feeder new.feeder out out' treats in
     record {
@@ -297,17 +356,17 @@ Stands-line text old new out out' stands treats line number =
       line = rw line refl;
       ends = λ part none. ap whole_lines (append_assoc text (10 ∷ []) part) ∙ whole-feed text part ∙ ap (λ (bs : List ℕ). text ++ 10 ∷ bs) (whole-none part none);
       count = λ more. rw number (line_count text more old stands);
-      goes_on = λ more. ap (λ (c : Config). feed_entries c ((text ++ 10 ∷ []) ++ more)) (line_config stands.reading (line_of old.line.items) old.feeder new.feeder out out' (Ok tt) treats) ∙ line_goes text more old stands ∙ one.goes_on (lines_of more) ∙ ap (λ (n : ℕ). told_behind new.feeder.core.history (feed_lines n one.next (lines_of more))) (sym number);
+      goes_on = λ more. ap (λ (c : Config). feed_entries c ((text ++ 10 ∷ []) ++ more)) (line_config stands.reading (feed_line_of old.line.items) old.feeder new.feeder out out' (Ok tt) treats) ∙ line_goes text more old stands ∙ one.goes_on (lines_of more) ∙ ap (λ (n : ℕ). told_behind new.feeder.core.history (feed_lines n one.next (lines_of more))) (sym number);
       is = one.is;
-      read = subst (λ (c : Config). HaveRead c (text ++ 10 ∷ []) new.feeder.reads) (sym (line_config stands.reading (line_of old.line.items) old.feeder new.feeder out out' (Ok tt) treats))
+      read = subst (λ (c : Config). HaveRead c (text ++ 10 ∷ []) new.feeder.reads) (sym (line_config stands.reading (feed_line_of old.line.items) old.feeder new.feeder out out' (Ok tt) treats))
           (λ session. one.counts (session_in old.feeder.core.config stands.whole) stands.read session ∙ ap counted (sym (line_feed_read text old new.feeder stands one session)));
-      reads_on = λ more session. subst (λ (c : Config). session_in c ((text ++ 10 ∷ []) ++ more) session ≡ session_in c (text ++ 10 ∷ []) session + lines_bytes_in one.next (lines_of more) session) (sym (line_config stands.reading (line_of old.line.items) old.feeder new.feeder out out' (Ok tt) treats))
+      reads_on = λ more session. subst (λ (c : Config). session_in c ((text ++ 10 ∷ []) ++ more) session ≡ session_in c (text ++ 10 ∷ []) session + lines_bytes_in one.next (lines_of more) session) (sym (line_config stands.reading (feed_line_of old.line.items) old.feeder new.feeder out out' (Ok tt) treats))
           (line_reads_on text more old new.feeder stands one session);
     }
 
-pub Stands-line-stopped : (text more : List ℕ) (old new : Reader) (out out' : SinkView) (why : Halt) (stands : Stands text old) → TreatsLine stands.reading (line_of old.line.items) old.feeder new.feeder out out' (Err why) → new.number ≡ old.number → StopsAt ⊥ ((text ++ 10 ∷ []) ++ more) new why
+pub Stands-line-stopped : (text more : List ℕ) (old new : Reader) (out out' : SinkView) (why : Halt) (stands : Stands text old) → TreatsLine stands.reading (feed_line_of old.line.items) old.feeder new.feeder out out' (Err why) → new.number ≡ old.number → StopsAt ⊥ ((text ++ 10 ∷ []) ++ more) new why
 Stands-line-stopped text more old new out out' why stands treats number =
-    let same = sym (line_config stands.reading (line_of old.line.items) old.feeder new.feeder out out' (Err why) treats) in
+    let same = sym (line_config stands.reading (feed_line_of old.line.items) old.feeder new.feeder out out' (Err why) treats) in
     record {
       told = subst (λ (c : Config). StoppedAs c (feed_entries c ((text ++ 10 ∷ []) ++ more)) new.feeder.core.history new.number why) same
           (rw (line_goes text more old stands, number) (stopped old.number stands.reading old.line.items old.feeder new.feeder out out' why treats (lines_of more)));
@@ -339,10 +398,10 @@ last_in text old stands some session =
     ∙ ap (λ (t : List ℕ). session_in old.feeder.core.config stands.whole session + lines_bytes_in stands.reading (lines_of t) session) (append-nil old.line.items)
     ∙ ap (λ (ls : List (List ℕ)). session_in old.feeder.core.config stands.whole session + lines_bytes_in stands.reading ls session) (last_line old.line.items stands.line some)
 
-pub ends-line : (text : List ℕ) (old : Reader) (new : Feeder) (out out' : SinkView) (result : Result (Unit {0}) Halt) (stands : Stands text old) → old.line.items ≢ [] → TreatsLine stands.reading (line_of old.line.items) old.feeder new out out' result → AllOrStopped text (record { feeder = new; line = old.line; number = old.number }) result
+pub ends-line : (text : List ℕ) (old : Reader) (new : Feeder) (out out' : SinkView) (result : Result (Unit {0}) Halt) (stands : Stands text old) → old.line.items ≢ [] → TreatsLine stands.reading (feed_line_of old.line.items) old.feeder new out out' result → AllOrStopped text (record { feeder = new; line = old.line; number = old.number }) result
 ends-line text old new out out' (Ok done) stands some treats =
     let one = took old.number stands.reading old.line.items old.feeder new out out' treats in
-    let same = line_config stands.reading (line_of old.line.items) old.feeder new out out' (Ok tt) treats in
+    let same = line_config stands.reading (feed_line_of old.line.items) old.feeder new out out' (Ok tt) treats in
     record {
       told = ap (λ (c : Config). feed_entries c text) same
           ∙ at_end text old stands
@@ -354,7 +413,7 @@ ends-line text old new out out' (Ok done) stands some treats =
           ∙ ap counted (sym (last_in text old stands some session ∙ ap (λ (n : ℕ). session_in old.feeder.core.config stands.whole session + n) (one.reads_on [] session ∙ omega arith))));
     }
 ends-line text old new out out' (Err why) stands some treats =
-    let same = sym (line_config stands.reading (line_of old.line.items) old.feeder new out out' (Err why) treats) in
+    let same = sym (line_config stands.reading (feed_line_of old.line.items) old.feeder new out out' (Err why) treats) in
     record {
       told = subst (λ (c : Config). StoppedAs c (feed_entries c text) new.core.history old.number why) same
           (rw (at_end text old stands ∙ ap (λ (ls : List (List ℕ)). told_behind old.feeder.core.history (feed_lines old.number stands.reading ls)) (last_line old.line.items stands.line some))

@@ -1,13 +1,16 @@
 -- Where in a text a reader stopped.
-use Rattle.std.proofs.Common.{◌≡◌, ◌⊎◌, inl, inr, ℕ, ◌+◌, List, [], ◌∷◌, ◌++◌, length, Option, Some, None, Result, Err, refl, sym, ◌∙◌, ap, subst, arith, length-append}
+use Rattle.std.proofs.Common.{◌≡◌, ◌≢◌, ◌⊎◌, inl, inr, ℕ, ◌+◌, Bool, true, false, if◌then◌else◌, List, [], ◌∷◌, ◌++◌, length, Result, Ok, Err, refl, sym, ◌∙◌, ap, subst, arith, length-append}
 use Rattle.std.proofs.lemmas.List.{append-nil}
 use Rattle.tool_events.specs.declared.config.Config.{Config}
 use Rattle.tool_events.specs.declared.entry.Entry.{Entry}
 use Rattle.gem_model.specs.Front.{IsFront}
-use Rattle.gem_model.specs.Lines.{Line, lines_of, whole_lines, line_of}
-use Rattle.gem_model.specs.Feed.{Given, line_given, feed_entries}
+use Rattle.gem_model.specs.Lines.{lines_of, whole_lines}
+use Rattle.line_grammar.specs.declared.line.Line.{Line}
+use Rattle.line_grammar.specs.declared.line.Line.TheVariants as line
+use Rattle.line_grammar.specs.Reading.{feed_line_of}
+use Rattle.gem_model.specs.Feed.{Given, line_given, reading_after, feed_entries, is_quit}
 use Rattle.gem_model.specs.Sizes.{counted}
-use Rattle.gem_model.specs.SessionBytes.{line_and_more, lines_bytes_in, session_in}
+use Rattle.gem_model.specs.SessionBytes.{line_and_more, line_bytes_in, lines_bytes_in, session_in}
 use Rattle.tool_core.specs.Counts.{count_of}
 use Rattle.tool_core.specs.CoreView.{CoreView}
 use Rattle.top_calls.specs.declared.halt.Halt.{Halt}
@@ -16,11 +19,11 @@ use Rattle.top_calls.specs.declared.feeder.Feeder.{Feeder}
 use Rattle.top_calls.specs.declared.reader.Reader.{Reader}
 use Rattle.top_calls.specs.Going.{SinkView, WentOn}
 use Rattle.top_calls.specs.Reads.{HaveRead, AddsLine}
-use Rattle.top_calls.specs.Reading.{TakesLine, TreatsLine}
+use Rattle.top_calls.specs.Reading.{TakesLine, TreatsLine, quit_behind}
 use Rattle.top_calls.specs.Stopping.{LineEnded, EndedLines, GivenBy, StoppedIn, TakenTo, CountsTo, AtLine}
 use Rattle.top_calls.specs.Standing.{Stands, StopsAt}
 use Rattle.top_calls.proofs.Going.{IsFront-same, IsFront-then}
-use Rattle.top_calls.proofs.AtText.{last_line, whole_told, text_entries, text_bytes_in}
+use Rattle.top_calls.proofs.AtText.{last_line, whole_told, text_entries, text_bytes_in, empty_line, said_so}
 
 -- the whole lines before the part of a line
 whole_of : (text : List ℕ) (reader : Reader) (stands : Stands text reader) → whole_lines text ≡ stands.whole
@@ -60,19 +63,19 @@ stopped_before Over text all reader history' counts' stands front history counts
     }
 
 -- a line outside the grammar gives nothing, and neither does what is behind it
-pub stopped_outside : (Over : Type 0) (text all : List ℕ) (number : ℕ) (reader : Reader) (history' : List Entry) (counts' : List ℕ) (stands : Stands text reader) (line : List ℕ) (lines : List (List ℕ)) → ((session : ℕ) → session_in reader.feeder.core.config all session ≡ session_in reader.feeder.core.config stands.whole session + lines_bytes_in stands.reading (line ∷ lines) session) → line_of line ≡ None → counts' ≡ reader.feeder.reads → CountsTo (halt.Line number) Over reader.feeder.core.config all history' counts'
-stopped_outside Over text all number reader history' counts' stands line lines goes outside counts = record {
+pub stopped_outside : (Over : Type 0) (text all : List ℕ) (number : ℕ) (reader : Reader) (history' : List Entry) (counts' : List ℕ) (stands : Stands text reader) (line : List ℕ) (lines : List (List ℕ)) → ((session : ℕ) → session_in reader.feeder.core.config all session ≡ session_in reader.feeder.core.config stands.whole session + lines_bytes_in stands.reading (line ∷ lines) session) → (place : ℕ) → feed_line_of line ≡ Err place → counts' ≡ reader.feeder.reads → CountsTo (halt.Line number) Over reader.feeder.core.config all history' counts'
+stopped_outside Over text all number reader history' counts' stands line lines goes place outside counts = record {
   taken = all;
   marks = refl;
   read = λ session.
       let none : lines_bytes_in stands.reading (line ∷ lines) session ≡ 0 =
-      ap (λ (o : Option Line). line_and_more stands.reading o session (λ next. lines_bytes_in next lines session)) outside in
+      ap (λ (o : Result Line ℕ). line_and_more stands.reading o session (λ next. lines_bytes_in next lines session)) outside in
       let same : session_in reader.feeder.core.config all session ≡ session_in reader.feeder.core.config stands.whole session = omega (arith, goes session, none) in
       ap (λ (ns : List ℕ). count_of ns session) counts ∙ stands.read session ∙ ap counted (sym same);
 }
 
 -- the last line counts
-line_read : (text : List ℕ) (reader : Reader) (stands : Stands text reader) (says : Line) (counts' : List ℕ) → line_of reader.line.items ≡ Some says → AddsLine stands.reading says reader.feeder.reads counts' → HaveRead reader.feeder.core.config text counts'
+line_read : (text : List ℕ) (reader : Reader) (stands : Stands text reader) (says : Line) (counts' : List ℕ) → feed_line_of reader.line.items ≡ Ok says → AddsLine stands.reading says reader.feeder.reads counts' → HaveRead reader.feeder.core.config text counts'
 line_read text reader stands says counts' is adds = λ session.
     adds (session_in reader.feeder.core.config stands.whole) stands.read session ∙ ap counted (sym (text_bytes_in text reader stands says session is))
 
@@ -86,11 +89,11 @@ line_ended : (Over : Type 0) (text all : List ℕ) → LineEnded Over all text �
 line_ended Over text all ends = record { front = ends_front Over text all ends; ends = inr ends }
 
 -- the history has no more than the last line and those before it give
-line_within : (text : List ℕ) (reader : Reader) (history' : List Entry) (stands : Stands text reader) (says : Line) → line_of reader.line.items ≡ Some says → IsFront history' (reader.feeder.core.history ++ (line_given stands.reading says).entries) → IsFront history' (feed_entries reader.feeder.core.config text).entries
+line_within : (text : List ℕ) (reader : Reader) (history' : List Entry) (stands : Stands text reader) (says : Line) → feed_line_of reader.line.items ≡ Ok says → IsFront history' (reader.feeder.core.history ++ (line_given stands.reading says).entries) → IsFront history' (feed_entries reader.feeder.core.config text).entries
 line_within text reader history' stands says is within = subst (λ (es : List Entry). IsFront history' es) (sym (text_entries text reader stands says is)) within
 
 -- it stopped in the last line
-line_stopped : (Over : Type 0) (text all : List ℕ) (reader : Reader) (new : CoreView) (stands : Stands text reader) (says : Line) → line_of reader.line.items ≡ Some says → LineEnded Over all text → IsFront reader.feeder.core.history new.history → IsFront new.history (reader.feeder.core.history ++ (line_given stands.reading says).entries) → StoppedIn Over reader.feeder.core.config all new.history text
+line_stopped : (Over : Type 0) (text all : List ℕ) (reader : Reader) (new : CoreView) (stands : Stands text reader) (says : Line) → feed_line_of reader.line.items ≡ Ok says → LineEnded Over all text → IsFront reader.feeder.core.history new.history → IsFront new.history (reader.feeder.core.history ++ (line_given stands.reading says).entries) → StoppedIn Over reader.feeder.core.config all new.history text
 line_stopped Over text all reader new stands says is ends grows within =
     let c = reader.feeder.core.config in record {
       lines = line_ended Over text all ends;
@@ -103,8 +106,9 @@ before_count : (text : List ℕ) (reader : Reader) (stands : Stands text reader)
 before_count text reader stands = ap (λ (t : List ℕ). length (feed_entries reader.feeder.core.config t).entries) (whole_of text reader stands) ∙ ap length (whole_told text reader stands)
 
 -- a line that is taken stopped the reader
-taken_counts : (Over : Type 0) (text all : List ℕ) (old : Reader) (new : Feeder) (out out' : SinkView) (why : Halt) (stands : Stands text old) (says : Line) → line_of old.line.items ≡ Some says → LineEnded Over all text → TakesLine stands.reading says old.feeder new out out' (Err why) → CountsTo why Over old.feeder.core.config all new.core.history new.reads
+taken_counts : (Over : Type 0) (text all : List ℕ) (old : Reader) (new : Feeder) (out out' : SinkView) (why : Halt) (stands : Stands text old) (says : Line) → feed_line_of old.line.items ≡ Ok says → LineEnded Over all text → TakesLine stands.reading says old.feeder new out out' (Err why) → CountsTo why Over old.feeder.core.config all new.core.history new.reads
 taken_counts Over text all old new out out' (halt.Line place) stands says is ends h = absurd h.goes.went
+taken_counts Over text all old new out out' halt.Quit stands says is ends h = absurd h.goes.went
 taken_counts Over text all old new out out' halt.Full stands says is ends h =
     let full = h.goes.went in
     let within : IsFront new.core.history (old.feeder.core.history ++ (line_given stands.reading says).entries) = record { behind = full.next ∷ full.behind; joined = full.joined } in
@@ -138,61 +142,114 @@ taken_counts Over text all old new out out' halt.NoMemory stands says is ends h 
 abbrev failed : Halt → Result (Unit {0}) Halt
 failed why = Err why
 
-refused_counts : (Over : Type 0) (text all : List ℕ) (old : Reader) (new : Feeder) (why : Halt) (stands : Stands text old) (lines : List (List ℕ)) → LineEnded Over all text → ((session : ℕ) → session_in old.feeder.core.config all session ≡ session_in old.feeder.core.config stands.whole session + lines_bytes_in stands.reading (old.line.items ∷ lines) session) → line_of old.line.items ≡ None → (failed why ≡ failed (halt.Line 0)) ⊎ (failed why ≡ failed halt.NoMemory) → new.core.history ≡ old.feeder.core.history → new.reads ≡ old.feeder.reads → CountsTo why Over old.feeder.core.config all new.core.history new.reads
-refused_counts Over text all old new (halt.Line place) stands lines ends goes outside refused history reads =
-    stopped_outside Over text all place old new.core.history new.reads stands old.line.items lines goes outside reads
-refused_counts Over text all old new halt.NoMemory stands lines ends goes outside refused history reads =
+abbrev refused_at : ℕ → Result Line ℕ
+refused_at place = Err place
+
+-- why the reader stopped at a line that was taken: what was done with it halted, or it was done and ends the run
+pub stopped_cases : (quits : Bool) (taken : Result (Unit {0}) Halt) (why : Halt) → failed why ≡ (if quits then quit_behind taken else taken) → (taken ≡ failed why) ⊎ ((quits ≡ true) × (taken ≡ Ok tt) × (why ≡ halt.Quit))
+stopped_cases true (Ok done) why e = inr (refl, refl, cc e)
+stopped_cases true (Err w) why e = inl (sym e)
+stopped_cases false taken why e = inl (sym e)
+
+-- behind the line that ends the run nothing is read
+quit_counts : (Over : Type 0) (text all : List ℕ) (old : Reader) (new : Feeder) (out out' : SinkView) (stands : Stands text old) (lines : List (List ℕ)) (says : Line) → feed_line_of old.line.items ≡ Ok says → is_quit says ≡ true → ((session : ℕ) → session_in old.feeder.core.config all session ≡ session_in old.feeder.core.config stands.whole session + lines_bytes_in stands.reading (old.line.items ∷ lines) session) → TakesLine stands.reading says old.feeder new out out' (Ok tt) → CountsTo halt.Quit Over old.feeder.core.config all new.core.history new.reads
+quit_counts Over text all old new out out' stands lines says is quits goes h = record {
+  taken = all;
+  marks = refl;
+  read = λ session.
+      let here : lines_bytes_in stands.reading (old.line.items ∷ lines) session ≡ line_bytes_in stands.reading says session + 0 =
+      ap (λ (o : Result Line ℕ). line_and_more stands.reading o session (λ next. lines_bytes_in next lines session)) is
+      ∙ ap (λ (b : Bool). line_bytes_in stands.reading says session + (if b then 0 else lines_bytes_in (reading_after stands.reading says) lines session)) quits in
+      let same : session_in old.feeder.core.config stands.whole session + line_bytes_in stands.reading says session ≡ session_in old.feeder.core.config all session = omega (arith, goes session, here) in
+      h.counts (session_in old.feeder.core.config stands.whole) stands.read session ∙ ap counted same;
+}
+
+refused_counts : (Over : Type 0) (text all : List ℕ) (old : Reader) (new : Feeder) (why : Halt) (stands : Stands text old) (lines : List (List ℕ)) → LineEnded Over all text → ((session : ℕ) → session_in old.feeder.core.config all session ≡ session_in old.feeder.core.config stands.whole session + lines_bytes_in stands.reading (old.line.items ∷ lines) session) → (place : ℕ) → feed_line_of old.line.items ≡ Err place → (failed why ≡ failed (halt.Line place)) ⊎ (failed why ≡ failed halt.NoMemory) → new.core.history ≡ old.feeder.core.history → new.reads ≡ old.feeder.reads → CountsTo why Over old.feeder.core.config all new.core.history new.reads
+refused_counts Over text all old new (halt.Line here) stands lines ends goes place outside refused history reads =
+    stopped_outside Over text all here old new.core.history new.reads stands old.line.items lines goes place outside reads
+refused_counts Over text all old new halt.NoMemory stands lines ends goes place outside refused history reads =
     stopped_before Over text all old new.core.history new.reads stands (ends_front Over text all ends) history reads
-refused_counts Over text all old new halt.Full stands lines ends goes outside refused history reads =
+refused_counts Over text all old new halt.Full stands lines ends goes place outside refused history reads =
     absurd (elim refused [ inl e ↦ cc | inr e ↦ cc ])
-refused_counts Over text all old new halt.Write stands lines ends goes outside refused history reads =
+refused_counts Over text all old new halt.Quit stands lines ends goes place outside refused history reads =
+    absurd (elim refused [ inl e ↦ cc | inr e ↦ cc ])
+refused_counts Over text all old new halt.Write stands lines ends goes place outside refused history reads =
     absurd (elim refused [ inl e ↦ cc | inr e ↦ cc ])
 
-counts_by : (Over : Type 0) (text all : List ℕ) (old : Reader) (new : Feeder) (out out' : SinkView) (why : Halt) (stands : Stands text old) (lines : List (List ℕ)) (says : Option Line) → line_of old.line.items ≡ says → LineEnded Over all text → ((session : ℕ) → session_in old.feeder.core.config all session ≡ session_in old.feeder.core.config stands.whole session + lines_bytes_in stands.reading (old.line.items ∷ lines) session) → TreatsLine stands.reading says old.feeder new out out' (Err why) → CountsTo why Over old.feeder.core.config all new.core.history new.reads
-counts_by Over text all old new out out' why stands lines None is ends goes h =
-    refused_counts Over text all old new why stands lines ends goes is h.refused (ap (λ (v : CoreView). v.history) h.core_stays) h.reads_stay
-counts_by Over text all old new out out' why stands lines (Some says) is ends goes h =
-    taken_counts Over text all old new out out' why stands says is ends h
+counts_by : (Over : Type 0) (text all : List ℕ) (old : Reader) (new : Feeder) (out out' : SinkView) (why : Halt) (stands : Stands text old) (lines : List (List ℕ)) (says : Result Line ℕ) → feed_line_of old.line.items ≡ says → LineEnded Over all text → ((session : ℕ) → session_in old.feeder.core.config all session ≡ session_in old.feeder.core.config stands.whole session + lines_bytes_in stands.reading (old.line.items ∷ lines) session) → TreatsLine stands.reading says old.feeder new out out' (Err why) → CountsTo why Over old.feeder.core.config all new.core.history new.reads
+counts_by Over text all old new out out' why stands lines (Err place) is ends goes h =
+    refused_counts Over text all old new why stands lines ends goes place is h.refused (ap (λ (v : CoreView). v.history) h.core_stays) h.reads_stay
+counts_by Over text all old new out out' why stands lines (Ok says) is ends goes h = elim (stopped_cases (is_quit says) h.0 why h.1) [
+  | inl halts ↦ taken_counts Over text all old new out out' why stands says is ends (subst (λ (taken : Result (Unit {0}) Halt). TakesLine stands.reading says old.feeder new out out' taken) halts h.2)
+  | inr quits ↦ subst (λ (w : Halt). CountsTo w Over old.feeder.core.config all new.core.history new.reads) (sym quits.2)
+      (quit_counts Over text all old new out out' stands lines says is quits.0 goes (subst (λ (taken : Result (Unit {0}) Halt). TakesLine stands.reading says old.feeder new out out' taken) quits.1 h.2))
+]
 
 -- The last line stopped the reader, whatever follows it.
-pub line_counts : (Over : Type 0) (text all : List ℕ) (old : Reader) (new : Feeder) (out out' : SinkView) (why : Halt) (stands : Stands text old) (lines : List (List ℕ)) → LineEnded Over all text → ((session : ℕ) → session_in old.feeder.core.config all session ≡ session_in old.feeder.core.config stands.whole session + lines_bytes_in stands.reading (old.line.items ∷ lines) session) → TreatsLine stands.reading (line_of old.line.items) old.feeder new out out' (Err why) → CountsTo why Over old.feeder.core.config all new.core.history new.reads
+pub line_counts : (Over : Type 0) (text all : List ℕ) (old : Reader) (new : Feeder) (out out' : SinkView) (why : Halt) (stands : Stands text old) (lines : List (List ℕ)) → LineEnded Over all text → ((session : ℕ) → session_in old.feeder.core.config all session ≡ session_in old.feeder.core.config stands.whole session + lines_bytes_in stands.reading (old.line.items ∷ lines) session) → TreatsLine stands.reading (feed_line_of old.line.items) old.feeder new out out' (Err why) → CountsTo why Over old.feeder.core.config all new.core.history new.reads
 line_counts Over text all old new out out' why stands lines ends goes h =
-    counts_by Over text all old new out out' why stands lines (line_of old.line.items) refl ends goes h
+    counts_by Over text all old new out out' why stands lines (feed_line_of old.line.items) refl ends goes h
 
 -- ---- what the lines gave that have ended
 
 went_within : (core core' : CoreView) (given : Given) (why : Halt) → WentOn core core' given (Err why) → IsFront core'.history (core.history ++ given.entries)
 went_within core core' given (halt.Line place) went = absurd went
+went_within core core' given halt.Quit went = absurd went
 went_within core core' given halt.Full went = record { behind = went.next ∷ went.behind; joined = went.joined }
 went_within core core' given halt.Write went = went
 went_within core core' given halt.NoMemory went = went
 
-gives_by : (Over : Type 0) (text all : List ℕ) (old : Reader) (new : Feeder) (out out' : SinkView) (why : Halt) (stands : Stands text old) (says : Option Line) → line_of old.line.items ≡ says → LineEnded Over all text → TreatsLine stands.reading says old.feeder new out out' (Err why) → GivenBy Over old.feeder.core.config all new.core.history
-gives_by Over text all old new out out' why stands None is ends h =
+gives_by : (Over : Type 0) (text all : List ℕ) (old : Reader) (new : Feeder) (out out' : SinkView) (why : Halt) (stands : Stands text old) (says : Result Line ℕ) → feed_line_of old.line.items ≡ says → LineEnded Over all text → TreatsLine stands.reading says old.feeder new out out' (Err why) → GivenBy Over old.feeder.core.config all new.core.history
+gives_by Over text all old new out out' why stands (Err place) is ends h =
     given_before Over text all old new.core.history stands (ends_front Over text all ends) (ap (λ (v : CoreView). v.history) h.core_stays)
-gives_by Over text all old new out out' why stands (Some says) is ends h =
-    (text, line_ended Over text all ends, line_within text old new.core.history stands says is (went_within old.feeder.core new.core (line_given stands.reading says) why h.goes.went))
+gives_by Over text all old new out out' why stands (Ok says) is ends h =
+    (text, line_ended Over text all ends, line_within text old new.core.history stands says is (elim (stopped_cases (is_quit says) h.0 why h.1) [
+      | inl halts ↦ went_within old.feeder.core new.core (line_given stands.reading says) why (subst (λ (taken : Result (Unit {0}) Halt). TakesLine stands.reading says old.feeder new out out' taken) halts h.2).goes.went
+      | inr quits ↦ IsFront-same new.core.history (old.feeder.core.history ++ (line_given stands.reading says).entries) (sym (subst (λ (taken : Result (Unit {0}) Halt). TakesLine stands.reading says old.feeder new out out' taken) quits.1 h.2).goes.went.0)
+    ]))
 
-pub line_gives : (Over : Type 0) (text all : List ℕ) (old : Reader) (new : Feeder) (out out' : SinkView) (why : Halt) (stands : Stands text old) → LineEnded Over all text → TreatsLine stands.reading (line_of old.line.items) old.feeder new out out' (Err why) → GivenBy Over old.feeder.core.config all new.core.history
-line_gives Over text all old new out out' why stands ends h = gives_by Over text all old new out out' why stands (line_of old.line.items) refl ends h
+pub line_gives : (Over : Type 0) (text all : List ℕ) (old : Reader) (new : Feeder) (out out' : SinkView) (why : Halt) (stands : Stands text old) → LineEnded Over all text → TreatsLine stands.reading (feed_line_of old.line.items) old.feeder new out out' (Err why) → GivenBy Over old.feeder.core.config all new.core.history
+line_gives Over text all old new out out' why stands ends h = gives_by Over text all old new out out' why stands (feed_line_of old.line.items) refl ends h
 
--- a line outside the grammar is not empty, and so the last
-outside_number : (text : List ℕ) (reader : Reader) (stands : Stands text reader) → line_of reader.line.items ≡ None → length (lines_of text) ≡ reader.number
-outside_number text reader stands outside =
+-- an empty line skips
+empty_skips : (line : List ℕ) → line ≡ [] → feed_line_of line ≡ Ok line.Skip
+empty_skips line e = ap feed_line_of e ∙ empty_line
+
+-- a line outside the grammar is not empty, nor is one that ends the run
+not_empty : (line : List ℕ) (says : Result Line ℕ) → feed_line_of line ≡ says → says ≢ Ok line.Skip → line ≢ []
+not_empty line says is other = λ e. other (sym is ∙ empty_skips line e)
+
+other_place : (place : ℕ) → refused_at place ≢ Ok line.Skip
+other_place place = λ e. cc e
+
+other_quit : (says : Line) → is_quit says ≡ true → said_so says ≢ Ok line.Skip
+other_quit says quits = λ e. let same : says ≡ line.Skip = cc e in let no : false ≡ true = sym (ap is_quit same) ∙ quits in cc no
+
+-- so it is the last
+last_number : (text : List ℕ) (reader : Reader) (stands : Stands text reader) → reader.line.items ≢ [] → length (lines_of text) ≡ reader.number
+last_number text reader stands some =
     let all = ap (λ (t : List ℕ). length (lines_of t)) stands.text_is in
-    let last = ap length (last_line reader.line.items stands.line (λ e. absurd (cc (sym (ap line_of e) ∙ outside)))) in
+    let last = ap length (last_line reader.line.items stands.line some) in
     omega (arith, all, last, stands.count reader.line.items)
 
-at_by : (Over : Type 0) (text all : List ℕ) (old : Reader) (new : Feeder) (out out' : SinkView) (why : Halt) (stands : Stands text old) (says : Option Line) → line_of old.line.items ≡ says → LineEnded Over all text → TreatsLine stands.reading says old.feeder new out out' (Err why) → AtLine why Over all old.number
-at_by Over text all old new out out' (halt.Line place) stands None is ends h = (text, ends, outside_number text old stands is)
-at_by Over text all old new out out' (halt.Line place) stands (Some says) is ends h = absurd h.goes.went
+at_by : (Over : Type 0) (text all : List ℕ) (old : Reader) (new : Feeder) (out out' : SinkView) (why : Halt) (stands : Stands text old) (says : Result Line ℕ) → feed_line_of old.line.items ≡ says → LineEnded Over all text → TreatsLine stands.reading says old.feeder new out out' (Err why) → AtLine why Over all old.number
+at_by Over text all old new out out' (halt.Line here) stands (Err place) is ends h = (text, ends, last_number text old stands (not_empty old.line.items (Err place) is (other_place place)))
+at_by Over text all old new out out' (halt.Line here) stands (Ok says) is ends h = absurd (elim (stopped_cases (is_quit says) h.0 (halt.Line here) h.1) [
+  | inl halts ↦ (subst (λ (taken : Result (Unit {0}) Halt). TakesLine stands.reading says old.feeder new out out' taken) halts h.2).goes.went
+  | inr quits ↦ cc (quits.2)
+])
+at_by Over text all old new out out' halt.Quit stands (Err place) is ends h = absurd (elim h.refused [ inl e ↦ cc | inr e ↦ cc ])
+at_by Over text all old new out out' halt.Quit stands (Ok says) is ends h = elim (stopped_cases (is_quit says) h.0 halt.Quit h.1) [
+  | inl halts ↦ absurd ((subst (λ (taken : Result (Unit {0}) Halt). TakesLine stands.reading says old.feeder new out out' taken) halts h.2).goes.went)
+  | inr quits ↦ (text, ends, last_number text old stands (not_empty old.line.items (Ok says) is (other_quit says quits.0)))
+]
 at_by Over text all old new out out' halt.Full stands says is ends h = tt
 at_by Over text all old new out out' halt.Write stands says is ends h = tt
 at_by Over text all old new out out' halt.NoMemory stands says is ends h = tt
 
 -- where the last line is outside the grammar it has ended, and its number is told
-pub line_at : (Over : Type 0) (text all : List ℕ) (old : Reader) (new : Feeder) (out out' : SinkView) (why : Halt) (stands : Stands text old) → LineEnded Over all text → TreatsLine stands.reading (line_of old.line.items) old.feeder new out out' (Err why) → AtLine why Over all old.number
-line_at Over text all old new out out' why stands ends h = at_by Over text all old new out out' why stands (line_of old.line.items) refl ends h
+pub line_at : (Over : Type 0) (text all : List ℕ) (old : Reader) (new : Feeder) (out out' : SinkView) (why : Halt) (stands : Stands text old) → LineEnded Over all text → TreatsLine stands.reading (feed_line_of old.line.items) old.feeder new out out' (Err why) → AtLine why Over all old.number
+line_at Over text all old new out out' why stands ends h = at_by Over text all old new out out' why stands (feed_line_of old.line.items) refl ends h
 
 -- ---- what is known of the end of the text
 
@@ -212,12 +269,14 @@ stopped_known P Q known c text history taken h = record { lines = lines_known P 
 
 marks_known : (P Q : Type 0) → (P → Q) → (why : Halt) (c : Config) (text : List ℕ) (history : List Entry) (taken : List ℕ) → TakenTo why P c text history taken → TakenTo why Q c text history taken
 marks_known P Q known (halt.Line place) c text history taken h = h
+marks_known P Q known halt.Quit c text history taken h = h
 marks_known P Q known halt.Full c text history taken h = record { stopped = stopped_known P Q known c text history taken h.stopped; ends = ended_known P Q known text taken h.ends; next = h.next }
 marks_known P Q known halt.Write c text history taken h = record { stopped = stopped_known P Q known c text history taken h.stopped; ends = ended_known P Q known text taken h.ends; last = h.last }
 marks_known P Q known halt.NoMemory c text history taken h = stopped_known P Q known c text history taken h
 
 at_known : (P Q : Type 0) → (P → Q) → (why : Halt) (text : List ℕ) (number : ℕ) → AtLine why P text number → AtLine why Q text number
 at_known P Q known (halt.Line place) text number h = (h.0, ended_known P Q known text h.0 h.1, h.2)
+at_known P Q known halt.Quit text number h = (h.0, ended_known P Q known text h.0 h.1, h.2)
 at_known P Q known halt.Full text number h = tt
 at_known P Q known halt.Write text number h = tt
 at_known P Q known halt.NoMemory text number h = tt

@@ -22,14 +22,14 @@ pub record SinkView : Type 0 where
 abbrev pub seen : {K : Type 0} → (K → Option (List ℕ)) → (K → ℕ) → (K → ℕ) → K → SinkView
 seen held faults refusals out = record { held = held out; faults = faults out; refusals = refusals out }
 
--- The history went on by all that is given, also where the run was ended by it; up to an entry that doesn't fit the limits; or, after want of memory or a
+-- The history went on by all that is given; up to an entry that doesn't fit the limits; or, after want of memory or a
 -- write fault, by a front of it.
 abbrev pub WentOn : CoreView → CoreView → Given → Result (Unit {0}) Halt → Type 0
 WentOn core core' given (Ok done) = (core'.history ≡ core.history ++ given.entries) × (core'.state ≡ given.state)
 WentOn core core' given (Err halt.Full) = IsFullAt core.config core'.history (core.history ++ given.entries)
 WentOn core core' given (Err halt.Write) = IsFront core'.history (core.history ++ given.entries)
 WentOn core core' given (Err halt.NoMemory) = IsFront core'.history (core.history ++ given.entries)
-WentOn core core' given (Err halt.Quit) = (core'.history ≡ core.history ++ given.entries) × (core'.state ≡ given.state)
+WentOn core core' given (Err halt.Quit) = ⊥
 WentOn core core' given (Err (halt.Line place)) = ⊥
 
 -- behind what was held at the start, all lines of the history are out

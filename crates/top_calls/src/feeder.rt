@@ -1,10 +1,11 @@
 //! One line after another: what each says is put in, in the session that is up.
-ghost use Rattle.std.specs.Prelude.{◌≡◌, ◌<◌, ◌≤◌, ℕ, List, [], length, true, IfOk, OnOk, OnErr};
+ghost use Rattle.std.specs.Prelude.{◌≡◌, ◌<◌, ◌≤◌, ℕ, List, [], length, true, Ok, IfOk, OnOk, OnErr};
 ghost use Rattle.tool_events.specs.Configs.{IsConfig};
 ghost use Rattle.gem_model.specs.State.{opening, is_session_up};
 ghost use Rattle.gem_model.specs.Run.{Run};
 ghost use Rattle.gem_model.specs.Sizes.{bytes_of};
-ghost use Rattle.gem_model.specs.Lines as model;
+ghost use Rattle.line_grammar.specs.declared.line.Line.TheVariants as line;
+ghost use Rattle.line_grammar.specs.Reading.{feed_line_of};
 ghost use Rattle.gem_model.specs.Feed.{Reading, first_reading, text_bytes};
 ghost use Rattle.hsms_frame.specs.Cut.{IsCutOf, arrivals_of};
 ghost use Rattle.top_calls.specs.Going.{seen};
@@ -13,13 +14,13 @@ ghost use Rattle.top_calls.specs.Reads.{AddsLine};
 
 use crate::engine::{AT_ONCE, input, take_messages};
 use crate::halt::Halt;
-use crate::lines::{Line, LineFault, read_line};
 use gem_ids::Moment;
 use hsms_frame::{Arrival, CutFault, Cutter};
 use outside::Sink;
 use std::alloc::{AllocError, Global};
 use tool_core::{Core, Entries, SessionCounts};
-use tool_events::{Config, Event, SessionCause};
+use tool_events::{Config, Event, OperCmd, SessionCause, Signal};
+use tool_texts::{Line, LineFault, read_feed_line};
 
 /// The longest text of a message, in bytes.
 const TEXT_BYTES: u32 = 262_144;
@@ -84,7 +85,7 @@ impl Feeder {
     /// A link comes up. A new session begins with no bytes.
     fn link_up<K: Sink>(&mut self, alloc: Global, out: &mut K) -> Result<(), Halt>
         ensures { (r : Reading) → IsReading r self.old.core self.old.cutter
-            → TakesLine r model.Up self.old self.new (seen K.held K.faults K.refusals out.old) (seen K.held K.faults K.refusals out.new) result }
+            → TakesLine r line.Up self.old self.new (seen K.held K.faults K.refusals out.old) (seen K.held K.faults K.refusals out.new) result }
     {
         if self.core.session_up().is_none() {
             match Cutter::new(alloc, TEXT_BYTES) {
@@ -98,7 +99,7 @@ impl Feeder {
     /// The peer closes the link. Without a session nothing happens.
     fn link_down<K: Sink>(&mut self, alloc: Global, out: &mut K) -> Result<(), Halt>
         ensures { (r : Reading) → IsReading r self.old.core self.old.cutter
-            → TakesLine r model.Down self.old self.new (seen K.held K.faults K.refusals out.old) (seen K.held K.faults K.refusals out.new) result }
+            → TakesLine r line.Down self.old self.new (seen K.held K.faults K.refusals out.old) (seen K.held K.faults K.refusals out.new) result }
     {
         let Some(session) = self.core.session_up() else {
             return Ok(());
@@ -116,7 +117,7 @@ impl Feeder {
     /// The clock is looked at, at this moment. Where nothing is due nothing happens.
     fn look<K: Sink>(&mut self, alloc: Global, at: Moment, out: &mut K) -> Result<(), Halt>
         ensures { (r : Reading) → IsReading r self.old.core self.old.cutter
-            → TakesLine r (model.Time at.0) self.old self.new (seen K.held K.faults K.refusals out.old) (seen K.held K.faults K.refusals out.new) result }
+            → TakesLine r (line.Moment at) self.old self.new (seen K.held K.faults K.refusals out.old) (seen K.held K.faults K.refusals out.new) result }
     {
         if self.core.idle(at, &Event::Tick) {
             return Ok(());
@@ -129,7 +130,7 @@ impl Feeder {
         requires up { is_session_up self.old.core.state session ≡ true }
         requires numbered { 0 < session }
         ensures counts { OnOk result ((r : Reading) → r.state ≡ self.old.core.state
-            → AddsLine r (model.Bytes bytes.now) self.old.reads self.new.reads) }
+            → AddsLine r (line.Bytes bytes.now) self.old.reads self.new.reads) }
         ensures unchanged { self.new ≡ record self.old { reads = self.new.reads } }
         ensures none { OnErr result (self.new ≡ self.old) }
     {
@@ -141,7 +142,7 @@ impl Feeder {
     /// Bytes of the host come. Without a session they are dropped.
     fn take_bytes<K: Sink>(&mut self, alloc: Global, bytes: &[u8], out: &mut K) -> Result<(), Halt>
         ensures { (r : Reading) → IsReading r self.old.core self.old.cutter
-            → TakesLine r (model.Bytes bytes.now) self.old self.new (seen K.held K.faults K.refusals out.old) (seen K.held K.faults K.refusals out.new) result }
+            → TakesLine r (line.Bytes bytes.now) self.old self.new (seen K.held K.faults K.refusals out.old) (seen K.held K.faults K.refusals out.new) result }
     {
         let Some(session) = self.core.session_up() else {
             return Ok(());
@@ -156,6 +157,48 @@ impl Feeder {
         take_messages(alloc, &mut self.core, session, arrivals, short, out)
     }
 
+    /// An operator wants something. The command that ends the run halts it.
+    fn operate<K: Sink>(
+        &mut self,
+        alloc: Global,
+        command: OperCmd,
+        out: &mut K,
+    ) -> Result<(), Halt>
+        ensures { (r : Reading) → IsReading r self.old.core self.old.cutter
+            → TreatsLine r (Ok (line.Oper command)) self.old self.new (seen K.held K.faults K.refusals out.old) (seen K.held K.faults K.refusals out.new) result }
+    {
+        let quits = matches!(command, OperCmd::Quit);
+        match input(
+            alloc,
+            &mut self.core,
+            AT_ONCE,
+            Event::Oper(command),
+            out,
+        ) {
+            Ok(()) if quits => Err(Halt::Quit),
+            other => other,
+        }
+    }
+
+    /// The equipment tells something.
+    fn signal<K: Sink>(
+        &mut self,
+        alloc: Global,
+        signal: Signal,
+        out: &mut K,
+    ) -> Result<(), Halt>
+        ensures { (r : Reading) → IsReading r self.old.core self.old.cutter
+            → TakesLine r (line.Signal signal) self.old self.new (seen K.held K.faults K.refusals out.old) (seen K.held K.faults K.refusals out.new) result }
+    {
+        input(
+            alloc,
+            &mut self.core,
+            AT_ONCE,
+            Event::Signal(signal),
+            out,
+        )
+    }
+
     /// Takes one line, without its line feed.
     pub fn take_line<K: Sink>(
         &mut self,
@@ -164,14 +207,17 @@ impl Feeder {
         out: &mut K,
     ) -> Result<(), Halt>
         ensures { (r : Reading) → IsReading r self.old.core self.old.cutter
-            → TreatsLine r (model.line_of line.now) self.old self.new (seen K.held K.faults K.refusals out.old) (seen K.held K.faults K.refusals out.new) result }
+            → TreatsLine r (feed_line_of line.now) self.old self.new (seen K.held K.faults K.refusals out.old) (seen K.held K.faults K.refusals out.new) result }
     {
-        match read_line(alloc, line) {
-            Ok(Line::Skip) => Ok(()),
+        match read_feed_line(alloc, line) {
+            // No line of `feed` waits for a port.
+            Ok(Line::Skip | Line::Watch(_)) => Ok(()),
             Ok(Line::Up) => self.link_up(alloc, out),
             Ok(Line::Down) => self.link_down(alloc, out),
-            Ok(Line::Time(at)) => self.look(alloc, at, out),
+            Ok(Line::Moment(at)) => self.look(alloc, at, out),
             Ok(Line::Bytes(bytes)) => self.take_bytes(alloc, bytes.as_slice(), out),
+            Ok(Line::Oper(command)) => self.operate(alloc, command, out),
+            Ok(Line::Signal(signal)) => self.signal(alloc, signal, out),
             Err(LineFault::Place(place)) => Err(Halt::Line(place)),
             Err(LineFault::NoMemory) => Err(Halt::NoMemory),
         }

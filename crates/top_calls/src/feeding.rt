@@ -10,7 +10,7 @@ ghost use Rattle.gem_model.specs.Command.{misfit, known_config};
 ghost use Rattle.top_calls.specs.declared.ended.Cause.TheVariants as cause;
 ghost use Rattle.top_calls.specs.Counts.{Failed};
 ghost use Rattle.top_calls.specs.Status.{status_of};
-ghost use Rattle.top_calls.specs.Fed.{looked, Fed, ReadToEnd, Shown, IsKnown, Configured};
+ghost use Rattle.top_calls.specs.Fed.{looked, Fed, Shown, IsKnown, Configured};
 ghost use Rattle.top_calls.specs.CauseOf.{cause_after, Refuses};
 
 use crate::ended::{Cause, Ended, Notes};
@@ -24,7 +24,7 @@ use gem_ids::{Moment, Text80};
 use outside::{Sink, Source};
 use std::alloc::Global;
 use tool_core::Core;
-use tool_events::Config;
+use tool_events::{CommStart, Config, ControlStart};
 
 /// So many bytes of a configuration are read at most.
 const CONFIGURATION_BYTES: usize = 65_537;
@@ -59,7 +59,13 @@ pub fn known_config() -> Config
         device: 0,
         mdln: text_of(b"GEM300".as_slice()),
         softrev: text_of(b"1.0.00".as_slice()),
+        communication: CommStart::Communicating,
+        control: ControlStart::OnlineRemote,
+        t3: 4500,
+        t6: 500,
         t7: 1000,
+        establish: 1000,
+        linktest: 0,
         max_entries: 4_000_000,
         max_bytes: 536_870_912,
         start_moment: Moment(0),
@@ -79,7 +85,7 @@ fn cause_of(read: InputRead, core: &Core, number: u64) -> Cause
     ensures { result ≡ cause_after read.end read.count core.now.history number }
 {
     match read.end {
-        InputEnd::Whole => Cause::Done,
+        InputEnd::Whole | InputEnd::Halted(Halt::Quit) => Cause::Done,
         InputEnd::Fault => Cause::ReadFault,
         InputEnd::Bound | InputEnd::Halted(Halt::Full) => {
             Cause::Full(core.history().len() as u64, core.bytes(), read.count)
@@ -113,7 +119,6 @@ pub fn feed_config<S: Source, K: Sink>(
 
     // When each cause comes.
     ensures status { result.status ≡ status_of result.cause }
-    ensures done { result.cause ≡ cause.Done → ReadToEnd (looked S.left S.faults S.ends input.old) (looked S.left S.faults S.ends input.new) }
     ensures read_fault { result.cause ≡ cause.ReadFault → Rose (S.faults input.old) (S.faults input.new) }
     ensures write_fault { result.cause ≡ cause.WriteFault
         → Failed (K.faults out.old) (K.faults out.new) (K.refusals out.old) (K.refusals out.new) }
@@ -166,7 +171,6 @@ pub fn feed<C: Source, S: Source, K: Sink>(
     // When each cause comes.
     ensures status { result.status ≡ status_of result.cause }
     ensures words { (place : ℕ) → (result.cause ≡ cause.Words place) ↔ (misfit words.now ≡ Some place) }
-    ensures done { result.cause ≡ cause.Done → ReadToEnd (looked S.left S.faults S.ends input.old) (looked S.left S.faults S.ends input.new) }
     ensures read_fault { result.cause ≡ cause.ReadFault
         → Rose (C.faults config.old) (C.faults config.new) ⊎ Rose (S.faults input.old) (S.faults input.new) }
     ensures write_fault { result.cause ≡ cause.WriteFault

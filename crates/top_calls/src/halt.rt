@@ -7,8 +7,10 @@ pub enum Halt {
     Write,
     /// There was no memory.
     NoMemory,
-    /// A line is outside the grammar, from this byte on. Until the whole grammar is read the place is 0.
+    /// A line leaves the grammar at this byte, counted from 0.
     Line(u64),
     /// The next entry would not fit the history's limits.
     Full,
+    /// The operator ended the run.
+    Quit,
 }

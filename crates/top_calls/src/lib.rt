@@ -11,7 +11,6 @@ mod feeder;
 mod feeding;
 mod halt;
 mod input;
-mod lines;
 mod notes;
 mod print;
 mod read;

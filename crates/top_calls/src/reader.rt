@@ -5,10 +5,10 @@ ghost use Rattle.top_calls.specs.Going.{seen};
 
 use crate::feeder::Feeder;
 use crate::halt::Halt;
-use crate::lines::LINE_BYTES;
 use outside::Sink;
 use std::alloc::{AllocError, Global};
 use tool_events::Config;
+use tool_texts::LINE_BYTES;
 
 /// Gathers bytes to lines, and takes each.
 #[derive(Drop)]
@@ -64,7 +64,7 @@ impl Reader {
         ensures number { self.new.number ≡ self.old.number }
     {
         if self.line.len() >= LINE_BYTES {
-            return Err(Halt::Line(0));
+            return Err(Halt::Line(LINE_BYTES as u64));
         }
         match self.line.push(byte) {
             Ok(()) => Ok(()),

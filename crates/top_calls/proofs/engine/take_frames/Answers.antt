@@ -9,8 +9,9 @@ use Rattle.top_calls.proofs.engine.take_frames.Goals as goal
 pub loop-core-preserved : goal.loop-core-preserved
 loop-core-preserved g c =
     let some : step c.loop-core.core.state 0 (Take c.args.session) ≢ None = search rules in
-    let takes = take_one c.loop-core.core.state c.args.session c.loop-core.invariant.up some in
+    let takes = take_one c.loop-core.core.state c.args.session c.idle.ensures.valid c.loop-core.invariant.up some in
     record {
+      whole = c.in-Ok.ensures.whole c.loop-core.invariant.whole;
       up = subst (λ (s : State). is_session_up s c.args.session ≡ true) (sym c.in-Ok.ensures.went.1) takes.up;
       joined = λ core out result rest. c.loop-core.invariant.joined core out result (Goes-take _ _ _ _ _ _ c.args.session result takes c.in-Ok.ensures rest);
     }
@@ -18,10 +19,10 @@ loop-core-preserved g c =
 pub returns-in-Err : goal.returns-in-Err
 returns-in-Err g c =
     let some : step c.loop-core.core.state 0 (Take c.args.session) ≢ None = search rules in
-    let takes = take_one c.loop-core.core.state c.args.session c.loop-core.invariant.up some in
+    let takes = take_one c.loop-core.core.state c.args.session c.idle.ensures.valid c.loop-core.invariant.up some in
     c.loop-core.invariant.joined _ _ _ (Goes-take-halts _ _ _ _ c.args.session c.in-Err.halt takes c.in-Err.ensures)
 
 pub returns : goal.returns
 returns g c =
     let none : step c.loop-core.core.state 0 (Take c.args.session) ≡ None = search rules in
-    c.loop-core.invariant.joined _ _ _ (Goes-take-none _ _ (take_none c.loop-core.core.state c.args.session c.loop-core.invariant.up none))
+    c.loop-core.invariant.joined _ _ _ (Goes-take-none _ _ (take_none c.loop-core.core.state c.args.session c.idle.ensures.valid c.loop-core.invariant.up none))

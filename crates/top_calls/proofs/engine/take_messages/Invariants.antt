@@ -1,4 +1,4 @@
-use Rattle.std.proofs.Common.{Result}
+use Rattle.std.proofs.Common.{◌≡◌, true, Result}
 use Rattle.std.specs.Vec.Iter.{into_iter_items}
 use Rattle.tool_core.specs.CoreView.{CoreView}
 use Rattle.gem_model.specs.Feed.{messages}
@@ -6,8 +6,11 @@ use Rattle.top_calls.specs.declared.halt.Halt.{Halt}
 use Rattle.top_calls.specs.Going.{Goes, SinkView, seen}
 use Rattle.top_calls.proofs.engine.take_messages.Given as goal
 
--- whatever the messages that are left do, with those before them it is what all do
+-- the core is whole; and whatever the messages that are left do, with those before them it is what all do
 abbrev pub invariant-loop-arrival : goal.invariant-loop-arrival
 invariant-loop-arrival g l =
     let see = seen g.K.Sink.held g.K.Sink.faults g.K.Sink.refusals in
-    (core : CoreView) (out : SinkView) (result : Result (Unit {0}) Halt) → Goes l.core core (see l.out) out (messages l.core.state l.session (into_iter_items l.arrival-iterator) l.short) result → Goes l.fn.core core (see l.fn.out) out (messages l.fn.core.state l.session l.fn.arrivals.items l.short) result
+    record {
+      whole : l.core.is_whole ≡ true;
+      joined : (core : CoreView) (out : SinkView) (result : Result (Unit {0}) Halt) → Goes l.core core (see l.out) out (messages l.core.state l.session (into_iter_items l.arrival-iterator) l.short) result → Goes l.fn.core core (see l.fn.out) out (messages l.fn.core.state l.session l.fn.arrivals.items l.short) result;
+    }

@@ -1,11 +1,10 @@
-use Rattle.std.proofs.Common.{◌≡◌, ap, sym, ◌∙◌, subst}
+use Rattle.std.proofs.Common.{◌≡◌, ◌∙◌, subst}
 use Rattle.tool_events.specs.declared.config.Config.{Config}
 use Rattle.top_calls.specs.declared.ended.Cause.TheVariants as cause
-use Rattle.top_calls.specs.declared.ended.Ended.{Ended}
 use Rattle.top_calls.specs.CauseOf.{cause_after}
 use Rattle.top_calls.specs.Fed.{looked, FedBy, ReadToEnd, Shown}
 use Rattle.top_calls.specs.Noted.{NotedBy}
-use Rattle.top_calls.proofs.Ending.{run_from, FedBy-end, NotedBy-end, Shown-end, Shown-memory, read_to_end}
+use Rattle.top_calls.proofs.Ending.{run_from, FedBy-end, NotedBy-end, Shown-end, Shown-memory}
 use Rattle.top_calls.proofs.feeding.feed_config.Goals as goal
 
 pub returns-in_default-session_notes-clause-run : goal.returns-in_default-session_notes-clause-run
@@ -50,9 +49,3 @@ returns-clause-printed g c =
     rw (c.with_history-2.ensures, c.cause_of-cause.ensures, c.into_history.ensures.history)
     (subst (λ (k : Config). Shown k (cause_after c.read_lines-read.result.end c.read_lines-read.result.count core.history c.read_lines-read.new.reader.number) (g.K.Sink.held c.args.out.now) (g.K.Sink.held c.read_lines-read.new.out) core.history) same
     (Shown-end c.read_lines-read.result.end _ core _ _ c.read_lines-read.result.count c.read_lines-read.new.reader.number c.in-Ok.ensures.history c.read_lines-read.ensures.prints))
-
-pub returns-clause-done : goal.returns-clause-done
-returns-clause-done g c = λ done.
-    let read = c.read_lines-read.ensures.read in
-    let is = sym (c.cause_of-cause.ensures) ∙ (sym (ap (λ (e : Ended). e.cause) c.with_history-2.ensures) ∙ done) in
-    read_to_end c.read_lines-read.result.end read.0 c.read_lines-read.result.count _ c.read_lines-read.new.reader.number c.read_lines-read.new.reader _ _ read.4 is

@@ -6,7 +6,11 @@
 #[cfg(test)]
 mod desks;
 #[cfg(test)]
+mod feed;
+#[cfg(test)]
 mod frames;
+#[cfg(test)]
+mod histories;
 #[cfg(test)]
 mod items;
 #[cfg(test)]

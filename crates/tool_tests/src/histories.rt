@@ -80,13 +80,22 @@ fn arrives(alloc: Global, core: &mut Core, header: Header) -> Result<(), Fail> {
     }
 }
 
+// Whether an event has to wait; none where the core is not whole.
+fn waits(core: &Core, at: u64, event: Event) -> Option<bool> {
+    if core.is_whole() {
+        Some(core.idle(Moment(at), &event))
+    } else {
+        None
+    }
+}
+
 // The oldest frame that waits is this one, and no other waits.
 fn sends(rt: &impl Abort, alloc: Global, core: &mut Core, bytes: &[u8]) -> Result<(), Fail> {
     match posted(alloc, core, 0, Event::Take { session: 1 })? {
         Answer::Frame(frame) => assert_eq!(rt; frame.as_slice(), bytes),
         _ => return Err("a frame".into()),
     }
-    assert_eq!(rt; core.idle(Moment(0), &Event::Take { session: 1 }), true);
+    assert_eq!(rt; waits(core, 0, Event::Take { session: 1 }), Some(true));
     Ok(())
 }
 
@@ -143,12 +152,12 @@ fn t7_ends_a_session_that_is_not_selected(rt: HostRuntime) -> Result<(), Fail> {
     let mut core = linked(alloc, &config(10, 0)?)?;
     // The heartbeat.
     posted(alloc, &mut core, 950, Event::Tick)?;
-    assert_eq!(rt; core.idle(Moment(999), &Event::Tick), true);
+    assert_eq!(rt; waits(&core, 999, Event::Tick), Some(true));
     let early = core.apply(alloc, 1, Moment(999), Event::Tick);
     assert_eq!(rt; early.err(), Some(PostFault::Again));
     assert_eq!(rt; core.session_up(), Some(1));
     assert_eq!(rt; core.session_end(1), None);
-    assert_eq!(rt; core.idle(Moment(1000), &Event::Tick), false);
+    assert_eq!(rt; waits(&core, 1000, Event::Tick), Some(false));
     posted(alloc, &mut core, 1000, Event::Tick)?;
     assert_eq!(rt; core.session_up(), None);
     assert_eq!(rt; core.session_end(1), Some(SessionCause::T7));
@@ -195,7 +204,7 @@ fn a_message_of_stream_9_of_the_host_is_not_answered(rt: HostRuntime) -> Result<
     // S9F1, without the W-bit and with it.
     for byte2 in [0x09, 0x89] {
         arrives(alloc, &mut core, header(0, (byte2, 1), (0, 0), 12))?;
-        assert_eq!(rt; core.idle(Moment(0), &Event::Take { session: 1 }), true);
+        assert_eq!(rt; waits(&core, 0, Event::Take { session: 1 }), Some(true));
     }
     Ok(())
 }
@@ -250,8 +259,8 @@ fn t7_comes_before_the_heartbeat(rt: HostRuntime) -> Result<(), Fail> {
     // At 1,000 hundredths both have come, T7 and the heartbeat.
     posted(alloc, &mut core, 1000, Event::Tick)?;
     assert_eq!(rt; core.session_end(1), Some(SessionCause::T7));
-    assert_eq!(rt; core.idle(Moment(1099), &Event::Tick), true);
-    assert_eq!(rt; core.idle(Moment(1100), &Event::Tick), false);
+    assert_eq!(rt; waits(&core, 1099, Event::Tick), Some(true));
+    assert_eq!(rt; waits(&core, 1100, Event::Tick), Some(false));
     Ok(())
 }
 

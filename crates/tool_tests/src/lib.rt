@@ -6,13 +6,21 @@
 #[cfg(test)]
 mod desks;
 #[cfg(test)]
+mod feed;
+#[cfg(test)]
 mod frames;
 #[cfg(test)]
+mod histories;
+#[cfg(test)]
 mod items;
+#[cfg(test)]
+mod lines;
 #[cfg(test)]
 mod links;
 #[cfg(test)]
 mod messages;
+#[cfg(test)]
+mod moments;
 #[cfg(test)]
 mod names;
 #[cfg(test)]

@@ -12,8 +12,6 @@ mod operator;
 mod print;
 mod read;
 mod signal;
-#[cfg(test)]
-mod tests;
 
 pub use line_grammar::{Line, LineFault, OutLine};
 pub use print::print_out_line;

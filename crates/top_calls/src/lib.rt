@@ -15,8 +15,6 @@ mod notes;
 mod print;
 mod read;
 mod reader;
-#[cfg(test)]
-mod tests;
 mod words;
 mod write;
 

@@ -1,11 +1,143 @@
-use crate::{
-    LINE_BYTES, Line, LineFault, OutLine, print_out_line, read_feed_line, read_line, read_operator,
-};
+//! Input lines and output lines (`tool_texts`).
+
 use gem_ids::{
     CarrierId, CmdNo, JobId, LocId, ModuleId, Moment, PortNo, SlotNo, SubstrateId, Text80,
 };
 use hsms_frame::{Bytes, NoMemory};
+use std::alloc::Global;
+use std::test::Fail;
 use tool_events::{Command, JobWord, OperCmd, SessionCause, Signal, Task};
+use tool_texts::{
+    LINE_BYTES, Line, LineFault, OutLine, print_out_line, read_feed_line, read_line, read_operator,
+};
+
+// Lines that `feed` refuses, and the place of the first byte at which no line goes on, or the length of the line where
+// only more was wanted.
+const REFUSED: [(&[u8], u64); 95] = [
+    // Lines of the link and of the clock.
+    (b" ", 0),
+    (b"X", 0),
+    (b"l+", 0),
+    (b"P", 0),
+    (b"L", 1),
+    (b"LX", 1),
+    (b"L+ ", 2),
+    (b"L-\r", 2),
+    (b"H", 1),
+    (b"H ", 2),
+    (b"H  00", 2),
+    (b"H 0", 3),
+    (b"H 0G", 3),
+    (b"H 000", 5),
+    (b"H 00 0A", 4),
+    (b"T", 1),
+    (b"T ", 2),
+    (b"T -1", 2),
+    (b"T  1", 2),
+    (b"T 01", 3),
+    (b"T 1 ", 3),
+    (b"T 1x", 3),
+    (b"T 25245561600000", 15),
+    (b"T 252455615999990", 16),
+    // Words of an operator.
+    (b"O", 1),
+    (b"O ", 2),
+    (b"O  quit", 2),
+    (b"O Quit", 2),
+    (b"O qui", 5),
+    (b"O quit ", 6),
+    (b"O en", 4),
+    (b"O enabled", 8),
+    (b"O lo", 4),
+    (b"O lox", 4),
+    (b"O pause J1", 3),
+    (b"O service", 9),
+    (b"O service ", 10),
+    (b"O service x in", 10),
+    (b"O service 01 in", 11),
+    (b"O service 256 in", 12),
+    (b"O service 1", 11),
+    (b"O service 1 ", 12),
+    (b"O service 1  in", 12),
+    (b"O service 1 on", 13),
+    (b"O service 1 inn", 14),
+    (b"O access", 8),
+    (b"O access 1 automatic", 15),
+    (b"O access 1 ma", 13),
+    (b"O up ", 5),
+    (b"O up 0x1", 6),
+    (b"O clear 4294967296", 17),
+    // Names.
+    (b"O pj", 4),
+    (b"O pj J1", 5),
+    (b"O pj st", 7),
+    (b"O pj sto J1", 8),
+    (b"O pj start", 10),
+    (b"O pj start ", 11),
+    (b"O pj start  J1", 11),
+    (b"O pj stop J1 ", 12),
+    (b"O cj 8", 6),
+    (b"O cj 8 ", 7),
+    (b"O cj 300 CJ1", 7),
+    (b"O lost ", 7),
+    (b"O lost CAR", 10),
+    (b"O lost CA 1", 9),
+    (b"O lost CAR\xff", 10),
+    // Names of 65 and 68 bytes.
+    (
+        b"O pj start AAAAAAAAAAAAAAAAAAAAAAAAAAAAAAAAAAAAAAAAAAAAAAAAAAAAAAAAAAAAAAAAA",
+        75,
+    ),
+    (
+        b"O cj 1 AAAAAAAAAAAAAAAAAAAAAAAAAAAAAAAAAAAAAAAAAAAAAAAAAAAAAAAAAAAAAAAAA",
+        71,
+    ),
+    (
+        b"O lost AAAAAAAAAAAAAAAAAAAAAAAAAAAAAAAAAAAAAAAAAAAAAAAAAAAAAAAAAAAAAAAAAAAA",
+        74,
+    ),
+    (
+        b"S placed 1 AAAAAAAAAAAAAAAAAAAAAAAAAAAAAAAAAAAAAAAAAAAAAAAAAAAAAAAAAAAAAAAAA 3",
+        75,
+    ),
+    // Signals of the equipment.
+    (b"S", 1),
+    (b"S ", 2),
+    (b"S x", 2),
+    (b"S do", 4),
+    (b"S dome", 4),
+    (b"S placed", 8),
+    (b"S placed ", 9),
+    (b"S placed 1", 10),
+    (b"S placed 1 ", 11),
+    (b"S placed 1  3333333333333333333333333", 11),
+    (b"S placed 1 C", 12),
+    (b"S placed 1 C ", 13),
+    (b"S placed 1 C 336", 15),
+    (b"S placed 1 C 333333333333333333333333", 37),
+    (b"S placed 1 C 33333333333333333333333333", 38),
+    (b"S removed", 9),
+    (b"S remove 1", 8),
+    (b"S removed 1 ", 11),
+    (b"S removed 256", 12),
+    (b"S done 3", 8),
+    (b"S done 3 ", 9),
+    (b"S done 3 01", 10),
+    (b"S done 3 18446744073709551616", 28),
+    (b"S failed 3 x", 11),
+    (b"S down 1 2", 8),
+];
+
+// Lines that are refused of a script too.
+const REFUSED_ANYWHERE: [(&[u8], u64); 7] = [
+    (b"W", 1),
+    (b"W ", 2),
+    (b"W  1", 2),
+    (b"W 1 ", 3),
+    (b"W 01", 3),
+    (b"W 256", 4),
+    (b"P", 0),
+];
 
 // Where `feed` refuses the line; none where it takes it.
 fn refused(rt: &HostRuntime, line: &[u8]) -> Option<u64> {
@@ -24,146 +156,12 @@ fn refused_anywhere(rt: &HostRuntime, line: &[u8]) -> Option<u64> {
 }
 
 #[test]
-fn a_line_of_the_link_or_the_clock_is_refused_at_its_first_false_byte(rt: HostRuntime) {
-    let lines: [(&[u8], u64); 24] = [
-        (b" ", 0),
-        (b"X", 0),
-        (b"l+", 0),
-        (b"P", 0),
-        (b"L", 1),
-        (b"LX", 1),
-        (b"L+ ", 2),
-        (b"L-\r", 2),
-        (b"H", 1),
-        (b"H ", 2),
-        (b"H  00", 2),
-        (b"H 0", 3),
-        (b"H 0G", 3),
-        (b"H 000", 5),
-        (b"H 00 0A", 4),
-        (b"T", 1),
-        (b"T ", 2),
-        (b"T -1", 2),
-        (b"T  1", 2),
-        (b"T 01", 3),
-        (b"T 1 ", 3),
-        (b"T 1x", 3),
-        (b"T 25245561600000", 15),
-        (b"T 252455615999990", 16),
-    ];
-    for (line, place) in lines {
-        assert_eq!(rt; refused(&rt, line), Some(place));
+fn a_line_is_refused_at_its_first_false_byte(rt: HostRuntime) {
+    for (line, place) in REFUSED {
+        assert_eq!(rt; refused(&rt, line), Some(place), "at {line:?}");
     }
-}
-
-#[test]
-fn words_of_an_operator_are_refused_at_their_first_false_byte(rt: HostRuntime) {
-    let lines: [(&[u8], u64); 27] = [
-        (b"O", 1),
-        (b"O ", 2),
-        (b"O  quit", 2),
-        (b"O Quit", 2),
-        (b"O qui", 5),
-        (b"O quit ", 6),
-        (b"O en", 4),
-        (b"O enabled", 8),
-        (b"O lo", 4),
-        (b"O lox", 4),
-        (b"O pause J1", 3),
-        (b"O service", 9),
-        (b"O service ", 10),
-        (b"O service x in", 10),
-        (b"O service 01 in", 11),
-        (b"O service 256 in", 12),
-        (b"O service 1", 11),
-        (b"O service 1 ", 12),
-        (b"O service 1  in", 12),
-        (b"O service 1 on", 13),
-        (b"O service 1 inn", 14),
-        (b"O access", 8),
-        (b"O access 1 automatic", 15),
-        (b"O access 1 ma", 13),
-        (b"O up ", 5),
-        (b"O up 0x1", 6),
-        (b"O clear 4294967296", 17),
-    ];
-    for (line, place) in lines {
-        assert_eq!(rt; refused(&rt, line), Some(place));
-    }
-}
-
-#[test]
-fn names_are_refused_at_their_first_false_byte(rt: HostRuntime) {
-    let lines: [(&[u8], u64); 19] = [
-        (b"O pj", 4),
-        (b"O pj J1", 5),
-        (b"O pj st", 7),
-        (b"O pj sto J1", 8),
-        (b"O pj start", 10),
-        (b"O pj start ", 11),
-        (b"O pj start  J1", 11),
-        (b"O pj stop J1 ", 12),
-        (b"O cj 8", 6),
-        (b"O cj 8 ", 7),
-        (b"O cj 300 CJ1", 7),
-        (b"O lost ", 7),
-        (b"O lost CAR", 10),
-        (b"O lost CA 1", 9),
-        (b"O lost CAR\xff", 10),
-        // Names of 65 and 68 bytes.
-        (
-            b"O pj start AAAAAAAAAAAAAAAAAAAAAAAAAAAAAAAAAAAAAAAAAAAAAAAAAAAAAAAAAAAAAAAAA",
-            75,
-        ),
-        (
-            b"O cj 1 AAAAAAAAAAAAAAAAAAAAAAAAAAAAAAAAAAAAAAAAAAAAAAAAAAAAAAAAAAAAAAAAA",
-            71,
-        ),
-        (
-            b"O lost AAAAAAAAAAAAAAAAAAAAAAAAAAAAAAAAAAAAAAAAAAAAAAAAAAAAAAAAAAAAAAAAAAAA",
-            74,
-        ),
-        (
-            b"S placed 1 AAAAAAAAAAAAAAAAAAAAAAAAAAAAAAAAAAAAAAAAAAAAAAAAAAAAAAAAAAAAAAAAA 3",
-            75,
-        ),
-    ];
-    for (line, place) in lines {
-        assert_eq!(rt; refused(&rt, line), Some(place));
-    }
-}
-
-#[test]
-fn signals_are_refused_at_their_first_false_byte(rt: HostRuntime) {
-    let lines: [(&[u8], u64); 25] = [
-        (b"S", 1),
-        (b"S ", 2),
-        (b"S x", 2),
-        (b"S do", 4),
-        (b"S dome", 4),
-        (b"S placed", 8),
-        (b"S placed ", 9),
-        (b"S placed 1", 10),
-        (b"S placed 1 ", 11),
-        (b"S placed 1  3333333333333333333333333", 11),
-        (b"S placed 1 C", 12),
-        (b"S placed 1 C ", 13),
-        (b"S placed 1 C 336", 15),
-        (b"S placed 1 C 333333333333333333333333", 37),
-        (b"S placed 1 C 33333333333333333333333333", 38),
-        (b"S removed", 9),
-        (b"S remove 1", 8),
-        (b"S removed 1 ", 11),
-        (b"S removed 256", 12),
-        (b"S done 3", 8),
-        (b"S done 3 ", 9),
-        (b"S done 3 01", 10),
-        (b"S done 3 18446744073709551616", 28),
-        (b"S failed 3 x", 11),
-        (b"S down 1 2", 8),
-    ];
-    for (line, place) in lines {
-        assert_eq!(rt; refused(&rt, line), Some(place));
+    for (line, place) in REFUSED_ANYWHERE {
+        assert_eq!(rt; refused_anywhere(&rt, line), Some(place), "at {line:?}");
     }
 }
 
@@ -177,18 +175,6 @@ fn a_watch_stands_in_a_script_only(rt: HostRuntime) {
         )
     );
     assert_eq!(rt; refused(&rt, b"W 1"), Some(0));
-    let lines: [(&[u8], u64); 7] = [
-        (b"W", 1),
-        (b"W ", 2),
-        (b"W  1", 2),
-        (b"W 1 ", 3),
-        (b"W 01", 3),
-        (b"W 256", 4),
-        (b"P", 0),
-    ];
-    for (line, place) in lines {
-        assert_eq!(rt; refused_anywhere(&rt, line), Some(place));
-    }
 }
 
 #[test]
@@ -359,50 +345,29 @@ fn a_line_of_six_hundred_thousand_bytes_is_read_and_no_longer_one(rt: HostRuntim
     assert_eq!(rt; refused_anywhere(&rt, &line), Some(600_000));
 }
 
-// The line as it is printed, behind a byte that stood there.
-fn printed(rt: &HostRuntime, line: &OutLine) -> Result<Vec<u8>, NoMemory> {
-    let mut out = Vec::from_slice(rt.alloc(), b"|")?;
-    print_out_line(rt.alloc(), line, &mut out)?;
-    Ok(out)
+// Whether the line is printed so, behind a byte that stood there.
+fn is_printed(alloc: Global, line: &OutLine, want: &[u8]) -> Result<bool, NoMemory> {
+    let mut out = Vec::from_slice(alloc, b"|")?;
+    print_out_line(alloc, line, &mut out)?;
+    Ok(out.as_slice() == want)
 }
 
 #[test]
-fn lines_of_sessions_frames_and_operators_are_printed(rt: HostRuntime) {
-    assert_eq!(rt;
-        printed(&rt, &OutLine::Up(18_446_744_073_709_551_615))
-            .expect(&rt, "memory")
-            .as_slice(),
-        b"|+ 18446744073709551615\n".as_slice()
-    );
-    assert_eq!(rt;
-        printed(&rt, &OutLine::Ended(12, SessionCause::ShortLength))
-            .expect(&rt, "memory")
-            .as_slice(),
-        b"|- 12 ShortLength\n".as_slice()
-    );
-    let frame = vec![in rt.alloc(); 10, 255].expect(&rt, "memory");
-    assert_eq!(rt;
-        printed(&rt, &OutLine::Frame(Bytes::from_vec(frame)))
-            .expect(&rt, "memory")
-            .as_slice(),
-        b"|> 0AFF\n".as_slice()
-    );
-    assert_eq!(rt;
-        printed(&rt, &OutLine::Oper(true))
-            .expect(&rt, "memory")
-            .as_slice(),
-        b"|= ok\n".as_slice()
-    );
-    assert_eq!(rt;
-        printed(&rt, &OutLine::Oper(false))
-            .expect(&rt, "memory")
-            .as_slice(),
-        b"|= no\n".as_slice()
-    );
+fn lines_of_sessions_frames_and_operators_are_printed(rt: HostRuntime) -> Result<(), Fail> {
+    let alloc = rt.alloc();
+    let frame = Bytes::from_vec(vec![in alloc; 10, 255]?);
+    assert!(rt; is_printed(alloc, &OutLine::Frame(frame), b"|> 0AFF\n")?);
+    let up = OutLine::Up(18_446_744_073_709_551_615);
+    assert!(rt; is_printed(alloc, &up, b"|+ 18446744073709551615\n")?);
+    let ended = OutLine::Ended(12, SessionCause::ShortLength);
+    assert!(rt; is_printed(alloc, &ended, b"|- 12 ShortLength\n")?);
+    assert!(rt; is_printed(alloc, &OutLine::Oper(true), b"|= ok\n")?);
+    assert!(rt; is_printed(alloc, &OutLine::Oper(false), b"|= no\n")?);
+    Ok(())
 }
 
 #[test]
-fn commands_are_printed(rt: HostRuntime) {
+fn commands_are_printed(rt: HostRuntime) -> Result<(), Fail> {
     let sub = SubstrateId::read(Text80::read(b"CAR01.02").unwrap()).unwrap();
     let recipe = Text80::read(b"R1").unwrap();
     let tasks: [(Task, &[u8]); 7] = [
@@ -447,25 +412,31 @@ fn commands_are_printed(rt: HostRuntime) {
             b"|! 3 7 process CAR01.02 R1\n",
         ),
     ];
-    for (task, line) in tasks {
-        let command = Command {
-            number: CmdNo(7),
-            task,
-        };
-        assert_eq!(rt;
-            printed(&rt, &OutLine::Command(ModuleId(3), command))
-                .expect(&rt, "memory")
-                .as_slice(),
-            line
-        );
+    for (task, want) in tasks {
+        let number = CmdNo(7);
+        let line = OutLine::Command(ModuleId(3), Command { number, task });
+        assert!(rt; is_printed(rt.alloc(), &line, want)?, "at {want:?}");
     }
+    Ok(())
 }
 
+// The line of a frame of so many bytes, each 171, behind a byte that stood there.
+fn frame_line(alloc: Global, count: usize) -> Result<Vec<u8>, NoMemory> {
+    let mut line = Vec::from_slice(alloc, b"|> ")?;
+    for _ in 0..count {
+        line.extend_from_slice(b"AB")?;
+    }
+    line.push(b'\n')?;
+    Ok(line)
+}
+
+// A frame with the greatest text: 14 bytes stand before its 262,144.
 #[test]
-fn a_long_frame_is_printed(rt: HostRuntime) {
-    let frame = vec![in rt.alloc(); 171; 262_158].expect(&rt, "memory");
-    let line = printed(&rt, &OutLine::Frame(Bytes::from_vec(frame))).expect(&rt, "memory");
-    assert_eq!(rt; line.len(), 524_320);
-    assert_eq!(rt; line[524_318], b'B');
-    assert_eq!(rt; line[524_319], b'\n');
+fn a_long_frame_is_printed(rt: HostRuntime) -> Result<(), Fail> {
+    let alloc = rt.alloc();
+    let frame = OutLine::Frame(Bytes::from_vec(vec![in alloc; 171; 262_158]?));
+    let want = frame_line(alloc, 262_158)?;
+    assert_eq!(rt; want.len(), 524_320);
+    assert!(rt; is_printed(alloc, &frame, want.as_slice())?);
+    Ok(())
 }

@@ -1,0 +1,538 @@
+//! Whole runs: lines in, lines out (`top_calls`).
+
+ghost use Rattle.std.specs.Prelude.{◌<◌};
+
+use gem_ids::Text80;
+use outside::{Failed, MemSink, MemSource, Sink, Source};
+use std::alloc::Global;
+use std::process::Abort;
+use std::test::Fail;
+use tool_events::SessionCause;
+use top_calls::{Cause, Ended, SessionNote, feed, feed_config, known_config};
+
+const KNOWN: &[u8] = b"communication = \"communicating\"\n";
+
+// A link that is up and selected, and the lines that it prints.
+const SELECTED: &[u8] = b"L+\nH 0000000AFFFF0000000100000001\n";
+
+const SELECTED_OUT: &[u8] = b"+ 1\n> 0000000AFFFF0000000200000001\n";
+
+// What each shows, lines, and all that they print. The end of a session ends communication, and the tool asks for it by
+// S1F13 when the next link is selected.
+const CONVERSATIONS: [(&str, &[u8], &[u8]); 11] = [
+    ("a select request is answered", SELECTED, SELECTED_OUT),
+    (
+        "a frame may come byte by byte",
+        b"L+\nH 00\nH 00\nH 00\nH 0A\nH FF\nH FF\nH 00\nH 00\nH 00\nH 01\nH 00\nH 00\nH 00\nH 01\n",
+        SELECTED_OUT,
+    ),
+    (
+        "the last line may lack its line feed",
+        b"L+\nH 0000000AFFFF0000000100000001",
+        SELECTED_OUT,
+    ),
+    ("nothing comes of nothing", b"", b""),
+    (
+        "comments and a loss without a session print nothing",
+        b"\n# a comment\n\nL-\n",
+        b"",
+    ),
+    ("a link comes up while one is up", b"L+\nL+\n", b"+ 1\n"),
+    (
+        "a short length ends the session, and later bytes wait for the next link",
+        b"L+\nH 00000009\nH 0000000AFFFF0000000100000001\nL+\nH 0000000AFFFF0000000100000001\n",
+        b"+ 1\n- 1 ShortLength\n+ 2\n> 0000000AFFFF0000000200000001\n> 0000001C0000810D0000000000010102410647454D3330304106312E302E3030\n",
+    ),
+    (
+        "data before select is rejected",
+        b"L+\nH 0000000A00008101000000000001\n",
+        b"+ 1\n> 0000000A00000004000700000001\n",
+    ),
+    (
+        "a link that is not selected in time ends",
+        b"L+\nT 999\nT 1000\n",
+        b"+ 1\n- 1 T7\n",
+    ),
+    (
+        "the last look at the clock may lack its line feed",
+        b"L+\nT 999\nT 1000",
+        b"+ 1\n- 1 T7\n",
+    ),
+    (
+        "a link that is lost in time does not end by T7",
+        b"L+\nT 999\nL-\nL+\nH 0000000AFFFF0000000100000001\n",
+        b"+ 1\n- 1 PeerEnd\n+ 2\n> 0000000AFFFF0000000200000001\n> 0000001C0000810D0000000000010102410647454D3330304106312E302E3030\n",
+    ),
+];
+
+// The same, of lines behind those of a link that is selected.
+const SELECTED_CONVERSATIONS: [(&str, &[u8], &[u8]); 10] = [
+    (
+        "a second select request has status one",
+        b"H 0000000AFFFF0000000100000002\n",
+        b"> 0000000AFFFF0001000200000002\n",
+    ),
+    (
+        "a linktest request is answered",
+        b"H 0000000AFFFF0000000500000007\n",
+        b"> 0000000AFFFF0000000600000007\n",
+    ),
+    (
+        "S1F1 is answered by model and revision where a reply is wanted",
+        b"H 0000000A00008101000000000002\nH 0000000A00000101000000000003\n",
+        b"> 0000001C000001020000000000020102410647454D3330304106312E302E3030\n",
+    ),
+    (
+        "a separate message ends the session and drops what is behind it",
+        b"H 0000000AFFFF00000009000000050000000AFFFF0000000500000006\nL-\n",
+        b"- 1 Separated\n",
+    ),
+    ("a link comes up while one is selected", b"L+\n", b""),
+    (
+        "a linktest response to nothing is rejected",
+        b"H 0000000AFFFF0000000600000003\n",
+        b"> 0000000AFFFF0603000700000003\n",
+    ),
+    (
+        "SType 11 is rejected",
+        b"H 0000000AFFFF0000000B00000004\n",
+        b"> 0000000AFFFF0B01000700000004\n",
+    ),
+    (
+        "PType 1 is rejected",
+        b"H 0000000AFFFF0000010100000005\n",
+        b"> 0000000AFFFF0102000700000005\n",
+    ),
+    (
+        "another device, an unknown stream and an unknown function are told, and S1F2 is not",
+        b"H 0000000A00018101000000000002\nH 0000000A00008301000000000003\nH 0000000A00008103000000000004\nH 0000000A00000102000000000005\n",
+        b"> 0000001600000901000000000001210A00018101000000000002\n> 0000001600000903000000000002210A00008301000000000003\n> 0000001600000905000000000003210A00008103000000000004\n",
+    ),
+    (
+        "a selected link does not end by T7",
+        b"T 25245561599999\n",
+        b"",
+    ),
+];
+
+fn joined(alloc: Global, front: &[u8], back: &[u8]) -> Result<Vec<u8>, Fail> {
+    let mut all = Vec::from_slice(alloc, front)?;
+    all.extend_from_slice(back)?;
+    Ok(all)
+}
+
+// A source of these bytes, whose reads of these numbers fail.
+fn source(alloc: Global, bytes: &[u8], fails: &[u64]) -> Result<MemSource, Fail> {
+    Ok(MemSource::new(
+        Vec::from_slice(alloc, bytes)?,
+        Vec::from_slice(alloc, fails)?,
+    ))
+}
+
+fn words(alloc: Global, words: &[&str]) -> Result<Vec<Text80>, Fail> {
+    let mut all = Vec::new(alloc);
+    for word in words {
+        all.push(Text80::read(word.as_bytes()).unwrap_or(Text80::empty()))?;
+    }
+    Ok(all)
+}
+
+// Runs `feed c` on these lines under the known configuration.
+fn run_lines<S: Source, K: Sink>(alloc: Global, input: &mut S, out: &mut K) -> Result<Ended, Fail> {
+    let mut config = source(alloc, KNOWN, &[])?;
+    let words = words(alloc, &["feed", "c"])?;
+    Ok(feed(alloc, &words, &mut config, input, out))
+}
+
+// Runs the lines, which come in pieces of so many bytes, and tells the status and all that was written.
+fn printed(alloc: Global, lines: &[u8], piece: usize) -> Result<(u8, Vec<u8>), Fail>
+    requires { 0 < piece }
+{
+    let mut input = source(alloc, lines, &[])?.with_piece(piece);
+    let mut out = MemSink::new(alloc, Vec::new(alloc));
+    let ended = run_lines(alloc, &mut input, &mut out)?;
+    Ok((ended.status, out.into_bytes()))
+}
+
+#[test]
+fn lines_print_the_same_however_the_input_is_cut(rt: HostRuntime) -> Result<(), Fail> {
+    let alloc = rt.alloc();
+    for piece in [4096, 1, 2, 3, 4, 5, 6, 7, 8] {
+        for (shows, lines, want) in CONVERSATIONS {
+            let (status, out) = printed(alloc, lines, piece)?;
+            assert_eq!(rt; status, 0, "{shows}, in pieces of {piece}");
+            assert!(rt; out.as_slice() == want, "{shows}, in pieces of {piece}");
+        }
+    }
+    Ok(())
+}
+
+#[test]
+fn a_selected_link_prints_the_same_however_the_input_is_cut(rt: HostRuntime) -> Result<(), Fail> {
+    let alloc = rt.alloc();
+    for piece in [4096, 1, 3, 7] {
+        for (shows, lines, want) in SELECTED_CONVERSATIONS {
+            let lines = joined(alloc, SELECTED, lines)?;
+            let want = joined(alloc, SELECTED_OUT, want)?;
+            let (status, out) = printed(alloc, &lines, piece)?;
+            assert_eq!(rt; status, 0, "{shows}, in pieces of {piece}");
+            assert!(rt;
+                out.as_slice() == want.as_slice(),
+                "{shows}, in pieces of {piece}"
+            );
+        }
+    }
+    Ok(())
+}
+
+// A selected link, and S1F1 with the W-bit under the system bytes 2 to the last.
+fn asked(alloc: Global, last: u32) -> Result<String, Fail> {
+    let mut lines = String::new(alloc);
+    lines.push_str("L+\nH 0000000AFFFF0000000100000001\n")?;
+    for system in 2..=last {
+        let line = format!(in alloc; "H 0000000A000081010000{system:08X}\n")?;
+        lines.push_str(line.as_str())?;
+    }
+    Ok(lines)
+}
+
+// What they print.
+fn answered(alloc: Global, last: u32) -> Result<String, Fail> {
+    let mut lines = String::new(alloc);
+    lines.push_str("+ 1\n> 0000000AFFFF0000000200000001\n")?;
+    for system in 2..=last {
+        let line = format!(in alloc;
+            "> 0000001C000001020000{system:08X}0102410647454D3330304106312E302E3030\n"
+        )?;
+        lines.push_str(line.as_str())?;
+    }
+    Ok(lines)
+}
+
+#[test]
+fn hundreds_of_lines_are_answered_and_recorded(rt: HostRuntime) -> Result<(), Fail> {
+    let alloc = rt.alloc();
+    let lines = asked(alloc, 401)?;
+    let want = answered(alloc, 401)?;
+    for piece in [4096, 7] {
+        let mut input = source(alloc, lines.as_bytes(), &[])?.with_piece(piece);
+        let mut out = MemSink::new(alloc, Vec::new(alloc));
+        let ended = feed_config(alloc, &known_config(), &mut input, &mut out);
+        assert_eq!(rt; ended.status, 0);
+        assert!(rt; out.as_bytes() == want.as_bytes(), "in pieces of {piece}");
+        // The link, and for the select request and each S1F1 the message and the frame that was taken.
+        assert_eq!(rt; ended.history.as_slice().len(), 1 + 2 * 401);
+    }
+    Ok(())
+}
+
+#[test]
+fn a_text_that_is_too_long_is_told_and_the_next_message_is_answered(
+    rt: HostRuntime,
+) -> Result<(), Fail> {
+    let alloc = rt.alloc();
+    let front = joined(alloc, SELECTED, b"H 0004000B0000810300000000000A")?;
+    let lines = joined(alloc, &front, &vec![in alloc; b'0'; 524_290]?)?;
+    let lines = joined(alloc, &lines, b"\nH 0000000A00008101000000000002\n")?;
+    let s9f11 = b"> 000000160000090B000000000001210A0000810300000000000A\n".as_slice();
+    let s1f2 = b"> 0000001C000001020000000000020102410647454D3330304106312E302E3030\n".as_slice();
+    let want = joined(alloc, SELECTED_OUT, s9f11)?;
+    let want = joined(alloc, &want, s1f2)?;
+    let (status, out) = printed(alloc, &lines, 4096)?;
+    assert_eq!(rt; status, 0);
+    assert_eq!(rt; out.as_slice(), want.as_slice());
+    Ok(())
+}
+
+#[test]
+fn a_history_that_is_full_ends_the_run(rt: HostRuntime) -> Result<(), Fail> {
+    let alloc = rt.alloc();
+    let mut config = known_config();
+    config.max_entries = 3;
+    let mut input = source(alloc, b"L+\nL+\nL+\nL+\n", &[])?;
+    let mut out = MemSink::new(alloc, Vec::new(alloc));
+    let ended = feed_config(alloc, &config, &mut input, &mut out);
+    assert_eq!(rt; ended.cause, Cause::Full(3, 0, 12));
+    assert_eq!(rt; ended.status, 5);
+    assert_eq!(rt; ended.history.as_slice().len(), 3);
+    assert_eq!(rt; out.as_bytes(), b"+ 1\n".as_slice());
+    Ok(())
+}
+
+#[test]
+fn a_history_takes_so_much_text(rt: HostRuntime) -> Result<(), Fail> {
+    let alloc = rt.alloc();
+    let mut config = known_config();
+    config.max_bytes = 5;
+    let five = b"H 0000000F000001010000000000090102030405\n".as_slice();
+    let one = b"H 0000000B0000010100000000000901\n".as_slice();
+    let lines = joined(alloc, SELECTED, five)?;
+    let lines = joined(alloc, &lines, one)?;
+    let count = lines.len() as u64;
+    let mut input = source(alloc, &lines, &[])?;
+    let mut out = MemSink::new(alloc, Vec::new(alloc));
+    let ended = feed_config(alloc, &config, &mut input, &mut out);
+    assert_eq!(rt; ended.cause, Cause::Full(4, 5, count));
+    assert_eq!(rt; out.as_bytes(), SELECTED_OUT);
+    Ok(())
+}
+
+// The note of a session.
+fn note(session: u64, read: u64, written: u64, cause: SessionCause) -> SessionNote {
+    SessionNote {
+        session,
+        read,
+        written,
+        cause,
+    }
+}
+
+// A frame without text has 14 bytes, and so has its select response.
+#[test]
+fn each_session_has_its_note(rt: HostRuntime) -> Result<(), Fail> {
+    let alloc = rt.alloc();
+    let more = b"H 00\nL-\nH 0000\nL+\nL+\nH 00000009\nL+\nH 000000\nH 0A\n".as_slice();
+    let lines = joined(alloc, SELECTED, more)?;
+    let mut input = source(alloc, &lines, &[])?;
+    let mut out = MemSink::new(alloc, Vec::new(alloc));
+    let ended = run_lines(alloc, &mut input, &mut out)?;
+    assert_eq!(rt; ended.status, 0);
+    let notes = [
+        note(1, 15, 14, SessionCause::PeerEnd),
+        note(2, 4, 0, SessionCause::ShortLength),
+        note(3, 4, 0, SessionCause::Stopped),
+    ];
+    assert_eq!(rt; ended.sessions.as_slice(), notes.as_slice());
+    Ok(())
+}
+
+// The session is up and selected where the run stops, and these bytes came in it.
+fn stops_in_session_1(rt: &impl Abort, ended: &Ended, status: u8, read: u64, written: u64) {
+    assert_eq!(rt; ended.status, status);
+    let notes = [note(1, read, written, SessionCause::Stopped)];
+    assert_eq!(rt; ended.sessions.as_slice(), notes.as_slice());
+}
+
+#[test]
+fn the_notes_count_up_to_the_line_in_which_the_run_stops(rt: HostRuntime) -> Result<(), Fail> {
+    let alloc = rt.alloc();
+    let lines = joined(alloc, SELECTED, b"H 0000\nH 00000\nH 00\n")?;
+
+    let mut input = source(alloc, &lines, &[])?;
+    let mut out = MemSink::new(alloc, Vec::new(alloc));
+    let refused = run_lines(alloc, &mut input, &mut out)?;
+    stops_in_session_1(&rt, &refused, 6, 16, 14);
+
+    let mut config = known_config();
+    config.max_entries = 2;
+    let mut input = source(alloc, &lines, &[])?;
+    let mut out = MemSink::new(alloc, Vec::new(alloc));
+    let full = feed_config(alloc, &config, &mut input, &mut out);
+    stops_in_session_1(&rt, &full, 5, 14, 0);
+
+    let mut input = source(alloc, &lines, &[])?;
+    let mut out = MemSink::new(alloc, Vec::from_slice(alloc, &[2])?);
+    let failed = run_lines(alloc, &mut input, &mut out)?;
+    stops_in_session_1(&rt, &failed, 4, 14, 14);
+
+    let mut input = source(alloc, &lines, &[3])?.with_piece(20);
+    let mut out = MemSink::new(alloc, Vec::new(alloc));
+    let unread = run_lines(alloc, &mut input, &mut out)?;
+    stops_in_session_1(&rt, &unread, 3, 14, 14);
+    Ok(())
+}
+
+#[test]
+fn a_line_outside_the_grammar_is_told_by_its_number_and_place(rt: HostRuntime) -> Result<(), Fail> {
+    let alloc = rt.alloc();
+    for (line, place) in [
+        (b"H 0A1".as_slice(), 5),
+        (b"H ".as_slice(), 2),
+        (b"H GG".as_slice(), 2),
+        (b"L".as_slice(), 1),
+        (b" L+".as_slice(), 0),
+        (b"T".as_slice(), 1),
+        (b"T ".as_slice(), 2),
+        (b"T 01".as_slice(), 3),
+        (b"T 1a".as_slice(), 3),
+        (b"T 25245561600000".as_slice(), 15),
+        (b"T 99999999999999999999".as_slice(), 15),
+    ] {
+        let lines = joined(alloc, SELECTED, line)?;
+        let mut input = source(alloc, &lines, &[])?;
+        let mut out = MemSink::new(alloc, Vec::new(alloc));
+        let ended = run_lines(alloc, &mut input, &mut out)?;
+        assert_eq!(rt; ended.cause, Cause::Line(3, place));
+        assert_eq!(rt; ended.status, 6);
+        assert_eq!(rt; out.as_bytes(), SELECTED_OUT);
+    }
+    Ok(())
+}
+
+#[test]
+fn a_line_of_over_six_hundred_thousand_bytes_is_refused(rt: HostRuntime) -> Result<(), Fail> {
+    let alloc = rt.alloc();
+    let mut line = vec![in alloc; b'#'; 600_000]?;
+    line.push(b'\n')?;
+    let long = vec![in alloc; b'#'; 600_001]?;
+    for (text, want) in [(line, 0), (long, 6)] {
+        let (status, out) = printed(alloc, &text, 4096)?;
+        assert_eq!(rt; status, want);
+        assert_eq!(rt; out.len(), 0);
+    }
+    Ok(())
+}
+
+#[test]
+fn words_and_configurations_are_refused(rt: HostRuntime) -> Result<(), Fail> {
+    let alloc = rt.alloc();
+    for (typed, text, cause, status) in [
+        ([].as_slice(), KNOWN, Cause::Words(0), 1),
+        (["feed"].as_slice(), KNOWN, Cause::Words(1), 1),
+        (["feed", ""].as_slice(), KNOWN, Cause::Words(1), 1),
+        (["feed", "-c"].as_slice(), KNOWN, Cause::Words(1), 1),
+        (["fed", "c"].as_slice(), KNOWN, Cause::Words(0), 1),
+        (["feed", "c", "d"].as_slice(), KNOWN, Cause::Words(2), 1),
+        (
+            ["feed", "c"].as_slice(),
+            b"".as_slice(),
+            Cause::Config(0, Text80::empty()),
+            2,
+        ),
+        (
+            ["feed", "c"].as_slice(),
+            b"chambers = 3\n".as_slice(),
+            Cause::Config(0, Text80::empty()),
+            2,
+        ),
+    ] {
+        let typed = words(alloc, typed)?;
+        let mut config = source(alloc, text, &[])?;
+        let mut input = source(alloc, SELECTED, &[])?;
+        let mut out = MemSink::new(alloc, Vec::new(alloc));
+        let ended = feed(alloc, &typed, &mut config, &mut input, &mut out);
+        assert_eq!(rt; ended.cause, cause);
+        assert_eq!(rt; ended.status, status);
+        assert_eq!(rt; ended.sessions.as_slice().len(), 0);
+        assert_eq!(rt; out.as_bytes().len(), 0);
+    }
+    Ok(())
+}
+
+// Lines, the read that fails, the bytes of a read at most, and what is written then.
+#[test]
+fn a_read_that_fails_ends_the_run_behind_the_whole_lines(rt: HostRuntime) -> Result<(), Fail> {
+    let alloc = rt.alloc();
+    let late = b"L+\nT 10000\n".as_slice();
+    let up = b"+ 1\n".as_slice();
+    for (lines, fails, piece, printed) in [
+        (SELECTED, 1, 4096, b"".as_slice()),
+        (SELECTED, 2, 4, up),
+        (SELECTED, 2, 4096, SELECTED_OUT),
+        (SELECTED, 2, 30, up),
+        // What was read ends with `T`, `T `, `T 1000`, at which T7 would be due, and `T 10000` without its line feed.
+        (late, 2, 4, up),
+        (late, 2, 5, up),
+        (late, 2, 9, up),
+        (late, 2, 10, up),
+    ] {
+        let mut input = source(alloc, lines, &[fails])?.with_piece(piece);
+        let mut out = MemSink::new(alloc, Vec::new(alloc));
+        let ended = run_lines(alloc, &mut input, &mut out)?;
+        assert_eq!(rt; ended.cause, Cause::ReadFault);
+        assert_eq!(rt; ended.status, 3);
+        assert_eq!(rt; out.as_bytes(), printed, "at {fails} of {piece}");
+    }
+    let mut config = source(alloc, KNOWN, &[1])?;
+    let mut input = source(alloc, SELECTED, &[])?;
+    let mut out = MemSink::new(alloc, Vec::new(alloc));
+    let words = words(alloc, &["feed", "c"])?;
+    let ended = feed(alloc, &words, &mut config, &mut input, &mut out);
+    assert_eq!(rt; ended.cause, Cause::ReadFault);
+    assert_eq!(rt; out.as_bytes().len(), 0);
+    Ok(())
+}
+
+#[test]
+fn a_sink_that_fails_or_takes_nothing_ends_the_run(rt: HostRuntime) -> Result<(), Fail> {
+    let alloc = rt.alloc();
+    for (fails, printed) in [(1, b"".as_slice()), (2, b"+ 1\n".as_slice())] {
+        let mut input = source(alloc, SELECTED, &[])?;
+        let mut out = MemSink::new(alloc, Vec::from_slice(alloc, &[fails])?);
+        let ended = run_lines(alloc, &mut input, &mut out)?;
+        assert_eq!(rt; ended.cause, Cause::WriteFault);
+        assert_eq!(rt; ended.status, 4);
+        assert_eq!(rt; out.as_bytes(), printed);
+    }
+    for limit in [0, 3, 4, 10] {
+        let mut input = source(alloc, SELECTED, &[])?;
+        let mut out = MemSink::new(alloc, Vec::new(alloc)).with_limit(limit);
+        let ended = run_lines(alloc, &mut input, &mut out)?;
+        assert_eq!(rt; ended.cause, Cause::WriteFault);
+        assert_eq!(rt; Some(out.as_bytes()), SELECTED_OUT.get(..limit));
+    }
+    Ok(())
+}
+
+// A sink of a test's own that takes one byte at a time. A write fails where there is no memory.
+#[derive(Drop)]
+struct Narrow {
+    taken: Vec<u8>,
+    faults: u64,
+}
+
+impl Sink for Narrow {
+    ghost use Rattle.std.specs.Prelude.{None};
+
+    ghost held = { λ _. None };
+
+    ghost faults = { λ s. s.faults };
+
+    ghost refusals = { λ _. 0 };
+
+    fn write(&mut self, bytes: &[u8]) -> Result<usize, Failed> {
+        if bytes.is_empty() {
+            return Ok(0);
+        }
+        match self.taken.push(bytes[0]) {
+            Ok(()) => Ok(1),
+            Err(_) => {
+                self.faults = self.faults.saturating_add(1);
+                Err(Failed)
+            }
+        }
+    }
+}
+
+#[test]
+fn a_sink_that_takes_a_byte_at_a_time_gets_all(rt: HostRuntime) -> Result<(), Fail> {
+    let alloc = rt.alloc();
+    let mut input = source(alloc, SELECTED, &[])?;
+    let mut out = Narrow {
+        taken: Vec::new(alloc),
+        faults: 0,
+    };
+    let ended = run_lines(alloc, &mut input, &mut out)?;
+    assert_eq!(rt; ended.status, 0);
+    assert_eq!(rt; out.taken.as_slice(), SELECTED_OUT);
+    Ok(())
+}
+
+#[test]
+fn each_cause_has_its_text(rt: HostRuntime) -> Result<(), Fail> {
+    let alloc = rt.alloc();
+    for (cause, text) in [
+        (Cause::Words(1), "words at 1"),
+        (Cause::Config(0, Text80::empty()), "config rule 0 key "),
+        (Cause::ReadFault, "read fault"),
+        (Cause::WriteFault, "write fault"),
+        (Cause::Full(40, 0, 500), "full 40 0 500"),
+        (Cause::Line(3, 5), "line 3 at 5"),
+        (Cause::NoMemory, "no memory"),
+    ] {
+        let told = cause.text(alloc)?.ok_or("a text")?;
+        assert_eq!(rt; told.as_str(), text);
+    }
+    assert_eq!(rt; Cause::Done.text(alloc)?.is_none(), true);
+    Ok(())
+}

@@ -1,5 +1,5 @@
 -- Without a session, a look at the clock and an operator's command bring none.
-use Rattle.std.proofs.Common.{◌≡◌, ℕ, Bool, true, false, if◌then◌else◌, Option, Some, None, option_map, unwrap_or, refl, sym, ◌∙◌, ap, subst}
+use Rattle.std.proofs.Common.{◌≡◌, ℕ, Bool, true, false, Option, Some, None, option_map, unwrap_or, refl, ◌∙◌, ap, subst}
 use Rattle.hsms_link.specs.declared.deadlines.LinkDue.{LinkDue}
 use Rattle.tool_events.specs.declared.event.Event.{Event}
 use Rattle.tool_events.specs.declared.event.Event.TheVariants as event
@@ -9,10 +9,10 @@ use Rattle.tool_events.specs.declared.answer.Answer.TheVariants as answer
 use Rattle.gem_model.specs.State.{State, is_up, raised}
 use Rattle.gem_model.specs.Fire.{fires}
 use Rattle.gem_model.specs.Direct.{operator_rows}
-use Rattle.gem_model.specs.Due.{all_done, dues, dues_with, expired, timeouts, is_due}
+use Rattle.gem_model.specs.Due.{all_done, dues_with, expired, timeouts, is_due}
 use Rattle.gem_model.specs.Settle.{settled}
 use Rattle.gem_model.specs.Step.{Outcome, acts, after, answered, operated, quits, settles, step, step_from, switched, ticked}
-use Rattle.gem_model.specs.Feed.{Given, input, taken_all}
+use Rattle.gem_model.specs.Feed.{Given, input}
 use Rattle.gem_model.proofs.Same.{same_listed, same_settled, same_switched, same_then}
 use Rattle.gem_model.proofs.Steps.{due_up, ended_down, goes_all, goes_same, timeouts_end_none}
 use Rattle.gem_model.proofs.Taking.{take_down}

@@ -23,18 +23,17 @@ use Rattle.tool_events.specs.declared.event.SessionCause.TheVariants as cause
 use Rattle.tool_events.specs.declared.event.SessionEnd.{SessionEnd}
 use Rattle.tool_events.specs.declared.answer.Answer.{Answer}
 use Rattle.tool_events.specs.declared.answer.Answer.TheVariants as answer
-use Rattle.tool_events.specs.declared.config.Config.{Config}
 use Rattle.transactions.specs.declared.transaction.Open.{Open}
 use Rattle.gem_model.specs.State.{State, is_up, is_session_up, raised, without_session}
 use Rattle.gem_model.specs.Fire.{fires}
 use Rattle.gem_model.specs.Direct.{session_end_rows, operator_rows}
 use Rattle.gem_model.specs.Verdict.{header_of}
 use Rattle.gem_model.specs.Act.{session_ended}
-use Rattle.gem_model.specs.Due.{Due, EndOfSession, Linktest, Timeout, dues, dues_with, timeouts, expired, expired_from, link_times, is_due, done, all_done, asks_linktest, timed_out}
+use Rattle.gem_model.specs.Due.{Due, EndOfSession, Linktest, Timeout, dues, dues_with, timeouts, expired, link_times, is_due, all_done, asks_linktest, timed_out}
 use Rattle.gem_model.specs.Settle.{settled}
-use Rattle.gem_model.specs.Step.{Outcome, step, step_from, answered, ends, end_now, hosted, linked, taken, operated, is_accepted, switched, quits, ticked, ended_by, acts, settles}
+use Rattle.gem_model.specs.Step.{Outcome, step, step_from, answered, end_now, hosted, linked, taken, operated, is_accepted, switched, quits, ticked, ended_by, acts, settles}
 use Rattle.gem_model.proofs.Links.{link_after-keeps, due-down}
-use Rattle.gem_model.proofs.Tests.{went, either_way, none_some}
+use Rattle.gem_model.proofs.Tests.{went, none_some}
 use Rattle.gem_model.proofs.Same.{Same, same_at, same_then, same_listed, same_settled, same_data, same_timeout, same_switched}
 
 -- 1 for a session that is up

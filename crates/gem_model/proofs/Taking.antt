@@ -1,13 +1,12 @@
 -- Laws of taking the frames that wait.
-use Rattle.std.proofs.Common.{◌≡◌, ◌≢◌, ℕ, ◌<◌, ◌≤◌, Bool, true, false, if◌then◌else◌, List, [], ◌∷◌, length, map, Option, Some, None, option_map, refl, sym, ◌∙◌, ap, subst, arith}
+use Rattle.std.proofs.Common.{◌≡◌, ◌≢◌, ℕ, ◌<◌, Bool, true, false, if◌then◌else◌, List, [], ◌∷◌, length, map, Some, None, option_map, refl, sym, ◌∙◌, ap, arith}
 use Rattle.std.proofs.lemmas.Bool.{and_parts, eqb-true, true≢false}
 use Rattle.tool_events.specs.declared.event.Event.TheVariants.{Take}
 use Rattle.tool_events.specs.declared.answer.Answer.TheVariants as answer
 use Rattle.tool_events.specs.declared.entry.Entry.{Entry}
 use Rattle.gem_model.specs.State.{State, is_up, is_session_up, raised}
-use Rattle.gem_model.specs.Ready.{least}
 use Rattle.gem_model.specs.Settle.{settled}
-use Rattle.gem_model.specs.Step.{Outcome, step, after, taken, answered, settles}
+use Rattle.gem_model.specs.Step.{step, after, taken, answered, settles}
 use Rattle.gem_model.specs.Run.{after_all}
 use Rattle.gem_model.specs.Valid.{Valid}
 use Rattle.gem_model.specs.Feed.{Given, nothing, behind, taken_all, takes, entry_of}

@@ -2,7 +2,6 @@
 use Rattle.std.specs.Prelude.{ℕ, zero, suc, ◌+◌, Bool, true, false, ◌&&◌, ◌||◌, is_some, List, [], ◌∷◌, length, map, Option, Some, None}
 use Rattle.gem_states.specs.declared.communication.Comm.{Comm}
 use Rattle.gem_states.specs.declared.communication.Comm.TheVariants as comm
-use Rattle.hsms_frame.specs.declared.frame.Header.{Header}
 use Rattle.hsms_frame.specs.Spelling.{message_bytes}
 use Rattle.hsms_link.specs.declared.state.Ping.TheVariants.{Asked}
 use Rattle.hsms_link.specs.declared.deadlines.LinkTimes.{LinkTimes}

@@ -14,7 +14,6 @@ use Rattle.gem_model.specs.Lines.{lines_of}
 use Rattle.line_grammar.specs.declared.line.Line.{Line}
 use Rattle.line_grammar.specs.declared.line.Line.TheVariants as line
 use Rattle.line_grammar.specs.Reading.{feed_line_of}
-use Rattle.tool_events.specs.declared.event.OperCmd.{OperCmd}
 use Rattle.tool_events.specs.declared.event.OperCmd.TheVariants as oper
 
 -- the longest text of a message, in bytes (this tool's profile, limits)

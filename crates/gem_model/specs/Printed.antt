@@ -1,5 +1,5 @@
 -- What the tool prints for a history (this tool's profile, output lines).
-use Rattle.std.specs.Prelude.{ℕ, List, [], ◌∷◌, ◌++◌, Option, Some, None}
+use Rattle.std.specs.Prelude.{ℕ, List, [], ◌++◌, Option, Some, None}
 use Rattle.std.specs.List.{flat_map}
 use Rattle.line_grammar.specs.declared.out_line.OutLine.{OutLine}
 use Rattle.line_grammar.specs.declared.out_line.OutLine.TheVariants as out

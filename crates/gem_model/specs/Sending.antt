@@ -1,5 +1,5 @@
 -- What the tool sends, and how (SEMI E5, messages; this tool's profile, data messages and tool primaries).
-use Rattle.std.specs.Prelude.{ℕ, ◌+◌, ◌%◌, Bool, true, false, if◌then◌else◌, List, []}
+use Rattle.std.specs.Prelude.{ℕ, ◌+◌, ◌%◌, Bool, true, false, if◌then◌else◌, List}
 use Rattle.hsms_frame.specs.declared.frame.Header.{Header}
 use Rattle.hsms_frame.specs.Spelling.{header_bytes, message_bytes}
 use Rattle.secs_items.specs.Plain.{plain}

@@ -1,6 +1,6 @@
 -- What a data message of the host is answered, by the state before it (SEMI E5, streams and functions; this tool's
 -- profile, data messages).
-use Rattle.std.specs.Prelude.{ℕ, ◌+◌, ◌%◌, ◌==◌, Bool, true, false, not, ◌&&◌, ◌||◌, nat_le, if◌then◌else◌, List, [], ◌∷◌, Option, Some, None, is_some, unwrap_or, Result, Ok, Err}
+use Rattle.std.specs.Prelude.{ℕ, ◌%◌, ◌==◌, Bool, true, false, not, ◌&&◌, ◌||◌, nat_le, if◌then◌else◌, List, [], ◌∷◌, Option, Some, None, is_some, unwrap_or, Result, Ok, Err}
 use Rattle.gem_ids.specs.Civil.{moment_in, time_digits}
 use Rattle.gem_tables.specs.Table.{choose}
 use Rattle.gem_states.specs.declared.control.Control.{Control}
@@ -17,7 +17,6 @@ use Rattle.msgs_gem.specs.declared.primary.GemMsg.TheVariants as msg
 use Rattle.msgs_gem.specs.declared.reply.GemReply.{GemReply}
 use Rattle.msgs_gem.specs.declared.reply.GemReply.TheVariants as reply
 use Rattle.msgs_gem.specs.Primaries.{reading}
-use Rattle.tool_events.specs.declared.config.Config.{Config}
 use Rattle.transactions.specs.declared.transaction.Open.{Open}
 use Rattle.transactions.specs.declared.transaction.What.TheVariants as what
 use Rattle.transactions.specs.Endings.{answered, same_kind}

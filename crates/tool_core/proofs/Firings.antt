@@ -1,14 +1,10 @@
 -- Settling by automatic firings.
-use Rattle.std.proofs.Common.{◌≡◌, ℕ, ◌<◌, Bool, true, false, if◌then◌else◌, List, [], ◌∷◌, Option, Some, None, is_some, refl, sym, ◌∙◌, ap}
-use Rattle.gem_tables.specs.Table.{Firing, firing, starts, first_starting}
-use Rattle.gem_tables.specs.Communication.{communication_table}
-use Rattle.gem_tables.specs.Control.{control_table}
-use Rattle.gem_states.specs.Meaning.{comm_number, control_number}
+use Rattle.std.proofs.Common.{◌≡◌, ◌<◌, true, false, Option, Some, None, is_some, refl, sym}
+use Rattle.gem_tables.specs.Table.{Firing}
 use Rattle.gem_model.specs.State.{State}
 use Rattle.gem_model.specs.Ready.{least}
 use Rattle.gem_model.specs.Measure.{left}
 use Rattle.gem_model.specs.Settle.{settled}
-use Rattle.gem_model.specs.Fire.{fire_listed, fire_comm, fire_control, of_comm, of_control}
 use Rattle.gem_model.proofs.Settling.{settled_none, settled_some, left_falls}
 use Rattle.tool_core.specs.Firing.{fire_first}
 

@@ -1,11 +1,11 @@
 -- The digits of a moment are a text.
-use Rattle.std.proofs.Common.{◌≡◌, ℕ, ◌≤◌, ◌<◌, Bool, true, false, ◌&&◌, ◌==◌, List, length, Option, Some, None, ap, sym, ◌∙◌, arith, refl, if◌then◌else◌, get_or}
+use Rattle.std.proofs.Common.{◌≡◌, ℕ, ◌≤◌, ◌<◌, Bool, true, false, ◌&&◌, ◌==◌, List, length, Some, None, sym, ◌∙◌, arith, refl, if◌then◌else◌, get_or}
 use Rattle.std.proofs.lemmas.Bool.Decides.{nat_tests}
 use Rattle.std.proofs.lemmas.List.Folds.{list_all_at}
-use Rattle.std.specs.List.{All, list_all}
+use Rattle.std.specs.List.{list_all}
 use Rattle.gem_ids.specs.Texts.{IsText, IsPrintable}
 use Rattle.gem_ids.specs.Moments.{last_moment}
-use Rattle.gem_ids.specs.Civil.{time_digits, moment_in, is_digit, civil_in, is_civil, moment_at}
+use Rattle.gem_ids.specs.Civil.{time_digits, is_digit, civil_in, is_civil, moment_at}
 use Rattle.gem_ids.proofs.MomentTexts.{say_it}
 use Rattle.gem_model.specs.State.{State, clock_now}
 

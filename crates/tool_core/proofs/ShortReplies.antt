@@ -1,11 +1,10 @@
 -- Short replies can be sent, and their texts are short.
-use Rattle.std.proofs.Common.{◌≡◌, ℕ, ◌+◌, ◌*◌, ◌^◌, ◌<◌, ◌≤◌, List, [], ◌∷◌, ◌++◌, length, ap, sym, ◌∙◌, refl, arith, length-append, if◌then◌else◌, Bool, nat_lt, drop}
-use Rattle.std.specs.List.{All}
+use Rattle.std.proofs.Common.{◌≡◌, ℕ, ◌+◌, ◌*◌, ◌^◌, ◌<◌, ◌≤◌, List, [], ◌∷◌, ◌++◌, length, ap, arith, length-append, if◌then◌else◌, Bool, nat_lt, drop}
 use Rattle.std.proofs.lemmas.Bool.{lt-ltb}
 use Rattle.std.proofs.lemmas.List.{append-nil}
 use Rattle.std.specs.Int.{w16, w32, to_be_bytes}
-use Rattle.gem_ids.specs.Texts.{IsText, IsPrintable}
-use Rattle.secs_items.specs.Data.{Data, ascii, binary}
+use Rattle.gem_ids.specs.Texts.{IsText}
+use Rattle.secs_items.specs.Data.{ascii, binary}
 use Rattle.secs_items.specs.Plain.{plain, plain_head}
 use Rattle.msgs_gem.specs.declared.reply.GemReply.{GemReply}
 use Rattle.msgs_gem.specs.declared.reply.GemReply.TheVariants as reply

@@ -1,15 +1,13 @@
 -- T3 of one transaction after another.
-use Rattle.std.proofs.Common.{◌≡◌, ℕ, zero, suc, ◌<◌, ◌≤◌, Bool, true, false, if◌then◌else◌, List, [], ◌∷◌, length, map, Option, Some, None, refl, sym, ◌∙◌, ap, arith}
-use Rattle.std.specs.List.{find}
-use Rattle.gem_tables.specs.Table.{Firing, firing}
+use Rattle.std.proofs.Common.{◌≡◌, ℕ, zero, suc, ◌<◌, ◌≤◌, true, false, List, [], ◌∷◌, length, map, Option, Some, None, refl, sym, ◌∙◌, ap, arith}
+use Rattle.gem_tables.specs.Table.{firing}
 use Rattle.hsms_link.specs.declared.state.Phase.{Phase}
 use Rattle.hsms_link.specs.declared.state.Phase.TheVariants.{Down, NotSelected, Selected}
 use Rattle.hsms_link.specs.declared.state.Ping.{Ping}
 use Rattle.hsms_link.specs.declared.state.Ping.TheVariants.{Off, Quiet, Asked}
 use Rattle.hsms_link.specs.declared.state.LinkState.{LinkState}
 use Rattle.hsms_link.specs.declared.deadlines.LinkTimes.{LinkTimes}
-use Rattle.hsms_link.specs.declared.deadlines.LinkDue.{LinkDue}
-use Rattle.hsms_link.specs.declared.deadlines.LinkDue.TheVariants.{T7, T6, AskLinktest}
+use Rattle.hsms_link.specs.declared.deadlines.LinkDue.TheVariants.{AskLinktest}
 use Rattle.hsms_link.specs.Deadlines.{due_at}
 use Rattle.hsms_link.specs.Links as links
 use Rattle.transactions.specs.declared.transaction.Open.{Open}
@@ -19,7 +17,7 @@ use Rattle.transactions.specs.Table.{without, taken_out}
 use Rattle.transactions.specs.Endings.{first_expired, is_first_expired}
 use Rattle.transactions.proofs.Laws.{found-shorter}
 use Rattle.gem_model.specs.State.{State}
-use Rattle.gem_model.specs.Fire.{fire, fire_listed, fires, row_starts}
+use Rattle.gem_model.specs.Fire.{fire, fires, row_starts}
 use Rattle.gem_model.specs.Direct.{timeout_rows}
 use Rattle.gem_model.specs.Sending.{data_header, sends_stream9}
 use Rattle.gem_model.specs.Due.{Due, Timeout, expired, expired_from, timeouts, timed_out, all_done}

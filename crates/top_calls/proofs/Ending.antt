@@ -1,5 +1,5 @@
 -- What a run of feed did, from how its input ended.
-use Rattle.std.proofs.Common.{◌≡◌, ℕ, List, [], ◌++◌, Option, inl, inr, refl, sym, ap, subst, length, arith}
+use Rattle.std.proofs.Common.{◌≡◌, ℕ, List, [], Option, inl, inr, refl, sym, subst, length, arith}
 use Rattle.tool_events.specs.declared.entry.Entry.{Entry}
 use Rattle.tool_events.specs.declared.config.Config.{Config}
 use Rattle.gem_model.specs.State.{State, opening}

@@ -47,18 +47,26 @@ reading_at r given core' cutter' stream (Err why) core went max cut = tt
 
 -- a line that does nothing
 pub TreatsLine-skip : (r : Reading) (feeder : Feeder) (out : SinkView) → IsReading r feeder.core feeder.cutter → TreatsLine r (Ok line.Skip) feeder feeder out out (Ok tt)
-TreatsLine-skip r feeder out reading = (Ok tt, refl, record {
-  goes = subst (λ (g : State). Goes feeder.core feeder.core out out (nothing g) (Ok tt)) reading.state (Goes-nothing feeder.core out);
-  reading = record { state = reading.state; max = reading.max; cut = reading.cut };
-  counts = counts_skip r feeder.reads feeder.core feeder.core (Ok tt);
-})
+TreatsLine-skip r feeder out reading = (
+  Ok tt,
+  refl,
+  record {
+    goes = subst (λ (g : State). Goes feeder.core feeder.core out out (nothing g) (Ok tt)) reading.state (Goes-nothing feeder.core out);
+    reading = record { state = reading.state; max = reading.max; cut = reading.cut };
+    counts = counts_skip r feeder.reads feeder.core feeder.core (Ok tt);
+  },
+)
 
 pub TreatsLine-watch : (r : Reading) (port : PortNo) (feeder : Feeder) (out : SinkView) → IsReading r feeder.core feeder.cutter → TreatsLine r (Ok (line.Watch port)) feeder feeder out out (Ok tt)
-TreatsLine-watch r port feeder out reading = (Ok tt, refl, record {
-  goes = subst (λ (g : State). Goes feeder.core feeder.core out out (nothing g) (Ok tt)) reading.state (Goes-nothing feeder.core out);
-  reading = record { state = reading.state; max = reading.max; cut = reading.cut };
-  counts = counts_watch r port feeder.reads feeder.core feeder.core (Ok tt);
-})
+TreatsLine-watch r port feeder out reading = (
+  Ok tt,
+  refl,
+  record {
+    goes = subst (λ (g : State). Goes feeder.core feeder.core out out (nothing g) (Ok tt)) reading.state (Goes-nothing feeder.core out);
+    reading = record { state = reading.state; max = reading.max; cut = reading.cut };
+    counts = counts_watch r port feeder.reads feeder.core feeder.core (Ok tt);
+  },
+)
 
 -- a session that is up after it was up before it
 up_before : (g h : State) (up : Bool) → is_up g ≡ up → (is_up g ≡ false → is_up h ≡ false) → is_up h ≡ true → is_up g ≡ true

@@ -128,7 +128,7 @@ took_on number r line says is on old new out out' h = record {
   counts = h.counts;
   goes_on = λ lines.
       ap (told_behind old.core.history) (ap (λ (o : Result Line ℕ). line_told number r o (λ next. feed_lines (number + 1) next lines)) is
-        ∙ ap (λ (b : Bool). told_behind (line_given r says).entries (if b then told_quit number else feed_lines (number + 1) (reading_after r says) lines)) on)
+      ∙ ap (λ (b : Bool). told_behind (line_given r says).entries (if b then told_quit number else feed_lines (number + 1) (reading_after r says) lines)) on)
       ∙ behind_told old.core.history (line_given r says).entries (feed_lines (number + 1) (reading_after r says) lines) new.core.history h.goes.went.0;
   is = h.reading;
 }
@@ -198,7 +198,7 @@ quit_stops : (number : ℕ) (r : Reading) (says : Line) (more : Reading → Told
 quit_stops number r says more core core' quits went =
     ap (λ (b : Bool). told_behind core.history (told_behind (line_given r says).entries (if b then told_quit number else more (reading_after r says)))) quits
     ∙ ap (λ (es : List Entry). record { entries = es; stop = QuitAt number })
-      (ap (λ (es : List Entry). core.history ++ es) (append-nil (line_given r says).entries) ∙ sym went.0)
+    (ap (λ (es : List Entry). core.history ++ es) (append-nil (line_given r says).entries) ∙ sym went.0)
 
 stopped_by : (number : ℕ) (r : Reading) (line : List ℕ) (says : Result Line ℕ) → feed_line_of line ≡ says → (old new : Feeder) (out out' : SinkView) (why : Halt) → TreatsLine r says old new out out' (Err why) → (lines : List (List ℕ)) → StoppedAs old.core.config (told_behind old.core.history (feed_lines number r (line ∷ lines))) new.core.history number why
 stopped_by number r line (Err place) is old new out out' why h lines =

@@ -202,11 +202,14 @@ went_within core core' given halt.NoMemory went = went
 gives_by : (Over : Type 0) (text all : List ℕ) (old : Reader) (new : Feeder) (out out' : SinkView) (why : Halt) (stands : Stands text old) (says : Result Line ℕ) → feed_line_of old.line.items ≡ says → LineEnded Over all text → TreatsLine stands.reading says old.feeder new out out' (Err why) → GivenBy Over old.feeder.core.config all new.core.history
 gives_by Over text all old new out out' why stands (Err place) is ends h =
     given_before Over text all old new.core.history stands (ends_front Over text all ends) (ap (λ (v : CoreView). v.history) h.core_stays)
-gives_by Over text all old new out out' why stands (Ok says) is ends h =
-    (text, line_ended Over text all ends, line_within text old new.core.history stands says is (elim (stopped_cases (is_quit says) h.0 why h.1) [
-      | inl halts ↦ went_within old.feeder.core new.core (line_given stands.reading says) why (subst (λ (taken : Result (Unit {0}) Halt). TakesLine stands.reading says old.feeder new out out' taken) halts h.2).goes.went
-      | inr quits ↦ IsFront-same new.core.history (old.feeder.core.history ++ (line_given stands.reading says).entries) (sym (subst (λ (taken : Result (Unit {0}) Halt). TakesLine stands.reading says old.feeder new out out' taken) quits.1 h.2).goes.went.0)
-    ]))
+gives_by Over text all old new out out' why stands (Ok says) is ends h = (
+  text,
+  line_ended Over text all ends,
+  line_within text old new.core.history stands says is (elim (stopped_cases (is_quit says) h.0 why h.1) [
+    | inl halts ↦ went_within old.feeder.core new.core (line_given stands.reading says) why (subst (λ (taken : Result (Unit {0}) Halt). TakesLine stands.reading says old.feeder new out out' taken) halts h.2).goes.went
+    | inr quits ↦ IsFront-same new.core.history (old.feeder.core.history ++ (line_given stands.reading says).entries) (sym (subst (λ (taken : Result (Unit {0}) Halt). TakesLine stands.reading says old.feeder new out out' taken) quits.1 h.2).goes.went.0)
+  ]),
+)
 
 pub line_gives : (Over : Type 0) (text all : List ℕ) (old : Reader) (new : Feeder) (out out' : SinkView) (why : Halt) (stands : Stands text old) → LineEnded Over all text → TreatsLine stands.reading (feed_line_of old.line.items) old.feeder new out out' (Err why) → GivenBy Over old.feeder.core.config all new.core.history
 line_gives Over text all old new out out' why stands ends h = gives_by Over text all old new out out' why stands (feed_line_of old.line.items) refl ends h

@@ -184,47 +184,25 @@ impl Feeder {
     }
 
     /// An operator wants something. The command that ends the run halts it.
-    fn operate<K: Sink>(
-        &mut self,
-        alloc: Global,
-        command: OperCmd,
-        out: &mut K,
-    ) -> Result<(), Halt>
+    fn operate<K: Sink>(&mut self, alloc: Global, command: OperCmd, out: &mut K) -> Result<(), Halt>
         requires whole { self.old.core.is_whole ≡ true }
         ensures takes { (r : Reading) → IsReading r self.old.core self.old.cutter
             → TreatsLine r (Ok (line.Oper command)) self.old self.new (seen K.held K.faults K.refusals out.old) (seen K.held K.faults K.refusals out.new) result }
         ensures whole { OnOk result (self.new.core.is_whole ≡ true) }
     {
         let quits = ends_run(&command);
-        let taken = input(
-            alloc,
-            &mut self.core,
-            AT_ONCE,
-            Event::Oper(command),
-            out,
-        );
+        let taken = input(alloc, &mut self.core, AT_ONCE, Event::Oper(command), out);
         if quits { quit_behind(taken) } else { taken }
     }
 
     /// The equipment tells something.
-    fn signal<K: Sink>(
-        &mut self,
-        alloc: Global,
-        signal: Signal,
-        out: &mut K,
-    ) -> Result<(), Halt>
+    fn signal<K: Sink>(&mut self, alloc: Global, signal: Signal, out: &mut K) -> Result<(), Halt>
         requires whole { self.old.core.is_whole ≡ true }
         ensures takes { (r : Reading) → IsReading r self.old.core self.old.cutter
             → TakesLine r (line.Signal signal) self.old self.new (seen K.held K.faults K.refusals out.old) (seen K.held K.faults K.refusals out.new) result }
         ensures whole { OnOk result (self.new.core.is_whole ≡ true) }
     {
-        input(
-            alloc,
-            &mut self.core,
-            AT_ONCE,
-            Event::Signal(signal),
-            out,
-        )
+        input(alloc, &mut self.core, AT_ONCE, Event::Signal(signal), out)
     }
 
     /// Takes one line, without its line feed.

@@ -17,8 +17,8 @@ pub loop-arrival-preserved : goal.loop-arrival-preserved
 loop-arrival-preserved g c = record {
   whole = c.in-Ok.ensures.whole;
   joined = λ core out result rest.
-    let up : is_session_up c.loop-arrival.core.state c.args.session ≡ true = search rules in
-    c.loop-arrival.invariant.joined core out result (rw c.in-Some.ensures.steps.0 (Goes-messages-next _ _ _ _ _ _ c.args.session c.in-Some.arrival (into_iter_items c.next.new.self) c.args.short result up c.in-Ok.ensures.goes rest));
+      let up : is_session_up c.loop-arrival.core.state c.args.session ≡ true = search rules in
+      c.loop-arrival.invariant.joined core out result (rw c.in-Some.ensures.steps.0 (Goes-messages-next _ _ _ _ _ _ c.args.session c.in-Some.arrival (into_iter_items c.next.new.self) c.args.short result up c.in-Ok.ensures.goes rest));
 }
 
 pub returns-in-Err-clause-goes : goal.returns-in-Err-clause-goes

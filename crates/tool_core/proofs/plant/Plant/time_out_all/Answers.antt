@@ -1,5 +1,4 @@
-use Rattle.std.proofs.Common.{◌≡◌, ◌<◌, true, Some, length, sym, ap, ◌∙◌}
-use Rattle.transactions.specs.Endings.{first_expired}
+use Rattle.std.proofs.Common.{◌≡◌, true, sym, ap, ◌∙◌}
 use Rattle.gem_model.specs.State.{State}
 use Rattle.gem_model.specs.Fire.{fires}
 use Rattle.gem_model.specs.Direct.{timeout_rows}

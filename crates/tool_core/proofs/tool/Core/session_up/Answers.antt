@@ -1,4 +1,4 @@
-use Rattle.std.proofs.Common.{◌≡◌, ℕ, ◌<◌, Bool, true, false, Some, None, IfSome, Option, sym, ◌∙◌, subst, if◌then◌else◌, refl}
+use Rattle.std.proofs.Common.{◌≡◌, ℕ, ◌<◌, Bool, true, false, IfSome, Option, sym, ◌∙◌, subst, refl}
 use Rattle.std.specs.Bool.{then_some}
 use Rattle.gem_model.proofs.Ends.{up-numbered}
 use Rattle.tool_core.proofs.tool.Core.session_up.Goals as goal

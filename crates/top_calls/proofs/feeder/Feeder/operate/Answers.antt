@@ -1,4 +1,4 @@
-use Rattle.std.proofs.Common.{◌≡◌, true, false, rules, sym}
+use Rattle.std.proofs.Common.{◌≡◌, true, false, rules}
 use Rattle.line_grammar.specs.declared.line.Line.TheVariants as line
 use Rattle.gem_model.specs.Feed.{is_quit}
 use Rattle.top_calls.proofs.LineParts.{TreatsLine-oper}

@@ -1,4 +1,4 @@
-use Rattle.std.proofs.Common.{◌≡◌, ℕ, Ok, rules, sym, subst, ◌∙◌, ap, Result}
+use Rattle.std.proofs.Common.{◌≡◌, ℕ, Ok, sym, subst, ◌∙◌, ap, Result}
 use Rattle.line_grammar.specs.declared.line.Line.{Line}
 use Rattle.line_grammar.specs.declared.line.Line.TheVariants as line
 use Rattle.line_grammar.specs.Reading.{feed_line_of}

@@ -4,6 +4,8 @@
 #![tactic(auto)]
 
 #[cfg(test)]
+mod communication;
+#[cfg(test)]
 mod desks;
 #[cfg(test)]
 mod feed;

@@ -1,0 +1,208 @@
+//! Communication, control, the clock and the deadlines of the tool, in whole runs (`top_calls`).
+
+ghost use Rattle.std.specs.Prelude.{◌<◌};
+ghost use Rattle.tool_events.specs.Configs.{IsConfig};
+
+use outside::{MemSink, MemSource};
+use std::alloc::Global;
+use std::process::Abort;
+use std::test::Fail;
+use tool_events::{CommStart, Config, ControlStart, SessionCause};
+use top_calls::{Cause, Ended, SessionNote, feed_config, known_config};
+
+// How the tool begins, where it is not as in the known configuration.
+#[derive(Clone, Copy)]
+enum Begins {
+    Known,
+    Enabled,
+    HostOffline,
+    Linktest200,
+}
+
+fn config_of(begins: Begins) -> Config
+    ensures { IsConfig result }
+{
+    let mut config = known_config();
+    match begins {
+        Begins::Known => {}
+        Begins::Enabled => config.communication = CommStart::Enabled,
+        Begins::HostOffline => config.control = ControlStart::HostOffline,
+        Begins::Linktest200 => config.linktest = 200,
+    }
+    config
+}
+
+// A link that is up and selected, and the lines that it prints.
+const SELECTED: &[u8] = b"L+\nH 0000000AFFFF0000000100000001\n";
+
+const SELECTED_OUT: &[u8] = b"+ 1\n> 0000000AFFFF0000000200000001\n";
+
+// What each shows, how the tool begins, lines behind those of a link that is selected, and what they print.
+const CONVERSATIONS: [(&str, Begins, &[u8], &[u8]); 15] = [
+    (
+        "the tool asks for communication, and the host accepts",
+        Begins::Enabled,
+        b"H 000000110000010E00000000000101022101000100\nH 0000000A00008101000000000002\n",
+        b"> 0000001C0000810D0000000000010102410647454D3330304106312E302E3030\n> 0000001C000001020000000000020102410647454D3330304106312E302E3030\n",
+    ),
+    (
+        "until then S1F1 is discarded, and the host's S1F13 establishes communication too",
+        Begins::Enabled,
+        b"H 0000000A00008101000000000002\nH 0000000A0000810D000000000003\nH 0000000A00008101000000000004\n",
+        b"> 0000001C0000810D0000000000010102410647454D3330304106312E302E3030\n> 000000210000010E00000000000301022101000102410647454D3330304106312E302E3030\n> 0000001C000001020000000000040102410647454D3330304106312E302E3030\n",
+    ),
+    (
+        "T3 of the tool's S1F13 is told by S9F9, and the delay has to pass",
+        Begins::Enabled,
+        b"T 4499\nT 4500\nT 5499\n",
+        b"> 0000001C0000810D0000000000010102410647454D3330304106312E302E3030\n> 0000001600000909000000000002210A0000810D000000000001\n",
+    ),
+    (
+        "and then it asks again",
+        Begins::Enabled,
+        b"T 4500\nT 5499\nT 5500\n",
+        b"> 0000001C0000810D0000000000010102410647454D3330304106312E302E3030\n> 0000001600000909000000000002210A0000810D000000000001\n> 0000001C0000810D0000000000030102410647454D3330304106312E302E3030\n",
+    ),
+    (
+        "a tool that is off-line answers by function 0, and S1F17 takes it on-line once",
+        Begins::HostOffline,
+        b"H 0000000A00008101000000000007\nH 0000000A00008111000000000008\nH 0000000A00008111000000000009\n",
+        b"> 0000000A00000100000000000007\n> 0000000D00000112000000000008210100\n> 0000000D00000112000000000009210102\n",
+    ),
+    (
+        "S1F15 takes the tool off-line",
+        Begins::Known,
+        b"H 0000000A0000810F000000000002\nH 0000000A00008211000000000003\n",
+        b"> 0000000D00000110000000000002210100\n> 0000000A00000200000000000003\n",
+    ),
+    (
+        "the tool's linktest goes out after its period",
+        Begins::Linktest200,
+        b"T 199\nT 200\n",
+        b"> 0000000AFFFF0000000500000001\n",
+    ),
+    (
+        "T6 ends the session where it is not answered",
+        Begins::Linktest200,
+        b"T 200\nT 699\nT 700\n",
+        b"> 0000000AFFFF0000000500000001\n- 1 T6\n",
+    ),
+    (
+        "a linktest that is answered ends nothing",
+        Begins::Linktest200,
+        b"T 200\nH 0000000AFFFF0000000600000001\nT 399\n",
+        b"> 0000000AFFFF0000000500000001\n",
+    ),
+    (
+        "the operator disables communication and enables it again",
+        Begins::Known,
+        b"O enable\nO disable\nH 0000000A00008101000000000002\nO enable\n",
+        b"= no\n= ok\n= ok\n> 0000001C0000810D0000000000010102410647454D3330304106312E302E3030\n",
+    ),
+    (
+        "the operator takes the tool off-line, and the host lets it on-line by S1F2",
+        Begins::Known,
+        b"O offline\nO offline\nO online\nH 0000000C000001020000000000010100\nH 0000000A00008111000000000002\n",
+        b"= ok\n= no\n= ok\n> 0000000A00008101000000000001\n> 0000000D00000112000000000002210102\n",
+    ),
+    (
+        "the clock is set by S2F31 and told by S2F17, and a wrong time leaves it",
+        Begins::Known,
+        b"H 0000000A00008211000000000002\nH 0000001C0000821F000000000003411032303236313132373135353030303030\nH 0000000A00008211000000000004\nH 0000001C0000821F000000000005411032303236303233303030303030303030\nH 0000000A00008211000000000006\n",
+        b"> 0000001C00000212000000000002411032303030303130313030303030303030\n> 0000000D00000220000000000003210100\n> 0000001C00000212000000000004411032303236313132373135353030303030\n> 0000000D00000220000000000005210101\n> 0000001C00000212000000000006411032303236313132373135353030303030\n",
+    ),
+    (
+        "a text that is no printed body is told by S9F7, and gets no reply",
+        Begins::Known,
+        b"H 0000000A0000821F000000000002\nH 0000000D0000821F000000000003A50101\n",
+        b"> 0000001600000907000000000001210A0000821F000000000002\n> 0000001600000907000000000002210A0000821F000000000003\n",
+    ),
+    (
+        "operator words and signals that are not built yet change nothing",
+        Begins::Known,
+        b"O pj start J1\nO up 1\nS done 1 1\nS placed 1 CAR01 3333333333333333333333333\nH 0000000A00008101000000000002\n",
+        b"= no\n= no\n> 0000001C000001020000000000020102410647454D3330304106312E302E3030\n",
+    ),
+    (
+        "the operator ends the run, and nothing is read behind it",
+        Begins::Known,
+        b"O quit\nL+\nnothing of the grammar\n",
+        b"= ok\n- 1 Quit\n",
+    ),
+];
+
+fn joined(alloc: Global, front: &[u8], back: &[u8]) -> Result<Vec<u8>, Fail> {
+    let mut all = Vec::from_slice(alloc, front)?;
+    all.extend_from_slice(back)?;
+    Ok(all)
+}
+
+// Runs these lines, which come in pieces of so many bytes, and tells how the run ended and all that was written.
+fn run(alloc: Global, config: &Config, lines: &[u8], piece: usize) -> Result<(Ended, Vec<u8>), Fail>
+    requires config { IsConfig config.now }
+    requires piece { 0 < piece }
+{
+    let mut input = MemSource::new(Vec::from_slice(alloc, lines)?, Vec::new(alloc)).with_piece(
+        piece,
+    );
+    let mut out = MemSink::new(alloc, Vec::new(alloc));
+    let ended = feed_config(alloc, config, &mut input, &mut out);
+    Ok((ended, out.into_bytes()))
+}
+
+#[test]
+fn each_conversation_prints_what_its_tables_say(rt: HostRuntime) -> Result<(), Fail> {
+    let alloc = rt.alloc();
+    for piece in [4096, 1, 5] {
+        for (shows, begins, lines, want) in CONVERSATIONS {
+            let lines = joined(alloc, SELECTED, lines)?;
+            let want = joined(alloc, SELECTED_OUT, want)?;
+            let (ended, out) = run(alloc, &config_of(begins), &lines, piece)?;
+            assert_eq!(rt; ended.status, 0, "{shows}, in pieces of {piece}");
+            assert!(rt;
+                out.as_slice() == want.as_slice(),
+                "{shows}, in pieces of {piece}"
+            );
+        }
+    }
+    Ok(())
+}
+
+#[test]
+fn a_history_of_forty_entries_ends_the_run(rt: HostRuntime) -> Result<(), Fail> {
+    let alloc = rt.alloc();
+    let mut config = known_config();
+    config.max_entries = 40;
+    let mut lines = Vec::new(alloc);
+    let mut want = Vec::new(alloc);
+    for _ in 0..20 {
+        lines.extend_from_slice(b"O local\nO remote\n")?;
+        want.extend_from_slice(b"= ok\n= ok\n")?;
+    }
+    lines.extend_from_slice(b"O local\n")?;
+    let (ended, out) = run(alloc, &config, &lines, 4096)?;
+    assert_eq!(rt; ended.cause, Cause::Full(40, 0, 348));
+    assert_eq!(rt; ended.status, 5);
+    assert!(rt; out.as_slice() == want.as_slice());
+    Ok(())
+}
+
+#[test]
+fn a_run_that_the_operator_ends_is_done(rt: HostRuntime) -> Result<(), Fail> {
+    let alloc = rt.alloc();
+    let lines = joined(alloc, SELECTED, b"O quit\nL+\n")?;
+    for piece in [4096, 1] {
+        let (ended, _) = run(alloc, &known_config(), &lines, piece)?;
+        assert_eq!(rt; ended.cause, Cause::Done);
+        // The link, the select request, its response, and the command.
+        assert_eq!(rt; ended.history.as_slice().len(), 4);
+        let quit = SessionNote {
+            session: 1,
+            read: 14,
+            written: 14,
+            cause: SessionCause::Quit,
+        };
+        assert!(rt; ended.sessions.as_slice() == [quit].as_slice());
+    }
+    Ok(())
+}

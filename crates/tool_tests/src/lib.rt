@@ -1,18 +1,12 @@
-//! Tests of the tool's crates by their public names, one file for each crate. It has no code of its own, and nothing
+//! Tests of the crates below the core by their public names, one file for each. It has no code of its own, and nothing
 //! stands on it. Expected values are worked by hand from the printed formats, and calls are made with ample memory, on
 //! small input and on large. What needs a private name is tested in its own crate.
 #![tactic(auto)]
 
 #[cfg(test)]
-mod communication;
-#[cfg(test)]
 mod desks;
 #[cfg(test)]
-mod feed;
-#[cfg(test)]
 mod frames;
-#[cfg(test)]
-mod histories;
 #[cfg(test)]
 mod items;
 #[cfg(test)]

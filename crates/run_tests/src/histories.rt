@@ -30,6 +30,8 @@ fn config(max_entries: u64, max_bytes: u64) -> Result<Config, Fail>
         softrev: word(b"1.0.00".as_slice())?,
         communication: CommStart::Communicating,
         control: ControlStart::OnlineRemote,
+        chambers: 2,
+        ports: 2,
         t3: 4500,
         t6: 500,
         t7: 1000,

@@ -15,3 +15,4 @@ pub mod PlainSpelling
 pub mod Sends
 pub mod Standing
 pub mod Stepping
+pub mod Weights

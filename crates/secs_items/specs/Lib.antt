@@ -14,3 +14,4 @@ pub mod Sendable
 pub mod Spelling
 pub mod Stored
 pub mod View
+pub mod Weight

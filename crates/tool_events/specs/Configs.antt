@@ -10,6 +10,10 @@ pub record IsConfig (c : Config) : Type 0 where
   pub mdln : length c.mdln ≤ 20
   pub softrev_some : 1 ≤ length c.softrev
   pub softrev : length c.softrev ≤ 20
+  pub chambers_some : 1 ≤ c.chambers
+  pub chambers : c.chambers ≤ 2
+  pub ports_some : 1 ≤ c.ports
+  pub ports : c.ports ≤ 2
   pub t3_least : 100 ≤ c.t3
   pub t3 : c.t3 ≤ 12000
   pub t6_least : 100 ≤ c.t6

@@ -33,6 +33,10 @@ pub struct Config {
     pub communication: CommStart,
     /// How control begins.
     pub control: ControlStart,
+    /// How many chambers the tool has, 1 or 2.
+    pub chambers: u8,
+    /// How many load ports the tool has, 1 or 2.
+    pub ports: u8,
     /// How long the tool waits for an answer to a primary of its own, 100 to 12,000 (SEMI E37, T3).
     pub t3: u32,
     /// How long the tool waits for an answer to its linktest, 100 to 12,000 (SEMI E37, T6).

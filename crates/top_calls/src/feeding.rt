@@ -61,6 +61,8 @@ pub fn known_config() -> Config
         softrev: text_of(b"1.0.00".as_slice()),
         communication: CommStart::Communicating,
         control: ControlStart::OnlineRemote,
+        chambers: 2,
+        ports: 2,
         t3: 4500,
         t6: 500,
         t7: 1000,

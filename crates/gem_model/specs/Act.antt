@@ -1,5 +1,5 @@
 -- What a data message does: its reply, what it writes, and its direct rows (this tool's profile, data messages).
-use Rattle.std.specs.Prelude.{ℕ, ◌+◌, if◌then◌else◌, List, [], Option, Some, None}
+use Rattle.std.specs.Prelude.{ℕ, ◌+◌, nat_le, if◌then◌else◌, List, [], Option, Some, None}
 use Rattle.gem_ids.specs.Civil.{moment_in}
 use Rattle.hsms_frame.specs.declared.frame.Header.{Header}
 use Rattle.hsms_frame.specs.declared.frame.Arrival.{Arrival}
@@ -8,6 +8,12 @@ use Rattle.secs_items.specs.Plain.{plain}
 use Rattle.msgs_gem.specs.declared.primary.GemMsg.{GemMsg}
 use Rattle.msgs_gem.specs.declared.primary.GemMsg.TheVariants as msg
 use Rattle.msgs_gem.specs.Replies.{reply_body}
+use Rattle.data_variables.specs.Constants.{set_all_after}
+use Rattle.event_reports.specs.Reports.{defined, linked, enabled}
+use Rattle.event_reports.specs.Alarms.{alarms_enabled}
+use Rattle.note_line.specs.Line as notes
+use Rattle.transactions.specs.declared.transaction.What.{What}
+use Rattle.transactions.specs.declared.transaction.What.TheVariants as what
 use Rattle.transactions.specs.declared.transaction.Open.{Open}
 use Rattle.transactions.specs.Table.{taken_out}
 use Rattle.transactions.specs.Endings.{answered}
@@ -15,16 +21,36 @@ use Rattle.gem_model.specs.State.{State, without_session}
 use Rattle.gem_model.specs.Fire.{fire_listed, fires}
 use Rattle.gem_model.specs.Direct.{message_rows, answer_rows, session_end_rows}
 use Rattle.gem_model.specs.Sending.{replies, sends_stream9}
-use Rattle.gem_model.specs.Verdict.{Verdict, Discarded, Stream9, Aborted, Answers, Taken, verdict, header_of, item_of, wants_reply, stream_of, function_of, reply_to}
+use Rattle.gem_model.specs.Noting.{clears_alarm}
+use Rattle.gem_model.specs.Remote.{RemoteCommand, GoLocal, ClearAlarm, Parameter, accepted, alarm_named}
+use Rattle.gem_model.specs.Verdict.{Verdict, Discarded, Stream9, Aborted, Answers, Taken, verdict, header_of, item_of, wants_reply, stream_of, function_of, settings_of, is_enabling, reply_to}
 
 -- the host's clock is set to this moment, where there is one
 abbrev pub clock_set : Option ℕ → State → State
 clock_set None g = g
 clock_set (Some shown) g = record g { clock = record { shown = shown; at = g.moment } }
 
--- what a message writes: S2F31 sets the clock (SEMI E5, S2F31)
+-- the alarm that is named is cleared
+abbrev pub clears_named : Option ℕ → State → State
+clears_named None g = g
+clears_named (Some alid) g = clears_alarm alid g
+
+-- what a remote command that is accepted writes: CLEARALARM clears its alarm (this tool's profile, remote commands)
+abbrev pub command_written : Option RemoteCommand → List Parameter → State → State
+command_written None parameters g = g
+command_written (Some GoLocal) parameters g = g
+command_written (Some ClearAlarm) parameters g = clears_named (alarm_named parameters) g
+
+-- what a message writes: S2F15 sets constants, S2F31 the clock; S2F33 defines reports, S2F35 links them to events, S2F37
+-- enables events; S2F41 may clear an alarm, and S5F3 enables alarms. One that is refused writes nothing (SEMI E5)
 abbrev pub written : GemMsg → State → State
+written (msg.S2F15 settings) g = record g { constants = set_all_after (settings_of settings) g.constants }
 written (msg.S2F31 text) g = clock_set (moment_in text) g
+written (msg.S2F33 id reports) g = record g { reports = defined reports g.reports }
+written (msg.S2F35 id events) g = record g { reports = linked events g.reports }
+written (msg.S2F37 on ceids) g = record g { reports = enabled on ceids g.reports }
+written (msg.S2F41 name parameters) g = command_written (accepted g name parameters) parameters g
+written (msg.S5F3 aled alid) g = record g { alarms = alarms_enabled (is_enabling aled) alid g.alarms }
 written _ g = g
 
 -- a reply is sent where one is wanted, under the same system bytes
@@ -36,11 +62,17 @@ abbrev pub taken : Header → GemMsg → State → State
 taken h m g =
     fires (message_rows m) (written m (replied h (function_of h + 1) (plain (reply_body (reply_to g m))) g))
 
+-- the open note is answered, where the transaction was its own: by any message that closes it (this tool's profile, notes)
+abbrev pub note_answered : What → State → State
+note_answered (what.Note n) g = record g { line = notes.answered g.line }
+note_answered _ g = g
+
 -- the transaction that a message answers is closed, and its rows fire; without one the message is discarded
 abbrev pub closed_by : Header → Option Data → Option Open → State → State
 closed_by h item None g = g
 closed_by h item (Some one) g =
-    fires (answer_rows one.what (function_of h) item) (record g { transactions = taken_out (Some one) g.transactions })
+    fires (answer_rows one.what (function_of h) item)
+    (note_answered one.what (record g { transactions = taken_out (Some one) g.transactions }))
 
 -- a data message, by its verdict
 abbrev pub data_act : Header → Option Data → Verdict → State → State

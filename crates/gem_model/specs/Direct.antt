@@ -17,7 +17,8 @@ use Rattle.transactions.specs.declared.transaction.What.{What}
 use Rattle.transactions.specs.declared.transaction.What.TheVariants as what
 use Rattle.transactions.specs.Endings.{first_of}
 use Rattle.gem_model.specs.State.{State}
-use Rattle.gem_model.specs.Fire.{of_comm, of_control}
+use Rattle.gem_model.specs.Fire.{of_comm, of_control, of_line}
+use Rattle.gem_model.specs.Remote.{RemoteCommand, GoLocal, ClearAlarm, accepted}
 
 -- the rows of table 1 that a trigger fires
 abbrev pub by_comm : CommTrigger → List Firing
@@ -27,9 +28,17 @@ by_comm t = of_comm (comm_rows t)
 abbrev pub by_control : ControlTrigger → State → List Firing
 by_control t g = of_control (control_rows t g.switch_local)
 
--- the rows of every open transaction that fails: 2.3 where the tool's S1F1 was open
+-- the transaction of the open note fails: row 14 of table 3
+abbrev pub note_fails : List Firing
+note_fails = of_line (14 ∷ [])
+
+-- the row of the tool's S1F1, which fails where it is open
+abbrev pub attempt_fails : State → List Firing
+attempt_fails g = if is_some (first_of what.Attempt g.transactions.opened) then by_control control.Failed g else []
+
+-- the rows of every open transaction that fails: 2.3 where the tool's S1F1 was open, and then 3.14 for the open note
 abbrev pub all_fail : State → List Firing
-all_fail g = if is_some (first_of what.Attempt g.transactions.opened) then by_control control.Failed g else []
+all_fail g = attempt_fails g ++ note_fails
 
 -- the session ends
 abbrev pub session_end_rows : State → List Firing
@@ -45,14 +54,19 @@ operator_rows oper.Local g = by_control control.Local g
 operator_rows oper.Remote g = by_control control.Remote g
 operator_rows _ g = []
 
+-- a remote command that is accepted: GOLOCAL is the operator's `local`, but that the switch stays
+abbrev pub command_rows : Option RemoteCommand → State → List Firing
+command_rows None g = []
+command_rows (Some GoLocal) g = by_control control.Local g
+command_rows (Some ClearAlarm) g = []
+
 -- a primary of the host that is accepted
 abbrev pub message_rows : GemMsg → State → List Firing
-message_rows msg.S1F1 g = []
 message_rows msg.S1F13 g = by_comm comm.HostS1F13
 message_rows msg.S1F15 g = by_control control.HostS1F15 g
 message_rows msg.S1F17 g = by_control control.HostS1F17 g
-message_rows msg.S2F17 g = []
-message_rows (msg.S2F31 text) g = []
+message_rows (msg.S2F41 name parameters) g = command_rows (accepted g name parameters) g
+message_rows _ g = []
 
 -- what the answer to the tool's S1F13 does: S1F14 with COMMACK 0 accepts, another S1F14 and S1F0 refuse
 abbrev pub establish_answer : ℕ → Option Data → CommTrigger
@@ -72,4 +86,4 @@ answer_rows (what.Note n) function item g = []
 abbrev pub timeout_rows : What → State → List Firing
 timeout_rows what.Establish g = by_comm comm.Refused
 timeout_rows what.Attempt g = by_control control.Failed g
-timeout_rows (what.Note n) g = []
+timeout_rows (what.Note n) g = note_fails

@@ -14,7 +14,7 @@ use Rattle.transactions.specs.declared.transaction.Open.{Open}
 use Rattle.transactions.specs.Table.{without, taken_out}
 use Rattle.transactions.specs.SystemBytes.{drawn}
 use Rattle.transactions.specs.Endings.{first_expired}
-use Rattle.gem_model.specs.State.{State, Times, is_selected, with_frame}
+use Rattle.gem_model.specs.State.{State, t6, t7, linktest_period, is_selected, with_frame}
 use Rattle.gem_model.specs.Fire.{fires}
 use Rattle.gem_model.specs.Direct.{timeout_rows}
 use Rattle.gem_model.specs.Sending.{data_header, draws, sends_stream9}
@@ -27,8 +27,8 @@ pub data Due : Type 0 where
   Timeout : Open → Due
 
 -- the times of the link
-abbrev pub link_times : Times → LinkTimes
-link_times times = record { t6 = times.t6; t7 = times.t7; period = times.linktest }
+abbrev pub link_times : State → LinkTimes
+link_times g = record { t6 = t6 g; t7 = t7 g; period = linktest_period g }
 
 -- the expired ones of some transactions, of so many at most, by deadline and then by system bytes
 abbrev pub expired_from : ℕ → ℕ → List Open → Option Open → List Open
@@ -53,7 +53,7 @@ dues_with g None = timeouts g
 
 -- what is due in a state whose moment was raised
 abbrev pub dues : State → List Due
-dues g = dues_with g (due_at (link_times g.times) g.link g.moment)
+dues g = dues_with g (due_at (link_times g) g.link g.moment)
 
 -- the communication delay has come to its end, while the link is selected
 abbrev pub delay_has_come : ℕ → Comm → Bool
@@ -67,7 +67,7 @@ heartbeat = 100
 -- some deadline has come, where the moment was raised from this one
 abbrev pub is_due : ℕ → State → Bool
 is_due before g =
-    is_some (due_at (link_times g.times) g.link g.moment)
+    is_some (due_at (link_times g) g.link g.moment)
     || (is_some (first_expired g.moment g.transactions.opened)
     || ((delay_has_come g.moment g.comm && is_selected g) || has_come (before + heartbeat) g.moment))
 

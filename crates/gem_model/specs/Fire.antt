@@ -2,6 +2,10 @@
 -- fire alike (this tool's profile, transition tables; the printed rows stand in gem_tables).
 use Rattle.std.specs.Prelude.{ℕ, ◌+◌, ◌==◌, Bool, false, if◌then◌else◌, List, [], ◌∷◌, map}
 use Rattle.gem_states.specs.Meaning.{comm_number, comm_fired, control_number, control_fired}
+use Rattle.note_line.specs.declared.note.Kind.{Kind}
+use Rattle.note_line.specs.declared.note.Kind.TheVariants.{Event, Alarm}
+use Rattle.note_line.specs.declared.note.Note.{Note}
+use Rattle.note_line.specs.Table3.{line_starts, row_effect}
 use Rattle.gem_tables.specs.Table.{Firing, firing, starts}
 use Rattle.gem_tables.specs.Communication.{communication_table}
 use Rattle.gem_tables.specs.Control.{control_table}
@@ -9,8 +13,9 @@ use Rattle.transactions.specs.declared.transaction.What.{What}
 use Rattle.transactions.specs.declared.transaction.What.TheVariants as what
 use Rattle.transactions.specs.Table.{taken_out}
 use Rattle.transactions.specs.Endings.{first_of}
-use Rattle.gem_model.specs.State.{State, can_ask, none_asked}
+use Rattle.gem_model.specs.State.{State, establish_timeout, is_communicating, can_ask, none_asked}
 use Rattle.gem_model.specs.Sending.{asks, identity_text}
+use Rattle.gem_model.specs.Noting.{noted}
 
 -- the transaction of this kind is open no more
 abbrev pub forgets : What → State → State
@@ -20,7 +25,7 @@ forgets kind g = record g { transactions = taken_out (first_of kind g.transactio
 
 -- when WAIT DELAY is over behind a row: row 5 waits for the establish timeout; behind rows 1 and 7 it is over at once
 abbrev pub delay_end : ℕ → State → ℕ
-delay_end row g = if row == 5 then g.moment + g.times.establish else 0
+delay_end row g = if row == 5 then g.moment + establish_timeout g else 0
 
 -- row 2: every open transaction fails; row 3: S1F13 is sent; row 6: the tool's S1F13 is forgotten
 abbrev pub comm_effect : ℕ → State → State
@@ -43,23 +48,45 @@ control_effect row g =
 abbrev pub fire_control : ℕ → State → State
 fire_control row g = control_effect row (record g { control = control_fired row g.control })
 
+-- ---- table 3, the line of notes
+
+-- the stream and the function by which a note is sent: S6F11 and S5F1 (SEMI E5)
+abbrev pub stream_of_kind : Kind → ℕ
+stream_of_kind Event = 6
+stream_of_kind Alarm = 5
+
+abbrev pub function_of_kind : Kind → ℕ
+function_of_kind Event = 11
+function_of_kind Alarm = 1
+
+-- the first note that waits is sent, if one waits
+abbrev pub asks_first : List Note → State → State
+asks_first [] g = g
+asks_first (note ∷ notes) g = asks (stream_of_kind note.kind) (function_of_kind note.kind) (what.Note note.number) note.text g
+
+-- row 13: the head is sent
+abbrev pub line_effect : ℕ → State → State
+line_effect row g = if row == 13 then asks_first g.line.waiting g else g
+
+abbrev pub fire_line : ℕ → State → State
+fire_line row g = record (line_effect row g) { line = row_effect row g.line }
+
 -- ---- all tables
 
 -- the row of a firing starts at the present state
 abbrev pub row_starts : State → Firing → Bool
 row_starts g f =
     if f.table == 1 then starts communication_table f.row (comm_number g.comm)
-    else (if f.table == 2 then starts control_table f.row (control_number g.control) else false)
+    else (if f.table == 2 then starts control_table f.row (control_number g.control)
+    else (if f.table == 3 then line_starts (is_communicating g.comm) f.row g.line else false))
 
 -- the row's state and effect; all else stays
 abbrev pub takes_effect : State → Firing → State
-takes_effect g f = if f.table == 1 then fire_comm f.row g else (if f.table == 2 then fire_control f.row g else g)
+takes_effect g f =
+    if f.table == 1 then fire_comm f.row g
+    else (if f.table == 2 then fire_control f.row g else (if f.table == 3 then fire_line f.row g else g))
 
--- the note that a firing makes, with the values behind its effect: no event is reported yet
-abbrev pub noted : State → Firing → State → State
-noted before f g = g
-
--- a row fires
+-- a row fires: its effect, and the note that it makes behind it
 abbrev pub fire : State → Firing → State
 fire g f = noted g f (takes_effect g f)
 
@@ -79,9 +106,12 @@ fire_listed (f ∷ fs) g = fire_listed fs (if row_starts g f then fire g f else 
 abbrev pub fires : (State → List Firing) → State → State
 fires rows g = fire_listed (rows g) g
 
--- these rows of table 1, and these of table 2; each of these tables has one object
+-- these rows of table 1, these of table 2, and these of table 3; each of these tables has one object
 abbrev pub of_comm : List ℕ → List Firing
 of_comm rows = map (firing 1 0) rows
 
 abbrev pub of_control : List ℕ → List Firing
 of_control rows = map (firing 2 0) rows
+
+abbrev pub of_line : List ℕ → List Firing
+of_line rows = map (firing 3 0) rows

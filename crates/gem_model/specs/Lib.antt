@@ -1,7 +1,10 @@
 pub mod Front
 pub mod State
 pub mod Sending
+pub mod Values
+pub mod Noting
 pub mod Fire
+pub mod Remote
 pub mod Direct
 pub mod Ready
 pub mod Measure

@@ -1,12 +1,13 @@
 -- The automatic rows that are ready, and the least of them (this tool's profile, settling).
-use Rattle.std.specs.Prelude.{ℕ, Bool, true, false, not, ◌&&◌, nat_le, if◌then◌else◌, Option, Some, None}
+use Rattle.std.specs.Prelude.{ℕ, Bool, true, false, not, ◌&&◌, nat_le, if◌then◌else◌, Option, Some, None, option_map}
 use Rattle.std.specs.Option.{option_or}
 use Rattle.gem_states.specs.declared.communication.Comm.{Comm}
 use Rattle.gem_states.specs.declared.communication.Comm.TheVariants as comm
 use Rattle.gem_states.specs.declared.control.Control.{Control}
 use Rattle.gem_states.specs.declared.control.Control.TheVariants as control
 use Rattle.gem_tables.specs.Table.{Firing, firing}
-use Rattle.gem_model.specs.State.{State, is_selected, can_ask}
+use Rattle.note_line.specs.Table3 as line
+use Rattle.gem_model.specs.State.{State, is_communicating, is_selected, can_ask}
 
 -- WAIT DELAY, whose delay is over at a moment
 abbrev pub delay_is_over : ℕ → Comm → Bool
@@ -26,6 +27,10 @@ ready_comm g = if delay_is_over g.moment g.comm && is_selected g then Some (firi
 abbrev pub ready_control : State → Option Firing
 ready_control g = if is_attempt g.control && not (can_ask g) then Some (firing 2 0 2) else None
 
+-- table 3: the rows of the line of notes, by whether the tool communicates
+abbrev pub ready_line : State → Option Firing
+ready_line g = option_map (firing 3 0) (line.least (is_communicating g.comm) g.line)
+
 -- the least ready row, by table, object and row
 abbrev pub least : State → Option Firing
-least g = option_or (ready_comm g) (ready_control g)
+least g = option_or (ready_comm g) (option_or (ready_control g) (ready_line g))

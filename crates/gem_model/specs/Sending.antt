@@ -8,7 +8,7 @@ use Rattle.tool_events.specs.declared.config.Config.{Config}
 use Rattle.transactions.specs.declared.transaction.What.{What}
 use Rattle.transactions.specs.Table.{is_full}
 use Rattle.transactions.specs.SystemBytes.{drawn, after_draw, after_start}
-use Rattle.gem_model.specs.State.{State, with_frame}
+use Rattle.gem_model.specs.State.{State, t3, with_frame}
 
 -- the header of a data message of the tool: the device id as session id, the seven bits of the stream behind the W-bit,
 -- which is set where a reply is wanted, and the function (SEMI E37, message header)
@@ -48,4 +48,4 @@ abbrev pub asks : ℕ → ℕ → What → List ℕ → State → State
 asks stream function what text g =
     if is_full g.transactions then g
     else with_frame (data_frame g.config.device true stream function (drawn g.transactions) text)
-    (record g { transactions = after_start stream function (g.moment + g.times.t3) what g.transactions })
+    (record g { transactions = after_start stream function (g.moment + t3 g) what g.transactions })

@@ -1,5 +1,11 @@
 -- What the tool is at a moment: plain numbers and lists, with no index and no count beside them.
 use Rattle.std.specs.Prelude.{ℕ, ◌+◌, ◌-◌, min, max, Bool, true, false, ◌&&◌, ◌==◌, List, [], ◌∷◌, ◌++◌}
+use Rattle.data_variables.specs.declared.value.Val.{Val}
+use Rattle.data_variables.specs.declared.value.Val.TheVariants.{Number, Truth}
+use Rattle.data_variables.specs.Constants.{number_in}
+use Rattle.event_reports.specs.Reports.{Reports, no_reports}
+use Rattle.event_reports.specs.Alarms.{AlarmLine, no_alarms}
+use Rattle.note_line.specs.Line as notes
 use Rattle.gem_ids.specs.Moments.{last_moment}
 use Rattle.gem_states.specs.declared.communication.Comm.{Comm}
 use Rattle.gem_states.specs.declared.communication.Comm.TheVariants as comm
@@ -21,15 +27,6 @@ pub record Clock : Type 0 where
   pub shown : ℕ
   pub at : ℕ
 
--- times that the host may change, in hundredths of a second: T3, T6 and T7, how long the tool waits before it asks for
--- communication again, and the linktest period (this tool's profile, constants)
-pub record Times : Type 0 where
-  pub t3 : ℕ
-  pub t6 : ℕ
-  pub t7 : ℕ
-  pub establish : ℕ
-  pub linktest : ℕ
-
 -- the state of the tool
 pub record State : Type 0 where
   -- what the configuration says; it never changes
@@ -48,7 +45,15 @@ pub record State : Type 0 where
   pub switch_local : Bool
   -- the open transactions, and the counter of system bytes
   pub transactions : Table
-  pub times : Times
+  -- the equipment constants, which the host may set (SEMI E5, S2F15)
+  pub constants : List (ℕ × Val)
+  -- the reports that the host defined, the events to which it linked them, and the events that it enabled (SEMI E30,
+  -- event reports)
+  pub reports : Reports
+  -- the alarms: which are enabled, and which are set (SEMI E30, alarms)
+  pub alarms : List AlarmLine
+  -- the line of notes: what waits, what is open, and what became of each
+  pub line : notes.Line
   -- the frames that wait for the writer, the oldest first
   pub waiting : List (List ℕ)
 
@@ -74,9 +79,18 @@ first_switch begin.HostOffline = false
 first_switch begin.OnlineLocal = true
 first_switch begin.OnlineRemote = false
 
--- the times that the configuration gives
-abbrev pub times_of : Config → Times
-times_of c = record { t3 = c.t3; t6 = c.t6; t7 = c.t7; establish = c.establish; linktest = c.linktest }
+-- the constants that the configuration gives; the spool is not built yet, and its two constants begin with their defaults
+-- (this tool's profile, constants)
+abbrev pub first_constants : Config → List (ℕ × Val)
+first_constants c =
+    (201, Number c.establish)
+    ∷ (202, Number 0)
+    ∷ (203, Truth false)
+    ∷ (204, Number c.t3)
+    ∷ (205, Number c.t7)
+    ∷ (206, Number c.t6)
+    ∷ (207, Number c.linktest)
+    ∷ []
 
 -- the first state: no session came yet, and the link is down (this tool's profile, states of the link, and time)
 abbrev pub opening : Config → State
@@ -90,7 +104,10 @@ opening c = record {
   control = first_control c.control;
   switch_local = first_switch c.control;
   transactions = none_open;
-  times = times_of c;
+  constants = first_constants c;
+  reports = no_reports c.ports c.chambers;
+  alarms = no_alarms c.ports c.chambers;
+  line = notes.opening;
   waiting = [];
 }
 
@@ -131,6 +148,23 @@ can_ask g = is_communicating g.comm && is_selected g
 -- the clock that the host sees, which stops at the last moment (this tool's profile, time)
 abbrev pub clock_now : State → ℕ
 clock_now g = min (g.clock.shown + (g.moment - g.clock.at)) last_moment
+
+-- the constants that are times, in hundredths of a second: T3, T6 and T7, how long the tool waits before it asks for
+-- communication again, and the linktest period (this tool's profile, constants)
+abbrev pub t3 : State → ℕ
+t3 g = number_in 204 g.constants
+
+abbrev pub t6 : State → ℕ
+t6 g = number_in 206 g.constants
+
+abbrev pub t7 : State → ℕ
+t7 g = number_in 205 g.constants
+
+abbrev pub establish_timeout : State → ℕ
+establish_timeout g = number_in 201 g.constants
+
+abbrev pub linktest_period : State → ℕ
+linktest_period g = number_in 207 g.constants
 
 -- ---- small changes
 

@@ -1,5 +1,5 @@
 -- One event: what it is answered, whether it ended the session, and the state after it.
-use Rattle.std.specs.Prelude.{ℕ, suc, Bool, true, false, if◌then◌else◌, List, [], ◌∷◌, Option, Some, None, option_map, unwrap_or}
+use Rattle.std.specs.Prelude.{ℕ, suc, Bool, true, false, if◌then◌else◌, List, [], ◌∷◌, Option, Some, None, option_map, unwrap_or, nat_lt, nat_le, not, ◌&&◌}
 use Rattle.gem_tables.specs.Table.{Firing}
 use Rattle.hsms_frame.specs.declared.frame.Header.{Header}
 use Rattle.hsms_frame.specs.declared.frame.Arrival.{Arrival}
@@ -19,7 +19,9 @@ use Rattle.tool_events.specs.declared.event.SessionCause.{SessionCause}
 use Rattle.tool_events.specs.declared.event.SessionCause.TheVariants as cause
 use Rattle.tool_events.specs.declared.event.SessionEnd.{SessionEnd}
 use Rattle.gem_model.specs.State.{State, is_up, is_session_up, raised, with_frame}
+use Rattle.event_reports.specs.Alarms.{is_set}
 use Rattle.gem_model.specs.Fire.{row_starts, fires}
+use Rattle.gem_model.specs.Noting.{clears_alarm}
 use Rattle.gem_model.specs.Direct.{operator_rows}
 use Rattle.gem_model.specs.Verdict.{header_of}
 use Rattle.gem_model.specs.Act.{data_done, session_ended}
@@ -70,16 +72,28 @@ abbrev pub can_fire : State → List Firing → Bool
 can_fire g [] = false
 can_fire g (f ∷ fs) = row_starts g f
 
--- a command is accepted where its row can fire; the switch can always be set (this tool's profile, operators)
+-- the alarms of modules, which the operator cannot clear: 10 plus the number of the module, which is at most 10
+-- (this tool's profile, alarms)
+abbrev pub is_module_alarm : ℕ → Bool
+is_module_alarm alid = nat_lt 10 alid && nat_le alid 20
+
+-- the operator can clear the alarm: it is set, and no module's
+abbrev pub can_clear : ℕ → State → Bool
+can_clear alid g = is_set alid g.alarms && not (is_module_alarm alid)
+
+-- a command is accepted where its row can fire, or its change be made; the switch can always be set (this tool's profile,
+-- operators)
 abbrev pub is_accepted : OperCmd → State → Bool
 is_accepted oper.Local g = true
 is_accepted oper.Remote g = true
+is_accepted (oper.Clear alid) g = can_clear alid g
 is_accepted command g = can_fire g (operator_rows command g)
 
--- `local` and `remote` set the switch
+-- what a command changes: `local` and `remote` set the switch, and `clear` clears an alarm
 abbrev pub switched : OperCmd → State → State
 switched oper.Local g = record g { switch_local = true }
 switched oper.Remote g = record g { switch_local = false }
+switched (oper.Clear alid) g = if can_clear alid g then clears_alarm alid g else g
 switched _ g = g
 
 -- `quit` ends the session, where one is up, and the run

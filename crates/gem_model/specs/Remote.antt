@@ -1,0 +1,111 @@
+-- Remote commands of the host (SEMI E5, S2F41; SEMI E30, remote control; this tool's profile, remote commands).
+use Rattle.std.specs.Prelude.{ℕ, ◌==◌, Bool, true, false, not, ◌&&◌, ◌||◌, if◌then◌else◌, List, [], ◌∷◌, length, codes, Option, Some, None, is_some, is_none}
+use Rattle.std.specs.List.{list_any, find}
+use Rattle.std.specs.Str.{bytes_eq}
+use Rattle.gem_tables.specs.Table.{choose}
+use Rattle.gem_states.specs.declared.control.Control.{Control}
+use Rattle.gem_states.specs.declared.control.Control.TheVariants as control
+use Rattle.secs_items.specs.Data.{Data}
+use Rattle.secs_items.specs.Ids.{id_of}
+use Rattle.event_reports.specs.Alarms.{is_alarm, is_set}
+use Rattle.msgs_gem.specs.declared.reply.ParameterAcknowledge.{ParameterAcknowledge}
+use Rattle.gem_model.specs.State.{State}
+
+-- the commands that are built: GOLOCAL, which takes no parameter, and CLEARALARM, which takes the ALID of an alarm
+pub data RemoteCommand : Type 0 where
+  GoLocal : RemoteCommand
+  ClearAlarm : RemoteCommand
+
+-- the command of a name
+abbrev pub command_named : List ℕ → Option RemoteCommand
+command_named name =
+    if bytes_eq name (codes "GOLOCAL") then Some GoLocal
+    else (if bytes_eq name (codes "CLEARALARM") then Some ClearAlarm else None)
+
+-- a parameter: its name, and its value
+abbrev pub Parameter : Type 0
+Parameter = List ℕ × Data
+
+-- the command takes a parameter of this name
+abbrev pub takes : RemoteCommand → List ℕ → Bool
+takes GoLocal name = false
+takes ClearAlarm name = bytes_eq name (codes "ALID")
+
+-- the value of an ALID is an id
+abbrev pub has_format : Data → Bool
+has_format value = is_some (id_of value)
+
+-- the alarm that a value names is one of the tool
+abbrev pub is_known : State → Option ℕ → Bool
+is_known g None = false
+is_known g (Some alid) = is_alarm alid g.alarms
+
+-- a parameter of this name was given
+abbrev pub was_given : List Parameter → List ℕ → Bool
+was_given earlier name = list_any (λ p. bytes_eq p.0 name) earlier
+
+-- CPACK of a parameter, behind these others: 1 for an unknown name, 3 for a wrong format, 2 for an unknown alarm and for a
+-- parameter that was given before; the first that fits. 0 where none does (SEMI E5, S2F42; this tool's profile, remote
+-- commands)
+abbrev pub cpack : RemoteCommand → State → List Parameter → Parameter → ℕ
+cpack command g earlier p =
+    if not (takes command p.0) then 1
+    else (if not (has_format p.1) then 3
+    else (if not (is_known g (id_of p.1)) || was_given earlier p.0 then 2 else 0))
+
+-- the faulty parameters, each with its CPACK, in order; the first parameters are those before
+abbrev pub faulty : RemoteCommand → State → List Parameter → List Parameter → List ParameterAcknowledge
+faulty command g earlier [] = []
+faulty command g earlier (p ∷ ps) =
+    if cpack command g earlier p == 0 then faulty command g (p ∷ earlier) ps
+    else record { name = p.0; cpack = cpack command g earlier p } ∷ faulty command g (p ∷ earlier) ps
+
+-- a parameter that the command needs is missing
+abbrev pub is_missing : RemoteCommand → List Parameter → Bool
+is_missing GoLocal ps = false
+is_missing ClearAlarm ps = not (was_given ps (codes "ALID"))
+
+-- the alarm that the parameters name
+abbrev pub alarm_named : List Parameter → Option ℕ
+alarm_named [] = None
+alarm_named (p ∷ ps) = if bytes_eq p.0 (codes "ALID") then id_of p.1 else alarm_named ps
+
+-- the command is CLEARALARM of an alarm that is clear
+abbrev pub is_clear_already : RemoteCommand → State → List Parameter → Bool
+is_clear_already GoLocal g ps = false
+is_clear_already ClearAlarm g ps = not (is_alarm_set g (alarm_named ps)) where
+  is_alarm_set : State → Option ℕ → Bool
+  is_alarm_set g None = false
+  is_alarm_set g (Some alid) = is_set alid g.alarms
+
+-- the operator commands: ON-LINE LOCAL (SEMI E30)
+abbrev pub is_local : Control → Bool
+is_local control.Local = true
+is_local _ = false
+
+abbrev pub has_some : List ParameterAcknowledge → Bool
+has_some [] = false
+has_some (a ∷ acknowledges) = true
+
+-- HCACK: 1 for an unknown command, 2 in ON-LINE LOCAL, 3 where a parameter is faulty or missing, 5 for CLEARALARM of an
+-- alarm that is clear; the first that fits. 0 where none does (SEMI E5, S2F42; this tool's profile, remote commands)
+abbrev pub hcack : State → List ℕ → List Parameter → ℕ
+hcack g name ps = by_command (command_named name) where
+  by_command : Option RemoteCommand → ℕ
+  by_command None = 1
+  by_command (Some command) =
+      if is_local g.control then 2
+      else (if has_some (faulty command g [] ps) || is_missing command ps then 3
+      else (if is_clear_already command g ps then 5 else 0))
+
+-- the parameters that S2F42 lists: the faulty ones, under HCACK 3 (SEMI E5, S2F42)
+abbrev pub listed : State → List ℕ → List Parameter → List ParameterAcknowledge
+listed g name ps = by_command (command_named name) (hcack g name ps == 3) where
+  by_command : Option RemoteCommand → Bool → List ParameterAcknowledge
+  by_command None is_faulty = []
+  by_command (Some command) false = []
+  by_command (Some command) true = faulty command g [] ps
+
+-- the command, where it is accepted
+abbrev pub accepted : State → List ℕ → List Parameter → Option RemoteCommand
+accepted g name ps = if hcack g name ps == 0 then command_named name else None

@@ -1,0 +1,78 @@
+-- The values of variables: what S1F3, S2F13 and reports give (SEMI E5, S1F3 and S2F13; this tool's profile, variables).
+use Rattle.std.specs.Prelude.{ℕ, ◌+◌, ◌*◌, ◌==◌, nat_lt, if◌then◌else◌, List, [], ◌∷◌, length, map, Option, Some, None, option_map}
+use Rattle.gem_ids.specs.Civil.{time_digits}
+use Rattle.gem_states.specs.Meaning.{comm_number, control_number}
+use Rattle.gem_tables.specs.Table.{Firing}
+use Rattle.secs_items.specs.Data.{Data, ascii, u1, u2, u4}
+use Rattle.data_variables.specs.Constants.{value_item, constant_in}
+use Rattle.event_reports.specs.Alarms.{set_alids}
+use Rattle.gem_model.specs.State.{State, clock_now}
+
+-- what is happening while a value is asked: the object and the row of a firing, which EventObject and EventRow tell
+pub record Occasion : Type 0 where
+  pub object : List ℕ
+  pub row : ℕ
+
+-- outside a firing EventObject is empty and EventRow is 0 (this tool's profile, variables)
+abbrev pub no_firing : Occasion
+no_firing = record { object = []; row = 0 }
+
+-- the name of the object of a firing; communication, control and the line of notes have none (this tool's profile, variables)
+abbrev pub object_name : State → Firing → List ℕ
+object_name g f = []
+
+-- a firing tells its object, and 100 times its table plus its row (this tool's profile, variables)
+abbrev pub occasion_of : State → Firing → Occasion
+occasion_of g f = record { object = object_name g f; row = 100 * f.table + f.row }
+
+-- a variable and its value
+pub record Valued : Type 0 where
+  pub vid : ℕ
+  pub value : Data
+
+abbrev valued : ℕ → Data → Valued
+valued vid value = record { vid = vid; value = value }
+
+-- the status variables that are built, in order: Clock, CommState, ControlState and AlarmsSet (this tool's profile, variables)
+abbrev pub status_variables : State → List Valued
+status_variables g =
+    valued 1 (ascii (time_digits (clock_now g)))
+    ∷ valued 2 (u1 (comm_number g.comm ∷ []))
+    ∷ valued 3 (u1 (control_number g.control ∷ []))
+    ∷ valued 8 (u4 (set_alids g.alarms))
+    ∷ []
+
+-- EventObject and EventRow (this tool's profile, variables)
+abbrev pub event_variables : Occasion → List Valued
+event_variables o = valued 100 (ascii o.object) ∷ valued 101 (u2 (o.row ∷ [])) ∷ []
+
+-- the value of a variable of a list
+abbrev pub value_among : List Valued → ℕ → Option Data
+value_among [] vid = None
+value_among (v ∷ vs) vid = if v.vid == vid then Some v.value else value_among vs vid
+
+-- the value of a constant (this tool's profile, constants)
+abbrev pub constant_value : State → ℕ → Option Data
+constant_value g ecid = option_map value_item (constant_in ecid g.constants)
+
+-- the first value that is there
+abbrev pub or_else : Option Data → Option Data → Option Data
+or_else None other = other
+or_else (Some d) other = Some d
+
+-- the value of a status variable; none for a number that is none (SEMI E5, S1F3)
+abbrev pub status_value : State → ℕ → Option Data
+status_value g vid = value_among (status_variables g) vid
+
+-- the value of each variable that a report may name; none for one that is not built, or not known
+-- (this tool's profile, variables)
+abbrev pub value_of : Occasion → State → ℕ → Option Data
+value_of o g vid = or_else (status_value g vid) (or_else (value_among (event_variables o) vid) (constant_value g vid))
+
+-- the numbers of the status variables, in order
+abbrev pub svids : List ℕ
+svids = 1 ∷ 2 ∷ 3 ∷ 8 ∷ []
+
+-- the numbers of the constants, in order
+abbrev pub ecids : List ℕ
+ecids = 201 ∷ 202 ∷ 203 ∷ 204 ∷ 205 ∷ 206 ∷ 207 ∷ []

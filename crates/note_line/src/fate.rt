@@ -1,0 +1,26 @@
+//! What became of a note.
+
+use crate::note::Kind;
+
+/// Why a note was dropped: its transaction failed, or the tool didn't communicate, and notes of its kind aren't spooled.
+#[derive(Clone, Copy, Debug, PartialEq, Eq)]
+pub enum DropCause {
+    NoSpool,
+}
+
+/// What became of a note: it waits, or it is sent and its transaction is open; or it has ended, answered or dropped.
+#[derive(Clone, Copy, Debug, PartialEq, Eq)]
+pub enum Fate {
+    Answered,
+    Open,
+    Waiting,
+    Dropped(DropCause),
+}
+
+/// What the note of a number told of, by its kind and its CEID or ALID, and what became of it.
+#[derive(Clone, Copy, Debug, PartialEq, Eq)]
+pub struct Told {
+    pub kind: Kind,
+    pub id: u32,
+    pub fate: Fate,
+}

@@ -1,0 +1,4 @@
+pub mod Events
+pub mod Lines
+pub mod Variables
+pub mod Alarms

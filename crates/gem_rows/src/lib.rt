@@ -1,0 +1,16 @@
+//! Numbers of the tool's host interface: rows of the transition tables and their collection events, variables, and alarms
+//! (SEMI E5, data items CEID, VID, ALID; SEMI E30, event notification), by this tool's profile.
+//!
+//! It knows which numbers there are and how they are called, and no value of a variable and no state of an alarm. Only
+//! the two lists take memory. Begin with `ceid_of`, which gives the event of a row; `is_vid` and `alids` say what a plant
+//! knows.
+#![tactic(auto)]
+
+mod alarms;
+mod names;
+mod rows;
+mod variables;
+
+pub use alarms::{alarm_text, alids};
+pub use rows::{RowId, ceid_of, ceids, is_ceid, row_of};
+pub use variables::{is_vid, vid_name};

@@ -38,8 +38,8 @@ fn push_behind(ids: &mut Ids, base: u32, count: u32) -> Result<(), AllocError>
     requires { base + count < 1000 }
     ensures { IfOk result (λ _. ids.new ≡ ids.old ++ numbers_from (base + 1) count) }
 {
-    for number in 1..count + 1 {
-        ids.push(base + number)?;
+    for number in 0..count {
+        ids.push(base + 1 + number)?;
     }
     Ok(())
 }

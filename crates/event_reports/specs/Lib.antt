@@ -1,0 +1,5 @@
+pub mod Limits
+pub mod Given
+pub mod Alarms
+pub mod Reports
+pub mod Kept

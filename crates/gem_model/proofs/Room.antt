@@ -1,5 +1,6 @@
 -- Few transactions are open: each step keeps it.
-use Rattle.std.proofs.Common.{◌≡◌, ℕ, zero, suc, ◌+◌, ◌≤◌, ◌==◌, ◌&&◌, not, Bool, true, false, if◌then◌else◌, List, [], ◌∷◌, length, map, find, Option, Some, None, option_map, is_some, refl, sym, ◌∙◌, ap, subst, arith}
+use Rattle.std.proofs.Common.{◌≡◌, ℕ, zero, suc, ◌+◌, ◌≤◌, ◌==◌, ◌&&◌, not, Bool, true, false, if◌then◌else◌, List, [], ◌∷◌, length, map, find, Option, Some, None, option_map, is_some, ◌++◌, refl, sym, ◌∙◌, ap, subst, arith}
+use Rattle.std.specs.Option.{option_or}
 use Rattle.std.proofs.lemmas.Bool.{true≢false}
 use Rattle.std.proofs.lemmas.Bool.Decides.{nat_tests}
 use Rattle.hsms_frame.specs.declared.frame.Header.{Header}
@@ -37,26 +38,37 @@ use Rattle.tool_events.specs.declared.event.Event.{Event}
 use Rattle.tool_events.specs.declared.event.Event.TheVariants as event
 use Rattle.tool_events.specs.declared.event.OperCmd.{OperCmd}
 use Rattle.tool_events.specs.declared.event.OperCmd.TheVariants as oper
+use Rattle.gem_rows.specs.Events.{ceid_of}
+use Rattle.event_reports.specs.Alarms.{is_set, clear_alarm}
+use Rattle.note_line.specs.declared.note.Note.{Note}
+use Rattle.note_line.specs.declared.fate.Fate.TheVariants.{Dropped}
+use Rattle.note_line.specs.declared.fate.DropCause.TheVariants.{NoSpool}
+use Rattle.note_line.specs.Line.{Line, with_head, sent, fated}
+use Rattle.note_line.specs.Line.{answered as answered_line}
+use Rattle.note_line.specs.Table3.{has_open, row_effect}
 use Rattle.transactions.specs.declared.transaction.Open.{Open}
 use Rattle.transactions.specs.declared.transaction.What.{What}
 use Rattle.transactions.specs.declared.transaction.What.TheVariants as what
 use Rattle.transactions.specs.Table.{Table, is_full, without, taken_out}
 use Rattle.transactions.specs.SystemBytes.{drawn, with_started}
 use Rattle.transactions.specs.Endings.{same_kind, answers, answered, first_of, first_expired, is_first_expired}
-use Rattle.gem_model.specs.State.{State, is_up, is_selected, is_session_up, is_communicating, can_ask, without_session, with_frame}
+use Rattle.gem_model.specs.State.{State, t3, is_up, is_selected, is_session_up, is_communicating, can_ask, without_session, with_frame}
 use Rattle.gem_model.specs.Sending.{asks, identity_text, sends_stream9, data_header, data_frame}
-use Rattle.gem_model.specs.Fire.{fire, fires, fire_listed, row_starts, delay_end, of_control}
-use Rattle.gem_model.specs.Direct.{by_comm, by_control, operator_rows, message_rows, answer_rows, timeout_rows}
-use Rattle.gem_model.specs.Ready.{least, ready_comm, ready_control, is_attempt}
+use Rattle.gem_model.specs.Fire.{fire, fires, fire_listed, row_starts, takes_effect, asks_first, stream_of_kind, function_of_kind, delay_end, of_control}
+use Rattle.gem_model.specs.Noting.{line_with_event, line_with_alarm, is_event_reported, is_alarm_reported, clears_alarm}
+use Rattle.gem_model.specs.Remote.{RemoteCommand, GoLocal, ClearAlarm, Parameter, accepted, alarm_named}
+use Rattle.gem_model.specs.Direct.{by_comm, by_control, note_fails, operator_rows, command_rows, message_rows, answer_rows, timeout_rows}
+use Rattle.gem_model.specs.Ready.{least, ready_comm, ready_control, ready_line, is_attempt}
 use Rattle.gem_model.specs.Measure.{one_if, is_wait_delay, left}
 use Rattle.gem_model.specs.Verdict.{Verdict, Discarded, Stream9, Aborted, Answers, Taken, verdict, header_of, item_of, wants_reply, stream_of, function_of, reply_to}
-use Rattle.gem_model.specs.Act.{written, clock_set, replied, taken, closed_by, data_act, session_ended}
+use Rattle.gem_model.specs.Act.{written, clock_set, clears_named, command_written, note_answered, replied, taken, closed_by, data_act, session_ended}
 use Rattle.gem_model.specs.Due.{Timeout, dues_with, expired_from, link_times, is_due, all_done, asks_linktest, timed_out}
 use Rattle.gem_model.specs.Settle.{settled, settling, settling_by, Along}
 use Rattle.gem_model.specs.Step as steps
-use Rattle.gem_model.specs.Step.{Outcome, step_from, acts, linked, hosted, operated, switched, quits, ticked, settles}
+use Rattle.gem_model.specs.Step.{Outcome, step_from, acts, linked, hosted, operated, can_clear, switched, quits, ticked, settles}
 use Rattle.gem_model.specs.Valid.{is_wait_cra, establishes, attempts, is_note, notes, count_of}
 use Rattle.gem_model.proofs.Tests.{went, either_way, or_went, and_parts_of, none_some}
+use Rattle.gem_model.proofs.LineRows.{line_went}
 use Rattle.gem_model.proofs.Settling.{settled_keeps, waits, fired_3}
 use Rattle.gem_model.proofs.Links.{link_after-keeps}
 use Rattle.gem_model.proofs.Counts.{count-found, count-push, count-forgotten, count-out, all-counted}
@@ -64,18 +76,18 @@ use Rattle.gem_model.proofs.Counts.{count-found, count-push, count-forgotten, co
 -- ---- by numbers
 
 -- So many transactions of each kind can be open beside these states of communication and control, on a link that is
--- selected or not.
-pub record Fits (establish_count attempt_count note_count : ℕ) (comm : Comm) (control : Control) (selected : Bool) : Type 0 where
+-- selected or not, and a line with a note that is open or without one.
+pub record Fits (establish_count attempt_count note_count : ℕ) (comm : Comm) (control : Control) (selected opened : Bool) : Type 0 where
   pub establish : establish_count ≤ one_if (is_wait_cra comm)
   pub attempt : attempt_count ≤ one_if ((is_communicating comm && selected) && is_attempt control)
-  pub note : note_count ≡ 0
+  pub note : note_count ≤ one_if (is_communicating comm && opened)
 
 one_if-most : (b : Bool) → one_if b ≤ 1
 one_if-most true = omega arith
 one_if-most false = omega arith
 
-fits-less : (e a n d b m : ℕ) (c : Comm) (k : Control) (s : Bool) → d ≤ e → b ≤ a → m ≤ n → Fits e a n c k s → Fits d b m c k s
-fits-less e a n d b m c k s less_e less_a less_n f = record { establish = omega (arith, f.establish); attempt = omega (arith, f.attempt); note = omega (arith, f.note) }
+fits-less : (e a n d b m : ℕ) (c : Comm) (k : Control) (s o : Bool) → d ≤ e → b ≤ a → m ≤ n → Fits e a n c k s o → Fits d b m c k s o
+fits-less e a n d b m c k s o less_e less_a less_n f = record { establish = omega (arith, f.establish); attempt = omega (arith, f.attempt); note = omega (arith, f.note) }
 
 -- the tool still can ask where it could
 fits_ask : (a : ℕ) (b s c t k : Bool) → (b ≡ true → c ≡ true) → (s ≡ true → t ≡ true) → a ≤ one_if ((b && s) && k) → a ≤ one_if ((c && t) && k)
@@ -85,12 +97,18 @@ fits_ask a true true false t k talks selected f = absurd (true≢false (sym (tal
 fits_ask a true true true false k talks selected f = absurd (true≢false (sym (selected refl)))
 fits_ask a true true true true k talks selected f = f
 
+-- a note still can be open where it could
+fits_note : (n : ℕ) (b c o : Bool) → (b ≡ true → c ≡ true) → n ≤ one_if (b && o) → n ≤ one_if (c && o)
+fits_note n false c o talks f = omega (arith, f)
+fits_note n true false o talks f = absurd (true≢false (sym (talks refl)))
+fits_note n true true o talks f = f
+
 -- without an S1F13 communication can go to each state, but must not cease
-fits-comm : (e a n : ℕ) (c d : Comm) (k : Control) (s : Bool) → e ≡ 0 → (is_communicating c ≡ true → is_communicating d ≡ true) → Fits e a n c k s → Fits e a n d k s
-fits-comm e a n c d k s none talks f = record {
+fits-comm : (e a n : ℕ) (c d : Comm) (k : Control) (s o : Bool) → e ≡ 0 → (is_communicating c ≡ true → is_communicating d ≡ true) → Fits e a n c k s o → Fits e a n d k s o
+fits-comm e a n c d k s o none talks f = record {
   establish = omega (arith, none);
   attempt = fits_ask a (is_communicating c) s (is_communicating d) s (is_attempt k) talks (λ is. is) f.attempt;
-  note = f.note;
+  note = fits_note n (is_communicating c) (is_communicating d) o talks f.note;
 }
 
 -- a row that does not start in COMMUNICATING leaves it
@@ -101,55 +119,62 @@ talks_on row until (WaitDelay since) never is = absurd (cc)
 talks_on row until WaitCra never is = absurd (cc)
 
 -- enable
-fits-enabled : (e a n until : ℕ) (c : Comm) (k : Control) (s : Bool) → Fits e a n c k s → Fits e a n (comm_fired 1 until c) k s
-fits-enabled e a n until Disabled k s f = record { establish = f.establish; attempt = f.attempt; note = f.note }
-fits-enabled e a n until (WaitDelay since) k s f = f
-fits-enabled e a n until WaitCra k s f = f
-fits-enabled e a n until Communicating k s f = f
+fits-enabled : (e a n until : ℕ) (c : Comm) (k : Control) (s o : Bool) → Fits e a n c k s o → Fits e a n (comm_fired 1 until c) k s o
+fits-enabled e a n until Disabled k s o f = record { establish = f.establish; attempt = f.attempt; note = f.note }
+fits-enabled e a n until (WaitDelay since) k s o f = f
+fits-enabled e a n until WaitCra k s o f = f
+fits-enabled e a n until Communicating k s o f = f
 
 -- from WAIT DELAY to WAIT CRA, and S1F13 is open
-fits-asked : (e a n : ℕ) (c : Comm) (k : Control) (s : Bool) → is_wait_delay c ≡ true → Fits e a n c k s → Fits (e + 1) a n WaitCra k s
-fits-asked e a n (WaitDelay since) k s is f = record { establish = omega (arith, f.establish); attempt = f.attempt; note = f.note }
-fits-asked e a n Disabled k s is f = absurd (cc)
-fits-asked e a n WaitCra k s is f = absurd (cc)
-fits-asked e a n Communicating k s is f = absurd (cc)
+fits-asked : (e a n : ℕ) (c : Comm) (k : Control) (s o : Bool) → is_wait_delay c ≡ true → Fits e a n c k s o → Fits (e + 1) a n WaitCra k s o
+fits-asked e a n (WaitDelay since) k s o is f = record { establish = omega (arith, f.establish); attempt = f.attempt; note = f.note }
+fits-asked e a n Disabled k s o is f = absurd (cc)
+fits-asked e a n WaitCra k s o is f = absurd (cc)
+fits-asked e a n Communicating k s o is f = absurd (cc)
 
 -- without an S1F1 control can go to each state
-fits-control : (e a n : ℕ) (c : Comm) (k j : Control) (s : Bool) → a ≡ 0 → Fits e a n c k s → Fits e a n c j s
-fits-control e a n c k j s none f = record { establish = f.establish; attempt = omega (arith, none); note = f.note }
+fits-control : (e a n : ℕ) (c : Comm) (k j : Control) (s o : Bool) → a ≡ 0 → Fits e a n c k s o → Fits e a n c j s o
+fits-control e a n c k j s o none f = record { establish = f.establish; attempt = omega (arith, none); note = f.note }
 
 no_ask : (a : ℕ) (b : Bool) → a ≤ one_if (b && false) → a ≡ 0
 no_ask a true f = omega (arith, f)
 no_ask a false f = omega (arith, f)
 
 -- a row that does not start in ATTEMPT ON-LINE
-fits-elsewhere : (row e a n : ℕ) (c : Comm) (k : Control) (s : Bool) → starts control_table row attempt_online ≡ false → Fits e a n c k s → Fits e a n c (control_fired row k) s
-fits-elsewhere row e a n c control.Attempt s never f = rw never f
-fits-elsewhere row e a n c control.EquipmentOffline s never f = fits-control e a n c control.EquipmentOffline _ s (no_ask a (is_communicating c && s) f.attempt) f
-fits-elsewhere row e a n c control.HostOffline s never f = fits-control e a n c control.HostOffline _ s (no_ask a (is_communicating c && s) f.attempt) f
-fits-elsewhere row e a n c control.Local s never f = fits-control e a n c control.Local _ s (no_ask a (is_communicating c && s) f.attempt) f
-fits-elsewhere row e a n c control.Remote s never f = fits-control e a n c control.Remote _ s (no_ask a (is_communicating c && s) f.attempt) f
+fits-elsewhere : (row e a n : ℕ) (c : Comm) (k : Control) (s o : Bool) → starts control_table row attempt_online ≡ false → Fits e a n c k s o → Fits e a n c (control_fired row k) s o
+fits-elsewhere row e a n c control.Attempt s o never f = rw never f
+fits-elsewhere row e a n c control.EquipmentOffline s o never f = fits-control e a n c control.EquipmentOffline _ s o (no_ask a (is_communicating c && s) f.attempt) f
+fits-elsewhere row e a n c control.HostOffline s o never f = fits-control e a n c control.HostOffline _ s o (no_ask a (is_communicating c && s) f.attempt) f
+fits-elsewhere row e a n c control.Local s o never f = fits-control e a n c control.Local _ s o (no_ask a (is_communicating c && s) f.attempt) f
+fits-elsewhere row e a n c control.Remote s o never f = fits-control e a n c control.Remote _ s o (no_ask a (is_communicating c && s) f.attempt) f
 
 -- what is known of a state from which the attempt starts
 record FromOffline (a : ℕ) (k : Control) : Type 0 where
   pub none : a ≡ 0
   pub leads : control_fired 1 k ≡ control.Attempt
 
-from_offline : (e a n : ℕ) (c : Comm) (k : Control) (s : Bool) → starts control_table 1 (control_number k) ≡ true → Fits e a n c k s → FromOffline a k
-from_offline e a n c control.EquipmentOffline s is f = record { none = no_ask a (is_communicating c && s) f.attempt; leads = refl }
-from_offline e a n c control.Attempt s is f = absurd (cc)
-from_offline e a n c control.HostOffline s is f = absurd (cc)
-from_offline e a n c control.Local s is f = absurd (cc)
-from_offline e a n c control.Remote s is f = absurd (cc)
+from_offline : (e a n : ℕ) (c : Comm) (k : Control) (s o : Bool) → starts control_table 1 (control_number k) ≡ true → Fits e a n c k s o → FromOffline a k
+from_offline e a n c control.EquipmentOffline s o is f = record { none = no_ask a (is_communicating c && s) f.attempt; leads = refl }
+from_offline e a n c control.Attempt s o is f = absurd (cc)
+from_offline e a n c control.HostOffline s o is f = absurd (cc)
+from_offline e a n c control.Local s o is f = absurd (cc)
+from_offline e a n c control.Remote s o is f = absurd (cc)
 
-fits-attempted : (e a n : ℕ) (c : Comm) (k : Control) (s : Bool) → a ≡ 0 → (is_communicating c && s) ≡ true → Fits e a n c k s → Fits e (a + 1) n c control.Attempt s
-fits-attempted e a n c k s none can f = record { establish = f.establish; attempt = rw can (omega (arith, none)); note = f.note }
+fits-attempted : (e a n : ℕ) (c : Comm) (k : Control) (s o : Bool) → a ≡ 0 → (is_communicating c && s) ≡ true → Fits e a n c k s o → Fits e (a + 1) n c control.Attempt s o
+fits-attempted e a n c k s o none can f = record { establish = f.establish; attempt = rw can (omega (arith, none)); note = f.note }
+
+-- without an open note, in COMMUNICATING, one can be sent
+fits-sent : (e a n : ℕ) (c : Comm) (k : Control) (s : Bool) → is_communicating c ≡ true → Fits e a n c k s false → Fits e a (n + 1) c k s true
+fits-sent e a n Communicating k s talks f = record { establish = f.establish; attempt = f.attempt; note = omega (arith, f.note) }
+fits-sent e a n Disabled k s talks f = absurd (cc)
+fits-sent e a n (WaitDelay since) k s talks f = absurd (cc)
+fits-sent e a n WaitCra k s talks f = absurd (cc)
 
 -- ---- by states
 
 -- few transactions of a table are open, beside a state
 abbrev FewIn : Table → State → Type 0
-FewIn t g = Fits (count_of establishes t.opened) (count_of attempts t.opened) (count_of notes t.opened) g.comm g.control (is_selected g)
+FewIn t g = Fits (count_of establishes t.opened) (count_of attempts t.opened) (count_of notes t.opened) g.comm g.control (is_selected g) (has_open g.line)
 
 -- few transactions of a state are open
 abbrev pub Few : State → Type 0
@@ -170,13 +195,23 @@ in_either false t u g at_t at_u = at_u
 -- where none is open few are
 few-none : (g : State) → g.transactions.opened ≡ [] → Few g
 few-none g none =
-    subst (λ (opened : List Open). Fits (count_of establishes opened) (count_of attempts opened) (count_of notes opened) g.comm g.control (is_selected g))
-    (sym none) (record { establish = omega arith; attempt = omega arith; note = refl })
+    subst (λ (opened : List Open). Fits (count_of establishes opened) (count_of attempts opened) (count_of notes opened) g.comm g.control (is_selected g) (has_open g.line))
+    (sym none) (record { establish = omega arith; attempt = omega arith; note = omega arith })
+
+-- a line with the same open note
+few-line : (g : State) (l : Line) → l.opened ≡ g.line.opened → Few g → Few (record g { line = l })
+few-line g l same few =
+    subst (λ (opened : Option Note). Fits (count_of establishes g.transactions.opened) (count_of attempts g.transactions.opened) (count_of notes g.transactions.opened) g.comm g.control (is_selected g) (is_some opened))
+    (sym same) few
+
+-- where no note's transaction is open any line will do
+few-no_note : (g : State) (l : Line) → count_of notes g.transactions.opened ≡ 0 → Few g → Few (record g { line = l })
+few-no_note g l none few = record { establish = few.establish; attempt = few.attempt; note = omega (arith, none) }
 
 few-out : (g : State) (found : Option Open) → Few g → FewIn (taken_out found g.transactions) g
 few-out g found few =
     let t : Table = g.transactions in
-    fits-less (count_of establishes t.opened) (count_of attempts t.opened) (count_of notes t.opened) _ _ _ g.comm g.control (is_selected g)
+    fits-less (count_of establishes t.opened) (count_of attempts t.opened) (count_of notes t.opened) _ _ _ g.comm g.control (is_selected g) (has_open g.line)
     (count-out establishes t found) (count-out attempts t found) (count-out notes t found) few
 
 -- ---- a start
@@ -185,7 +220,7 @@ few-out g found few =
 abbrev FewWith : What → State → Type 0
 FewWith w g = Fits (count_of establishes g.transactions.opened + one_if (same_kind w what.Establish))
     (count_of attempts g.transactions.opened + one_if (same_kind w what.Attempt))
-    (count_of notes g.transactions.opened + one_if (is_note w)) g.comm g.control (is_selected g)
+    (count_of notes g.transactions.opened + one_if (is_note w)) g.comm g.control (is_selected g) (has_open g.line)
 
 few-started : (g : State) (stream function deadline : ℕ) (w : What) → FewWith w g → FewIn (with_started stream function deadline w g.transactions) g
 few-started g stream function deadline w few =
@@ -194,34 +229,45 @@ few-started g stream function deadline w few =
     let e = count-push establishes t.opened one in
     let a = count-push attempts t.opened one in
     let n = count-push notes t.opened one in
-    fits-less (count_of establishes t.opened + one_if (same_kind w what.Establish)) (count_of attempts t.opened + one_if (same_kind w what.Attempt)) (count_of notes t.opened + one_if (is_note w)) _ _ _ g.comm g.control (is_selected g)
+    fits-less (count_of establishes t.opened + one_if (same_kind w what.Establish)) (count_of attempts t.opened + one_if (same_kind w what.Attempt)) (count_of notes t.opened + one_if (is_note w)) _ _ _ g.comm g.control (is_selected g) (has_open g.line)
     (omega arith) (omega arith) (omega arith) few
 
 few-asks : (g : State) (stream function : ℕ) (w : What) (text : List ℕ) → Few g → FewWith w g → Few (asks stream function w text g)
 few-asks g stream function w text few with_one =
     let t : Table = g.transactions in
     few_either (is_full t) g
-    (with_frame (data_frame g.config.device true stream function (drawn t) text) (record g { transactions = if is_full t then t else with_started stream function (g.moment + g.times.t3) w t }))
-    few (in_either (is_full t) t (with_started stream function (g.moment + g.times.t3) w t) g few (few-started g stream function (g.moment + g.times.t3) w with_one))
+    (with_frame (data_frame g.config.device true stream function (drawn t) text) (record g { transactions = if is_full t then t else with_started stream function (g.moment + t3 g) w t }))
+    few (in_either (is_full t) t (with_started stream function (g.moment + t3 g) w t) g few (few-started g stream function (g.moment + t3 g) w with_one))
 
 -- ---- one row
 
-few-one : (f : Firing) (g : State) → Few g → (row_starts g f ≡ true → Few (fire g f)) → Few (fire_listed (f ∷ []) g)
-few-one f g few fired = few_where (row_starts g f) (fire g f) g fired (λ _. few)
+-- the note that a firing makes opens none
+same_open : (event : Option ℕ) (before : State) (f : Firing) (g : State) → (line_with_event event before f g).opened ≡ g.line.opened
+same_open None before f g = refl
+same_open (Some ceid) before f g = either_way (λ (l : Line). l.opened ≡ g.line.opened) (is_event_reported ceid before g) _ g.line refl refl
+
+few_fire : (g : State) (f : Firing) → Few (takes_effect g f) → Few (fire g f)
+few_fire g f few = few-line (takes_effect g f) (line_with_event (ceid_of f.table f.row) g f (takes_effect g f)) (same_open (ceid_of f.table f.row) g f (takes_effect g f)) few
+
+few-one : (f : Firing) (g : State) → Few g → (row_starts g f ≡ true → Few (takes_effect g f)) → Few (fire_listed (f ∷ []) g)
+few-one f g few fired = few_where (row_starts g f) (fire g f) g (λ is. few_fire g f (fired is)) (λ _. few)
 
 -- rows 4 and 5 of table 1, where no S1F13 is open
 few-accepted : (g : State) → Few g → count_of establishes g.transactions.opened ≡ 0 → Few (fire_listed (firing 1 0 4 ∷ []) g)
 few-accepted g few none =
     few-one (firing 1 0 4) g few
-    (λ _. fits-comm _ _ _ g.comm (comm_fired 4 (delay_end 4 g) g.comm) g.control (is_selected g) none (talks_on 4 (delay_end 4 g) g.comm refl) few)
+    (λ _. fits-comm _ _ _ g.comm (comm_fired 4 (delay_end 4 g) g.comm) g.control (is_selected g) (has_open g.line) none (talks_on 4 (delay_end 4 g) g.comm refl) few)
 
 few-refused : (g : State) → Few g → count_of establishes g.transactions.opened ≡ 0 → Few (fire_listed (firing 1 0 5 ∷ []) g)
 few-refused g few none =
     few-one (firing 1 0 5) g few
-    (λ _. fits-comm _ _ _ g.comm (comm_fired 5 (delay_end 5 g) g.comm) g.control (is_selected g) none (talks_on 5 (delay_end 5 g) g.comm refl) few)
+    (λ _. fits-comm _ _ _ g.comm (comm_fired 5 (delay_end 5 g) g.comm) g.control (is_selected g) (has_open g.line) none (talks_on 5 (delay_end 5 g) g.comm refl) few)
 
 most_establish : (g : State) → Few g → count_of establishes g.transactions.opened ≤ 1
 most_establish g few = let most = one_if-most (is_wait_cra g.comm) in omega (arith, few.establish, most)
+
+most_note : (g : State) → Few g → count_of notes g.transactions.opened ≤ 1
+most_note g few = let most = one_if-most (is_communicating g.comm && has_open g.line) in omega (arith, few.note, most)
 
 most_attempt : (g : State) → Few g → count_of attempts g.transactions.opened ≤ 1
 most_attempt g few = let most = one_if-most (can_ask g && is_attempt g.control) in omega (arith, few.attempt, most)
@@ -231,83 +277,114 @@ few-met : (g : State) → Few g → Few (fire_listed (firing 1 0 6 ∷ []) g)
 few-met g few =
     let none = count-forgotten establishes g.transactions (first_of what.Establish g.transactions.opened) refl (most_establish g few) in
     few-one (firing 1 0 6) g few
-    (λ _. fits-comm _ _ _ g.comm (comm_fired 6 (delay_end 6 g) g.comm) g.control (is_selected g) none (talks_on 6 (delay_end 6 g) g.comm refl)
+    (λ _. fits-comm _ _ _ g.comm (comm_fired 6 (delay_end 6 g) g.comm) g.control (is_selected g) (has_open g.line) none (talks_on 6 (delay_end 6 g) g.comm refl)
     (few-out g (first_of what.Establish g.transactions.opened) few))
 
 few-enabled : (g : State) → Few g → Few (fire_listed (firing 1 0 1 ∷ []) g)
 few-enabled g few =
-    few-one (firing 1 0 1) g few (λ _. fits-enabled _ _ _ (delay_end 1 g) g.comm g.control (is_selected g) few)
+    few-one (firing 1 0 1) g few (λ _. fits-enabled _ _ _ (delay_end 1 g) g.comm g.control (is_selected g) (has_open g.line) few)
 
 -- a row of table 2 that ends the attempt, where no S1F1 is open
 few-failed : (g : State) → Few g → count_of attempts g.transactions.opened ≡ 0 → Few (fire_listed (firing 2 0 3 ∷ []) g)
-few-failed g few none = few-one (firing 2 0 3) g few (λ _. fits-control _ _ _ g.comm g.control (control_fired 3 g.control) (is_selected g) none few)
+few-failed g few none = few-one (firing 2 0 3) g few (λ _. fits-control _ _ _ g.comm g.control (control_fired 3 g.control) (is_selected g) (has_open g.line) none few)
 
 few-on_line : (local : Bool) (g : State) → Few g → count_of attempts g.transactions.opened ≡ 0 → Few (fire_listed (of_control (if local then 4 ∷ [] else 5 ∷ [])) g)
-few-on_line true g few none = few-one (firing 2 0 4) g few (λ _. fits-control _ _ _ g.comm g.control (control_fired 4 g.control) (is_selected g) none few)
-few-on_line false g few none = few-one (firing 2 0 5) g few (λ _. fits-control _ _ _ g.comm g.control (control_fired 5 g.control) (is_selected g) none few)
+few-on_line true g few none = few-one (firing 2 0 4) g few (λ _. fits-control _ _ _ g.comm g.control (control_fired 4 g.control) (is_selected g) (has_open g.line) none few)
+few-on_line false g few none = few-one (firing 2 0 5) g few (λ _. fits-control _ _ _ g.comm g.control (control_fired 5 g.control) (is_selected g) (has_open g.line) none few)
 
 -- row 6 of table 2: the tool's S1F1 is forgotten
 few-off_line : (g : State) → Few g → Few (fire_listed (firing 2 0 6 ∷ []) g)
 few-off_line g few =
     let none = count-forgotten attempts g.transactions (first_of what.Attempt g.transactions.opened) refl (most_attempt g few) in
     few-one (firing 2 0 6) g few
-    (λ _. fits-control _ _ _ g.comm g.control (control_fired 6 g.control) (is_selected g) none (few-out g (first_of what.Attempt g.transactions.opened) few))
+    (λ _. fits-control _ _ _ g.comm g.control (control_fired 6 g.control) (is_selected g) (has_open g.line) none (few-out g (first_of what.Attempt g.transactions.opened) few))
 
 -- the other rows of table 2 do not start in ATTEMPT ON-LINE, and have no effect
 few-elsewhere : (row : ℕ) (g : State) → starts control_table row attempt_online ≡ false → (row == 1) ≡ false → (row == 6) ≡ false → Few g → Few (fire_listed (firing 2 0 row ∷ []) g)
 few-elsewhere row g never sends_none forgets_none few =
     few-one (firing 2 0 row) g few
-    (λ _. rw (sends_none, forgets_none) (fits-elsewhere row _ _ _ g.comm g.control (is_selected g) never few))
+    (λ _. rw (sends_none, forgets_none) (fits-elsewhere row _ _ _ g.comm g.control (is_selected g) (has_open g.line) never few))
 
 -- row 1 of table 2: S1F1 is sent where the tool can ask
 few-attempted : (g : State) → Few g → Few (fire_listed (firing 2 0 1 ∷ []) g)
 few-attempted g few = few-one (firing 2 0 1) g few (λ is. tries is)
   where
-    tries : starts control_table 1 (control_number g.control) ≡ true → Few (fire g (firing 2 0 1))
+    tries : starts control_table 1 (control_number g.control) ≡ true → Few (takes_effect g (firing 2 0 1))
     tries is =
-        let from = from_offline _ _ _ g.comm g.control (is_selected g) is few in
+        let from = from_offline _ _ _ g.comm g.control (is_selected g) (has_open g.line) is few in
         let h : State = record g { control = control_fired 1 g.control } in
-        let quiet : Few h = fits-control _ _ _ g.comm g.control (control_fired 1 g.control) (is_selected g) from.none few in
+        let quiet : Few h = fits-control _ _ _ g.comm g.control (control_fired 1 g.control) (is_selected g) (has_open g.line) from.none few in
         few_where (can_ask h) (asks 1 1 what.Attempt [] h) h
         (λ can. few-asks h 1 1 what.Attempt [] quiet (asked h from.leads can from.none quiet)) (λ _. quiet)
       where
         asked : (h : State) → h.control ≡ control.Attempt → can_ask h ≡ true → count_of attempts h.transactions.opened ≡ 0 → Few h → FewWith what.Attempt h
         asked h leads can none quiet =
-            let f = fits-attempted _ _ _ h.comm h.control (is_selected h) none can quiet in
-            subst (λ (k : Control). Fits (count_of establishes h.transactions.opened + 0) (count_of attempts h.transactions.opened + 1) (count_of notes h.transactions.opened + 0) h.comm k (is_selected h)) (sym leads)
-            (fits-less _ _ _ _ _ _ h.comm control.Attempt (is_selected h) (omega arith) (omega arith) (omega arith) f)
+            let f = fits-attempted _ _ _ h.comm h.control (is_selected h) (has_open h.line) none can quiet in
+            subst (λ (k : Control). Fits (count_of establishes h.transactions.opened + 0) (count_of attempts h.transactions.opened + 1) (count_of notes h.transactions.opened + 0) h.comm k (is_selected h) (has_open h.line)) (sym leads)
+            (fits-less _ _ _ _ _ _ h.comm control.Attempt (is_selected h) (has_open h.line) (omega arith) (omega arith) (omega arith) f)
 
 -- ---- settling
 
 few_firing : (g : State) (f one : Firing) → Few (fire g one) → Some one ≡ Some f → Few (fire g f)
 few_firing g f one few here = let same : one ≡ f = cc in subst (λ (x : Firing). Few (fire g x)) same few
 
+few_this : (g : State) (f one : Firing) → Few (fire g one) → one ≡ f → Few (fire g f)
+few_this g f one few same = subst (λ (x : Firing). Few (fire g x)) same few
+
 -- row 3 of table 1: S1F13 is sent
-few-asking : (g : State) → is_wait_delay g.comm ≡ true → Few g → Few (fire g (firing 1 0 3))
+few-asking : (g : State) → is_wait_delay g.comm ≡ true → Few g → Few (takes_effect g (firing 1 0 3))
 few-asking g is few =
     let h : State = record g { comm = comm_fired 3 (delay_end 3 g) g.comm } in
     let leads : comm_fired 3 (delay_end 3 g) g.comm ≡ WaitCra = fired_3 (delay_end 3 g) g.comm is in
-    let f = fits-asked _ _ _ g.comm g.control (is_selected g) is few in
+    let f = fits-asked _ _ _ g.comm g.control (is_selected g) (has_open g.line) is few in
     few-asks h 1 13 what.Establish (identity_text h.config)
-    (subst (λ (c : Comm). Fits (count_of establishes g.transactions.opened) (count_of attempts g.transactions.opened) (count_of notes g.transactions.opened) c g.control (is_selected g)) (sym leads)
-    (fits-less _ _ _ _ _ _ WaitCra g.control (is_selected g) (omega arith) (omega arith) (omega arith) f))
-    (subst (λ (c : Comm). Fits (count_of establishes g.transactions.opened + 1) (count_of attempts g.transactions.opened + 0) (count_of notes g.transactions.opened + 0) c g.control (is_selected g)) (sym leads)
-    (fits-less _ _ _ _ _ _ WaitCra g.control (is_selected g) (omega arith) (omega arith) (omega arith) f))
+    (subst (λ (c : Comm). Fits (count_of establishes g.transactions.opened) (count_of attempts g.transactions.opened) (count_of notes g.transactions.opened) c g.control (is_selected g) (has_open g.line)) (sym leads)
+    (fits-less _ _ _ _ _ _ WaitCra g.control (is_selected g) (has_open g.line) (omega arith) (omega arith) (omega arith) f))
+    (subst (λ (c : Comm). Fits (count_of establishes g.transactions.opened + 1) (count_of attempts g.transactions.opened + 0) (count_of notes g.transactions.opened + 0) c g.control (is_selected g) (has_open g.line)) (sym leads)
+    (fits-less _ _ _ _ _ _ WaitCra g.control (is_selected g) (has_open g.line) (omega arith) (omega arith) (omega arith) f))
 
 cannot_ask : (a : ℕ) (b k : Bool) → not b ≡ true → a ≤ one_if (b && k) → a ≡ 0
 cannot_ask a true k not_b f = absurd (cc)
 cannot_ask a false k not_b f = omega (arith, f)
 
 -- row 2 of table 2: the tool cannot ask, so no S1F1 is open
-few-given_up : (g : State) → not (can_ask g) ≡ true → Few g → Few (fire g (firing 2 0 2))
+few-given_up : (g : State) → not (can_ask g) ≡ true → Few g → Few (takes_effect g (firing 2 0 2))
 few-given_up g cannot few =
-    fits-control _ _ _ g.comm g.control (control_fired 2 g.control) (is_selected g) (cannot_ask _ (can_ask g) (is_attempt g.control) cannot few.attempt) few
+    fits-control _ _ _ g.comm g.control (control_fired 2 g.control) (is_selected g) (has_open g.line) (cannot_ask _ (can_ask g) (is_attempt g.control) cannot few.attempt) few
+
+-- row 11 of table 3: the head is dropped, and the open note stays
+same_dropped : (notes : List Note) (l : Line) → (with_head (fated (Dropped NoSpool)) notes l).opened ≡ l.opened
+same_dropped [] l = refl
+same_dropped (note ∷ notes) l = refl
+
+few-dropped : (g : State) → Few g → Few (takes_effect g (firing 3 0 11))
+few-dropped g few = few-line g (row_effect 11 g.line) (same_dropped g.line.waiting g.line) few
+
+-- row 13 of table 3: the head is sent where none is open
+few-sending : (waiting : List Note) (g : State) → has_open g.line ≡ false → is_communicating g.comm ≡ true → Few g → Few (record (asks_first waiting g) { line = with_head sent waiting g.line })
+few-sending [] g none talks few = few
+few-sending (note ∷ waiting) g none talks few =
+    let h : State = record g { line = with_head sent (note ∷ waiting) g.line } in
+    let before : Fits (count_of establishes g.transactions.opened) (count_of attempts g.transactions.opened) (count_of notes g.transactions.opened) g.comm g.control (is_selected g) false =
+    subst (λ (o : Bool). Fits (count_of establishes g.transactions.opened) (count_of attempts g.transactions.opened) (count_of notes g.transactions.opened) g.comm g.control (is_selected g) o) none few in
+    let f = fits-sent _ _ _ g.comm g.control (is_selected g) talks before in
+    few-asks h (stream_of_kind note.kind) (function_of_kind note.kind) (what.Note note.number) note.text
+    (fits-less _ _ _ _ _ _ g.comm g.control (is_selected g) true (omega arith) (omega arith) (omega arith) f)
+    (fits-less _ _ _ _ _ _ g.comm g.control (is_selected g) true (omega arith) (omega arith) (omega arith) f)
+
+few-sent : (g : State) → has_open g.line ≡ false → is_communicating g.comm ≡ true → Few g → Few (takes_effect g (firing 3 0 13))
+few-sent g none talks few = few-sending g.line.waiting g none talks few
 
 few-automatic : (g : State) (f : Firing) → least g ≡ Some f → Few g → Few (fire g f)
 few-automatic g f ready few =
-    or_went (ready_comm g) (ready_control g) f
-    (λ at. went _ _ _ _ (λ over e. few_firing g f (firing 1 0 3) (few-asking g (waits g.moment g.comm (and_parts_of _ _ over).0) few) e) (λ _ e. none_some f e) at)
-    (λ _ at. went _ _ _ _ (λ can e. few_firing g f (firing 2 0 2) (few-given_up g (and_parts_of _ _ can).1 few) e) (λ _ e. none_some f e) at)
+    or_went (ready_comm g) (option_or (ready_control g) (ready_line g)) f
+    (λ at. went _ _ _ _ (λ over e. few_firing g f (firing 1 0 3) (few_fire g (firing 1 0 3) (few-asking g (waits g.moment g.comm (and_parts_of _ _ over).0) few)) e) (λ _ e. none_some f e) at)
+    (λ _ behind. or_went (ready_control g) (ready_line g) f
+    (λ at. went _ _ _ _ (λ can e. few_firing g f (firing 2 0 2) (few_fire g (firing 2 0 2) (few-given_up g (and_parts_of _ _ can).1 few)) e) (λ _ e. none_some f e) at)
+    (λ _ at. line_went (is_communicating g.comm) g.line f
+    (λ _ e. few_this g f (firing 3 0 11) (few_fire g (firing 3 0 11) (few-dropped g few)) e)
+    (λ _ none talks e. few_this g f (firing 3 0 13) (few_fire g (firing 3 0 13) (few-sent g none talks few)) e)
+    at) behind)
     ready
 
 pub few-settled : (g : State) → Few g → Few (settled g)
@@ -319,7 +396,7 @@ few-settled g few = settled_keeps Few few-automatic g few
 abbrev Gone : What → State → Type 0
 Gone what.Establish g = count_of establishes g.transactions.opened ≡ 0
 Gone what.Attempt g = count_of attempts g.transactions.opened ≡ 0
-Gone (what.Note n) g = Unit {0}
+Gone (what.Note n) g = count_of notes g.transactions.opened ≡ 0
 
 -- a state in which one that was found is open no more
 abbrev out_of : Open → State → State
@@ -334,9 +411,12 @@ gone-out what.Attempt g searched one found is few =
     let less = count-found attempts searched g.transactions.opened one found (ap (λ (w : What). same_kind w what.Attempt) is) in
     let most = most_attempt g few in
     omega arith
-gone-out (what.Note n) g searched one found is few = tt
+gone-out (what.Note n) g searched one found is few =
+    let less = count-found notes searched g.transactions.opened one found (ap is_note is) in
+    let most = most_note g few in
+    omega arith
 
-few-answer : (w : What) (function : ℕ) (item : Option Data) (g : State) → Few g → Gone w g → Few (fire_listed (answer_rows w function item g) g)
+few-answer : (w : What) (function : ℕ) (item : Option Data) (g : State) → Few g → Gone w g → Few (fires (answer_rows w function item) (note_answered w g))
 few-answer what.Establish function item g few gone =
     either_way (λ (t : CommTrigger). Few (fire_listed (by_comm t) g)) (function == 0) comm.Refused (if accepts item then comm.Accepted else comm.Refused)
     (few-refused g few gone)
@@ -344,12 +424,12 @@ few-answer what.Establish function item g few gone =
 few-answer what.Attempt function item g few gone =
     either_way (λ (t : ControlTrigger). Few (fire_listed (by_control t g) g)) (function == 0) trigger.Failed trigger.HostS1F2
     (few-failed g few gone) (few-on_line g.switch_local g few gone)
-few-answer (what.Note n) function item g few gone = few
+few-answer (what.Note n) function item g few gone = few-no_note g (answered_line g.line) gone few
 
 few-timeout : (w : What) (g : State) → Few g → Gone w g → Few (fire_listed (timeout_rows w g) g)
 few-timeout what.Establish g few gone = few-refused g few gone
 few-timeout what.Attempt g few gone = few-failed g few gone
-few-timeout (what.Note n) g few gone = few
+few-timeout (what.Note n) g few gone = few-one (firing 3 0 14) g few (λ _. few-no_note g (row_effect 14 g.line) gone few)
 
 few-closed : (g : State) (h : Header) (item : Option Data) (searched : Open → Bool) (found : Option Open) → find searched g.transactions.opened ≡ found → Few g → Few (closed_by h item found g)
 few-closed g h item searched None is few = few
@@ -367,12 +447,12 @@ few-timed_out g searched one found few =
     told_gone : (w : What) → one.what ≡ w → Gone w (told_of one g)
     told_gone what.Establish is = gone-out what.Establish g searched one found is few
     told_gone what.Attempt is = gone-out what.Attempt g searched one found is few
-    told_gone (what.Note n) is = tt
+    told_gone (what.Note n) is = gone-out (what.Note n) g searched one found is few
 
 opened_timeout : (w : What) (g : State) → (fire_listed (timeout_rows w g) g).transactions.opened ≡ g.transactions.opened
 opened_timeout what.Establish g = either_way (λ (h : State). h.transactions.opened ≡ g.transactions.opened) (row_starts g (firing 1 0 5)) (fire g (firing 1 0 5)) g refl refl
 opened_timeout what.Attempt g = either_way (λ (h : State). h.transactions.opened ≡ g.transactions.opened) (row_starts g (firing 2 0 3)) (fire g (firing 2 0 3)) g refl refl
-opened_timeout (what.Note n) g = refl
+opened_timeout (what.Note n) g = either_way (λ (h : State). h.transactions.opened ≡ g.transactions.opened) (row_starts g (firing 3 0 14)) (fire g (firing 3 0 14)) g refl refl
 
 few-timeouts : (n at : ℕ) (opened : List Open) (first : Option Open) (g : State) → g.transactions.opened ≡ opened → first_expired at opened ≡ first → Few g → Few (all_done (map (λ one. Timeout one) (expired_from n at opened first)) g)
 few-timeouts zero at opened first g is found few = few
@@ -387,9 +467,16 @@ few-timeouts (suc n) at opened (Some one) g is found few =
 none_fired : (f : Firing) (g : State) → g.transactions.opened ≡ [] → (fire g f).transactions.opened ≡ [] → (if row_starts g f then fire g f else g).transactions.opened ≡ []
 none_fired f g here fired = either_way (λ (h : State). h.transactions.opened ≡ []) (row_starts g f) (fire g f) g fired here
 
-none_failed : (b : Bool) (g : State) → g.transactions.opened ≡ [] → (fire_listed (if b then firing 2 0 3 ∷ [] else []) g).transactions.opened ≡ []
-none_failed true g none = none_fired (firing 2 0 3) g none none
-none_failed false g none = none
+-- the rows of the transactions that fail
+abbrev failing : Bool → List Firing
+failing attempted = (if attempted then firing 2 0 3 ∷ [] else []) ++ note_fails
+
+none_failed : (b : Bool) (g : State) → g.transactions.opened ≡ [] → (fire_listed (failing b) g).transactions.opened ≡ []
+none_failed true g none =
+    let one : State = if row_starts g (firing 2 0 3) then fire g (firing 2 0 3) else g in
+    let here = none_fired (firing 2 0 3) g none none in
+    none_fired (firing 3 0 14) one here here
+none_failed false g none = none_fired (firing 3 0 14) g none none
 
 few-ended : (g : State) → Few (session_ended g)
 few-ended g =
@@ -400,9 +487,15 @@ few-ended g =
 
 -- ---- operators
 
-failed_where : (b : Bool) (g : State) → Few g → count_of attempts g.transactions.opened ≡ 0 → Few (fire_listed (if b then firing 2 0 3 ∷ [] else []) g)
-failed_where true g few none = few-failed g few none
-failed_where false g few none = few
+note_failed : (g : State) → Few g → count_of notes g.transactions.opened ≡ 0 → Few (fire_listed note_fails g)
+note_failed g few none = few-one (firing 3 0 14) g few (λ _. few-no_note g (row_effect 14 g.line) none few)
+
+opened_failed : (g : State) → (fire_listed (firing 2 0 3 ∷ []) g).transactions.opened ≡ g.transactions.opened
+opened_failed g = either_way (λ (h : State). h.transactions.opened ≡ g.transactions.opened) (row_starts g (firing 2 0 3)) (fire g (firing 2 0 3)) g refl refl
+
+failed_where : (b : Bool) (g : State) → Few g → count_of attempts g.transactions.opened ≡ 0 → count_of notes g.transactions.opened ≡ 0 → Few (fire_listed (failing b) g)
+failed_where true g few none no_note = note_failed (fire_listed (firing 2 0 3 ∷ []) g) (few-failed g few none) (ap (count_of notes) (opened_failed g) ∙ no_note)
+failed_where false g few none no_note = note_failed g few no_note
 
 -- communication is disabled already where its row does not start, and so no S1F1 is open
 no_talk : (c : Comm) → starts communication_table 2 (comm_number c) ≡ false → not (is_communicating c) ≡ true
@@ -415,17 +508,34 @@ no_talk_no_ask : (b s : Bool) → not b ≡ true → not (b && s) ≡ true
 no_talk_no_ask true s is = absurd (cc)
 no_talk_no_ask false s is = refl
 
+cannot_note : (n : ℕ) (b o : Bool) → not b ≡ true → n ≤ one_if (b && o) → n ≡ 0
+cannot_note n true o not_b f = absurd (cc)
+cannot_note n false o not_b f = omega (arith, f)
+
 -- the rows of `disable` behind the first, by whether that one starts
-few-disabling : (b failing : Bool) (g : State) → row_starts g (firing 1 0 2) ≡ b → Few g → Few (fire_listed (if failing then firing 2 0 3 ∷ [] else []) (if b then fire g (firing 1 0 2) else g))
-few-disabling true failing g is few =
+few-disabling : (b attempted : Bool) (g : State) → row_starts g (firing 1 0 2) ≡ b → Few g → Few (fire_listed (failing attempted) (if b then fire g (firing 1 0 2) else g))
+few-disabling true attempted g is few =
     let disabled : State = fire g (firing 1 0 2) in
-    few-none (fire_listed (if failing then firing 2 0 3 ∷ [] else []) disabled) (none_failed failing disabled refl)
-few-disabling false failing g is few =
-    failed_where failing g few
-    (cannot_ask _ (can_ask g) (is_attempt g.control) (no_talk_no_ask (is_communicating g.comm) (is_selected g) (no_talk g.comm is)) few.attempt)
+    few-none (fire_listed (failing attempted) disabled) (none_failed attempted disabled refl)
+few-disabling false attempted g is few =
+    let silent = no_talk g.comm is in
+    failed_where attempted g few
+    (cannot_ask _ (can_ask g) (is_attempt g.control) (no_talk_no_ask (is_communicating g.comm) (is_selected g) silent) few.attempt)
+    (cannot_note _ (is_communicating g.comm) (has_open g.line) silent few.note)
 
 few-disabled : (g : State) → Few g → Few (fires (operator_rows oper.Disable) g)
 few-disabled g few = few-disabling (row_starts g (firing 1 0 2)) (is_some (first_of what.Attempt g.transactions.opened)) g refl few
+
+-- an alarm is cleared
+few-cleared : (alid : ℕ) (g : State) → Few g → Few (clears_alarm alid g)
+few-cleared alid g few =
+    few_either (is_set alid g.alarms) _ g
+    (few-line g (line_with_alarm alid (record g { alarms = clear_alarm alid g.alarms }))
+    (either_way (λ (l : Line). l.opened ≡ g.line.opened) (is_alarm_reported alid (record g { alarms = clear_alarm alid g.alarms })) _ g.line refl refl) few)
+    few
+
+few-clear : (alid : ℕ) (g : State) → Few g → Few (switched (oper.Clear alid) g)
+few-clear alid g few = few_either (can_clear alid g) (clears_alarm alid g) g (few-cleared alid g few) few
 
 few-operator : (command : OperCmd) (g : State) → Few g → Few (fires (operator_rows command) (switched command g))
 few-operator oper.Enable g few = few-enabled g few
@@ -440,7 +550,7 @@ few-operator (oper.Access p on) g few = few
 few-operator (oper.Job j w) g few = few
 few-operator (oper.CtlJob j n) g few = few
 few-operator (oper.Up m) g few = few
-few-operator (oper.Clear n) g few = few
+few-operator (oper.Clear n) g few = few-clear n g few
 few-operator (oper.Lost s) g few = few
 
 few-quit : (up : Bool) (g : State) → Few g → Few (quits up g).after
@@ -460,7 +570,7 @@ few-operated (oper.Access p on) g few = few
 few-operated (oper.Job j w) g few = few
 few-operated (oper.CtlJob j n) g few = few
 few-operated (oper.Up m) g few = few
-few-operated (oper.Clear n) g few = few
+few-operated (oper.Clear n) g few = few-clear n g few
 few-operated (oper.Lost s) g few = few
 
 -- ---- data messages
@@ -469,13 +579,36 @@ few-clock : (shown : Option ℕ) (g : State) → Few g → Few (clock_set shown 
 few-clock None g few = few
 few-clock (Some shown) g few = few
 
+few-named : (alid : Option ℕ) (g : State) → Few g → Few (clears_named alid g)
+few-named None g few = few
+few-named (Some alid) g few = few-cleared alid g few
+
+few-command : (command : Option RemoteCommand) (parameters : List Parameter) (g : State) → Few g → Few (command_written command parameters g)
+few-command None parameters g few = few
+few-command (Some GoLocal) parameters g few = few
+few-command (Some ClearAlarm) parameters g few = few-named (alarm_named parameters) g few
+
 few-written : (m : GemMsg) (g : State) → Few g → Few (written m g)
-few-written (msg.S2F31 text) g few = few-clock (moment_in text) g few
 few-written msg.S1F1 g few = few
+few-written (msg.S1F3 ids) g few = few
+few-written (msg.S1F11 ids) g few = few
 few-written msg.S1F13 g few = few
 few-written msg.S1F15 g few = few
 few-written msg.S1F17 g few = few
+few-written (msg.S2F13 ids) g few = few
+few-written (msg.S2F15 settings) g few = few
 few-written msg.S2F17 g few = few
+few-written (msg.S2F29 ids) g few = few
+few-written (msg.S2F31 text) g few = few-clock (moment_in text) g few
+few-written (msg.S2F33 id reports) g few = few
+few-written (msg.S2F35 id events) g few = few
+few-written (msg.S2F37 on ceids) g few = few
+few-written (msg.S2F41 name parameters) g few = few-command (accepted g name parameters) parameters g few
+few-written (msg.S5F3 aled alid) g few = few
+few-written (msg.S5F5 ids) g few = few
+few-written msg.S5F7 g few = few
+few-written (msg.S6F15 ceid) g few = few
+few-written (msg.S6F19 rptid) g few = few
 
 few-replied : (h : Header) (function : ℕ) (text : List ℕ) (g : State) → Few g → Few (replied h function text g)
 few-replied h function text g few = few_either (wants_reply h) _ g few few
@@ -484,13 +617,32 @@ few-on_either : (local : Bool) (g : State) → Few g → Few (fire_listed (of_co
 few-on_either true g few = few-elsewhere 7 g refl refl refl few
 few-on_either false g few = few-elsewhere 8 g refl refl refl few
 
+few-commanded : (command : Option RemoteCommand) (g : State) → Few g → Few (fires (command_rows command) g)
+few-commanded None g few = few
+few-commanded (Some GoLocal) g few = few-elsewhere 11 g refl refl refl few
+few-commanded (Some ClearAlarm) g few = few
+
 few-message : (m : GemMsg) (g : State) → Few g → Few (fires (message_rows m) g)
 few-message msg.S1F1 g few = few
+few-message (msg.S1F3 ids) g few = few
+few-message (msg.S1F11 ids) g few = few
 few-message msg.S1F13 g few = few-met g few
 few-message msg.S1F15 g few = few-elsewhere 9 g refl refl refl few
 few-message msg.S1F17 g few = few-on_either g.switch_local g few
+few-message (msg.S2F13 ids) g few = few
+few-message (msg.S2F15 settings) g few = few
 few-message msg.S2F17 g few = few
+few-message (msg.S2F29 ids) g few = few
 few-message (msg.S2F31 text) g few = few
+few-message (msg.S2F33 id reports) g few = few
+few-message (msg.S2F35 id events) g few = few
+few-message (msg.S2F37 on ceids) g few = few
+few-message (msg.S2F41 name parameters) g few = few-commanded (accepted g name parameters) g few
+few-message (msg.S5F3 aled alid) g few = few
+few-message (msg.S5F5 ids) g few = few
+few-message msg.S5F7 g few = few
+few-message (msg.S6F15 ceid) g few = few
+few-message (msg.S6F19 rptid) g few = few
 
 few-taken : (h : Header) (m : GemMsg) (g : State) → Few g → Few (taken h m g)
 few-taken h m g few =
@@ -538,7 +690,7 @@ few_some p o few here = let is : p ≡ o = cc in subst (λ (q : Outcome). Few q.
 few-ticked : (before : ℕ) (g : State) (o : Outcome) → Few g → ticked before g ≡ Some o → Few o.after
 few-ticked before g o few here =
     went (is_due before g) _ _ _
-    (λ _ e. few_some _ o (few-due g (due_at (link_times g.times) g.link g.moment) few) e)
+    (λ _ e. few_some _ o (few-due g (due_at (link_times g) g.link g.moment) few) e)
     (λ _ e. none_some o e) here
 
 few-frame : (g : State) (frames : List (List ℕ)) (o : Outcome) → Few g → steps.taken g frames ≡ Some o → Few o.after
@@ -553,7 +705,7 @@ not_selected Selected down = absurd (cc)
 -- a new session is not selected, and neither was the link before
 few-up : (g : State) → is_up g ≡ false → Few g → Few (record g { link = record { session = suc g.link.session; phase = NotSelected (record { 0 = g.moment }); ping = Off } })
 few-up g down few =
-    subst (λ (s : Bool). Fits (count_of establishes g.transactions.opened) (count_of attempts g.transactions.opened) (count_of notes g.transactions.opened) g.comm g.control s)
+    subst (λ (s : Bool). Fits (count_of establishes g.transactions.opened) (count_of attempts g.transactions.opened) (count_of notes g.transactions.opened) g.comm g.control s (has_open g.line))
     (not_selected g.link.phase down) few
 
 pub few-acts : (before : ℕ) (g : State) (e : Event) (o : Outcome) → Few g → acts before g e ≡ Some o → Few o.after
@@ -589,15 +741,15 @@ few_at e a Disabled s k most_e most_a = omega (arith, most_e, most_a)
 few_at e a (WaitDelay until) s k most_e most_a = omega (arith, most_e, most_a)
 few_at e a Communicating s k most_e most_a = let one = one_if-most ((true && s) && k) in omega (arith, most_e, most_a, one)
 
-pub few-one_open : (g : State) → Few g → length g.transactions.opened ≤ 1
-few-one_open g few =
+pub few-open : (g : State) → Few g → length g.transactions.opened ≤ 2
+few-open g few =
     let counted = all-counted g.transactions.opened in
     let most = few_at _ _ g.comm (is_selected g) (is_attempt g.control) few.establish few.attempt in
-    let none = few.note in
+    let note = most_note g few in
     omega arith
 
 pub few-room : (g : State) → Few g → is_full g.transactions ≡ false
-few-room g few = let one = few-one_open g few in grind (arith, nat_tests)
+few-room g few = let two = few-open g few in grind (arith, nat_tests)
 
 -- nor is the table full on the way to the settled state
 along_by : (n : ℕ) (g : State) (f : Option Firing) → least g ≡ f → Few g → Along (λ (k : State). is_full k.transactions ≡ false) g (settling_by n g f)

@@ -19,11 +19,15 @@ use Rattle.msgs_gem.specs.Replies.{reply_body}
 use Rattle.transactions.specs.Table.{taken_out}
 use Rattle.gem_model.specs.Direct.{message_rows, answer_rows, timeout_rows}
 use Rattle.gem_model.specs.Sending.{asks, identity_text, sends_stream9, data_header}
-use Rattle.gem_model.specs.Fire.{fire, fire_listed, fire_comm, fire_control, comm_effect, control_effect, delay_end, forgets, row_starts}
+use Rattle.note_line.specs.declared.note.Note.{Note}
+use Rattle.gem_model.specs.Fire.{fire, fire_listed, fire_comm, fire_control, fire_line, comm_effect, control_effect, line_effect, asks_first, takes_effect, stream_of_kind, function_of_kind, delay_end, forgets, row_starts}
+use Rattle.gem_model.specs.Noting.{clears_alarm}
+use Rattle.gem_model.specs.Remote.{RemoteCommand, GoLocal, ClearAlarm, Parameter, accepted, alarm_named}
+use Rattle.event_reports.specs.Alarms.{is_set}
 use Rattle.gem_model.specs.Verdict.{Verdict, Discarded, Stream9, Aborted, Answers, Taken, verdict, header_of, item_of, wants_reply, function_of, reply_to}
-use Rattle.gem_model.specs.Act.{written, clock_set, replied, taken, closed_by, data_act, data_done}
+use Rattle.gem_model.specs.Act.{written, clock_set, clears_named, command_written, note_answered, replied, taken, closed_by, data_act, data_done}
 use Rattle.gem_model.specs.Due.{timed_out}
-use Rattle.gem_model.specs.Step.{switched}
+use Rattle.gem_model.specs.Step.{switched, can_clear}
 use Rattle.gem_model.specs.Settle.{settled}
 use Rattle.gem_model.proofs.Tests.{either_way}
 use Rattle.gem_model.proofs.Settling.{settled_keeps}
@@ -71,10 +75,23 @@ same_comm g row = same_comm_effect g (record g { comm = comm_fired row (delay_en
 same_control : (g : State) (row : ℕ) → Same g (fire_control row g)
 same_control g row = same_control_effect g (record g { control = control_fired row g.control }) row (record { config = refl; link = refl; quitting = refl })
 
+same_asks_first : (g : State) (notes : List Note) → Same g (asks_first notes g)
+same_asks_first g [] = same_at g
+same_asks_first g (note ∷ notes) = same_asks g g (stream_of_kind note.kind) (function_of_kind note.kind) (what.Note note.number) note.text (same_at g)
+
+same_line : (g : State) (row : ℕ) → Same g (fire_line row g)
+same_line g row =
+    let sent : Same g (line_effect row g) = same_either g (row == 13) (asks_first g.line.waiting g) g (same_asks_first g g.line.waiting) (same_at g) in
+    record { config = sent.config; link = sent.link; quitting = sent.quitting }
+
+same_effect : (g : State) (f : Firing) → Same g (takes_effect g f)
+same_effect g f =
+    same_either g (f.table == 1) (fire_comm f.row g) (if f.table == 2 then fire_control f.row g else (if f.table == 3 then fire_line f.row g else g)) (same_comm g f.row)
+    (same_either g (f.table == 2) (fire_control f.row g) (if f.table == 3 then fire_line f.row g else g) (same_control g f.row)
+    (same_either g (f.table == 3) (fire_line f.row g) g (same_line g f.row) (same_at g)))
+
 pub same_fire : (g : State) (f : Firing) → Same g (fire g f)
-same_fire g f =
-    same_either g (f.table == 1) (fire_comm f.row g) (if f.table == 2 then fire_control f.row g else g) (same_comm g f.row)
-    (same_either g (f.table == 2) (fire_control f.row g) g (same_control g f.row) (same_at g))
+same_fire g f = let effect = same_effect g f in record { config = effect.config; link = effect.link; quitting = effect.quitting }
 
 pub same_listed : (fs : List Firing) (g : State) → Same g (fire_listed fs g)
 same_listed [] g = same_at g
@@ -91,13 +108,39 @@ same_clock : (g : State) (shown : Option ℕ) → Same g (clock_set shown g)
 same_clock g None = same_at g
 same_clock g (Some shown) = record { config = refl; link = refl; quitting = refl }
 
+same_cleared : (g : State) (alid : ℕ) → Same g (clears_alarm alid g)
+same_cleared g alid = same_either g (is_set alid g.alarms) _ g (record { config = refl; link = refl; quitting = refl }) (same_at g)
+
+same_named : (g : State) (alid : Option ℕ) → Same g (clears_named alid g)
+same_named g None = same_at g
+same_named g (Some alid) = same_cleared g alid
+
+same_command : (g : State) (command : Option RemoteCommand) (parameters : List Parameter) → Same g (command_written command parameters g)
+same_command g None parameters = same_at g
+same_command g (Some GoLocal) parameters = same_at g
+same_command g (Some ClearAlarm) parameters = same_named g (alarm_named parameters)
+
 same_written : (g : State) (m : GemMsg) → Same g (written m g)
-same_written g (msg.S2F31 text) = same_clock g (moment_in text)
 same_written g msg.S1F1 = same_at g
+same_written g (msg.S1F3 ids) = same_at g
+same_written g (msg.S1F11 ids) = same_at g
 same_written g msg.S1F13 = same_at g
 same_written g msg.S1F15 = same_at g
 same_written g msg.S1F17 = same_at g
+same_written g (msg.S2F13 ids) = same_at g
+same_written g (msg.S2F15 settings) = record { config = refl; link = refl; quitting = refl }
 same_written g msg.S2F17 = same_at g
+same_written g (msg.S2F29 ids) = same_at g
+same_written g (msg.S2F31 text) = same_clock g (moment_in text)
+same_written g (msg.S2F33 id reports) = record { config = refl; link = refl; quitting = refl }
+same_written g (msg.S2F35 id events) = record { config = refl; link = refl; quitting = refl }
+same_written g (msg.S2F37 on ceids) = record { config = refl; link = refl; quitting = refl }
+same_written g (msg.S2F41 name parameters) = same_command g (accepted g name parameters) parameters
+same_written g (msg.S5F3 aled alid) = record { config = refl; link = refl; quitting = refl }
+same_written g (msg.S5F5 ids) = same_at g
+same_written g msg.S5F7 = same_at g
+same_written g (msg.S6F15 ceid) = same_at g
+same_written g (msg.S6F19 rptid) = same_at g
 
 same_replied : (g : State) (h : Header) (function : ℕ) (text : List ℕ) → Same g (replied h function text g)
 same_replied g h function text = same_either g (wants_reply h) _ _ (record { config = refl; link = refl; quitting = refl }) (same_at g)
@@ -109,11 +152,18 @@ same_taken g h m =
     same_then g told (taken h m g) (same_replied g h (function_of h + 1) text)
     (same_then told (written m told) (taken h m g) (same_written told m) (same_listed (message_rows m (written m told)) (written m told)))
 
+same_note : (g : State) (w : What) → Same g (note_answered w g)
+same_note g what.Establish = same_at g
+same_note g what.Attempt = same_at g
+same_note g (what.Note n) = record { config = refl; link = refl; quitting = refl }
+
 same_closed : (g : State) (h : Header) (item : Option Data) (one : Option Open) → Same g (closed_by h item one g)
 same_closed g h item None = same_at g
 same_closed g h item (Some one) =
     let out : State = record g { transactions = taken_out (Some one) g.transactions } in
-    same_then g out _ (record { config = refl; link = refl; quitting = refl }) (same_listed (answer_rows one.what (function_of h) item out) out)
+    let told : State = note_answered one.what out in
+    same_then g out _ (record { config = refl; link = refl; quitting = refl })
+    (same_then out told _ (same_note out one.what) (same_listed (answer_rows one.what (function_of h) item told) told))
 
 same_act : (g : State) (h : Header) (item : Option Data) (v : Verdict) → Same g (data_act h item v g)
 same_act g h item Discarded = same_at g
@@ -135,4 +185,5 @@ same_timeout g one =
 pub same_switched : (g : State) (command : OperCmd) → Same g (switched command g)
 same_switched g oper.Local = record { config = refl; link = refl; quitting = refl }
 same_switched g oper.Remote = record { config = refl; link = refl; quitting = refl }
+same_switched g (oper.Clear alid) = same_either g (can_clear alid g) (clears_alarm alid g) g (same_cleared g alid) (same_at g)
 same_switched g _ = same_at g

@@ -1,17 +1,32 @@
 -- Settling ends, in one way.
-use Rattle.std.proofs.Common.{◌≡◌, ℕ, zero, suc, ◌<◌, ◌≤◌, Bool, true, false, if◌then◌else◌, List, [], ◌∷◌, Option, Some, None, refl, sym, ◌∙◌, ap, subst, arith}
+use Rattle.std.proofs.Common.{◌≡◌, ℕ, zero, suc, ◌<◌, ◌≤◌, ◌+◌, ◌*◌, nat_lt, drop, length, length-append, Bool, true, false, if◌then◌else◌, List, [], ◌∷◌, Option, Some, None, refl, sym, ◌∙◌, ap, subst, arith}
 use Rattle.gem_states.specs.declared.communication.Comm.{Comm}
 use Rattle.gem_states.specs.declared.communication.Comm.TheVariants.{Disabled, WaitDelay, WaitCra, Communicating}
 use Rattle.gem_states.specs.declared.control.Control.{Control}
 use Rattle.gem_states.specs.declared.control.Control.TheVariants as control
 use Rattle.gem_states.specs.Meaning.{comm_fired, control_fired}
 use Rattle.gem_tables.specs.Table.{Firing, firing}
-use Rattle.gem_model.specs.State.{State}
-use Rattle.gem_model.specs.Fire.{fire}
-use Rattle.gem_model.specs.Ready.{least, ready_comm, ready_control, delay_is_over, is_attempt}
+use Rattle.std.specs.Option.{option_or}
+use Rattle.gem_rows.specs.Events.{ceid_of}
+use Rattle.event_reports.specs.Reports.{report_items}
+use Rattle.note_line.specs.declared.note.Kind.{Kind}
+use Rattle.note_line.specs.declared.note.Kind.TheVariants.{Event}
+use Rattle.note_line.specs.declared.note.Note.{Note}
+use Rattle.note_line.specs.declared.fate.Fate.TheVariants.{Dropped}
+use Rattle.note_line.specs.declared.fate.DropCause.TheVariants.{NoSpool}
+use Rattle.note_line.specs.Line.{Line}
+use Rattle.note_line.specs.Line as notes
+use Rattle.note_line.specs.Table3 as line
+use Rattle.note_line.specs.Table3.{has_head}
+use Rattle.gem_model.specs.State.{State, is_communicating}
+use Rattle.gem_model.specs.Values.{value_of, occasion_of}
+use Rattle.gem_model.specs.Noting.{line_with_event, is_event_reported, event_text}
+use Rattle.gem_model.specs.Fire.{fire, takes_effect, asks_first}
+use Rattle.gem_model.specs.Ready.{least, ready_comm, ready_control, ready_line, delay_is_over, is_attempt}
 use Rattle.gem_model.specs.Measure.{left, is_wait_delay, one_if}
 use Rattle.gem_model.specs.Settle.{Path, Settles, settling, settling_by, settled, fire_all}
-use Rattle.gem_model.proofs.Tests.{went, or_went, and_parts_of, none_some}
+use Rattle.gem_model.proofs.LineRows.{line_went}
+use Rattle.gem_model.proofs.Tests.{went, either_way, or_went, and_parts_of, none_some}
 
 -- ---- the measure falls
 
@@ -42,31 +57,84 @@ fired_2 control.HostOffline is = absurd (cc)
 fired_2 control.Local is = absurd (cc)
 fired_2 control.Remote is = absurd (cc)
 
+asks_line : (b : Bool) (g h : State) → g.line ≡ h.line → (if b then g else h).line ≡ g.line
+asks_line true g h same = refl
+asks_line false g h same = sym same
+
 falls_comm : (g : State) → is_wait_delay g.comm ≡ true → left (fire g (firing 1 0 3)) < left g
 falls_comm g here =
     let comm : (fire g (firing 1 0 3)).comm ≡ WaitCra = asks_comm _ _ _ refl ∙ fired_3 0 g.comm here in
     let control : (fire g (firing 1 0 3)).control ≡ g.control = asks_control _ _ _ refl in
+    let line : (fire g (firing 1 0 3)).line ≡ g.line = asks_line _ _ _ refl in
     let none : one_if (is_wait_delay (fire g (firing 1 0 3)).comm) ≡ 0 = ap (λ c. one_if (is_wait_delay c)) comm in
     let same : one_if (is_attempt (fire g (firing 1 0 3)).control) ≡ one_if (is_attempt g.control) = ap (λ c. one_if (is_attempt c)) control in
     let before : one_if (is_wait_delay g.comm) ≡ 1 = ap one_if here in
+    let notes : line.left (fire g (firing 1 0 3)).line ≡ line.left g.line = ap line.left line in
     omega arith
+
+-- a note adds 6 to what is left
+noted_left : (kind : Kind) (id : ℕ) (text : List ℕ) (l : Line) → line.left (notes.noted kind id text l) ≡ line.left l + 6
+noted_left kind id text l = omega (arith, length-append l.waiting (record { number = notes.next l; kind = kind; id = id; text = text } ∷ []))
+
+event_left : (event : Option ℕ) (before : State) (f : Firing) (g : State) → line.left (line_with_event event before f g) ≤ line.left g.line + 6
+event_left None before f g = omega arith
+event_left (Some ceid) before f g =
+    either_way (λ (l : Line). line.left l ≤ line.left g.line + 6) (is_event_reported ceid before g) _ g.line
+    (let more = noted_left Event ceid (event_text (notes.next g.line) ceid (report_items (value_of (occasion_of g f) g) ceid g.reports)) g.line in omega arith)
+    (omega arith)
 
 falls_control : (g : State) → is_attempt g.control ≡ true → left (fire g (firing 2 0 2)) < left g
 falls_control g is =
     let after : is_attempt (control_fired 2 g.control) ≡ false = ap is_attempt (fired_2 g.control is) in
     let count : one_if (is_attempt (control_fired 2 g.control)) ≡ 0 = ap one_if after in
     let before : one_if (is_attempt g.control) ≡ 1 = ap one_if is in
+    let told = event_left (ceid_of 2 2) g (firing 2 0 2) (takes_effect g (firing 2 0 2)) in
+    omega arith
+
+-- rows 11 and 13 of table 3 take one note off those that wait
+falls_dropped : (waiting : List Note) (g : State) → nat_lt 0 (length waiting) ≡ true → 6 * length (notes.with_head (notes.fated (Dropped NoSpool)) waiting g.line).waiting < 6 * length waiting
+falls_dropped [] g has = absurd (cc)
+falls_dropped (note ∷ waiting) g has = omega arith
+
+falls_sent : (waiting : List Note) (g : State) → nat_lt 0 (length waiting) ≡ true → 6 * length (notes.with_head notes.sent waiting g.line).waiting < 6 * length waiting
+falls_sent [] g has = absurd (cc)
+falls_sent (note ∷ waiting) g has = omega arith
+
+falls_drop : (g : State) → has_head g.line ≡ true → left (fire g (firing 3 0 11)) < left g
+falls_drop g has = let falls = falls_dropped g.line.waiting g has in omega arith
+
+sent_comm : (waiting : List Note) (g : State) → (asks_first waiting g).comm ≡ g.comm
+sent_comm [] g = refl
+sent_comm (note ∷ waiting) g = asks_comm _ _ _ refl
+
+sent_control : (waiting : List Note) (g : State) → (asks_first waiting g).control ≡ g.control
+sent_control [] g = refl
+sent_control (note ∷ waiting) g = asks_control _ _ _ refl
+
+falls_send : (g : State) → has_head g.line ≡ true → left (fire g (firing 3 0 13)) < left g
+falls_send g has =
+    let falls = falls_sent g.line.waiting g has in
+    let comm = ap (λ c. one_if (is_wait_delay c)) (sent_comm g.line.waiting g) in
+    let control = ap (λ c. one_if (is_attempt c)) (sent_control g.line.waiting g) in
     omega arith
 
 the_firing : (g : State) (f one : Firing) → left (fire g one) < left g → Some one ≡ Some f → left (fire g f) < left g
 the_firing g f one falls is = let same : one ≡ f = cc in subst (λ (x : Firing). left (fire g x) < left g) same falls
 
+this_firing : (g : State) (f one : Firing) → left (fire g one) < left g → one ≡ f → left (fire g f) < left g
+this_firing g f one falls same = subst (λ (x : Firing). left (fire g x) < left g) same falls
+
 -- an automatic firing leaves less to fire
 pub left_falls : (g : State) (f : Firing) → least g ≡ Some f → left (fire g f) < left g
 left_falls g f ready =
-    or_went (ready_comm g) (ready_control g) f
+    or_went (ready_comm g) (option_or (ready_control g) (ready_line g)) f
     (λ at. went _ _ _ _ (λ over e. the_firing g f (firing 1 0 3) (falls_comm g (waits g.moment g.comm (and_parts_of _ _ over).0)) e) (λ _ e. none_some f e) at)
-    (λ _ at. went _ _ _ _ (λ can e. the_firing g f (firing 2 0 2) (falls_control g (and_parts_of _ _ can).0) e) (λ _ e. none_some f e) at)
+    (λ _ behind. or_went (ready_control g) (ready_line g) f
+    (λ at. went _ _ _ _ (λ can e. the_firing g f (firing 2 0 2) (falls_control g (and_parts_of _ _ can).0) e) (λ _ e. none_some f e) at)
+    (λ _ at. line_went (is_communicating g.comm) g.line f
+    (λ has e. this_firing g f (firing 3 0 11) (falls_drop g has) e)
+    (λ has none talks e. this_firing g f (firing 3 0 13) (falls_send g has) e)
+    at) behind)
     ready
 
 -- ---- the settled state

@@ -242,8 +242,8 @@ keeps_looked g (Some due.T6) none = keeps_end g _ _ _ (up_due g due.T6 none) (en
 keeps_looked g (Some due.AskLinktest) none = keeps_goes (Linktest ∷ timeouts g) g (timeouts_end_none (expired g))
 keeps_looked g None none = keeps_goes (timeouts g) g (timeouts_end_none (expired g))
 
-pub due_up : (g : State) → is_up g ≡ false → due_at (link_times g.times) g.link g.moment ≡ None
-due_up g down = due-down (link_times g.times) g.link.session g.link.phase g.link.ping g.moment down
+pub due_up : (g : State) → is_up g ≡ false → due_at (link_times g) g.link g.moment ≡ None
+due_up g down = due-down (link_times g) g.link.session g.link.phase g.link.ping g.moment down
 
 keeps_ticked : (before : ℕ) (g : State) (o : Outcome) → ticked before g ≡ Some o → Keeping g o
 keeps_ticked before g o here =

@@ -13,9 +13,11 @@ use Rattle.tool_events.specs.declared.config.ControlStart.{ControlStart}
 use Rattle.tool_events.specs.declared.config.ControlStart.TheVariants as begin
 use Rattle.tool_events.specs.declared.entry.Entry.{Entry}
 use Rattle.tool_events.specs.declared.event.Event.{Event}
+use Rattle.note_line.specs.Fates.{LineValid}
+use Rattle.note_line.proofs.Keeps.{Keeps, fates-trans, opening-valid}
 use Rattle.gem_model.specs.State.{State, opening, is_up, is_selected, raised, first_control}
 use Rattle.gem_model.specs.Fire.{fire, creations}
-use Rattle.gem_model.specs.Ready.{delay_is_over, least, ready_comm, ready_control, is_attempt}
+use Rattle.gem_model.specs.Ready.{delay_is_over, least, ready_comm, ready_control, ready_line, is_attempt}
 use Rattle.gem_model.specs.Settle.{Path, settled, settling, Along}
 use Rattle.gem_model.specs.Step.{Outcome, step, step_from, acts, settles}
 use Rattle.gem_model.specs.Run.{Run}
@@ -23,7 +25,8 @@ use Rattle.gem_model.specs.Valid.{Valid}
 use Rattle.gem_model.proofs.Tests.{went, none_some}
 use Rattle.gem_model.proofs.Settling.{settles_so}
 use Rattle.gem_model.proofs.Steps.{step_keeps-from}
-use Rattle.gem_model.proofs.Room.{Few, few-step, few-one_open, few-room, few-acts, few-along}
+use Rattle.gem_model.proofs.Lined.{keeps-same, lined-step, lined-step-at}
+use Rattle.gem_model.proofs.Room.{Few, few-step, few-open, few-room, few-acts, few-along}
 
 -- at the end of a path no row is ready
 path_end : (g : State) (due fs : List Firing) (h : State) → Path g due fs h → least h ≡ None
@@ -53,8 +56,8 @@ behind_none (Some f) y h = absurd (cc)
 
 raised_quiet : (g : State) (at : ℕ) → is_up g ≡ false → least g ≡ None → least (raised g at) ≡ None
 raised_quiet g at down quiet =
-    ap (λ (x : Option Firing). option_or x (ready_control g)) (never _ (is_selected g) _ (down_selected g.link.phase down))
-    ∙ behind_none (ready_comm g) (ready_control g) quiet
+    ap (λ (x : Option Firing). option_or x (option_or (ready_control g) (ready_line g))) (never _ (is_selected g) _ (down_selected g.link.phase down))
+    ∙ behind_none (ready_comm g) (option_or (ready_control g) (ready_line g)) quiet
 
 -- ---- an earlier moment makes no row ready
 
@@ -81,10 +84,10 @@ first_none (Some f) y h = absurd (cc)
 -- what differs by an earlier moment and by the frames that wait has no row that is ready either
 pub earlier_quiet : (g : State) (moment : ℕ) (waiting : List (List ℕ)) → moment ≤ g.moment → least g ≡ None → least (record g { moment = moment; waiting = waiting }) ≡ None
 earlier_quiet g moment waiting less quiet =
-    let late = test_of _ _ (first_none (ready_comm g) (ready_control g) quiet) in
+    let late = test_of _ _ (first_none (ready_comm g) (option_or (ready_control g) (ready_line g)) quiet) in
     let early : (delay_is_over moment g.comm && is_selected g) ≡ false = not_both _ (delay_is_over g.moment g.comm) (is_selected g) (earlier_over moment g.moment g.comm less) late in
-    ap (λ (b : Bool). option_or (if b then Some (firing 1 0 3) else None) (ready_control g)) early
-    ∙ behind_none (ready_comm g) (ready_control g) quiet
+    ap (λ (b : Bool). option_or (if b then Some (firing 1 0 3) else None) (option_or (ready_control g) (ready_line g))) early
+    ∙ behind_none (ready_comm g) (option_or (ready_control g) (ready_line g)) quiet
 
 -- ---- a step
 
@@ -92,9 +95,9 @@ earlier_quiet g moment waiting less quiet =
 pub valid-few : (g : State) → Valid g → Few g
 valid-few g valid = record { establish = valid.establish; attempt = valid.attempt; note = valid.note }
 
-valid_mapped : (before : ℕ) (g : State) (e : Event) (x : Option Outcome) (o : Outcome) → Few g → g.quitting ≡ false → step_from before g e ≡ Some o → option_map settles x ≡ Some o → Valid o.after
-valid_mapped before g e None o few goes here is = none_some o is
-valid_mapped before g e (Some p) o few goes here is =
+valid_mapped : (before : ℕ) (g : State) (e : Event) (x : Option Outcome) (o : Outcome) → Few g → LineValid g.line → g.quitting ≡ false → step_from before g e ≡ Some o → option_map settles x ≡ Some o → Valid o.after
+valid_mapped before g e None o few line goes here is = none_some o is
+valid_mapped before g e (Some p) o few line goes here is =
     let same : settles p ≡ o = cc in
     let after : Few o.after = few-step before g e o few here in
     record {
@@ -103,6 +106,7 @@ valid_mapped before g e (Some p) o few goes here is =
       establish = after.establish;
       attempt = after.attempt;
       note = after.note;
+      line = (lined-step before g e o here line).valid;
     }
 
 pub step_valid : (g : State) (at : ℕ) (e : Event) (o : Outcome) → Valid g → step g at e ≡ Some o → Valid o.after
@@ -110,8 +114,8 @@ step_valid g at e o valid here =
     went g.quitting _ _ _
     (λ quitting is.
     let same : raised g at ≡ o.after = cc in
-    subst Valid same (record { settled = raised_quiet g at (valid.quit quitting) valid.settled; quit = λ _. valid.quit quitting; establish = valid.establish; attempt = valid.attempt; note = valid.note }))
-    (λ goes is. valid_mapped g.moment (raised g at) e (acts g.moment (raised g at) e) o (valid-few g valid) goes here is)
+    subst Valid same (record { settled = raised_quiet g at (valid.quit quitting) valid.settled; quit = λ _. valid.quit quitting; establish = valid.establish; attempt = valid.attempt; note = valid.note; line = valid.line }))
+    (λ goes is. valid_mapped g.moment (raised g at) e (acts g.moment (raised g at) e) o (valid-few g valid) valid.line goes here is)
     here
 
 no_attempt : (c : ControlStart) → is_attempt (first_control c) ≡ false
@@ -126,11 +130,13 @@ never_first false b f h = refl
 
 pub opening_valid : (c : Config) → Valid (opening c)
 opening_valid c = record {
-  settled = ap (λ (x : Option Firing). option_or x (ready_control (opening c))) (never _ false _ refl) ∙ never_first (is_attempt (first_control c.control)) _ _ (no_attempt c.control);
+  settled = ap (λ (x : Option Firing). option_or x (option_or (ready_control (opening c)) None)) (never _ false _ refl)
+      ∙ ap (λ (x : Option Firing). option_or x None) (never_first (is_attempt (first_control c.control)) _ _ (no_attempt c.control));
   quit = λ _. refl;
   establish = omega arith;
   attempt = omega arith;
-  note = refl;
+  note = omega arith;
+  line = opening-valid;
 }
 
 pub run_valid : (g : State) (entries : List Entry) (h : State) → Valid g → Run g entries h → Valid h
@@ -141,8 +147,16 @@ run_valid g (e ∷ entries) h valid run = run_valid run.0.after entries h (step_
 run-few : (c : Config) (entries : List Entry) (h : State) → Run (opening c) entries h → Few h
 run-few c entries h run = valid-few h (run_valid (opening c) entries h (opening_valid c) run)
 
-pub run-one_open : (c : Config) (entries : List Entry) (h : State) → Run (opening c) entries h → length h.transactions.opened ≤ 1
-run-one_open c entries h run = few-one_open h (run-few c entries h run)
+pub run-open : (c : Config) (entries : List Entry) (h : State) → Run (opening c) entries h → length h.transactions.opened ≤ 2
+run-open c entries h run = few-open h (run-few c entries h run)
+
+-- the line of notes goes on over a run: what became of a note stays, and so does what it told of
+pub run-fates : (g : State) (entries : List Entry) (h : State) → LineValid g.line → Run g entries h → Keeps g.line h.line
+run-fates g [] h line run = subst (λ (k : State). Keeps g.line k.line) (sym run) (keeps-same g.line line)
+run-fates g (e ∷ entries) h line run =
+    let one = lined-step-at g e.at.0 e.event run.0 run.1 line in
+    let rest = run-fates run.0.after entries h one.valid run.2 in
+    record { valid = rest.valid; fates = fates-trans g.line run.0.after.line h.line one.fates rest.fates }
 
 pub run-room : (c : Config) (entries : List Entry) (h : State) → Run (opening c) entries h → is_full h.transactions ≡ false
 run-room c entries h run = few-room h (run-few c entries h run)

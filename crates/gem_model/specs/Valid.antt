@@ -6,7 +6,9 @@ use Rattle.transactions.specs.declared.transaction.Open.{Open}
 use Rattle.transactions.specs.declared.transaction.What.{What}
 use Rattle.transactions.specs.declared.transaction.What.TheVariants as what
 use Rattle.transactions.specs.Endings.{same_kind}
-use Rattle.gem_model.specs.State.{State, is_up, can_ask}
+use Rattle.note_line.specs.Table3.{has_open}
+use Rattle.note_line.specs.Fates.{LineValid}
+use Rattle.gem_model.specs.State.{State, is_up, is_communicating, can_ask}
 use Rattle.gem_model.specs.Ready.{least, is_attempt}
 use Rattle.gem_model.specs.Measure.{one_if}
 
@@ -38,11 +40,13 @@ count_of test [] = 0
 count_of test (one ∷ others) = one_if (test one) + count_of test others
 
 -- No automatic row is ready, and once the operator ended the run no session is up. At most one S1F13 of the tool is open,
--- and one only in WAIT CRA; at most one S1F1, and one only in ATTEMPT ON-LINE where the tool can ask; and no note, since
--- none is made yet.
+-- and one only in WAIT CRA; at most one S1F1, and one only in ATTEMPT ON-LINE where the tool can ask; and at most one
+-- note, and one only in COMMUNICATING where the line has an open note. The line of notes is in order, and each note has one
+-- fate.
 pub record Valid (g : State) : Type 0 where
   pub settled : least g ≡ None
   pub quit : g.quitting ≡ true → is_up g ≡ false
   pub establish : count_of establishes g.transactions.opened ≤ one_if (is_wait_cra g.comm)
   pub attempt : count_of attempts g.transactions.opened ≤ one_if (can_ask g && is_attempt g.control)
-  pub note : count_of notes g.transactions.opened ≡ 0
+  pub note : count_of notes g.transactions.opened ≤ one_if (is_communicating g.comm && has_open g.line)
+  pub line : LineValid g.line

@@ -31,7 +31,7 @@ truth_size (b ∷ bs) = ap suc (truth_size bs)
 with_head : (code n : ℕ) (body : List ℕ) → length (plain_head code n ++ body) ≤ 4 + length body
 with_head code n body = let head = head_most code n in omega (arith, length-append (plain_head code n) body)
 
-abbrev mutual
+mutual
   pub plain-weight : (d : Data) → length (plain d) ≤ weight d
   plain-weight (list ds) = let body = plain-weight_all ds in omega (arith, with_head 0 (count_of ds) (plain_all ds))
   plain-weight (binary bs) = with_head 8 (length bs) bs

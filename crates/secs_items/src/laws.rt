@@ -1,13 +1,14 @@
 //! Laws of the grammar of items, for proofs to cite. Each function is empty: what it ensures holds of the definitions.
 
-ghost use Rattle.std.specs.Prelude.{◌≡◌, ◌⊎◌, ◌↔◌, ◌≤◌, ℕ, List, ◌++◌, length, take, Some};
-ghost use Rattle.secs_items.specs.Data.{Data};
+ghost use Rattle.std.specs.Prelude.{◌≡◌, ◌⊎◌, ◌↔◌, ◌≤◌, ◌<◌, ◌+◌, ◌*◌, ◌^◌, ℕ, suc, List, ◌++◌, length, take, Some};
+ghost use Rattle.secs_items.specs.Data.{Data, DataList, list};
 ghost use Rattle.secs_items.specs.Faults.{Stands, IsFirst, place_of};
 ghost use Rattle.secs_items.specs.One.{one_item};
-ghost use Rattle.secs_items.specs.Plain.{plain};
+ghost use Rattle.secs_items.specs.Plain.{plain, count_of};
 ghost use Rattle.secs_items.specs.Ranges.{IsInRange};
 ghost use Rattle.secs_items.specs.Sendable.{IsSendable};
 ghost use Rattle.secs_items.specs.Spelling.{AreBelow, Spells, Open};
+ghost use Rattle.secs_items.specs.Weight.{weight, IsBounded, AreBounded};
 ghost use Rattle.secs_items.specs.declared.fault.ItemFault.{ItemFault};
 
 /// No spelling is a proper front of another, and bytes spell one item at most. So what was written is read again,
@@ -40,4 +41,14 @@ pub fn bytes_spell_or_have_a_fault()
 /// A text is one item exactly where it is a spelling of it from its first byte to its last.
 pub fn one_item_is_the_item_that_is_spelled()
     ensures { (text : List ℕ) (d : Data) → AreBelow 256 text → (one_item text ≡ Some d ↔ Spells d 0 text) }
+{}
+
+/// What an item is sent as takes at most as many bytes as the item weighs.
+pub fn an_item_takes_at_most_what_it_weighs()
+    ensures { (d : Data) → length (plain d) ≤ weight d }
+{}
+
+/// A list of at most so many items within bounds is within bounds, one list deeper.
+pub fn a_list_of_bounded_items_is_bounded()
+    ensures { (deep most count : ℕ) (ds : DataList) → count < 2 ^ 24 → count_of ds ≤ count → AreBounded deep most ds → IsBounded (suc deep) (4 + count * most) (list ds) }
 {}

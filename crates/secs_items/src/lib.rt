@@ -21,7 +21,8 @@ pub use elements::{Bools, Bytes, Elements, I8s, I16s, I32s, I64s, U8s, U16s, U32
 pub use fault::ItemFault;
 pub use item::{Item, Items, NoMemory};
 pub use laws::{
-    a_fault_stands_behind_open_bytes, bytes_spell_or_have_a_fault, no_spelling_begins_another,
+    a_fault_stands_behind_open_bytes, a_list_of_bounded_items_is_bounded,
+    an_item_takes_at_most_what_it_weighs, bytes_spell_or_have_a_fault, no_spelling_begins_another,
     one_item_is_the_item_that_is_spelled, what_is_sent_spells_the_item,
     what_is_spelled_can_be_sent,
 };

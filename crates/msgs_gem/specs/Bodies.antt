@@ -1,8 +1,9 @@
 -- The forms of bodies, in small words that read as a body is printed (this tool's profile, messages). What a form
 -- gives is the value of an item that has it, and None for any other item.
-use Rattle.std.specs.Prelude.{ℕ, Bool, ◌==◌, if◌then◌else◌, List, Option, Some, None, option_map, option_and_then}
-use Rattle.secs_items.specs.Data.{Data, DataList, list, binary, ascii, no_items, item}
-use Rattle.secs_items.specs.Ids.{only}
+use Rattle.std.specs.Prelude.{ℕ, Bool, true, false, ◌==◌, ◌&&◌, nat_le, if◌then◌else◌, List, [], ◌∷◌, length, Option, Some, None, option_map, option_and_then}
+use Rattle.std.specs.List.{list_all}
+use Rattle.secs_items.specs.Data.{Data, DataList, list, binary, boolean, ascii, i1, i2, i4, i8, u1, u2, u4, u8, no_items, item}
+use Rattle.secs_items.specs.Ids.{id_of, only, signed_id, unsigned_id}
 use Rattle.secs_items.specs.Plain.{count_of}
 
 -- the value of an item of this form
@@ -35,10 +36,43 @@ abbrev pub characters : Form (List ℕ)
 characters (ascii text) = Some text
 characters d = None
 
+-- bytes that a text holds: at most 80, each 32 to 126
+abbrev pub is_text : List ℕ → Bool
+is_text bytes = nat_le (length bytes) 80 && list_all (λ b. nat_le 32 b && nat_le b 126) bytes
+
+-- text: an A of such bytes
+abbrev pub text : Form (List ℕ)
+text d = characters d >>= meeting is_text
+
 -- B of one byte
 abbrev pub byte : Form ℕ
 byte (binary bytes) = only bytes
 byte d = None
+
+-- BOOL of one element
+abbrev pub flag : Form Bool
+flag (boolean truths) = only truths
+flag d = None
+
+-- id: an integer item of one element, 0 to 4,294,967,295
+abbrev pub id : Form ℕ
+id d = id_of d
+
+-- an integer item without elements
+abbrev pub is_empty_number : Data → Bool
+is_empty_number (i1 []) = true
+is_empty_number (i2 []) = true
+is_empty_number (i4 []) = true
+is_empty_number (i8 []) = true
+is_empty_number (u1 []) = true
+is_empty_number (u2 []) = true
+is_empty_number (u4 []) = true
+is_empty_number (u8 []) = true
+is_empty_number d = false
+
+-- an id, or none where the item is an integer item without elements
+abbrev pub id_or_empty : Form (Option ℕ)
+id_or_empty d = if is_empty_number d then Some None else option_map (λ n. Some n) (id d)
 
 -- L: its items
 abbrev pub elements : Form DataList
@@ -57,3 +91,46 @@ two made f g ds = None
 -- L[a, b]
 abbrev pub l2 : {A B Z : Type 0} → (A → B → Z) → Form A → Form B → Form Z
 l2 made f g d = of_count 2 d >>= two made f g
+
+-- the values of some items, each of this form
+abbrev pub all_of : {A : Type 0} → Form A → DataList → Option (List A)
+all_of f no_items = Some []
+all_of f (item d ds) = f d >>= λ x. option_map (λ xs. x ∷ xs) (all_of f ds)
+
+-- L[a*]
+abbrev pub each : {A : Type 0} → Form A → Form (List A)
+each f d = elements d >>= all_of f
+
+-- as many as one list of ids may have: 1,024
+abbrev pub are_few : List ℕ → Bool
+are_few ns = nat_le (length ns) 1024
+
+-- L[id*], of at most 1,024 ids
+abbrev pub ids : Form (List ℕ)
+ids d = each id d >>= meeting are_few
+
+-- L[id, L[id*]]: a report and its variables, or an event and its reports
+abbrev pub group : Form (ℕ × List ℕ)
+group = l2 (λ n ns. (n, ns)) id ids
+
+-- the ids that some numbers are, where each is one
+abbrev pub all_ids : {N : Type 0} → (N → Option ℕ) → List N → Option (List ℕ)
+all_ids id_from [] = Some []
+all_ids id_from (n ∷ ns) = id_from n >>= λ m. option_map (λ ms. m ∷ ms) (all_ids id_from ns)
+
+-- an integer item: its elements, each an id
+abbrev pub numbers : Form (List ℕ)
+numbers (i1 zs) = all_ids signed_id zs
+numbers (i2 zs) = all_ids signed_id zs
+numbers (i4 zs) = all_ids signed_id zs
+numbers (i8 zs) = all_ids signed_id zs
+numbers (u1 ns) = all_ids unsigned_id ns
+numbers (u2 ns) = all_ids unsigned_id ns
+numbers (u4 ns) = all_ids unsigned_id ns
+numbers (u8 ns) = all_ids unsigned_id ns
+numbers d = None
+
+-- one integer item of at most 1,024 elements, each an id, or L[id*]
+abbrev pub numbers_or_ids : Form (List ℕ)
+numbers_or_ids (list ds) = ids (list ds)
+numbers_or_ids d = numbers d >>= meeting are_few

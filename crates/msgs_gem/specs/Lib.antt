@@ -1,5 +1,6 @@
 pub mod Acknowledge
 pub mod Bodies
+pub mod Codes
 pub mod Given
 pub mod Primaries
 pub mod Replies

@@ -2,11 +2,19 @@
 use Rattle.std.specs.Prelude.{ℕ, ◌==◌, ◌&&◌, Bool, true, false, if◌then◌else◌, List, [], ◌∷◌, Option, Some, None, option_and_then, Result, Ok, Err}
 use Rattle.std.specs.List.{find, list_any}
 use Rattle.secs_items.specs.Data.{Data}
-use Rattle.msgs_gem.specs.Bodies.{Form, of, characters}
+use Rattle.msgs_gem.specs.Bodies.{Form, of, any, byte, characters, each, flag, group, id, id_or_empty, ids, l2, numbers_or_ids, text}
 use Rattle.msgs_gem.specs.declared.fault.BodyFault.{BodyFault}
 use Rattle.msgs_gem.specs.declared.fault.BodyFault.TheVariants as fault
 use Rattle.msgs_gem.specs.declared.primary.GemMsg.{GemMsg}
 use Rattle.msgs_gem.specs.declared.primary.GemMsg.TheVariants as msg
+
+-- L[id, value]: a constant and its new value
+abbrev pub setting : Form (ℕ × Data)
+setting = l2 (λ ecid value. (ecid, value)) id any
+
+-- L[text, any]: a parameter of a command and its value
+abbrev pub parameter : Form (List ℕ × Data)
+parameter = l2 (λ name value. (name, value)) text any
 
 -- what is printed of a body
 pub data Body : Type 0 where
@@ -25,15 +33,29 @@ pub record Line : Type 0 where
 abbrev line : ℕ → ℕ → Body → Line
 line stream function body = record { stream = stream; function = function; body = body }
 
--- the host's messages (SEMI E5, streams 1 and 2; this tool's profile, messages)
+-- the host's messages (SEMI E5, streams 1, 2, 5 and 6; this tool's profile, messages)
 abbrev pub lines : List Line
 lines =
     line 1 1 (ignored msg.S1F1) ∷
+    (line 1 3 (printed (of msg.S1F3 ids)) ∷
+    (line 1 11 (printed (of msg.S1F11 ids)) ∷
     (line 1 13 (ignored msg.S1F13) ∷
     (line 1 15 (ignored msg.S1F15) ∷
     (line 1 17 (ignored msg.S1F17) ∷
+    (line 2 13 (printed (of msg.S2F13 ids)) ∷
+    (line 2 15 (printed (of msg.S2F15 (each setting))) ∷
     (line 2 17 (ignored msg.S2F17) ∷
-    (line 2 31 (printed (of msg.S2F31 characters)) ∷ [])))))
+    (line 2 29 (printed (of msg.S2F29 ids)) ∷
+    (line 2 31 (printed (of msg.S2F31 characters)) ∷
+    (line 2 33 (printed (l2 msg.S2F33 id (each group))) ∷
+    (line 2 35 (printed (l2 msg.S2F35 id (each group))) ∷
+    (line 2 37 (printed (l2 msg.S2F37 flag ids)) ∷
+    (line 2 41 (printed (l2 msg.S2F41 text (each parameter))) ∷
+    (line 5 3 (printed (l2 msg.S5F3 byte id_or_empty)) ∷
+    (line 5 5 (printed (of msg.S5F5 numbers_or_ids)) ∷
+    (line 5 7 (ignored msg.S5F7) ∷
+    (line 6 15 (printed (of msg.S6F15 id)) ∷
+    (line 6 19 (printed (of msg.S6F19 id)) ∷ [])))))))))))))))))))
 
 -- the line of this stream and function
 abbrev pub line_of : List Line → ℕ → ℕ → Option Line

@@ -8,6 +8,7 @@
 mod acknowledge;
 mod fault;
 mod laws;
+mod numbers;
 mod part;
 mod primary;
 mod reply;
@@ -15,5 +16,5 @@ mod reply;
 pub use acknowledge::accepts_communication;
 pub use fault::BodyFault;
 pub use laws::an_ignored_text_makes_no_difference;
-pub use primary::{GemMsg, is_ignored, read_gem};
-pub use reply::{GemReply, Identity, gem_item};
+pub use primary::{GemMsg, Parameter, Setting, is_ignored, read_gem};
+pub use reply::{AlarmPart, GemReply, Identity, ParameterAcknowledge, VariableName, gem_item};

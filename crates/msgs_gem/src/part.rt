@@ -1,11 +1,13 @@
 //! Parts of bodies, each read from one item.
 
-ghost use Rattle.std.specs.Prelude.{◌≡◌, option_map};
-ghost use Rattle.secs_items.specs.View.{view};
-ghost use Rattle.msgs_gem.specs.Bodies.{characters as characters_form};
+ghost use Rattle.std.specs.Prelude.{◌≡◌, Option, option_map};
+ghost use Rattle.secs_items.specs.Data.{Data};
+ghost use Rattle.secs_items.specs.View.{view, items_of};
+ghost use Rattle.msgs_gem.specs.Bodies.{any, are_few, byte as byte_form, characters as characters_form, each, elements as elements_form, flag as flag_form, group, id as id_form, id_or_empty as id_or_empty_form, ids as ids_form, is_empty_number as is_empty_number_form, meeting, of_count, text as text_form};
 ghost use Rattle.msgs_gem.specs.Given.{Gives};
 
 use crate::fault::BodyFault;
+use gem_ids::{Ids, Listed, Text80};
 use secs_items::{Bytes, Item};
 use std::alloc::Global;
 
@@ -19,6 +21,33 @@ pub(crate) fn one(item: Option<&Item>) -> Result<&Item, BodyFault>
     }
 }
 
+// The items of an L.
+pub(crate) fn elements(item: &Item) -> Result<&[Item], BodyFault>
+    ensures { Gives (λ items. items_of items.now) result (elements_form (view item.now)) }
+{
+    match item {
+        Item::List(items) => Ok(items.as_slice()),
+        _ => Err(BodyFault::IllegalData),
+    }
+}
+
+// The items of an L of so many.
+pub(crate) fn parts<const N: usize>(item: &Item) -> Result<&[Item; N], BodyFault>
+    ensures { Gives (λ items. items_of items.now) result (of_count N (view item.now)) }
+{
+    match <&[Item; N]>::try_from(elements(item)?) {
+        Ok(items) => Ok(items),
+        Err(_) => Err(BodyFault::IllegalData),
+    }
+}
+
+// A copy of any item.
+pub(crate) fn copied(item: &Item) -> Result<Item, BodyFault>
+    ensures { Gives view result (any (view item.now)) }
+{
+    Ok(item.clone()?)
+}
+
 // The characters of an A.
 pub(crate) fn characters(alloc: Global, item: &Item) -> Result<Bytes, BodyFault>
     ensures { Gives (λ text. text) result (characters_form (view item.now)) }
@@ -26,5 +55,132 @@ pub(crate) fn characters(alloc: Global, item: &Item) -> Result<Bytes, BodyFault>
     match item {
         Item::Ascii(text) => Ok(Bytes::from_vec(Vec::from_slice(alloc, text.as_slice())?)),
         _ => Err(BodyFault::IllegalData),
+    }
+}
+
+// The text of an A that has one.
+pub(crate) fn text(item: &Item) -> Result<Text80, BodyFault>
+    ensures { Gives (λ text. text) result (text_form (view item.now)) }
+{
+    match item {
+        Item::Ascii(bytes) => match Text80::read(bytes.as_slice()) {
+            Ok(text) => Ok(text),
+            Err(_) => Err(BodyFault::IllegalData),
+        },
+        _ => Err(BodyFault::IllegalData),
+    }
+}
+
+// The byte of a B of one byte.
+pub(crate) fn byte(item: &Item) -> Result<u8, BodyFault>
+    ensures { Gives (λ byte. byte) result (byte_form (view item.now)) }
+{
+    match item {
+        Item::Binary(bytes) => match bytes.as_slice() {
+            [byte] => Ok(*byte),
+            _ => Err(BodyFault::IllegalData),
+        },
+        _ => Err(BodyFault::IllegalData),
+    }
+}
+
+// The truth of a BOOL of one element.
+pub(crate) fn flag(item: &Item) -> Result<bool, BodyFault>
+    ensures { Gives (λ flag. flag) result (flag_form (view item.now)) }
+{
+    match item {
+        Item::Bool(truths) => match truths.as_slice() {
+            [truth] => Ok(*truth),
+            _ => Err(BodyFault::IllegalData),
+        },
+        _ => Err(BodyFault::IllegalData),
+    }
+}
+
+// An id.
+pub(crate) fn id(item: &Item) -> Result<u32, BodyFault>
+    ensures { Gives (λ id. id) result (id_form (view item.now)) }
+{
+    item.as_id().ok_or(BodyFault::IllegalData)
+}
+
+// An id, or none where the item is an integer item without elements.
+pub(crate) fn id_or_empty(item: &Item) -> Result<Option<u32>, BodyFault>
+    ensures { Gives (λ id. id) result (id_or_empty_form (view item.now)) }
+{
+    if is_empty_number(item) {
+        return Ok(None);
+    }
+    Ok(Some(id(item)?))
+}
+
+fn is_empty_number(item: &Item) -> bool
+    ensures { result ≡ is_empty_number_form (view item.now) }
+{
+    match item {
+        Item::I1(numbers) => numbers.as_slice().is_empty(),
+        Item::I2(numbers) => numbers.as_slice().is_empty(),
+        Item::I4(numbers) => numbers.as_slice().is_empty(),
+        Item::I8(numbers) => numbers.as_slice().is_empty(),
+        Item::U1(numbers) => numbers.as_slice().is_empty(),
+        Item::U2(numbers) => numbers.as_slice().is_empty(),
+        Item::U4(numbers) => numbers.as_slice().is_empty(),
+        Item::U8(numbers) => numbers.as_slice().is_empty(),
+        _ => false,
+    }
+}
+
+// A part that is an element of a list.
+pub(crate) trait Part: Drop + Sized {
+    // The form in which it is printed.
+    ghost form: { Data → Option Self };
+
+    fn of_item(alloc: Global, item: &Item) -> Result<Self, BodyFault>
+        ensures { Gives (λ part. part) result (form (view item.now)) };
+}
+
+impl Part for u32 {
+    ghost form = { id_form };
+
+    fn of_item(_alloc: Global, item: &Item) -> Result<u32, BodyFault> {
+        id(item)
+    }
+}
+
+impl Part for (u32, Ids) {
+    ghost form = { group };
+
+    fn of_item(alloc: Global, item: &Item) -> Result<(u32, Ids), BodyFault> {
+        let [number, members] = parts::<2>(item)?;
+        Ok((id(number)?, ids(alloc, members)?))
+    }
+}
+
+// The elements of a list of such parts.
+pub(crate) fn list_of<T: Part>(alloc: Global, item: &Item) -> Result<Listed<T>, BodyFault>
+    ensures { Gives (λ parts. parts) result (each T.form (view item.now)) }
+{
+    let mut parts = Listed::new(alloc);
+    for part in elements(item)? {
+        parts.push(T::of_item(alloc, part)?)?;
+    }
+    Ok(parts)
+}
+
+// A list of at most 1,024 ids.
+pub(crate) fn ids(alloc: Global, item: &Item) -> Result<Ids, BodyFault>
+    ensures { Gives (λ ids. ids) result (ids_form (view item.now)) }
+{
+    few(list_of(alloc, item)?)
+}
+
+// These ids, unless they are more than 1,024.
+pub(crate) fn few(ids: Ids) -> Result<Ids, BodyFault>
+    ensures { Gives (λ ids. ids) result (meeting are_few ids) }
+{
+    if ids.len() <= 1024 {
+        Ok(ids)
+    } else {
+        Err(BodyFault::IllegalData)
     }
 }

@@ -3,28 +3,130 @@
 ghost use Rattle.std.specs.Prelude.{◌≡◌, option_map};
 ghost use Rattle.secs_items.specs.View.{view};
 ghost use Rattle.msgs_gem.specs.Given.{Answers};
-ghost use Rattle.msgs_gem.specs.Primaries.{ignores, reading};
+ghost use Rattle.msgs_gem.specs.Primaries.{ignores, parameter, reading, setting};
 
 use crate::fault::BodyFault;
-use crate::part::{characters, one};
+use crate::numbers::numbers_or_ids;
+use crate::part::{
+    Part, byte, characters, copied, flag, id, id_or_empty, ids, list_of, one, parts, text,
+};
+use gem_ids::{Ids, Listed, Text80};
 use secs_items::{Bytes, Item};
 use std::alloc::Global;
+use std::marker::Model;
 
-/// A primary of the host, with the parts of its body in the printed order (SEMI E5; this tool's profile, messages).
+/// A constant and its new value, as S2F15 sets it. Contracts see the number and what the item says.
+#[derive(Debug, Drop)]
+pub struct Setting {
+    /// ECID, the constant.
+    pub id: u32,
+    /// ECV, its new value, which may be an item of any kind.
+    pub value: Item,
+}
+
+impl Model for Setting {
+    ghost use Rattle.std.specs.Prelude.{ℕ};
+    ghost use Rattle.secs_items.specs.Data.{Data};
+    ghost use Rattle.secs_items.specs.View.{view as said};
+    ghost use Rattle.msgs_gem.specs.Codes.{number_code};
+
+    ghost Value = { ℕ × Data };
+
+    ghost coded = { number_code };
+
+    ghost view = { λ s. (s.id, said s.value) };
+}
+
+/// A parameter of a remote command, as S2F41 gives it. Contracts see the text and what the item says.
+#[derive(Debug, Drop)]
+pub struct Parameter {
+    /// CPNAME, the name of the parameter.
+    pub name: Text80,
+    /// CPVAL, its value, which may be an item of any kind.
+    pub value: Item,
+}
+
+impl Model for Parameter {
+    ghost use Rattle.std.specs.Prelude.{ℕ, List};
+    ghost use Rattle.secs_items.specs.Data.{Data};
+    ghost use Rattle.secs_items.specs.View.{view as said};
+    ghost use Rattle.msgs_gem.specs.Codes.{text_code};
+
+    ghost Value = { List ℕ × Data };
+
+    ghost coded = { text_code };
+
+    ghost view = { λ p. (p.name, said p.value) };
+}
+
+impl Part for Setting {
+    ghost form = { setting };
+
+    fn of_item(_alloc: Global, item: &Item) -> Result<Setting, BodyFault> {
+        let [ecid, value] = parts::<2>(item)?;
+        Ok(Setting {
+            id: id(ecid)?,
+            value: copied(value)?,
+        })
+    }
+}
+
+impl Part for Parameter {
+    ghost form = { parameter };
+
+    fn of_item(_alloc: Global, item: &Item) -> Result<Parameter, BodyFault> {
+        let [name, value] = parts::<2>(item)?;
+        Ok(Parameter {
+            name: text(name)?,
+            value: copied(value)?,
+        })
+    }
+}
+
+/// A primary of the host, with the parts of its body in the printed order (SEMI E5; this tool's profile, messages). A
+/// list of ids has at most 1,024 of them, and an empty one stands for all where it asks or enables.
 #[derive(Debug, Drop)]
 pub enum GemMsg {
     /// Are you there. Its text is ignored.
     S1F1,
+    /// Selected equipment status request: SVIDs.
+    S1F3(Ids),
+    /// Status variable namelist request: SVIDs.
+    S1F11(Ids),
     /// Establish communications. Its text is ignored.
     S1F13,
     /// Request OFF-LINE. Its text is ignored.
     S1F15,
     /// Request ON-LINE. Its text is ignored.
     S1F17,
+    /// Equipment constant request: ECIDs.
+    S2F13(Ids),
+    /// New equipment constant send: constants and their new values.
+    S2F15(Listed<Setting>),
     /// Date and time request. Its text is ignored.
     S2F17,
+    /// Equipment constant namelist request: ECIDs.
+    S2F29(Ids),
     /// Date and time set: the characters that were sent, which need be no moment.
     S2F31(Bytes),
+    /// Define report: DATAID, and reports, each RPTID and its VIDs.
+    S2F33(u32, Listed<(u32, Ids)>),
+    /// Link event report: DATAID, and events, each CEID and its RPTIDs.
+    S2F35(u32, Listed<(u32, Ids)>),
+    /// Enable or disable event report: CEED, true to enable, and CEIDs.
+    S2F37(bool, Ids),
+    /// Host command send: RCMD, the command, and its parameters.
+    S2F41(Text80, Listed<Parameter>),
+    /// Enable or disable alarm send: ALED, and ALID. None stands for all alarms: an integer item without elements.
+    S5F3(u8, Option<u32>),
+    /// List alarms request: ALIDs, as the elements of one integer item or as a list of ids.
+    S5F5(Ids),
+    /// List enabled alarm request. Its text is ignored.
+    S5F7,
+    /// Event report request: CEID.
+    S6F15(u32),
+    /// Individual report request: RPTID.
+    S6F19(u32),
 }
 
 /// Reads a primary of the host by its stream and function. `item` is its text, and None where the text is not one item;
@@ -41,15 +143,83 @@ pub fn read_gem(
 ) -> Result<GemMsg, BodyFault>
     ensures { Answers result (reading stream function (option_map (λ i. view i.now) item.entry)) }
 {
-    match (stream, function) {
-        (1, 1) => Ok(GemMsg::S1F1),
-        (1, 13) => Ok(GemMsg::S1F13),
-        (1, 15) => Ok(GemMsg::S1F15),
-        (1, 17) => Ok(GemMsg::S1F17),
-        (2, 17) => Ok(GemMsg::S2F17),
-        (2, 31) => Ok(GemMsg::S2F31(characters(alloc, one(item)?)?)),
-        (1 | 2, _) => Err(BodyFault::UnknownFunction),
+    match stream {
+        1 => read_stream_1(alloc, function, item),
+        2 => read_stream_2(alloc, function, item),
+        5 => read_stream_5(alloc, function, item),
+        6 => read_stream_6(function, item),
         _ => Err(BodyFault::UnknownStream),
+    }
+}
+
+// Equipment status.
+fn read_stream_1(alloc: Global, function: u8, item: Option<&Item>) -> Result<GemMsg, BodyFault>
+    ensures { Answers result (reading 1 function (option_map (λ i. view i.now) item.entry)) }
+{
+    match function {
+        1 => Ok(GemMsg::S1F1),
+        3 => Ok(GemMsg::S1F3(ids(alloc, one(item)?)?)),
+        11 => Ok(GemMsg::S1F11(ids(alloc, one(item)?)?)),
+        13 => Ok(GemMsg::S1F13),
+        15 => Ok(GemMsg::S1F15),
+        17 => Ok(GemMsg::S1F17),
+        _ => Err(BodyFault::UnknownFunction),
+    }
+}
+
+// Equipment control and diagnostics.
+fn read_stream_2(alloc: Global, function: u8, item: Option<&Item>) -> Result<GemMsg, BodyFault>
+    ensures { Answers result (reading 2 function (option_map (λ i. view i.now) item.entry)) }
+{
+    match function {
+        13 => Ok(GemMsg::S2F13(ids(alloc, one(item)?)?)),
+        15 => Ok(GemMsg::S2F15(list_of(alloc, one(item)?)?)),
+        17 => Ok(GemMsg::S2F17),
+        29 => Ok(GemMsg::S2F29(ids(alloc, one(item)?)?)),
+        31 => Ok(GemMsg::S2F31(characters(alloc, one(item)?)?)),
+        33 => {
+            let [dataid, reports] = parts::<2>(one(item)?)?;
+            Ok(GemMsg::S2F33(id(dataid)?, list_of(alloc, reports)?))
+        }
+        35 => {
+            let [dataid, events] = parts::<2>(one(item)?)?;
+            Ok(GemMsg::S2F35(id(dataid)?, list_of(alloc, events)?))
+        }
+        37 => {
+            let [ceed, events] = parts::<2>(one(item)?)?;
+            Ok(GemMsg::S2F37(flag(ceed)?, ids(alloc, events)?))
+        }
+        41 => {
+            let [command, parameters] = parts::<2>(one(item)?)?;
+            Ok(GemMsg::S2F41(text(command)?, list_of(alloc, parameters)?))
+        }
+        _ => Err(BodyFault::UnknownFunction),
+    }
+}
+
+// Exception handling.
+fn read_stream_5(alloc: Global, function: u8, item: Option<&Item>) -> Result<GemMsg, BodyFault>
+    ensures { Answers result (reading 5 function (option_map (λ i. view i.now) item.entry)) }
+{
+    match function {
+        3 => {
+            let [aled, alid] = parts::<2>(one(item)?)?;
+            Ok(GemMsg::S5F3(byte(aled)?, id_or_empty(alid)?))
+        }
+        5 => Ok(GemMsg::S5F5(numbers_or_ids(alloc, one(item)?)?)),
+        7 => Ok(GemMsg::S5F7),
+        _ => Err(BodyFault::UnknownFunction),
+    }
+}
+
+// Data collection.
+fn read_stream_6(function: u8, item: Option<&Item>) -> Result<GemMsg, BodyFault>
+    ensures { Answers result (reading 6 function (option_map (λ i. view i.now) item.entry)) }
+{
+    match function {
+        15 => Ok(GemMsg::S6F15(id(one(item)?)?)),
+        19 => Ok(GemMsg::S6F19(id(one(item)?)?)),
+        _ => Err(BodyFault::UnknownFunction),
     }
 }
 
@@ -58,5 +228,5 @@ pub fn read_gem(
 pub fn is_ignored(stream: u8, function: u8) -> bool
     ensures { result ≡ ignores stream function }
 {
-    matches!((stream, function), (1, 1 | 13 | 15 | 17) | (2, 17))
+    matches!((stream, function), (1, 1 | 13 | 15 | 17) | (2, 17) | (5, 7))
 }

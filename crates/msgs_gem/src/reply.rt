@@ -1,13 +1,17 @@
 //! The tool's replies, and its own primaries.
 
-ghost use Rattle.std.specs.Prelude.{◌≡◌, List, IfOk};
-ghost use Rattle.secs_items.specs.Data.{list as list_data};
+ghost use Rattle.std.specs.Prelude.{◌≡◌, ◌<◌, ◌≤◌, ◌^◌, List, length, IfOk};
+ghost use Rattle.gem_ids.specs.Texts.{IsText};
+ghost use Rattle.secs_items.specs.Data.{Data, list as list_data};
+ghost use Rattle.secs_items.specs.Plain.{plain};
 ghost use Rattle.secs_items.specs.Sendable.{IsSendable};
 ghost use Rattle.secs_items.specs.View.{view, items_of};
-ghost use Rattle.msgs_gem.specs.Replies.{A, B, code as code_data, identity, reply_body};
+ghost use Rattle.secs_items.specs.Weight.{IsBounded};
+ghost use Rattle.msgs_gem.specs.Replies.{A, B, U4, U8, alarm as alarm_data, alarm_code as alarm_code_data, alarm_part, code as code_data, each, event as event_data, identity, parameter_acknowledge, reply_body, variable_name};
 ghost use Rattle.msgs_gem.specs.Sendable.{HasSendableParts};
 
-use secs_items::{Bytes, Item, Items, NoMemory};
+use gem_ids::{Listed, Text80};
+use secs_items::{Bytes, Item, Items, NoMemory, U32s, U64s};
 use std::alloc::Global;
 
 /// What the tool tells of itself.
@@ -19,6 +23,35 @@ pub struct Identity {
     pub softrev: Bytes,
 }
 
+/// A status variable and its name.
+#[derive(Debug, Drop)]
+pub struct VariableName {
+    /// SVID, the variable.
+    pub svid: u32,
+    /// SVNAME, its name: the text of no bytes where the variable is unknown.
+    pub name: Text80,
+}
+
+/// A parameter of a remote command that is refused, and why.
+#[derive(Debug, Drop)]
+pub struct ParameterAcknowledge {
+    /// CPNAME, the name of the parameter as it was sent.
+    pub name: Text80,
+    /// CPACK, why it is refused.
+    pub cpack: u8,
+}
+
+/// An alarm in a list of alarms.
+#[derive(Debug, Drop)]
+pub struct AlarmPart {
+    /// ALCD, the byte of the alarm's code. None where the alarm is unknown, which is printed as a B without elements.
+    pub alcd: Option<u8>,
+    /// ALID, the alarm.
+    pub alid: u32,
+    /// ALTX, the text of the alarm: of no bytes where the alarm is unknown.
+    pub text: Text80,
+}
+
 /// A reply of the tool, or a primary of its own, with the parts of its body in the printed order (SEMI E5; this tool's
 /// profile, messages). A part with a fixed value is no field. S1F1 of the tool and each message of function 0 have no
 /// text, and no variant.
@@ -26,6 +59,10 @@ pub struct Identity {
 pub enum GemReply {
     /// On line data: MDLN and SOFTREV.
     S1F2(Bytes, Bytes),
+    /// Selected equipment status data: the values, in the order of the request.
+    S1F4(Items),
+    /// Status variable namelist reply.
+    S1F12(Listed<VariableName>),
     /// Establish communications, the tool's primary: MDLN and SOFTREV.
     S1F13(Bytes, Bytes),
     /// Establish communications acknowledge, with COMMACK 0.
@@ -34,10 +71,40 @@ pub enum GemReply {
     S1F16,
     /// ON-LINE acknowledge: ONLACK.
     S1F18(u8),
+    /// Equipment constant data: the values, in the order of the request.
+    S2F14(Items),
+    /// New equipment constant acknowledge: EAC.
+    S2F16(u8),
     /// Date and time data: 16 digits, YYYYMMDDhhmmsscc.
     S2F18(Bytes),
+    /// Equipment constant namelist: the constants, each the whole list of ECID, name, least, greatest and default value,
+    /// and units.
+    S2F30(Items),
     /// Date and time set acknowledge: TIACK.
     S2F32(u8),
+    /// Define report acknowledge: DRACK.
+    S2F34(u8),
+    /// Link event report acknowledge: LRACK.
+    S2F36(u8),
+    /// Enable or disable event report acknowledge: ERACK.
+    S2F38(u8),
+    /// Host command acknowledge: HCACK, and the parameters that are refused.
+    S2F42(u8, Listed<ParameterAcknowledge>),
+    /// Alarm report send, the tool's primary: ALCD, ALID and ALTX.
+    S5F1(u8, u32, Text80),
+    /// Enable or disable alarm acknowledge: ACKC5.
+    S5F4(u8),
+    /// List alarm data.
+    S5F6(Listed<AlarmPart>),
+    /// List enabled alarm data.
+    S5F8(Listed<AlarmPart>),
+    /// Event report send, the tool's primary: the number of its note as DATAID, CEID, and the reports, each the whole
+    /// list of RPTID and values.
+    S6F11(u64, u32, Items),
+    /// Event report data: CEID, and the reports, each the whole list of RPTID and values. DATAID is 0.
+    S6F16(u32, Items),
+    /// Individual report data: the values.
+    S6F20(Items),
     /// Unrecognized device id: the header that was received.
     S9F1(Bytes),
     /// Unrecognized stream: the header that was received.
@@ -57,9 +124,20 @@ pub enum GemReply {
 pub fn gem_item(alloc: Global, reply: &GemReply) -> Result<Item, NoMemory>
     ensures exact { IfOk result (λ item. view item ≡ reply_body reply.now) }
     ensures sendable { HasSendableParts reply.now → IfOk result (λ item. IsSendable (view item)) }
+    ensures short { HasSendableParts reply.now → IfOk result (λ item. length (plain (view item)) ≤ 2 ^ 30) }
+{
+    item_of(alloc, reply)
+}
+
+// The same, within bounds.
+fn item_of(alloc: Global, reply: &GemReply) -> Result<Item, NoMemory>
+    ensures exact { IfOk result (λ item. view item ≡ reply_body reply.now) }
+    ensures bounded { HasSendableParts reply.now → IfOk result (λ item. IsBounded 5 (2 ^ 30) (view item)) }
 {
     match reply {
         GemReply::S1F2(mdln, softrev) => model_and_revision(alloc, mdln, softrev),
+        GemReply::S1F4(values) => elements(values),
+        GemReply::S1F12(names) => list_of(alloc, names.as_slice()),
         GemReply::S1F13(mdln, softrev) => model_and_revision(alloc, mdln, softrev),
         GemReply::S1F14(tool) => list(
             alloc,
@@ -70,8 +148,25 @@ pub fn gem_item(alloc: Global, reply: &GemReply) -> Result<Item, NoMemory>
         ),
         GemReply::S1F16 => code(alloc, 0),
         GemReply::S1F18(onlack) => code(alloc, *onlack),
+        GemReply::S2F14(values) => elements(values),
+        GemReply::S2F16(eac) => code(alloc, *eac),
         GemReply::S2F18(time) => ascii(time),
+        GemReply::S2F30(constants) => elements(constants),
         GemReply::S2F32(tiack) => code(alloc, *tiack),
+        GemReply::S2F34(drack) => code(alloc, *drack),
+        GemReply::S2F36(lrack) => code(alloc, *lrack),
+        GemReply::S2F38(erack) => code(alloc, *erack),
+        GemReply::S2F42(hcack, parameters) => list(
+            alloc,
+            [code(alloc, *hcack)?, list_of(alloc, parameters.as_slice())?],
+        ),
+        GemReply::S5F1(alcd, alid, text) => alarm(alloc, Some(*alcd), *alid, text),
+        GemReply::S5F4(ackc5) => code(alloc, *ackc5),
+        GemReply::S5F6(alarms) => list_of(alloc, alarms.as_slice()),
+        GemReply::S5F8(alarms) => list_of(alloc, alarms.as_slice()),
+        GemReply::S6F11(note, ceid, reports) => event(alloc, *note, *ceid, reports),
+        GemReply::S6F16(ceid, reports) => event(alloc, 0, *ceid, reports),
+        GemReply::S6F20(values) => elements(values),
         GemReply::S9F1(header) => binary(header),
         GemReply::S9F3(header) => binary(header),
         GemReply::S9F5(header) => binary(header),
@@ -79,6 +174,100 @@ pub fn gem_item(alloc: Global, reply: &GemReply) -> Result<Item, NoMemory>
         GemReply::S9F9(header) => binary(header),
         GemReply::S9F11(header) => binary(header),
     }
+}
+
+// A part of a reply that is an element of a list. Its texts are texts by their type, so it is within bounds.
+trait Printed {
+    // As what it is printed.
+    ghost body: { Self → Data };
+
+    fn item(&self, alloc: Global) -> Result<Item, NoMemory>
+        ensures exact { IfOk result (λ item. view item ≡ body self.now) }
+        ensures bounded { IfOk result (λ item. IsBounded 1 110 (view item)) };
+}
+
+impl Printed for VariableName {
+    ghost body = { variable_name };
+
+    fn item(&self, alloc: Global) -> Result<Item, NoMemory> {
+        list(
+            alloc,
+            [
+                u4(alloc, self.svid)?,
+                text(alloc, &self.name)?,
+                text(alloc, &Text80::empty())?,
+            ],
+        )
+    }
+}
+
+impl Printed for ParameterAcknowledge {
+    ghost body = { parameter_acknowledge };
+
+    fn item(&self, alloc: Global) -> Result<Item, NoMemory> {
+        list(alloc, [text(alloc, &self.name)?, code(alloc, self.cpack)?])
+    }
+}
+
+impl Printed for AlarmPart {
+    ghost body = { alarm_part };
+
+    fn item(&self, alloc: Global) -> Result<Item, NoMemory> {
+        alarm(alloc, self.alcd, self.alid, &self.text)
+    }
+}
+
+// An alarm. An unknown one has no ALCD.
+fn alarm(alloc: Global, alcd: Option<u8>, alid: u32, altx: &Text80) -> Result<Item, NoMemory>
+    ensures exact { IfOk result (λ item. view item ≡ alarm_data alcd alid altx.now) }
+    ensures bounded { IfOk result (λ item. IsBounded 1 110 (view item)) }
+{
+    list(
+        alloc,
+        [
+            alarm_code(alloc, alcd)?,
+            u4(alloc, alid)?,
+            text(alloc, altx)?,
+        ],
+    )
+}
+
+fn alarm_code(alloc: Global, alcd: Option<u8>) -> Result<Item, NoMemory>
+    ensures exact { IfOk result (λ item. view item ≡ alarm_code_data alcd) }
+{
+    match alcd {
+        Some(alcd) => code(alloc, alcd),
+        None => Ok(Item::Binary(Bytes::new(alloc))),
+    }
+}
+
+// An event and its reports.
+fn event(alloc: Global, note: u64, ceid: u32, reports: &Items) -> Result<Item, NoMemory>
+    ensures { IfOk result (λ item. view item ≡ event_data note ceid reports.now) }
+{
+    list(
+        alloc,
+        [u8(alloc, note)?, u4(alloc, ceid)?, elements(reports)?],
+    )
+}
+
+// A list of an item for each part.
+fn list_of<T: Printed>(alloc: Global, parts: &[T]) -> Result<Item, NoMemory>
+    ensures exact { IfOk result (λ item. view item ≡ each T.body parts.now) }
+    ensures bounded { length parts.now < 100000 → IfOk result (λ item. IsBounded 2 11000004 (view item)) }
+{
+    let mut items = Items::new(alloc);
+    for part in parts {
+        items.push(part.item(alloc)?)?;
+    }
+    Ok(Item::List(items))
+}
+
+// A list of these items, which are copied.
+fn elements(items: &Items) -> Result<Item, NoMemory>
+    ensures { IfOk result (λ item. view item ≡ list_data items.now) }
+{
+    Ok(Item::List(items.clone()?))
 }
 
 fn model_and_revision(alloc: Global, mdln: &Bytes, softrev: &Bytes) -> Result<Item, NoMemory>
@@ -111,4 +300,23 @@ fn code(alloc: Global, code: u8) -> Result<Item, NoMemory>
     ensures { IfOk result (λ item. view item ≡ code_data code) }
 {
     Ok(Item::Binary(Bytes::from_vec(vec![in alloc; code]?)))
+}
+
+fn text(alloc: Global, text: &Text80) -> Result<Item, NoMemory>
+    ensures exact { IfOk result (λ item. view item ≡ A text.now) }
+    ensures text { IsText text.now }
+{
+    Ok(Item::Ascii(Bytes::from_vec(Vec::from_slice(alloc, text.as_bytes())?)))
+}
+
+fn u4(alloc: Global, number: u32) -> Result<Item, NoMemory>
+    ensures { IfOk result (λ item. view item ≡ U4 number) }
+{
+    Ok(Item::U4(U32s::from_vec(vec![in alloc; number]?)))
+}
+
+fn u8(alloc: Global, number: u64) -> Result<Item, NoMemory>
+    ensures { IfOk result (λ item. view item ≡ U8 number) }
+{
+    Ok(Item::U8(U64s::from_vec(vec![in alloc; number]?)))
 }

@@ -35,9 +35,13 @@ is_ended (Dropped cause) = true
 
 -- ---- the notes of the line and their fates
 
--- what the note of a number told of: its kind and its CEID or ALID
+-- what a note told of: its kind and its CEID or ALID
+abbrev pub tells : Told → Kind × ℕ
+tells one = (one.kind, one.id)
+
+-- what the note of a number told of
 abbrev pub what_of : ℕ → List Told → Option (Kind × ℕ)
-what_of number told = option_map (λ (one : Told). (one.kind, one.id)) (told_of number told)
+what_of number told = option_map tells (told_of number told)
 
 -- a note of this number
 abbrev pub is_number : ℕ → Note → Bool

@@ -7,7 +7,9 @@
 #![tactic(auto)]
 
 mod fate;
+mod line;
 mod note;
 
 pub use fate::{DropCause, Fate, Told};
+pub use line::NoteLine;
 pub use note::{Kind, Note};

@@ -1,0 +1,169 @@
+//! The line of notes as a record.
+
+ghost use Rattle.std.specs.Prelude.{◌≡◌, length, slice_get, option_copied, IfOk, IfErr};
+ghost use Rattle.note_line.specs.Line.{opening, next, noted, drop_head, open_head, fail_open, answered, fate_of, with_fate};
+ghost use Rattle.note_line.specs.Table3.{least};
+
+use crate::fate::{DropCause, Fate, Told};
+use crate::note::{Kind, Note};
+use hsms_frame::Bytes;
+use std::alloc::{AllocError, Global};
+use std::collections::VecDeque;
+use std::marker::Model;
+
+/// The line of notes, which contracts see as the notes that wait, the open one, and what became of each that was made.
+/// Only `add` takes memory.
+#[derive(Drop)]
+pub struct NoteLine {
+    told: Vec<Told>,
+    waiting: VecDeque<Note>,
+    opened: Option<Note>,
+}
+
+impl Model for NoteLine {
+    ghost use Rattle.note_line.specs.Line.{Line};
+
+    ghost Value = { Line };
+
+    ghost view = { λ kept. record { told = kept.told.items; waiting = kept.waiting.items; opened = kept.opened } };
+}
+
+// Another fate of the note of this number. Where the number wasn't given nothing changes.
+fn set_fate(told: &mut Vec<Told>, number: u64, fate: Fate)
+    ensures { told.new.items ≡ with_fate number fate told.old.items }
+{
+    if let Some(place) = number.checked_sub(1) {
+        let place = place as usize;
+        if place < told.len() {
+            told[place].fate = fate;
+        }
+    }
+}
+
+impl NoteLine {
+    /// No note was made. Takes no memory.
+    pub fn new(alloc: Global) -> NoteLine
+        ensures { result ≡ opening }
+    {
+        NoteLine {
+            told: Vec::new(alloc),
+            waiting: VecDeque::new(alloc),
+            opened: None,
+        }
+    }
+
+    /// The number that the next note gets, from 1 on.
+    pub fn next_number(&self) -> u64
+        ensures { result ≡ next self.now }
+    {
+        self.told.len() as u64 + 1
+    }
+
+    /// A new note, an event's or an alarm's of this CEID or ALID, gets the next number and goes to the rear of those that
+    /// wait. On want of memory nothing has changed.
+    pub fn add(&mut self, kind: Kind, id: u32, text: Bytes) -> Result<(), AllocError>
+        ensures ok { IfOk result (λ _. self.new ≡ noted kind id text self.old) }
+        ensures err { IfErr result (λ _. self.new ≡ self.old) }
+    {
+        let number = self.next_number();
+        self.told.reserve(1)?;
+        self.waiting.push_back(Note {
+            number,
+            kind,
+            id,
+            text,
+        })?;
+        self.told.push_reserved(Told {
+            kind,
+            id,
+            fate: Fate::Waiting,
+        });
+        Ok(())
+    }
+
+    /// The first note that waits.
+    pub fn head(&self) -> Option<&Note>
+        ensures { option_copied result ≡ slice_get self.now.waiting 0 }
+    {
+        self.waiting.front()
+    }
+
+    /// How many notes wait.
+    pub fn waiting_len(&self) -> usize
+        ensures { result ≡ length self.now.waiting }
+    {
+        self.waiting.len()
+    }
+
+    /// The note that is sent and whose transaction is open.
+    pub fn open_note(&self) -> Option<&Note>
+        ensures { option_copied result ≡ self.now.opened }
+    {
+        self.opened.as_ref()
+    }
+
+    /// What became of the note of a number; `None` exactly where the number wasn't given.
+    pub fn fate(&self, number: u64) -> Option<Fate>
+        ensures { result ≡ fate_of number self.now.told }
+    {
+        let place = number.checked_sub(1)? as usize;
+        if place < self.told.len() {
+            Some(self.told[place].fate)
+        } else {
+            None
+        }
+    }
+
+    /// The row of table 3 that fires by itself next, where the tool communicates or doesn't: 11, by which the head is
+    /// dropped, 13, by which it is sent, or none.
+    pub fn row_for(&self, communicating: bool) -> Option<u8>
+        ensures { result ≡ least communicating self.now }
+    {
+        if self.waiting.is_empty() {
+            None
+        } else if !communicating {
+            Some(11)
+        } else if self.opened.is_none() {
+            Some(13)
+        } else {
+            None
+        }
+    }
+
+    /// Row 11: the first note that waits is dropped.
+    pub fn drop_head(&mut self)
+        ensures { self.new ≡ drop_head self.old }
+    {
+        if let Some(note) = self.waiting.pop_front() {
+            set_fate(&mut self.told, note.number, Fate::Dropped(DropCause::NoSpool));
+        }
+    }
+
+    /// Row 13: the first note that waits is sent, and is open.
+    pub fn open_head(&mut self)
+        ensures { self.new ≡ open_head self.old }
+    {
+        if let Some(note) = self.waiting.pop_front() {
+            set_fate(&mut self.told, note.number, Fate::Open);
+            self.opened = Some(note);
+        }
+    }
+
+    /// Row 14: the transaction of the open note has failed, and the note is dropped.
+    pub fn fail_open(&mut self)
+        ensures { self.new ≡ fail_open self.old }
+    {
+        if let Some(note) = self.opened.take() {
+            set_fate(&mut self.told, note.number, Fate::Dropped(DropCause::NoSpool));
+        }
+    }
+
+    /// The open note is answered.
+    pub fn answer_open(&mut self)
+        ensures { self.new ≡ answered self.old }
+    {
+        if let Some(note) = self.opened.take() {
+            set_fate(&mut self.told, note.number, Fate::Answered);
+        }
+    }
+}

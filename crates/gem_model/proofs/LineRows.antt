@@ -1,5 +1,5 @@
 -- Which row of the line of notes is ready.
-use Rattle.std.proofs.Common.{◌≡◌, Bool, true, false, not, ◌&&◌, if◌then◌else◌, Option, Some, None, option_map, refl}
+use Rattle.std.proofs.Common.{◌≡◌, ℕ, Bool, true, false, not, ◌&&◌, if◌then◌else◌, Option, Some, None, option_map, refl}
 use Rattle.gem_tables.specs.Table.{Firing, firing}
 use Rattle.note_line.specs.Line.{Line, drop_head, open_head, fail_open}
 use Rattle.note_line.specs.Table3.{Row, automatic, direct, has_head, has_open, least}

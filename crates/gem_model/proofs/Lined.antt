@@ -1,5 +1,6 @@
 -- The line of notes goes on: it stays valid, and what became of a note stays.
 use Rattle.std.proofs.Common.{◌≡◌, ℕ, ◌+◌, ◌==◌, Bool, true, false, if◌then◌else◌, List, [], ◌∷◌, ◌++◌, map, Option, Some, None, option_map, refl, ap, subst, sym, ◌∙◌, is_some}
+use Rattle.std.specs.Option.{option_or}
 use Rattle.hsms_frame.specs.declared.frame.Header.{Header}
 use Rattle.hsms_frame.specs.declared.frame.Arrival.{Arrival}
 use Rattle.hsms_link.specs.declared.table.LinkAct.{LinkAct}
@@ -105,7 +106,7 @@ line_control g row =
 
 -- a firing's note
 lined_event : (event : Option ℕ) (before : State) (f : Firing) (g : State) → Lined g (record g { line = line_with_event event before f g })
-lined_event None before f g = lined_at g
+lined_event None before f g valid = lined_at g valid
 lined_event (Some ceid) before f g valid =
     either_way (Keeps g.line) (is_event_reported ceid before g) _ g.line (noted-keeps _ _ _ g.line valid) (keeps-same g.line valid)
 
@@ -140,7 +141,7 @@ lined_listed : (fs : List Firing) → AreListed fs → (g : State) → Lined g (
 lined_listed [] listed g = lined_at g
 lined_listed (f ∷ fs) listed g =
     let one : State = if row_starts g f then fire g f else g in
-    lined_then g one _ (lined_where (row_starts g f) g (fire g f) (lined_direct g f listed.0)) (lined_listed fs listed.1 one)
+    lined_then g one (fire_listed fs one) (lined_where (row_starts g f) g (fire g f) (lined_direct g f listed.0)) (lined_listed fs listed.1 one)
 
 listed_comm : (rows : List ℕ) → AreListed (of_comm rows)
 listed_comm [] = tt
@@ -191,7 +192,7 @@ lined_automatic g f ready =
     ready
 
 lined_settled : (g : State) → Lined g (settled g)
-lined_settled g = settled_keeps (Lined g) (λ h f ready lined. lined_then g h _ lined (lined_automatic h f ready)) g (lined_at g)
+lined_settled g = settled_keeps (Lined g) (λ h f ready lined. lined_then g h (fire h f) lined (lined_automatic h f ready)) g (lined_at g)
 
 -- ---- data messages
 
@@ -274,8 +275,8 @@ lined_taken g h m =
     (lined_then told (written m told) (taken h m g) (lined_written told m) (lined_message m (written m told)))
 
 lined_note : (g : State) (w : What) → Lined g (note_answered w g)
-lined_note g what.Establish = lined_at g
-lined_note g what.Attempt = lined_at g
+lined_note g what.Establish valid = lined_at g valid
+lined_note g what.Attempt valid = lined_at g valid
 lined_note g (what.Note n) valid = answered-keeps g.line valid
 
 lined_answer : (w : What) (function : ℕ) (item : Option Data) (g : State) → Lined g (fires (answer_rows w function item) g)
@@ -288,7 +289,7 @@ lined_closed g h item None = lined_at g
 lined_closed g h item (Some one) =
     let out : State = record g { transactions = taken_out (Some one) g.transactions } in
     let told : State = note_answered one.what out in
-    lined_then g told _ (lined_note out one.what) (lined_answer one.what (function_of h) item told)
+    lined_then g told (fires (answer_rows one.what (function_of h) item) told) (lined_note out one.what) (lined_answer one.what (function_of h) item told)
 
 lined_act : (g : State) (h : Header) (item : Option Data) (v : Verdict) → Lined g (data_act h item v g)
 lined_act g h item Discarded = lined_at g
@@ -340,7 +341,7 @@ abbrev LinedTo : State → Outcome → Type 0
 LinedTo g o = Lined g o.after
 
 lined_command_of : (command : OperCmd) (g : State) → Lined g (fires (operator_rows command) (switched command g))
-lined_command_of command g = lined_then g (switched command g) _ (lined_switched command g) (lined_operator command (switched command g))
+lined_command_of command g = lined_then g (switched command g) (fires (operator_rows command) (switched command g)) (lined_switched command g) (lined_operator command (switched command g))
 
 lined_quit : (up : Bool) (g : State) → LinedTo g (quits up g)
 lined_quit true g = lined_ended g
@@ -380,7 +381,7 @@ lined_done (Timeout one) g = lined_timed_out one g
 
 lined_all : (ds : List Due) (g : State) → Lined g (all_done ds g)
 lined_all [] g = lined_at g
-lined_all (d ∷ ds) g = let one : State = all_done (d ∷ []) g in lined_then g one _ (lined_done d g) (lined_all ds one)
+lined_all (d ∷ ds) g = let one : State = all_done (d ∷ []) g in lined_then g one (all_done ds one) (lined_done d g) (lined_all ds one)
 
 -- ---- a step
 

@@ -360,17 +360,28 @@ same_dropped (note ∷ notes) l = refl
 few-dropped : (g : State) → Few g → Few (takes_effect g (firing 3 0 11))
 few-dropped g few = few-line g (row_effect 11 g.line) (same_dropped g.line.waiting g.line) few
 
+few_line_either : (b : Bool) (x y : State) (l : Line) → Few (record x { line = l }) → Few (record y { line = l }) → Few (record (if b then x else y) { line = l })
+few_line_either true x y l at_x at_y = at_x
+few_line_either false x y l at_x at_y = at_y
+
 -- row 13 of table 3: the head is sent where none is open
 few-sending : (waiting : List Note) (g : State) → has_open g.line ≡ false → is_communicating g.comm ≡ true → Few g → Few (record (asks_first waiting g) { line = with_head sent waiting g.line })
 few-sending [] g none talks few = few
 few-sending (note ∷ waiting) g none talks few =
-    let h : State = record g { line = with_head sent (note ∷ waiting) g.line } in
-    let before : Fits (count_of establishes g.transactions.opened) (count_of attempts g.transactions.opened) (count_of notes g.transactions.opened) g.comm g.control (is_selected g) false =
-    subst (λ (o : Bool). Fits (count_of establishes g.transactions.opened) (count_of attempts g.transactions.opened) (count_of notes g.transactions.opened) g.comm g.control (is_selected g) o) none few in
+    let t : Table = g.transactions in
+    let l : Line = with_head sent (note ∷ waiting) g.line in
+    let h : State = record g { line = l } in
+    let w : What = what.Note note.number in
+    let stream = stream_of_kind note.kind in
+    let function = function_of_kind note.kind in
+    let before : Fits (count_of establishes t.opened) (count_of attempts t.opened) (count_of notes t.opened) g.comm g.control (is_selected g) false =
+    subst (λ (o : Bool). Fits (count_of establishes t.opened) (count_of attempts t.opened) (count_of notes t.opened) g.comm g.control (is_selected g) o) none few in
     let f = fits-sent _ _ _ g.comm g.control (is_selected g) talks before in
-    few-asks h (stream_of_kind note.kind) (function_of_kind note.kind) (what.Note note.number) note.text
-    (fits-less _ _ _ _ _ _ g.comm g.control (is_selected g) true (omega arith) (omega arith) (omega arith) f)
-    (fits-less _ _ _ _ _ _ g.comm g.control (is_selected g) true (omega arith) (omega arith) (omega arith) f)
+    let quiet : Few h = fits-less _ _ _ _ _ _ g.comm g.control (is_selected g) true (omega arith) (omega arith) (omega arith) f in
+    let more : FewWith w h = fits-less _ _ _ _ _ _ g.comm g.control (is_selected g) true (omega arith) (omega arith) (omega arith) f in
+    few_line_either (is_full t) g
+    (with_frame (data_frame g.config.device true stream function (drawn t) note.text) (record g { transactions = if is_full t then t else with_started stream function (g.moment + t3 g) w t })) l
+    quiet (in_either (is_full t) t (with_started stream function (g.moment + t3 g) w t) h quiet (few-started h stream function (g.moment + t3 g) w more))
 
 few-sent : (g : State) → has_open g.line ≡ false → is_communicating g.comm ≡ true → Few g → Few (takes_effect g (firing 3 0 13))
 few-sent g none talks few = few-sending g.line.waiting g none talks few

@@ -16,7 +16,7 @@ use Rattle.note_line.specs.declared.fate.Fate.TheVariants.{Dropped}
 use Rattle.note_line.specs.declared.fate.DropCause.TheVariants.{NoSpool}
 use Rattle.note_line.specs.Line.{Line}
 use Rattle.note_line.specs.Line as notes
-use Rattle.note_line.specs.Table3 as line
+use Rattle.note_line.specs.Left.{left as left_line}
 use Rattle.note_line.specs.Table3.{has_head}
 use Rattle.gem_model.specs.State.{State, is_communicating}
 use Rattle.gem_model.specs.Values.{value_of, occasion_of}
@@ -69,17 +69,17 @@ falls_comm g here =
     let none : one_if (is_wait_delay (fire g (firing 1 0 3)).comm) ≡ 0 = ap (λ c. one_if (is_wait_delay c)) comm in
     let same : one_if (is_attempt (fire g (firing 1 0 3)).control) ≡ one_if (is_attempt g.control) = ap (λ c. one_if (is_attempt c)) control in
     let before : one_if (is_wait_delay g.comm) ≡ 1 = ap one_if here in
-    let notes : line.left (fire g (firing 1 0 3)).line ≡ line.left g.line = ap line.left line in
+    let notes : left_line (fire g (firing 1 0 3)).line ≡ left_line g.line = ap left_line line in
     omega arith
 
 -- a note adds 6 to what is left
-noted_left : (kind : Kind) (id : ℕ) (text : List ℕ) (l : Line) → line.left (notes.noted kind id text l) ≡ line.left l + 6
+noted_left : (kind : Kind) (id : ℕ) (text : List ℕ) (l : Line) → left_line (notes.noted kind id text l) ≡ left_line l + 6
 noted_left kind id text l = omega (arith, length-append l.waiting (record { number = notes.next l; kind = kind; id = id; text = text } ∷ []))
 
-event_left : (event : Option ℕ) (before : State) (f : Firing) (g : State) → line.left (line_with_event event before f g) ≤ line.left g.line + 6
+event_left : (event : Option ℕ) (before : State) (f : Firing) (g : State) → left_line (line_with_event event before f g) ≤ left_line g.line + 6
 event_left None before f g = omega arith
 event_left (Some ceid) before f g =
-    either_way (λ (l : Line). line.left l ≤ line.left g.line + 6) (is_event_reported ceid before g) _ g.line
+    either_way (λ (l : Line). left_line l ≤ left_line g.line + 6) (is_event_reported ceid before g) _ g.line
     (let more = noted_left Event ceid (event_text (notes.next g.line) ceid (report_items (value_of (occasion_of g f) g) ceid g.reports)) g.line in omega arith)
     (omega arith)
 

@@ -13,7 +13,7 @@ use Rattle.tool_events.specs.declared.config.ControlStart.{ControlStart}
 use Rattle.tool_events.specs.declared.config.ControlStart.TheVariants as begin
 use Rattle.tool_events.specs.declared.entry.Entry.{Entry}
 use Rattle.tool_events.specs.declared.event.Event.{Event}
-use Rattle.note_line.specs.Fates.{LineValid}
+use Rattle.note_line.specs.Fates.{LineValid, KeepsFates}
 use Rattle.note_line.proofs.Keeps.{Keeps, fates-trans, opening-valid}
 use Rattle.gem_model.specs.State.{State, opening, is_up, is_selected, raised, first_control}
 use Rattle.gem_model.specs.Fire.{fire, creations}
@@ -164,3 +164,11 @@ run-room c entries h run = few-room h (run-few c entries h run)
 -- and so it does while the tool settles behind an event
 pub run-along : (c : Config) (entries : List Entry) (h : State) (at : ℕ) (e : Event) (o : Outcome) → Run (opening c) entries h → acts h.moment (raised h at) e ≡ Some o → Along (λ (g : State). is_full g.transactions ≡ false) o.after (settling o.after)
 run-along c entries h at e o run here = few-along o.after (few-acts h.moment (raised h at) e o (run-few c entries h run) here)
+
+-- where a history leads, the line of notes is valid
+pub run-line : (c : Config) (entries : List Entry) (h : State) → Run (opening c) entries h → LineValid h.line
+run-line c entries h run = (run_valid (opening c) entries h (opening_valid c) run).line
+
+-- and from then on what became of a note stays
+pub run-stays : (c : Config) (front behind : List Entry) (g h : State) → Run (opening c) front g → Run g behind h → KeepsFates g.line h.line
+run-stays c front behind g h before after = (run-fates g behind h (run-line c front g before) after).fates

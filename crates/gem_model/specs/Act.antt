@@ -8,7 +8,7 @@ use Rattle.secs_items.specs.Plain.{plain}
 use Rattle.msgs_gem.specs.declared.primary.GemMsg.{GemMsg}
 use Rattle.msgs_gem.specs.declared.primary.GemMsg.TheVariants as msg
 use Rattle.msgs_gem.specs.Replies.{reply_body}
-use Rattle.data_variables.specs.Constants.{set_all_after}
+use Rattle.data_variables.specs.Setting.{set_all_after}
 use Rattle.event_reports.specs.Reports.{defined, linked, enabled}
 use Rattle.event_reports.specs.Alarms.{alarms_enabled}
 use Rattle.note_line.specs.Line as notes

@@ -2,7 +2,7 @@
 use Rattle.std.specs.Prelude.{ℕ, ◌+◌, ◌*◌, Bool, true, false, if◌then◌else◌}
 use Rattle.gem_states.specs.declared.communication.Comm.{Comm}
 use Rattle.gem_states.specs.declared.communication.Comm.TheVariants as comm
-use Rattle.note_line.specs.Table3 as line
+use Rattle.note_line.specs.Left.{left as left_line}
 use Rattle.gem_model.specs.State.{State}
 use Rattle.gem_model.specs.Ready.{is_attempt}
 
@@ -18,4 +18,4 @@ one_if b = if b then 1 else 0
 -- what is left to fire by itself: WAIT DELAY and ATTEMPT ON-LINE count 7 each, which is more than the note weighs that may
 -- tell of their end, and then what is left in the line of notes
 abbrev pub left : State → ℕ
-left g = 7 * (one_if (is_wait_delay g.comm) + one_if (is_attempt g.control)) + line.left g.line
+left g = 7 * (one_if (is_wait_delay g.comm) + one_if (is_attempt g.control)) + left_line g.line

@@ -59,7 +59,7 @@ text_of_alarm alid = unwrap_or (alarm_text alid) []
 abbrev pub line_with_alarm : ℕ → State → notes.Line
 line_with_alarm alid g =
     if is_alarm_reported alid g
-    then notes.noted Alarm alid (plain (reply_body (reply.S5F1 (record { alcd = Some (alcd (is_set alid g.alarms)); alid = alid; text = text_of_alarm alid })))) g.line
+    then notes.noted Alarm alid (plain (reply_body (reply.S5F1 (alcd (is_set alid g.alarms)) alid (text_of_alarm alid)))) g.line
     else g.line
 
 abbrev alarm_told : ℕ → State → State

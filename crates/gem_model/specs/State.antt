@@ -1,10 +1,11 @@
 -- What the tool is at a moment: plain numbers and lists, with no index and no count beside them.
 use Rattle.std.specs.Prelude.{ℕ, ◌+◌, ◌-◌, min, max, Bool, true, false, ◌&&◌, ◌==◌, List, [], ◌∷◌, ◌++◌}
-use Rattle.data_variables.specs.declared.value.Val.{Val}
-use Rattle.data_variables.specs.declared.value.Val.TheVariants.{Number, Truth}
-use Rattle.data_variables.specs.Constants.{number_in}
+use Rattle.data_variables.specs.declared.val.Val.{Val}
+use Rattle.data_variables.specs.declared.val.Val.TheVariants.{Number, Truth}
+use Rattle.data_variables.specs.Values.{number_in}
 use Rattle.event_reports.specs.Reports.{Reports, no_reports}
-use Rattle.event_reports.specs.Alarms.{AlarmLine, no_alarms}
+use Rattle.event_reports.specs.declared.alarms.AlarmLine.{AlarmLine}
+use Rattle.event_reports.specs.Alarms.{no_alarms}
 use Rattle.note_line.specs.Line as notes
 use Rattle.gem_ids.specs.Moments.{last_moment}
 use Rattle.gem_states.specs.declared.communication.Comm.{Comm}

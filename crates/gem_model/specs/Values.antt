@@ -4,7 +4,8 @@ use Rattle.gem_ids.specs.Civil.{time_digits}
 use Rattle.gem_states.specs.Meaning.{comm_number, control_number}
 use Rattle.gem_tables.specs.Table.{Firing}
 use Rattle.secs_items.specs.Data.{Data, ascii, u1, u2, u4}
-use Rattle.data_variables.specs.Constants.{value_item, constant_in}
+use Rattle.data_variables.specs.Bodies.{value_item}
+use Rattle.data_variables.specs.Values as constants
 use Rattle.event_reports.specs.Alarms.{set_alids}
 use Rattle.gem_model.specs.State.{State, clock_now}
 
@@ -53,7 +54,7 @@ value_among (v ∷ vs) vid = if v.vid == vid then Some v.value else value_among 
 
 -- the value of a constant (this tool's profile, constants)
 abbrev pub constant_value : State → ℕ → Option Data
-constant_value g ecid = option_map value_item (constant_in ecid g.constants)
+constant_value g ecid = option_map value_item (constants.value_of ecid g.constants)
 
 -- the first value that is there
 abbrev pub or_else : Option Data → Option Data → Option Data
@@ -72,7 +73,3 @@ value_of o g vid = or_else (status_value g vid) (or_else (value_among (event_var
 -- the numbers of the status variables, in order
 abbrev pub svids : List ℕ
 svids = 1 ∷ 2 ∷ 3 ∷ 8 ∷ []
-
--- the numbers of the constants, in order
-abbrev pub ecids : List ℕ
-ecids = 201 ∷ 202 ∷ 203 ∷ 204 ∷ 205 ∷ 206 ∷ 207 ∷ []

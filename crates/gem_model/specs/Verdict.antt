@@ -20,16 +20,19 @@ use Rattle.msgs_gem.specs.declared.reply.AlarmPart.{AlarmPart}
 use Rattle.msgs_gem.specs.declared.reply.VariableName.{VariableName}
 use Rattle.msgs_gem.specs.Primaries.{reading}
 use Rattle.msgs_gem.specs.Replies.{L, items}
-use Rattle.data_variables.specs.declared.value.Val.{Val}
-use Rattle.data_variables.specs.Constants.{eac, val_in, namelist_of}
+use Rattle.data_variables.specs.declared.val.Val.{Val}
+use Rattle.data_variables.specs.Setting.{eac}
+use Rattle.data_variables.specs.Table.{constant_ids}
+use Rattle.data_variables.specs.Bodies.{val_in, name_item}
 use Rattle.gem_rows.specs.Variables.{vid_name}
 use Rattle.event_reports.specs.Reports.{drack, lrack, erack, report_items, one_items}
-use Rattle.event_reports.specs.Alarms.{AlarmLine, ackc5, is_alarm, is_set}
+use Rattle.event_reports.specs.declared.alarms.AlarmLine.{AlarmLine}
+use Rattle.event_reports.specs.Alarms.{ackc5, is_alarm, is_set}
 use Rattle.transactions.specs.declared.transaction.Open.{Open}
 use Rattle.transactions.specs.declared.transaction.What.TheVariants as what
 use Rattle.transactions.specs.Endings.{answered, same_kind}
 use Rattle.gem_model.specs.State.{State, is_disabled, is_communicating, is_online, clock_now}
-use Rattle.gem_model.specs.Values.{no_firing, status_value, constant_value, value_of, svids, ecids}
+use Rattle.gem_model.specs.Values.{no_firing, status_value, constant_value, value_of, svids}
 use Rattle.gem_model.specs.Noting.{alcd, text_of_alarm}
 use Rattle.gem_model.specs.Remote.{hcack, listed}
 
@@ -176,10 +179,10 @@ reply_to g (msg.S1F11 ids) = reply.S1F12 (map (status_name g) (or_all svids ids)
 reply_to g msg.S1F13 = reply.S1F14 (record { mdln = g.config.mdln; softrev = g.config.softrev })
 reply_to g msg.S1F15 = reply.S1F16
 reply_to g msg.S1F17 = reply.S1F18 (onlack g.control)
-reply_to g (msg.S2F13 ids) = reply.S2F14 (values_of (constant_value g) (or_all ecids ids))
-reply_to g (msg.S2F15 settings) = reply.S2F16 (eac (settings_of settings) g.constants)
+reply_to g (msg.S2F13 ids) = reply.S2F14 (values_of (constant_value g) (or_all constant_ids ids))
+reply_to g (msg.S2F15 settings) = reply.S2F16 (eac (settings_of settings))
 reply_to g msg.S2F17 = reply.S2F18 (time_digits (clock_now g))
-reply_to g (msg.S2F29 ids) = reply.S2F30 (namelist_of ids)
+reply_to g (msg.S2F29 ids) = reply.S2F30 (items (map name_item (or_all constant_ids ids)))
 reply_to g (msg.S2F31 text) = reply.S2F32 (tiack text)
 reply_to g (msg.S2F33 id reports) = reply.S2F34 (drack reports g.reports)
 reply_to g (msg.S2F35 id events) = reply.S2F36 (lrack events g.reports)

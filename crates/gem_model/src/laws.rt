@@ -10,12 +10,13 @@ ghost use Rattle.gem_model.specs.State.{State, opening, raised};
 ghost use Rattle.gem_model.specs.Settle.{Settles, settling, settled, Along};
 ghost use Rattle.gem_model.specs.Step.{Outcome, acts};
 ghost use Rattle.gem_model.specs.Run.{Run};
+ghost use Rattle.note_line.specs.Fates.{LineValid, KeepsFates};
 
-/// A primary of the tool always finds room among the open transactions: where a history leads, at most one is open, of the
+/// A primary of the tool always finds room among the open transactions: where a history leads, at most two are open, of the
 /// sixteen that can be; and there is room in each state that the tool passes while it settles behind an event.
 pub fn no_start_meets_a_full_table()
     ensures room { (c : Config) (entries : List Entry) (h : State) → Run (opening c) entries h → is_full h.transactions ≡ false }
-    ensures one_open { (c : Config) (entries : List Entry) (h : State) → Run (opening c) entries h → length h.transactions.opened ≤ 1 }
+    ensures two_open { (c : Config) (entries : List Entry) (h : State) → Run (opening c) entries h → length h.transactions.opened ≤ 2 }
     ensures settling { (c : Config) (entries : List Entry) (h : State) (at : ℕ) (e : Event) (o : Outcome)
         → Run (opening c) entries h → acts h.moment (raised h at) e ≡ Some o
         → Along (λ (g : State). is_full g.transactions ≡ false) o.after (settling o.after) }
@@ -25,4 +26,11 @@ pub fn no_start_meets_a_full_table()
 pub fn a_state_settles_in_one_way()
     ensures one { (g : State) → Settles g (settling g) (settled g) }
     ensures only { (g : State) (fs : List Firing) (h : State) → Settles g fs h → (fs ≡ settling g) × (h ≡ settled g) }
+{}
+
+/// Where a history leads, the line of notes is in order, and each number that was given has one fate. What a number told of
+/// stays, and so does the fate of a note that was answered or dropped.
+pub fn each_note_has_one_fate()
+    ensures valid { (c : Config) (entries : List Entry) (h : State) → Run (opening c) entries h → LineValid h.line }
+    ensures stays { (c : Config) (front behind : List Entry) (g h : State) → Run (opening c) front g → Run g behind h → KeepsFates g.line h.line }
 {}

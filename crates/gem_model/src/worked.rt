@@ -134,8 +134,8 @@ pub fn a_heartbeat_raises_the_moment()
 /// The system bytes of the tool's own messages go on over the end of a session: S9F5 has 1 in the first, and in the second
 /// the S1F13 with which the tool establishes communication again has 2.
 pub fn system_bytes_go_on_over_the_end_of_a_session()
-    ensures { answer_to (codes "L+\nH 0000000AFFFF0000000100000001\nH 0000000A0000810300000000000A\nL-\nL+\nH 0000000AFFFF0000000100000002\n")
-        ≡ codes "+ 1\n> 0000000AFFFF0000000200000001\n> 0000001600000905000000000001210A0000810300000000000A\n- 1 PeerEnd\n+ 2\n> 0000000AFFFF0000000200000002\n> 0000001C0000810D0000000000020102410647454D3330304106312E302E3030\n" }
+    ensures { answer_to (codes "L+\nH 0000000AFFFF0000000100000001\nH 0000000A0000810500000000000A\nL-\nL+\nH 0000000AFFFF0000000100000002\n")
+        ≡ codes "+ 1\n> 0000000AFFFF0000000200000001\n> 0000001600000905000000000001210A0000810500000000000A\n- 1 PeerEnd\n+ 2\n> 0000000AFFFF0000000200000002\n> 0000001C0000810D0000000000020102410647454D3330304106312E302E3030\n" }
 {}
 
 /// A message to another device, an unknown stream and an unknown function are each answered with a message of stream 9,
@@ -145,8 +145,8 @@ pub fn a_message_that_is_not_known_is_told()
         ≡ codes "+ 1\n> 0000000AFFFF0000000200000001\n> 0000001600000901000000000001210A0001810100000000000B\n" }
     ensures stream { answer_to (codes "L+\nH 0000000AFFFF0000000100000001\nH 0000000A0000831100000000000A\n")
         ≡ codes "+ 1\n> 0000000AFFFF0000000200000001\n> 0000001600000903000000000001210A0000831100000000000A\n" }
-    ensures function { answer_to (codes "L+\nH 0000000AFFFF0000000100000001\nH 0000000A0000810300000000000A\n")
-        ≡ codes "+ 1\n> 0000000AFFFF0000000200000001\n> 0000001600000905000000000001210A0000810300000000000A\n" }
+    ensures function { answer_to (codes "L+\nH 0000000AFFFF0000000100000001\nH 0000000A0000810500000000000A\n")
+        ≡ codes "+ 1\n> 0000000AFFFF0000000200000001\n> 0000001600000905000000000001210A0000810500000000000A\n" }
 {}
 
 /// A text that is too long, here by one byte, is answered with S9F11, which has the ten header bytes and system bytes of
@@ -236,4 +236,24 @@ pub fn a_history_takes_its_greatest_number_of_bytes()
         (posted (LinkUp ∷ message_of (request 1 1 1) (65 ∷ 66 ∷ []) ∷ [])) (message_of (request 1 1 2) (67 ∷ 68 ∷ [])) ≡ true }
     ensures too_long { is_full (record known_config { max_bytes = 3 })
         (posted (LinkUp ∷ message_of (request 1 1 1) (65 ∷ 66 ∷ 67 ∷ []) ∷ [])) (too_long_of (request 1 1 2) 262155) ≡ false }
+{}
+
+/// With all events enabled a change of control is reported by S6F11, with the number of its note as DATAID. The next note
+/// waits until the first is answered.
+pub fn a_change_of_control_is_reported()
+    ensures reported { answer_to (codes "L+\nH 0000000AFFFF0000000100000001\nH 000000110000822500000000000A01022501010100\nO local\n")
+        ≡ codes "+ 1\n> 0000000AFFFF0000000200000001\n> 0000000D0000022600000000000A210100\n= ok\n> 0000001E0000860B0000000000010103A1080000000000000001B104000000D30100\n" }
+    ensures waits { answer_to (codes "L+\nH 0000000AFFFF0000000100000001\nH 000000110000822500000000000A01022501010100\nO local\nO remote\nH 0000000D0000060C000000000001210100\n")
+        ≡ codes "+ 1\n> 0000000AFFFF0000000200000001\n> 0000000D0000022600000000000A210100\n= ok\n> 0000001E0000860B0000000000010103A1080000000000000001B104000000D30100\n= ok\n> 0000001E0000860B0000000000020103A1080000000000000002B104000000D20100\n" }
+{}
+
+/// A note that is not answered within T3 is told by S9F9 and dropped, and the next one is sent.
+pub fn a_note_that_is_not_answered_is_dropped()
+    ensures { answer_to (codes "L+\nH 0000000AFFFF0000000100000001\nH 000000110000822500000000000A01022501010100\nO local\nO remote\nT 4500\n")
+        ≡ codes "+ 1\n> 0000000AFFFF0000000200000001\n> 0000000D0000022600000000000A210100\n= ok\n> 0000001E0000860B0000000000010103A1080000000000000001B104000000D30100\n= ok\n> 0000001600000909000000000002210A0000860B000000000001\n> 0000001E0000860B0000000000030103A1080000000000000002B104000000D20100\n" }
+{}
+
+/// An event that is not enabled is not reported, and a note without reports has an empty list of them.
+pub fn an_event_that_is_not_enabled_is_not_reported()
+    ensures { answer_to (codes "L+\nH 0000000AFFFF0000000100000001\nO local\n") ≡ codes "+ 1\n> 0000000AFFFF0000000200000001\n= ok\n" }
 {}

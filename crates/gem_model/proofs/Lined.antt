@@ -1,19 +1,15 @@
 -- The line of notes goes on: it stays valid, and what became of a note stays.
-use Rattle.std.proofs.Common.{◌≡◌, ℕ, ◌+◌, ◌==◌, Bool, true, false, if◌then◌else◌, List, [], ◌∷◌, ◌++◌, map, Option, Some, None, option_map, refl, ap, subst, sym, ◌∙◌, is_some}
+use Rattle.std.proofs.Common.{◌≡◌, ℕ, ◌+◌, ◌*◌, ◌==◌, Bool, true, false, if◌then◌else◌, List, [], ◌∷◌, ◌++◌, Option, Some, None, option_map, refl, subst, sym, is_some}
 use Rattle.std.specs.Option.{option_or}
 use Rattle.hsms_frame.specs.declared.frame.Header.{Header}
 use Rattle.hsms_frame.specs.declared.frame.Arrival.{Arrival}
 use Rattle.hsms_link.specs.declared.table.LinkAct.{LinkAct}
 use Rattle.hsms_link.specs.declared.table.LinkAct.TheVariants as link
-use Rattle.hsms_link.specs.declared.deadlines.LinkDue.{LinkDue}
-use Rattle.hsms_link.specs.declared.deadlines.LinkDue.TheVariants as due
 use Rattle.hsms_link.specs.LinkTable.{link_act}
-use Rattle.hsms_link.specs.Deadlines.{due_at}
 use Rattle.secs_items.specs.Data.{Data}
 use Rattle.secs_items.specs.Plain.{plain}
 use Rattle.msgs_gem.specs.declared.primary.GemMsg.{GemMsg}
 use Rattle.msgs_gem.specs.declared.primary.GemMsg.TheVariants as msg
-use Rattle.msgs_gem.specs.Acknowledge.{accepts}
 use Rattle.msgs_gem.specs.Replies.{reply_body}
 use Rattle.gem_ids.specs.Civil.{moment_in}
 use Rattle.gem_tables.specs.Table.{Firing, firing, starts}
@@ -26,7 +22,6 @@ use Rattle.gem_states.specs.declared.control.ControlTrigger.TheVariants as trigg
 use Rattle.gem_states.specs.Meaning.{comm_number, comm_fired, comm_rows, control_number, control_fired, control_rows}
 use Rattle.gem_rows.specs.Events.{ceid_of}
 use Rattle.event_reports.specs.Alarms.{is_set, clear_alarm}
-use Rattle.note_line.specs.declared.note.Note.{Note}
 use Rattle.note_line.specs.Line.{Line}
 use Rattle.note_line.specs.Table3.{is_direct, line_starts}
 use Rattle.note_line.specs.Table3 as table
@@ -40,15 +35,16 @@ use Rattle.transactions.specs.declared.transaction.Open.{Open}
 use Rattle.transactions.specs.declared.transaction.What.{What}
 use Rattle.transactions.specs.declared.transaction.What.TheVariants as what
 use Rattle.transactions.specs.Table.{taken_out}
-use Rattle.transactions.specs.Endings.{answered, first_of}
-use Rattle.gem_model.specs.State.{State, is_up, is_session_up, is_communicating, can_ask, none_asked, without_session, raised}
+use Rattle.transactions.specs.Endings.{first_of}
+use Rattle.gem_model.specs.State.{State, is_up, is_session_up, is_communicating, is_online, can_ask, none_asked, without_session, raised}
 use Rattle.gem_model.specs.Sending.{asks, identity_text, sends_stream9, data_header}
-use Rattle.gem_model.specs.Noting.{line_with_event, line_with_alarm, is_event_reported, is_alarm_reported, clears_alarm}
-use Rattle.gem_model.specs.Fire.{fire, fires, fire_listed, fire_comm, fire_control, fire_line, comm_effect, control_effect, asks_first, takes_effect, row_starts, delay_end, forgets, of_comm, of_control}
+use Rattle.gem_model.specs.Values.{Occasion, object_name}
+use Rattle.gem_model.specs.Noting.{line_behind, line_with_event, is_event_reported, is_alarm_reported, clears_alarm}
+use Rattle.gem_model.specs.Fire.{fire, fires, fire_listed, fire_comm, fire_control, fire_line, takes_effect, row_starts, delay_end, forgets, of_comm, of_control}
 use Rattle.gem_model.specs.Remote.{RemoteCommand, GoLocal, ClearAlarm, Parameter, accepted, alarm_named}
 use Rattle.gem_model.specs.Direct.{by_comm, by_control, note_fails, attempt_fails, all_fail, operator_rows, command_rows, message_rows, answer_rows, timeout_rows, session_end_rows, establish_answer, attempt_answer}
 use Rattle.gem_model.specs.Ready.{least, ready_comm, ready_control, ready_line}
-use Rattle.gem_model.specs.Verdict.{Verdict, Discarded, Stream9, Aborted, Answers, Taken, verdict, header_of, item_of, wants_reply, stream_of, function_of, reply_to}
+use Rattle.gem_model.specs.Verdict.{Verdict, Discarded, Stream9, Aborted, Answers, Taken, verdict, header_of, item_of, wants_reply, function_of, reply_to}
 use Rattle.gem_model.specs.Act.{written, clock_set, clears_named, command_written, note_answered, replied, taken, closed_by, data_act, session_ended}
 use Rattle.gem_model.specs.Due.{Due, EndOfSession, Linktest, Timeout, dues, is_due, all_done, timed_out}
 use Rattle.gem_model.specs.Settle.{settled}
@@ -105,13 +101,15 @@ line_control g row =
     (line_either g (row == 6) (forgets what.Attempt h) h refl refl)
 
 -- a firing's note
-lined_event : (event : Option ℕ) (before : State) (f : Firing) (g : State) → Lined g (record g { line = line_with_event event before f g })
-lined_event None before f g valid = lined_at g valid
-lined_event (Some ceid) before f g valid =
-    either_way (Keeps g.line) (is_event_reported ceid before g) _ g.line (noted-keeps _ _ _ g.line valid) (keeps-same g.line valid)
+lined_event : (event : Option ℕ) (o : Occasion) (online : Bool) (g : State) → Lined g (record g { line = line_behind event o online g })
+lined_event None o online g valid = lined_at g valid
+lined_event (Some ceid) o online g valid =
+    either_way (Keeps g.line) (is_event_reported ceid online g) (line_with_event ceid o g) g.line (noted-keeps _ _ _ g.line valid) (keeps-same g.line valid)
 
 lined_fire : (g : State) (f : Firing) → Lined g (takes_effect g f) → Lined g (fire g f)
-lined_fire g f effect = lined_then g (takes_effect g f) (fire g f) effect (lined_event (ceid_of f.table f.row) g f (takes_effect g f))
+lined_fire g f effect =
+    lined_then g (takes_effect g f) (fire g f) effect
+    (lined_event (ceid_of f.table f.row) (record { object = object_name (takes_effect g f) f; row = 100 * f.table + f.row }) (is_online g.control) (takes_effect g f))
 
 -- a firing of table 3 is of a row that an input fires
 abbrev IsListed : Firing → Type 0

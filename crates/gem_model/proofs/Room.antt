@@ -1,5 +1,5 @@
 -- Few transactions are open: each step keeps it.
-use Rattle.std.proofs.Common.{◌≡◌, ℕ, zero, suc, ◌+◌, ◌≤◌, ◌==◌, ◌&&◌, not, Bool, true, false, if◌then◌else◌, List, [], ◌∷◌, length, map, find, Option, Some, None, option_map, is_some, ◌++◌, refl, sym, ◌∙◌, ap, subst, arith}
+use Rattle.std.proofs.Common.{◌≡◌, ℕ, zero, suc, ◌+◌, ◌*◌, ◌≤◌, ◌==◌, ◌&&◌, not, Bool, true, false, if◌then◌else◌, List, [], ◌∷◌, length, map, find, Option, Some, None, option_map, is_some, ◌++◌, refl, sym, ◌∙◌, ap, subst, arith}
 use Rattle.std.specs.Option.{option_or}
 use Rattle.std.proofs.lemmas.Bool.{true≢false}
 use Rattle.std.proofs.lemmas.Bool.Decides.{nat_tests}
@@ -52,10 +52,11 @@ use Rattle.transactions.specs.declared.transaction.What.TheVariants as what
 use Rattle.transactions.specs.Table.{Table, is_full, without, taken_out}
 use Rattle.transactions.specs.SystemBytes.{drawn, with_started}
 use Rattle.transactions.specs.Endings.{same_kind, answers, answered, first_of, first_expired, is_first_expired}
-use Rattle.gem_model.specs.State.{State, t3, is_up, is_selected, is_session_up, is_communicating, can_ask, without_session, with_frame}
+use Rattle.gem_model.specs.State.{State, t3, is_up, is_selected, is_session_up, is_communicating, is_online, can_ask, without_session, with_frame}
 use Rattle.gem_model.specs.Sending.{asks, identity_text, sends_stream9, data_header, data_frame}
 use Rattle.gem_model.specs.Fire.{fire, fires, fire_listed, row_starts, takes_effect, asks_first, stream_of_kind, function_of_kind, delay_end, of_control}
-use Rattle.gem_model.specs.Noting.{line_with_event, line_with_alarm, is_event_reported, is_alarm_reported, clears_alarm}
+use Rattle.gem_model.specs.Values.{Occasion, object_name}
+use Rattle.gem_model.specs.Noting.{line_behind, line_with_event, line_with_alarm, is_event_reported, is_alarm_reported, clears_alarm}
 use Rattle.gem_model.specs.Remote.{RemoteCommand, GoLocal, ClearAlarm, Parameter, accepted, alarm_named}
 use Rattle.gem_model.specs.Direct.{by_comm, by_control, note_fails, operator_rows, command_rows, message_rows, answer_rows, timeout_rows}
 use Rattle.gem_model.specs.Ready.{least, ready_comm, ready_control, ready_line, is_attempt}
@@ -242,12 +243,14 @@ few-asks g stream function w text few with_one =
 -- ---- one row
 
 -- the note that a firing makes opens none
-same_open : (event : Option ℕ) (before : State) (f : Firing) (g : State) → (line_with_event event before f g).opened ≡ g.line.opened
-same_open None before f g = refl
-same_open (Some ceid) before f g = either_way (λ (l : Line). l.opened ≡ g.line.opened) (is_event_reported ceid before g) _ g.line refl refl
+same_open : (event : Option ℕ) (o : Occasion) (online : Bool) (g : State) → (line_behind event o online g).opened ≡ g.line.opened
+same_open None o online g = refl
+same_open (Some ceid) o online g = either_way (λ (l : Line). l.opened ≡ g.line.opened) (is_event_reported ceid online g) (line_with_event ceid o g) g.line refl refl
 
 few_fire : (g : State) (f : Firing) → Few (takes_effect g f) → Few (fire g f)
-few_fire g f few = few-line (takes_effect g f) (line_with_event (ceid_of f.table f.row) g f (takes_effect g f)) (same_open (ceid_of f.table f.row) g f (takes_effect g f)) few
+few_fire g f few =
+    let o : Occasion = record { object = object_name (takes_effect g f) f; row = 100 * f.table + f.row } in
+    few-line (takes_effect g f) (line_behind (ceid_of f.table f.row) o (is_online g.control) (takes_effect g f)) (same_open (ceid_of f.table f.row) o (is_online g.control) (takes_effect g f)) few
 
 few-one : (f : Firing) (g : State) → Few g → (row_starts g f ≡ true → Few (takes_effect g f)) → Few (fire_listed (f ∷ []) g)
 few-one f g few fired = few_where (row_starts g f) (fire g f) g (λ is. few_fire g f (fired is)) (λ _. few)

@@ -1,5 +1,5 @@
 -- Settling ends, in one way.
-use Rattle.std.proofs.Common.{◌≡◌, ℕ, zero, suc, ◌<◌, ◌≤◌, ◌+◌, ◌*◌, nat_lt, drop, length, length-append, Bool, true, false, if◌then◌else◌, List, [], ◌∷◌, Option, Some, None, refl, sym, ◌∙◌, ap, subst, arith}
+use Rattle.std.proofs.Common.{◌≡◌, ℕ, zero, suc, ◌<◌, ◌≤◌, ◌+◌, ◌*◌, nat_lt, length, length-append, Bool, true, false, if◌then◌else◌, List, [], ◌∷◌, Option, Some, None, refl, sym, ◌∙◌, ap, subst, arith}
 use Rattle.gem_states.specs.declared.communication.Comm.{Comm}
 use Rattle.gem_states.specs.declared.communication.Comm.TheVariants.{Disabled, WaitDelay, WaitCra, Communicating}
 use Rattle.gem_states.specs.declared.control.Control.{Control}
@@ -18,9 +18,9 @@ use Rattle.note_line.specs.Line.{Line}
 use Rattle.note_line.specs.Line as notes
 use Rattle.note_line.specs.Left.{left as left_line}
 use Rattle.note_line.specs.Table3.{has_head}
-use Rattle.gem_model.specs.State.{State, is_communicating}
-use Rattle.gem_model.specs.Values.{value_of, occasion_of}
-use Rattle.gem_model.specs.Noting.{line_with_event, is_event_reported, event_text}
+use Rattle.gem_model.specs.State.{State, is_communicating, is_online}
+use Rattle.gem_model.specs.Values.{Occasion, value_of}
+use Rattle.gem_model.specs.Noting.{line_with_event, line_behind, is_event_reported, event_text}
 use Rattle.gem_model.specs.Fire.{fire, takes_effect, asks_first}
 use Rattle.gem_model.specs.Ready.{least, ready_comm, ready_control, ready_line, delay_is_over, is_attempt}
 use Rattle.gem_model.specs.Measure.{left, is_wait_delay, one_if}
@@ -76,11 +76,11 @@ falls_comm g here =
 noted_left : (kind : Kind) (id : ℕ) (text : List ℕ) (l : Line) → left_line (notes.noted kind id text l) ≡ left_line l + 6
 noted_left kind id text l = omega (arith, length-append l.waiting (record { number = notes.next l; kind = kind; id = id; text = text } ∷ []))
 
-event_left : (event : Option ℕ) (before : State) (f : Firing) (g : State) → left_line (line_with_event event before f g) ≤ left_line g.line + 6
-event_left None before f g = omega arith
-event_left (Some ceid) before f g =
-    either_way (λ (l : Line). left_line l ≤ left_line g.line + 6) (is_event_reported ceid before g) _ g.line
-    (let more = noted_left Event ceid (event_text (notes.next g.line) ceid (report_items (value_of (occasion_of g f) g) ceid g.reports)) g.line in omega arith)
+event_left : (event : Option ℕ) (o : Occasion) (online : Bool) (g : State) → left_line (line_behind event o online g) ≤ left_line g.line + 6
+event_left None o online g = omega arith
+event_left (Some ceid) o online g =
+    either_way (λ (l : Line). left_line l ≤ left_line g.line + 6) (is_event_reported ceid online g) (line_with_event ceid o g) g.line
+    (let more = noted_left Event ceid (event_text (notes.next g.line) ceid (report_items (value_of o g) ceid g.reports)) g.line in omega arith)
     (omega arith)
 
 falls_control : (g : State) → is_attempt g.control ≡ true → left (fire g (firing 2 0 2)) < left g
@@ -88,7 +88,7 @@ falls_control g is =
     let after : is_attempt (control_fired 2 g.control) ≡ false = ap is_attempt (fired_2 g.control is) in
     let count : one_if (is_attempt (control_fired 2 g.control)) ≡ 0 = ap one_if after in
     let before : one_if (is_attempt g.control) ≡ 1 = ap one_if is in
-    let told = event_left (ceid_of 2 2) g (firing 2 0 2) (takes_effect g (firing 2 0 2)) in
+    let told = event_left (ceid_of 2 2) (record { object = []; row = 202 }) (is_online g.control) (takes_effect g (firing 2 0 2)) in
     omega arith
 
 -- rows 11 and 13 of table 3 take one note off those that wait

@@ -13,7 +13,7 @@ use Rattle.transactions.specs.declared.transaction.What.{What}
 use Rattle.transactions.specs.declared.transaction.What.TheVariants as what
 use Rattle.transactions.specs.Table.{taken_out}
 use Rattle.transactions.specs.Endings.{first_of}
-use Rattle.gem_model.specs.State.{State, establish_timeout, is_communicating, can_ask, none_asked}
+use Rattle.gem_model.specs.State.{State, establish_timeout, is_communicating, is_online, can_ask, none_asked}
 use Rattle.gem_model.specs.Sending.{asks, identity_text}
 use Rattle.gem_model.specs.Noting.{noted}
 
@@ -88,7 +88,7 @@ takes_effect g f =
 
 -- a row fires: its effect, and the note that it makes behind it
 abbrev pub fire : State → Firing → State
-fire g f = noted g f (takes_effect g f)
+fire g f = noted (is_online g.control) f (takes_effect g f)
 
 -- the rows of the objects that a firing created, which are fired straight after it: no row creates one yet
 abbrev pub creations : State → Firing → List Firing

@@ -1,5 +1,5 @@
 -- The notes that firings and changes of alarms make (SEMI E30, event reports and alarms; this tool's profile, notes).
-use Rattle.std.specs.Prelude.{ℕ, ◌+◌, ◌==◌, Bool, true, false, not, ◌&&◌, ◌||◌, if◌then◌else◌, List, [], ◌∷◌, Option, Some, None, unwrap_or}
+use Rattle.std.specs.Prelude.{ℕ, ◌+◌, ◌*◌, Bool, not, ◌&&◌, ◌||◌, if◌then◌else◌, List, [], Option, Some, None, unwrap_or}
 use Rattle.gem_tables.specs.Table.{Firing}
 use Rattle.gem_rows.specs.Events.{ceid_of}
 use Rattle.gem_rows.specs.Alarms.{alarm_text}
@@ -12,32 +12,39 @@ use Rattle.event_reports.specs.Alarms.{is_set, is_alarm_enabled, set_alarm, clea
 use Rattle.note_line.specs.declared.note.Kind.TheVariants.{Event, Alarm}
 use Rattle.note_line.specs.Line as notes
 use Rattle.gem_model.specs.State.{State, is_disabled, is_online}
-use Rattle.gem_model.specs.Values.{value_of, occasion_of}
+use Rattle.gem_model.specs.Values.{Occasion, value_of, object_name}
 
 -- ---- events
 
 -- the event of this CEID is reported: it is enabled, communication is not DISABLED behind the firing, and control is
--- ON-LINE before or behind it (this tool's profile, notes)
-abbrev pub is_event_reported : ℕ → State → State → Bool
-is_event_reported ceid before g =
-    is_enabled ceid g.reports && (not (is_disabled g.comm) && (is_online before.control || is_online g.control))
+-- ON-LINE behind it or was before it (this tool's profile, notes)
+abbrev pub is_event_reported : ℕ → Bool → State → Bool
+is_event_reported ceid online_before g =
+    is_enabled ceid g.reports && (not (is_disabled g.comm) && (online_before || is_online g.control))
 
 -- the text of S6F11: the number of the note as DATAID, the CEID, and the reports (SEMI E5, S6F11)
 abbrev pub event_text : ℕ → ℕ → DataList → List ℕ
 event_text number ceid reports = plain (reply_body (reply.S6F11 number ceid reports))
 
--- the line behind a firing that led to this state: where its row has an event that is reported, one note waits behind the
--- others, with the values of the reports in this state and the object and row of the firing
-abbrev pub line_with_event : Option ℕ → State → Firing → State → notes.Line
-line_with_event None before f g = g.line
-line_with_event (Some ceid) before f g =
-    if is_event_reported ceid before g
-    then notes.noted Event ceid (event_text (notes.next g.line) ceid (report_items (value_of (occasion_of g f) g) ceid g.reports)) g.line
-    else g.line
+-- the line with a note of an event behind the others, with the values of its reports on this occasion
+abbrev pub line_with_event : ℕ → Occasion → State → notes.Line
+line_with_event ceid o g =
+    notes.noted Event ceid (event_text (notes.next g.line) ceid (report_items (value_of o g) ceid g.reports)) g.line
 
--- the note that a firing makes, with the values behind its effect (this tool's profile, notes)
-abbrev pub noted : State → Firing → State → State
-noted before f g = record g { line = line_with_event (ceid_of f.table f.row) before f g }
+-- the line behind a firing, by the event of its row: where that is reported, one note waits behind the others
+abbrev pub line_behind : Option ℕ → Occasion → Bool → State → notes.Line
+line_behind None o online_before g = g.line
+line_behind (Some ceid) o online_before g = if is_event_reported ceid online_before g then line_with_event ceid o g else g.line
+
+-- A row of a table fired at an object of this name, and led to this state; control was ON-LINE before it, or it was not.
+-- It makes one note where its event is reported, with the values behind its effect (this tool's profile, notes).
+abbrev pub noted_as : ℕ → ℕ → List ℕ → Bool → State → State
+noted_as table row object online_before g =
+    record g { line = line_behind (ceid_of table row) (record { object = object; row = 100 * table + row }) online_before g }
+
+-- the note that a firing makes
+abbrev pub noted : Bool → Firing → State → State
+noted online_before f g = noted_as f.table f.row (object_name g f) online_before g
 
 -- ---- alarms
 

@@ -1,5 +1,5 @@
 -- The values of variables: what S1F3, S2F13 and reports give (SEMI E5, S1F3 and S2F13; this tool's profile, variables).
-use Rattle.std.specs.Prelude.{ℕ, ◌+◌, ◌*◌, ◌==◌, nat_lt, if◌then◌else◌, List, [], ◌∷◌, length, map, Option, Some, None, option_map}
+use Rattle.std.specs.Prelude.{ℕ, ◌==◌, if◌then◌else◌, List, [], ◌∷◌, Option, Some, None, option_map}
 use Rattle.gem_ids.specs.Civil.{time_digits}
 use Rattle.gem_states.specs.Meaning.{comm_number, control_number}
 use Rattle.gem_tables.specs.Table.{Firing}
@@ -9,7 +9,8 @@ use Rattle.data_variables.specs.Values as constants
 use Rattle.event_reports.specs.Alarms.{set_alids}
 use Rattle.gem_model.specs.State.{State, clock_now}
 
--- what is happening while a value is asked: the object and the row of a firing, which EventObject and EventRow tell
+-- what is happening while a value is asked: the object and the row of a firing, which EventObject and EventRow tell; the row
+-- is 100 times its table plus its number (this tool's profile, variables)
 pub record Occasion : Type 0 where
   pub object : List ℕ
   pub row : ℕ
@@ -21,10 +22,6 @@ no_firing = record { object = []; row = 0 }
 -- the name of the object of a firing; communication, control and the line of notes have none (this tool's profile, variables)
 abbrev pub object_name : State → Firing → List ℕ
 object_name g f = []
-
--- a firing tells its object, and 100 times its table plus its row (this tool's profile, variables)
-abbrev pub occasion_of : State → Firing → Occasion
-occasion_of g f = record { object = object_name g f; row = 100 * f.table + f.row }
 
 -- a variable and its value
 pub record Valued : Type 0 where

@@ -12,6 +12,9 @@ use std::alloc::{AllocError, Global};
 use std::collections::VecDeque;
 use std::marker::Model;
 
+// What becomes of a note that can't be sent, or whose transaction fails, where its kind isn't spooled.
+const NOT_SPOOLED: Fate = Fate::Dropped(DropCause::NoSpool);
+
 /// The line of notes, which contracts see as the notes that wait, the open one, and what became of each that was made.
 /// Only `add` takes memory.
 #[derive(Drop)]
@@ -143,12 +146,8 @@ impl NoteLine {
     pub fn drop_head(&mut self)
         ensures { self.new ≡ drop_head self.old }
     {
-        if let Some(note) = self.waiting.pop_front() {
-            set_fate(
-                &mut self.told,
-                note.number,
-                Fate::Dropped(DropCause::NoSpool),
-            );
+        if let Some(head) = self.waiting.pop_front() {
+            set_fate(&mut self.told, head.number, NOT_SPOOLED);
         }
     }
 
@@ -158,9 +157,9 @@ impl NoteLine {
         requires { self.old.opened ≡ None }
         ensures { self.new ≡ open_head self.old }
     {
-        if let Some(note) = self.waiting.pop_front() {
-            let number = note.number;
-            self.opened = Some(note);
+        if let Some(oldest) = self.waiting.pop_front() {
+            let number = oldest.number;
+            self.opened = Some(oldest);
             set_fate(&mut self.told, number, Fate::Open);
         }
     }
@@ -169,12 +168,8 @@ impl NoteLine {
     pub fn fail_open(&mut self)
         ensures { self.new ≡ fail_open self.old }
     {
-        if let Some(note) = self.opened.take() {
-            set_fate(
-                &mut self.told,
-                note.number,
-                Fate::Dropped(DropCause::NoSpool),
-            );
+        if let Some(failed) = self.opened.take() {
+            set_fate(&mut self.told, failed.number, NOT_SPOOLED);
         }
     }
 
@@ -182,8 +177,8 @@ impl NoteLine {
     pub fn answer_open(&mut self)
         ensures { self.new ≡ answered self.old }
     {
-        if let Some(note) = self.opened.take() {
-            set_fate(&mut self.told, note.number, Fate::Answered);
+        if let Some(answered) = self.opened.take() {
+            set_fate(&mut self.told, answered.number, Fate::Answered);
         }
     }
 }

@@ -7,4 +7,4 @@ use Rattle.note_line.proofs.line.NoteLine.fail_open.Goals as goal
 
 pub invariant_of-self : goal.invariant_of-self
 invariant_of-self c =
-    rw (c.set_fate.ensures, c.take.ensures.after) (open-ended (line_of c.self.inside) (Dropped NoSpool) (Some c.in-Some.note) refl refl refl (sym c.in-Some.ensures.value) c.self.invariant).valid
+    rw (c.set_fate.ensures, c.take.ensures.after) (open-ended (line_of c.self.inside) (Dropped NoSpool) (Some c.in-Some.failed) refl refl refl (sym c.in-Some.ensures.value) c.self.invariant).valid

@@ -1,2 +1,5 @@
 pub mod Lists
 pub mod Numbers
+pub mod Moves
+pub mod Rows
+pub mod Keeps

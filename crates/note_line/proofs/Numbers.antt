@@ -1,11 +1,12 @@
 -- What a number tells of, after another one was given or a fate has changed.
-use Rattle.std.proofs.Common.{◌≡◌, ℕ, zero, suc, ◌+◌, ◌<◌, ◌≤◌, ◌==◌, Bool, true, false, ◌&&◌, List, [], ◌∷◌, ◌++◌, length, Option, Some, None, option_map, slice_get, slice_set, slice_index_or, refl, sym, ap, arith, ◌∙◌}
+use Rattle.std.proofs.Common.{◌≡◌, ℕ, zero, suc, ◌+◌, ◌<◌, ◌≤◌, ◌==◌, Bool, true, false, ◌&&◌, List, [], ◌∷◌, ◌++◌, length, Option, Some, None, option_map, slice_get, slice_set, slice_index_or, refl, sym, ap, arith}
 use Rattle.std.proofs.lemmas.Bool.Decides.{nat_tests}
+use Rattle.std.proofs.lemmas.Option.{slice_get-get_or, slice_get_past}
 use Rattle.gem_tables.specs.Table.{update_at}
 use Rattle.note_line.specs.declared.note.Kind.{Kind}
 use Rattle.note_line.specs.declared.fate.Told.{Told}
 use Rattle.note_line.specs.declared.fate.Fate.{Fate}
-use Rattle.note_line.specs.Line.{Line, next, told_of, fate_of, with_fate}
+use Rattle.note_line.specs.Line.{told_of, fate_of, with_fate}
 use Rattle.note_line.specs.Fates.{tells, what_of, passes, has_fate, one_if}
 
 -- ---- in a list
@@ -100,10 +101,10 @@ pub told_of-last : (told : List Told) (one : Told) → told_of (suc (length told
 told_of-last told one = get-append_behind told one
 
 -- those that have a fate are those that had it, and the new one where it has it
-pub has_fate-more : (test : Fate → Bool) (number : ℕ) (told : List Told) (one : Told) → one_if (has_fate test number (told ++ one ∷ [])) ≡ one_if (has_fate test number told) + one_if (test one.fate && (number == suc (length told)))
+pub has_fate-more : (test : Fate → Bool) (number : ℕ) (told : List Told) (one : Told) → one_if (has_fate test number (told ++ one ∷ [])) ≡ one_if (has_fate test number told) + one_if (test one.fate && (suc (length told) == number))
 has_fate-more test zero told one = grind (arith, nat_tests)
 has_fate-more test (suc place) told one = of told place where
-  of : (told : List Told) (place : ℕ) → one_if (passes test (option_map (λ (one : Told). one.fate) (slice_get (told ++ one ∷ []) place))) ≡ one_if (passes test (option_map (λ (one : Told). one.fate) (slice_get told place))) + one_if (test one.fate && (suc place == suc (length told)))
+  of : (told : List Told) (place : ℕ) → one_if (passes test (option_map (λ (one : Told). one.fate) (slice_get (told ++ one ∷ []) place))) ≡ one_if (passes test (option_map (λ (one : Told). one.fate) (slice_get told place))) + one_if (test one.fate && (suc (length told) == suc place))
   of [] zero = grind (arith, nat_tests)
   of [] (suc place) = grind (arith, nat_tests)
   of (first ∷ others) zero = grind (arith, nat_tests)
@@ -143,3 +144,15 @@ written told (suc number) place fate one n e = let same : number ≡ place = ome
 pub written-past : (told : List Told) (number place : ℕ) (fate : Fate) → number ≡ place + 1 → length told ≤ place → told ≡ with_fate number fate told
 written-past told zero place fate n l = refl
 written-past told (suc number) place fate n l = sym (update-past number _ told (omega arith))
+
+-- ---- as a fate is read
+
+pub read : (told : List Told) (number place : ℕ) (one : Told) → number ≡ place + 1 → place < length told → one ≡ slice_index_or told place one → Some one.fate ≡ fate_of number told
+read told zero place one n b e = absurd (omega arith)
+read told (suc number) place one n b e =
+    let same : number ≡ place = omega arith in
+    rw (same, slice_get-get_or told place one b) (ap (λ (x : Told). Some x.fate) e)
+
+pub read-past : (told : List Told) (number place : ℕ) → number ≡ place + 1 → length told ≤ place → None ≡ fate_of number told
+read-past told zero place n l = refl
+read-past told (suc number) place n l = rw (slice_get_past told number (omega arith)) refl

@@ -1,4 +1,7 @@
 pub mod Line
 pub mod Table3
+pub mod Left
 pub mod Order
 pub mod Fates
+pub mod Kept
+pub mod Worked

@@ -9,8 +9,7 @@
 --                   |               +---------+           |
 --                   +-------------> | DROPPED | <---------+
 --                                   +---------+
-use Rattle.std.specs.Prelude.{ℕ, ◌*◌, Bool, true, false, not, ◌&&◌, ◌==◌, nat_lt, List, [], ◌∷◌, length, Option, Some, None, option_map, find, is_some}
-use Rattle.std.specs.List.{list_any}
+use Rattle.std.specs.Prelude.{ℕ, Bool, true, false, not, ◌&&◌, ◌==◌, nat_lt, List, [], ◌∷◌, length, Option, Some, None, option_map, find, is_some}
 use Rattle.note_line.specs.Line.{Line, drop_head, open_head, fail_open}
 
 -- a row: its number; whether it fires by itself; when it is ready, where the tool communicates or doesn't; its effect
@@ -47,6 +46,10 @@ line_table =
     ∷ direct 14 (λ communicating l. has_open l) fail_open
     ∷ []
 
+-- the row of a number
+abbrev pub row_of : ℕ → Option Row
+row_of number = find (λ r. r.number == number) line_table
+
 -- the row that fires by itself next, where the tool communicates or doesn't: the least of those that are ready
 abbrev pub least_row : Bool → Line → Option Row
 least_row communicating l = find (λ r. r.is_automatic && r.when communicating l) line_table
@@ -55,20 +58,29 @@ least_row communicating l = find (λ r. r.is_automatic && r.when communicating l
 abbrev pub least : Bool → Line → Option ℕ
 least communicating l = option_map (λ (r : Row). r.number) (least_row communicating l)
 
--- a row starts
+-- a row, where there is one, starts
+abbrev pub starts_at : Option Row → Bool → Line → Bool
+starts_at None communicating l = false
+starts_at (Some r) communicating l = r.when communicating l
+
+-- the row of a number starts
 abbrev pub line_starts : Bool → ℕ → Line → Bool
-line_starts communicating row l = list_any (λ r. (r.number == row) && r.when communicating l) line_table
+line_starts communicating number l = starts_at (row_of number) communicating l
+
+-- a row, where there is one, is fired by an input
+abbrev pub is_fired : Option Row → Bool
+is_fired None = false
+is_fired (Some r) = not r.is_automatic
+
+-- the row of a number is fired by an input
+abbrev pub is_direct : ℕ → Bool
+is_direct number = is_fired (row_of number)
 
 -- the effect of a row, where there is one
 abbrev pub effect_of : Option Row → Line → Line
 effect_of None l = l
 effect_of (Some r) l = r.effect l
 
--- the effect of the row of this number
+-- the effect of the row of a number
 abbrev pub row_effect : ℕ → Line → Line
-row_effect row l = effect_of (find (λ r. r.number == row) line_table) l
-
--- What is left to fire: each note that waits can still make up to six changes of this number once notes are spooled, and
--- rows 11 and 13 take one note off the waiting list.
-abbrev pub left : Line → ℕ
-left l = 6 * length l.waiting
+row_effect number l = effect_of (row_of number) l

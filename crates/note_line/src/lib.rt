@@ -7,8 +7,10 @@
 #![tactic(auto)]
 
 mod fate;
+pub mod laws;
 mod line;
 mod note;
+pub mod worked;
 
 pub use fate::{DropCause, Fate, Told};
 pub use line::NoteLine;

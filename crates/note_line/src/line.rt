@@ -3,6 +3,7 @@
 ghost use Rattle.std.specs.Prelude.{◌≡◌, length, slice_get, option_copied, IfOk, IfErr};
 ghost use Rattle.note_line.specs.Line.{opening, next, noted, drop_head, open_head, fail_open, answered, fate_of, with_fate};
 ghost use Rattle.note_line.specs.Table3.{least};
+ghost use Rattle.note_line.specs.Fates.{LineValid};
 
 use crate::fate::{DropCause, Fate, Told};
 use crate::note::{Kind, Note};
@@ -10,6 +11,9 @@ use hsms_frame::Bytes;
 use std::alloc::{AllocError, Global};
 use std::collections::VecDeque;
 use std::marker::Model;
+
+// What becomes of a note that can't be sent, or whose transaction fails, where its kind isn't spooled.
+const NOT_SPOOLED: Fate = Fate::Dropped(DropCause::NoSpool);
 
 /// The line of notes, which contracts see as the notes that wait, the open one, and what became of each that was made.
 /// Only `add` takes memory.
@@ -25,7 +29,11 @@ impl Model for NoteLine {
 
     ghost Value = { Line };
 
-    ghost view = { λ kept. record { told = kept.told.items; waiting = kept.waiting.items; opened = kept.opened } };
+    ghost use Rattle.note_line.specs.Kept.{line_of, IsKept};
+
+    ghost view = { line_of };
+
+    ghost invariant = { IsKept };
 }
 
 // Another fate of the note of this number. Where the number wasn't given nothing changes.
@@ -97,17 +105,20 @@ impl NoteLine {
 
     /// The note that is sent and whose transaction is open.
     pub fn open_note(&self) -> Option<&Note>
-        ensures { option_copied result ≡ self.now.opened }
+        ensures note { option_copied result ≡ self.now.opened }
+        ensures valid { LineValid self.now }
     {
         self.opened.as_ref()
     }
 
     /// What became of the note of a number; `None` exactly where the number wasn't given.
     pub fn fate(&self, number: u64) -> Option<Fate>
-        ensures { result ≡ fate_of number self.now.told }
+        ensures fate { result ≡ fate_of number self.now.told }
+        ensures valid { LineValid self.now }
     {
+        let len = self.told.len();
         let place = number.checked_sub(1)? as usize;
-        if place < self.told.len() {
+        if place < len {
             Some(self.told[place].fate)
         } else {
             None
@@ -117,7 +128,8 @@ impl NoteLine {
     /// The row of table 3 that fires by itself next, where the tool communicates or doesn't: 11, by which the head is
     /// dropped, 13, by which it is sent, or none.
     pub fn row_for(&self, communicating: bool) -> Option<u8>
-        ensures { result ≡ least communicating self.now }
+        ensures least { result ≡ least communicating self.now }
+        ensures none_open { result ≡ Some 13 → self.now.opened ≡ None }
     {
         if self.waiting.is_empty() {
             None
@@ -134,18 +146,21 @@ impl NoteLine {
     pub fn drop_head(&mut self)
         ensures { self.new ≡ drop_head self.old }
     {
-        if let Some(note) = self.waiting.pop_front() {
-            set_fate(&mut self.told, note.number, Fate::Dropped(DropCause::NoSpool));
+        if let Some(head) = self.waiting.pop_front() {
+            set_fate(&mut self.told, head.number, NOT_SPOOLED);
         }
     }
 
-    /// Row 13: the first note that waits is sent, and is open.
+    /// Row 13: the first note that waits is sent, and is open. Its condition is that no other note is open, as `row_for`
+    /// tells where it gives 13.
     pub fn open_head(&mut self)
+        requires { self.old.opened ≡ None }
         ensures { self.new ≡ open_head self.old }
     {
-        if let Some(note) = self.waiting.pop_front() {
-            set_fate(&mut self.told, note.number, Fate::Open);
-            self.opened = Some(note);
+        if let Some(oldest) = self.waiting.pop_front() {
+            let number = oldest.number;
+            self.opened = Some(oldest);
+            set_fate(&mut self.told, number, Fate::Open);
         }
     }
 
@@ -153,8 +168,8 @@ impl NoteLine {
     pub fn fail_open(&mut self)
         ensures { self.new ≡ fail_open self.old }
     {
-        if let Some(note) = self.opened.take() {
-            set_fate(&mut self.told, note.number, Fate::Dropped(DropCause::NoSpool));
+        if let Some(failed) = self.opened.take() {
+            set_fate(&mut self.told, failed.number, NOT_SPOOLED);
         }
     }
 
@@ -162,8 +177,8 @@ impl NoteLine {
     pub fn answer_open(&mut self)
         ensures { self.new ≡ answered self.old }
     {
-        if let Some(note) = self.opened.take() {
-            set_fate(&mut self.told, note.number, Fate::Answered);
+        if let Some(answered) = self.opened.take() {
+            set_fate(&mut self.told, answered.number, Fate::Answered);
         }
     }
 }

@@ -20,6 +20,8 @@ mod moments;
 #[cfg(test)]
 mod names;
 #[cfg(test)]
+mod notes;
+#[cfg(test)]
 mod open_transactions;
 #[cfg(test)]
 mod sources_and_sinks;

@@ -1,0 +1,12 @@
+-- How the line of notes is kept.
+use Rattle.note_line.specs.declared.line.NoteLine.TheInside.{Inside}
+use Rattle.note_line.specs.Line.{Line}
+use Rattle.note_line.specs.Fates.{LineValid}
+
+-- what callers see
+abbrev pub line_of : Inside → Line
+line_of kept = record { told = kept.told.items; waiting = kept.waiting.items; opened = kept.opened }
+
+-- what is always true of the fields
+abbrev pub IsKept : Inside → Type 0
+IsKept kept = LineValid (line_of kept)

@@ -63,16 +63,24 @@ after_all after (entry ∷ entries) r = after_all after entries (after entry r)
 
 -- ---- S2F33, reports
 
+-- a link without a report, at all its places
+abbrev pub link_without : ℕ → EventLine → EventLine
+link_without rptid e = record e { reports = filter (λ linked_id. not (linked_id == rptid)) e.reports }
+
+-- an event without a link
+abbrev pub unlinked : EventLine → EventLine
+unlinked e = record e { reports = [] }
+
 -- a report is no longer defined, and stands in no link
 abbrev pub without_report : ℕ → Reports → Reports
 without_report rptid r = record r {
     reports = filter (λ p. not (p.id == rptid)) r.reports;
-    events = map (λ e. record e { reports = filter (λ linked_id. not (linked_id == rptid)) e.reports }) r.events
+    events = map (link_without rptid) r.events
   }
 
 -- no report is defined and none is linked
 abbrev pub without_reports : Reports → Reports
-without_reports r = record r { reports = []; events = map (λ e. record e { reports = [] }) r.events }
+without_reports r = record r { reports = []; events = map unlinked r.events }
 
 -- the code of one report, an RPTID with its VIDs (SEMI E5, DRACK; this tool's profile, S2F33)
 abbrev pub report_code : ℕ × List ℕ → Reports → ℕ
@@ -111,10 +119,13 @@ link_code (ceid, rptids) r =
       ∷ (nat_lt most_linked (length rptids), 1)
       ∷ []))
 
+-- a line of the event gets these reports
+abbrev pub with_link : ℕ → List ℕ → EventLine → EventLine
+with_link ceid rptids e = if e.ceid == ceid then record e { reports = rptids } else e
+
 -- the event is linked to these reports, and to none where there are none
 abbrev pub after_link : ℕ × List ℕ → Reports → Reports
-after_link (ceid, rptids) r =
-    record r { events = map (λ e. if e.ceid == ceid then record e { reports = rptids } else e) r.events }
+after_link (ceid, rptids) r = record r { events = map (with_link ceid rptids) r.events }
 
 -- the code of a list of links
 abbrev pub lrack : List (ℕ × List ℕ) → Reports → ℕ
@@ -134,12 +145,14 @@ erack ceids r = if list_all (λ ceid. is_event ceid r) ceids then 0 else 1
 abbrev pub is_named : List ℕ → ℕ → Bool
 is_named ceids ceid = (length ceids == 0) || list_any (λ c. c == ceid) ceids
 
+-- a line of a named event is enabled or disabled
+abbrev pub with_enabled : Bool → List ℕ → EventLine → EventLine
+with_enabled on ceids e = if is_named ceids e.ceid then record e { enabled = on } else e
+
 -- the named events are enabled or disabled, unless one is unknown
 abbrev pub enabled : Bool → List ℕ → Reports → Reports
 enabled on ceids r =
-    if erack ceids r == 0
-    then record r { events = map (λ e. if is_named ceids e.ceid then record e { enabled = on } else e) r.events }
-    else r
+    if erack ceids r == 0 then record r { events = map (with_enabled on ceids) r.events } else r
 
 -- ---- S6F11, S6F15 and S6F19: what reports say
 

@@ -1,7 +1,7 @@
 //! The alarms of the tool.
 
-ghost use Rattle.std.specs.Prelude.{◌≡◌, ◌≤◌, ◌&&◌, not, if◌then◌else◌, map, length, IfOk, true, false};
-ghost use Rattle.event_reports.specs.Alarms.{quiet, no_alarms, is_alarm, is_set, is_alarm_enabled, alarm_marked, set_alarm, clear_alarm, ackc5, alarms_enabled};
+ghost use Rattle.std.specs.Prelude.{◌≡◌, ◌≤◌, ◌&&◌, not, length, IfOk};
+ghost use Rattle.event_reports.specs.Alarms.{quiet, no_alarms, is_alarm, is_set, is_alarm_enabled, is_meant, alarm_marked, set_alarm, clear_alarm, ackc5, alarms_enabled};
 ghost use Rattle.event_reports.specs.Limits.{most_alarms};
 
 use gem_rows::alids;
@@ -26,6 +26,7 @@ pub struct Alarms {
 impl Model for Alarms {
     ghost use Rattle.std.specs.Prelude.{◌≤◌, List, length};
     ghost use Rattle.event_reports.specs.Limits.{most_alarms};
+    ghost use Rattle.event_reports.specs.declared.alarms.AlarmLine.{AlarmLine};
 
     ghost Value = { List AlarmLine };
 
@@ -105,13 +106,19 @@ impl Alarms {
         ensures code { result ≡ ackc5 alid self.old }
         ensures after { self.new ≡ alarms_enabled on alid self.old }
     {
-        let Some(alid) = alid else {
-            enable_all(&mut self.lines, on);
-            return 0;
-        };
-        let known = self.is_known(alid);
-        enable_one(&mut self.lines, on, alid);
-        if known { 0 } else { 1 }
+        let code = self.ackc5(alid);
+        enable_lines(&mut self.lines, on, alid);
+        code
+    }
+
+    // The answer to enabling or disabling an alarm, or all.
+    fn ackc5(&self, alid: Option<u32>) -> u8
+        ensures { result ≡ ackc5 alid self.now }
+    {
+        match alid {
+            Some(alid) if !self.is_known(alid) => 1,
+            _ => 0,
+        }
     }
 }
 
@@ -124,6 +131,16 @@ impl AlarmLine {
             alid,
             enabled: false,
             is_set: false,
+        }
+    }
+
+    // Whether the alarm is named, or none is.
+    fn is_meant(&self, alid: Option<u32>) -> bool
+        ensures { result ≡ is_meant alid self.now }
+    {
+        match alid {
+            Some(alid) => self.alid == alid,
+            None => true,
         }
     }
 }
@@ -139,22 +156,13 @@ fn mark(lines: &mut [AlarmLine], alid: u32, on: bool)
     }
 }
 
-// Enables or disables the alarm of this ALID.
-fn enable_one(lines: &mut [AlarmLine], on: bool, alid: u32)
-    ensures { lines.new ≡ map (λ a. if a.alid == alid then record a { enabled = on } else a) lines.old }
+// Enables or disables the alarm of this ALID, or all.
+fn enable_lines(lines: &mut [AlarmLine], on: bool, alid: Option<u32>)
+    ensures { lines.new ≡ alarms_enabled on alid lines.old }
 {
     for line in lines {
-        if line.alid == alid {
+        if line.is_meant(alid) {
             line.enabled = on;
         }
-    }
-}
-
-// Enables or disables all alarms.
-fn enable_all(lines: &mut [AlarmLine], on: bool)
-    ensures { lines.new ≡ map (λ a. record a { enabled = on }) lines.old }
-{
-    for line in lines {
-        line.enabled = on;
     }
 }

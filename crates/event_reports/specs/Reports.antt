@@ -74,9 +74,9 @@ unlinked e = record e { reports = [] }
 -- a report is no longer defined, and stands in no link
 abbrev pub without_report : ℕ → Reports → Reports
 without_report rptid r = record r {
-    reports = filter (λ p. not (p.id == rptid)) r.reports;
-    events = map (link_without rptid) r.events
-  }
+  reports = filter (λ p. not (p.id == rptid)) r.reports;
+  events = map (link_without rptid) r.events;
+}
 
 -- no report is defined and none is linked
 abbrev pub without_reports : Reports → Reports
@@ -86,10 +86,10 @@ without_reports r = record r { reports = []; events = map unlinked r.events }
 abbrev pub report_code : ℕ × List ℕ → Reports → ℕ
 report_code (rptid, vids) r =
     if length vids == 0 then 0 else first_fault (
-      (is_report rptid r, 3)
-      ∷ (not (list_all (is_vid r.ports r.chambers) vids), 4)
-      ∷ (nat_le most_reports (length r.reports) || nat_lt most_vids (length vids), 1)
-      ∷ [])
+    (is_report rptid r, 3)
+    ∷ (not (list_all (is_vid r.ports r.chambers) vids), 4)
+    ∷ (nat_le most_reports (length r.reports) || nat_lt most_vids (length vids), 1)
+    ∷ [])
 
 -- a report without VIDs is deleted, and another one is defined, as the last
 abbrev pub after_report : ℕ × List ℕ → Reports → Reports
@@ -114,10 +114,10 @@ abbrev pub link_code : ℕ × List ℕ → Reports → ℕ
 link_code (ceid, rptids) r =
     if not (is_event ceid r) then 4 else (
     if length rptids == 0 then 0 else first_fault (
-      (has_link ceid r, 3)
-      ∷ (not (list_all (λ rptid. is_report rptid r) rptids), 5)
-      ∷ (nat_lt most_linked (length rptids), 1)
-      ∷ []))
+    (has_link ceid r, 3)
+    ∷ (not (list_all (λ rptid. is_report rptid r) rptids), 5)
+    ∷ (nat_lt most_linked (length rptids), 1)
+    ∷ []))
 
 -- a line of the event gets these reports
 abbrev pub with_link : ℕ → List ℕ → EventLine → EventLine

@@ -1,7 +1,7 @@
 //! The alarms of the tool.
 
-ghost use Rattle.std.specs.Prelude.{◌≡◌, ◌≤◌, ◌&&◌, not, length, IfOk};
-ghost use Rattle.event_reports.specs.Alarms.{quiet, no_alarms, is_alarm, is_set, is_alarm_enabled, is_meant, alarm_marked, set_alarm, clear_alarm, ackc5, alarms_enabled};
+ghost use Rattle.std.specs.Prelude.{◌≡◌, ◌≤◌, ◌&&◌, not, length, map, IfOk};
+ghost use Rattle.event_reports.specs.Alarms.{quiet, no_alarms, is_alarm, is_set, is_alarm_enabled, line_marked, line_enabled, alarm_marked, set_alarm, clear_alarm, ackc5, alarms_enabled};
 ghost use Rattle.event_reports.specs.Limits.{most_alarms};
 
 use gem_rows::alids;
@@ -43,11 +43,8 @@ impl Alarms {
         requires chambers { chambers ≤ 8 }
         ensures { IfOk result (λ alarms. alarms ≡ no_alarms ports chambers) }
     {
-        let mut lines = Vec::new(alloc);
         let ids = alids(alloc, ports, chambers)?;
-        for alid in ids.as_slice() {
-            lines.push(AlarmLine::quiet(*alid))?;
-        }
+        let lines = quiet_lines(alloc, ids.as_slice())?;
         Ok(Alarms { lines })
     }
 
@@ -70,14 +67,18 @@ impl Alarms {
     pub fn is_set(&self, alid: u32) -> bool
         ensures { result ≡ is_set alid self.now }
     {
-        self.lines.iter().any(|line| line.alid == alid && line.is_set)
+        self.lines
+            .iter()
+            .any(|line| line.alid == alid && line.is_set)
     }
 
     /// Whether changes of the alarm are reported. Those of an unknown one are not.
     pub fn is_enabled(&self, alid: u32) -> bool
         ensures { result ≡ is_alarm_enabled alid self.now }
     {
-        self.lines.iter().any(|line| line.alid == alid && line.enabled)
+        self.lines
+            .iter()
+            .any(|line| line.alid == alid && line.enabled)
     }
 
     /// Sets an alarm. True exactly where it was clear and the plant has it; else nothing changes.
@@ -134,15 +135,39 @@ impl AlarmLine {
         }
     }
 
-    // Whether the alarm is named, or none is.
-    fn is_meant(&self, alid: Option<u32>) -> bool
-        ensures { result ≡ is_meant alid self.now }
+    // The line, set or clear where it is that of this alarm.
+    fn marked(self, alid: u32, on: bool) -> AlarmLine
+        ensures { result ≡ line_marked on alid self }
     {
-        match alid {
-            Some(alid) => self.alid == alid,
-            None => true,
+        AlarmLine {
+            is_set: if self.alid == alid { on } else { self.is_set },
+            ..self
         }
     }
+
+    // The line, enabled or disabled where it is that of this alarm, and where none is named.
+    fn with_enabled(self, alid: Option<u32>, on: bool) -> AlarmLine
+        ensures { result ≡ line_enabled on alid self }
+    {
+        match alid {
+            Some(alid) if self.alid != alid => self,
+            _ => AlarmLine {
+                enabled: on,
+                ..self
+            },
+        }
+    }
+}
+
+// A line for each of these alarms, which are neither set nor enabled.
+fn quiet_lines(alloc: Global, alids: &[u32]) -> Result<Vec<AlarmLine>, NoMemory>
+    ensures { IfOk result (λ lines. lines.items ≡ map quiet alids.now) }
+{
+    let mut lines = Vec::new(alloc);
+    for alid in alids {
+        lines.push(AlarmLine::quiet(*alid))?;
+    }
+    Ok(lines)
 }
 
 // Sets or clears the alarm of this ALID.
@@ -150,9 +175,7 @@ fn mark(lines: &mut [AlarmLine], alid: u32, on: bool)
     ensures { lines.new ≡ alarm_marked on alid lines.old }
 {
     for line in lines {
-        if line.alid == alid {
-            line.is_set = on;
-        }
+        *line = line.marked(alid, on);
     }
 }
 
@@ -161,8 +184,6 @@ fn enable_lines(lines: &mut [AlarmLine], on: bool, alid: Option<u32>)
     ensures { lines.new ≡ alarms_enabled on alid lines.old }
 {
     for line in lines {
-        if line.is_meant(alid) {
-            line.enabled = on;
-        }
+        *line = line.with_enabled(alid, on);
     }
 }

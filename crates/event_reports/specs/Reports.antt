@@ -173,11 +173,14 @@ value_items value (vid ∷ vids) = item (unwrap_or (value vid) (list no_items)) 
 abbrev pub one_items : (ℕ → Option Data) → ℕ → Reports → DataList
 one_items value rptid r = value_items value (vids_of rptid r)
 
--- each of these reports with its RPTID and its values
+-- a report with its RPTID and its values
+abbrev pub report_item : (ℕ → Option Data) → ℕ → Reports → Data
+report_item value rptid r = list (item (u4 (rptid ∷ [])) (item (list (one_items value rptid r)) no_items))
+
+-- these reports, in order
 abbrev pub items_of_reports : (ℕ → Option Data) → List ℕ → Reports → DataList
 items_of_reports value [] r = no_items
-items_of_reports value (rptid ∷ rptids) r =
-    item (list (item (u4 (rptid ∷ [])) (item (list (one_items value rptid r)) no_items))) (items_of_reports value rptids r)
+items_of_reports value (rptid ∷ rptids) r = item (report_item value rptid r) (items_of_reports value rptids r)
 
 -- the reports of an event in the order of its link; an event without a link and an unknown one have none
 abbrev pub report_items : (ℕ → Option Data) → ℕ → Reports → DataList

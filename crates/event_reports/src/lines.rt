@@ -1,7 +1,7 @@
 //! The lines that are kept of reports and of collection events.
 
 ghost use Rattle.std.specs.Prelude.{◌≡◌};
-ghost use Rattle.event_reports.specs.Reports.{silent};
+ghost use Rattle.event_reports.specs.Reports.{silent, with_enabled};
 
 use gem_ids::Ids;
 use std::alloc::Global;
@@ -31,6 +31,15 @@ impl EventLine {
             ceid,
             enabled: false,
             reports: Ids::new(alloc),
+        }
+    }
+
+    // Enables or disables the event where it is named, and where none is.
+    pub(crate) fn enable(&mut self, on: bool, ceids: &[u32])
+        ensures { self.new ≡ with_enabled on ceids.now self.old }
+    {
+        if ceids.is_empty() || ceids.contains(&self.ceid) {
+            self.enabled = on;
         }
     }
 }

@@ -1,10 +1,12 @@
 //! Reports, their links to collection events, and which events are enabled.
 
 ghost use Rattle.std.specs.Prelude.{◌≡◌, ℕ, ◌≤◌, Bool, ◌||◌, ◌∷◌, ◌==◌, not, length, map, Some, IfOk, OnOk, OnErr, option_map};
-ghost use Rattle.secs_items.specs.Data.{Data};
+ghost use Rattle.std.specs.Option.{unwrap_or};
+ghost use Rattle.secs_items.specs.Data.{Data, list, no_items};
+ghost use Rattle.secs_items.specs.View.{view};
 ghost use Rattle.secs_items.specs.Plain.{count_of};
 ghost use Rattle.secs_items.specs.Weight.{IsBounded, AreBounded};
-ghost use Rattle.event_reports.specs.Reports.{silent, no_reports, is_event, is_report, is_enabled, has_link, drack, defined, lrack, linked, erack, enabled, report_items, one_items};
+ghost use Rattle.event_reports.specs.Reports.{silent, no_reports, is_event, is_report, is_enabled, has_link, drack, defined, lrack, linked, erack, enabled, with_enabled, vids_of, link_of, value_items, one_items, report_item, report_items};
 ghost use Rattle.gem_rows.specs.Events.{ceids};
 ghost use Rattle.event_reports.specs.Given.{joined};
 ghost use Rattle.event_reports.specs.Limits.{most_linked, most_vids};
@@ -54,13 +56,101 @@ impl Reports {
         })
     }
 
-    /// Whether the event is enabled. An unknown one is not.
+    // Whether the tool has the event.
+    fn is_event(&self, ceid: u32) -> bool
+        ensures { result ≡ is_event ceid self.now }
+    {
+        self.events.iter().any(|event| event.ceid == ceid)
+    }
+
+    // Whether the report is defined.
+    fn is_report(&self, rptid: u32) -> bool
+        ensures { result ≡ is_report rptid self.now }
+    {
+        self.reports.iter().any(|report| report.id == rptid)
+    }
+
+    // Whether the event is linked to a report.
+    fn has_link(&self, ceid: u32) -> bool
+        ensures { result ≡ has_link ceid self.now }
+    {
+        self.events
+            .iter()
+            .any(|event| event.ceid == ceid && event.reports.len() != 0)
+    }
+
+    /// Enables or disables events, or all of them where none is named (SEMI E5, S2F37). The answer is ERACK: 1 exactly
+    /// where an event is unknown; then nothing changes. Takes no memory.
+    pub fn enable(&mut self, on: bool, ceids: &[u32]) -> u8
+        ensures code { result ≡ erack ceids.now self.old }
+        ensures after { self.new ≡ enabled on ceids.now self.old }
+    {
+        if !ceids.iter().all(|ceid| self.is_event(*ceid)) {
+            return 1;
+        }
+        enable_lines(&mut self.events, on, ceids);
+        0
+    }
+
+    /// Whether the event is enabled. An unknown one is not. Takes no memory.
     pub fn is_enabled(&self, ceid: u32) -> bool
         ensures { result ≡ is_enabled ceid self.now }
     {
         self.events
             .iter()
             .any(|event| event.ceid == ceid && event.enabled)
+    }
+
+    // The VIDs of a report; an unknown one has none.
+    fn vids_of(&self, rptid: u32) -> &[u32]
+        ensures { result.now ≡ vids_of rptid self.now }
+    {
+        match self.reports.iter().find(|report| report.id == rptid) {
+            Some(report) => report.vids.as_slice(),
+            None => &[],
+        }
+    }
+
+    // The reports that an event is linked to; an unknown one has none.
+    fn link_of(&self, ceid: u32) -> &[u32]
+        ensures { result.now ≡ link_of ceid self.now }
+    {
+        match self.events.iter().find(|event| event.ceid == ceid) {
+            Some(event) => event.reports.as_slice(),
+            None => &[],
+        }
+    }
+
+    // A report with its RPTID and its values.
+    fn report_item<V: Values>(&self, alloc: Global, rptid: u32, v: &V) -> Result<Item, NoMemory>
+        ensures { IfOk result (λ i. view i ≡ report_item (V.value_of v.now) rptid self.now) }
+    {
+        let mut values = Items::new(alloc);
+        self.one(alloc, rptid, v, &mut values)?;
+        let mut parts = Items::new(alloc);
+        parts.push(Item::U4(Ids::from_vec(Vec::from_slice(alloc, &[rptid])?)))?;
+        parts.push(Item::List(values))?;
+        Ok(Item::List(parts))
+    }
+
+    /// Adds the reports of an event at the end, in the order of its link, each as a list of its RPTID and the list of its
+    /// values (SEMI E5, S6F11). A variable without a value stands as an empty list. An event without a link and an
+    /// unknown one add nothing. After `NoMemory` some of them may have been added.
+    pub fn report<V: Values>(&self, alloc: Global, ceid: u32, v: &V, out: &mut Items) -> Result<(), NoMemory>
+        ensures reports { OnOk result (out.new ≡ joined out.old (report_items (V.value_of v.now) ceid self.now)) }
+    {
+        for rptid in self.link_of(ceid) {
+            out.push(self.report_item(alloc, *rptid, v)?)?;
+        }
+        Ok(())
+    }
+
+    /// Adds the values of a report at the end, in its order (SEMI E5, S6F19). A variable without a value stands as an
+    /// empty list. An unknown report adds nothing. After `NoMemory` some of them may have been added.
+    pub fn one<V: Values>(&self, alloc: Global, rptid: u32, v: &V, out: &mut Items) -> Result<(), NoMemory>
+        ensures values { OnOk result (out.new ≡ joined out.old (one_items (V.value_of v.now) rptid self.now)) }
+    {
+        push_values(alloc, self.vids_of(rptid), v, out)
     }
 }
 
@@ -74,4 +164,33 @@ fn silent_events(alloc: Global) -> Result<Vec<EventLine>, NoMemory>
         events.push(EventLine::silent(alloc, *ceid))?;
     }
     Ok(events)
+}
+
+// Enables or disables the named events, or all.
+fn enable_lines(events: &mut [EventLine], on: bool, ceids: &[u32])
+    ensures { events.new ≡ map (with_enabled on ceids.now) events.old }
+{
+    for event in events {
+        event.enable(on, ceids);
+    }
+}
+
+// Adds the values of variables at the end.
+fn push_values<V: Values>(alloc: Global, vids: &[u32], v: &V, out: &mut Items) -> Result<(), NoMemory>
+    ensures { OnOk result (out.new ≡ joined out.old (value_items (V.value_of v.now) vids.now)) }
+{
+    for vid in vids {
+        out.push(value_or_none(alloc, v.value(alloc, *vid)?))?;
+    }
+    Ok(())
+}
+
+// The value of a variable, and an empty list where it has none.
+fn value_or_none(alloc: Global, value: Option<Item>) -> Item
+    ensures { view result ≡ unwrap_or (option_map view value) (list no_items) }
+{
+    match value {
+        Some(item) => item,
+        None => Item::List(Items::new(alloc)),
+    }
 }

@@ -2,6 +2,7 @@
 
 ghost use Rattle.std.specs.Prelude.{◌≡◌, ℕ, ◌≤◌, Bool, ◌||◌, ◌∷◌, ◌==◌, not, length, map, Some, IfOk, OnOk, OnErr, option_map};
 ghost use Rattle.std.specs.Option.{unwrap_or};
+ghost use Rattle.std.specs.List.{list_all};
 ghost use Rattle.secs_items.specs.Data.{Data, list, no_items};
 ghost use Rattle.secs_items.specs.View.{view};
 ghost use Rattle.secs_items.specs.Plain.{count_of};
@@ -63,6 +64,13 @@ impl Reports {
         self.events.iter().any(|event| event.ceid == ceid)
     }
 
+    // Whether the tool has all of these events.
+    fn has_events(&self, ceids: &[u32]) -> bool
+        ensures { result ≡ list_all (λ ceid. is_event ceid self.now) ceids.now }
+    {
+        ceids.iter().all(|ceid| self.is_event(*ceid))
+    }
+
     // Whether the report is defined.
     fn is_report(&self, rptid: u32) -> bool
         ensures { result ≡ is_report rptid self.now }
@@ -85,7 +93,7 @@ impl Reports {
         ensures code { result ≡ erack ceids.now self.old }
         ensures after { self.new ≡ enabled on ceids.now self.old }
     {
-        if !ceids.iter().all(|ceid| self.is_event(*ceid)) {
+        if !self.has_events(ceids) {
             return 1;
         }
         enable_lines(&mut self.events, on, ceids);

@@ -1,3 +1,4 @@
 pub mod Counts
 pub mod Within
 pub mod Giving
+pub mod Small

@@ -2,7 +2,7 @@
 use Rattle.std.proofs.Common.{ℕ, Bool, true, false, if◌then◌else◌, List, [], ◌∷◌, map, arith}
 use Rattle.std.specs.List.{AllByRecursion}
 use Rattle.event_reports.specs.Reports.{EventLine, silent, is_named, with_enabled}
-use Rattle.event_reports.specs.Kept.{HasShortLink}
+use Rattle.event_reports.specs.Within.{HasShortLink}
 
 -- events without links
 pub silent-within : (ids : List ℕ) → AllByRecursion HasShortLink (map silent ids)

@@ -1,24 +1,7 @@
 -- How reports are kept.
-use Rattle.std.specs.Prelude.{◌≤◌, length}
-use Rattle.std.specs.List.{AllByRecursion}
 use Rattle.event_reports.specs.declared.reports.Reports.TheInside.{Inside}
-use Rattle.event_reports.specs.Reports.{Report, EventLine, Reports}
-use Rattle.event_reports.specs.Limits.{most_reports, most_vids, most_linked}
+use Rattle.event_reports.specs.Reports.{Reports}
 
 -- what callers see
 abbrev pub reports_of : Inside → Reports
 reports_of r = record { ports = r.ports; chambers = r.chambers; reports = r.reports.items; events = r.events.items }
-
--- a report of no more VIDs than it can have
-abbrev pub IsShort : Report → Type 0
-IsShort p = length p.vids ≤ most_vids
-
--- an event that is linked to no more reports than it can be
-abbrev pub HasShortLink : EventLine → Type 0
-HasShortLink e = length e.reports ≤ most_linked
-
--- what is always true: no more than can be (this tool's profile, limits)
-pub record AreWithin (r : Reports) : Type 0 where
-  pub count : length r.reports ≤ most_reports
-  pub vids : AllByRecursion IsShort r.reports
-  pub links : AllByRecursion HasShortLink r.events

@@ -6,10 +6,11 @@ ghost use Rattle.std.specs.List.{list_all};
 ghost use Rattle.secs_items.specs.Data.{Data, list, no_items};
 ghost use Rattle.secs_items.specs.View.{view};
 ghost use Rattle.secs_items.specs.Plain.{count_of};
-ghost use Rattle.secs_items.specs.Weight.{IsBounded, AreBounded};
-ghost use Rattle.event_reports.specs.Reports.{silent, no_reports, is_event, is_report, is_enabled, has_link, drack, defined, lrack, linked, erack, enabled, with_enabled, vids_of, link_of, value_items, one_items, report_item, report_items};
+ghost use Rattle.secs_items.specs.Weight.{AreBounded};
+ghost use Rattle.event_reports.specs.Reports.{silent, no_reports, is_event, is_report, is_enabled, has_link, drack, defined, lrack, linked, erack, enabled, with_enabled, vids_of, link_of, value_items, one_items, report_item, items_of_reports, report_items};
 ghost use Rattle.gem_rows.specs.Events.{ceids};
-ghost use Rattle.event_reports.specs.Given.{joined};
+ghost use Rattle.event_reports.specs.Given.{AreSmallValues, joined};
+ghost use Rattle.event_reports.specs.Within.{AreWithin};
 ghost use Rattle.event_reports.specs.Limits.{most_linked, most_vids};
 
 use crate::lines::{EventLine, Report};
@@ -34,7 +35,8 @@ impl Model for Reports {
 
     ghost Value = { Value_of };
 
-    ghost use Rattle.event_reports.specs.Kept.{reports_of, AreWithin};
+    ghost use Rattle.event_reports.specs.Within.{AreWithin};
+    ghost use Rattle.event_reports.specs.Kept.{reports_of};
 
     ghost view = { reports_of };
 
@@ -111,7 +113,8 @@ impl Reports {
 
     // The VIDs of a report; an unknown one has none.
     fn vids_of(&self, rptid: u32) -> &[u32]
-        ensures { result.now ≡ vids_of rptid self.now }
+        ensures vids { result.now ≡ vids_of rptid self.now }
+        ensures within { AreWithin self.now }
     {
         match self.reports.iter().find(|report| report.id == rptid) {
             Some(report) => report.vids.as_slice(),
@@ -121,7 +124,8 @@ impl Reports {
 
     // The reports that an event is linked to; an unknown one has none.
     fn link_of(&self, ceid: u32) -> &[u32]
-        ensures { result.now ≡ link_of ceid self.now }
+        ensures link { result.now ≡ link_of ceid self.now }
+        ensures within { AreWithin self.now }
     {
         match self.events.iter().find(|event| event.ceid == ceid) {
             Some(event) => event.reports.as_slice(),
@@ -141,22 +145,37 @@ impl Reports {
         Ok(Item::List(parts))
     }
 
+    // Adds these reports at the end.
+    fn push_reports<V: Values>(&self, alloc: Global, rptids: &[u32], v: &V, out: &mut Items) -> Result<(), NoMemory>
+        ensures { OnOk result (out.new ≡ joined out.old (items_of_reports (V.value_of v.now) rptids.now self.now)) }
+    {
+        for rptid in rptids {
+            out.push(self.report_item(alloc, *rptid, v)?)?;
+        }
+        Ok(())
+    }
+
     /// Adds the reports of an event at the end, in the order of its link, each as a list of its RPTID and the list of its
     /// values (SEMI E5, S6F11). A variable without a value stands as an empty list. An event without a link and an
     /// unknown one add nothing. After `NoMemory` some of them may have been added.
     pub fn report<V: Values>(&self, alloc: Global, ceid: u32, v: &V, out: &mut Items) -> Result<(), NoMemory>
         ensures reports { OnOk result (out.new ≡ joined out.old (report_items (V.value_of v.now) ceid self.now)) }
+
+        // Few reports are added, and each is small where the values are.
+        ensures few { count_of (report_items (V.value_of v.now) ceid self.now) ≤ most_linked }
+        ensures bounded { AreSmallValues (V.value_of v.now) → AreBounded 3 6600 (report_items (V.value_of v.now) ceid self.now) }
     {
-        for rptid in self.link_of(ceid) {
-            out.push(self.report_item(alloc, *rptid, v)?)?;
-        }
-        Ok(())
+        self.push_reports(alloc, self.link_of(ceid), v, out)
     }
 
     /// Adds the values of a report at the end, in its order (SEMI E5, S6F19). A variable without a value stands as an
     /// empty list. An unknown report adds nothing. After `NoMemory` some of them may have been added.
     pub fn one<V: Values>(&self, alloc: Global, rptid: u32, v: &V, out: &mut Items) -> Result<(), NoMemory>
         ensures values { OnOk result (out.new ≡ joined out.old (one_items (V.value_of v.now) rptid self.now)) }
+
+        // Few values are added, and each is small.
+        ensures few { count_of (one_items (V.value_of v.now) rptid self.now) ≤ most_vids }
+        ensures bounded { AreSmallValues (V.value_of v.now) → AreBounded 1 100 (one_items (V.value_of v.now) rptid self.now) }
     {
         push_values(alloc, self.vids_of(rptid), v, out)
     }

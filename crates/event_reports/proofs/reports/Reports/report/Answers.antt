@@ -1,12 +1,8 @@
-use Rattle.event_reports.proofs.Giving.{reports_more, reports_all}
+use Rattle.event_reports.proofs.Small.{few_reports, small_reports}
 use Rattle.event_reports.proofs.reports.Reports.report.Goals as goal
 
-pub loop-rptid-preserved : goal.loop-rptid-preserved
-loop-rptid-preserved g c =
-    reports_more (g.V.Values.value_of c.args.v.now) c.args.self.now c.link_of-rptid-items.result.now c.loop-rptid.rptid-index _ c.loop-rptid.out c.push.new.self c.loop-rptid-test.true c.loop-rptid.invariant
-    (rw (← c.in_ok-report_item.ensures) c.in_ok-push.ensures.ok)
+pub returns-clause-few : goal.returns-clause-few
+returns-clause-few g c = few_reports (g.V.Values.value_of c.args.v.now) c.args.self.now c.args.ceid c.link_of.ensures.within
 
-pub returns : goal.returns
-returns g c = record {
-  reports = rw (← c.link_of-rptid-items.ensures) (reports_all (g.V.Values.value_of c.args.v.now) c.args.self.now c.link_of-rptid-items.result.now c.loop-rptid.rptid-index _ c.loop-rptid.out c.loop-rptid-test.false c.loop-rptid.invariant)
-}
+pub returns-clause-bounded : goal.returns-clause-bounded
+returns-clause-bounded g c = small_reports (g.V.Values.value_of c.args.v.now) c.args.self.now c.args.ceid c.link_of.ensures.within

@@ -2,3 +2,4 @@ pub mod Counts
 pub mod Within
 pub mod Giving
 pub mod Small
+pub mod InTurn

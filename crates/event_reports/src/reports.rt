@@ -7,7 +7,7 @@ ghost use Rattle.secs_items.specs.Data.{Data, list, no_items};
 ghost use Rattle.secs_items.specs.View.{view};
 ghost use Rattle.secs_items.specs.Plain.{count_of};
 ghost use Rattle.secs_items.specs.Weight.{AreBounded};
-ghost use Rattle.event_reports.specs.Reports.{silent, no_reports, is_event, is_report, is_enabled, has_link, drack, defined, lrack, linked, erack, enabled, with_enabled, vids_of, link_of, value_items, one_items, report_item, items_of_reports, report_items};
+ghost use Rattle.event_reports.specs.Reports.{silent, no_reports, is_event, is_report, is_enabled, has_link, erack, enabled, with_enabled, vids_of, link_of, value_items, one_items, report_item, items_of_reports, report_items};
 ghost use Rattle.gem_rows.specs.Events.{ceids};
 ghost use Rattle.event_reports.specs.Given.{AreSmallValues, joined};
 ghost use Rattle.event_reports.specs.Within.{AreWithin};
@@ -16,10 +16,13 @@ ghost use Rattle.event_reports.specs.Limits.{most_linked, most_vids};
 use crate::lines::{EventLine, Report};
 use crate::values::Values;
 use gem_ids::Ids;
-use gem_rows::{ceids, is_vid};
+use gem_rows::ceids;
 use secs_items::{Item, Items, NoMemory};
 use std::alloc::Global;
 use std::marker::Model;
+
+mod definitions;
+mod links;
 
 /// The reports of a plant, the links of its collection events to them, and which events are enabled.
 #[derive(Drop)]
@@ -56,6 +59,18 @@ impl Reports {
             chambers,
             reports: Vec::new(alloc),
             events: silent_events(alloc)?,
+        })
+    }
+
+    // The same reports, links and enabled events.
+    fn copy(&self, alloc: Global) -> Result<Reports, NoMemory>
+        ensures { IfOk result (λ copy. copy ≡ self.now) }
+    {
+        Ok(Reports {
+            ports: self.ports,
+            chambers: self.chambers,
+            reports: copy_reports(alloc, &self.reports)?,
+            events: copy_events(alloc, &self.events)?,
         })
     }
 
@@ -191,6 +206,28 @@ fn silent_events(alloc: Global) -> Result<Vec<EventLine>, NoMemory>
         events.push(EventLine::silent(alloc, *ceid))?;
     }
     Ok(events)
+}
+
+// The same reports.
+fn copy_reports(alloc: Global, reports: &[Report]) -> Result<Vec<Report>, NoMemory>
+    ensures { IfOk result (λ copies. copies.items ≡ reports.now) }
+{
+    let mut copies = Vec::new(alloc);
+    for report in reports {
+        copies.push(report.clone()?)?;
+    }
+    Ok(copies)
+}
+
+// The same events.
+fn copy_events(alloc: Global, events: &[EventLine]) -> Result<Vec<EventLine>, NoMemory>
+    ensures { IfOk result (λ copies. copies.items ≡ events.now) }
+{
+    let mut copies = Vec::new(alloc);
+    for event in events {
+        copies.push(event.clone()?)?;
+    }
+    Ok(copies)
 }
 
 // Enables or disables the named events, or all.

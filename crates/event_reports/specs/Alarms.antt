@@ -28,15 +28,19 @@ is_alarm_enabled alid alarms = list_any (λ a. (a.alid == alid) && a.enabled) al
 abbrev pub set_alids : List AlarmLine → List ℕ
 set_alids alarms = map (λ a. a.alid) (filter (λ a. a.is_set) alarms)
 
--- the alarm is set, or clear; another number changes nothing
-abbrev pub alarm_marked : Bool → ℕ → List AlarmLine → List AlarmLine
-alarm_marked on alid alarms = map (λ a. if a.alid == alid then record a { is_set = on } else a) alarms
+-- a line of the alarm becomes set or clear
+abbrev pub line_marked : Bool → ℕ → AlarmLine → AlarmLine
+line_marked on alid a = if a.alid == alid then record a { is_set = on } else a
 
--- the alarm is set
+-- the alarm becomes set or clear; another number changes nothing
+abbrev pub alarm_marked : Bool → ℕ → List AlarmLine → List AlarmLine
+alarm_marked on alid alarms = map (line_marked on alid) alarms
+
+-- the alarm becomes set
 abbrev pub set_alarm : ℕ → List AlarmLine → List AlarmLine
 set_alarm alid alarms = alarm_marked true alid alarms
 
--- the alarm is clear
+-- the alarm becomes clear
 abbrev pub clear_alarm : ℕ → List AlarmLine → List AlarmLine
 clear_alarm alid alarms = alarm_marked false alid alarms
 
@@ -46,7 +50,15 @@ abbrev pub ackc5 : Option ℕ → List AlarmLine → ℕ
 ackc5 None alarms = 0
 ackc5 (Some alid) alarms = if is_alarm alid alarms then 0 else 1
 
+-- a line is meant where its alarm is named, and where none is
+abbrev pub is_meant : Option ℕ → AlarmLine → Bool
+is_meant None a = true
+is_meant (Some alid) a = a.alid == alid
+
+-- a line that is meant is enabled or disabled
+abbrev pub line_enabled : Bool → Option ℕ → AlarmLine → AlarmLine
+line_enabled on named a = if is_meant named a then record a { enabled = on } else a
+
 -- the alarm, or each alarm where none is named, is enabled or disabled; an unknown one changes nothing
 abbrev pub alarms_enabled : Bool → Option ℕ → List AlarmLine → List AlarmLine
-alarms_enabled on None alarms = map (λ a. record a { enabled = on }) alarms
-alarms_enabled on (Some alid) alarms = map (λ a. if a.alid == alid then record a { enabled = on } else a) alarms
+alarms_enabled on named alarms = map (line_enabled on named) alarms

@@ -63,25 +63,33 @@ after_all after (entry ∷ entries) r = after_all after entries (after entry r)
 
 -- ---- S2F33, reports
 
+-- a link without a report, at all its places
+abbrev pub link_without : ℕ → EventLine → EventLine
+link_without rptid e = record e { reports = filter (λ linked_id. not (linked_id == rptid)) e.reports }
+
+-- an event without a link
+abbrev pub unlinked : EventLine → EventLine
+unlinked e = record e { reports = [] }
+
 -- a report is no longer defined, and stands in no link
 abbrev pub without_report : ℕ → Reports → Reports
 without_report rptid r = record r {
-    reports = filter (λ p. not (p.id == rptid)) r.reports;
-    events = map (λ e. record e { reports = filter (λ linked_id. not (linked_id == rptid)) e.reports }) r.events
-  }
+  reports = filter (λ p. not (p.id == rptid)) r.reports;
+  events = map (link_without rptid) r.events;
+}
 
 -- no report is defined and none is linked
 abbrev pub without_reports : Reports → Reports
-without_reports r = record r { reports = []; events = map (λ e. record e { reports = [] }) r.events }
+without_reports r = record r { reports = []; events = map unlinked r.events }
 
 -- the code of one report, an RPTID with its VIDs (SEMI E5, DRACK; this tool's profile, S2F33)
 abbrev pub report_code : ℕ × List ℕ → Reports → ℕ
 report_code (rptid, vids) r =
     if length vids == 0 then 0 else first_fault (
-      (is_report rptid r, 3)
-      ∷ (not (list_all (is_vid r.ports r.chambers) vids), 4)
-      ∷ (nat_le most_reports (length r.reports) || nat_lt most_vids (length vids), 1)
-      ∷ [])
+    (is_report rptid r, 3)
+    ∷ (not (list_all (is_vid r.ports r.chambers) vids), 4)
+    ∷ (nat_le most_reports (length r.reports) || nat_lt most_vids (length vids), 1)
+    ∷ [])
 
 -- a report without VIDs is deleted, and another one is defined, as the last
 abbrev pub after_report : ℕ × List ℕ → Reports → Reports
@@ -106,15 +114,18 @@ abbrev pub link_code : ℕ × List ℕ → Reports → ℕ
 link_code (ceid, rptids) r =
     if not (is_event ceid r) then 4 else (
     if length rptids == 0 then 0 else first_fault (
-      (has_link ceid r, 3)
-      ∷ (not (list_all (λ rptid. is_report rptid r) rptids), 5)
-      ∷ (nat_lt most_linked (length rptids), 1)
-      ∷ []))
+    (has_link ceid r, 3)
+    ∷ (not (list_all (λ rptid. is_report rptid r) rptids), 5)
+    ∷ (nat_lt most_linked (length rptids), 1)
+    ∷ []))
+
+-- a line of the event gets these reports
+abbrev pub with_link : ℕ → List ℕ → EventLine → EventLine
+with_link ceid rptids e = if e.ceid == ceid then record e { reports = rptids } else e
 
 -- the event is linked to these reports, and to none where there are none
 abbrev pub after_link : ℕ × List ℕ → Reports → Reports
-after_link (ceid, rptids) r =
-    record r { events = map (λ e. if e.ceid == ceid then record e { reports = rptids } else e) r.events }
+after_link (ceid, rptids) r = record r { events = map (with_link ceid rptids) r.events }
 
 -- the code of a list of links
 abbrev pub lrack : List (ℕ × List ℕ) → Reports → ℕ
@@ -134,12 +145,14 @@ erack ceids r = if list_all (λ ceid. is_event ceid r) ceids then 0 else 1
 abbrev pub is_named : List ℕ → ℕ → Bool
 is_named ceids ceid = (length ceids == 0) || list_any (λ c. c == ceid) ceids
 
+-- a line of a named event is enabled or disabled
+abbrev pub with_enabled : Bool → List ℕ → EventLine → EventLine
+with_enabled on ceids e = if is_named ceids e.ceid then record e { enabled = on } else e
+
 -- the named events are enabled or disabled, unless one is unknown
 abbrev pub enabled : Bool → List ℕ → Reports → Reports
 enabled on ceids r =
-    if erack ceids r == 0
-    then record r { events = map (λ e. if is_named ceids e.ceid then record e { enabled = on } else e) r.events }
-    else r
+    if erack ceids r == 0 then record r { events = map (with_enabled on ceids) r.events } else r
 
 -- ---- S6F11, S6F15 and S6F19: what reports say
 
@@ -160,11 +173,14 @@ value_items value (vid ∷ vids) = item (unwrap_or (value vid) (list no_items)) 
 abbrev pub one_items : (ℕ → Option Data) → ℕ → Reports → DataList
 one_items value rptid r = value_items value (vids_of rptid r)
 
--- each of these reports with its RPTID and its values
+-- a report with its RPTID and its values
+abbrev pub report_item : (ℕ → Option Data) → ℕ → Reports → Data
+report_item value rptid r = list (item (u4 (rptid ∷ [])) (item (list (one_items value rptid r)) no_items))
+
+-- these reports, in order
 abbrev pub items_of_reports : (ℕ → Option Data) → List ℕ → Reports → DataList
 items_of_reports value [] r = no_items
-items_of_reports value (rptid ∷ rptids) r =
-    item (list (item (u4 (rptid ∷ [])) (item (list (one_items value rptid r)) no_items))) (items_of_reports value rptids r)
+items_of_reports value (rptid ∷ rptids) r = item (report_item value rptid r) (items_of_reports value rptids r)
 
 -- the reports of an event in the order of its link; an event without a link and an unknown one have none
 abbrev pub report_items : (ℕ → Option Data) → ℕ → Reports → DataList

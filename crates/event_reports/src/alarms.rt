@@ -1,7 +1,7 @@
 //! The alarms of the tool.
 
-ghost use Rattle.std.specs.Prelude.{◌≡◌, ◌≤◌, ◌&&◌, not, if◌then◌else◌, map, length, IfOk, true, false};
-ghost use Rattle.event_reports.specs.Alarms.{quiet, no_alarms, is_alarm, is_set, is_alarm_enabled, alarm_marked, set_alarm, clear_alarm, ackc5, alarms_enabled};
+ghost use Rattle.std.specs.Prelude.{◌≡◌, ◌≤◌, ◌&&◌, not, length, map, IfOk};
+ghost use Rattle.event_reports.specs.Alarms.{quiet, no_alarms, is_alarm, is_set, is_alarm_enabled, line_marked, line_enabled, alarm_marked, set_alarm, clear_alarm, ackc5, alarms_enabled};
 ghost use Rattle.event_reports.specs.Limits.{most_alarms};
 
 use gem_rows::alids;
@@ -26,6 +26,7 @@ pub struct Alarms {
 impl Model for Alarms {
     ghost use Rattle.std.specs.Prelude.{◌≤◌, List, length};
     ghost use Rattle.event_reports.specs.Limits.{most_alarms};
+    ghost use Rattle.event_reports.specs.declared.alarms.AlarmLine.{AlarmLine};
 
     ghost Value = { List AlarmLine };
 
@@ -42,11 +43,8 @@ impl Alarms {
         requires chambers { chambers ≤ 8 }
         ensures { IfOk result (λ alarms. alarms ≡ no_alarms ports chambers) }
     {
-        let mut lines = Vec::new(alloc);
         let ids = alids(alloc, ports, chambers)?;
-        for alid in ids.as_slice() {
-            lines.push(AlarmLine::quiet(*alid))?;
-        }
+        let lines = quiet_lines(alloc, ids.as_slice())?;
         Ok(Alarms { lines })
     }
 
@@ -69,14 +67,18 @@ impl Alarms {
     pub fn is_set(&self, alid: u32) -> bool
         ensures { result ≡ is_set alid self.now }
     {
-        self.lines.iter().any(|line| line.alid == alid && line.is_set)
+        self.lines
+            .iter()
+            .any(|line| line.alid == alid && line.is_set)
     }
 
     /// Whether changes of the alarm are reported. Those of an unknown one are not.
     pub fn is_enabled(&self, alid: u32) -> bool
         ensures { result ≡ is_alarm_enabled alid self.now }
     {
-        self.lines.iter().any(|line| line.alid == alid && line.enabled)
+        self.lines
+            .iter()
+            .any(|line| line.alid == alid && line.enabled)
     }
 
     /// Sets an alarm. True exactly where it was clear and the plant has it; else nothing changes.
@@ -105,13 +107,19 @@ impl Alarms {
         ensures code { result ≡ ackc5 alid self.old }
         ensures after { self.new ≡ alarms_enabled on alid self.old }
     {
-        let Some(alid) = alid else {
-            enable_all(&mut self.lines, on);
-            return 0;
-        };
-        let known = self.is_known(alid);
-        enable_one(&mut self.lines, on, alid);
-        if known { 0 } else { 1 }
+        let code = self.ackc5(alid);
+        enable_lines(&mut self.lines, on, alid);
+        code
+    }
+
+    // The answer to enabling or disabling an alarm, or all.
+    fn ackc5(&self, alid: Option<u32>) -> u8
+        ensures { result ≡ ackc5 alid self.now }
+    {
+        match alid {
+            Some(alid) if !self.is_known(alid) => 1,
+            _ => 0,
+        }
     }
 }
 
@@ -126,6 +134,40 @@ impl AlarmLine {
             is_set: false,
         }
     }
+
+    // The line, set or clear where it is that of this alarm.
+    fn marked(self, alid: u32, on: bool) -> AlarmLine
+        ensures { result ≡ line_marked on alid self }
+    {
+        AlarmLine {
+            is_set: if self.alid == alid { on } else { self.is_set },
+            ..self
+        }
+    }
+
+    // The line, enabled or disabled where it is that of this alarm, and where none is named.
+    fn with_enabled(self, alid: Option<u32>, on: bool) -> AlarmLine
+        ensures { result ≡ line_enabled on alid self }
+    {
+        match alid {
+            Some(alid) if self.alid != alid => self,
+            _ => AlarmLine {
+                enabled: on,
+                ..self
+            },
+        }
+    }
+}
+
+// A line for each of these alarms, which are neither set nor enabled.
+fn quiet_lines(alloc: Global, alids: &[u32]) -> Result<Vec<AlarmLine>, NoMemory>
+    ensures { IfOk result (λ lines. lines.items ≡ map quiet alids.now) }
+{
+    let mut lines = Vec::new(alloc);
+    for alid in alids {
+        lines.push(AlarmLine::quiet(*alid))?;
+    }
+    Ok(lines)
 }
 
 // Sets or clears the alarm of this ALID.
@@ -133,28 +175,15 @@ fn mark(lines: &mut [AlarmLine], alid: u32, on: bool)
     ensures { lines.new ≡ alarm_marked on alid lines.old }
 {
     for line in lines {
-        if line.alid == alid {
-            line.is_set = on;
-        }
+        *line = line.marked(alid, on);
     }
 }
 
-// Enables or disables the alarm of this ALID.
-fn enable_one(lines: &mut [AlarmLine], on: bool, alid: u32)
-    ensures { lines.new ≡ map (λ a. if a.alid == alid then record a { enabled = on } else a) lines.old }
+// Enables or disables the alarm of this ALID, or all.
+fn enable_lines(lines: &mut [AlarmLine], on: bool, alid: Option<u32>)
+    ensures { lines.new ≡ alarms_enabled on alid lines.old }
 {
     for line in lines {
-        if line.alid == alid {
-            line.enabled = on;
-        }
-    }
-}
-
-// Enables or disables all alarms.
-fn enable_all(lines: &mut [AlarmLine], on: bool)
-    ensures { lines.new ≡ map (λ a. record a { enabled = on }) lines.old }
-{
-    for line in lines {
-        line.enabled = on;
+        *line = line.with_enabled(alid, on);
     }
 }

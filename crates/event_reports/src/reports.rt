@@ -1,21 +1,28 @@
 //! Reports, their links to collection events, and which events are enabled.
 
 ghost use Rattle.std.specs.Prelude.{◌≡◌, ℕ, ◌≤◌, Bool, ◌||◌, ◌∷◌, ◌==◌, not, length, map, Some, IfOk, OnOk, OnErr, option_map};
-ghost use Rattle.secs_items.specs.Data.{Data};
+ghost use Rattle.std.specs.Option.{unwrap_or};
+ghost use Rattle.std.specs.List.{list_all};
+ghost use Rattle.secs_items.specs.Data.{Data, list, no_items};
+ghost use Rattle.secs_items.specs.View.{view};
 ghost use Rattle.secs_items.specs.Plain.{count_of};
-ghost use Rattle.secs_items.specs.Weight.{IsBounded, AreBounded};
-ghost use Rattle.event_reports.specs.Reports.{silent, no_reports, is_event, is_report, is_enabled, has_link, drack, defined, lrack, linked, erack, enabled, report_items, one_items};
+ghost use Rattle.secs_items.specs.Weight.{AreBounded};
+ghost use Rattle.event_reports.specs.Reports.{silent, no_reports, is_event, is_report, is_enabled, has_link, erack, enabled, with_enabled, vids_of, link_of, value_items, one_items, report_item, items_of_reports, report_items};
 ghost use Rattle.gem_rows.specs.Events.{ceids};
-ghost use Rattle.event_reports.specs.Given.{joined};
+ghost use Rattle.event_reports.specs.Given.{AreSmallValues, joined};
+ghost use Rattle.event_reports.specs.Within.{AreWithin};
 ghost use Rattle.event_reports.specs.Limits.{most_linked, most_vids};
 
 use crate::lines::{EventLine, Report};
 use crate::values::Values;
 use gem_ids::Ids;
-use gem_rows::{ceids, is_vid};
+use gem_rows::ceids;
 use secs_items::{Item, Items, NoMemory};
 use std::alloc::Global;
 use std::marker::Model;
+
+mod definitions;
+mod links;
 
 /// The reports of a plant, the links of its collection events to them, and which events are enabled.
 #[derive(Drop)]
@@ -31,7 +38,8 @@ impl Model for Reports {
 
     ghost Value = { Value_of };
 
-    ghost use Rattle.event_reports.specs.Kept.{reports_of, AreWithin};
+    ghost use Rattle.event_reports.specs.Within.{AreWithin};
+    ghost use Rattle.event_reports.specs.Kept.{reports_of};
 
     ghost view = { reports_of };
 
@@ -54,13 +62,137 @@ impl Reports {
         })
     }
 
-    /// Whether the event is enabled. An unknown one is not.
+    // The same reports, links and enabled events.
+    fn copy(&self, alloc: Global) -> Result<Reports, NoMemory>
+        ensures { IfOk result (λ copy. copy ≡ self.now) }
+    {
+        Ok(Reports {
+            ports: self.ports,
+            chambers: self.chambers,
+            reports: copy_reports(alloc, &self.reports)?,
+            events: copy_events(alloc, &self.events)?,
+        })
+    }
+
+    // Whether the tool has the event.
+    fn is_event(&self, ceid: u32) -> bool
+        ensures { result ≡ is_event ceid self.now }
+    {
+        self.events.iter().any(|event| event.ceid == ceid)
+    }
+
+    // Whether the tool has all of these events.
+    fn has_events(&self, ceids: &[u32]) -> bool
+        ensures { result ≡ list_all (λ ceid. is_event ceid self.now) ceids.now }
+    {
+        ceids.iter().all(|ceid| self.is_event(*ceid))
+    }
+
+    // Whether the report is defined.
+    fn is_report(&self, rptid: u32) -> bool
+        ensures { result ≡ is_report rptid self.now }
+    {
+        self.reports.iter().any(|report| report.id == rptid)
+    }
+
+    // Whether the event is linked to a report.
+    fn has_link(&self, ceid: u32) -> bool
+        ensures { result ≡ has_link ceid self.now }
+    {
+        self.events
+            .iter()
+            .any(|event| event.ceid == ceid && event.reports.len() != 0)
+    }
+
+    /// Enables or disables events, or all of them where none is named (SEMI E5, S2F37). The answer is ERACK: 1 exactly
+    /// where an event is unknown; then nothing changes. Takes no memory.
+    pub fn enable(&mut self, on: bool, ceids: &[u32]) -> u8
+        ensures code { result ≡ erack ceids.now self.old }
+        ensures after { self.new ≡ enabled on ceids.now self.old }
+    {
+        if !self.has_events(ceids) {
+            return 1;
+        }
+        enable_lines(&mut self.events, on, ceids);
+        0
+    }
+
+    /// Whether the event is enabled. An unknown one is not. Takes no memory.
     pub fn is_enabled(&self, ceid: u32) -> bool
         ensures { result ≡ is_enabled ceid self.now }
     {
         self.events
             .iter()
             .any(|event| event.ceid == ceid && event.enabled)
+    }
+
+    // The VIDs of a report; an unknown one has none.
+    fn vids_of(&self, rptid: u32) -> &[u32]
+        ensures vids { result.now ≡ vids_of rptid self.now }
+        ensures within { AreWithin self.now }
+    {
+        match self.reports.iter().find(|report| report.id == rptid) {
+            Some(report) => report.vids.as_slice(),
+            None => &[],
+        }
+    }
+
+    // The reports that an event is linked to; an unknown one has none.
+    fn link_of(&self, ceid: u32) -> &[u32]
+        ensures link { result.now ≡ link_of ceid self.now }
+        ensures within { AreWithin self.now }
+    {
+        match self.events.iter().find(|event| event.ceid == ceid) {
+            Some(event) => event.reports.as_slice(),
+            None => &[],
+        }
+    }
+
+    // A report with its RPTID and its values.
+    fn report_item<V: Values>(&self, alloc: Global, rptid: u32, v: &V) -> Result<Item, NoMemory>
+        ensures { IfOk result (λ i. view i ≡ report_item (V.value_of v.now) rptid self.now) }
+    {
+        let mut values = Items::new(alloc);
+        self.one(alloc, rptid, v, &mut values)?;
+        let mut parts = Items::new(alloc);
+        parts.push(Item::U4(Ids::from_vec(Vec::from_slice(alloc, &[rptid])?)))?;
+        parts.push(Item::List(values))?;
+        Ok(Item::List(parts))
+    }
+
+    // Adds these reports at the end.
+    fn push_reports<V: Values>(&self, alloc: Global, rptids: &[u32], v: &V, out: &mut Items) -> Result<(), NoMemory>
+        ensures { OnOk result (out.new ≡ joined out.old (items_of_reports (V.value_of v.now) rptids.now self.now)) }
+    {
+        for rptid in rptids {
+            out.push(self.report_item(alloc, *rptid, v)?)?;
+        }
+        Ok(())
+    }
+
+    /// Adds the reports of an event at the end, in the order of its link, each as a list of its RPTID and the list of its
+    /// values (SEMI E5, S6F11). A variable without a value stands as an empty list. An event without a link and an
+    /// unknown one add nothing. After `NoMemory` some of them may have been added.
+    pub fn report<V: Values>(&self, alloc: Global, ceid: u32, v: &V, out: &mut Items) -> Result<(), NoMemory>
+        ensures reports { OnOk result (out.new ≡ joined out.old (report_items (V.value_of v.now) ceid self.now)) }
+
+        // Few reports are added, and each is small where the values are.
+        ensures few { count_of (report_items (V.value_of v.now) ceid self.now) ≤ most_linked }
+        ensures bounded { AreSmallValues (V.value_of v.now) → AreBounded 3 6600 (report_items (V.value_of v.now) ceid self.now) }
+    {
+        self.push_reports(alloc, self.link_of(ceid), v, out)
+    }
+
+    /// Adds the values of a report at the end, in its order (SEMI E5, S6F19). A variable without a value stands as an
+    /// empty list. An unknown report adds nothing. After `NoMemory` some of them may have been added.
+    pub fn one<V: Values>(&self, alloc: Global, rptid: u32, v: &V, out: &mut Items) -> Result<(), NoMemory>
+        ensures values { OnOk result (out.new ≡ joined out.old (one_items (V.value_of v.now) rptid self.now)) }
+
+        // Few values are added, and each is small.
+        ensures few { count_of (one_items (V.value_of v.now) rptid self.now) ≤ most_vids }
+        ensures bounded { AreSmallValues (V.value_of v.now) → AreBounded 1 100 (one_items (V.value_of v.now) rptid self.now) }
+    {
+        push_values(alloc, self.vids_of(rptid), v, out)
     }
 }
 
@@ -74,4 +206,55 @@ fn silent_events(alloc: Global) -> Result<Vec<EventLine>, NoMemory>
         events.push(EventLine::silent(alloc, *ceid))?;
     }
     Ok(events)
+}
+
+// The same reports.
+fn copy_reports(alloc: Global, reports: &[Report]) -> Result<Vec<Report>, NoMemory>
+    ensures { IfOk result (λ copies. copies.items ≡ reports.now) }
+{
+    let mut copies = Vec::new(alloc);
+    for report in reports {
+        copies.push(report.clone()?)?;
+    }
+    Ok(copies)
+}
+
+// The same events.
+fn copy_events(alloc: Global, events: &[EventLine]) -> Result<Vec<EventLine>, NoMemory>
+    ensures { IfOk result (λ copies. copies.items ≡ events.now) }
+{
+    let mut copies = Vec::new(alloc);
+    for event in events {
+        copies.push(event.clone()?)?;
+    }
+    Ok(copies)
+}
+
+// Enables or disables the named events, or all.
+fn enable_lines(events: &mut [EventLine], on: bool, ceids: &[u32])
+    ensures { events.new ≡ map (with_enabled on ceids.now) events.old }
+{
+    for event in events {
+        event.enable(on, ceids);
+    }
+}
+
+// Adds the values of variables at the end.
+fn push_values<V: Values>(alloc: Global, vids: &[u32], v: &V, out: &mut Items) -> Result<(), NoMemory>
+    ensures { OnOk result (out.new ≡ joined out.old (value_items (V.value_of v.now) vids.now)) }
+{
+    for vid in vids {
+        out.push(value_or_none(alloc, v.value(alloc, *vid)?))?;
+    }
+    Ok(())
+}
+
+// The value of a variable, and an empty list where it has none.
+fn value_or_none(alloc: Global, value: Option<Item>) -> Item
+    ensures { view result ≡ unwrap_or (option_map view value) (list no_items) }
+{
+    match value {
+        Some(item) => item,
+        None => Item::List(Items::new(alloc)),
+    }
 }

@@ -1,0 +1,5 @@
+pub mod Counts
+pub mod Within
+pub mod Giving
+pub mod Small
+pub mod InTurn

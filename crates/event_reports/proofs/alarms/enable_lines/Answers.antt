@@ -1,0 +1,7 @@
+use Rattle.std.proofs.Common.{rules}
+use Rattle.std.proofs.lemmas.List.Edits.{map_over_more}
+use Rattle.event_reports.specs.Alarms.{line_enabled}
+use Rattle.event_reports.proofs.alarms.enable_lines.Goals as goal
+
+pub loop-line-preserved : goal.loop-line-preserved
+loop-line-preserved c = search (rules, map_over_more (line_enabled c.args.on c.args.alid))

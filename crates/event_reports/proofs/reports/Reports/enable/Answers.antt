@@ -1,0 +1,14 @@
+use Rattle.std.proofs.Common.{rules}
+use Rattle.std.proofs.lemmas.List.{with_items_is, places}
+use Rattle.event_reports.specs.Reports.{with_enabled}
+use Rattle.event_reports.proofs.Within.{map-within, enabled-within}
+use Rattle.event_reports.proofs.reports.Reports.enable.Goals as goal
+
+pub invariant_of-self : goal.invariant_of-self
+invariant_of-self c =
+    let same = with_items_is c.self.inside.events c.enable_lines.new.events (search (rules, places)) in
+    record {
+      count = c.self.invariant.count;
+      vids = c.self.invariant.vids;
+      links = rw (same, c.enable_lines.ensures, c.deref_mut.ensures.value) (map-within (with_enabled c.args.on c.args.ceids.now) (enabled-within c.args.on c.args.ceids.now) c.self.inside.events.items c.self.invariant.links);
+    }

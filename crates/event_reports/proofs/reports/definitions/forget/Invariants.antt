@@ -1,0 +1,7 @@
+use Rattle.std.proofs.Common.{◌≡◌, ◌++◌, map, take, drop}
+use Rattle.event_reports.specs.Reports.{link_without}
+use Rattle.event_reports.proofs.reports.definitions.forget.Given as goal
+
+abbrev pub invariant-loop-event : goal.invariant-loop-event
+invariant-loop-event l =
+    l.event-items ≡ map (link_without l.rptid) (take l.event-index l.initial.event-items) ++ drop l.event-index l.initial.event-items

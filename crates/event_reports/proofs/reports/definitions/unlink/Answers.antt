@@ -1,0 +1,7 @@
+use Rattle.std.proofs.Common.{rules}
+use Rattle.std.proofs.lemmas.List.Edits.{map_over_more}
+use Rattle.event_reports.specs.Reports.{unlinked}
+use Rattle.event_reports.proofs.reports.definitions.unlink.Goals as goal
+
+pub loop-event-preserved : goal.loop-event-preserved
+loop-event-preserved c = search (rules, map_over_more unlinked)

@@ -1,0 +1,94 @@
+//! To which reports events are linked (SEMI E5, S2F35).
+
+ghost use Rattle.std.specs.Prelude.{◌≡◌, ◌≤◌, length, map, IfOk, OnOk, OnErr};
+ghost use Rattle.std.specs.List.{list_all};
+ghost use Rattle.event_reports.specs.Limits.{most_linked};
+ghost use Rattle.event_reports.specs.Reports.{is_report, with_link, first_refusal, after_all, link_code, after_link, lrack, linked};
+
+use super::Reports;
+use crate::lines::EventLine;
+use gem_ids::Ids;
+use secs_items::NoMemory;
+use std::alloc::Global;
+
+// An event is linked to so many reports at most.
+const MOST_LINKED: usize = 16;
+
+impl Reports {
+    /// Links events to reports, each a CEID with its RPTIDs (SEMI E5, S2F35). They are taken in order, and each is judged
+    /// after those before it: an event without RPTIDs loses its link. The answer is LRACK: 4 for an unknown event, and,
+    /// where it has RPTIDs, 3 for an event that has a link, 5 for a report that is not defined, 1 past 16 reports, in
+    /// this order, of the first event that has such a fault; 0 where none has. With another answer than 0, and after
+    /// `NoMemory`, nothing has changed.
+    pub fn link(&mut self, alloc: Global, links: &[(u32, Ids)]) -> Result<u8, NoMemory>
+        ensures code { IfOk result (λ code. code ≡ lrack links.now self.old) }
+        ensures after { OnOk result (self.new ≡ linked links.now self.old) }
+        ensures no_memory { OnErr result (self.new ≡ self.old) }
+    {
+        let mut draft = self.copy(alloc)?;
+        let code = draft.link_in_turn(links)?;
+        if code == 0 {
+            *self = draft;
+        }
+        Ok(code)
+    }
+
+    // Links events in order, up to the first that is refused.
+    fn link_in_turn(&mut self, links: &[(u32, Ids)]) -> Result<u8, NoMemory>
+        ensures code { IfOk result (λ code. code ≡ first_refusal link_code after_link links.now self.old) }
+        ensures after { IfOk result (λ code. code ≡ 0 → self.new ≡ after_all after_link links.now self.old) }
+    {
+        for (ceid, rptids) in links {
+            let code = self.link_code(*ceid, rptids.as_slice());
+            if code != 0 {
+                return Ok(code);
+            }
+            self.take_link(*ceid, rptids)?;
+        }
+        Ok(0)
+    }
+
+    // The code of one link.
+    fn link_code(&self, ceid: u32, rptids: &[u32]) -> u8
+        ensures { result ≡ link_code (ceid, rptids.now) self.now }
+    {
+        if !self.is_event(ceid) {
+            4
+        } else if rptids.is_empty() {
+            0
+        } else if self.has_link(ceid) {
+            3
+        } else if !self.are_reports(rptids) {
+            5
+        } else if rptids.len() > MOST_LINKED {
+            1
+        } else {
+            0
+        }
+    }
+
+    // Whether all of these reports are defined.
+    fn are_reports(&self, rptids: &[u32]) -> bool
+        ensures { result ≡ list_all (λ rptid. is_report rptid self.now) rptids.now }
+    {
+        rptids.iter().all(|rptid| self.is_report(*rptid))
+    }
+
+    // Links an event, which is not refused.
+    fn take_link(&mut self, ceid: u32, rptids: &Ids) -> Result<(), NoMemory>
+        requires { length rptids.now ≤ most_linked }
+        ensures { OnOk result (self.new ≡ after_link (ceid, rptids.now) self.old) }
+    {
+        link_lines(&mut self.events, ceid, rptids)
+    }
+}
+
+// Links the event of this CEID.
+fn link_lines(events: &mut [EventLine], ceid: u32, rptids: &Ids) -> Result<(), NoMemory>
+    ensures { OnOk result (events.new ≡ map (with_link ceid rptids.now) events.old) }
+{
+    for event in events {
+        event.link(ceid, rptids)?;
+    }
+    Ok(())
+}

@@ -1,8 +1,8 @@
-//! Bodies of the messages of streams 1, 2 and 9 (SEMI E5; this tool's profile, messages): what the host's primaries say,
-//! what the tool's replies and its own primaries are written as, and whether an S1F14 accepts. Of the host's messages
-//! S1F1, S1F13, S1F15, S1F17, S2F17 and S2F31 are built. What a message does is left to the crates above, and so are
-//! headers, the W-bit and texts that are not one item. Begin with `read_gem`, which reads a primary, and `gem_item`,
-//! which gives the item of a reply.
+//! Bodies of the messages of streams 1, 2, 5, 6 and 9 (SEMI E5; this tool's profile, messages): what the host's
+//! primaries say, what the tool's replies and its own primaries are written as, and whether an S1F14 accepts. The
+//! messages on the spool, S2F43 and S6F23, are not built. What a message does is left to the crates above, and so are
+//! headers, the W-bit and texts that are not one item; values, constants and reports come to a reply as items that those
+//! crates made. Begin with `read_gem`, which reads a primary, and `gem_item`, which gives the item of a reply.
 #![tactic(auto)]
 
 mod acknowledge;

@@ -8,7 +8,7 @@ ghost use Rattle.secs_items.specs.Sendable.{IsSendable};
 ghost use Rattle.secs_items.specs.View.{view, items_of};
 ghost use Rattle.secs_items.specs.Weight.{IsBounded};
 ghost use Rattle.msgs_gem.specs.Replies.{A, B, U4, U8, alarm as alarm_data, alarm_code as alarm_code_data, alarm_part, code as code_data, each, event as event_data, identity, parameter_acknowledge, reply_body, variable_name};
-ghost use Rattle.msgs_gem.specs.Sendable.{HasSendableParts};
+ghost use Rattle.msgs_gem.specs.Sendable.{AreFew, HasSendableParts};
 
 use gem_ids::{Listed, Text80};
 use secs_items::{Bytes, Item, Items, NoMemory, U32s, U64s};
@@ -119,8 +119,14 @@ pub enum GemReply {
     S9F11(Bytes),
 }
 
-/// The item that is the text of the reply, as it is printed (this tool's profile, messages). It can be encoded where the
-/// parts of the reply can: the bytes of each A are at most 127, and each A and B has fewer than 16,777,216 bytes.
+/// The item that is the text of the reply, as it is printed (this tool's profile, messages).
+///
+/// It can be encoded, and takes at most 1,073,741,824 bytes, where the parts of the reply are within their bounds. The
+/// characters of MDLN, SOFTREV and the time are at most 127; these and a header have fewer than 16,777,216 bytes. Of
+/// values there are at most 1,024, each of at most 100 bytes with lists at most 1 deep; of constants 1,024, of 2,300
+/// bytes and 2 deep; of reports 16, of 6,600 bytes and 3 deep. Of names and alarms there are at most 1,024, and of
+/// parameters fewer than 100,000.
+#[tactic(auto, using(crate::proofs::Bounds::short_text))]
 pub fn gem_item(alloc: Global, reply: &GemReply) -> Result<Item, NoMemory>
     ensures exact { IfOk result (λ item. view item ≡ reply_body reply.now) }
     ensures sendable { HasSendableParts reply.now → IfOk result (λ item. IsSendable (view item)) }
@@ -130,6 +136,7 @@ pub fn gem_item(alloc: Global, reply: &GemReply) -> Result<Item, NoMemory>
 }
 
 // The same, within bounds.
+#[tactic(auto, using(crate::proofs::Bounds::values_bounded, crate::proofs::Bounds::constants_bounded))]
 fn item_of(alloc: Global, reply: &GemReply) -> Result<Item, NoMemory>
     ensures exact { IfOk result (λ item. view item ≡ reply_body reply.now) }
     ensures bounded { HasSendableParts reply.now → IfOk result (λ item. IsBounded 5 (2 ^ 30) (view item)) }
@@ -243,7 +250,8 @@ fn alarm_code(alloc: Global, alcd: Option<u8>) -> Result<Item, NoMemory>
 
 // An event and its reports.
 fn event(alloc: Global, note: u64, ceid: u32, reports: &Items) -> Result<Item, NoMemory>
-    ensures { IfOk result (λ item. view item ≡ event_data note ceid reports.now) }
+    ensures exact { IfOk result (λ item. view item ≡ event_data note ceid reports.now) }
+    ensures bounded { AreFew 16 3 6600 reports.now → IfOk result (λ item. IsBounded 5 (2 ^ 30) (view item)) }
 {
     list(
         alloc,

@@ -1,7 +1,4 @@
 pub mod Counts
-pub mod Views
-pub mod Firing
-pub mod ShortReply
 pub mod Verdicts
 pub mod Steps
 pub mod CoreView

@@ -15,11 +15,9 @@ ghost use Rattle.gem_model.specs.Verdict.{header_of, is_too_long, item_of, wants
 ghost use Rattle.gem_model.specs.Act.{clock_set, written, replied, taken, closed_by, data_done};
 ghost use Rattle.transactions.specs.Endings.{answered};
 ghost use Rattle.tool_core.specs.Verdicts.{verdict_view, HasNext};
-ghost use Rattle.tool_core.specs.ShortReply.{IsShort};
+ghost use Rattle.core_state.specs.ShortReply.{IsShort};
 
-use crate::frames::reply_text;
-use crate::plant::Plant;
-use crate::rows::part;
+use core_state::{Plant, part, reply_text};
 use gem_ids::{Moment, moment_of, time16};
 use gem_states::{Comm, CommTrigger, Control, ControlTrigger};
 use hsms_frame::{Arrival, Bytes, Header};
@@ -166,230 +164,213 @@ fn moment_in(text: &[u8]) -> Option<Moment>
     }
 }
 
-impl Plant {
-    /// What the tool tells of itself.
-    fn identity(&self, alloc: Global) -> Result<Identity, AllocError>
-        ensures identity { IfOk result (λ tool. tool ≡ record { mdln = self.now.config.mdln; softrev = self.now.config.softrev }) }
-        ensures mdln { IfOk result (λ tool. IsText tool.mdln) }
-        ensures softrev { IfOk result (λ tool. IsText tool.softrev) }
-    {
-        Ok(Identity {
-            mdln: part(alloc, self.config.mdln)?,
-            softrev: part(alloc, self.config.softrev)?,
-        })
-    }
+/// What the tool tells of itself.
+fn identity(plant: &Plant, alloc: Global) -> Result<Identity, AllocError>
+    ensures identity { IfOk result (λ tool. tool ≡ record { mdln = plant.now.config.mdln; softrev = plant.now.config.softrev }) }
+    ensures mdln { IfOk result (λ tool. IsText tool.mdln) }
+    ensures softrev { IfOk result (λ tool. IsText tool.softrev) }
+{
+    Ok(Identity {
+        mdln: part(alloc, plant.config().mdln)?,
+        softrev: part(alloc, plant.config().softrev)?,
+    })
+}
 
-    /// The text of the time that the host's clock shows.
-    fn time_text(&self, alloc: Global) -> Result<secs_items::Bytes, AllocError>
-        ensures digits { IfOk result (λ text. text ≡ time_digits (clock_now self.now)) }
-        ensures text { IfOk result IsText }
-    {
-        let digits = time16(self.clock_now());
-        Ok(secs_items::Bytes::from_vec(Vec::from_slice(alloc, &digits)?))
-    }
+/// The text of the time that the host's clock shows.
+fn time_text(plant: &Plant, alloc: Global) -> Result<secs_items::Bytes, AllocError>
+    ensures digits { IfOk result (λ text. text ≡ time_digits (clock_now plant.now)) }
+    ensures text { IfOk result IsText }
+{
+    let digits = time16(plant.clock_now());
+    Ok(secs_items::Bytes::from_vec(Vec::from_slice(alloc, &digits)?))
+}
 
-    /// What a message is answered.
-    fn reply_to(&self, alloc: Global, message: &GemMsg) -> Result<GemReply, AllocError>
-        ensures reply { IfOk result (λ reply. reply ≡ reply_to self.now message.now) }
-        ensures short { IfOk result IsShort }
-    {
-        match message {
-            GemMsg::S1F1 => {
-                let Identity { mdln, softrev } = self.identity(alloc)?;
-                Ok(GemReply::S1F2(mdln, softrev))
-            }
-            GemMsg::S1F13 => Ok(GemReply::S1F14(self.identity(alloc)?)),
-            GemMsg::S1F15 => Ok(GemReply::S1F16),
-            GemMsg::S1F17 => Ok(GemReply::S1F18(onlack(self.control))),
-            GemMsg::S2F17 => Ok(GemReply::S2F18(self.time_text(alloc)?)),
-            GemMsg::S2F31(text) => Ok(GemReply::S2F32(tiack(text.as_slice()))),
+/// What a message is answered.
+fn reply_to(plant: &Plant, alloc: Global, message: &GemMsg) -> Result<GemReply, AllocError>
+    ensures reply { IfOk result (λ reply. reply ≡ reply_to plant.now message.now) }
+    ensures short { IfOk result IsShort }
+{
+    match message {
+        GemMsg::S1F1 => {
+            let Identity { mdln, softrev } = identity(plant, alloc)?;
+            Ok(GemReply::S1F2(mdln, softrev))
         }
+        GemMsg::S1F13 => Ok(GemReply::S1F14(identity(plant, alloc)?)),
+        GemMsg::S1F15 => Ok(GemReply::S1F16),
+        GemMsg::S1F17 => Ok(GemReply::S1F18(onlack(plant.control()))),
+        GemMsg::S2F17 => Ok(GemReply::S2F18(time_text(plant, alloc)?)),
+        GemMsg::S2F31(text) => Ok(GemReply::S2F32(tiack(text.as_slice()))),
     }
+}
 
-    /// Whether a message may establish communication: S1F13, or S1F14 or S1F0 that answers the tool's S1F13.
-    fn may_establish(&self, header: &Header) -> bool
-        ensures { result ≡ may_establish self.now header.now }
-    {
-        is_message(1, 13, header) || self.answers_establish(header)
+/// Whether a message may establish communication: S1F13, or S1F14 or S1F0 that answers the tool's S1F13.
+fn may_establish(plant: &Plant, header: &Header) -> bool
+    ensures { result ≡ may_establish plant.now header.now }
+{
+    is_message(1, 13, header) || answers_establish(plant, header)
+}
+
+/// Whether a message answers the tool's S1F13.
+fn answers_establish(plant: &Plant, header: &Header) -> bool
+    ensures { result ≡ is_establish (answered header.now.system (stream_of header.now) (function_of header.now) plant.now.transactions.opened) }
+{
+    match plant.find_transaction(header.system, stream_of(header), header.byte3) {
+        Some(one) => matches!(one.what, What::Establish),
+        None => false,
     }
+}
 
-    /// Whether a message answers the tool's S1F13.
-    fn answers_establish(&self, header: &Header) -> bool
-        ensures { result ≡ is_establish (answered header.now.system (stream_of header.now) (function_of header.now) self.now.transactions.opened) }
-    {
-        match self
-            .transactions
-            .find(header.system, stream_of(header), header.byte3)
-        {
-            Some(one) => matches!(one.what, What::Establish),
-            None => false,
-        }
+/// What a data message does by the rules that come before it is read.
+fn first_rule(plant: &Plant, header: &Header, too_long: bool) -> Option<Verdict>
+    ensures verdict { option_map verdict_view result ≡ choose (first_rules plant.now header.now too_long) }
+    ensures next { IfSome result (HasNext header.now) }
+{
+    let communicating = plant.comm() == Comm::Communicating;
+    let online = matches!(plant.control(), Control::Local | Control::Remote);
+    if plant.comm() == Comm::Disabled {
+        Some(Verdict::Discarded)
+    } else if !communicating && !may_establish(plant, header) {
+        Some(Verdict::Discarded)
+    } else if header.session != plant.config().device {
+        Some(Verdict::Stream9(1))
+    } else if too_long {
+        Some(Verdict::Stream9(11))
+    } else if stream_of(header) == 9 {
+        Some(Verdict::Discarded)
+    } else if header.byte3 % 2 == 0 {
+        Some(Verdict::Answers)
+    } else if !online && !(is_message(1, 13, header) || is_message(1, 17, header)) {
+        Some(Verdict::Aborted)
+    } else {
+        None
     }
+}
 
-    /// What a data message does by the rules that come before it is read.
-    fn first_rule(&self, header: &Header, too_long: bool) -> Option<Verdict>
-        ensures verdict { option_map verdict_view result ≡ choose (first_rules self.now header.now too_long) }
-        ensures next { IfSome result (HasNext header.now) }
-    {
-        let communicating = self.comm == Comm::Communicating;
-        let online = matches!(self.control, Control::Local | Control::Remote);
-        if self.comm == Comm::Disabled {
-            Some(Verdict::Discarded)
-        } else if !communicating && !self.may_establish(header) {
-            Some(Verdict::Discarded)
-        } else if header.session != self.config.device {
-            Some(Verdict::Stream9(1))
-        } else if too_long {
-            Some(Verdict::Stream9(11))
-        } else if stream_of(header) == 9 {
-            Some(Verdict::Discarded)
-        } else if header.byte3 % 2 == 0 {
-            Some(Verdict::Answers)
-        } else if !online && !(is_message(1, 13, header) || is_message(1, 17, header)) {
-            Some(Verdict::Aborted)
-        } else {
-            None
-        }
+/// What a data message does.
+fn verdict(plant: &Plant, alloc: Global, arrival: &Arrival) -> Result<Verdict, AllocError>
+    ensures verdict { IfOk result (λ v. verdict_view v ≡ verdict plant.now arrival.now) }
+    ensures next { IfOk result (HasNext (header_of arrival.now)) }
+{
+    let header = header_of(arrival);
+    match first_rule(plant, &header, is_too_long(arrival)) {
+        Some(verdict) => Ok(verdict),
+        None => read_message(alloc, &header, arrival),
     }
+}
 
-    /// What a data message does.
-    fn verdict(&self, alloc: Global, arrival: &Arrival) -> Result<Verdict, AllocError>
-        ensures verdict { IfOk result (λ v. verdict_view v ≡ verdict self.now arrival.now) }
-        ensures next { IfOk result (HasNext (header_of arrival.now)) }
-    {
-        let header = header_of(arrival);
-        match self.first_rule(&header, is_too_long(arrival)) {
-            Some(verdict) => Ok(verdict),
-            None => read_message(alloc, &header, arrival),
-        }
+/// What a message writes: S2F31 sets the clock.
+fn write(plant: &mut Plant, message: &GemMsg)
+    ensures { plant.new ≡ written message.now plant.old }
+{
+    if let GemMsg::S2F31(text) = message {
+        plant.set_clock(moment_in(text.as_slice()));
     }
+}
 
-    /// The host's clock is set to this moment, where there is one.
-    fn set_clock(&mut self, shown: Option<Moment>)
-        ensures { self.new ≡ clock_set (option_map (λ m. m.0) shown) self.old }
-    {
-        if let Some(shown) = shown {
-            self.shown = shown;
-            self.shown_at = self.moment;
-        }
+/// The text of what a message is answered.
+fn reply_text_to(plant: &Plant, alloc: Global, message: &GemMsg) -> Result<Bytes, AllocError>
+    ensures text { IfOk result (λ text. text ≡ plain (reply_body (reply_to plant.now message.now))) }
+    ensures short { IfOk result (λ text. length text ≤ 200) }
+{
+    let reply = reply_to(plant, alloc, message)?;
+    reply_text(alloc, &reply)
+}
+
+/// A message that is taken is answered, where a reply is wanted.
+fn answer(plant: &mut Plant, alloc: Global, header: &Header, message: &GemMsg) -> Result<(), AllocError>
+    requires { function_of header.now < 255 }
+    ensures { OnOk result (plant.new ≡ replied header.now (function_of header.now + 1) (plain (reply_body (reply_to plant.old message.now))) plant.old) }
+{
+    if !wants_reply(header) {
+        return Ok(());
     }
+    let text = reply_text_to(plant, alloc, message)?;
+    plant.reply(
+        alloc,
+        stream_of(header),
+        header.byte3 + 1,
+        header.system,
+        text,
+    )
+}
 
-    /// What a message writes: S2F31 sets the clock.
-    fn write(&mut self, message: &GemMsg)
-        ensures { self.new ≡ written message.now self.old }
-    {
-        if let GemMsg::S2F31(text) = message {
-            self.set_clock(moment_in(text.as_slice()));
-        }
+/// The direct rows of a message that is taken.
+fn message_rows(plant: &mut Plant, alloc: Global, message: &GemMsg) -> Result<(), AllocError>
+    ensures { OnOk result (plant.new ≡ fires (message_rows message.now) plant.old) }
+{
+    match message {
+        GemMsg::S1F13 => plant.by_comm(alloc, CommTrigger::HostS1F13),
+        GemMsg::S1F15 => plant.by_control(alloc, ControlTrigger::HostS1F15),
+        GemMsg::S1F17 => plant.by_control(alloc, ControlTrigger::HostS1F17),
+        GemMsg::S1F1 | GemMsg::S2F17 | GemMsg::S2F31(_) => Ok(()),
     }
+}
 
-    /// The text of what a message is answered.
-    fn reply_text_to(&self, alloc: Global, message: &GemMsg) -> Result<Bytes, AllocError>
-        ensures text { IfOk result (λ text. text ≡ plain (reply_body (reply_to self.now message.now))) }
-        ensures short { IfOk result (λ text. length text ≤ 200) }
-    {
-        let reply = self.reply_to(alloc, message)?;
-        reply_text(alloc, &reply)
+/// A message is taken: its reply, what it writes, and its direct rows.
+fn take_message(
+    plant: &mut Plant,
+    alloc: Global,
+    header: &Header,
+    message: &GemMsg,
+) -> Result<(), AllocError>
+    requires { function_of header.now < 255 }
+    ensures { OnOk result (plant.new ≡ taken header.now message.now plant.old) }
+{
+    answer(plant, alloc, header, message)?;
+    write(plant, message);
+    message_rows(plant, alloc, message)
+}
+
+/// What an answer to the tool's S1F13 does.
+fn establish_answered(
+    plant: &mut Plant,
+    alloc: Global,
+    header: &Header,
+    arrival: &Arrival,
+) -> Result<(), AllocError>
+    ensures { OnOk result (plant.new ≡ fire_listed (by_comm (establish_answer (function_of header.now) (item_of arrival.now))) plant.old) }
+{
+    let trigger = establish_answer(alloc, header, arrival)?;
+    plant.by_comm(alloc, trigger)
+}
+
+/// The transaction that a message answers is closed, and its rows fire. Without one nothing changes.
+fn close(plant: &mut Plant, alloc: Global, header: &Header, arrival: &Arrival) -> Result<(), AllocError>
+    ensures { OnOk result (plant.new ≡ closed_by header.now (item_of arrival.now) (answered header.now.system (stream_of header.now) (function_of header.now) plant.old.transactions.opened) plant.old) }
+{
+    let answered = plant.answer_transaction(header.system, stream_of(header), header.byte3);
+    let Some(one) = answered else {
+        return Ok(());
+    };
+    match one.what {
+        What::Establish => establish_answered(plant, alloc, header, arrival),
+        What::Attempt if header.byte3 == 0 => plant.by_control(alloc, ControlTrigger::Failed),
+        What::Attempt => plant.by_control(alloc, ControlTrigger::HostS1F2),
+        What::Note(_) => Ok(()),
     }
+}
 
-    /// A message that is taken is answered, where a reply is wanted.
-    fn answer(&mut self, alloc: Global, header: &Header, message: &GemMsg) -> Result<(), AllocError>
-        requires { function_of header.now < 255 }
-        ensures { OnOk result (self.new ≡ replied header.now (function_of header.now + 1) (plain (reply_body (reply_to self.old message.now))) self.old) }
-    {
-        if !wants_reply(header) {
-            return Ok(());
-        }
-        let text = self.reply_text_to(alloc, message)?;
-        self.reply(
-            alloc,
-            stream_of(header),
-            header.byte3 + 1,
-            header.system,
-            text,
-        )
+/// Function 0 of the stream of a message, where a reply is wanted.
+fn abort(plant: &mut Plant, alloc: Global, header: &Header) -> Result<(), AllocError>
+    ensures { OnOk result (plant.new ≡ replied header.now 0 [] plant.old) }
+{
+    if !wants_reply(header) {
+        return Ok(());
     }
+    let text = Bytes::from_vec(Vec::new(alloc));
+    plant.reply(alloc, stream_of(header), 0, header.system, text)
+}
 
-    /// The direct rows of a message that is taken.
-    fn message_rows(&mut self, alloc: Global, message: &GemMsg) -> Result<(), AllocError>
-        ensures { OnOk result (self.new ≡ fires (message_rows message.now) self.old) }
-    {
-        match message {
-            GemMsg::S1F13 => self.by_comm(alloc, CommTrigger::HostS1F13),
-            GemMsg::S1F15 => self.by_control(alloc, ControlTrigger::HostS1F15),
-            GemMsg::S1F17 => self.by_control(alloc, ControlTrigger::HostS1F17),
-            GemMsg::S1F1 | GemMsg::S2F17 | GemMsg::S2F31(_) => Ok(()),
-        }
-    }
-
-    /// A message is taken: its reply, what it writes, and its direct rows.
-    fn take_message(
-        &mut self,
-        alloc: Global,
-        header: &Header,
-        message: &GemMsg,
-    ) -> Result<(), AllocError>
-        requires { function_of header.now < 255 }
-        ensures { OnOk result (self.new ≡ taken header.now message.now self.old) }
-    {
-        self.answer(alloc, header, message)?;
-        self.write(message);
-        self.message_rows(alloc, message)
-    }
-
-    /// What an answer to the tool's S1F13 does.
-    fn establish_answered(
-        &mut self,
-        alloc: Global,
-        header: &Header,
-        arrival: &Arrival,
-    ) -> Result<(), AllocError>
-        ensures { OnOk result (self.new ≡ fire_listed (by_comm (establish_answer (function_of header.now) (item_of arrival.now))) self.old) }
-    {
-        let trigger = establish_answer(alloc, header, arrival)?;
-        self.by_comm(alloc, trigger)
-    }
-
-    /// The transaction that a message answers is closed, and its rows fire. Without one nothing changes.
-    fn close(&mut self, alloc: Global, header: &Header, arrival: &Arrival) -> Result<(), AllocError>
-        ensures { OnOk result (self.new ≡ closed_by header.now (item_of arrival.now) (answered header.now.system (stream_of header.now) (function_of header.now) self.old.transactions.opened) self.old) }
-    {
-        let answered = self
-            .transactions
-            .answer(header.system, stream_of(header), header.byte3);
-        let Some(one) = answered else {
-            return Ok(());
-        };
-        match one.what {
-            What::Establish => self.establish_answered(alloc, header, arrival),
-            What::Attempt if header.byte3 == 0 => self.by_control(alloc, ControlTrigger::Failed),
-            What::Attempt => self.by_control(alloc, ControlTrigger::HostS1F2),
-            What::Note(_) => Ok(()),
-        }
-    }
-
-    /// Function 0 of the stream of a message, where a reply is wanted.
-    fn abort(&mut self, alloc: Global, header: &Header) -> Result<(), AllocError>
-        ensures { OnOk result (self.new ≡ replied header.now 0 [] self.old) }
-    {
-        if !wants_reply(header) {
-            return Ok(());
-        }
-        let text = Bytes::from_vec(Vec::new(alloc));
-        self.reply(alloc, stream_of(header), 0, header.system, text)
-    }
-
-    /// A data message of the host arrives.
-    pub fn data(&mut self, alloc: Global, arrival: &Arrival) -> Result<(), AllocError>
-        ensures { OnOk result (self.new ≡ data_done arrival.now self.old) }
-    {
-        let header = header_of(arrival);
-        match self.verdict(alloc, arrival)? {
-            Verdict::Discarded => Ok(()),
-            Verdict::Stream9(function) => self.send_stream9(alloc, function, header),
-            Verdict::Aborted => self.abort(alloc, &header),
-            Verdict::Answers => self.close(alloc, &header, arrival),
-            Verdict::Taken(message) => self.take_message(alloc, &header, &message),
-        }
+/// A data message of the host arrives.
+pub fn data(plant: &mut Plant, alloc: Global, arrival: &Arrival) -> Result<(), AllocError>
+    ensures { OnOk result (plant.new ≡ data_done arrival.now plant.old) }
+{
+    let header = header_of(arrival);
+    match verdict(plant, alloc, arrival)? {
+        Verdict::Discarded => Ok(()),
+        Verdict::Stream9(function) => plant.send_stream9(alloc, function, header),
+        Verdict::Aborted => abort(plant, alloc, &header),
+        Verdict::Answers => close(plant, alloc, &header, arrival),
+        Verdict::Taken(message) => take_message(plant, alloc, &header, &message),
     }
 }

@@ -1,4 +1,5 @@
-//! The core of the tool: it takes events one at a time, answers each as the tables say, and keeps the history.
+//! The core of the tool: it takes events one at a time, answers each as the tables say, and keeps the history. What the
+//! tool is at a moment is the `Plant` of `core_state`; what each event does to it stands here.
 //!
 //! The same events give the same history: the core reads no clock, no file and no link. Moments are handed in, and
 //! frames are handed out when the writer takes them. Begin with `Core::open`, then `Core::apply`.
@@ -12,11 +13,7 @@ mod clock;
 mod counts;
 mod data;
 mod entries;
-mod frames;
-mod plant;
 mod react;
-mod rows;
-mod sending;
 mod tool;
 
 pub use counts::SessionCounts;

@@ -17,7 +17,8 @@ ghost use Rattle.tool_core.specs.Counts.{count_of, taker};
 
 use crate::counts::SessionCounts;
 use crate::entries::Entries;
-use crate::plant::Plant;
+use crate::react::{must_wait, react};
+use core_state::Plant;
 use gem_ids::Moment;
 use hsms_frame::Arrival;
 use std::alloc::{AllocError, Global};
@@ -211,7 +212,7 @@ impl Core {
         // The state keeps what is true of each state that a history leads to.
         ensures valid { Valid self.now.state }
     {
-        self.plant.must_wait(at, event)
+        must_wait(&self.plant, at, event)
     }
 
     /// Whether the history takes no event with so much text, in bytes, any more.
@@ -245,7 +246,7 @@ impl Core {
         ensures whole { posts.is_want result ≡ false → self.new.is_whole ≡ true }
     {
         // Asked first, so that want of memory is not told of an event that has to wait.
-        if self.plant.must_wait(at, &event) {
+        if must_wait(&self.plant, at, &event) {
             return Err(PostFault::Again);
         }
         let Ok(()) = self.entries.reserve(1) else {
@@ -260,7 +261,7 @@ impl Core {
         };
         // What an event that finds no memory leaves of the plant counts for nothing.
         self.is_whole = false;
-        let Ok(reacted) = self.plant.react(alloc, at, &event) else {
+        let Ok(reacted) = react(&mut self.plant, alloc, at, &event) else {
             return Err(PostFault::NoMemory);
         };
         let Some(reaction) = reacted else {

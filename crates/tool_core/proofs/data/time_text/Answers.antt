@@ -3,9 +3,9 @@ use Rattle.gem_ids.specs.Texts.{IsText}
 use Rattle.gem_ids.specs.Civil.{time_digits}
 use Rattle.gem_model.specs.State.{clock_now}
 use Rattle.tool_core.proofs.MomentTexts.{clock_text}
-use Rattle.tool_core.proofs.plant.Plant.time_text.Goals as goal
+use Rattle.tool_core.proofs.data.time_text.Goals as goal
 
 pub returns-clause-text : goal.returns-clause-text
 returns-clause-text c =
-    let same : c.from_vec.result ≡ time_digits (clock_now c.args.self.now) = search rules in
-    subst IsText (sym same) (clock_text c.args.self.now)
+    let same : c.from_vec.result ≡ time_digits (clock_now c.args.plant.now) = search rules in
+    subst IsText (sym same) (clock_text c.args.plant.now)

@@ -6,7 +6,7 @@ use Rattle.gem_model.specs.Ready.{least}
 use Rattle.gem_model.specs.Measure.{left}
 use Rattle.gem_model.specs.Settle.{settled}
 use Rattle.gem_model.proofs.Settling.{settled_none, settled_some, left_falls}
-use Rattle.tool_core.specs.Firing.{fire_first}
+use Rattle.core_state.specs.Firing.{fire_first}
 
 -- one firing more settles alike
 pub fired_settles : (g : State) (f : Option Firing) → least g ≡ f → settled (fire_first f g) ≡ settled g

@@ -10,7 +10,7 @@ use Rattle.msgs_gem.specs.declared.reply.GemReply.{GemReply}
 use Rattle.msgs_gem.specs.declared.reply.GemReply.TheVariants as reply
 use Rattle.msgs_gem.specs.Replies.{reply_body, identity}
 use Rattle.msgs_gem.specs.Sendable.{HasSendableParts, AreCharacters}
-use Rattle.tool_core.specs.ShortReply.{IsShort}
+use Rattle.core_state.specs.ShortReply.{IsShort}
 
 characters : (text : List ℕ) → IsText text → AreCharacters text
 characters text is = (omega (arith, is.0), λ k d less. let byte = is.1 k d less in omega (arith, byte.1))

@@ -1,8 +1,8 @@
 use Rattle.std.proofs.Common.{refl, ap, ◌∙◌}
 use Rattle.gem_model.specs.Ready.{least}
 use Rattle.gem_model.specs.Settle.{settled}
-use Rattle.tool_core.proofs.Firings.{fired_settles}
-use Rattle.tool_core.proofs.plant.Plant.follow.Goals as goal
+use Rattle.core_state.proofs.Firings.{fired_settles}
+use Rattle.core_state.proofs.plant.Plant.follow.Goals as goal
 
 pub loop-preserved : goal.loop-preserved
 loop-preserved c =

@@ -1,16 +1,16 @@
-//! The plant: what the tool is.
-ghost use Rattle.std.specs.Prelude.{◌≡◌, ◌≤◌, ◌<◌, ◌↔◌, length, IsTrue, IfOk, OnOk, true, Some, None, if◌then◌else◌};
+//! The plant: what the tool is, what it says of itself, and its small changes.
+ghost use Rattle.std.specs.Prelude.{◌≡◌, ◌≤◌, ◌<◌, ◌↔◌, length, slice_get, drop, option_map, IsTrue, IfOk, OnOk, true, Some, None, if◌then◌else◌};
 ghost use Rattle.gem_ids.specs.Moments.{last_moment};
 ghost use Rattle.tool_events.specs.Configs.{IsConfig};
 ghost use Rattle.transactions.specs.Table.{none_open};
-ghost use Rattle.gem_model.specs.State.{opening, first_comm, first_control, first_switch, times_of, is_up, is_session_up, is_selected, is_communicating, can_ask, clock_now, raised, with_frame, none_asked};
-ghost use Rattle.gem_model.specs.Due.{link_times};
-ghost use Rattle.tool_core.specs.Views.{times_view};
+ghost use Rattle.gem_model.specs.State.{opening, first_comm, first_control, first_switch, times_of, is_up, is_session_up, is_selected, can_ask, clock_now, raised, with_frame};
+ghost use Rattle.gem_model.specs.Act.{clock_set};
+ghost use Rattle.core_state.specs.Views.{times_view};
 
 use gem_ids::Moment;
 use gem_states::{Comm, Control};
 use hsms_frame::Bytes;
-use hsms_link::{LinkState, LinkTimes, Phase, Ping};
+use hsms_link::{LinkState, Phase, Ping};
 use std::alloc::{AllocError, Global};
 use std::collections::VecDeque;
 use std::marker::Model;
@@ -19,12 +19,12 @@ use transactions::Transactions;
 
 /// Times that the host may change, in hundredths of a second.
 #[derive(Clone, Copy, Debug, PartialEq, Eq)]
-pub struct Times {
-    pub t3: u32,
-    pub t6: u32,
-    pub t7: u32,
-    pub establish: u32,
-    pub linktest: u32,
+pub(crate) struct Times {
+    pub(crate) t3: u32,
+    pub(crate) t6: u32,
+    pub(crate) t7: u32,
+    pub(crate) establish: u32,
+    pub(crate) linktest: u32,
 }
 
 /// What the tool is. Contracts see it as the state of the tables.
@@ -49,7 +49,7 @@ impl Model for Plant {
     ghost use Rattle.std.specs.Prelude.{◌≤◌};
     ghost use Rattle.gem_ids.specs.Moments.{last_moment};
     ghost use Rattle.gem_model.specs.State.{State};
-    ghost use Rattle.tool_core.specs.Views.{times_view};
+    ghost use Rattle.core_state.specs.Views.{times_view};
 
     ghost Value = { State };
 
@@ -114,7 +114,8 @@ fn times_of(config: &Config) -> Times
 }
 
 impl Plant {
-    /// The first state.
+    /// The first state under a configuration that keeps its bounds (docs/profile/configuration.md). `AllocError`: there
+    /// is no room for the transactions that can be open.
     pub fn open(alloc: Global, config: &Config) -> Result<Plant, AllocError>
         requires { IsConfig config.now }
         ensures { IfOk result (λ plant. plant ≡ opening config.now) }
@@ -139,6 +140,36 @@ impl Plant {
         })
     }
 
+    /// The configuration, which never changes.
+    pub fn config(&self) -> &Config
+        ensures { result.now ≡ self.now.config }
+    {
+        &self.config
+    }
+
+    /// The greatest moment that was given, at most the last.
+    pub fn moment(&self) -> Moment
+        ensures moment { result.0 ≡ self.now.moment }
+        ensures last { result.0 ≤ last_moment }
+    {
+        self.moment
+    }
+
+    /// The clock that the host sees (docs/profile/time.md).
+    pub fn clock_now(&self) -> Moment
+        ensures { result.0 ≡ clock_now self.now }
+    {
+        let passed = self.moment.0.saturating_sub(self.shown_at.0);
+        Moment(self.shown.0.saturating_add(passed).min(Moment::LAST.0))
+    }
+
+    /// Whether the operator ended the run.
+    pub fn is_quitting(&self) -> bool
+        ensures { result ≡ self.now.quitting }
+    {
+        self.quitting
+    }
+
     /// Whether a session is up.
     pub fn is_up(&self) -> bool
         ensures { result ≡ is_up self.now }
@@ -160,25 +191,39 @@ impl Plant {
         self.is_up().then_some(self.link.session)
     }
 
-    /// How many sessions came.
+    /// How many sessions came, which is the number of the last. They are numbered from 1.
     pub fn session_count(&self) -> u64
         ensures { result ≡ self.now.link.session }
     {
         self.link.session
     }
 
-    /// Whether a frame waits.
-    pub fn has_waiting(&self) -> bool
-        ensures { IsTrue result ↔ (0 < length self.now.waiting) }
-    {
-        !self.waiting.is_empty()
-    }
-
-    /// Whether the link is selected.
+    /// Whether the link is selected (SEMI E37).
     pub fn is_selected(&self) -> bool
         ensures { result ≡ is_selected self.now }
     {
         self.link.phase == Phase::Selected
+    }
+
+    /// The state of communication (SEMI E30).
+    pub fn comm(&self) -> Comm
+        ensures { result ≡ self.now.comm }
+    {
+        self.comm
+    }
+
+    /// The state of control (SEMI E30).
+    pub fn control(&self) -> Control
+        ensures { result ≡ self.now.control }
+    {
+        self.control
+    }
+
+    /// Whether the operator's switch stands at local, and else at remote.
+    pub fn switch_local(&self) -> bool
+        ensures { result ≡ self.now.switch_local }
+    {
+        self.switch_local
     }
 
     /// Whether the tool can ask the host: they communicate, and the link is selected.
@@ -188,23 +233,11 @@ impl Plant {
         self.comm == Comm::Communicating && self.is_selected()
     }
 
-    /// The clock that the host sees.
-    pub fn clock_now(&self) -> Moment
-        ensures { result.0 ≡ clock_now self.now }
+    /// Whether a frame waits for the writer.
+    pub fn has_waiting(&self) -> bool
+        ensures { IsTrue result ↔ (0 < length self.now.waiting) }
     {
-        let passed = self.moment.0.saturating_sub(self.shown_at.0);
-        Moment(self.shown.0.saturating_add(passed).min(Moment::LAST.0))
-    }
-
-    /// The times of the link.
-    pub fn link_times(&self) -> LinkTimes
-        ensures { result ≡ link_times self.now.times }
-    {
-        LinkTimes {
-            t6: self.times.t6,
-            t7: self.times.t7,
-            period: self.times.linktest,
-        }
+        !self.waiting.is_empty()
     }
 
     /// The moment of a step that is given this one.
@@ -214,18 +247,50 @@ impl Plant {
         Moment(self.moment.0.max(at.0).min(Moment::LAST.0))
     }
 
-    /// Raises the moment to the given one, where that is greater.
+    /// Raises the moment to the given one, where that is greater, at most to the last.
     pub fn raise(&mut self, at: Moment)
         ensures { self.new ≡ raised self.old at.0 }
     {
         self.moment = self.raised(at);
     }
 
-    /// A frame waits behind the others.
+    /// The clock that the host sees is set to this moment, where there is one (SEMI E5, S2F31).
+    pub fn set_clock(&mut self, shown: Option<Moment>)
+        ensures { self.new ≡ clock_set (option_map (λ m. m.0) shown) self.old }
+    {
+        if let Some(shown) = shown {
+            self.shown = shown;
+            self.shown_at = self.moment;
+        }
+    }
+
+    /// The operator's switch is set to local, or else to remote. No row fires yet.
+    pub fn set_switch(&mut self, local: bool)
+        ensures { self.new ≡ record self.old { switch_local = local } }
+    {
+        self.switch_local = local;
+    }
+
+    /// The operator ends the run. A session that is up stays: the caller ends it.
+    pub fn quit(&mut self)
+        ensures { self.new ≡ record self.old { quitting = true } }
+    {
+        self.quitting = true;
+    }
+
+    /// A frame waits for the writer, behind the others.
     pub fn put(&mut self, frame: Bytes) -> Result<(), AllocError>
         ensures { OnOk result (self.new ≡ with_frame frame self.old) }
     {
         self.waiting.push_back(frame)?;
         Ok(())
+    }
+
+    /// The oldest frame that waits leaves. `None`: none waits.
+    pub fn take_frame(&mut self) -> Option<Bytes>
+        ensures frame { result ≡ slice_get self.old.waiting 0 }
+        ensures after { self.new ≡ record self.old { waiting = drop 1 self.old.waiting } }
+    {
+        self.waiting.pop_front()
     }
 }

@@ -1,6 +1,6 @@
 -- What the code's records are in the model.
 use Rattle.gem_model.specs.State as model
-use Rattle.tool_core.specs.declared.plant.Times.{Times}
+use Rattle.core_state.specs.declared.plant.Times.{Times}
 
 -- the times of the model
 abbrev pub times_view : Times → model.Times

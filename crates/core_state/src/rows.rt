@@ -3,18 +3,19 @@ ghost use Rattle.std.specs.Prelude.{◌≡◌, ◌+◌, ◌≤◌, ◌<◌, leng
 ghost use Rattle.gem_ids.specs.Texts.{IsText};
 ghost use Rattle.gem_tables.specs.Table.{first_starting};
 ghost use Rattle.gem_states.specs.Meaning.{comm_rows, control_rows};
-ghost use Rattle.gem_model.specs.State.{State, none_asked};
+ghost use Rattle.gem_model.specs.State.{State};
 ghost use Rattle.gem_model.specs.Sending.{identity_text};
-ghost use Rattle.gem_model.specs.Fire.{fire_comm, comm_effect, fire_control, control_effect, forgets, fire_listed, fires};
+ghost use Rattle.gem_model.specs.Fire.{fire_comm, comm_effect, fire_control, control_effect, fire_listed, fires};
 ghost use Rattle.gem_model.specs.Direct.{by_comm, by_control, session_end_rows};
 ghost use Rattle.gem_model.specs.Ready.{delay_is_over, least};
+ghost use Rattle.gem_model.specs.Due.{delay_has_come};
 ghost use Rattle.gem_model.specs.Settle.{settled};
 ghost use Rattle.gem_model.specs.Act.{session_ended};
-ghost use Rattle.tool_core.specs.Firing.{fire_first};
+ghost use Rattle.core_state.specs.Firing.{fire_first};
 
 use crate::frames::reply_text;
 use crate::plant::Plant;
-use gem_ids::Text80;
+use gem_ids::{Moment, Text80};
 use gem_states::{Comm, CommTrigger, Control, ControlTrigger};
 use hsms_frame::Bytes;
 use msgs_gem::GemReply;
@@ -22,7 +23,7 @@ use std::alloc::{AllocError, Global};
 use tool_events::Config;
 use transactions::What;
 
-/// The bytes of a text, as a part of an item.
+/// The bytes of a text, as a part of a reply.
 pub fn part(alloc: Global, text: Text80) -> Result<secs_items::Bytes, AllocError>
     ensures bytes { IfOk result (λ bytes. bytes ≡ text) }
     ensures text { IfOk result IsText }
@@ -41,20 +42,6 @@ fn identity_text(alloc: Global, config: &Config) -> Result<Bytes, AllocError>
 }
 
 impl Plant {
-    /// The transaction of this kind is open no more.
-    fn forget(&mut self, what: What)
-        ensures { self.new ≡ forgets what self.old }
-    {
-        self.transactions.forget(what);
-    }
-
-    /// No transaction is open any more.
-    pub fn close_all(&mut self)
-        ensures { self.new ≡ none_asked self.old }
-    {
-        self.transactions.close_all();
-    }
-
     /// What a row of communication does besides its state.
     fn comm_effect(&mut self, alloc: Global, row: u8) -> Result<(), AllocError>
         ensures { OnOk result (self.new ≡ comm_effect row self.old) }
@@ -132,7 +119,7 @@ impl Plant {
     pub fn end_session(&mut self, alloc: Global) -> Result<(), AllocError>
         ensures { OnOk result (self.new ≡ session_ended self.old) }
     {
-        let attempted = self.transactions.is_open(What::Attempt);
+        let attempted = self.is_attempting();
         self.close_all();
         self.link.down();
         self.waiting.clear();
@@ -149,6 +136,17 @@ impl Plant {
     {
         match self.comm {
             Comm::WaitDelay { until } => until <= self.moment.0,
+            _ => false,
+        }
+    }
+
+    /// Whether communication is in WAIT DELAY, and the delay has come to its end at this moment. An end past the last
+    /// moment never comes.
+    pub fn delay_has_come(&self, at: Moment) -> bool
+        ensures { result ≡ delay_has_come at.0 self.now.comm }
+    {
+        match self.comm {
+            Comm::WaitDelay { until } => until <= at.0 && until <= Moment::LAST.0,
             _ => false,
         }
     }

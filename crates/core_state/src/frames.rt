@@ -3,7 +3,7 @@ ghost use Rattle.std.specs.Prelude.{◌≡◌, ◌≤◌, length, [], IfOk};
 ghost use Rattle.secs_items.specs.View.{view};
 ghost use Rattle.hsms_frame.specs.Spelling.{message_bytes, header_bytes};
 ghost use Rattle.msgs_gem.specs.Replies.{reply_body, B};
-ghost use Rattle.tool_core.specs.ShortReply.{IsShort};
+ghost use Rattle.core_state.specs.ShortReply.{IsShort};
 ghost use Rattle.gem_model.specs.Sending.{data_header, data_frame, identity_text, stream9_text};
 ghost use Rattle.secs_items.specs.Plain.{plain};
 ghost use Rattle.secs_items.specs.Sendable.{IsSendable};

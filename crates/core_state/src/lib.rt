@@ -1,0 +1,21 @@
+//! What the tool is at a moment, the rows that its tables fire, and the messages that it sends.
+//!
+//! It holds the link of the session with T6, T7 and the tool's linktest (SEMI E37), the states of communication and of
+//! control with the tool's transactions and T3 (SEMI E30), and the frames that wait for the writer. It takes no events
+//! and keeps no history, which is for `tool_core`: each call here is one change that an event may make. It reads no
+//! clock, no file and no link. Contracts see a `Plant` as the `State` of the definitions in `gem_model`.
+//!
+//! Memory may run out in each call that is handed an allocator; it answers `AllocError` then, and nothing is said of
+//! the plant after that. Begin with `Plant::open`.
+#![tactic(auto)]
+
+mod frames;
+mod link;
+mod open_transactions;
+mod plant;
+mod rows;
+mod sending;
+
+pub use frames::{data_header, header_frame, reply_text};
+pub use plant::Plant;
+pub use rows::part;

@@ -1,2 +1,1 @@
-pub mod ShortReplies
 pub mod Firings

@@ -1,9 +1,9 @@
 //! The frames that the tool sends.
-ghost use Rattle.std.specs.Prelude.{◌≡◌, ◌≤◌, length, [], IfOk};
+ghost use Rattle.std.specs.Prelude.{◌≡◌, ◌≤◌, ◌^◌, length, [], IfOk};
 ghost use Rattle.secs_items.specs.View.{view};
 ghost use Rattle.hsms_frame.specs.Spelling.{message_bytes, header_bytes};
 ghost use Rattle.msgs_gem.specs.Replies.{reply_body, B};
-ghost use Rattle.core_state.specs.ShortReply.{IsShort};
+ghost use Rattle.msgs_gem.specs.Sendable.{HasSendableParts};
 ghost use Rattle.gem_model.specs.Sending.{data_header, data_frame, identity_text, stream9_text};
 ghost use Rattle.secs_items.specs.Plain.{plain};
 ghost use Rattle.secs_items.specs.Sendable.{IsSendable};
@@ -38,7 +38,7 @@ pub fn data_header(device: u16, wants: bool, stream: u8, function: u8, system: u
 
 /// A data message of the tool.
 pub fn data_frame(alloc: Global, header: Header, text: Bytes) -> Result<Bytes, AllocError>
-    requires { length text ≤ 16777216 }
+    requires { length text ≤ 2 ^ 31 }
     ensures { IfOk result (λ frame. frame ≡ message_bytes header text) }
 {
     let mut frame = Vec::new(alloc);
@@ -56,12 +56,11 @@ fn text_of(alloc: Global, item: &Item) -> Result<Bytes, AllocError>
     Ok(Bytes::from_vec(text))
 }
 
-/// The text of a reply whose parts are short.
-#[tactic(auto, using(crate::proofs::ShortReplies::sendable_parts, crate::proofs::ShortReplies::short_text))]
+/// The text of a reply whose parts can be sent.
 pub fn reply_text(alloc: Global, reply: &GemReply) -> Result<Bytes, AllocError>
-    requires { IsShort reply.now }
+    requires { HasSendableParts reply.now }
     ensures text { IfOk result (λ text. text ≡ plain (reply_body reply.now)) }
-    ensures short { IfOk result (λ text. length text ≤ 200) }
+    ensures short { IfOk result (λ text. length text ≤ 2 ^ 31) }
 {
     let item = gem_item(alloc, reply)?;
     text_of(alloc, &item)

@@ -11,11 +11,16 @@
 
 mod frames;
 mod link;
+mod notes;
+mod noting;
 mod open_transactions;
 mod plant;
 mod rows;
 mod sending;
+mod values;
 
 pub use frames::{data_header, header_frame, reply_text};
+pub use noting::{RowFiring, alcd, text_of_alarm};
 pub use plant::Plant;
 pub use rows::part;
+pub use values::Showing;

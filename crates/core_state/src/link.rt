@@ -13,22 +13,27 @@ use gem_ids::Moment;
 use hsms_frame::Header;
 use hsms_link::{LinkAct, LinkDue, LinkTimes};
 
+// The constants that are times of the link, by their ECIDs.
+const T7: u32 = 205;
+const T6: u32 = 206;
+const LINKTEST_PERIOD: u32 = 207;
+
 impl Plant {
     /// The times of the link.
     fn link_times(&self) -> LinkTimes
-        ensures { result ≡ link_times self.now.times }
+        ensures { result ≡ link_times self.now }
     {
         LinkTimes {
-            t6: self.times.t6,
-            t7: self.times.t7,
-            period: self.times.linktest,
+            t6: self.constants.number(T6),
+            t7: self.constants.number(T7),
+            period: self.constants.number(LINKTEST_PERIOD),
         }
     }
 
     /// What is due on the link at this moment: its end by T7 or T6, or a linktest of the tool. `None`: no deadline of
     /// the link has come.
     pub fn link_due(&self, at: Moment) -> Option<LinkDue>
-        ensures { result ≡ due_at (link_times self.now.times) self.now.link at.0 }
+        ensures { result ≡ due_at (link_times self.now) self.now.link at.0 }
     {
         self.link.due(self.link_times(), at)
     }

@@ -3,29 +3,21 @@ ghost use Rattle.std.specs.Prelude.{◌≡◌, ◌≤◌, ◌<◌, ◌↔◌, le
 ghost use Rattle.gem_ids.specs.Moments.{last_moment};
 ghost use Rattle.tool_events.specs.Configs.{IsConfig};
 ghost use Rattle.transactions.specs.Table.{none_open};
-ghost use Rattle.gem_model.specs.State.{opening, first_comm, first_control, first_switch, times_of, is_up, is_session_up, is_selected, can_ask, clock_now, raised, with_frame};
+ghost use Rattle.gem_model.specs.State.{opening, first_comm, first_control, first_switch, first_constants, is_communicating, is_online, is_up, is_session_up, is_selected, can_ask, clock_now, raised, with_frame};
 ghost use Rattle.gem_model.specs.Act.{clock_set};
-ghost use Rattle.core_state.specs.Views.{times_view};
 
+use data_variables::{Constants, Val};
+use event_reports::{Alarms, Reports};
 use gem_ids::Moment;
 use gem_states::{Comm, Control};
 use hsms_frame::Bytes;
 use hsms_link::{LinkState, Phase, Ping};
+use note_line::NoteLine;
 use std::alloc::{AllocError, Global};
 use std::collections::VecDeque;
 use std::marker::Model;
 use tool_events::{CommStart, Config, ControlStart};
 use transactions::Transactions;
-
-/// Times that the host may change, in hundredths of a second.
-#[derive(Clone, Copy, Debug, PartialEq, Eq)]
-pub(crate) struct Times {
-    pub(crate) t3: u32,
-    pub(crate) t6: u32,
-    pub(crate) t7: u32,
-    pub(crate) establish: u32,
-    pub(crate) linktest: u32,
-}
 
 /// What the tool is. Contracts see it as the state of the tables.
 #[derive(Drop)]
@@ -41,15 +33,18 @@ pub struct Plant {
     pub(crate) control: Control,
     pub(crate) switch_local: bool,
     pub(crate) transactions: Transactions,
-    pub(crate) times: Times,
+    pub(crate) constants: Constants,
+    pub(crate) reports: Reports,
+    pub(crate) alarms: Alarms,
+    pub(crate) line: NoteLine,
     pub(crate) waiting: VecDeque<Bytes>,
 }
 
 impl Model for Plant {
-    ghost use Rattle.std.specs.Prelude.{◌≤◌};
+    ghost use Rattle.std.specs.Prelude.{◌≤◌, length};
     ghost use Rattle.gem_ids.specs.Moments.{last_moment};
+    ghost use Rattle.event_reports.specs.Limits.{most_alarms};
     ghost use Rattle.gem_model.specs.State.{State};
-    ghost use Rattle.core_state.specs.Views.{times_view};
 
     ghost Value = { State };
 
@@ -63,11 +58,14 @@ impl Model for Plant {
       control = p.control;
       switch_local = p.switch_local;
       transactions = p.transactions;
-      times = times_view p.times;
+      constants = p.constants;
+      reports = p.reports;
+      alarms = p.alarms;
+      line = p.line;
       waiting = p.waiting.items;
     } };
 
-    ghost invariant = { λ p. p.moment.0 ≤ last_moment };
+    ghost invariant = { λ p. (p.moment.0 ≤ last_moment) × (length p.alarms ≤ most_alarms) };
 }
 
 /// The first state of communication; in WAIT DELAY the delay is over.
@@ -100,22 +98,28 @@ fn first_switch(start: ControlStart) -> bool
     start == ControlStart::OnlineLocal
 }
 
-/// The times that a configuration gives.
-fn times_of(config: &Config) -> Times
-    ensures { times_view result ≡ times_of config.now }
+/// The constants that a configuration gives.
+fn first_constants(alloc: Global, config: &Config) -> Result<Constants, AllocError>
+    requires { IsConfig config.now }
+    ensures { IfOk result (λ constants. constants ≡ first_constants config.now) }
 {
-    Times {
-        t3: config.t3,
-        t6: config.t6,
-        t7: config.t7,
-        establish: config.establish,
-        linktest: config.linktest,
-    }
+    Constants::new(
+        alloc,
+        &[
+            (201, Val::Number(config.establish)),
+            (202, Val::Number(0)),
+            (203, Val::Truth(false)),
+            (204, Val::Number(config.t3)),
+            (205, Val::Number(config.t7)),
+            (206, Val::Number(config.t6)),
+            (207, Val::Number(config.linktest)),
+        ],
+    )
 }
 
 impl Plant {
     /// The first state under a configuration that keeps its bounds (docs/profile/configuration.md). `AllocError`: there
-    /// is no room for the transactions that can be open.
+    /// is no room for the transactions that can be open, or for what the host may set.
     pub fn open(alloc: Global, config: &Config) -> Result<Plant, AllocError>
         requires { IsConfig config.now }
         ensures { IfOk result (λ plant. plant ≡ opening config.now) }
@@ -135,7 +139,10 @@ impl Plant {
             control: first_control(config.control),
             switch_local: first_switch(config.control),
             transactions: Transactions::new(alloc)?,
-            times: times_of(config),
+            constants: first_constants(alloc, config)?,
+            reports: Reports::new(alloc, config.ports, config.chambers)?,
+            alarms: Alarms::new(alloc, config.ports, config.chambers)?,
+            line: NoteLine::new(alloc),
             waiting: VecDeque::new(alloc),
         })
     }
@@ -231,6 +238,20 @@ impl Plant {
         ensures { result ≡ can_ask self.now }
     {
         self.comm == Comm::Communicating && self.is_selected()
+    }
+
+    /// Whether host and tool communicate: COMMUNICATING (SEMI E30).
+    pub fn is_communicating(&self) -> bool
+        ensures { result ≡ is_communicating self.now.comm }
+    {
+        self.comm == Comm::Communicating
+    }
+
+    /// Whether control is ON-LINE, local or remote (SEMI E30).
+    pub fn is_online(&self) -> bool
+        ensures { result ≡ is_online self.now.control }
+    {
+        matches!(self.control, Control::Local | Control::Remote)
     }
 
     /// Whether a frame waits for the writer.

@@ -1,12 +1,13 @@
 //! The rows of the transition tables: what each does, which are ready, and settling.
-ghost use Rattle.std.specs.Prelude.{◌≡◌, ◌+◌, ◌≤◌, ◌<◌, length, [], OnOk, IfOk, is_some};
+ghost use Rattle.std.specs.Prelude.{◌≡◌, ◌+◌, ◌≤◌, ◌<◌, ◌^◌, ◌++◌, length, [], if◌then◌else◌, OnOk, IfOk, is_some};
 ghost use Rattle.gem_ids.specs.Texts.{IsText};
-ghost use Rattle.gem_tables.specs.Table.{first_starting};
+ghost use Rattle.gem_tables.specs.Table.{first_starting, firing};
+ghost use Rattle.gem_states.specs.declared.control.ControlTrigger.TheVariants as control;
 ghost use Rattle.gem_states.specs.Meaning.{comm_rows, control_rows};
 ghost use Rattle.gem_model.specs.State.{State};
 ghost use Rattle.gem_model.specs.Sending.{identity_text};
-ghost use Rattle.gem_model.specs.Fire.{fire_comm, comm_effect, fire_control, control_effect, fire_listed, fires};
-ghost use Rattle.gem_model.specs.Direct.{by_comm, by_control, session_end_rows};
+ghost use Rattle.gem_model.specs.Fire.{fire, fire_comm, comm_effect, fire_control, control_effect, fire_listed, fires};
+ghost use Rattle.gem_model.specs.Direct.{by_comm, by_control, note_fails, session_end_rows};
 ghost use Rattle.gem_model.specs.Ready.{delay_is_over, least};
 ghost use Rattle.gem_model.specs.Due.{delay_has_come};
 ghost use Rattle.gem_model.specs.Settle.{settled};
@@ -14,6 +15,7 @@ ghost use Rattle.gem_model.specs.Act.{session_ended};
 ghost use Rattle.core_state.specs.Firing.{fire_first};
 
 use crate::frames::reply_text;
+use crate::noting::RowFiring;
 use crate::plant::Plant;
 use gem_ids::{Moment, Text80};
 use gem_states::{Comm, CommTrigger, Control, ControlTrigger};
@@ -34,12 +36,19 @@ pub fn part(alloc: Global, text: Text80) -> Result<secs_items::Bytes, AllocError
 /// The text of S1F2 and S1F13: the model and the software revision.
 fn identity_text(alloc: Global, config: &Config) -> Result<Bytes, AllocError>
     ensures text { IfOk result (λ text. text ≡ identity_text config.now) }
-    ensures short { IfOk result (λ text. length text ≤ 200) }
+    ensures short { IfOk result (λ text. length text ≤ 2 ^ 31) }
 {
     let mdln = part(alloc, config.mdln)?;
     let softrev = part(alloc, config.softrev)?;
     reply_text(alloc, &GemReply::S1F13(mdln, softrev))
 }
+
+// The ECID of the time that the tool waits before it asks for communication again.
+const ESTABLISH_TIMEOUT: u32 = 201;
+
+// The numbers of the tables, as the definitions have them.
+const COMMUNICATION: u8 = 1;
+const CONTROL: u8 = 2;
 
 impl Plant {
     /// What a row of communication does besides its state.
@@ -58,12 +67,12 @@ impl Plant {
         Ok(())
     }
 
-    /// A row of communication fires.
+    /// The state and the effect of a row of communication.
     fn fire_comm(&mut self, alloc: Global, row: u8) -> Result<(), AllocError>
         ensures { OnOk result (self.new ≡ fire_comm row self.old) }
     {
         let until = if row == 5 {
-            self.moment.0 + u64::from(self.times.establish)
+            self.moment.0 + u64::from(self.constants.number(ESTABLISH_TIMEOUT))
         } else {
             0
         };
@@ -86,7 +95,7 @@ impl Plant {
         Ok(())
     }
 
-    /// A row of control fires.
+    /// The state and the effect of a row of control.
     fn fire_control(&mut self, alloc: Global, row: u8) -> Result<(), AllocError>
         ensures { OnOk result (self.new ≡ fire_control row self.old) }
     {
@@ -94,12 +103,30 @@ impl Plant {
         self.control_effect(alloc, row)
     }
 
+    /// A row of communication fires, and makes its note.
+    fn comm_row(&mut self, alloc: Global, row: u8) -> Result<(), AllocError>
+        ensures { OnOk result (self.new ≡ fire self.old (firing 1 0 row)) }
+    {
+        let online_before = self.is_online();
+        self.fire_comm(alloc, row)?;
+        self.note(alloc, RowFiring::unnamed(COMMUNICATION, row, online_before))
+    }
+
+    /// A row of control fires, and makes its note.
+    fn control_row(&mut self, alloc: Global, row: u8) -> Result<(), AllocError>
+        ensures { OnOk result (self.new ≡ fire self.old (firing 2 0 row)) }
+    {
+        let online_before = self.is_online();
+        self.fire_control(alloc, row)?;
+        self.note(alloc, RowFiring::unnamed(CONTROL, row, online_before))
+    }
+
     /// The direct row of communication that a trigger fires, if one starts at the present state.
     pub fn by_comm(&mut self, alloc: Global, trigger: CommTrigger) -> Result<(), AllocError>
         ensures { OnOk result (self.new ≡ fire_listed (by_comm trigger) self.old) }
     {
         match self.comm.row_for(trigger) {
-            Some(row) => self.fire_comm(alloc, row),
+            Some(row) => self.comm_row(alloc, row),
             None => Ok(()),
         }
     }
@@ -109,9 +136,21 @@ impl Plant {
         ensures { OnOk result (self.new ≡ fires (by_control trigger) self.old) }
     {
         match self.control.row_for(trigger, self.switch_local) {
-            Some(row) => self.fire_control(alloc, row),
+            Some(row) => self.control_row(alloc, row),
             None => Ok(()),
         }
+    }
+
+    /// Every transaction that was open has failed, and its rows fire: that of the tool's S1F1, where it was open, and that
+    /// of the open note.
+    pub fn fail_all(&mut self, alloc: Global, attempted: bool) -> Result<(), AllocError>
+        ensures { OnOk result (self.new ≡ fire_listed ((if attempted then by_control control.Failed self.old else []) ++ note_fails) self.old) }
+    {
+        if attempted {
+            self.by_control(alloc, ControlTrigger::Failed)?;
+        }
+        self.fail_note();
+        Ok(())
     }
 
     /// The session ends: the link is down, the frames that wait are gone, every transaction has failed, and the direct
@@ -124,10 +163,7 @@ impl Plant {
         self.link.down();
         self.waiting.clear();
         self.by_comm(alloc, CommTrigger::SessionEnd)?;
-        if attempted {
-            self.by_control(alloc, ControlTrigger::Failed)?;
-        }
-        Ok(())
+        self.fail_all(alloc, attempted)
     }
 
     /// Whether communication is in WAIT DELAY, and the delay is over.
@@ -157,14 +193,18 @@ impl Plant {
         ensures after { OnOk result (self.new ≡ fire_first (least self.old) self.old) }
     {
         if self.delay_is_over() && self.is_selected() {
-            self.fire_comm(alloc, 3)?;
+            self.comm_row(alloc, 3)?;
             return Ok(true);
         }
         if self.control == Control::Attempt && !self.can_ask() {
-            self.fire_control(alloc, 2)?;
+            self.control_row(alloc, 2)?;
             return Ok(true);
         }
-        Ok(false)
+        let Some(row) = self.line.row_for(self.is_communicating()) else {
+            return Ok(false);
+        };
+        self.line_row(alloc, row)?;
+        Ok(true)
     }
 
     /// Fires the least automatic row that is ready, again and again, until none is.

@@ -1,5 +1,5 @@
 //! What the plant sends.
-ghost use Rattle.std.specs.Prelude.{◌≡◌, ◌≤◌, length, OnOk, true, false};
+ghost use Rattle.std.specs.Prelude.{◌≡◌, ◌≤◌, ◌^◌, length, OnOk, true, false};
 ghost use Rattle.hsms_frame.specs.Spelling.{message_bytes};
 ghost use Rattle.transactions.specs.SystemBytes.{drawn};
 ghost use Rattle.gem_model.specs.State.{with_frame};
@@ -12,6 +12,9 @@ use crate::plant::Plant;
 use hsms_frame::{Bytes, Header};
 use std::alloc::{AllocError, Global};
 use transactions::What;
+
+// The ECID of T3.
+const T3: u32 = 204;
 
 impl Plant {
     /// Draws the next system bytes.
@@ -31,7 +34,7 @@ impl Plant {
         system: u32,
         text: Bytes,
     ) -> Result<(), AllocError>
-        requires { length text ≤ 16777216 }
+        requires { length text ≤ 2 ^ 31 }
         ensures { OnOk result (self.new ≡ replies stream function system text self.old) }
     {
         let header = data_header(self.config.device, false, stream, function, system);
@@ -64,10 +67,10 @@ impl Plant {
         what: What,
         text: Bytes,
     ) -> Result<(), AllocError>
-        requires { length text ≤ 16777216 }
+        requires { length text ≤ 2 ^ 31 }
         ensures { OnOk result (self.new ≡ asks stream function what text self.old) }
     {
-        let deadline = self.moment.0 + u64::from(self.times.t3);
+        let deadline = self.moment.0 + u64::from(self.constants.number(T3));
         // No reachable state has so many open that no more can be.
         let Ok(system) = self.transactions.start(stream, function, deadline, what) else {
             return Ok(());

@@ -1,0 +1,157 @@
+//! The notes that firings and changes of alarms make (SEMI E30, event reports and alarms).
+ghost use Rattle.std.specs.Prelude.{◌≡◌, ◌≤◌, ◌+◌, ◌*◌, [], length, OnOk, IfOk, Some, unwrap_or};
+ghost use Rattle.gem_ids.specs.Texts.{IsText};
+ghost use Rattle.secs_items.specs.Plain.{plain};
+ghost use Rattle.msgs_gem.specs.declared.reply.GemReply.TheVariants as reply;
+ghost use Rattle.msgs_gem.specs.Replies.{reply_body};
+ghost use Rattle.event_reports.specs.Reports.{report_items};
+ghost use Rattle.event_reports.specs.Alarms.{is_set};
+ghost use Rattle.note_line.specs.Limits.{most_text};
+ghost use Rattle.note_line.specs.Line.{next};
+ghost use Rattle.gem_model.specs.State.{State};
+ghost use Rattle.gem_model.specs.Values.{value_of};
+ghost use Rattle.gem_model.specs.Noting.{is_event_reported, event_text, line_with_event, noted_as, is_alarm_reported, alcd, text_of_alarm, line_with_alarm, sets_alarm, clears_alarm};
+
+use crate::frames::reply_text;
+use crate::plant::Plant;
+use gem_ids::Text80;
+use gem_rows::{RowId, alarm_text, ceid_of};
+use gem_states::Comm;
+use hsms_frame::Bytes;
+use msgs_gem::GemReply;
+use note_line::Kind;
+use secs_items::Items;
+use std::alloc::{AllocError, Global};
+
+/// A row that fired: the row, the name of its object, and whether control was ON-LINE before it.
+#[derive(Clone, Copy, Debug)]
+pub struct RowFiring {
+    pub row: RowId,
+    pub object: Text80,
+    pub online_before: bool,
+}
+
+impl RowFiring {
+    /// A row of a table whose one object has no name.
+    pub fn unnamed(table: u8, row: u8, online_before: bool) -> RowFiring
+        ensures { result ≡ record { row = record { table = table; row = row }; object = []; online_before = online_before } }
+    {
+        RowFiring {
+            row: RowId { table, row },
+            object: Text80::empty(),
+            online_before,
+        }
+    }
+}
+
+impl Plant {
+    /// Whether the event of this CEID is reported behind a firing: it is enabled, communication isn't DISABLED, and control
+    /// is ON-LINE or was before it.
+    fn is_event_reported(&self, ceid: u32, online_before: bool) -> bool
+        ensures { result ≡ is_event_reported ceid online_before self.now }
+    {
+        self.reports.is_enabled(ceid)
+            && self.comm != Comm::Disabled
+            && (online_before || self.is_online())
+    }
+
+    /// The text of S6F11 of the next note, with the values of the event's reports in a firing of this row, which is 100
+    /// times its table plus its number, at the object of this name.
+    fn event_text(&self, alloc: Global, ceid: u32, object: Text80, row: u16) -> Result<Bytes, AllocError>
+        ensures text { IfOk result (λ text. text ≡ event_text (next self.now.line) ceid (report_items (value_of (record { object = object; row = row }) self.now) ceid self.now.reports)) }
+        ensures short { IfOk result (λ text. length text ≤ most_text) }
+    {
+        let mut reports = Items::new(alloc);
+        let showing = self.showing(object, row);
+        self.reports.report(alloc, ceid, &showing, &mut reports)?;
+        reply_text(
+            alloc,
+            &GemReply::S6F11(self.line.next_number(), ceid, reports),
+        )
+    }
+
+    /// The note of an event waits behind the others.
+    fn note_event(&mut self, alloc: Global, ceid: u32, object: Text80, row: u16) -> Result<(), AllocError>
+        ensures { OnOk result (self.new ≡ record self.old { line = line_with_event ceid (record { object = object; row = row }) self.old }) }
+    {
+        let text = self.event_text(alloc, ceid, object, row)?;
+        self.line.add(Kind::Event, ceid, text)
+    }
+
+    /// Makes the note of a row that fired and led to the present state, where its event is reported: with the next number,
+    /// and the values of the reports that the event is linked to, it waits behind the others (SEMI E30, event reports).
+    pub fn note(&mut self, alloc: Global, firing: RowFiring) -> Result<(), AllocError>
+        ensures { OnOk result (self.new ≡ noted_as firing.row.table firing.row.row firing.object firing.online_before self.old) }
+    {
+        let Some(ceid) = ceid_of(firing.row) else {
+            return Ok(());
+        };
+        if !self.is_event_reported(ceid, firing.online_before) {
+            return Ok(());
+        }
+        let row = 100 * u16::from(firing.row.table) + u16::from(firing.row.row);
+        self.note_event(alloc, ceid, firing.object, row)
+    }
+
+    /// Whether changes of this alarm are reported: it is enabled, communication isn't DISABLED, and control is ON-LINE.
+    fn is_alarm_reported(&self, alid: u32) -> bool
+        ensures { result ≡ is_alarm_reported alid self.now }
+    {
+        self.alarms.is_enabled(alid) && self.comm != Comm::Disabled && self.is_online()
+    }
+
+    /// The text of S5F1 of an alarm, by whether it is set.
+    fn alarm_note(&self, alloc: Global, alid: u32) -> Result<Bytes, AllocError>
+        ensures text { IfOk result (λ text. text ≡ plain (reply_body (reply.S5F1 (alcd (is_set alid self.now.alarms)) alid (text_of_alarm alid)))) }
+        ensures short { IfOk result (λ text. length text ≤ most_text) }
+    {
+        let code = alcd(self.alarms.is_set(alid));
+        reply_text(alloc, &GemReply::S5F1(code, alid, text_of_alarm(alid)))
+    }
+
+    /// A change of an alarm to its present state makes its note, where it is reported.
+    fn tell_alarm(&mut self, alloc: Global, alid: u32) -> Result<(), AllocError>
+        ensures { OnOk result (self.new ≡ record self.old { line = line_with_alarm alid self.old }) }
+    {
+        if !self.is_alarm_reported(alid) {
+            return Ok(());
+        }
+        let text = self.alarm_note(alloc, alid)?;
+        self.line.add(Kind::Alarm, alid, text)
+    }
+
+    /// An alarm is set, and the change is told, where it was clear (SEMI E30, alarms). An alarm that the tool doesn't have
+    /// changes nothing.
+    pub fn set_alarm(&mut self, alloc: Global, alid: u32) -> Result<(), AllocError>
+        ensures { OnOk result (self.new ≡ sets_alarm alid self.old) }
+    {
+        if self.alarms.set(alid) {
+            self.tell_alarm(alloc, alid)?;
+        }
+        Ok(())
+    }
+
+    /// An alarm is cleared, and the change is told, where it was set (SEMI E30, alarms).
+    pub fn clear_alarm(&mut self, alloc: Global, alid: u32) -> Result<(), AllocError>
+        ensures { OnOk result (self.new ≡ clears_alarm alid self.old) }
+    {
+        if self.alarms.clear(alid) {
+            self.tell_alarm(alloc, alid)?;
+        }
+        Ok(())
+    }
+}
+
+/// ALCD of an alarm: its highest bit says that it is set.
+pub fn alcd(is_set: bool) -> u8
+    ensures { result ≡ alcd is_set }
+{
+    if is_set { 134 } else { 6 }
+}
+
+/// The text of an alarm; empty for a number that is no alarm.
+pub fn text_of_alarm(alid: u32) -> Text80
+    ensures { result ≡ text_of_alarm alid }
+{
+    alarm_text(alid).unwrap_or(Text80::empty())
+}

@@ -1,0 +1,99 @@
+//! The values of variables (SEMI E5, S1F3 and S2F13).
+ghost use Rattle.std.specs.Prelude.{◌≡◌, ◌≤◌, [], length, IfOk, option_map, map};
+ghost use Rattle.std.specs.List.{filter};
+ghost use Rattle.secs_items.specs.Data.{ascii, u1, u2, u4};
+ghost use Rattle.secs_items.specs.View.{view};
+ghost use Rattle.gem_ids.specs.Civil.{time_digits};
+ghost use Rattle.event_reports.specs.Alarms.{set_alids};
+ghost use Rattle.gem_model.specs.State.{clock_now};
+ghost use Rattle.gem_model.specs.Values.{status_value, constant_value, value_of};
+
+use crate::plant::Plant;
+use crate::rows::part;
+use data_variables::item_of;
+use event_reports::{NoMemory, Values};
+use gem_ids::{Text80, time16};
+use secs_items::{Bytes, Item, U8s, U16s, U32s};
+use std::alloc::{AllocError, Global};
+
+/// What the variables of a plant show on an occasion: in a firing, whose object and row they tell, or outside one. The row
+/// is 100 times its table plus its number.
+#[derive(Clone, Copy)]
+pub struct Showing<'a> {
+    plant: &'a Plant,
+    object: Text80,
+    row: u16,
+}
+
+impl Values for Showing<'_> {
+    ghost use Rattle.gem_model.specs.Values.{value_of as value};
+
+    ghost value_of = { λ s vid. value (record { object = s.object; row = s.row }) s.plant.now vid };
+
+    fn value(&self, alloc: Global, vid: u32) -> Result<Option<Item>, NoMemory> {
+        if let Some(value) = self.plant.status_value(alloc, vid)? {
+            return Ok(Some(value));
+        }
+        match vid {
+            100 => Ok(Some(Item::Ascii(part(alloc, self.object)?))),
+            101 => Ok(Some(Item::U2(U16s::from_vec(vec![in alloc; self.row]?)))),
+            _ => self.plant.constant_value(alloc, vid),
+        }
+    }
+}
+
+fn small_number(alloc: Global, number: u8) -> Result<Item, AllocError>
+    ensures { IfOk result (λ item. view item ≡ u1 (number ∷ [])) }
+{
+    Ok(Item::U1(U8s::from_vec(vec![in alloc; number]?)))
+}
+
+impl Plant {
+    /// What the variables show in a firing of this row at this object, or outside one: with an empty name and 0.
+    pub fn showing(&self, object: Text80, row: u16) -> Showing<'_>
+        ensures { result ≡ record { plant = self; object = object; row = row } }
+    {
+        Showing {
+            plant: self,
+            object,
+            row,
+        }
+    }
+
+    /// The set alarms, rising.
+    fn set_alarms(&self, alloc: Global) -> Result<Item, AllocError>
+        ensures { IfOk result (λ item. view item ≡ u4 (set_alids self.now.alarms)) }
+    {
+        let mut alids = Vec::new(alloc);
+        for alarm in self.alarms.lines() {
+            if alarm.is_set {
+                alids.push(alarm.alid)?;
+            }
+        }
+        Ok(Item::U4(U32s::from_vec(alids)))
+    }
+
+    /// The value of a status variable. `None`: the number is none of a status variable that is built.
+    pub fn status_value(&self, alloc: Global, vid: u32) -> Result<Option<Item>, AllocError>
+        ensures { IfOk result (λ value. option_map view value ≡ status_value self.now vid) }
+    {
+        let value = match vid {
+            1 => Item::Ascii(Bytes::from_vec(Vec::from_slice(alloc, &time16(self.clock_now()))?)),
+            2 => small_number(alloc, self.comm.number())?,
+            3 => small_number(alloc, self.control.number())?,
+            8 => self.set_alarms(alloc)?,
+            _ => return Ok(None),
+        };
+        Ok(Some(value))
+    }
+
+    /// The value of an equipment constant. `None`: the number is none of a constant.
+    pub fn constant_value(&self, alloc: Global, ecid: u32) -> Result<Option<Item>, AllocError>
+        ensures { IfOk result (λ value. option_map view value ≡ constant_value self.now ecid) }
+    {
+        match self.constants.get(ecid) {
+            Some(val) => Ok(Some(item_of(alloc, val)?)),
+            None => Ok(None),
+        }
+    }
+}

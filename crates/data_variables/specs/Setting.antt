@@ -31,7 +31,7 @@ with_said sets values = map (λ p. (p.0, unwrap_or (last_said p.0 sets) p.1)) va
 
 -- the constants, one of them with a new value
 abbrev pub with_value : ℕ → Val → List (ℕ × Val) → List (ℕ × Val)
-with_value ecid value values = map (λ p. (p.0, if p.0 == ecid then value else p.1)) values
+with_value ecid value values = map (λ p. (p.0, if ecid == p.0 then value else p.1)) values
 
 -- the constants behind the pairs: all of these count, or none
 abbrev pub set_all_after : List (ℕ × Option Val) → List (ℕ × Val) → List (ℕ × Val)

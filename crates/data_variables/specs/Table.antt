@@ -1,6 +1,6 @@
 -- The table of the equipment constants (SEMI E5, ECID, ECNAME, ECMIN, ECMAX, ECDEF and UNITS; this tool's profile,
 -- equipment constants).
-use Rattle.std.specs.Prelude.{ℕ, ◌==◌, Bool, true, false, nat_le, ◌&&◌, List, [], ◌∷◌, Option, Some, None, option_map, unwrap_or, find, map, codes}
+use Rattle.std.specs.Prelude.{ℕ, ◌==◌, Bool, true, false, nat_le, ◌&&◌, List, [], ◌∷◌, Option, option_map, unwrap_or, find, map, codes}
 use Rattle.data_variables.specs.declared.constant.Constant.{Constant}
 use Rattle.data_variables.specs.declared.val.Val.{Val}
 use Rattle.data_variables.specs.declared.val.Val.TheVariants.{Number, Truth}

@@ -1,5 +1,5 @@
 -- The values of the equipment constants.
-use Rattle.std.specs.Prelude.{◌≡◌, ℕ, Bool, true, false, ◌==◌, List, Option, Some, None, option_map, find, map}
+use Rattle.std.specs.Prelude.{◌≡◌, ℕ, Bool, true, false, ◌==◌, List, Option, Some, option_map, find, map}
 use Rattle.std.specs.List.{list_all}
 use Rattle.data_variables.specs.declared.val.Val.{Val}
 use Rattle.data_variables.specs.declared.val.Val.TheVariants.{Number, Truth}
@@ -13,7 +13,7 @@ pub record AreConstants (values : List (ℕ × Val)) : Type 0 where
 
 -- the value of an ECID
 abbrev pub value_of : ℕ → List (ℕ × Val) → Option Val
-value_of ecid values = option_map (λ p. p.1) (find (λ p. p.0 == ecid) values)
+value_of ecid values = option_map (λ p. p.1) (find (λ p. ecid == p.0) values)
 
 -- the number that a value is, else 0
 abbrev pub number_of : Option Val → ℕ

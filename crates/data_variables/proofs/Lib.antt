@@ -1,0 +1,4 @@
+pub mod Rising
+pub mod Codes
+pub mod Said
+pub mod Told

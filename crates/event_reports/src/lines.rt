@@ -1,6 +1,6 @@
 //! The lines that are kept of reports and of collection events.
 
-ghost use Rattle.std.specs.Prelude.{◌≡◌, OnOk};
+ghost use Rattle.std.specs.Prelude.{◌≡◌, OnOk, OnErr};
 ghost use Rattle.event_reports.specs.Reports.{silent, with_enabled, link_without, unlinked, with_link};
 
 use gem_ids::Ids;
@@ -63,7 +63,8 @@ impl EventLine {
 
     // Links the event to these reports, where it is of this CEID.
     pub(crate) fn link(&mut self, ceid: u32, rptids: &Ids) -> Result<(), NoMemory>
-        ensures { OnOk result (self.new ≡ with_link ceid rptids.now self.old) }
+        ensures linked { OnOk result (self.new ≡ with_link ceid rptids.now self.old) }
+        ensures no_memory { OnErr result (self.new ≡ self.old) }
     {
         if self.ceid == ceid {
             self.reports = rptids.clone()?;

@@ -1,7 +1,7 @@
 //! Which reports are defined (SEMI E5, S2F33).
 
-ghost use Rattle.std.specs.Prelude.{◌≡◌, ◌<◌, ◌≤◌, ◌++◌, ◌∷◌, [], length, map, IfOk, OnOk, OnErr};
-ghost use Rattle.std.specs.List.{list_all};
+ghost use Rattle.std.specs.Prelude.{◌≡◌, ◌==◌, not, ◌<◌, ◌≤◌, ◌++◌, ◌∷◌, [], length, map, IfOk, OnOk, OnErr};
+ghost use Rattle.std.specs.List.{filter, list_all};
 ghost use Rattle.gem_rows.specs.Variables.{is_vid};
 ghost use Rattle.event_reports.specs.Limits.{most_reports, most_vids};
 ghost use Rattle.event_reports.specs.Reports.{link_without, unlinked, without_report, without_reports, first_refusal, after_all, report_code, after_report, drack, defined};
@@ -108,7 +108,7 @@ impl Reports {
     fn delete(&mut self, alloc: Global, rptid: u32)
         ensures { self.new ≡ without_report rptid self.old }
     {
-        self.reports.retain(|report| report.id != rptid);
+        remove(&mut self.reports, rptid);
         forget(&mut self.events, alloc, rptid);
     }
 
@@ -126,6 +126,13 @@ fn are_vids(ports: u8, chambers: u8, vids: &[u32]) -> bool
     ensures { result ≡ list_all (is_vid ports chambers) vids.now }
 {
     vids.iter().all(|vid| is_vid(ports, chambers, *vid))
+}
+
+// Takes a report out of the defined ones.
+fn remove(reports: &mut Vec<Report>, rptid: u32)
+    ensures { reports.new.items ≡ filter (λ p. not (p.id == rptid)) reports.old.items }
+{
+    reports.retain(|report| report.id != rptid);
 }
 
 // Takes a report out of all links.

@@ -1,7 +1,8 @@
 //! To which reports events are linked (SEMI E5, S2F35).
 
 ghost use Rattle.std.specs.Prelude.{◌≡◌, ◌≤◌, length, map, IfOk, OnOk, OnErr};
-ghost use Rattle.std.specs.List.{list_all};
+ghost use Rattle.std.specs.List.{AllByRecursion, list_all};
+ghost use Rattle.event_reports.specs.Within.{HasShortLink};
 ghost use Rattle.event_reports.specs.Limits.{most_linked};
 ghost use Rattle.event_reports.specs.Reports.{is_report, with_link, first_refusal, after_all, link_code, after_link, lrack, linked};
 
@@ -83,9 +84,12 @@ impl Reports {
     }
 }
 
-// Links the event of this CEID.
+// Links the event of this CEID. No link gets longer than it may be, after `NoMemory` neither.
 fn link_lines(events: &mut [EventLine], ceid: u32, rptids: &Ids) -> Result<(), NoMemory>
-    ensures { OnOk result (events.new ≡ map (with_link ceid rptids.now) events.old) }
+    requires link { length rptids.now ≤ most_linked }
+    requires links { AllByRecursion HasShortLink events.old }
+    ensures linked { OnOk result (events.new ≡ map (with_link ceid rptids.now) events.old) }
+    ensures links { AllByRecursion HasShortLink events.new }
 {
     for event in events {
         event.link(ceid, rptids)?;

@@ -1,0 +1,14 @@
+use Rattle.std.proofs.Common.{rules, arith}
+use Rattle.std.proofs.lemmas.List.{with_items_is, places}
+use Rattle.event_reports.specs.Reports.{unlinked}
+use Rattle.event_reports.proofs.Within.{map-within, unlinked-within}
+use Rattle.event_reports.proofs.reports.Reports.delete_all.Goals as goal
+
+pub invariant_of-self : goal.invariant_of-self
+invariant_of-self c =
+    let same = with_items_is c.self.inside.events c.unlink.new.events (search (rules, places)) in
+    record {
+      count = rw c.clear.ensures.items (omega arith);
+      vids = rw c.clear.ensures.items tt;
+      links = rw (same, c.unlink.ensures, c.deref_mut.ensures.value) (map-within unlinked unlinked-within c.self.inside.events.items c.self.invariant.links);
+    }

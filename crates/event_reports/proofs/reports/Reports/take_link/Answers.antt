@@ -1,0 +1,12 @@
+use Rattle.std.proofs.Common.{rules}
+use Rattle.std.proofs.lemmas.List.{with_items_is, places}
+use Rattle.event_reports.proofs.reports.Reports.take_link.Goals as goal
+
+pub invariant_of-self : goal.invariant_of-self
+invariant_of-self c =
+    let same = with_items_is c.self.inside.events c.link_lines.new.events (search (rules, places)) in
+    record {
+      count = c.self.invariant.count;
+      vids = c.self.invariant.vids;
+      links = rw same c.link_lines.ensures.links;
+    }

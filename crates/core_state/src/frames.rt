@@ -2,9 +2,9 @@
 ghost use Rattle.std.specs.Prelude.{◌≡◌, ◌≤◌, length, [], IfOk};
 ghost use Rattle.secs_items.specs.View.{view};
 ghost use Rattle.hsms_frame.specs.Spelling.{message_bytes, header_bytes};
-ghost use Rattle.msgs_gem.specs.Replies.{reply_body, B};
+ghost use Rattle.msgs_gem.specs.Replies.{reply_body};
 ghost use Rattle.core_state.specs.ShortReply.{IsShort};
-ghost use Rattle.gem_model.specs.Sending.{data_header, data_frame, identity_text, stream9_text};
+ghost use Rattle.gem_model.specs.Sending.{data_header, stream9_text};
 ghost use Rattle.secs_items.specs.Plain.{plain};
 ghost use Rattle.secs_items.specs.Sendable.{IsSendable};
 
@@ -12,7 +12,6 @@ use hsms_frame::{Bytes, Frame, Header, write_frame, write_header};
 use msgs_gem::{GemReply, gem_item};
 use secs_items::{Item, encode};
 use std::alloc::{AllocError, Global};
-use tool_events::Config;
 
 /// A frame without text.
 pub fn header_frame(alloc: Global, header: Header) -> Result<Bytes, AllocError>

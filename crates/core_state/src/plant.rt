@@ -2,7 +2,6 @@
 ghost use Rattle.std.specs.Prelude.{◌≡◌, ◌≤◌, ◌<◌, ◌↔◌, length, slice_get, drop, option_map, IsTrue, IfOk, OnOk, true, Some, None, if◌then◌else◌};
 ghost use Rattle.gem_ids.specs.Moments.{last_moment};
 ghost use Rattle.tool_events.specs.Configs.{IsConfig};
-ghost use Rattle.transactions.specs.Table.{none_open};
 ghost use Rattle.gem_model.specs.State.{opening, first_comm, first_control, first_switch, times_of, is_up, is_session_up, is_selected, can_ask, clock_now, raised, with_frame};
 ghost use Rattle.gem_model.specs.Act.{clock_set};
 ghost use Rattle.core_state.specs.Views.{times_view};

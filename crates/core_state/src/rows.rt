@@ -1,12 +1,9 @@
 //! The rows of the transition tables: what each does, which are ready, and settling.
-ghost use Rattle.std.specs.Prelude.{◌≡◌, ◌+◌, ◌≤◌, ◌<◌, length, [], OnOk, IfOk, is_some};
+ghost use Rattle.std.specs.Prelude.{◌≡◌, ◌≤◌, length, OnOk, IfOk, is_some};
 ghost use Rattle.gem_ids.specs.Texts.{IsText};
-ghost use Rattle.gem_tables.specs.Table.{first_starting};
-ghost use Rattle.gem_states.specs.Meaning.{comm_rows, control_rows};
-ghost use Rattle.gem_model.specs.State.{State};
 ghost use Rattle.gem_model.specs.Sending.{identity_text};
 ghost use Rattle.gem_model.specs.Fire.{fire_comm, comm_effect, fire_control, control_effect, fire_listed, fires};
-ghost use Rattle.gem_model.specs.Direct.{by_comm, by_control, session_end_rows};
+ghost use Rattle.gem_model.specs.Direct.{by_comm, by_control};
 ghost use Rattle.gem_model.specs.Ready.{delay_is_over, least};
 ghost use Rattle.gem_model.specs.Due.{delay_has_come};
 ghost use Rattle.gem_model.specs.Settle.{settled};

@@ -1,8 +1,6 @@
 //! What the plant sends.
 ghost use Rattle.std.specs.Prelude.{◌≡◌, ◌≤◌, length, OnOk, true, false};
-ghost use Rattle.hsms_frame.specs.Spelling.{message_bytes};
 ghost use Rattle.transactions.specs.SystemBytes.{drawn};
-ghost use Rattle.gem_model.specs.State.{with_frame};
 ghost use Rattle.gem_model.specs.Sending.{draws, replies, sends_stream9, asks};
 ghost use Rattle.gem_model.specs.Due.{asks_linktest};
 ghost use Rattle.hsms_link.specs.Links.{is_selected, is_open};

@@ -1,12 +1,9 @@
 //! What is due at a look at the clock.
-ghost use Rattle.std.specs.Prelude.{◌≡◌, ◌+◌, ◌≤◌, OnOk, IfOk, Some, None, true};
-ghost use Rattle.hsms_link.specs.Deadlines.{due_at};
-ghost use Rattle.transactions.specs.Table.{taken_out};
-ghost use Rattle.transactions.specs.Endings.{first_expired};
+ghost use Rattle.std.specs.Prelude.{◌≡◌, OnOk, IfOk, true};
 ghost use Rattle.gem_model.specs.Fire.{fires};
 ghost use Rattle.gem_model.specs.Direct.{timeout_rows};
 ghost use Rattle.gem_model.specs.Sending.{data_header, sends_stream9};
-ghost use Rattle.gem_model.specs.Due.{dues, timeouts, all_done, link_times, delay_has_come, is_due};
+ghost use Rattle.gem_model.specs.Due.{dues, timeouts, all_done, is_due};
 ghost use Rattle.gem_model.specs.Act.{session_ended};
 ghost use Rattle.gem_model.specs.Step.{ended_by, end_now};
 
@@ -62,7 +59,11 @@ fn time_out_all(plant: &mut Plant, alloc: Global) -> Result<(), AllocError>
 }
 
 /// The session ends for this cause, and is told.
-pub fn end_for(plant: &mut Plant, alloc: Global, cause: SessionCause) -> Result<SessionEnd, AllocError>
+pub fn end_for(
+    plant: &mut Plant,
+    alloc: Global,
+    cause: SessionCause,
+) -> Result<SessionEnd, AllocError>
     ensures after { OnOk result (plant.new ≡ session_ended plant.old) }
     ensures end { IfOk result (λ end. end ≡ end_now cause plant.old) }
 {

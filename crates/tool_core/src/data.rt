@@ -1,5 +1,5 @@
 //! Data messages of the host: what each is answered, and what it does.
-ghost use Rattle.std.specs.Prelude.{◌≡◌, ◌+◌, ◌≤◌, ◌<◌, length, [], OnOk, IfOk, IfSome, Some, None, option_map, unwrap_or, true};
+ghost use Rattle.std.specs.Prelude.{◌≡◌, ◌+◌, ◌≤◌, ◌<◌, length, [], OnOk, IfOk, IfSome, option_map};
 ghost use Rattle.gem_ids.specs.Texts.{IsText};
 ghost use Rattle.gem_ids.specs.Civil.{moment_in, time_digits};
 ghost use Rattle.gem_model.specs.State.{clock_now};
@@ -12,7 +12,7 @@ ghost use Rattle.msgs_gem.specs.Acknowledge.{accepts};
 ghost use Rattle.msgs_gem.specs.Replies.{reply_body};
 ghost use Rattle.gem_model.specs.Direct.{by_comm, message_rows, establish_answer};
 ghost use Rattle.gem_model.specs.Verdict.{header_of, is_too_long, item_of, wants_reply, stream_of, function_of, is_message, may_establish, is_establish, first_rules, verdict, read_as, onlack, tiack, reply_to};
-ghost use Rattle.gem_model.specs.Act.{clock_set, written, replied, taken, closed_by, data_done};
+ghost use Rattle.gem_model.specs.Act.{written, replied, taken, closed_by, data_done};
 ghost use Rattle.transactions.specs.Endings.{answered};
 ghost use Rattle.tool_core.specs.Verdicts.{verdict_view, HasNext};
 ghost use Rattle.core_state.specs.ShortReply.{IsShort};
@@ -247,7 +247,7 @@ fn first_rule(plant: &Plant, header: &Header, too_long: bool) -> Option<Verdict>
 }
 
 /// What a data message does.
-fn verdict(plant: &Plant, alloc: Global, arrival: &Arrival) -> Result<Verdict, AllocError>
+fn verdict_of(plant: &Plant, alloc: Global, arrival: &Arrival) -> Result<Verdict, AllocError>
     ensures verdict { IfOk result (λ v. verdict_view v ≡ verdict plant.now arrival.now) }
     ensures next { IfOk result (HasNext (header_of arrival.now)) }
 {
@@ -277,7 +277,12 @@ fn reply_text_to(plant: &Plant, alloc: Global, message: &GemMsg) -> Result<Bytes
 }
 
 /// A message that is taken is answered, where a reply is wanted.
-fn answer(plant: &mut Plant, alloc: Global, header: &Header, message: &GemMsg) -> Result<(), AllocError>
+fn answer(
+    plant: &mut Plant,
+    alloc: Global,
+    header: &Header,
+    message: &GemMsg,
+) -> Result<(), AllocError>
     requires { function_of header.now < 255 }
     ensures { OnOk result (plant.new ≡ replied header.now (function_of header.now + 1) (plain (reply_body (reply_to plant.old message.now))) plant.old) }
 {
@@ -335,7 +340,12 @@ fn establish_answered(
 }
 
 /// The transaction that a message answers is closed, and its rows fire. Without one nothing changes.
-fn close(plant: &mut Plant, alloc: Global, header: &Header, arrival: &Arrival) -> Result<(), AllocError>
+fn close(
+    plant: &mut Plant,
+    alloc: Global,
+    header: &Header,
+    arrival: &Arrival,
+) -> Result<(), AllocError>
     ensures { OnOk result (plant.new ≡ closed_by header.now (item_of arrival.now) (answered header.now.system (stream_of header.now) (function_of header.now) plant.old.transactions.opened) plant.old) }
 {
     let answered = plant.answer_transaction(header.system, stream_of(header), header.byte3);
@@ -366,7 +376,7 @@ pub fn data(plant: &mut Plant, alloc: Global, arrival: &Arrival) -> Result<(), A
     ensures { OnOk result (plant.new ≡ data_done arrival.now plant.old) }
 {
     let header = header_of(arrival);
-    match verdict(plant, alloc, arrival)? {
+    match verdict_of(plant, alloc, arrival)? {
         Verdict::Discarded => Ok(()),
         Verdict::Stream9(function) => plant.send_stream9(alloc, function, header),
         Verdict::Aborted => abort(plant, alloc, &header),

@@ -239,9 +239,7 @@ fn act(
 {
     match event {
         Event::LinkUp => Ok(Some(link_up(plant))),
-        Event::LinkDown { session, cause } => Ok(Some(link_down(plant, 
-            alloc, *session, *cause,
-        )?)),
+        Event::LinkDown { session, cause } => Ok(Some(link_down(plant, alloc, *session, *cause)?)),
         Event::Host { session, arrival } => Ok(Some(host(plant, alloc, *session, arrival)?)),
         Event::Take { session } => Ok(take(plant, *session)),
         Event::Oper(command) => Ok(Some(operate(plant, alloc, command)?)),

@@ -45,29 +45,29 @@ few_reports value r ceid within =
     let links = found_link (λ e. e.ceid == ceid) r.events within.links in
     omega (arith, count-reports value r (link_of ceid r))
 
-small_value : (value : ℕ → Option Data) → AreSmallValues value → (vid : ℕ) (o : Option Data) → value vid ≡ o → IsBounded 1 100 (unwrap_or o (list no_items))
+small_value : (value : ℕ → Option Data) → AreSmallValues value → (vid : ℕ) (o : Option Data) → value vid ≡ o → IsBounded 1 84 (unwrap_or o (list no_items))
 small_value value small vid None is = record { depth = omega arith; size = omega arith; bodies = (omega arith, tt) }
 small_value value small vid (Some d) is = small vid d is
 
-small_values_of : (value : ℕ → Option Data) → AreSmallValues value → (vids : List ℕ) → AreBounded 1 100 (value_items value vids)
+small_values_of : (value : ℕ → Option Data) → AreSmallValues value → (vids : List ℕ) → AreBounded 1 84 (value_items value vids)
 small_values_of value small [] = tt
 small_values_of value small (vid ∷ vids) = (small_value value small vid (value vid) refl, small_values_of value small vids)
 
 -- the values of a report are small
-pub small_values : (value : ℕ → Option Data) (r : Reports) (rptid : ℕ) → AreSmallValues value → AreBounded 1 100 (one_items value rptid r)
+pub small_values : (value : ℕ → Option Data) (r : Reports) (rptid : ℕ) → AreSmallValues value → AreBounded 1 84 (one_items value rptid r)
 small_values value r rptid small = small_values_of value small (vids_of rptid r)
 
-small_report : (value : ℕ → Option Data) (r : Reports) → AreWithin r → AreSmallValues value → (rptid : ℕ) → IsBounded 3 6600 (report_item value rptid r)
+small_report : (value : ℕ → Option Data) (r : Reports) → AreWithin r → AreSmallValues value → (rptid : ℕ) → IsBounded 3 5392 (report_item value rptid r)
 small_report value r within small rptid =
-    let inner = bounded-list 1 100 64 (one_items value rptid r) (omega arith) (few_values value r rptid within) (small_values value r rptid small) in
+    let inner = bounded-list 1 84 64 (one_items value rptid r) (omega arith) (few_values value r rptid within) (small_values value r rptid small) in
     let deep = inner.depth in
     let size = inner.size in
     record { depth = omega arith; size = omega arith; bodies = (omega arith, (omega arith, (inner.bodies, tt))) }
 
-small_reports_of : (value : ℕ → Option Data) (r : Reports) → AreWithin r → AreSmallValues value → (rptids : List ℕ) → AreBounded 3 6600 (items_of_reports value rptids r)
+small_reports_of : (value : ℕ → Option Data) (r : Reports) → AreWithin r → AreSmallValues value → (rptids : List ℕ) → AreBounded 3 5392 (items_of_reports value rptids r)
 small_reports_of value r within small [] = tt
 small_reports_of value r within small (rptid ∷ rptids) = (small_report value r within small rptid, small_reports_of value r within small rptids)
 
 -- the reports of an event are small
-pub small_reports : (value : ℕ → Option Data) (r : Reports) (ceid : ℕ) → AreWithin r → AreSmallValues value → AreBounded 3 6600 (report_items value ceid r)
+pub small_reports : (value : ℕ → Option Data) (r : Reports) (ceid : ℕ) → AreWithin r → AreSmallValues value → AreBounded 3 5392 (report_items value ceid r)
 small_reports value r ceid within small = small_reports_of value r within small (link_of ceid r)

@@ -3,9 +3,9 @@ use Rattle.std.specs.Prelude.{◌≡◌, ℕ, Option, Some}
 use Rattle.secs_items.specs.Data.{Data, DataList, no_items, item}
 use Rattle.secs_items.specs.Weight.{IsBounded}
 
--- each variable that has a value has a small one: no list of lists, and at most 100 bytes
+-- each variable that has a value has a small one: no list of lists, and at most 84 bytes
 abbrev pub AreSmallValues : (ℕ → Option Data) → Type 0
-AreSmallValues value = (vid : ℕ) (d : Data) → value vid ≡ Some d → IsBounded 1 100 d
+AreSmallValues value = (vid : ℕ) (d : Data) → value vid ≡ Some d → IsBounded 1 84 d
 
 -- the items of a list, and those of another behind them
 abbrev pub joined : DataList → DataList → DataList

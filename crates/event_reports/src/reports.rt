@@ -178,7 +178,7 @@ impl Reports {
 
         // Few reports are added, and each is small where the values are.
         ensures few { count_of (report_items (V.value_of v.now) ceid self.now) ≤ most_linked }
-        ensures bounded { AreSmallValues (V.value_of v.now) → AreBounded 3 6600 (report_items (V.value_of v.now) ceid self.now) }
+        ensures bounded { AreSmallValues (V.value_of v.now) → AreBounded 3 5392 (report_items (V.value_of v.now) ceid self.now) }
     {
         self.push_reports(alloc, self.link_of(ceid), v, out)
     }
@@ -190,7 +190,7 @@ impl Reports {
 
         // Few values are added, and each is small.
         ensures few { count_of (one_items (V.value_of v.now) rptid self.now) ≤ most_vids }
-        ensures bounded { AreSmallValues (V.value_of v.now) → AreBounded 1 100 (one_items (V.value_of v.now) rptid self.now) }
+        ensures bounded { AreSmallValues (V.value_of v.now) → AreBounded 1 84 (one_items (V.value_of v.now) rptid self.now) }
     {
         push_values(alloc, self.vids_of(rptid), v, out)
     }

@@ -22,6 +22,10 @@ mod names;
 #[cfg(test)]
 mod open_transactions;
 #[cfg(test)]
+mod primaries;
+#[cfg(test)]
+mod replies;
+#[cfg(test)]
 mod sources_and_sinks;
 #[cfg(test)]
 mod states;

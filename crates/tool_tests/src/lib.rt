@@ -24,6 +24,10 @@ mod notes;
 #[cfg(test)]
 mod open_transactions;
 #[cfg(test)]
+mod primaries;
+#[cfg(test)]
+mod replies;
+#[cfg(test)]
 mod sources_and_sinks;
 #[cfg(test)]
 mod states;

@@ -3,3 +3,4 @@ pub mod Numbers
 pub mod Moves
 pub mod Rows
 pub mod Keeps
+pub mod Short

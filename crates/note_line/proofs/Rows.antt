@@ -127,7 +127,7 @@ answered-keeps l v = open-ended l Answered l.opened refl refl refl refl v
 
 -- ---- a new note
 
-noted_standing : (kind : Kind) (id : ℕ) (text : List ℕ) (l : Line) → standing (noted kind id text l) ≡ standing l ++ record { number = next l; kind = kind; id = id; text = text } ∷ []
+pub noted_standing : (kind : Kind) (id : ℕ) (text : List ℕ) (l : Line) → standing (noted kind id text l) ≡ standing l ++ record { number = next l; kind = kind; id = id; text = text } ∷ []
 noted_standing kind id text l = simp append_assoc
 
 noted-next : (kind : Kind) (id : ℕ) (text : List ℕ) (l : Line) → next (noted kind id text l) ≡ suc (next l)

@@ -3,5 +3,6 @@ pub mod Table3
 pub mod Left
 pub mod Order
 pub mod Fates
+pub mod Limits
 pub mod Kept
 pub mod Worked

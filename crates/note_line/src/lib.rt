@@ -14,4 +14,4 @@ pub mod worked;
 
 pub use fate::{DropCause, Fate, Told};
 pub use line::NoteLine;
-pub use note::{Kind, Note};
+pub use note::{Kind, MOST_TEXT, Note};

@@ -1,9 +1,10 @@
 //! The line of notes as a record.
 
-ghost use Rattle.std.specs.Prelude.{◌≡◌, length, slice_get, option_copied, IfOk, IfErr};
+ghost use Rattle.std.specs.Prelude.{◌≡◌, ◌≤◌, length, slice_get, option_copied, IfOk, IfErr, IfSome};
 ghost use Rattle.note_line.specs.Line.{opening, next, noted, drop_head, open_head, fail_open, answered, fate_of, with_fate};
 ghost use Rattle.note_line.specs.Table3.{least};
 ghost use Rattle.note_line.specs.Fates.{LineValid};
+ghost use Rattle.note_line.specs.Limits.{most_text};
 
 use crate::fate::{DropCause, Fate, Told};
 use crate::note::{Kind, Note};
@@ -68,8 +69,9 @@ impl NoteLine {
     }
 
     /// A new note, an event's or an alarm's of this CEID or ALID, gets the next number and goes to the rear of those that
-    /// wait. On want of memory nothing has changed.
+    /// wait. Its text has at most `MOST_TEXT` bytes. On want of memory nothing has changed.
     pub fn add(&mut self, kind: Kind, id: u32, text: Bytes) -> Result<(), AllocError>
+        requires short { length text ≤ most_text }
         ensures ok { IfOk result (λ _. self.new ≡ noted kind id text self.old) }
         ensures err { IfErr result (λ _. self.new ≡ self.old) }
     {
@@ -91,7 +93,8 @@ impl NoteLine {
 
     /// The first note that waits.
     pub fn head(&self) -> Option<&Note>
-        ensures { option_copied result ≡ slice_get self.now.waiting 0 }
+        ensures note { option_copied result ≡ slice_get self.now.waiting 0 }
+        ensures short { IfSome result (λ note. length note.now.text ≤ most_text) }
     {
         self.waiting.front()
     }
@@ -106,6 +109,7 @@ impl NoteLine {
     /// The note that is sent and whose transaction is open.
     pub fn open_note(&self) -> Option<&Note>
         ensures note { option_copied result ≡ self.now.opened }
+        ensures short { IfSome result (λ note. length note.now.text ≤ most_text) }
         ensures valid { LineValid self.now }
     {
         self.opened.as_ref()

@@ -11,21 +11,21 @@ use Rattle.msgs_gem.specs.Replies.{event}
 use Rattle.msgs_gem.specs.Sendable.{AreFew}
 
 -- an item within the bounds of a frame is short
-pub short_text : (d : Data) → IsBounded 5 (2 ^ 30) d → length (plain d) ≤ 2 ^ 30
+pub short_text : (d : Data) → IsBounded 5 (2 ^ 31) d → length (plain d) ≤ 2 ^ 31
 short_text d is = omega (arith, plain-weight d, is.size)
 
 -- values
-pub values_bounded : (ds : DataList) → AreFew 1024 1 100 ds → IsBounded 5 (2 ^ 30) (list ds)
-values_bounded ds few = bounded-more 2 102404 5 (2 ^ 30) (list ds) (omega arith) (omega arith) (bounded-list 1 100 1024 ds (omega arith) few.0 few.1)
+pub values_bounded : (ds : DataList) → AreFew 1024 1 84 ds → IsBounded 5 (2 ^ 31) (list ds)
+values_bounded ds few = bounded-more 2 86020 5 (2 ^ 31) (list ds) (omega arith) (omega arith) (bounded-list 1 84 1024 ds (omega arith) few.0 few.1)
 
 -- constants
-pub constants_bounded : (ds : DataList) → AreFew 1024 2 2300 ds → IsBounded 5 (2 ^ 30) (list ds)
-constants_bounded ds few = bounded-more 3 2355204 5 (2 ^ 30) (list ds) (omega arith) (omega arith) (bounded-list 2 2300 1024 ds (omega arith) few.0 few.1)
+pub constants_bounded : (ds : DataList) → AreFew 1024 2 2300 ds → IsBounded 5 (2 ^ 31) (list ds)
+constants_bounded ds few = bounded-more 3 2355204 5 (2 ^ 31) (list ds) (omega arith) (omega arith) (bounded-list 2 2300 1024 ds (omega arith) few.0 few.1)
 
 -- an event and its reports
-pub event_bounded : (note ceid : ℕ) (ds : DataList) → AreFew 16 3 6600 ds → IsBounded 5 (2 ^ 30) (event note ceid ds)
+pub event_bounded : (note ceid : ℕ) (ds : DataList) → AreFew 16 3 5392 ds → IsBounded 5 (2 ^ 31) (event note ceid ds)
 event_bounded note ceid ds few =
-    let reports = bounded-list 3 6600 16 ds (omega arith) few.0 few.1 in
+    let reports = bounded-list 3 5392 16 ds (omega arith) few.0 few.1 in
     record {
       depth = omega (arith, reports.depth);
       size = omega (arith, reports.size);
@@ -33,6 +33,6 @@ event_bounded note ceid ds few =
     }
 
 -- an item that says what is bounded is bounded
-pub same_bounded : (r : Result Item AllocError) (d : Data) → IfOk r (λ item. view item ≡ d) → IsBounded 5 (2 ^ 30) d → IfOk r (λ item. IsBounded 5 (2 ^ 30) (view item))
-same_bounded (Ok item) d is bounds = subst (λ (e : Data). IsBounded 5 (2 ^ 30) e) (sym is) bounds
+pub same_bounded : (r : Result Item AllocError) (d : Data) → IfOk r (λ item. view item ≡ d) → IsBounded 5 (2 ^ 31) d → IfOk r (λ item. IsBounded 5 (2 ^ 31) (view item))
+same_bounded (Ok item) d is bounds = subst (λ (e : Data). IsBounded 5 (2 ^ 31) e) (sym is) bounds
 same_bounded (Err e) d is bounds = tt

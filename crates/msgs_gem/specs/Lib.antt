@@ -4,4 +4,5 @@ pub mod Codes
 pub mod Given
 pub mod Primaries
 pub mod Replies
+pub mod Few
 pub mod Sendable

@@ -1,6 +1,6 @@
 //! The elements of an integer item, each an id.
 
-ghost use Rattle.std.specs.Prelude.{◌≡◌, ℕ, Option};
+ghost use Rattle.std.specs.Prelude.{◌≡◌, ◌≤◌, ℕ, length, IfOk, Option};
 ghost use Rattle.secs_items.specs.Ids.{signed_id, unsigned_id};
 ghost use Rattle.secs_items.specs.View.{view};
 ghost use Rattle.msgs_gem.specs.Bodies.{all_ids as all_ids_form, numbers as numbers_form, numbers_or_ids as numbers_or_ids_form};
@@ -130,7 +130,8 @@ fn numbers(alloc: Global, item: &Item) -> Result<Ids, BodyFault>
 
 // The elements of one integer item, or a list of ids.
 pub(crate) fn numbers_or_ids(alloc: Global, item: &Item) -> Result<Ids, BodyFault>
-    ensures { Gives (λ ids. ids) result (numbers_or_ids_form (view item.now)) }
+    ensures ids { Gives (λ ids. ids) result (numbers_or_ids_form (view item.now)) }
+    ensures few { IfOk result (λ ids. length ids ≤ 1024) }
 {
     match item {
         Item::List(_) => ids(alloc, item),

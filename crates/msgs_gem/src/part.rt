@@ -1,6 +1,6 @@
 //! Parts of bodies, each read from one item.
 
-ghost use Rattle.std.specs.Prelude.{◌≡◌, Option, option_map};
+ghost use Rattle.std.specs.Prelude.{◌≡◌, ◌≤◌, length, IfOk, Option, option_map};
 ghost use Rattle.secs_items.specs.Data.{Data};
 ghost use Rattle.secs_items.specs.View.{view, items_of};
 ghost use Rattle.msgs_gem.specs.Bodies.{any, are_few, byte as byte_form, characters as characters_form, each, elements as elements_form, flag as flag_form, group, id as id_form, id_or_empty as id_or_empty_form, ids as ids_form, is_empty_number as is_empty_number_form, meeting, of_count, text as text_form};
@@ -169,14 +169,16 @@ pub(crate) fn list_of<T: Part>(alloc: Global, item: &Item) -> Result<Listed<T>, 
 
 // A list of at most 1,024 ids.
 pub(crate) fn ids(alloc: Global, item: &Item) -> Result<Ids, BodyFault>
-    ensures { Gives (λ ids. ids) result (ids_form (view item.now)) }
+    ensures ids { Gives (λ ids. ids) result (ids_form (view item.now)) }
+    ensures few { IfOk result (λ ids. length ids ≤ 1024) }
 {
     few(list_of(alloc, item)?)
 }
 
 // These ids, unless they are more than 1,024.
 pub(crate) fn few(ids: Ids) -> Result<Ids, BodyFault>
-    ensures { Gives (λ ids. ids) result (meeting are_few ids) }
+    ensures ids { Gives (λ ids. ids) result (meeting are_few ids) }
+    ensures few { IfOk result (λ ids. length ids ≤ 1024) }
 {
     if ids.len() <= 1024 {
         Ok(ids)

@@ -1,6 +1,11 @@
 //! The host's primaries.
 
-ghost use Rattle.std.specs.Prelude.{◌≡◌, option_map};
+ghost use Rattle.std.specs.Prelude.{◌≡◌, IfOk, IfSome, option_map};
+ghost use Rattle.secs_items.specs.Sendable.{HasShortBodies};
+ghost use Rattle.msgs_gem.specs.Bodies.{each, l2, text as text_form};
+ghost use Rattle.msgs_gem.specs.Few.{HasFewParts};
+ghost use Rattle.msgs_gem.specs.Given.{Gives};
+ghost use Rattle.msgs_gem.specs.declared.primary.GemMsg.TheVariants.{S2F41};
 ghost use Rattle.secs_items.specs.View.{view};
 ghost use Rattle.msgs_gem.specs.Given.{Answers};
 ghost use Rattle.msgs_gem.specs.Primaries.{ignores, parameter, reading, setting};
@@ -134,14 +139,15 @@ pub enum GemMsg {
 ///
 /// `UnknownStream` comes where no message has the stream, else `UnknownFunction` where none of the stream has the
 /// function, else `IllegalData` where the item has not the printed body (this tool's profile, messages). Besides,
-/// `NoMemory` may come, for a message whose body has parts to be copied.
+/// `NoMemory` may come, for a message whose body has parts to be copied. A list of ids that was read has at most 1,024.
 pub fn read_gem(
     alloc: Global,
     stream: u8,
     function: u8,
     item: Option<&Item>,
 ) -> Result<GemMsg, BodyFault>
-    ensures { Answers result (reading stream function (option_map (λ i. view i.now) item.entry)) }
+    ensures answer { Answers result (reading stream function (option_map (λ i. view i.now) item.entry)) }
+    ensures few { IfSome item.entry (λ i. HasShortBodies (view i.now)) → IfOk result HasFewParts }
 {
     match stream {
         1 => read_stream_1(alloc, function, item),
@@ -154,7 +160,8 @@ pub fn read_gem(
 
 // Equipment status.
 fn read_stream_1(alloc: Global, function: u8, item: Option<&Item>) -> Result<GemMsg, BodyFault>
-    ensures { Answers result (reading 1 function (option_map (λ i. view i.now) item.entry)) }
+    ensures answer { Answers result (reading 1 function (option_map (λ i. view i.now) item.entry)) }
+    ensures few { IfSome item.entry (λ i. HasShortBodies (view i.now)) → IfOk result HasFewParts }
 {
     match function {
         1 => Ok(GemMsg::S1F1),
@@ -169,7 +176,8 @@ fn read_stream_1(alloc: Global, function: u8, item: Option<&Item>) -> Result<Gem
 
 // Equipment control and diagnostics.
 fn read_stream_2(alloc: Global, function: u8, item: Option<&Item>) -> Result<GemMsg, BodyFault>
-    ensures { Answers result (reading 2 function (option_map (λ i. view i.now) item.entry)) }
+    ensures answer { Answers result (reading 2 function (option_map (λ i. view i.now) item.entry)) }
+    ensures few { IfSome item.entry (λ i. HasShortBodies (view i.now)) → IfOk result HasFewParts }
 {
     match function {
         13 => Ok(GemMsg::S2F13(ids(alloc, one(item)?)?)),
@@ -189,17 +197,24 @@ fn read_stream_2(alloc: Global, function: u8, item: Option<&Item>) -> Result<Gem
             let [ceed, events] = parts::<2>(one(item)?)?;
             Ok(GemMsg::S2F37(flag(ceed)?, ids(alloc, events)?))
         }
-        41 => {
-            let [command, parameters] = parts::<2>(one(item)?)?;
-            Ok(GemMsg::S2F41(text(command)?, list_of(alloc, parameters)?))
-        }
+        41 => remote_command(alloc, one(item)?),
         _ => Err(BodyFault::UnknownFunction),
     }
 }
 
+// A remote command and its parameters.
+fn remote_command(alloc: Global, item: &Item) -> Result<GemMsg, BodyFault>
+    ensures form { Gives (λ m. m) result (l2 S2F41 text_form (each parameter) (view item.now)) }
+    ensures few { HasShortBodies (view item.now) → IfOk result HasFewParts }
+{
+    let [command, parameters] = parts::<2>(item)?;
+    Ok(GemMsg::S2F41(text(command)?, list_of(alloc, parameters)?))
+}
+
 // Exception handling.
 fn read_stream_5(alloc: Global, function: u8, item: Option<&Item>) -> Result<GemMsg, BodyFault>
-    ensures { Answers result (reading 5 function (option_map (λ i. view i.now) item.entry)) }
+    ensures answer { Answers result (reading 5 function (option_map (λ i. view i.now) item.entry)) }
+    ensures few { IfSome item.entry (λ i. HasShortBodies (view i.now)) → IfOk result HasFewParts }
 {
     match function {
         3 => {
@@ -214,7 +229,8 @@ fn read_stream_5(alloc: Global, function: u8, item: Option<&Item>) -> Result<Gem
 
 // Data collection.
 fn read_stream_6(function: u8, item: Option<&Item>) -> Result<GemMsg, BodyFault>
-    ensures { Answers result (reading 6 function (option_map (λ i. view i.now) item.entry)) }
+    ensures answer { Answers result (reading 6 function (option_map (λ i. view i.now) item.entry)) }
+    ensures few { IfSome item.entry (λ i. HasShortBodies (view i.now)) → IfOk result HasFewParts }
 {
     match function {
         15 => Ok(GemMsg::S6F15(id(one(item)?)?)),

@@ -123,14 +123,14 @@ pub enum GemReply {
 ///
 /// It can be encoded, and takes at most 1,073,741,824 bytes, where the parts of the reply are within their bounds. The
 /// characters of MDLN, SOFTREV and the time are at most 127; these and a header have fewer than 16,777,216 bytes. Of
-/// values there are at most 1,024, each of at most 100 bytes with lists at most 1 deep; of constants 1,024, of 2,300
-/// bytes and 2 deep; of reports 16, of 6,600 bytes and 3 deep. Of names and alarms there are at most 1,024, and of
-/// parameters fewer than 100,000.
+/// values there are at most 1,024, each of at most 84 bytes with lists at most 1 deep; of constants 1,024, of 2,300
+/// bytes and 2 deep; of reports 16, of 5,392 bytes and 3 deep. Of names and alarms there are at most 1,024, and of
+/// parameters fewer than 16,777,216.
 #[tactic(auto, using(crate::proofs::Bounds::short_text))]
 pub fn gem_item(alloc: Global, reply: &GemReply) -> Result<Item, NoMemory>
     ensures exact { IfOk result (λ item. view item ≡ reply_body reply.now) }
     ensures sendable { HasSendableParts reply.now → IfOk result (λ item. IsSendable (view item)) }
-    ensures short { HasSendableParts reply.now → IfOk result (λ item. length (plain (view item)) ≤ 2 ^ 30) }
+    ensures short { HasSendableParts reply.now → IfOk result (λ item. length (plain (view item)) ≤ 2 ^ 31) }
 {
     item_of(alloc, reply)
 }
@@ -139,7 +139,7 @@ pub fn gem_item(alloc: Global, reply: &GemReply) -> Result<Item, NoMemory>
 #[tactic(auto, using(crate::proofs::Bounds::values_bounded, crate::proofs::Bounds::constants_bounded))]
 fn item_of(alloc: Global, reply: &GemReply) -> Result<Item, NoMemory>
     ensures exact { IfOk result (λ item. view item ≡ reply_body reply.now) }
-    ensures bounded { HasSendableParts reply.now → IfOk result (λ item. IsBounded 5 (2 ^ 30) (view item)) }
+    ensures bounded { HasSendableParts reply.now → IfOk result (λ item. IsBounded 5 (2 ^ 31) (view item)) }
 {
     match reply {
         GemReply::S1F2(mdln, softrev) => model_and_revision(alloc, mdln, softrev),
@@ -251,7 +251,7 @@ fn alarm_code(alloc: Global, alcd: Option<u8>) -> Result<Item, NoMemory>
 // An event and its reports.
 fn event(alloc: Global, note: u64, ceid: u32, reports: &Items) -> Result<Item, NoMemory>
     ensures exact { IfOk result (λ item. view item ≡ event_data note ceid reports.now) }
-    ensures bounded { AreFew 16 3 6600 reports.now → IfOk result (λ item. IsBounded 5 (2 ^ 30) (view item)) }
+    ensures bounded { AreFew 16 3 5392 reports.now → IfOk result (λ item. IsBounded 5 (2 ^ 31) (view item)) }
 {
     list(
         alloc,
@@ -262,7 +262,7 @@ fn event(alloc: Global, note: u64, ceid: u32, reports: &Items) -> Result<Item, N
 // A list of an item for each part.
 fn list_of<T: Printed>(alloc: Global, parts: &[T]) -> Result<Item, NoMemory>
     ensures exact { IfOk result (λ item. view item ≡ each T.body parts.now) }
-    ensures bounded { length parts.now < 100000 → IfOk result (λ item. IsBounded 2 11000004 (view item)) }
+    ensures bounded { length parts.now < 2 ^ 24 → IfOk result (λ item. IsBounded 2 1845493654 (view item)) }
 {
     let mut items = Items::new(alloc);
     for part in parts {

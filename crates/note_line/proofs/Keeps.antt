@@ -1,5 +1,5 @@
 -- The laws of the line, for the proofs of other crates: what keeps it valid and its fates, and what falls.
-use Rattle.std.proofs.Common.{◌≡◌, ℕ, zero, suc, slice_get, ◌==◌, ◌+◌, ◌<◌, ◌≤◌, Bool, true, false, not, ◌&&◌, List, [], ◌∷◌, length, Option, Some, None, IsSome, is_some, option_map, refl, sym, ap, subst, arith, cond, find, ◌∙◌}
+use Rattle.std.proofs.Common.{◌⊎◌, inl, inr, nat_lt, ◌≡◌, ℕ, zero, suc, slice_get, ◌==◌, ◌+◌, ◌<◌, ◌≤◌, Bool, true, false, not, ◌&&◌, List, [], ◌∷◌, length, Option, Some, None, IsSome, is_some, option_map, refl, sym, ap, subst, arith, cond, find, ◌∙◌}
 use Rattle.std.specs.List.{AllByRecursion}
 use Rattle.std.proofs.lemmas.Bool.{true≢false}
 use Rattle.std.proofs.lemmas.List.{length_push}
@@ -10,10 +10,10 @@ use Rattle.note_line.specs.declared.fate.Fate.{Fate}
 use Rattle.note_line.specs.declared.fate.Fate.TheVariants.{Answered, Dropped}
 use Rattle.note_line.specs.declared.fate.DropCause.TheVariants.{NoSpool}
 use Rattle.note_line.specs.Line.{Line, next, noted, fate_of, with_head, with_open, fated, sent, fail_open, answered}
-use Rattle.note_line.specs.Table3.{Row, line_table, has_head, row_of, least_row, least, starts_at, line_starts, is_direct, effect_of, row_effect}
+use Rattle.note_line.specs.Table3.{Row, line_table, has_head, has_open, row_of, least_row, least, starts_at, line_starts, is_direct, effect_of, row_effect}
 use Rattle.note_line.specs.Left.{left}
 use Rattle.note_line.specs.Fates.{LineValid, KeepsFates}
-pub use Rattle.note_line.proofs.Rows.{Keeps, opening-valid, noted-keeps, drop-keeps, open-keeps, fail-keeps, answered-keeps, fates-same}
+pub use Rattle.note_line.proofs.Rows.{Keeps, opening-valid, noted-keeps, drop-keeps, open-keeps, fail-keeps, answered-keeps, head_waits, open_is_open, fates-same}
 
 -- ---- words
 
@@ -36,6 +36,10 @@ find_gives P test (y ∷ ys) x p e = by_test (test y) refl e (find_gives P test 
 is_none : (one : Option Note) → not (is_some one) ≡ true → one ≡ None
 is_none None e = refl
 is_none (Some note) e = absurd (true≢false (sym e))
+
+is_false : (b : Bool) → not b ≡ true → b ≡ false
+is_false false e = refl
+is_false true e = absurd (true≢false (sym e))
 
 -- ---- each row of the table
 
@@ -75,6 +79,7 @@ rows_are_of_numbers = (refl, (refl, (refl, tt)))
 -- it is a row of the table, of its number, which fires by itself and is ready
 record IsLeast (t : Bool) (l : Line) (number : ℕ) (P : Row → Type 0) : Type 0 where
   row : Row
+  its_number : row.number ≡ number
   gives : P row
   is_automatic : row.is_automatic ≡ true
   when : row.when t l ≡ true
@@ -90,6 +95,7 @@ least_is P t l number p e = of (least_row t l) refl e where
       let its = find_gives RowIsOfNumber (λ r. r.is_automatic && r.when t l) line_table r rows_are_of_numbers q in
       record {
         row = r;
+        its_number = same;
         gives = found.0;
         is_automatic = and_first _ _ found.1;
         when = and_second _ _ found.1;
@@ -113,6 +119,31 @@ pub least-falls : (t : Bool) (l : Line) (number : ℕ) → least t l ≡ Some nu
 least-falls t l number e =
     let least = least_is (RowFalls t l) t l number (rows_fall t l) e in
     subst (λ one. left (effect_of one l) < left l) (sym least.is) (least.gives least.is_automatic least.when)
+
+-- row 13 is ready where the tool communicates, a note waits and none is open
+pub least-sends : (t : Bool) (l : Line) → least t l ≡ Some 13 → (t ≡ true) × (l.opened ≡ None) × (has_head l ≡ true)
+least-sends t l e =
+    let starts : (has_head l && t && not (has_open l)) ≡ true = least-starts t l 13 e in
+    (and_second _ _ (and_first _ _ starts), is_none l.opened (and_second _ _ starts), and_first _ _ (and_first _ _ starts))
+
+-- row 11 is ready where it doesn't communicate and a note waits
+pub least-drops : (t : Bool) (l : Line) → least t l ≡ Some 11 → (t ≡ false) × (has_head l ≡ true)
+least-drops t l e =
+    let starts : (has_head l && not t) ≡ true = least-starts t l 11 e in
+    (is_false t (and_second _ _ starts), and_first _ _ starts)
+
+-- no other row fires by itself
+pub least-rows : (t : Bool) (l : Line) (number : ℕ) → least t l ≡ Some number → (number ≡ 11) ⊎ (number ≡ 13)
+least-rows t l number e =
+    let least = least_is (λ r. r.is_automatic ≡ true → (r.number ≡ 11) ⊎ (r.number ≡ 13)) t l number ((λ a. inl refl), ((λ a. inr refl), ((λ a. absurd (true≢false (sym a))), tt))) e in
+    subst (λ n. (n ≡ 11) ⊎ (n ≡ 13)) least.its_number (least.gives least.is_automatic)
+
+-- the note that waits first
+pub first-waits : (l : Line) → has_head l ≡ true → (note : Note) × (slice_get l.waiting 0 ≡ Some note)
+first-waits l some = of l.waiting some where
+  of : (notes : List Note) → nat_lt 0 (length notes) ≡ true → (note : Note) × (slice_get notes 0 ≡ Some note)
+  of [] e = absurd (true≢false (sym e))
+  of (note ∷ notes) e = (note, refl)
 
 -- ---- a row that an input fires
 

@@ -62,10 +62,11 @@ first_passes note notes false e =
     let one : one_if (is_number note.number note) ≡ 1 = rw here refl in
     absurd (omega (arith, one, count-cons note.number note notes, e))
 
-head_waits : (l : Line) (note : Note) (notes : List Note) → l.waiting ≡ note ∷ notes → LineValid l → fate_of note.number l.told ≡ Some Waiting
+-- the fates of the note that waits first and of the open one
+pub head_waits : (l : Line) (note : Note) (notes : List Note) → l.waiting ≡ note ∷ notes → LineValid l → fate_of note.number l.told ≡ Some Waiting
 head_waits l note notes w v = waits _ (first_passes note notes _ (rw w at (v.fated.waiting note.number)))
 
-open_is_open : (l : Line) (note : Note) → l.opened ≡ Some note → LineValid l → fate_of note.number l.told ≡ Some Open
+pub open_is_open : (l : Line) (note : Note) → l.opened ≡ Some note → LineValid l → fate_of note.number l.told ≡ Some Open
 open_is_open l note o v = is_sent _ (first_passes note [] _ (rw o at (v.fated.opened note.number)))
 
 -- ---- each effect

@@ -35,7 +35,7 @@ has_head l = nat_lt 0 (length l.waiting)
 abbrev pub has_open : Line → Bool
 has_open l = is_some l.opened
 
--- Table 3.
+-- Table 3, its rows in the order of their numbers.
 abbrev pub line_table : List Row
 line_table =
     -- a head, and the tool doesn't communicate: the head is dropped

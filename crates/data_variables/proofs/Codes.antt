@@ -20,11 +20,14 @@ eac_is set sets = first_is (pair_code set) (find (λ code. not (code == 0)) (map
 good_parts : (code rest : ℕ) → (if code == 0 then rest else code) ≡ 0 → (code ≡ 0) × (rest ≡ 0)
 good_parts code rest e = (grind (arith, nat_tests), grind (arith, nat_tests))
 
+pub good_first : (set : ℕ × Option Val) (sets : List (ℕ × Option Val)) → eac (set ∷ sets) ≡ 0 → (pair_code set ≡ 0) × (eac sets ≡ 0)
+good_first set sets e = good_parts (pair_code set) (eac sets) (sym (eac_is set sets) ∙ e)
+
 -- where no pair from a place on is faulty, the one at the place isn't, and none behind it
 pub good_at : (sets : List (ℕ × Option Val)) (i : ℕ) (d : ℕ × Option Val) → i < length sets → eac (drop i sets) ≡ 0 → (pair_code (get_or sets i d) ≡ 0) × (eac (drop (i + 1) sets) ≡ 0)
 good_at sets i d l e =
     let cut : drop i sets ≡ get_or sets i d ∷ drop (i + 1) sets = rw add-one (drop-cons sets i d l) in
-    good_parts (pair_code (get_or sets i d)) (eac (drop (i + 1) sets)) (sym (ap eac cut ∙ eac_is (get_or sets i d) (drop (i + 1) sets)) ∙ e)
+    good_first (get_or sets i d) (drop (i + 1) sets) (sym (ap eac cut) ∙ e)
 
 -- a value that is said is good where it is allowed
 said_allowed : (c : Option Constant) (value : Val) → said_code c (Some value) ≡ 0 → unwrap_or (option_map (λ (one : Constant). takes one value) c) false ≡ true

@@ -6,7 +6,7 @@ use Rattle.data_variables.specs.declared.val.Val.{Val}
 use Rattle.data_variables.specs.Setting.{last_said, with_said, with_value}
 
 -- no pair leaves the constants
-said_nothing : (values : List (ℕ × Val)) → with_said [] values ≡ values
+pub said_nothing : (values : List (ℕ × Val)) → with_said [] values ≡ values
 said_nothing [] = refl
 said_nothing (p ∷ values) = ap (λ (ps : List (ℕ × Val)). p ∷ ps) (said_nothing values)
 
@@ -17,7 +17,7 @@ later_counts None false value had = refl
 later_counts (Some v) b value had = refl
 
 -- the first pair may be set before the others
-said_first : (ecid : ℕ) (value : Val) (sets : List (ℕ × Option Val)) (values : List (ℕ × Val)) → with_said ((ecid, Some value) ∷ sets) values ≡ with_said sets (with_value ecid value values)
+pub said_first : (ecid : ℕ) (value : Val) (sets : List (ℕ × Option Val)) (values : List (ℕ × Val)) → with_said ((ecid, Some value) ∷ sets) values ≡ with_said sets (with_value ecid value values)
 said_first ecid value sets [] = refl
 said_first ecid value sets (p ∷ values) =
     ap (λ (v : Val). (p.0, v) ∷ with_said ((ecid, Some value) ∷ sets) values) (later_counts (last_said p.0 sets) (ecid == p.0) value p.1)

@@ -1,10 +1,11 @@
 //! Items of messages that speak of constants.
 
 ghost use Rattle.std.specs.Prelude.{◌≡◌, [], ◌∷◌, IfOk, map};
+ghost use Rattle.secs_items.specs.Sendable.{IsSendable};
 ghost use Rattle.secs_items.specs.View.{view};
-ghost use Rattle.data_variables.specs.Bodies.{value_item, number_said, truth_said, val_in, items, name_item, known_name, unknown_name, A, U4};
+ghost use Rattle.data_variables.specs.Bodies.{value_item, number_said, truth_said, val_in, items, name_item, namelist_of, known_name, unknown_name, A, U4};
 
-use crate::constant::{Constant, constant_of};
+use crate::constant::{Constant, constant_of, ids as all_ids};
 use crate::val::Val;
 use gem_ids::Text80;
 use secs_items::{Bools, Bytes, Item, Items, NoMemory, U32s};
@@ -13,7 +14,8 @@ use std::alloc::Global;
 /// The item of a value (SEMI E5, ECV): U4 of one element for a number, BOOL of one for a truth value. `NoMemory` where
 /// there is none.
 pub fn item_of(alloc: Global, val: Val) -> Result<Item, NoMemory>
-    ensures { IfOk result (λ item. view item ≡ value_item val) }
+    ensures exact { IfOk result (λ item. view item ≡ value_item val) }
+    ensures sendable { IfOk result (λ item. IsSendable (view item)) }
 {
     match val {
         Val::Number(number) => u4(alloc, number),
@@ -56,8 +58,20 @@ fn truth_said(item: &Item) -> Option<Val>
     }
 }
 
+// The body of S2F30 for these ECIDs, for none of all.
+pub(crate) fn namelist_item(alloc: Global, ids: &[u32]) -> Result<Item, NoMemory>
+    ensures { IfOk result (λ item. view item ≡ namelist_of ids.now) }
+{
+    let told = if ids.is_empty() {
+        name_items(alloc, &all_ids())?
+    } else {
+        name_items(alloc, ids)?
+    };
+    Ok(Item::List(told))
+}
+
 // What is told of each of these ECIDs.
-pub(crate) fn name_items(alloc: Global, ids: &[u32]) -> Result<Items, NoMemory>
+fn name_items(alloc: Global, ids: &[u32]) -> Result<Items, NoMemory>
     ensures { IfOk result (λ told. told ≡ items (map name_item ids.now)) }
 {
     let mut told = Items::new(alloc);

@@ -1,14 +1,15 @@
 //! The values of the equipment constants.
 
-ghost use Rattle.std.specs.Prelude.{◌≡◌, true, IfOk};
+ghost use Rattle.std.specs.Prelude.{◌≡◌, ◌^◌, ◌<◌, true, length, IfOk};
+ghost use Rattle.secs_items.specs.Sendable.{IsSendable};
 ghost use Rattle.secs_items.specs.View.{view};
 ghost use Rattle.data_variables.specs.Table.{is_allowed};
 ghost use Rattle.data_variables.specs.Values.{AreConstants, value_of, number_in, truth_in};
 ghost use Rattle.data_variables.specs.Setting.{pair_code, eac, with_value, with_said, set_all_after};
 ghost use Rattle.data_variables.specs.Bodies.{namelist_of};
 
-use crate::bodies::name_items;
-use crate::constant::{constant_of, ids as all_ids};
+use crate::bodies::namelist_item;
+use crate::constant::constant_of;
 use crate::val::Val;
 use indexmap::IndexMap;
 use secs_items::{Item, NoMemory};
@@ -118,14 +119,10 @@ impl Constants {
     /// constants in the printed order: of each its ECID, name, least value, most, default and units. The default is that
     /// of the table, whatever was set. Behind an unknown ECID stand five empty A. `NoMemory` where there is none.
     pub fn namelist(&self, alloc: Global, ids: &[u32]) -> Result<Item, NoMemory>
-        ensures { IfOk result (λ item. view item ≡ namelist_of ids.now) }
+        ensures exact { IfOk result (λ item. view item ≡ namelist_of ids.now) }
+        ensures sendable { length ids.now < 2 ^ 24 → IfOk result (λ item. IsSendable (view item)) }
     {
-        let told = if ids.is_empty() {
-            name_items(alloc, &all_ids())?
-        } else {
-            name_items(alloc, ids)?
-        };
-        Ok(Item::List(told))
+        namelist_item(alloc, ids)
     }
 }
 

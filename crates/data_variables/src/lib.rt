@@ -8,9 +8,14 @@
 mod bodies;
 mod constant;
 mod constants;
+mod laws;
 mod val;
 
 pub use bodies::{item_of, set_of};
 pub use constant::ids;
 pub use constants::Constants;
+pub use laws::{
+    constants_are_variables, each_value_is_in_range, setting_keeps_constants,
+    the_defaults_are_constants, values_and_names_can_be_sent,
+};
 pub use val::Val;

@@ -1,5 +1,9 @@
 //! The rows of the line of notes (table 3).
-ghost use Rattle.std.specs.Prelude.{◌≡◌, OnOk};
+ghost use Rattle.std.specs.Prelude.{◌≡◌, is_some, None, OnOk, IfOk};
+ghost use Rattle.note_line.specs.Line.{fate_of};
+ghost use Rattle.gem_model.specs.Ready.{ready_line};
+ghost use Rattle.gem_model.specs.Fire.{stream_of_kind, function_of_kind};
+ghost use Rattle.core_state.specs.Firing.{fire_first};
 ghost use Rattle.gem_tables.specs.Table.{firing};
 ghost use Rattle.note_line.specs.Table3.{least};
 ghost use Rattle.note_line.specs.Line.{answered};
@@ -8,6 +12,7 @@ ghost use Rattle.gem_model.specs.Fire.{fire, fire_line, fire_listed, asks_first}
 ghost use Rattle.gem_model.specs.Direct.{note_fails};
 
 use crate::plant::Plant;
+use hsms_frame::Bytes;
 use note_line::{Fate, Kind};
 use std::alloc::{AllocError, Global};
 use transactions::What;
@@ -32,22 +37,38 @@ impl Plant {
         };
         let (stream, function) = message_of(note.kind);
         let what = What::Note(note.number);
-        let text = note.text.clone()?;
+        let text = Bytes::from_vec(Vec::from_slice(alloc, note.text.as_slice())?);
         self.ask(alloc, stream, function, what, text)
     }
 
-    /// An automatic row of the line of notes fires: 11, by which the head is dropped, or 13, by which it is sent and open.
-    pub(crate) fn line_row(&mut self, alloc: Global, row: u8) -> Result<(), AllocError>
-        requires { least (is_communicating self.old.comm) self.old.line ≡ Some row }
-        ensures { OnOk result (self.new ≡ fire self.old (firing 3 0 row)) }
+    /// Row 11: the head is dropped.
+    fn drop_head(&mut self)
+        ensures { self.new ≡ fire self.old (firing 3 0 11) }
     {
-        if row == 13 {
-            self.send_head(alloc)?;
-            self.line.open_head();
-        } else {
-            self.line.drop_head();
-        }
+        self.line.drop_head();
+    }
+
+    /// Row 13: the head is sent, and is open. No note is open before.
+    fn open_head(&mut self, alloc: Global) -> Result<(), AllocError>
+        requires { self.old.line.opened ≡ None }
+        ensures { OnOk result (self.new ≡ fire self.old (firing 3 0 13)) }
+    {
+        self.send_head(alloc)?;
+        self.line.open_head();
         Ok(())
+    }
+
+    /// Fires the row of the line of notes that is ready, and tells whether there was one.
+    pub(crate) fn line_row(&mut self, alloc: Global) -> Result<bool, AllocError>
+        ensures fired { IfOk result (λ fired. fired ≡ is_some (ready_line self.old)) }
+        ensures after { OnOk result (self.new ≡ fire_first (ready_line self.old) self.old) }
+    {
+        match self.line.row_for(self.is_communicating()) {
+            Some(13) => self.open_head(alloc)?,
+            Some(_) => self.drop_head(),
+            None => return Ok(false),
+        }
+        Ok(true)
     }
 
     /// The transaction of the open note has failed: its row fires, where a note is open.

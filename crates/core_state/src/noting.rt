@@ -10,12 +10,12 @@ ghost use Rattle.note_line.specs.Limits.{most_text};
 ghost use Rattle.note_line.specs.Line.{next};
 ghost use Rattle.gem_model.specs.State.{State};
 ghost use Rattle.gem_model.specs.Values.{value_of};
-ghost use Rattle.gem_model.specs.Noting.{is_event_reported, event_text, line_with_event, noted_as, is_alarm_reported, alcd, text_of_alarm, line_with_alarm, sets_alarm, clears_alarm};
+ghost use Rattle.gem_model.specs.Noting.{is_event_reported, event_text, line_with_event, line_behind, noted_as, is_alarm_reported, alcd, text_of_alarm, alarm_line, line_with_alarm, sets_alarm, clears_alarm};
 
 use crate::frames::reply_text;
 use crate::plant::Plant;
 use gem_ids::Text80;
-use gem_rows::{RowId, alarm_text, ceid_of};
+use gem_rows::{RowId, ceid_of};
 use gem_states::Comm;
 use hsms_frame::Bytes;
 use msgs_gem::GemReply;
@@ -71,11 +71,35 @@ impl Plant {
     }
 
     /// The note of an event waits behind the others.
-    fn note_event(&mut self, alloc: Global, ceid: u32, object: Text80, row: u16) -> Result<(), AllocError>
+    fn note_event(
+        &mut self,
+        alloc: Global,
+        ceid: u32,
+        object: Text80,
+        row: u16,
+    ) -> Result<(), AllocError>
         ensures { OnOk result (self.new ≡ record self.old { line = line_with_event ceid (record { object = object; row = row }) self.old }) }
     {
         let text = self.event_text(alloc, ceid, object, row)?;
-        self.line.add(Kind::Event, ceid, text)
+        self.line.add(Kind::Event, ceid, text)?;
+        Ok(())
+    }
+
+    /// The event of a row that fired makes its note, where it is reported. The row is 100 times its table plus its number.
+    fn tell_event(
+        &mut self,
+        alloc: Global,
+        ceid: u32,
+        object: Text80,
+        row: u16,
+        online_before: bool,
+    ) -> Result<(), AllocError>
+        ensures { OnOk result (self.new ≡ record self.old { line = line_behind (Some ceid) (record { object = object; row = row }) online_before self.old }) }
+    {
+        if self.is_event_reported(ceid, online_before) {
+            self.note_event(alloc, ceid, object, row)?;
+        }
+        Ok(())
     }
 
     /// Makes the note of a row that fired and led to the present state, where its event is reported: with the next number,
@@ -83,14 +107,16 @@ impl Plant {
     pub fn note(&mut self, alloc: Global, firing: RowFiring) -> Result<(), AllocError>
         ensures { OnOk result (self.new ≡ noted_as firing.row.table firing.row.row firing.object firing.online_before self.old) }
     {
-        let Some(ceid) = ceid_of(firing.row) else {
+        let RowFiring {
+            row,
+            object,
+            online_before,
+        } = firing;
+        let Some(ceid) = ceid_of(row) else {
             return Ok(());
         };
-        if !self.is_event_reported(ceid, firing.online_before) {
-            return Ok(());
-        }
-        let row = 100 * u16::from(firing.row.table) + u16::from(firing.row.row);
-        self.note_event(alloc, ceid, firing.object, row)
+        let number = 100 * u16::from(row.table) + u16::from(row.row);
+        self.tell_event(alloc, ceid, object, number, online_before)
     }
 
     /// Whether changes of this alarm are reported: it is enabled, communication isn't DISABLED, and control is ON-LINE.
@@ -101,7 +127,7 @@ impl Plant {
     }
 
     /// The text of S5F1 of an alarm, by whether it is set.
-    fn alarm_note(&self, alloc: Global, alid: u32) -> Result<Bytes, AllocError>
+    fn alarm_text(&self, alloc: Global, alid: u32) -> Result<Bytes, AllocError>
         ensures text { IfOk result (λ text. text ≡ plain (reply_body (reply.S5F1 (alcd (is_set alid self.now.alarms)) alid (text_of_alarm alid)))) }
         ensures short { IfOk result (λ text. length text ≤ most_text) }
     {
@@ -109,15 +135,23 @@ impl Plant {
         reply_text(alloc, &GemReply::S5F1(code, alid, text_of_alarm(alid)))
     }
 
+    /// The note of an alarm, by whether it is set, waits behind the others.
+    fn note_alarm(&mut self, alloc: Global, alid: u32) -> Result<(), AllocError>
+        ensures { OnOk result (self.new ≡ record self.old { line = alarm_line alid self.old }) }
+    {
+        let text = self.alarm_text(alloc, alid)?;
+        self.line.add(Kind::Alarm, alid, text)?;
+        Ok(())
+    }
+
     /// A change of an alarm to its present state makes its note, where it is reported.
     fn tell_alarm(&mut self, alloc: Global, alid: u32) -> Result<(), AllocError>
         ensures { OnOk result (self.new ≡ record self.old { line = line_with_alarm alid self.old }) }
     {
-        if !self.is_alarm_reported(alid) {
-            return Ok(());
+        if self.is_alarm_reported(alid) {
+            self.note_alarm(alloc, alid)?;
         }
-        let text = self.alarm_note(alloc, alid)?;
-        self.line.add(Kind::Alarm, alid, text)
+        Ok(())
     }
 
     /// An alarm is set, and the change is told, where it was clear (SEMI E30, alarms). An alarm that the tool doesn't have
@@ -125,7 +159,8 @@ impl Plant {
     pub fn set_alarm(&mut self, alloc: Global, alid: u32) -> Result<(), AllocError>
         ensures { OnOk result (self.new ≡ sets_alarm alid self.old) }
     {
-        if self.alarms.set(alid) {
+        if self.alarms.is_known(alid) && !self.alarms.is_set(alid) {
+            self.alarms.set(alid);
             self.tell_alarm(alloc, alid)?;
         }
         Ok(())
@@ -135,7 +170,8 @@ impl Plant {
     pub fn clear_alarm(&mut self, alloc: Global, alid: u32) -> Result<(), AllocError>
         ensures { OnOk result (self.new ≡ clears_alarm alid self.old) }
     {
-        if self.alarms.clear(alid) {
+        if self.alarms.is_set(alid) {
+            self.alarms.clear(alid);
             self.tell_alarm(alloc, alid)?;
         }
         Ok(())
@@ -153,5 +189,5 @@ pub fn alcd(is_set: bool) -> u8
 pub fn text_of_alarm(alid: u32) -> Text80
     ensures { result ≡ text_of_alarm alid }
 {
-    alarm_text(alid).unwrap_or(Text80::empty())
+    gem_rows::alarm_text(alid).unwrap_or(Text80::empty())
 }

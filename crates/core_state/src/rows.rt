@@ -200,11 +200,7 @@ impl Plant {
             self.control_row(alloc, 2)?;
             return Ok(true);
         }
-        let Some(row) = self.line.row_for(self.is_communicating()) else {
-            return Ok(false);
-        };
-        self.line_row(alloc, row)?;
-        Ok(true)
+        self.line_row(alloc)
     }
 
     /// Fires the least automatic row that is ready, again and again, until none is.

@@ -1,5 +1,5 @@
 //! The values of variables (SEMI E5, S1F3 and S2F13).
-ghost use Rattle.std.specs.Prelude.{◌≡◌, ◌≤◌, [], length, IfOk, option_map, map};
+ghost use Rattle.std.specs.Prelude.{◌≡◌, ◌∷◌, ◌≤◌, [], length, IfOk, option_map, map};
 ghost use Rattle.std.specs.List.{filter};
 ghost use Rattle.secs_items.specs.Data.{ascii, u1, u2, u4};
 ghost use Rattle.secs_items.specs.View.{view};
@@ -51,7 +51,9 @@ fn small_number(alloc: Global, number: u8) -> Result<Item, AllocError>
 impl Plant {
     /// What the variables show in a firing of this row at this object, or outside one: with an empty name and 0.
     pub fn showing(&self, object: Text80, row: u16) -> Showing<'_>
-        ensures { result ≡ record { plant = self; object = object; row = row } }
+        ensures plant { result.plant.now ≡ self.now }
+        ensures object { result.object ≡ object }
+        ensures row { result.row ≡ row }
     {
         Showing {
             plant: self,

@@ -62,12 +62,14 @@ alcd is_set = if is_set then 134 else 6
 abbrev pub text_of_alarm : ℕ → List ℕ
 text_of_alarm alid = unwrap_or (alarm_text alid) []
 
+-- the line with a note of an alarm behind the others, by whether it is set
+abbrev pub alarm_line : ℕ → State → notes.Line
+alarm_line alid g =
+    notes.noted Alarm alid (plain (reply_body (reply.S5F1 (alcd (is_set alid g.alarms)) alid (text_of_alarm alid)))) g.line
+
 -- the line behind a change of an alarm that led to this state
 abbrev pub line_with_alarm : ℕ → State → notes.Line
-line_with_alarm alid g =
-    if is_alarm_reported alid g
-    then notes.noted Alarm alid (plain (reply_body (reply.S5F1 (alcd (is_set alid g.alarms)) alid (text_of_alarm alid)))) g.line
-    else g.line
+line_with_alarm alid g = if is_alarm_reported alid g then alarm_line alid g else g.line
 
 abbrev alarm_told : ℕ → State → State
 alarm_told alid g = record g { line = line_with_alarm alid g }

@@ -42,7 +42,7 @@ impl Plant {
         self.put(frame)
     }
 
-    /// A message of stream 9 of this function, about a header, waits for the writer.
+    /// A message of stream 9 of this function, about a header, waits for the writer (SEMI E5, stream 9).
     pub fn send_stream9(
         &mut self,
         alloc: Global,
@@ -58,7 +58,8 @@ impl Plant {
         self.put(frame)
     }
 
-    /// A primary of the tool waits for the writer, and its transaction is open until T3.
+    /// A primary of the tool waits for the writer, and its transaction is open until T3. Where 16 are open nothing is
+    /// sent, and nothing has changed.
     pub fn ask(
         &mut self,
         alloc: Global,

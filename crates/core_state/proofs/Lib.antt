@@ -1,1 +1,5 @@
+pub mod Direct
 pub mod Firings
+pub mod MomentTexts
+pub mod Small
+pub mod Telling

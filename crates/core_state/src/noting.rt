@@ -61,13 +61,13 @@ impl Plant {
         ensures text { IfOk result (λ text. text ≡ event_text (next self.now.line) ceid (report_items (value_of (record { object = object; row = row }) self.now) ceid self.now.reports)) }
         ensures short { IfOk result (λ text. length text ≤ most_text) }
     {
+        self.has_few_alarms(&object);
         let mut reports = Items::new(alloc);
         let showing = self.showing(object, row);
         self.reports.report(alloc, ceid, &showing, &mut reports)?;
-        reply_text(
-            alloc,
-            &GemReply::S6F11(self.line.next_number(), ceid, reports),
-        )
+        let event = GemReply::S6F11(self.line.next_number(), ceid, reports);
+        let text = reply_text(alloc, &event)?;
+        Ok(text)
     }
 
     /// The note of an event waits behind the others.
@@ -86,6 +86,7 @@ impl Plant {
     }
 
     /// The event of a row that fired makes its note, where it is reported. The row is 100 times its table plus its number.
+    #[tactic(auto, using(crate::proofs::Telling::event_told, crate::proofs::Telling::event_untold))]
     fn tell_event(
         &mut self,
         alloc: Global,
@@ -116,7 +117,8 @@ impl Plant {
             return Ok(());
         };
         let number = 100 * u16::from(row.table) + u16::from(row.row);
-        self.tell_event(alloc, ceid, object, number, online_before)
+        self.tell_event(alloc, ceid, object, number, online_before)?;
+        Ok(())
     }
 
     /// Whether changes of this alarm are reported: it is enabled, communication isn't DISABLED, and control is ON-LINE.
@@ -145,6 +147,7 @@ impl Plant {
     }
 
     /// A change of an alarm to its present state makes its note, where it is reported.
+    #[tactic(auto, using(crate::proofs::Telling::alarm_told, crate::proofs::Telling::alarm_untold))]
     fn tell_alarm(&mut self, alloc: Global, alid: u32) -> Result<(), AllocError>
         ensures { OnOk result (self.new ≡ record self.old { line = line_with_alarm alid self.old }) }
     {

@@ -3,6 +3,8 @@ ghost use Rattle.std.specs.Prelude.{◌≡◌, ◌∷◌, ◌≤◌, [], length,
 ghost use Rattle.std.specs.List.{filter};
 ghost use Rattle.secs_items.specs.Data.{ascii, u1, u2, u4};
 ghost use Rattle.secs_items.specs.View.{view};
+ghost use Rattle.gem_ids.specs.Texts.{IsText};
+ghost use Rattle.event_reports.specs.Limits.{most_alarms};
 ghost use Rattle.gem_ids.specs.Civil.{time_digits};
 ghost use Rattle.event_reports.specs.Alarms.{set_alids};
 ghost use Rattle.gem_model.specs.State.{clock_now};
@@ -62,6 +64,24 @@ impl Plant {
         }
     }
 
+    /// What is known of each text and of the alarms of a tool: it prints, and they are few.
+    pub(crate) fn has_few_alarms(&self, text: &Text80)
+        ensures text { IsText text.now }
+        ensures few { length self.now.alarms ≤ most_alarms }
+    {
+        text.as_bytes();
+        self.alarms.lines();
+    }
+
+    /// The text of the time that the host's clock shows: 16 digits, YYYYMMDDhhmmsscc.
+    pub fn time_text(&self, alloc: Global) -> Result<Bytes, AllocError>
+        ensures digits { IfOk result (λ text. text ≡ time_digits (clock_now self.now)) }
+        ensures text { IfOk result IsText }
+    {
+        let digits = time16(self.clock_now());
+        Ok(Bytes::from_vec(Vec::from_slice(alloc, &digits)?))
+    }
+
     /// The set alarms, rising.
     fn set_alarms(&self, alloc: Global) -> Result<Item, AllocError>
         ensures { IfOk result (λ item. view item ≡ u4 (set_alids self.now.alarms)) }
@@ -80,7 +100,7 @@ impl Plant {
         ensures { IfOk result (λ value. option_map view value ≡ status_value self.now vid) }
     {
         let value = match vid {
-            1 => Item::Ascii(Bytes::from_vec(Vec::from_slice(alloc, &time16(self.clock_now()))?)),
+            1 => Item::Ascii(self.time_text(alloc)?),
             2 => small_number(alloc, self.comm.number())?,
             3 => small_number(alloc, self.control.number())?,
             8 => self.set_alarms(alloc)?,

@@ -1,4 +1,3 @@
 pub mod Functions
 pub mod Timeouts
 pub mod Replaying
-pub mod MomentTexts

@@ -3,7 +3,7 @@
 ghost use Rattle.std.specs.Prelude.{◌<◌, length};
 
 use data_variables::{Constants, Val, ids, item_of, set_of};
-use secs_items::{Item, encode, read_one};
+use secs_items::{encode, read_one};
 use std::alloc::Global;
 use std::test::Fail;
 

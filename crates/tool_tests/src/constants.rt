@@ -1,9 +1,9 @@
 //! Equipment constants (`data_variables`).
 
-ghost use Rattle.std.specs.Prelude.{◌≡◌};
+ghost use Rattle.std.specs.Prelude.{◌<◌, length};
 
 use data_variables::{Constants, Val, ids, item_of, set_of};
-use secs_items::{Item, encode, read_one};
+use secs_items::{encode, read_one};
 use std::alloc::Global;
 use std::test::Fail;
 
@@ -153,7 +153,9 @@ fn good_pairs_are_set_and_the_last_of_one_constant_counts(rt: HostRuntime) -> Re
 }
 
 // The bytes of S2F30 for these ECIDs.
-fn names(alloc: Global, constants: &Constants, ids: &[u32]) -> Result<Vec<u8>, Fail> {
+fn names(alloc: Global, constants: &Constants, ids: &[u32]) -> Result<Vec<u8>, Fail>
+    requires { length ids.now < 1024 }
+{
     let mut bytes = Vec::new(alloc);
     encode(&constants.namelist(alloc, ids)?, &mut bytes)?;
     Ok(bytes)

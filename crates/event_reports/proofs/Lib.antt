@@ -2,4 +2,3 @@ pub mod Counts
 pub mod Within
 pub mod Giving
 pub mod Small
-pub mod InTurn

@@ -1,5 +1,5 @@
 pub mod Limits
-pub mod Given
+pub mod Values
 pub mod Alarms
 pub mod Reports
 pub mod Within

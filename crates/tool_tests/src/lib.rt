@@ -22,6 +22,8 @@ mod names;
 #[cfg(test)]
 mod open_transactions;
 #[cfg(test)]
+mod reports_and_alarms;
+#[cfg(test)]
 mod sources_and_sinks;
 #[cfg(test)]
 mod states;

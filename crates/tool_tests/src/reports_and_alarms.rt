@@ -21,10 +21,7 @@ impl Values for Numbers {
         if vid == self.but {
             return Ok(None);
         }
-        Ok(Some(Item::U4(Ids::from_vec(Vec::from_slice(
-            alloc,
-            &[vid],
-        )?))))
+        Ok(Some(Item::U4(Ids::from_vec(Vec::from_slice(alloc, &[vid])?))))
     }
 }
 
@@ -92,10 +89,7 @@ fn event(alloc: Global, reports: &Reports, ceid: u32) -> Result<Vec<u32>, NoMemo
 // Reports 1 of VIDs 1 and 3, and 2 of VID 2, of which event 211 is linked to report 1.
 fn two_reports(alloc: Global) -> Result<Reports, Fail> {
     let mut reports = Reports::new(alloc, 2, 2)?;
-    let defined = reports.define(
-        alloc,
-        &[(1, ids(alloc, &[1, 3])?), (2, ids(alloc, &[2])?)],
-    )?;
+    let defined = reports.define(alloc, &[(1, ids(alloc, &[1, 3])?), (2, ids(alloc, &[2])?)])?;
     let linked = reports.link(alloc, &[(211, ids(alloc, &[1])?)])?;
     if defined == 0 && linked == 0 {
         Ok(reports)
@@ -147,7 +141,11 @@ fn the_first_faulty_report_gives_drack(rt: HostRuntime) -> Result<(), Fail> {
     for first in [1, 3, 4] {
         for second in [0, 1, 3, 4] {
             let entries = [faulty_report(alloc, first)?, faulty_report(alloc, second)?];
-            assert_eq!(rt; reports.define(alloc, &entries)?, first, "{first} and {second}");
+            assert_eq!(rt;
+                reports.define(alloc, &entries)?,
+                first,
+                "{first} and {second}"
+            );
             let behind = [faulty_report(alloc, 0)?, faulty_report(alloc, first)?];
             assert_eq!(rt; reports.define(alloc, &behind)?, first, "{first} behind");
             assert!(rt; one(alloc, &reports, 6)?.is_empty());
@@ -171,7 +169,11 @@ fn drack_of_one_report_with_two_faults(rt: HostRuntime) -> Result<(), Fail> {
         (7, times(alloc, 1024, 10)?, 1),
     ];
     for (rptid, vids, code) in faults {
-        assert_eq!(rt; reports.define(alloc, &[(rptid, vids)])?, code, "of report {rptid}");
+        assert_eq!(rt;
+            reports.define(alloc, &[(rptid, vids)])?,
+            code,
+            "of report {rptid}"
+        );
     }
     Ok(())
 }
@@ -221,7 +223,11 @@ fn a_plant_knows_the_variables_of_its_own(rt: HostRuntime) -> Result<(), Fail> {
     ];
     for (ports, chambers, vid, code) in known {
         let mut reports = Reports::new(alloc, ports, chambers)?;
-        assert_eq!(rt; reports.define(alloc, &[(1, ids(alloc, &[vid])?)])?, code, "VID {vid}");
+        assert_eq!(rt;
+            reports.define(alloc, &[(1, ids(alloc, &[vid])?)])?,
+            code,
+            "VID {vid}"
+        );
     }
     Ok(())
 }
@@ -270,7 +276,11 @@ fn the_first_faulty_link_gives_lrack(rt: HostRuntime) -> Result<(), Fail> {
     for first in [1, 3, 4, 5] {
         for second in [0, 1, 3, 4, 5] {
             let entries = [faulty_link(alloc, first)?, faulty_link(alloc, second)?];
-            assert_eq!(rt; reports.link(alloc, &entries)?, first, "{first} and {second}");
+            assert_eq!(rt;
+                reports.link(alloc, &entries)?,
+                first,
+                "{first} and {second}"
+            );
             let behind = [faulty_link(alloc, 0)?, faulty_link(alloc, first)?];
             assert_eq!(rt; reports.link(alloc, &behind)?, first, "{first} behind");
             assert!(rt; event(alloc, &reports, 208)?.is_empty());
@@ -294,7 +304,11 @@ fn lrack_of_one_link_with_two_faults(rt: HostRuntime) -> Result<(), Fail> {
         (210, times(alloc, 1024, 2)?, 1),
     ];
     for (ceid, rptids, code) in faults {
-        assert_eq!(rt; reports.link(alloc, &[(ceid, rptids)])?, code, "of event {ceid}");
+        assert_eq!(rt;
+            reports.link(alloc, &[(ceid, rptids)])?,
+            code,
+            "of event {ceid}"
+        );
     }
     Ok(())
 }

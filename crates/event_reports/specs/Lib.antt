@@ -4,3 +4,4 @@ pub mod Alarms
 pub mod Reports
 pub mod Within
 pub mod Kept
+pub mod Sound

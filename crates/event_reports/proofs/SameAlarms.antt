@@ -1,5 +1,5 @@
 -- The alarms of a plant stay the same.
-use Rattle.std.proofs.Common.{◌≡◌, ◌≤◌, ◌==◌, ℕ, suc, Bool, true, false, cond, if◌then◌else◌, List, [], ◌∷◌, length, map, Option, refl, ap, arith}
+use Rattle.std.proofs.Common.{◌≡◌, ◌≤◌, ◌==◌, ℕ, suc, Bool, true, false, cond, if◌then◌else◌, List, [], ◌∷◌, length, map, Option, refl, arith}
 use Rattle.std.specs.List.{filter}
 use Rattle.event_reports.specs.Alarms.{AlarmLine, line_marked, is_meant, line_enabled, alarm_marked, alarms_enabled, set_alids}
 

@@ -1,6 +1,6 @@
 -- No message changes the plant.
-use Rattle.std.proofs.Common.{◌≡◌, ◌==◌, ℕ, Bool, true, false, if◌then◌else◌, List, [], ◌∷◌, length, map, refl, ap, ◌∙◌}
-use Rattle.event_reports.specs.Reports.{EventLine, Reports, link_without, unlinked, with_link, is_named, with_enabled, without_report, without_reports, after_report, after_link, after_all, drack, defined, lrack, linked, erack, enabled}
+use Rattle.std.proofs.Common.{◌≡◌, ◌==◌, ℕ, Bool, true, false, if◌then◌else◌, List, [], ◌∷◌, length, map, refl, ◌∙◌}
+use Rattle.event_reports.specs.Reports.{EventLine, Reports, link_without, unlinked, with_link, is_named, with_enabled, without_report, after_report, after_link, after_all, drack, defined, lrack, linked, erack, enabled}
 use Rattle.event_reports.specs.Sound.{IsSamePlant}
 
 -- events that keep their CEIDs

@@ -1,5 +1,5 @@
 -- No two reports have one RPTID, and links name defined reports alone.
-use Rattle.std.proofs.Common.{◌≡◌, ◌==◌, ℕ, suc, Bool, true, false, not, cond, ◌&&◌, ◌||◌, if◌then◌else◌, List, [], ◌∷◌, ◌++◌, length, map, refl, sym, ap, ◌∙◌, arith}
+use Rattle.std.proofs.Common.{◌≡◌, ◌==◌, ℕ, suc, Bool, true, false, not, cond, ◌&&◌, ◌||◌, if◌then◌else◌, List, [], ◌∷◌, ◌++◌, length, map, refl, arith}
 use Rattle.std.specs.List.{filter, list_any, list_all, AllByRecursion}
 use Rattle.std.proofs.lemmas.Bool.Decides.{nat_tests}
 use Rattle.gem_rows.specs.Events.{ceids}
@@ -15,9 +15,9 @@ none-filter (p ∷ reports) test id none =
     let here : (p.id == id) ≡ false = grind (arith, nat_tests) in
     let others : list_any (λ (q : Report). q.id == id) reports ≡ false = grind (arith, nat_tests) in
     by_test (test p) here (none-filter reports test id others) where
-  by_test : (b : Bool) → (p.id == id) ≡ false → list_any (λ (q : Report). q.id == id) (filter test reports) ≡ false → list_any (λ (q : Report). q.id == id) (cond b (p ∷ filter test reports) (filter test reports)) ≡ false
-  by_test true here rest = rw (here, rest) refl
-  by_test false here rest = rest
+      by_test : (b : Bool) → (p.id == id) ≡ false → list_any (λ (q : Report). q.id == id) (filter test reports) ≡ false → list_any (λ (q : Report). q.id == id) (cond b (p ∷ filter test reports) (filter test reports)) ≡ false
+      by_test true here rest = rw (here, rest) refl
+      by_test false here rest = rest
 
 different-filter : (reports : List Report) (test : Report → Bool) → AreDifferent reports → AreDifferent (filter test reports)
 different-filter [] test different = tt
@@ -47,7 +47,7 @@ still-push : (reports : List Report) (p : Report) (id : ℕ) → list_any (λ (q
 still-push [] p id there = absurd (cc)
 still-push (q ∷ reports) p id there = by_test (q.id == id) there (still-push reports p id) where
   by_test : (b : Bool) → (b || list_any (λ (x : Report). x.id == id) reports) ≡ true → (list_any (λ (x : Report). x.id == id) reports ≡ true → list_any (λ (x : Report). x.id == id) (reports ++ p ∷ []) ≡ true) →
-    (b || list_any (λ (x : Report). x.id == id) (reports ++ p ∷ [])) ≡ true
+      (b || list_any (λ (x : Report). x.id == id) (reports ++ p ∷ [])) ≡ true
   by_test true there rest = refl
   by_test false there rest = rest there
 
@@ -56,8 +56,8 @@ still-filter : (reports : List Report) (rptid id : ℕ) → (id == rptid) ≡ fa
 still-filter [] rptid id other there = absurd (cc)
 still-filter (p ∷ reports) rptid id other there = by_test (p.id == rptid) (p.id == id) refl refl there (still-filter reports rptid id other) where
   by_test : (b c : Bool) → (p.id == rptid) ≡ b → (p.id == id) ≡ c → (c || list_any (λ (q : Report). q.id == id) reports) ≡ true →
-    (list_any (λ (q : Report). q.id == id) reports ≡ true → list_any (λ (q : Report). q.id == id) (filter (λ (q : Report). not (q.id == rptid)) reports) ≡ true) →
-    list_any (λ (q : Report). q.id == id) (cond (not b) (p ∷ filter (λ (q : Report). not (q.id == rptid)) reports) (filter (λ (q : Report). not (q.id == rptid)) reports)) ≡ true
+      (list_any (λ (q : Report). q.id == id) reports ≡ true → list_any (λ (q : Report). q.id == id) (filter (λ (q : Report). not (q.id == rptid)) reports) ≡ true) →
+      list_any (λ (q : Report). q.id == id) (cond (not b) (p ∷ filter (λ (q : Report). not (q.id == rptid)) reports) (filter (λ (q : Report). not (q.id == rptid)) reports)) ≡ true
   by_test true true is here there rest = absurd (grind (arith, nat_tests))
   by_test true false is here there rest = rest there
   by_test false true is here there rest = rw here refl
@@ -76,7 +76,7 @@ all-without : (p q : ℕ → Bool) (id : ℕ) → ((n : ℕ) → (n == id) ≡ f
 all-without p q id weaker [] all = refl
 all-without p q id weaker (n ∷ ns) all = by_test (n == id) (p n) refl refl all (all-without p q id weaker ns) where
   by_test : (b c : Bool) → (n == id) ≡ b → p n ≡ c → (c && list_all p ns) ≡ true → (list_all p ns ≡ true → list_all q (filter (λ m. not (m == id)) ns) ≡ true) →
-    list_all q (cond (not b) (n ∷ filter (λ m. not (m == id)) ns) (filter (λ m. not (m == id)) ns)) ≡ true
+      list_all q (cond (not b) (n ∷ filter (λ m. not (m == id)) ns) (filter (λ m. not (m == id)) ns)) ≡ true
   by_test true true is here all rest = rest all
   by_test false true is here all rest = rw (weaker n is here, rest all) refl
   by_test b false is here all rest = absurd (cc)
@@ -112,7 +112,7 @@ sound-report : (report : ℕ × List ℕ) (r : Reports) → report_code report r
 sound-report (rptid, []) r none sound = record {
   different = different-filter r.reports (λ p. not (p.id == rptid)) sound.different;
   linked = links-map r (after_report (rptid, []) r) (link_without rptid)
-    (λ e links. all-without (λ id. is_report id r) (λ id. is_report id (after_report (rptid, []) r)) rptid (λ id other there. still-filter r.reports rptid id other there) e.reports links) r.events sound.linked;
+      (λ e links. all-without (λ id. is_report id r) (λ id. is_report id (after_report (rptid, []) r)) rptid (λ id other there. still-filter r.reports rptid id other there) e.reports links) r.events sound.linked;
 }
 sound-report (rptid, vid ∷ vids) r none sound =
     let taken = free (is_report rptid r) _ (rw (not_empty (length vids)) at none) in
@@ -148,11 +148,11 @@ sound-link (ceid, rptids) r none sound =
     }
 
 sound-all : {E : Type 0} (code : E → Reports → ℕ) (after : E → Reports → Reports) → ((entry : E) (r : Reports) → code entry r ≡ 0 → IsSound r → IsSound (after entry r)) →
-  (entries : List E) (r : Reports) → first_refusal code after entries r ≡ 0 → IsSound r → IsSound (after_all after entries r)
+    (entries : List E) (r : Reports) → first_refusal code after entries r ≡ 0 → IsSound r → IsSound (after_all after entries r)
 sound-all code after kept [] r none sound = sound
 sound-all code after kept (entry ∷ entries) r none sound = by_test (code entry r == 0) refl none (λ more one. sound-all code after kept entries (after entry r) more one) where
   by_test : (b : Bool) → (code entry r == 0) ≡ b → (if b then first_refusal code after entries (after entry r) else code entry r) ≡ 0 →
-    (first_refusal code after entries (after entry r) ≡ 0 → IsSound (after entry r) → IsSound (after_all after entries (after entry r))) → IsSound (after_all after entries (after entry r))
+      (first_refusal code after entries (after entry r) ≡ 0 → IsSound (after entry r) → IsSound (after_all after entries (after entry r))) → IsSound (after_all after entries (after entry r))
   by_test true is none rest = let fine : code entry r ≡ 0 = grind (arith, nat_tests) in rest none (kept entry r fine sound)
   by_test false is none rest = absurd (grind (arith, nat_tests))
 

@@ -1,5 +1,5 @@
 -- What the messages of a host leave as it must be.
-use Rattle.std.specs.Prelude.{◌≡◌, ◌==◌, Bool, true, false, List, [], ◌∷◌, map}
+use Rattle.std.specs.Prelude.{◌≡◌, ◌==◌, true, false, List, [], ◌∷◌, map}
 use Rattle.std.specs.List.{list_any, list_all, AllByRecursion}
 use Rattle.event_reports.specs.Reports.{Report, EventLine, Reports, is_report}
 

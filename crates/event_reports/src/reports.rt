@@ -1,6 +1,6 @@
 //! Reports, their links to collection events, and which events are enabled.
 
-ghost use Rattle.std.specs.Prelude.{◌≡◌, ℕ, ◌≤◌, Bool, ◌||◌, ◌∷◌, ◌==◌, not, length, map, Some, IfOk, OnOk, OnErr, option_map};
+ghost use Rattle.std.specs.Prelude.{◌≡◌, ◌≤◌, map, IfOk, OnOk, option_map};
 ghost use Rattle.std.specs.Option.{unwrap_or};
 ghost use Rattle.std.specs.List.{list_all};
 ghost use Rattle.secs_items.specs.Data.{list, no_items, added};

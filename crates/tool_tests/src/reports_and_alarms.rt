@@ -345,66 +345,155 @@ fn a_report_may_stand_twice_in_a_link(rt: HostRuntime) -> Result<(), Fail> {
     Ok(())
 }
 
+// The enabled events among these numbers.
+fn enabled_among(alloc: Global, reports: &Reports, ceids: &[u32]) -> Result<Vec<u32>, NoMemory> {
+    let mut enabled = Vec::new(alloc);
+    for ceid in ceids {
+        if reports.is_enabled(*ceid) {
+            enabled.push(*ceid)?;
+        }
+    }
+    Ok(enabled)
+}
+
+// Events of several tables, and between them numbers of none: 101, 302, 310, 1,513 and 1,601.
+const NUMBERED: [u32; 10] = [101, 201, 210, 211, 301, 302, 310, 1_512, 1_513, 1_601];
+
 #[test]
 fn erack_and_what_is_enabled(rt: HostRuntime) -> Result<(), Fail> {
     let alloc = rt.alloc();
     let mut reports = Reports::new(alloc, 2, 2)?;
-    assert!(rt; !reports.is_enabled(211));
-    assert_eq!(rt; reports.enable(true, &[211, 301]), 0);
-    assert!(rt; reports.is_enabled(211) && reports.is_enabled(301) && !reports.is_enabled(210));
-    // one unknown event, before a known one and behind it
-    assert_eq!(rt; reports.enable(true, &[302, 210]), 1);
-    assert_eq!(rt; reports.enable(false, &[211, 101]), 1);
-    assert!(rt; reports.is_enabled(211) && !reports.is_enabled(210) && !reports.is_enabled(101));
-    assert_eq!(rt; reports.enable(false, &[211]), 0);
-    assert!(rt; !reports.is_enabled(211) && reports.is_enabled(301));
-    assert_eq!(rt; reports.enable(true, &[]), 0);
-    assert!(rt; reports.is_enabled(201) && reports.is_enabled(1_512) && !reports.is_enabled(1_513));
-    assert_eq!(rt; reports.enable(false, &[]), 0);
-    assert!(rt; !reports.is_enabled(201) && !reports.is_enabled(301));
+    // whether to enable, what, the ERACK, and what is enabled then; the unknown event stands before a known one and
+    // behind it
+    let messages: [(bool, &[u32], u8, &[u32]); 8] = [
+        (false, &[302], 1, &[]),
+        (true, &[211, 301], 0, &[211, 301]),
+        (true, &[302, 210], 1, &[211, 301]),
+        (false, &[211, 101], 1, &[211, 301]),
+        (true, &[301, 301], 0, &[211, 301]),
+        (false, &[211], 0, &[301]),
+        (true, &[], 0, &[201, 210, 211, 301, 1_512]),
+        (false, &[], 0, &[]),
+    ];
+    for (on, ceids, code, want) in messages {
+        assert_eq!(rt; reports.enable(on, ceids), code, "at {ceids:?}");
+        let enabled = enabled_among(alloc, &reports, NUMBERED.as_slice())?;
+        assert!(rt; enabled.as_slice() == want, "after {ceids:?}");
+    }
     Ok(())
+}
+
+// The alarms of a plant.
+fn all_alids(alloc: Global, alarms: &Alarms) -> Result<Vec<u32>, NoMemory> {
+    let mut all = Vec::new(alloc);
+    for line in alarms.lines() {
+        all.push(line.alid)?;
+    }
+    Ok(all)
+}
+
+// Those of its alarms that are set.
+fn set_alids(alloc: Global, alarms: &Alarms) -> Result<Vec<u32>, NoMemory> {
+    let mut set = Vec::new(alloc);
+    for line in alarms.lines() {
+        if alarms.is_set(line.alid) {
+            set.push(line.alid)?;
+        }
+    }
+    Ok(set)
+}
+
+// Those of its alarms that are enabled.
+fn enabled_alids(alloc: Global, alarms: &Alarms) -> Result<Vec<u32>, NoMemory> {
+    let mut enabled = Vec::new(alloc);
+    for line in alarms.lines() {
+        if alarms.is_enabled(line.alid) {
+            enabled.push(line.alid)?;
+        }
+    }
+    Ok(enabled)
 }
 
 #[test]
 fn a_plant_has_the_alarms_of_its_own(rt: HostRuntime) -> Result<(), Fail> {
-    let plant = Alarms::new(rt.alloc(), 2, 1)?;
-    let mut alids = Vec::new(rt.alloc());
-    for line in plant.lines() {
-        assert!(rt; !line.enabled && !line.is_set);
-        alids.push(line.alid)?;
+    let alloc = rt.alloc();
+    let plants: [(u8, u8, &[u32]); 3] = [
+        (1, 1, &[11, 12, 13, 31, 50]),
+        (2, 1, &[11, 12, 13, 31, 32, 50]),
+        (
+            4,
+            8,
+            &[11, 12, 13, 14, 15, 16, 17, 18, 19, 20, 31, 32, 33, 34, 50],
+        ),
+    ];
+    for (ports, chambers, want) in plants {
+        let alarms = Alarms::new(alloc, ports, chambers)?;
+        let all = all_alids(alloc, &alarms)?;
+        assert!(rt;
+            all.as_slice() == want,
+            "of {ports} ports and {chambers} chambers"
+        );
+        assert!(rt; set_alids(alloc, &alarms)?.is_empty());
+        assert!(rt; enabled_alids(alloc, &alarms)?.is_empty());
     }
-    assert!(rt; alids.as_slice() == [11, 12, 13, 31, 32, 50].as_slice());
-    let largest = Alarms::new(rt.alloc(), 4, 8)?;
-    assert_eq!(rt; largest.lines().len(), 15);
-    assert!(rt; largest.is_known(20) && !largest.is_known(21) && !plant.is_known(14));
     Ok(())
+}
+
+// Sets or clears an alarm, and tells whether it changed.
+fn change(alarms: &mut Alarms, on: bool, alid: u32) -> bool {
+    if on {
+        alarms.set(alid)
+    } else {
+        alarms.clear(alid)
+    }
 }
 
 #[test]
 fn an_alarm_changes_once(rt: HostRuntime) -> Result<(), Fail> {
-    let mut alarms = Alarms::new(rt.alloc(), 2, 2)?;
-    assert!(rt; !alarms.clear(31));
-    assert!(rt; alarms.set(31) && !alarms.set(31));
-    assert!(rt; alarms.set(50) && !alarms.set(51) && !alarms.set(33));
-    assert!(rt; alarms.is_set(31) && alarms.is_set(50) && !alarms.is_set(32) && !alarms.is_set(51));
-    assert!(rt; alarms.clear(31) && !alarms.clear(31) && !alarms.clear(33));
-    assert!(rt; !alarms.is_set(31) && alarms.is_set(50));
+    let alloc = rt.alloc();
+    let mut alarms = Alarms::new(alloc, 2, 2)?;
+    // whether to set, the alarm, whether it changed, and what is set then; a plant of two ports has no alarm 33
+    let changes: [(bool, u32, bool, &[u32]); 9] = [
+        (false, 31, false, &[]),
+        (true, 31, true, &[31]),
+        (true, 31, false, &[31]),
+        (true, 50, true, &[31, 50]),
+        (true, 33, false, &[31, 50]),
+        (false, 33, false, &[31, 50]),
+        (false, 31, true, &[50]),
+        (false, 31, false, &[50]),
+        (true, 14, true, &[14, 50]),
+    ];
+    for (on, alid, changed, want) in changes {
+        assert_eq!(rt; change(&mut alarms, on, alid), changed, "of {alid}");
+        let set = set_alids(alloc, &alarms)?;
+        assert!(rt; set.as_slice() == want, "after {alid}");
+    }
+    assert!(rt; !alarms.is_set(33));
     Ok(())
 }
 
 #[test]
 fn ackc5_and_what_is_enabled(rt: HostRuntime) -> Result<(), Fail> {
-    let mut alarms = Alarms::new(rt.alloc(), 2, 2)?;
-    assert_eq!(rt; alarms.enable(true, Some(31)), 0);
-    assert!(rt; alarms.is_enabled(31) && !alarms.is_enabled(32) && !alarms.is_set(31));
-    assert_eq!(rt; alarms.enable(true, Some(33)), 1);
-    assert_eq!(rt; alarms.enable(false, Some(0)), 1);
-    assert!(rt; alarms.is_enabled(31) && !alarms.is_enabled(33));
-    assert_eq!(rt; alarms.enable(true, None), 0);
-    assert!(rt; alarms.is_enabled(11) && alarms.is_enabled(50) && !alarms.is_enabled(51));
-    assert_eq!(rt; alarms.enable(false, Some(31)), 0);
-    assert!(rt; !alarms.is_enabled(31) && alarms.is_enabled(32));
-    assert_eq!(rt; alarms.enable(false, None), 0);
-    assert!(rt; !alarms.is_enabled(11));
+    let alloc = rt.alloc();
+    let mut alarms = Alarms::new(alloc, 1, 1)?;
+    // whether to enable, which alarm, the ACKC5, and what is enabled then; a plant of one port has no alarm 32
+    let messages: [(bool, Option<u32>, u8, &[u32]); 7] = [
+        (true, Some(31), 0, &[31]),
+        (true, Some(32), 1, &[31]),
+        (false, Some(0), 1, &[31]),
+        (true, Some(11), 0, &[11, 31]),
+        (true, None, 0, &[11, 12, 13, 31, 50]),
+        (false, Some(31), 0, &[11, 12, 13, 50]),
+        (false, None, 0, &[]),
+    ];
+    for (on, alid, code, want) in messages {
+        assert_eq!(rt; alarms.enable(on, alid), code, "at {alid:?}");
+        let enabled = enabled_alids(alloc, &alarms)?;
+        assert!(rt; enabled.as_slice() == want, "after {alid:?}");
+    }
+    assert!(rt; set_alids(alloc, &alarms)?.is_empty());
+    assert!(rt; !alarms.is_enabled(32));
+    assert!(rt; !alarms.is_known(32));
     Ok(())
 }

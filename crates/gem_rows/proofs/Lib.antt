@@ -1,2 +1,4 @@
 pub mod Numbers
 pub mod Printable
+pub mod EventRows
+pub mod NamedLines

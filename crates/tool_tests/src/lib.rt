@@ -4,6 +4,10 @@
 #![tactic(auto)]
 
 #[cfg(test)]
+mod catalogue;
+#[cfg(test)]
+mod constants;
+#[cfg(test)]
 mod desks;
 #[cfg(test)]
 mod frames;

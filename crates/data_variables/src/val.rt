@@ -1,0 +1,6 @@
+/// The value of an equipment constant: a number, or a truth value.
+#[derive(Clone, Copy, Debug, PartialEq, Eq)]
+pub enum Val {
+    Number(u32),
+    Truth(bool),
+}

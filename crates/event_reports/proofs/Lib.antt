@@ -2,4 +2,6 @@ pub mod Counts
 pub mod Within
 pub mod Giving
 pub mod Small
-pub mod InTurn
+pub mod SamePlant
+pub mod SameAlarms
+pub mod Soundness

@@ -1,5 +1,5 @@
 -- What stays within the limits.
-use Rattle.std.proofs.Common.{◌≡◌, ℕ, suc, ◌<◌, ◌≤◌, ◌==◌, Bool, true, false, not, cond, if◌then◌else◌, List, [], ◌∷◌, ◌++◌, length, map, get_or, set, arith}
+use Rattle.std.proofs.Common.{ℕ, suc, ◌<◌, ◌≤◌, ◌==◌, Bool, true, false, not, cond, if◌then◌else◌, List, [], ◌∷◌, length, map, get_or, set, arith}
 use Rattle.std.proofs.lemmas.List.Elements.{All-get_or, All-set, All-from_recursion, recursion_from_All}
 use Rattle.std.specs.List.{AllByRecursion, filter}
 use Rattle.event_reports.specs.Reports.{Report, EventLine, silent, is_named, with_enabled, link_without, unlinked, with_link}
@@ -56,11 +56,6 @@ filter-within test (p ∷ reports) short = by_test (test p) (filter-within test 
   by_test : (b : Bool) → AllByRecursion IsShort (filter test reports) → AllByRecursion IsShort (cond b (p ∷ filter test reports) (filter test reports))
   by_test true rest = (short.0, rest)
   by_test false rest = rest
-
--- one short report more
-pub push-within : (reports : List Report) (p : Report) → AllByRecursion IsShort reports → IsShort p → AllByRecursion IsShort (reports ++ p ∷ [])
-push-within [] p short one = (one, tt)
-push-within (q ∷ reports) p short one = (short.0, push-within reports p short.1 one)
 
 -- one of events with short links
 pub at-within : (events : List EventLine) (i : ℕ) (e : EventLine) → i < length events → AllByRecursion HasShortLink events → HasShortLink (get_or events i e)

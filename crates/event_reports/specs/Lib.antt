@@ -1,6 +1,7 @@
 pub mod Limits
-pub mod Given
+pub mod Values
 pub mod Alarms
 pub mod Reports
 pub mod Within
 pub mod Kept
+pub mod Sound

@@ -7,11 +7,13 @@
 #![tactic(auto)]
 
 mod alarms;
+mod laws;
 mod lines;
 mod reports;
 mod values;
 
 pub use alarms::{AlarmLine, Alarms};
+pub use laws::{reports_stay_sound, the_alarms_stay_the_same, the_plant_stays_the_same};
 pub use lines::{EventLine, Report};
 pub use reports::Reports;
 pub use secs_items::NoMemory;

@@ -1,15 +1,15 @@
 //! Reports, their links to collection events, and which events are enabled.
 
-ghost use Rattle.std.specs.Prelude.{◌≡◌, ℕ, ◌≤◌, Bool, ◌||◌, ◌∷◌, ◌==◌, not, length, map, Some, IfOk, OnOk, OnErr, option_map};
+ghost use Rattle.std.specs.Prelude.{◌≡◌, ◌≤◌, map, IfOk, OnOk, option_map};
 ghost use Rattle.std.specs.Option.{unwrap_or};
 ghost use Rattle.std.specs.List.{list_all};
-ghost use Rattle.secs_items.specs.Data.{Data, list, no_items};
+ghost use Rattle.secs_items.specs.Data.{list, no_items, added};
 ghost use Rattle.secs_items.specs.View.{view};
 ghost use Rattle.secs_items.specs.Plain.{count_of};
 ghost use Rattle.secs_items.specs.Weight.{AreBounded};
 ghost use Rattle.event_reports.specs.Reports.{silent, no_reports, is_event, is_report, is_enabled, has_link, erack, enabled, with_enabled, vids_of, link_of, value_items, one_items, report_item, items_of_reports, report_items};
 ghost use Rattle.gem_rows.specs.Events.{ceids};
-ghost use Rattle.event_reports.specs.Given.{AreSmallValues, joined};
+ghost use Rattle.event_reports.specs.Values.{AreSmallValues, joined};
 ghost use Rattle.event_reports.specs.Within.{AreWithin};
 ghost use Rattle.event_reports.specs.Limits.{most_linked, most_vids};
 
@@ -21,6 +21,7 @@ use secs_items::{Item, Items, NoMemory};
 use std::alloc::Global;
 use std::marker::Model;
 
+mod copies;
 mod definitions;
 mod links;
 
@@ -59,18 +60,6 @@ impl Reports {
             chambers,
             reports: Vec::new(alloc),
             events: silent_events(alloc)?,
-        })
-    }
-
-    // The same reports, links and enabled events.
-    fn copy(&self, alloc: Global) -> Result<Reports, NoMemory>
-        ensures { IfOk result (λ copy. copy ≡ self.now) }
-    {
-        Ok(Reports {
-            ports: self.ports,
-            chambers: self.chambers,
-            reports: copy_reports(alloc, &self.reports)?,
-            events: copy_events(alloc, &self.events)?,
         })
     }
 
@@ -161,7 +150,13 @@ impl Reports {
     }
 
     // Adds these reports at the end.
-    fn push_reports<V: Values>(&self, alloc: Global, rptids: &[u32], v: &V, out: &mut Items) -> Result<(), NoMemory>
+    fn push_reports<V: Values>(
+        &self,
+        alloc: Global,
+        rptids: &[u32],
+        v: &V,
+        out: &mut Items,
+    ) -> Result<(), NoMemory>
         ensures { OnOk result (out.new ≡ joined out.old (items_of_reports (V.value_of v.now) rptids.now self.now)) }
     {
         for rptid in rptids {
@@ -173,7 +168,13 @@ impl Reports {
     /// Adds the reports of an event at the end, in the order of its link, each as a list of its RPTID and the list of its
     /// values (SEMI E5, S6F11). A variable without a value stands as an empty list. An event without a link and an
     /// unknown one add nothing. After `NoMemory` some of them may have been added.
-    pub fn report<V: Values>(&self, alloc: Global, ceid: u32, v: &V, out: &mut Items) -> Result<(), NoMemory>
+    pub fn report<V: Values>(
+        &self,
+        alloc: Global,
+        ceid: u32,
+        v: &V,
+        out: &mut Items,
+    ) -> Result<(), NoMemory>
         ensures reports { OnOk result (out.new ≡ joined out.old (report_items (V.value_of v.now) ceid self.now)) }
 
         // Few reports are added, and each is small where the values are.
@@ -185,7 +186,13 @@ impl Reports {
 
     /// Adds the values of a report at the end, in its order (SEMI E5, S6F19). A variable without a value stands as an
     /// empty list. An unknown report adds nothing. After `NoMemory` some of them may have been added.
-    pub fn one<V: Values>(&self, alloc: Global, rptid: u32, v: &V, out: &mut Items) -> Result<(), NoMemory>
+    pub fn one<V: Values>(
+        &self,
+        alloc: Global,
+        rptid: u32,
+        v: &V,
+        out: &mut Items,
+    ) -> Result<(), NoMemory>
         ensures values { OnOk result (out.new ≡ joined out.old (one_items (V.value_of v.now) rptid self.now)) }
 
         // Few values are added, and each is small.
@@ -208,28 +215,6 @@ fn silent_events(alloc: Global) -> Result<Vec<EventLine>, NoMemory>
     Ok(events)
 }
 
-// The same reports.
-fn copy_reports(alloc: Global, reports: &[Report]) -> Result<Vec<Report>, NoMemory>
-    ensures { IfOk result (λ copies. copies.items ≡ reports.now) }
-{
-    let mut copies = Vec::new(alloc);
-    for report in reports {
-        copies.push(report.clone()?)?;
-    }
-    Ok(copies)
-}
-
-// The same events.
-fn copy_events(alloc: Global, events: &[EventLine]) -> Result<Vec<EventLine>, NoMemory>
-    ensures { IfOk result (λ copies. copies.items ≡ events.now) }
-{
-    let mut copies = Vec::new(alloc);
-    for event in events {
-        copies.push(event.clone()?)?;
-    }
-    Ok(copies)
-}
-
 // Enables or disables the named events, or all.
 fn enable_lines(events: &mut [EventLine], on: bool, ceids: &[u32])
     ensures { events.new ≡ map (with_enabled on ceids.now) events.old }
@@ -240,21 +225,26 @@ fn enable_lines(events: &mut [EventLine], on: bool, ceids: &[u32])
 }
 
 // Adds the values of variables at the end.
-fn push_values<V: Values>(alloc: Global, vids: &[u32], v: &V, out: &mut Items) -> Result<(), NoMemory>
+fn push_values<V: Values>(
+    alloc: Global,
+    vids: &[u32],
+    v: &V,
+    out: &mut Items,
+) -> Result<(), NoMemory>
     ensures { OnOk result (out.new ≡ joined out.old (value_items (V.value_of v.now) vids.now)) }
 {
     for vid in vids {
-        out.push(value_or_none(alloc, v.value(alloc, *vid)?))?;
+        push_value(alloc, v.value(alloc, *vid)?, out)?;
     }
     Ok(())
 }
 
-// The value of a variable, and an empty list where it has none.
-fn value_or_none(alloc: Global, value: Option<Item>) -> Item
-    ensures { view result ≡ unwrap_or (option_map view value) (list no_items) }
+// Adds the value of a variable at the end, an empty list where it has none.
+fn push_value(alloc: Global, value: Option<Item>, out: &mut Items) -> Result<(), NoMemory>
+    ensures { OnOk result (out.new ≡ added out.old (unwrap_or (option_map view value) (list no_items))) }
 {
     match value {
-        Some(item) => item,
-        None => Item::List(Items::new(alloc)),
+        Some(item) => out.push(item),
+        None => out.push(Item::List(Items::new(alloc))),
     }
 }

@@ -1,7 +1,6 @@
 use Rattle.std.proofs.Common.{rules, ℕ, Bool, ◌==◌, not, List, ◌∙◌, ap}
 use Rattle.std.specs.List.{filter}
 use Rattle.std.proofs.lemmas.Fn.{filter_same}
-use Rattle.event_reports.specs.Reports.{EventLine}
 use Rattle.event_reports.proofs.lines.EventLine.forget.Goals as goal
 
 pub returns : goal.returns

@@ -1,5 +1,5 @@
 use Rattle.std.proofs.Common.{◌≡◌, drop}
-use Rattle.event_reports.specs.Given.{joined}
+use Rattle.event_reports.specs.Values.{joined}
 use Rattle.event_reports.specs.Reports.{items_of_reports}
 use Rattle.event_reports.proofs.reports.Reports.push_reports.Given as goal
 

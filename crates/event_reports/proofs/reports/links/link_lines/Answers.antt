@@ -12,7 +12,7 @@ loop-event-preserved c =
     record {
       items = search (rules, map_over_more (with_link c.args.ceid c.args.rptids.now));
       links = set-within events c.loop-event.event-index c.link.new.self c.loop-event.invariant.links
-        (rw c.in_ok-link.ensures.linked (linked-within c.args.ceid c.args.rptids.now c.requires.link event short));
+          (rw c.in_ok-link.ensures.linked (linked-within c.args.ceid c.args.rptids.now c.requires.link event short));
     }
 
 pub returns-in_err-link-clause-links : goal.returns-in_err-link-clause-links

@@ -7,5 +7,5 @@ use Rattle.event_reports.proofs.reports.links.link_lines.Given as goal
 abbrev pub invariant-loop-event : goal.invariant-loop-event
 invariant-loop-event l = record {
   items : l.event-items ≡ map (with_link l.ceid l.rptids) (take l.event-index l.initial.event-items) ++ drop l.event-index l.initial.event-items;
-  links : AllByRecursion HasShortLink l.event-items
+  links : AllByRecursion HasShortLink l.event-items;
 }

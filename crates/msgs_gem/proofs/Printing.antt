@@ -22,9 +22,9 @@ count-printed body [] = refl
 count-printed body (x ∷ xs) = ap suc (count-printed body xs)
 
 -- the bounds of a list of printed parts
-pub printed_bounded : {X : Type 0} (body : X → Data) (xs : List X) (n : ℕ) (ds : DataList) → length xs ≤ n → ds ≡ items (map body (take n xs)) → AreBounded 1 110 ds → length xs < 100000 → IsBounded 2 11000004 (list ds)
+pub printed_bounded : {X : Type 0} (body : X → Data) (xs : List X) (n : ℕ) (ds : DataList) → length xs ≤ n → ds ≡ items (map body (take n xs)) → AreBounded 1 110 ds → length xs < 1000000 → IsBounded 2 110000004 (list ds)
 printed_bounded body xs n ds all is are few =
     let whole : ds ≡ items (map body xs) = rw (take_all n xs all) at is in
     let count = count-printed body xs in
     let same = ap count_of whole in
-    bounded-list 1 110 100000 ds (omega arith) (omega arith) are
+    bounded-list 1 110 1000000 ds (omega arith) (omega arith) are

@@ -125,7 +125,7 @@ pub enum GemReply {
 /// characters of MDLN, SOFTREV and the time are at most 127; these and a header have fewer than 16,777,216 bytes. Of
 /// values there are at most 1,024, each of at most 100 bytes with lists at most 1 deep; of constants 1,024, of 2,300
 /// bytes and 2 deep; of reports 16, of 6,600 bytes and 3 deep. Of names and alarms there are at most 1,024, and of
-/// parameters fewer than 100,000.
+/// parameters fewer than 1,000,000.
 #[tactic(auto, using(crate::proofs::Bounds::short_text))]
 pub fn gem_item(alloc: Global, reply: &GemReply) -> Result<Item, NoMemory>
     ensures exact { IfOk result (λ item. view item ≡ reply_body reply.now) }
@@ -262,7 +262,7 @@ fn event(alloc: Global, note: u64, ceid: u32, reports: &Items) -> Result<Item, N
 // A list of an item for each part.
 fn list_of<T: Printed>(alloc: Global, parts: &[T]) -> Result<Item, NoMemory>
     ensures exact { IfOk result (λ item. view item ≡ each T.body parts.now) }
-    ensures bounded { length parts.now < 100000 → IfOk result (λ item. IsBounded 2 11000004 (view item)) }
+    ensures bounded { length parts.now < 1000000 → IfOk result (λ item. IsBounded 2 110000004 (view item)) }
 {
     let mut items = Items::new(alloc);
     for part in parts {

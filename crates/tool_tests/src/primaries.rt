@@ -1,7 +1,7 @@
 //! Bodies of the host's primaries with parts (`msgs_gem`).
 
 use gem_ids::Ids;
-use msgs_gem::{BodyFault, GemMsg, read_gem};
+use msgs_gem::{BodyFault, GemMsg, Parameter, read_gem};
 use secs_items::{NoMemory, read_one};
 use std::alloc::Global;
 use std::test::Fail;
@@ -302,20 +302,33 @@ fn s2f37_has_a_truth_and_ids(rt: HostRuntime) {
     }
 }
 
-// Whether an S2F41 has this command and these parameters, of which a value is told where it is an id.
+// Whether these are the parameters, of which a value is told where it is an id.
+fn are_parameters(read: &[Parameter], want: &[(&[u8], Option<u32>)]) -> bool {
+    if read.len() != want.len() {
+        return false;
+    }
+    for (place, (name, value)) in want.iter().enumerate() {
+        let Some(parameter) = read.get(place) else {
+            return false;
+        };
+        if parameter.name.as_bytes() != *name || parameter.value.as_id() != *value {
+            return false;
+        }
+    }
+    true
+}
+
+// Whether an S2F41 has this command and these parameters.
 fn is_command(
     alloc: Global,
     text: &[u8],
     command: &[u8],
     parameters: &[(&[u8], Option<u32>)],
 ) -> bool {
-    match read(alloc, 2, 41, text) {
+    let message = read(alloc, 2, 41, text);
+    match &message {
         Ok(GemMsg::S2F41(name, read)) => {
-            name.as_bytes() == command
-                && read.len() == parameters.len()
-                && read.as_slice().iter().zip(parameters).all(|(read, (name, value))| {
-                    read.name.as_bytes() == *name && read.value.as_id() == *value
-                })
+            name.as_bytes() == command && are_parameters(read.as_slice(), parameters)
         }
         _ => false,
     }

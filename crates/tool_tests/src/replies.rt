@@ -1,6 +1,6 @@
 //! Bodies of the tool's replies with parts, and of S5F1 and S6F11 (`msgs_gem`).
 
-ghost use Rattle.std.specs.Prelude.{◌≡◌, ◌≤◌, IfOk};
+ghost use Rattle.std.specs.Prelude.{◌≤◌, length, IfOk};
 ghost use Rattle.secs_items.specs.View.{view};
 ghost use Rattle.secs_items.specs.Weight.{IsBounded};
 ghost use Rattle.msgs_gem.specs.Sendable.{AreFew, HasSendableParts};
@@ -43,33 +43,48 @@ fn two_values(alloc: Global) -> Result<Items, NoMemory>
 }
 
 // The replies that are a list of values.
-fn values(alloc: Global) -> Result<[Vec<u8>; 3], NoMemory> {
-    Ok([
-        sent(alloc, &GemReply::S1F4(two_values(alloc)?))?,
-        sent(alloc, &GemReply::S2F14(two_values(alloc)?))?,
-        sent(alloc, &GemReply::S6F20(two_values(alloc)?))?,
-    ])
+fn status_data(alloc: Global, values: Items) -> Result<Vec<u8>, NoMemory>
+    requires { AreFew 1024 1 100 values }
+{
+    sent(alloc, &GemReply::S1F4(values))
 }
 
-// The same without values.
-fn no_values(alloc: Global) -> Result<[Vec<u8>; 4], NoMemory> {
-    Ok([
-        sent(alloc, &GemReply::S1F4(Items::new(alloc)))?,
-        sent(alloc, &GemReply::S2F14(Items::new(alloc)))?,
-        sent(alloc, &GemReply::S2F30(Items::new(alloc)))?,
-        sent(alloc, &GemReply::S6F20(Items::new(alloc)))?,
-    ])
+fn constant_data(alloc: Global, values: Items) -> Result<Vec<u8>, NoMemory>
+    requires { AreFew 1024 1 100 values }
+{
+    sent(alloc, &GemReply::S2F14(values))
+}
+
+fn report_data(alloc: Global, values: Items) -> Result<Vec<u8>, NoMemory>
+    requires { AreFew 1024 1 100 values }
+{
+    sent(alloc, &GemReply::S6F20(values))
+}
+
+// Each of them with two values.
+fn with_values(alloc: Global) -> Result<[Vec<u8>; 3], NoMemory> {
+    let status = status_data(alloc, two_values(alloc)?)?;
+    let constants = constant_data(alloc, two_values(alloc)?)?;
+    let report = report_data(alloc, two_values(alloc)?)?;
+    Ok([status, constants, report])
+}
+
+// And with none.
+fn without_values(alloc: Global) -> Result<[Vec<u8>; 3], NoMemory> {
+    let status = status_data(alloc, Items::new(alloc))?;
+    let constants = constant_data(alloc, Items::new(alloc))?;
+    let report = report_data(alloc, Items::new(alloc))?;
+    Ok([status, constants, report])
 }
 
 #[test]
 fn values_are_a_list(rt: HostRuntime) {
-    let want = b"\x01\x02\xB1\x04\x00\x00\x00\x07\x01\x00".as_slice();
-    let sent = values(rt.alloc());
-    assert!(rt; matches!(&sent, Ok(texts) if texts.iter().all(|text| text.as_slice() == want)));
-    let sent = no_values(rt.alloc());
-    assert!(rt;
-        matches!(&sent, Ok(texts) if texts.iter().all(|text| text.as_slice() == b"\x01\x00".as_slice()))
-    );
+    let two = b"\x01\x02\xB1\x04\x00\x00\x00\x07\x01\x00".as_slice();
+    let sent = with_values(rt.alloc());
+    assert!(rt; matches!(&sent, Ok(texts) if texts.iter().all(|text| text.as_slice() == two)));
+    let none = b"\x01\x00".as_slice();
+    let sent = without_values(rt.alloc());
+    assert!(rt; matches!(&sent, Ok(texts) if texts.iter().all(|text| text.as_slice() == none)));
 }
 
 // Two constants, as L[U4 201] and L[U4 202].
@@ -166,8 +181,10 @@ fn a_command_is_answered_with_its_refused_parameters(rt: HostRuntime) {
 }
 
 // Two alarms, the second of which is unknown.
-fn two_alarms(alloc: Global) -> Result<Vec<AlarmPart>, NoMemory> {
-    Ok(vec![in alloc;
+fn two_alarms(alloc: Global) -> Result<Listed<AlarmPart>, NoMemory>
+    ensures { IfOk result (λ alarms. length alarms ≤ 1024) }
+{
+    let alarms = vec![in alloc;
         AlarmPart {
             alcd: Some(0x84),
             alid: 11,
@@ -178,7 +195,8 @@ fn two_alarms(alloc: Global) -> Result<Vec<AlarmPart>, NoMemory> {
             alid: 99,
             text: Text80::empty()
         },
-    ]?)
+    ]?;
+    Ok(Listed::from_vec(alarms))
 }
 
 // S5F1, and the two lists of alarms with no alarm and with two.
@@ -187,8 +205,8 @@ fn alarms(alloc: Global) -> Result<[Vec<u8>; 5], NoMemory> {
         sent(alloc, &GemReply::S5F1(0x84, 11, text(b"Module down")))?,
         sent(alloc, &GemReply::S5F6(Listed::new(alloc)))?,
         sent(alloc, &GemReply::S5F8(Listed::new(alloc)))?,
-        sent(alloc, &GemReply::S5F6(Listed::from_vec(two_alarms(alloc)?)))?,
-        sent(alloc, &GemReply::S5F8(Listed::from_vec(two_alarms(alloc)?)))?,
+        sent(alloc, &GemReply::S5F6(two_alarms(alloc)?))?,
+        sent(alloc, &GemReply::S5F8(two_alarms(alloc)?))?,
     ])
 }
 
@@ -231,14 +249,22 @@ fn an_event_has_its_note_and_a_report_on_request_has_none(rt: HostRuntime) {
     );
 }
 
-// So many values, each the 80 characters `x`.
+// A B of 96 bytes.
+fn long_value(alloc: Global) -> Result<Item, NoMemory>
+    ensures { IfOk result (λ item. IsBounded 0 100 (view item)) }
+{
+    let bytes = Vec::from_slice(alloc, &[b'x'; 96])?;
+    Ok(Item::Binary(Bytes::from_vec(bytes)))
+}
+
+// So many values of 96 bytes.
 fn long_values(alloc: Global, count: usize) -> Result<Items, NoMemory>
     requires { count ≤ 64 }
-    ensures { IfOk result (λ values. AreFew 64 0 84 values) }
+    ensures { IfOk result (λ values. AreFew 64 0 100 values) }
 {
     let mut values = Items::new(alloc);
     for _ in 0..count {
-        values.push(Item::Ascii(Bytes::from_vec(Vec::from_slice(alloc, &[b'x'; 80])?)))?;
+        values.push(long_value(alloc)?)?;
     }
     Ok(values)
 }
@@ -288,7 +314,7 @@ fn repeated(alloc: Global, head: &[u8], one: &[u8], count: usize) -> Result<Vec<
 
 #[test]
 fn an_event_has_16_reports_of_64_values(rt: HostRuntime) -> Result<(), Fail> {
-    let value = repeated(rt.alloc(), b"\x41\x50", b"x", 80)?;
+    let value = repeated(rt.alloc(), b"\x21\x60", b"x", 96)?;
     let report = repeated(
         rt.alloc(),
         b"\x01\x02\xB1\x04\xFF\xFF\xFF\xFF\x01\x40",
@@ -298,7 +324,7 @@ fn an_event_has_16_reports_of_64_values(rt: HostRuntime) -> Result<(), Fail> {
     let head = b"\x01\x03\xA1\x08\xFF\xFF\xFF\xFF\xFF\xFF\xFF\xFF\xB1\x04\xFF\xFF\xFF\xFF\x01\x10";
     let want = repeated(rt.alloc(), head, report.as_slice(), 16)?;
     let sent = longest(rt.alloc())?;
-    assert_eq!(rt; sent.len(), 20 + 16 * (10 + 64 * 82));
+    assert_eq!(rt; sent.len(), 20 + 16 * (10 + 64 * 98));
     assert!(rt; sent.as_slice() == want.as_slice());
     Ok(())
 }

@@ -1,0 +1,22 @@
+-- Bounds of the items that are sent in tests.
+use Rattle.std.proofs.Common.{◌≡◌, ℕ, ◌+◌, arith, ap, ◌∙◌}
+use Rattle.secs_items.specs.Data.{Data, DataList, list, no_items, item, added}
+use Rattle.secs_items.specs.Plain.{count_of}
+use Rattle.secs_items.specs.Weight.{IsBounded, AreBounded}
+use Rattle.secs_items.proofs.Weights.{bounded-list, bounded-added, count-added}
+use Rattle.msgs_gem.specs.Sendable.{AreFew}
+
+-- one more item within bounds
+pub one_more : (deep most : ℕ) (ds new : DataList) (d : Data) (n : ℕ) → new ≡ added ds d → count_of ds ≡ n → AreBounded deep most ds → IsBounded deep most d → (count_of new ≡ n + 1) × AreBounded deep most new
+one_more deep most ds new d n is count are one =
+    (let more = ap count_of is ∙ count-added ds d in omega arith, rw is (bounded-added deep most ds d are one))
+
+-- a report of at most 64 values
+pub report_bounded : (number : Data) (ds : DataList) → IsBounded 0 8 number → AreFew 64 0 100 ds → IsBounded 3 6600 (list (item number (item (list ds) no_items)))
+report_bounded number ds is few =
+    let values = bounded-list 0 100 64 ds (omega arith) few.0 few.1 in
+    record {
+      depth = omega (arith, is.depth, values.depth);
+      size = omega (arith, is.size, values.size);
+      bodies = (omega arith, (is.bodies, (values.bodies, tt)));
+    }

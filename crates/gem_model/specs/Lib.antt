@@ -15,6 +15,7 @@ pub mod Act
 pub mod Due
 pub mod Step
 pub mod Run
+pub mod Reported
 pub mod Sessions
 pub mod Sizes
 pub mod Command

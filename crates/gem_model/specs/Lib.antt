@@ -10,6 +10,7 @@ pub mod Ready
 pub mod Measure
 pub mod Settle
 pub mod Valid
+pub mod OpenNotes
 pub mod Verdict
 pub mod Act
 pub mod Due

@@ -11,6 +11,7 @@ ghost use Rattle.gem_model.specs.Settle.{Settles, settling, settled, Along};
 ghost use Rattle.gem_model.specs.Step.{Outcome, acts};
 ghost use Rattle.gem_model.specs.Run.{Run};
 ghost use Rattle.gem_model.specs.Reported.{reported_in};
+ghost use Rattle.gem_model.specs.OpenNotes.{note_numbers, open_number};
 ghost use Rattle.note_line.specs.Fates.{LineValid, KeepsFates, tells};
 
 /// A primary of the tool always finds room among the open transactions: where a history leads, at most two are open, of the
@@ -42,4 +43,11 @@ pub fn the_notes_are_what_was_reported()
     ensures all { (c : Config) (entries : List Entry) (h : State) → Run (opening c) entries h → map tells h.line.told ≡ reported_in (opening c) entries }
     ensures more { (g : State) (entries : List Entry) (h : State)
         → Run g entries h → map tells h.line.told ≡ map tells g.line.told ++ reported_in g entries }
+{}
+
+/// Where a history leads, the open note of the line is the one note whose transaction is open: where no note is open, no
+/// transaction of one is.
+pub fn an_open_note_has_its_transaction()
+    ensures { (c : Config) (entries : List Entry) (h : State)
+        → Run (opening c) entries h → note_numbers h.transactions.opened ≡ open_number h.line }
 {}

@@ -1,6 +1,7 @@
 -- What is reported in a history, in order: each firing whose event is reported, and each change of an alarm that is
--- reported (SEMI E30, event reports and alarms; this tool's profile, notes). The line of notes plays no part in it. Each
--- word is named by what happens; the states in between are those of the word that says what it does.
+-- reported (SEMI E30, event reports and alarms; this tool's profile, notes). It is listed from the firings and the changes
+-- themselves, beside the line of notes. Each word is named by what happens, and passes the states of the word that says
+-- what that does.
 use Rattle.std.specs.Prelude.{ℕ, ◌+◌, Bool, true, ◌&&◌, if◌then◌else◌, List, [], ◌∷◌, ◌++◌, Option, Some, None}
 use Rattle.gem_tables.specs.Table.{Firing}
 use Rattle.gem_rows.specs.Events.{ceid_of}

@@ -79,13 +79,13 @@ lined_either g b x y at_x at_y = either_way (Lined g) b x y at_x at_y
 -- ---- rows
 
 -- the line of a state is that of another
-abbrev SameLine : State → State → Type 0
+abbrev pub SameLine : State → State → Type 0
 SameLine g h = h.line ≡ g.line
 
 line_either : (g : State) (b : Bool) (x y : State) → SameLine g x → SameLine g y → SameLine g (if b then x else y)
 line_either g b x y at_x at_y = either_way (SameLine g) b x y at_x at_y
 
-line_comm : (g : State) (row : ℕ) → SameLine g (fire_comm row g)
+pub line_comm : (g : State) (row : ℕ) → SameLine g (fire_comm row g)
 line_comm g row =
     let h : State = record g { comm = comm_fired row (delay_end row g) g.comm } in
     line_either g (row == 2) (none_asked h) (if row == 3 then asks 1 13 what.Establish (identity_text h.config) h else (if row == 6 then forgets what.Establish h else h)) refl
@@ -93,7 +93,7 @@ line_comm g row =
     (line_either g _ h _ refl refl)
     (line_either g (row == 6) (forgets what.Establish h) h refl refl))
 
-line_control : (g : State) (row : ℕ) → SameLine g (fire_control row g)
+pub line_control : (g : State) (row : ℕ) → SameLine g (fire_control row g)
 line_control g row =
     let h : State = record g { control = control_fired row g.control } in
     line_either g (row == 1) (if can_ask h then asks 1 1 what.Attempt [] h else h) (if row == 6 then forgets what.Attempt h else h)

@@ -243,7 +243,7 @@ few-asks g stream function w text few with_one =
 -- ---- one row
 
 -- the note that a firing makes opens none
-same_open : (event : Option ℕ) (o : Occasion) (online : Bool) (g : State) → (line_behind event o online g).opened ≡ g.line.opened
+pub same_open : (event : Option ℕ) (o : Occasion) (online : Bool) (g : State) → (line_behind event o online g).opened ≡ g.line.opened
 same_open None o online g = refl
 same_open (Some ceid) o online g = either_way (λ (l : Line). l.opened ≡ g.line.opened) (is_event_reported ceid online g) (line_with_event ceid o g) g.line refl refl
 
@@ -356,7 +356,7 @@ few-given_up g cannot few =
     fits-control _ _ _ g.comm g.control (control_fired 2 g.control) (is_selected g) (has_open g.line) (cannot_ask _ (can_ask g) (is_attempt g.control) cannot few.attempt) few
 
 -- row 11 of table 3: the head is dropped, and the open note stays
-same_dropped : (notes : List Note) (l : Line) → (with_head (fated (Dropped NoSpool)) notes l).opened ≡ l.opened
+pub same_dropped : (notes : List Note) (l : Line) → (with_head (fated (Dropped NoSpool)) notes l).opened ≡ l.opened
 same_dropped [] l = refl
 same_dropped (note ∷ notes) l = refl
 
@@ -389,7 +389,7 @@ few-sending (note ∷ waiting) g none talks few =
 few-sent : (g : State) → has_open g.line ≡ false → is_communicating g.comm ≡ true → Few g → Few (takes_effect g (firing 3 0 13))
 few-sent g none talks few = few-sending g.line.waiting g none talks few
 
-few-automatic : (g : State) (f : Firing) → least g ≡ Some f → Few g → Few (fire g f)
+pub few-automatic : (g : State) (f : Firing) → least g ≡ Some f → Few g → Few (fire g f)
 few-automatic g f ready few =
     or_went (ready_comm g) (option_or (ready_control g) (ready_line g)) f
     (λ at. went _ _ _ _ (λ over e. few_firing g f (firing 1 0 3) (few_fire g (firing 1 0 3) (few-asking g (waits g.moment g.comm (and_parts_of _ _ over).0) few)) e) (λ _ e. none_some f e) at)
@@ -413,7 +413,7 @@ Gone what.Attempt g = count_of attempts g.transactions.opened ≡ 0
 Gone (what.Note n) g = count_of notes g.transactions.opened ≡ 0
 
 -- a state in which one that was found is open no more
-abbrev out_of : Open → State → State
+abbrev pub out_of : Open → State → State
 out_of one g = record g { transactions = taken_out (Some one) g.transactions }
 
 gone-out : (w : What) (g : State) (searched : Open → Bool) (one : Open) → find searched g.transactions.opened ≡ Some one → one.what ≡ w → Few g → Gone w (out_of one g)
@@ -451,7 +451,7 @@ few-closed g h item searched (Some one) is few =
     few-answer one.what (function_of h) item (out_of one g) (few-out g (Some one) few) (gone-out one.what g searched one is refl few)
 
 -- the state in which a timeout is told
-abbrev told_of : Open → State → State
+abbrev pub told_of : Open → State → State
 told_of one g = sends_stream9 9 (data_header g.config.device true one.stream one.function one.system) (out_of one g)
 
 few-timed_out : (g : State) (searched : Open → Bool) (one : Open) → find searched g.transactions.opened ≡ Some one → Few g → Few (timed_out one g)
@@ -463,7 +463,7 @@ few-timed_out g searched one found few =
     told_gone what.Attempt is = gone-out what.Attempt g searched one found is few
     told_gone (what.Note n) is = gone-out (what.Note n) g searched one found is few
 
-opened_timeout : (w : What) (g : State) → (fire_listed (timeout_rows w g) g).transactions.opened ≡ g.transactions.opened
+pub opened_timeout : (w : What) (g : State) → (fire_listed (timeout_rows w g) g).transactions.opened ≡ g.transactions.opened
 opened_timeout what.Establish g = either_way (λ (h : State). h.transactions.opened ≡ g.transactions.opened) (row_starts g (firing 1 0 5)) (fire g (firing 1 0 5)) g refl refl
 opened_timeout what.Attempt g = either_way (λ (h : State). h.transactions.opened ≡ g.transactions.opened) (row_starts g (firing 2 0 3)) (fire g (firing 2 0 3)) g refl refl
 opened_timeout (what.Note n) g = either_way (λ (h : State). h.transactions.opened ≡ g.transactions.opened) (row_starts g (firing 3 0 14)) (fire g (firing 3 0 14)) g refl refl
@@ -512,7 +512,7 @@ failed_where true g few none no_note = note_failed (fire_listed (firing 2 0 3 �
 failed_where false g few none no_note = note_failed g few no_note
 
 -- communication is disabled already where its row does not start, and so no S1F1 is open
-no_talk : (c : Comm) → starts communication_table 2 (comm_number c) ≡ false → not (is_communicating c) ≡ true
+pub no_talk : (c : Comm) → starts communication_table 2 (comm_number c) ≡ false → not (is_communicating c) ≡ true
 no_talk Disabled is = refl
 no_talk (WaitDelay until) is = refl
 no_talk WaitCra is = refl
@@ -522,7 +522,7 @@ no_talk_no_ask : (b s : Bool) → not b ≡ true → not (b && s) ≡ true
 no_talk_no_ask true s is = absurd (cc)
 no_talk_no_ask false s is = refl
 
-cannot_note : (n : ℕ) (b o : Bool) → not b ≡ true → n ≤ one_if (b && o) → n ≡ 0
+pub cannot_note : (n : ℕ) (b o : Bool) → not b ≡ true → n ≤ one_if (b && o) → n ≡ 0
 cannot_note n true o not_b f = absurd (cc)
 cannot_note n false o not_b f = omega (arith, f)
 

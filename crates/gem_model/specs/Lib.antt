@@ -10,11 +10,13 @@ pub mod Ready
 pub mod Measure
 pub mod Settle
 pub mod Valid
+pub mod OpenNotes
 pub mod Verdict
 pub mod Act
 pub mod Due
 pub mod Step
 pub mod Run
+pub mod Reported
 pub mod Sessions
 pub mod Sizes
 pub mod Command

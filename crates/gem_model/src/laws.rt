@@ -1,6 +1,6 @@
 //! Laws of the definitions, for proofs to cite. Each function is empty: what it ensures holds of the definitions.
 
-ghost use Rattle.std.specs.Prelude.{◌≡◌, ℕ, ◌≤◌, false, List, length, Some};
+ghost use Rattle.std.specs.Prelude.{◌≡◌, ℕ, ◌≤◌, false, List, ◌++◌, length, map, Some};
 ghost use Rattle.transactions.specs.Table.{is_full};
 ghost use Rattle.tool_events.specs.declared.config.Config.{Config};
 ghost use Rattle.tool_events.specs.declared.entry.Entry.{Entry};
@@ -10,7 +10,9 @@ ghost use Rattle.gem_model.specs.State.{State, opening, raised};
 ghost use Rattle.gem_model.specs.Settle.{Settles, settling, settled, Along};
 ghost use Rattle.gem_model.specs.Step.{Outcome, acts};
 ghost use Rattle.gem_model.specs.Run.{Run};
-ghost use Rattle.note_line.specs.Fates.{LineValid, KeepsFates};
+ghost use Rattle.gem_model.specs.Reported.{reported_in};
+ghost use Rattle.gem_model.specs.OpenNotes.{note_numbers, open_number};
+ghost use Rattle.note_line.specs.Fates.{LineValid, KeepsFates, tells};
 
 /// A primary of the tool always finds room among the open transactions: where a history leads, at most two are open, of the
 /// sixteen that can be; and there is room in each state that the tool passes while it settles behind an event.
@@ -33,4 +35,19 @@ pub fn a_state_settles_in_one_way()
 pub fn each_note_has_one_fate()
     ensures valid { (c : Config) (entries : List Entry) (h : State) → Run (opening c) entries h → LineValid h.line }
     ensures stays { (c : Config) (front behind : List Entry) (g h : State) → Run (opening c) front g → Run g behind h → KeepsFates g.line h.line }
+{}
+
+/// The notes of the line, from number 1 on, tell of what is reported, one for one and in order: where a history leads, the
+/// i-th note is that of the i-th firing or change of an alarm that is reported.
+pub fn the_notes_are_what_was_reported()
+    ensures all { (c : Config) (entries : List Entry) (h : State) → Run (opening c) entries h → map tells h.line.told ≡ reported_in (opening c) entries }
+    ensures more { (g : State) (entries : List Entry) (h : State)
+        → Run g entries h → map tells h.line.told ≡ map tells g.line.told ++ reported_in g entries }
+{}
+
+/// Where a history leads, the open note of the line is the one note whose transaction is open: where no note is open, no
+/// transaction of one is.
+pub fn an_open_note_has_its_transaction()
+    ensures { (c : Config) (entries : List Entry) (h : State)
+        → Run (opening c) entries h → note_numbers h.transactions.opened ≡ open_number h.line }
 {}

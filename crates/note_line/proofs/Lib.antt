@@ -3,4 +3,5 @@ pub mod Numbers
 pub mod Moves
 pub mod Rows
 pub mod Keeps
+pub mod Tells
 pub mod Short

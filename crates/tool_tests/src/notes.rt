@@ -1,7 +1,7 @@
 //! The line of notes (`note_line`).
 
 use hsms_frame::Bytes;
-use note_line::{DropCause, Fate, Kind, Note, NoteLine};
+use note_line::{DropCause, Fate, Kind, MOST_TEXT, Note, NoteLine};
 use std::alloc::Global;
 use std::test::Fail;
 
@@ -69,6 +69,16 @@ fn a_note_keeps_what_it_tells(rt: HostRuntime) -> Result<(), Fail> {
     assert_eq!(rt; head.kind, Kind::Event);
     assert_eq!(rt; head.id, 301);
     assert_eq!(rt; head.text.as_slice(), [7, 7].as_slice());
+    Ok(())
+}
+
+#[test]
+fn a_note_keeps_the_longest_text(rt: HostRuntime) -> Result<(), Fail> {
+    let mut line = NoteLine::new(rt.alloc());
+    let text = Bytes::from_vec(vec![in rt.alloc(); 7; MOST_TEXT]?);
+    line.add(Kind::Event, 301, text)?;
+    let head = line.head().ok_or("a head")?;
+    assert_eq!(rt; head.text.as_slice().len(), 87_000);
     Ok(())
 }
 

@@ -1,0 +1,563 @@
+-- The open note is the one whose transaction is open: each step keeps it.
+use Rattle.std.proofs.Common.{◌≡◌, ℕ, zero, suc, ◌+◌, ◌*◌, ◌≤◌, ◌==◌, Bool, true, false, if◌then◌else◌, List, [], ◌∷◌, ◌++◌, length, map, find, Option, Some, None, option_map, is_some, refl, sym, ◌∙◌, ap, subst, arith, append_assoc}
+use Rattle.std.proofs.lemmas.List.{append-nil}
+use Rattle.std.proofs.lemmas.Bool.Decides.{nat_tests}
+use Rattle.std.specs.Option.{option_or}
+use Rattle.std.proofs.lemmas.Bool.{true≢false}
+use Rattle.hsms_frame.specs.declared.frame.Header.{Header}
+use Rattle.hsms_frame.specs.declared.frame.Arrival.{Arrival}
+use Rattle.hsms_link.specs.declared.table.LinkAct.{LinkAct}
+use Rattle.hsms_link.specs.declared.table.LinkAct.TheVariants as link
+use Rattle.hsms_link.specs.declared.deadlines.LinkDue.{LinkDue}
+use Rattle.hsms_link.specs.declared.deadlines.LinkDue.TheVariants as due
+use Rattle.hsms_link.specs.LinkTable.{link_act}
+use Rattle.hsms_link.specs.Deadlines.{due_at}
+use Rattle.secs_items.specs.Data.{Data}
+use Rattle.secs_items.specs.Plain.{plain}
+use Rattle.msgs_gem.specs.declared.primary.GemMsg.{GemMsg}
+use Rattle.msgs_gem.specs.declared.primary.GemMsg.TheVariants as msg
+use Rattle.msgs_gem.specs.Acknowledge.{accepts}
+use Rattle.msgs_gem.specs.Replies.{reply_body}
+use Rattle.gem_ids.specs.Civil.{moment_in}
+use Rattle.gem_tables.specs.Table.{Firing, firing}
+use Rattle.gem_states.specs.declared.communication.CommTrigger.TheVariants as comm
+use Rattle.gem_states.specs.declared.control.ControlTrigger.{ControlTrigger}
+use Rattle.gem_states.specs.declared.control.ControlTrigger.TheVariants as trigger
+use Rattle.gem_states.specs.Meaning.{comm_fired, control_fired, control_rows}
+use Rattle.gem_states.specs.declared.communication.CommTrigger.{CommTrigger}
+use Rattle.gem_rows.specs.Events.{ceid_of}
+use Rattle.event_reports.specs.Alarms.{is_set, clear_alarm}
+use Rattle.tool_events.specs.declared.event.OperCmd.{OperCmd}
+use Rattle.tool_events.specs.declared.event.OperCmd.TheVariants as oper
+use Rattle.tool_events.specs.declared.config.Config.{Config}
+use Rattle.tool_events.specs.declared.entry.Entry.{Entry}
+use Rattle.tool_events.specs.declared.event.Event.{Event}
+use Rattle.tool_events.specs.declared.event.Event.TheVariants as event
+use Rattle.note_line.specs.declared.note.Note.{Note}
+use Rattle.note_line.specs.Line.{Line, with_open, fated, with_head, sent}
+use Rattle.note_line.specs.declared.fate.Fate.TheVariants.{Answered, Dropped}
+use Rattle.note_line.specs.declared.fate.DropCause.TheVariants.{NoSpool}
+use Rattle.note_line.specs.Table3.{has_open, row_effect}
+use Rattle.note_line.specs.Line.{answered as answered_line}
+use Rattle.transactions.specs.declared.transaction.Open.{Open}
+use Rattle.transactions.specs.declared.transaction.What.{What}
+use Rattle.transactions.specs.declared.transaction.What.TheVariants as what
+use Rattle.transactions.specs.Table.{Table, IsTable, AreDifferent, is_full, without, taken_out, limit}
+use Rattle.transactions.specs.SystemBytes.{drawn, with_started}
+use Rattle.transactions.specs.Endings.{same_kind, first_of, answers, first_expired, is_first_expired}
+use Rattle.transactions.proofs.Finding.{found-passes}
+use Rattle.transactions.proofs.Systems.{without-none}
+use Rattle.transactions.proofs.Laws.{table-taken_out, table-started, found-there}
+use Rattle.transactions.specs.Endings.{answered as answered_one}
+use Rattle.gem_model.specs.State.{State, opening, t3, with_frame, is_up, is_session_up, is_communicating, is_online, can_ask, none_asked, without_session, raised}
+use Rattle.gem_model.specs.Sending.{asks, data_frame, identity_text}
+use Rattle.gem_model.specs.Values.{object_name}
+use Rattle.gem_model.specs.Noting.{line_with_alarm, is_alarm_reported, clears_alarm}
+use Rattle.gem_model.specs.Fire.{asks_first, stream_of_kind, function_of_kind, fire, fires, fire_listed, fire_comm, fire_control, fire_line, takes_effect, row_starts, delay_end, forgets, of_control}
+use Rattle.gem_model.specs.Remote.{RemoteCommand, GoLocal, ClearAlarm, Parameter, accepted, alarm_named}
+use Rattle.gem_model.specs.Direct.{command_rows, message_rows, answer_rows, timeout_rows, establish_answer, attempt_answer, by_comm, by_control, note_fails, operator_rows}
+use Rattle.gem_model.specs.Ready.{least, ready_comm, ready_control, ready_line}
+use Rattle.gem_model.specs.Verdict.{Verdict, Discarded, Stream9, Aborted, Answers, Taken, verdict, header_of, item_of, wants_reply, stream_of, function_of, reply_to}
+use Rattle.gem_model.specs.Act.{written, clock_set, clears_named, command_written, note_answered, replied, taken, closed_by, data_act, session_ended}
+use Rattle.gem_model.specs.Due.{Timeout, dues_with, expired_from, link_times, is_due, all_done, asks_linktest, timed_out}
+use Rattle.gem_model.specs.Settle.{settled}
+use Rattle.gem_model.specs.Step as steps
+use Rattle.gem_model.specs.Step.{Outcome, step_from, acts, linked, hosted, operated, quits, settles, switched, can_clear}
+use Rattle.gem_model.specs.Run.{Run}
+use Rattle.gem_model.specs.Valid.{notes, count_of}
+use Rattle.gem_model.specs.OpenNotes.{note_number, note_numbers, number_of, open_number}
+use Rattle.gem_model.proofs.Tests.{went, either_way, or_went, none_some}
+use Rattle.gem_model.proofs.LineRows.{line_went}
+use Rattle.gem_model.proofs.Settling.{settled_keeps}
+use Rattle.gem_model.proofs.Lined.{line_comm, line_control}
+use Rattle.gem_model.proofs.Room.{Few, same_open, no_talk, cannot_note, same_dropped, out_of, told_of, opened_timeout, few-automatic, few-room, few-acts, few-step}
+use Rattle.gem_model.proofs.Validity.{valid-few, opening_valid}
+
+-- ---- lists of open transactions
+
+-- of some numbers these are one's own, and the rest is this
+record Splits (own all rest : List ℕ) : Type 0 where
+  pub front : List ℕ
+  pub behind : List ℕ
+  pub all_is : all ≡ front ++ (own ++ behind)
+  pub rest_is : rest ≡ front ++ behind
+
+-- one that was found is taken out, and no other
+out_splits : (test : Open → Bool) (opened : List Open) (one : Open) → find test opened ≡ Some one → AreDifferent opened → Splits (note_number one.what) (note_numbers opened) (note_numbers (without one.system opened))
+out_splits test [] one found different = absurd (cc)
+out_splits test (first ∷ others) one found different = by_test (test first) refl (λ there. out_splits test others one there different.1) where
+  is_first : Splits (note_number first.what) (note_numbers (first ∷ others)) (note_numbers (without first.system (first ∷ others)))
+  is_first =
+      let self_is : (first.system == first.system) ≡ true = grind (arith, nat_tests) in
+      let rest : without first.system others ≡ others = without-none others first.system different.0 in
+      record { front = []; behind = note_numbers others; all_is = refl; rest_is = rw (self_is, rest) refl }
+
+  behind_first : find test others ≡ Some one → Splits (note_number one.what) (note_numbers others) (note_numbers (without one.system others)) → Splits (note_number one.what) (note_numbers (first ∷ others)) (note_numbers (without one.system (first ∷ others)))
+  behind_first there s =
+      let has = found-there test others one there in
+      let absent = different.0 in
+      let other : (first.system == one.system) ≡ false = grind (arith, nat_tests, has, absent) in
+      let own = note_number first.what in
+      record {
+        front = own ++ s.front;
+        behind = s.behind;
+        all_is = ap (λ (ns : List ℕ). own ++ ns) s.all_is ∙ sym (append_assoc own s.front (note_number one.what ++ s.behind));
+        rest_is = rw other (ap (λ (ns : List ℕ). own ++ ns) s.rest_is ∙ sym (append_assoc own s.front s.behind));
+      }
+
+  by_test : (b : Bool) → test first ≡ b → (find test others ≡ Some one → Splits (note_number one.what) (note_numbers others) (note_numbers (without one.system others))) → Splits (note_number one.what) (note_numbers (first ∷ others)) (note_numbers (without one.system (first ∷ others)))
+  by_test true q rest =
+      let is : Some first ≡ Some one = rw q at found in
+      let same : first ≡ one = cc in
+      subst (λ (x : Open). Splits (note_number x.what) (note_numbers (first ∷ others)) (note_numbers (without x.system (first ∷ others)))) same is_first
+  by_test false q rest =
+      let there : find test others ≡ Some one = rw q at found in
+      behind_first there (rest there)
+
+-- where one's own are none, the rest is all
+none_own : (own all rest : List ℕ) → own ≡ [] → Splits own all rest → rest ≡ all
+none_own own all rest none s = s.rest_is ∙ sym (s.all_is ∙ ap (λ (ns : List ℕ). s.front ++ (ns ++ s.behind)) none)
+
+-- where all are at most one, and one's own is one, the rest is none
+none_left : (n : ℕ) (front behind : List ℕ) (note : Option Note) → number_of note ≡ front ++ (n ∷ behind) → front ++ behind ≡ []
+none_left n [] behind None is = absurd (cc)
+none_left n (m ∷ front) behind None is = absurd (cc)
+none_left n [] behind (Some note) is = cc
+none_left n (m ∷ []) behind (Some note) is = absurd (let both : [] ≡ n ∷ behind = cc in cc)
+none_left n (m ∷ (k ∷ front)) behind (Some note) is = absurd (let both : [] ≡ k ∷ (front ++ (n ∷ behind)) = cc in cc)
+
+-- one more stands last
+push_numbers : (opened : List Open) (one : Open) → note_numbers (opened ++ one ∷ []) ≡ note_numbers opened ++ note_number one.what
+push_numbers [] one = append-nil (note_number one.what)
+push_numbers (first ∷ others) one =
+    ap (λ (ns : List ℕ). note_number first.what ++ ns) (push_numbers others one) ∙ sym (append_assoc (note_number first.what) (note_numbers others) (note_number one.what))
+
+-- where no note is counted there are no numbers
+uncounted : (opened : List Open) → count_of notes opened ≡ 0 → note_numbers opened ≡ []
+uncounted [] none = refl
+uncounted (one ∷ others) none = of one.what refl (uncounted others) where
+  of : (w : What) → one.what ≡ w → (count_of notes others ≡ 0 → note_numbers others ≡ []) → note_numbers (one ∷ others) ≡ []
+  of what.Establish is rest = rw is (rest (let counted : 0 + count_of notes others ≡ 0 = rw is at none in omega arith))
+  of what.Attempt is rest = rw is (rest (let counted : 0 + count_of notes others ≡ 0 = rw is at none in omega arith))
+  of (what.Note n) is rest = absurd (let counted : 1 + count_of notes others ≡ 0 = rw is at none in omega arith)
+
+-- ---- tables
+
+-- the open transactions are such as can be, and the numbers of their notes are these
+record With (ns : List ℕ) (opened : List Open) : Type 0 where
+  pub within : length opened ≤ limit
+  pub different : AreDifferent opened
+  pub numbers : note_numbers opened ≡ ns
+
+with_table : (ns : List ℕ) (t : Table) → With ns t.opened → IsTable t
+with_table ns t w = record { within = w.within; different = w.different }
+
+with_found : (ns ms : List ℕ) (test : Open → Bool) (t : Table) (one : Open) → note_numbers (without one.system t.opened) ≡ ms → With ns t.opened → With ms (taken_out (Some one) t).opened
+with_found ns ms test t one is w =
+    let left = table-taken_out (Some one) t (with_table ns t w) in
+    record { within = left.within; different = left.different; numbers = is }
+
+-- one that sends no note was found, and is taken out
+with_out : (ns : List ℕ) (test : Open → Bool) (t : Table) (one : Open) → find test t.opened ≡ Some one → note_number one.what ≡ [] → With ns t.opened → With ns (taken_out (Some one) t).opened
+with_out ns test t one found none w =
+    with_found ns ns test t one (none_own _ _ _ none (out_splits test t.opened one found w.different) ∙ w.numbers) w
+
+-- that of the open note was found, and is taken out
+with_note_out : (note : Option Note) (test : Open → Bool) (t : Table) (one : Open) (n : ℕ) → find test t.opened ≡ Some one → one.what ≡ what.Note n → With (number_of note) t.opened → With [] (taken_out (Some one) t).opened
+with_note_out note test t one n found is w =
+    let s = out_splits test t.opened one found w.different in
+    let all : number_of note ≡ s.front ++ (n ∷ s.behind) = sym w.numbers ∙ s.all_is ∙ ap (λ (x : What). s.front ++ (note_number x ++ s.behind)) is in
+    with_found (number_of note) [] test t one (s.rest_is ∙ none_left n s.front s.behind note all) w
+
+-- one is started where there is room
+with_more : (ns : List ℕ) (t : Table) (stream function deadline : ℕ) (w : What) → is_full t ≡ false → With ns t.opened → With (ns ++ note_number w) (with_started stream function deadline w t).opened
+with_more ns t stream function deadline w room is =
+    let more = table-started stream function deadline w t room (with_table ns t is) in
+    record {
+      within = more.within;
+      different = more.different;
+      numbers = push_numbers t.opened (record { system = drawn t; stream = stream; function = function; deadline = deadline; what = w }) ∙ ap (λ (ms : List ℕ). ms ++ note_number w) is.numbers;
+    }
+
+-- a primary that sends no note is sent
+with_asks : (ns : List ℕ) (g : State) (stream function : ℕ) (w : What) (text : List ℕ) → note_number w ≡ [] → With ns g.transactions.opened → With ns (asks stream function w text g).transactions.opened
+with_asks ns g stream function w text none is = of (is_full g.transactions) refl where
+  more : is_full g.transactions ≡ false → With ns (with_started stream function (g.moment + t3 g) w g.transactions).opened
+  more room =
+      subst (λ (ms : List ℕ). With ms (with_started stream function (g.moment + t3 g) w g.transactions).opened)
+      (ap (λ (ms : List ℕ). ns ++ ms) none ∙ append-nil ns) (with_more ns g.transactions stream function (g.moment + t3 g) w room is)
+
+  of : (b : Bool) → is_full g.transactions ≡ b → With ns (if b then g else with_frame (data_frame g.config.device true stream function (drawn g.transactions) text) (record g { transactions = if b then g.transactions else with_started stream function (g.moment + t3 g) w g.transactions })).transactions.opened
+  of true full = is
+  of false room = more room
+
+-- the first of a kind that is no note is forgotten
+with_forgotten : (ns : List ℕ) (kind : What) (t : Table) → ((w : What) → same_kind w kind ≡ true → note_number w ≡ []) → With ns t.opened → With ns (taken_out (first_of kind t.opened) t).opened
+with_forgotten ns kind t none is = of (first_of kind t.opened) refl where
+  of : (found : Option Open) → first_of kind t.opened ≡ found → With ns (taken_out found t).opened
+  of None q = is
+  of (Some one) q = with_out ns (λ (x : Open). same_kind x.what kind) t one q (none one.what (found-passes (λ (x : Open). same_kind x.what kind) t.opened one q)) is
+
+no_establish : (w : What) → same_kind w what.Establish ≡ true → note_number w ≡ []
+no_establish what.Establish is = refl
+no_establish what.Attempt is = refl
+no_establish (what.Note n) is = absurd (cc)
+
+no_attempt : (w : What) → same_kind w what.Attempt ≡ true → note_number w ≡ []
+no_attempt what.Establish is = refl
+no_attempt what.Attempt is = refl
+no_attempt (what.Note n) is = absurd (cc)
+
+-- ---- firings of tables 1 and 2
+
+with_comm : (ns : List ℕ) (g : State) (row : ℕ) → (row == 2) ≡ false → With ns g.transactions.opened → With ns (fire_comm row g).transactions.opened
+with_comm ns g row never is = of (row == 2) (row == 3) (row == 6) never where
+  of : (fails sends forgets_it : Bool) → fails ≡ false → With ns (if fails then none_asked (record g { comm = comm_fired row (delay_end row g) g.comm }) else (if sends then asks 1 13 what.Establish (identity_text g.config) (record g { comm = comm_fired row (delay_end row g) g.comm }) else (if forgets_it then forgets what.Establish (record g { comm = comm_fired row (delay_end row g) g.comm }) else record g { comm = comm_fired row (delay_end row g) g.comm }))).transactions.opened
+  of true sends forgets_it never = absurd (cc)
+  of false true forgets_it never = with_asks ns (record g { comm = comm_fired row (delay_end row g) g.comm }) 1 13 what.Establish (identity_text g.config) refl is
+  of false false true never = with_forgotten ns what.Establish g.transactions no_establish is
+  of false false false never = is
+
+with_control : (ns : List ℕ) (g : State) (row : ℕ) → With ns g.transactions.opened → With ns (fire_control row g).transactions.opened
+with_control ns g row is = of (row == 1) (row == 6) (can_ask (record g { control = control_fired row g.control })) where
+  of : (sends forgets_it can : Bool) → With ns (if sends then (if can then asks 1 1 what.Attempt [] (record g { control = control_fired row g.control }) else record g { control = control_fired row g.control }) else (if forgets_it then forgets what.Attempt (record g { control = control_fired row g.control }) else record g { control = control_fired row g.control })).transactions.opened
+  of true forgets_it true = with_asks ns (record g { control = control_fired row g.control }) 1 1 what.Attempt [] refl is
+  of true forgets_it false = is
+  of false true can = with_forgotten ns what.Attempt g.transactions no_attempt is
+  of false false can = is
+
+-- a firing leaves the notes alone: it is of table 1 or 2, and not the row that disables communication
+abbrev IsQuiet : Firing → Type 0
+IsQuiet f = ((f.table == 3) ≡ false) × ((f.table == 1) ≡ true → (f.row == 2) ≡ false)
+
+with_fire : (ns : List ℕ) (g : State) (f : Firing) → IsQuiet f → With ns g.transactions.opened → With ns (fire g f).transactions.opened
+with_fire ns g f quiet is = of (f.table == 1) (f.table == 2) (f.table == 3) quiet.0 quiet.1 where
+  of : (first second third : Bool) → third ≡ false → (first ≡ true → (f.row == 2) ≡ false) → With ns (if first then fire_comm f.row g else (if second then fire_control f.row g else (if third then fire_line f.row g else g))).transactions.opened
+  of true second third none never = with_comm ns g f.row (never refl) is
+  of false true third none never = with_control ns g f.row is
+  of false false true none never = absurd (cc)
+  of false false false none never = is
+
+open_fire : (g : State) (f : Firing) → IsQuiet f → (fire g f).line.opened ≡ g.line.opened
+open_fire g f quiet =
+    same_open (ceid_of f.table f.row) (record { object = object_name (takes_effect g f) f; row = 100 * f.table + f.row }) (is_online g.control) (takes_effect g f)
+    ∙ of (f.table == 1) (f.table == 2) (f.table == 3) quiet.0
+  where
+    of : (first second third : Bool) → third ≡ false → (if first then fire_comm f.row g else (if second then fire_control f.row g else (if third then fire_line f.row g else g))).line.opened ≡ g.line.opened
+    of true second third none = ap (λ (l : Line). l.opened) (line_comm g f.row)
+    of false true third none = ap (λ (l : Line). l.opened) (line_control g f.row)
+    of false false true none = absurd (cc)
+    of false false false none = refl
+
+abbrev AreQuiet : List Firing → Type 0
+AreQuiet [] = Unit {0}
+AreQuiet (f ∷ fs) = IsQuiet f × AreQuiet fs
+
+with_listed : (ns : List ℕ) (fs : List Firing) → AreQuiet fs → (g : State) → With ns g.transactions.opened → With ns (fire_listed fs g).transactions.opened
+with_listed ns [] quiet g is = is
+with_listed ns (f ∷ fs) quiet g is =
+    with_listed ns fs quiet.1 (if row_starts g f then fire g f else g)
+    (either_way (λ (h : State). With ns h.transactions.opened) (row_starts g f) (fire g f) g (with_fire ns g f quiet.0 is) is)
+
+open_listed : (fs : List Firing) → AreQuiet fs → (g : State) → (fire_listed fs g).line.opened ≡ g.line.opened
+open_listed [] quiet g = refl
+open_listed (f ∷ fs) quiet g =
+    open_listed fs quiet.1 (if row_starts g f then fire g f else g)
+    ∙ either_way (λ (h : State). h.line.opened ≡ g.line.opened) (row_starts g f) (fire g f) g (open_fire g f quiet.0) refl
+
+quiet_control : (rows : List ℕ) → AreQuiet (of_control rows)
+quiet_control [] = tt
+quiet_control (row ∷ rows) = ((refl, λ is. absurd (cc)), quiet_control rows)
+
+-- ---- the open note
+
+-- the transactions of notes that are open are those of the open note
+abbrev Own : State → Type 0
+Own g = With (open_number g.line) g.transactions.opened
+
+-- no transaction of a note is open
+abbrev Bare : State → Type 0
+Bare g = With [] g.transactions.opened
+
+-- the open note is the same
+own_open : (g h : State) → h.line.opened ≡ g.line.opened → With (open_number g.line) h.transactions.opened → Own h
+own_open g h same is = subst (λ (note : Option Note). With (number_of note) h.transactions.opened) (sym same) is
+
+own_listed : (fs : List Firing) → AreQuiet fs → (g : State) → Own g → Own (fire_listed fs g)
+own_listed fs quiet g own = own_open g (fire_listed fs g) (open_listed fs quiet g) (with_listed (open_number g.line) fs quiet g own)
+
+own_control : (t : ControlTrigger) (g : State) → Own g → Own (fires (by_control t) g)
+own_control t g own = own_listed (by_control t g) (quiet_control (control_rows t g.switch_local)) g own
+
+own_either : (b : Bool) (x y : State) → Own x → Own y → Own (if b then x else y)
+own_either b x y at_x at_y = either_way Own b x y at_x at_y
+
+-- row 14 of table 3: where no transaction of a note is open, no note is behind it
+failed_open : (g : State) → (fire_listed note_fails g).line.opened ≡ None
+failed_open g = of g.line.opened refl where
+  of : (note : Option Note) → g.line.opened ≡ note → (if is_some note then record g { line = with_open (fated (Dropped NoSpool)) note g.line } else g).line.opened ≡ None
+  of None is = is
+  of (Some note) is = refl
+
+failed_transactions : (g : State) → (fire_listed note_fails g).transactions.opened ≡ g.transactions.opened
+failed_transactions g = either_way (λ (h : State). h.transactions.opened ≡ g.transactions.opened) (row_starts g (firing 3 0 14)) (fire g (firing 3 0 14)) g refl refl
+
+own_none : (g : State) → g.line.opened ≡ None → Bare g → Own g
+own_none g none bare = subst (λ (note : Option Note). With (number_of note) g.transactions.opened) (sym none) bare
+
+own_failed : (g : State) → Bare g → Own (fire_listed note_fails g)
+own_failed g bare =
+    own_none (fire_listed note_fails g) (failed_open g) (subst (λ (opened : List Open). With [] opened) (sym (failed_transactions g)) bare)
+
+-- the tool's S1F1 fails where it was open, and then the note
+own_all_failed : (attempted : Bool) (g : State) → Bare g → Own (fire_listed ((if attempted then firing 2 0 3 ∷ [] else []) ++ note_fails) g)
+own_all_failed true g bare = own_failed (fire_listed (firing 2 0 3 ∷ []) g) (with_listed [] (firing 2 0 3 ∷ []) (quiet_control (3 ∷ [])) g bare)
+own_all_failed false g bare = own_failed g bare
+
+own_ended : (g : State) → Own (session_ended g)
+own_ended g =
+    let down : State = without_session g in
+    let one : State = fire_listed (firing 1 0 7 ∷ []) down in
+    own_all_failed (is_some (first_of what.Attempt g.transactions.opened)) one
+    (with_listed [] (firing 1 0 7 ∷ []) ((refl, λ is. refl), tt) down (record { within = omega arith; different = tt; numbers = refl }))
+
+-- ---- operators
+
+own_disabling : (b attempted : Bool) (g : State) → row_starts g (firing 1 0 2) ≡ b → Few g → Own g → Own (fire_listed ((if attempted then firing 2 0 3 ∷ [] else []) ++ note_fails) (if b then fire g (firing 1 0 2) else g))
+own_disabling true attempted g is few own = own_all_failed attempted (fire g (firing 1 0 2)) (record { within = omega arith; different = tt; numbers = refl })
+own_disabling false attempted g is few own =
+    let none = cannot_note _ (is_communicating g.comm) (has_open g.line) (no_talk g.comm is) few.note in
+    own_all_failed attempted g (record { within = own.within; different = own.different; numbers = uncounted g.transactions.opened none })
+
+own_line : (g : State) (l : Line) → l.opened ≡ g.line.opened → Own g → Own (record g { line = l })
+own_line g l same own = own_open g (record g { line = l }) same own
+
+own_cleared : (alid : ℕ) (g : State) → Own g → Own (clears_alarm alid g)
+own_cleared alid g own =
+    own_either (is_set alid g.alarms) _ g
+    (own_line g (line_with_alarm alid (record g { alarms = clear_alarm alid g.alarms }))
+    (either_way (λ (l : Line). l.opened ≡ g.line.opened) (is_alarm_reported alid (record g { alarms = clear_alarm alid g.alarms })) _ g.line refl refl) own)
+    own
+
+own_switched : (command : OperCmd) (g : State) → Own g → Own (switched command g)
+own_switched (oper.Clear n) g own = own_either (can_clear n g) (clears_alarm n g) g (own_cleared n g own) own
+own_switched oper.Local g own = own
+own_switched oper.Remote g own = own
+own_switched _ g own = own
+
+own_operator : (command : OperCmd) (g : State) → Few g → Own g → Own (fires (operator_rows command) g)
+own_operator oper.Enable g few own = own_listed (by_comm comm.Enable) ((refl, λ is. refl), tt) g own
+own_operator oper.Disable g few own = own_disabling (row_starts g (firing 1 0 2)) (is_some (first_of what.Attempt g.transactions.opened)) g refl few own
+own_operator oper.Online g few own = own_control trigger.Online g own
+own_operator oper.Offline g few own = own_control trigger.Offline g own
+own_operator oper.Local g few own = own_control trigger.Local g own
+own_operator oper.Remote g few own = own_control trigger.Remote g own
+own_operator _ g few own = own
+
+-- ---- data messages
+
+own_clock : (shown : Option ℕ) (g : State) → Own g → Own (clock_set shown g)
+own_clock None g own = own
+own_clock (Some shown) g own = own
+
+own_named : (alid : Option ℕ) (g : State) → Own g → Own (clears_named alid g)
+own_named None g own = own
+own_named (Some alid) g own = own_cleared alid g own
+
+own_command : (command : Option RemoteCommand) (parameters : List Parameter) (g : State) → Own g → Own (command_written command parameters g)
+own_command None parameters g own = own
+own_command (Some GoLocal) parameters g own = own
+own_command (Some ClearAlarm) parameters g own = own_named (alarm_named parameters) g own
+
+own_written : (m : GemMsg) (g : State) → Own g → Own (written m g)
+own_written (msg.S2F31 text) g own = own_clock (moment_in text) g own
+own_written (msg.S2F41 name parameters) g own = own_command (accepted g name parameters) parameters g own
+own_written _ g own = own
+
+own_commanded : (command : Option RemoteCommand) (g : State) → Own g → Own (fires (command_rows command) g)
+own_commanded None g own = own
+own_commanded (Some GoLocal) g own = own_control trigger.Local g own
+own_commanded (Some ClearAlarm) g own = own
+
+own_message : (m : GemMsg) (g : State) → Own g → Own (fires (message_rows m) g)
+own_message msg.S1F13 g own = own_listed (by_comm comm.HostS1F13) ((refl, λ is. refl), tt) g own
+own_message msg.S1F15 g own = own_control trigger.HostS1F15 g own
+own_message msg.S1F17 g own = own_control trigger.HostS1F17 g own
+own_message (msg.S2F41 name parameters) g own = own_commanded (accepted g name parameters) g own
+own_message _ g own = own
+
+own_replied : (h : Header) (function : ℕ) (text : List ℕ) (g : State) → Own g → Own (replied h function text g)
+own_replied h function text g own = own_either (wants_reply h) _ g own own
+
+own_taken : (h : Header) (m : GemMsg) (g : State) → Own g → Own (taken h m g)
+own_taken h m g own =
+    let told : State = replied h (function_of h + 1) (plain (reply_body (reply_to g m))) g in
+    own_message m (written m told) (own_written m told (own_replied h (function_of h + 1) (plain (reply_body (reply_to g m))) g own))
+
+-- ---- answers and timeouts
+
+own_out : (g : State) (test : Open → Bool) (one : Open) → find test g.transactions.opened ≡ Some one → note_number one.what ≡ [] → Own g → Own (out_of one g)
+own_out g test one found none own = with_out (open_number g.line) test g.transactions one found none own
+
+bare_out : (g : State) (test : Open → Bool) (one : Open) (n : ℕ) → find test g.transactions.opened ≡ Some one → one.what ≡ what.Note n → Own g → Bare (out_of one g)
+bare_out g test one n found is own = with_note_out g.line.opened test g.transactions one n found is own
+
+answered_open : (l : Line) → (answered_line l).opened ≡ None
+answered_open l = of l.opened refl where
+  of : (note : Option Note) → l.opened ≡ note → (with_open (fated Answered) note l).opened ≡ None
+  of None is = is
+  of (Some note) is = refl
+
+quiet_answer : (function : ℕ) (item : Option Data) → AreQuiet (by_comm (establish_answer function item))
+quiet_answer function item =
+    either_way (λ (t : CommTrigger). AreQuiet (by_comm t)) (function == 0) comm.Refused (if accepts item then comm.Accepted else comm.Refused) ((refl, λ is. refl), tt)
+    (either_way (λ (t : CommTrigger). AreQuiet (by_comm t)) (accepts item) comm.Accepted comm.Refused ((refl, λ is. refl), tt) ((refl, λ is. refl), tt))
+
+own_closed : (g : State) (h : Header) (item : Option Data) (test : Open → Bool) (found : Option Open) → find test g.transactions.opened ≡ found → Own g → Own (closed_by h item found g)
+own_closed g h item test None is own = own
+own_closed g h item test (Some one) is own = of one.what refl where
+  of : (w : What) → one.what ≡ w → Own (fires (answer_rows w (function_of h) item) (note_answered w (out_of one g)))
+  of what.Establish kind =
+      own_listed (by_comm (establish_answer (function_of h) item)) (quiet_answer (function_of h) item) (out_of one g) (own_out g test one is (ap note_number kind) own)
+  of what.Attempt kind = own_control (attempt_answer (function_of h)) (out_of one g) (own_out g test one is (ap note_number kind) own)
+  of (what.Note n) kind = own_none (note_answered (what.Note n) (out_of one g)) (answered_open g.line) (bare_out g test one n is kind own)
+
+own_timed_out : (g : State) (test : Open → Bool) (one : Open) → find test g.transactions.opened ≡ Some one → Own g → Own (timed_out one g)
+own_timed_out g test one is own = of one.what refl where
+  of : (w : What) → one.what ≡ w → Own (fires (timeout_rows w) (told_of one g))
+  of what.Establish kind = own_listed (by_comm comm.Refused) ((refl, λ is. refl), tt) (told_of one g) (own_out g test one is (ap note_number kind) own)
+  of what.Attempt kind = own_control trigger.Failed (told_of one g) (own_out g test one is (ap note_number kind) own)
+  of (what.Note n) kind = own_failed (told_of one g) (bare_out g test one n is kind own)
+
+own_timeouts : (n at : ℕ) (opened : List Open) (first : Option Open) (g : State) → g.transactions.opened ≡ opened → first_expired at opened ≡ first → Own g → Own (all_done (map (λ one. Timeout one) (expired_from n at opened first)) g)
+own_timeouts zero at opened first g is found own = own
+own_timeouts (suc n) at opened None g is found own = own
+own_timeouts (suc n) at opened (Some one) g is found own =
+    own_timeouts n at (without one.system opened) (first_expired at (without one.system opened)) (timed_out one g)
+    (opened_timeout one.what (told_of one g) ∙ ap (without one.system) is) refl
+    (own_timed_out g (is_first_expired at opened) one (ap (find (is_first_expired at opened)) is ∙ found) own)
+
+own_due : (g : State) (d : Option LinkDue) → Own g → Own (all_done (dues_with g d) g)
+own_due g (Some due.T7) own = own_ended g
+own_due g (Some due.T6) own = own_ended g
+own_due g (Some due.AskLinktest) own =
+    own_timeouts (length g.transactions.opened) g.moment g.transactions.opened (first_expired g.moment g.transactions.opened) (asks_linktest g) refl refl own
+own_due g None own =
+    own_timeouts (length g.transactions.opened) g.moment g.transactions.opened (first_expired g.moment g.transactions.opened) g refl refl own
+
+-- ---- settling
+
+-- row 13 of table 3: the head is sent where no note is open
+own_sending : (waiting : List Note) (g : State) → g.line.opened ≡ None → is_full g.transactions ≡ false → Own g → Own (record (asks_first waiting g) { line = with_head sent waiting g.line })
+own_sending [] g none room own = own
+own_sending (note ∷ waiting) g none room own = of (is_full g.transactions) refl where
+  of : (b : Bool) → is_full g.transactions ≡ b → With (note.number ∷ []) (if b then g else with_frame (data_frame g.config.device true (stream_of_kind note.kind) (function_of_kind note.kind) (drawn g.transactions) note.text) (record g { transactions = if b then g.transactions else with_started (stream_of_kind note.kind) (function_of_kind note.kind) (g.moment + t3 g) (what.Note note.number) g.transactions })).transactions.opened
+  of true full = absurd (true≢false (sym full ∙ room))
+  of false is =
+      with_more [] g.transactions (stream_of_kind note.kind) (function_of_kind note.kind) (g.moment + t3 g) (what.Note note.number) room
+      (subst (λ (n : Option Note). With (number_of n) g.transactions.opened) none own)
+
+none_opened : (note : Option Note) → is_some note ≡ false → note ≡ None
+none_opened None is = refl
+none_opened (Some note) is = absurd (cc)
+
+own_this : (g : State) (f one : Firing) → Own (fire g one) → one ≡ f → Own (fire g f)
+own_this g f one own same = subst (λ (x : Firing). Own (fire g x)) same own
+
+own_some : (g : State) (f one : Firing) → Own (fire g one) → Some one ≡ Some f → Own (fire g f)
+own_some g f one own here = own_this g f one own (let same : one ≡ f = cc in same)
+
+own_fired : (g : State) (f : Firing) → IsQuiet f → Own g → Own (fire g f)
+own_fired g f quiet own = own_open g (fire g f) (open_fire g f quiet) (with_fire (open_number g.line) g f quiet own)
+
+own_automatic : (g : State) (f : Firing) → least g ≡ Some f → Few g → Own g → Own (fire g f)
+own_automatic g f ready few own =
+    or_went (ready_comm g) (option_or (ready_control g) (ready_line g)) f
+    (λ at. went _ _ _ _ (λ _ e. own_some g f (firing 1 0 3) (own_fired g (firing 1 0 3) (refl, λ is. refl) own) e) (λ _ e. none_some f e) at)
+    (λ _ behind. or_went (ready_control g) (ready_line g) f
+    (λ at. went _ _ _ _ (λ _ e. own_some g f (firing 2 0 2) (own_fired g (firing 2 0 2) (refl, λ is. absurd (cc)) own) e) (λ _ e. none_some f e) at)
+    (λ _ at. line_went (is_communicating g.comm) g.line f
+    (λ _ e. own_this g f (firing 3 0 11) (own_line g (row_effect 11 g.line) (same_dropped g.line.waiting g.line) own) e)
+    (λ _ none talks e. own_this g f (firing 3 0 13) (own_sending g.line.waiting g (none_opened g.line.opened none) (few-room g few) own) e)
+    at) behind)
+    ready
+
+-- few transactions are open, and those of notes are the open note's
+record Both (g : State) : Type 0 where
+  pub few : Few g
+  pub own : Own g
+
+own_settled : (g : State) → Few g → Own g → Own (settled g)
+own_settled g few own =
+    (settled_keeps Both (λ h f ready both. record { few = few-automatic h f ready both.few; own = own_automatic h f ready both.few both.own }) g (record { few = few; own = own })).own
+
+-- ---- a step
+
+own_to : (x o : Outcome) → Own x.after → Some x ≡ Some o → Own o.after
+own_to x o own here = let same : x ≡ o = cc in subst (λ (y : Outcome). Own y.after) same own
+
+own_data : (h : Header) (item : Option Data) (v : Verdict) (g : State) → Own g → Own (data_act h item v g)
+own_data h item Discarded g own = own
+own_data h item (Stream9 function) g own = own
+own_data h item Aborted g own = own_replied h 0 [] g own
+own_data h item Answers g own =
+    own_closed g h item (answers h.system (stream_of h) (function_of h)) (answered_one h.system (stream_of h) (function_of h) g.transactions.opened) refl own
+own_data h item (Taken m) g own = own_taken h m g own
+
+own_hosted : (g : State) (arrival : Arrival) (act : LinkAct) → Own g → Own (hosted g arrival act).after
+own_hosted g arrival (link.Reply h) own = own
+own_hosted g arrival link.Data own = own_data (header_of arrival) (item_of arrival) (verdict g arrival) g own
+own_hosted g arrival link.Ended own = own_ended g
+own_hosted g arrival link.Nothing own = own
+
+own_frame : (g : State) (frames : List (List ℕ)) (o : Outcome) → Own g → steps.taken g frames ≡ Some o → Own o.after
+own_frame g [] o own here = none_some o here
+own_frame g (frame ∷ frames) o own here = own_to _ o own here
+
+own_quit : (up : Bool) (g : State) → Own g → Own (quits up g).after
+own_quit true g own = own_ended g
+own_quit false g own = own
+
+own_operated : (command : OperCmd) (g : State) → Few g → Own g → Own (operated command g).after
+own_operated oper.Quit g few own = own_quit (is_up g) g own
+own_operated oper.Local g few own = own_operator oper.Local (switched oper.Local g) few own
+own_operated oper.Remote g few own = own_operator oper.Remote (switched oper.Remote g) few own
+own_operated (oper.Clear n) g few own = own_switched (oper.Clear n) g own
+own_operated command g few own = own_operator command g few own
+
+own_acts : (before : ℕ) (g : State) (e : Event) (o : Outcome) → Few g → Own g → acts before g e ≡ Some o → Own o.after
+own_acts before g event.LinkUp o few own here = went (is_up g) _ _ _ (λ _ e. own_to _ o own e) (λ _ e. own_to _ o own e) here
+own_acts before g (event.LinkDown session cause) o few own here = went (is_session_up g session) _ _ _ (λ _ e. own_to _ o (own_ended g) e) (λ _ e. own_to _ o own e) here
+own_acts before g (event.Host session arrival) o few own here =
+    went (is_session_up g session) _ _ _
+    (λ _ e. own_to _ o (own_hosted (linked g (header_of arrival)) arrival (link_act (header_of arrival) g.link) own) e)
+    (λ _ e. own_to _ o own e) here
+own_acts before g (event.Take session) o few own here = went (is_session_up g session) _ _ _ (λ _ e. own_frame g g.waiting o own e) (λ _ e. own_to _ o own e) here
+own_acts before g (event.Oper command) o few own here = own_to (operated command g) o (own_operated command g few own) here
+own_acts before g (event.Signal signal) o few own here = own_to _ o own here
+own_acts before g (event.Fetch m) o few own here = none_some o here
+own_acts before g event.Tick o few own here =
+    went (is_due before g) _ _ _ (λ _ e. own_to _ o (own_due g (due_at (link_times g) g.link g.moment) own) e) (λ _ e. none_some o e) here
+own_acts before g event.Listen o few own here = none_some o here
+own_acts before g (event.Watch port) o few own here = none_some o here
+
+own_mapped : (x : Option Outcome) (o : Outcome) → ((p : Outcome) → x ≡ Some p → Both p.after) → option_map settles x ≡ Some o → Own o.after
+own_mapped None o both here = none_some o here
+own_mapped (Some p) o both here = let at = both p refl in own_to (settles p) o (own_settled p.after at.few at.own) here
+
+own_step : (before : ℕ) (g : State) (e : Event) (o : Outcome) → Few g → Own g → step_from before g e ≡ Some o → Own o.after
+own_step before g e o few own here =
+    went g.quitting _ _ _ (λ _ at. own_to _ o own at)
+    (λ _ at. own_mapped (acts before g e) o (λ p is. record { few = few-acts before g e p few is; own = own_acts before g e p few own is }) at) here
+
+-- ---- a history
+
+own_run : (g : State) (entries : List Entry) (h : State) → Few g → Own g → Run g entries h → Own h
+own_run g [] h few own run = subst Own (sym run) own
+own_run g (e ∷ entries) h few own run =
+    own_run run.0.after entries h (few-step g.moment (raised g e.at.0) e.event run.0 few run.1) (own_step g.moment (raised g e.at.0) e.event run.0 few own run.1) run.2
+
+-- where a history leads, the transactions of notes that are open are those of the open note
+pub run-own : (c : Config) (entries : List Entry) (h : State) → Run (opening c) entries h → note_numbers h.transactions.opened ≡ open_number h.line
+run-own c entries h run =
+    (own_run (opening c) entries h (valid-few (opening c) (opening_valid c)) (record { within = omega arith; different = tt; numbers = refl }) run).numbers

@@ -1,0 +1,290 @@
+-- The notes of the line tell of what is reported, in order.
+use Rattle.std.proofs.Common.{◌≡◌, ℕ, ◌+◌, ◌==◌, Bool, true, false, ◌&&◌, if◌then◌else◌, List, [], ◌∷◌, ◌++◌, map, Option, Some, None, option_map, refl, sym, ◌∙◌, ap, subst, append_assoc, ◌*◌}
+use Rattle.std.proofs.lemmas.List.{append-nil}
+use Rattle.hsms_frame.specs.declared.frame.Header.{Header}
+use Rattle.hsms_frame.specs.declared.frame.Arrival.{Arrival}
+use Rattle.hsms_link.specs.declared.table.LinkAct.{LinkAct}
+use Rattle.hsms_link.specs.declared.table.LinkAct.TheVariants as link
+use Rattle.hsms_link.specs.LinkTable.{link_act}
+use Rattle.secs_items.specs.Data.{Data}
+use Rattle.secs_items.specs.Plain.{plain}
+use Rattle.msgs_gem.specs.declared.primary.GemMsg.{GemMsg}
+use Rattle.msgs_gem.specs.declared.primary.GemMsg.TheVariants as msg
+use Rattle.msgs_gem.specs.Replies.{reply_body}
+use Rattle.gem_ids.specs.Civil.{moment_in}
+use Rattle.gem_tables.specs.Table.{Firing}
+use Rattle.gem_rows.specs.Events.{ceid_of}
+use Rattle.event_reports.specs.Alarms.{is_set, clear_alarm}
+use Rattle.note_line.specs.declared.note.Kind.TheVariants.{Event, Alarm}
+use Rattle.note_line.specs.Line.{Line}
+use Rattle.note_line.specs.Fates.{tells}
+use Rattle.note_line.proofs.Tells.{row-tells, answered-tells, noted-tells}
+use Rattle.tool_events.specs.declared.config.Config.{Config}
+use Rattle.tool_events.specs.declared.entry.Entry.{Entry}
+use Rattle.tool_events.specs.declared.event.Event.{Event as Posted}
+use Rattle.tool_events.specs.declared.event.Event.TheVariants as event
+use Rattle.tool_events.specs.declared.event.OperCmd.{OperCmd}
+use Rattle.tool_events.specs.declared.event.OperCmd.TheVariants as oper
+use Rattle.tool_events.specs.declared.answer.Answer.TheVariants as answer
+use Rattle.transactions.specs.declared.transaction.Open.{Open}
+use Rattle.transactions.specs.declared.transaction.What.{What}
+use Rattle.transactions.specs.declared.transaction.What.TheVariants as what
+use Rattle.transactions.specs.Table.{taken_out}
+use Rattle.gem_model.specs.State.{State, opening, is_up, is_session_up, is_online, without_session, raised}
+use Rattle.gem_model.specs.Sending.{sends_stream9, data_header}
+use Rattle.gem_model.specs.Values.{Occasion, object_name}
+use Rattle.gem_model.specs.Noting.{line_behind, line_with_event, is_event_reported, is_alarm_reported, line_with_alarm, clears_alarm}
+use Rattle.gem_model.specs.Fire.{fire, fires, fire_listed, fire_comm, fire_control, fire_line, takes_effect, row_starts}
+use Rattle.gem_model.specs.Remote.{RemoteCommand, GoLocal, ClearAlarm, Parameter, accepted, alarm_named}
+use Rattle.gem_model.specs.Direct.{operator_rows, message_rows, answer_rows, timeout_rows, session_end_rows}
+use Rattle.gem_model.specs.Verdict.{Verdict, Discarded, Stream9, Aborted, Answers, Taken, verdict, header_of, item_of, wants_reply, function_of, reply_to}
+use Rattle.gem_model.specs.Act.{written, clock_set, clears_named, command_written, note_answered, replied, taken, closed_by, data_act, session_ended}
+use Rattle.gem_model.specs.Due.{Due, EndOfSession, Linktest, Timeout, dues, is_due, done, all_done}
+use Rattle.gem_model.specs.Settle.{settling, settled, fire_all}
+use Rattle.gem_model.specs.Step as steps
+use Rattle.gem_model.specs.Step.{Outcome, answered, ends, ended_by, step, step_from, acts, linked, hosted, can_clear, operated, switched, quits, settles}
+use Rattle.gem_model.specs.Run.{Run, entry_after}
+use Rattle.gem_model.specs.Reported.{Reported, by_event, by_firing, by_firings, by_listed, by_rows, by_settling, by_clearing, by_clearing_named, by_command, by_written, by_answered, by_taken, by_closing, by_data, by_session_end, by_host, by_switched, by_operator, by_due, by_dues, by_act, by_settling_behind, by_step_from, by_step, reported_in}
+use Rattle.gem_model.proofs.Tests.{went, either_way, none_some}
+use Rattle.gem_model.proofs.Lined.{SameLine, line_comm, line_control}
+use Rattle.gem_model.proofs.Runs.{after-step}
+
+-- what the notes of a state tell of, from number 1 on
+abbrev pub told_in : State → List Reported
+told_in g = map tells g.line.told
+
+-- from the first state to the second, notes of these are made
+abbrev pub Tells : State → List Reported → State → Type 0
+Tells g new h = told_in h ≡ told_in g ++ new
+
+tells_none : (g h : State) → told_in h ≡ told_in g → Tells g [] h
+tells_none g h same = same ∙ sym (append-nil (told_in g))
+
+tells_at : (g : State) → Tells g [] g
+tells_at g = tells_none g g refl
+
+-- the line is the same
+tells_same : (g h : State) → h.line ≡ g.line → Tells g [] h
+tells_same g h same = tells_none g h (ap (λ (l : _). map tells l.told) same)
+
+tells_then : (g h k : State) (first next : List Reported) → Tells g first h → Tells h next k → Tells g (first ++ next) k
+tells_then g h k first next one two = two ∙ ap (λ (xs : List Reported). xs ++ next) one ∙ append_assoc (told_in g) first next
+
+-- what is so of both ways is so of the one that was taken
+both_ways : (g : State) (b : Bool) (x y : State) (r s : List Reported) → Tells g r x → Tells g s y → Tells g (if b then r else s) (if b then x else y)
+both_ways g true x y r s at_x at_y = at_x
+both_ways g false x y r s at_x at_y = at_y
+
+-- a note is made where a test says so
+tells_where : (g : State) (b : Bool) (l : Line) (new : List Reported) → map tells l.told ≡ told_in g ++ new → map tells (if b then l else g.line).told ≡ told_in g ++ (if b then new else [])
+tells_where g true l new made = made
+tells_where g false l new made = tells_at g
+
+-- ---- firings
+
+-- the effect of a row changes no note
+told_same : (g h : State) → SameLine g h → told_in h ≡ told_in g
+told_same g h same = subst (λ (l : Line). map tells l.told ≡ told_in g) (sym same) refl
+
+told_effect : (g : State) (f : Firing) → told_in (takes_effect g f) ≡ told_in g
+told_effect g f = of (f.table == 1) (f.table == 2) (f.table == 3) where
+  of : (first second third : Bool) → told_in (if first then fire_comm f.row g else (if second then fire_control f.row g else (if third then fire_line f.row g else g))) ≡ told_in g
+  of true second third = told_same g (fire_comm f.row g) (line_comm g f.row)
+  of false true third = told_same g (fire_control f.row g) (line_control g f.row)
+  of false false true = row-tells f.row g.line
+  of false false false = refl
+
+-- a note is made exactly where the event is reported
+tells_event : (event : Option ℕ) (o : Occasion) (online : Bool) (g : State) → Tells g (by_event event online g) (record g { line = line_behind event o online g })
+tells_event None o online g = tells_at g
+tells_event (Some ceid) o online g = tells_where g (is_event_reported ceid online g) (line_with_event ceid o g) ((Event, ceid) ∷ []) (noted-tells Event ceid g.line.told)
+
+tells_fire : (g : State) (f : Firing) → Tells g (by_firing g f) (fire g f)
+tells_fire g f =
+    let event = ceid_of f.table f.row in
+    let h : State = takes_effect g f in
+    let told : told_in (fire g f) ≡ told_in h ++ by_firing g f = tells_event event (record { object = object_name h f; row = 100 * f.table + f.row }) (is_online g.control) h in
+    told ∙ ap (λ (xs : List Reported). xs ++ by_firing g f) (told_effect g f)
+
+tells_firings : (fs : List Firing) (g : State) → Tells g (by_firings fs g) (fire_all fs g)
+tells_firings [] g = tells_at g
+tells_firings (f ∷ fs) g = tells_then g (fire g f) (fire_all fs (fire g f)) _ _ (tells_fire g f) (tells_firings fs (fire g f))
+
+tells_listed : (fs : List Firing) (g : State) → Tells g (by_listed fs g) (fire_listed fs g)
+tells_listed [] g = tells_at g
+tells_listed (f ∷ fs) g = of (row_starts g f) (tells_then g (fire g f) (fire_listed fs (fire g f)) _ _ (tells_fire g f) (tells_listed fs (fire g f))) (tells_listed fs g) where
+  of : (b : Bool) → Tells g (by_firing g f ++ by_listed fs (fire g f)) (fire_listed fs (fire g f)) → Tells g (by_listed fs g) (fire_listed fs g) → Tells g (if b then by_firing g f ++ by_listed fs (fire g f) else by_listed fs g) (fire_listed fs (if b then fire g f else g))
+  of true fires waits = fires
+  of false fires waits = waits
+
+tells_rows : (rows : State → List Firing) (g : State) → Tells g (by_rows rows g) (fires rows g)
+tells_rows rows g = tells_listed (rows g) g
+
+tells_settled : (g : State) → Tells g (by_settling g) (settled g)
+tells_settled g = tells_firings (settling g) g
+
+-- ---- alarms
+
+-- the alarm is clear
+abbrev with_clear : ℕ → State → State
+with_clear alid g = record g { alarms = clear_alarm alid g.alarms }
+
+tells_cleared : (g : State) (alid : ℕ) → Tells g (by_clearing alid g) (clears_alarm alid g)
+tells_cleared g alid = of (is_set alid g.alarms) (tells_where g (is_alarm_reported alid (with_clear alid g)) _ ((Alarm, alid) ∷ []) (noted-tells Alarm alid g.line.told)) where
+  of : (set : Bool) → Tells g (if is_alarm_reported alid (with_clear alid g) then (Alarm, alid) ∷ [] else []) (record (with_clear alid g) { line = line_with_alarm alid (with_clear alid g) }) → Tells g (if set && is_alarm_reported alid (with_clear alid g) then (Alarm, alid) ∷ [] else []) (if set then record (with_clear alid g) { line = line_with_alarm alid (with_clear alid g) } else g)
+  of true told = told
+  of false told = tells_at g
+
+-- ---- data messages
+
+tells_clock : (g : State) (shown : Option ℕ) → Tells g [] (clock_set shown g)
+tells_clock g None = tells_at g
+tells_clock g (Some shown) = tells_at g
+
+tells_named : (g : State) (alid : Option ℕ) → Tells g (by_clearing_named alid g) (clears_named alid g)
+tells_named g None = tells_at g
+tells_named g (Some alid) = tells_cleared g alid
+
+tells_command : (g : State) (command : Option RemoteCommand) (parameters : List Parameter) → Tells g (by_command command parameters g) (command_written command parameters g)
+tells_command g None parameters = tells_at g
+tells_command g (Some GoLocal) parameters = tells_at g
+tells_command g (Some ClearAlarm) parameters = tells_named g (alarm_named parameters)
+
+tells_written : (g : State) (m : GemMsg) → Tells g (by_written m g) (written m g)
+tells_written g (msg.S2F31 text) = tells_clock g (moment_in text)
+tells_written g (msg.S2F41 name parameters) = tells_command g (accepted g name parameters) parameters
+tells_written g _ = tells_at g
+
+tells_answered : (m : GemMsg) (g : State) → Tells g (by_answered m g) (fires (message_rows m) (written m g))
+tells_answered m g = tells_then g (written m g) (fires (message_rows m) (written m g)) _ _ (tells_written g m) (tells_rows (message_rows m) (written m g))
+
+tells_replied : (g : State) (h : Header) (function : ℕ) (text : List ℕ) → Tells g [] (replied h function text g)
+tells_replied g h function text = either_way (Tells g []) (wants_reply h) _ g (tells_at g) (tells_at g)
+
+tells_taken : (g : State) (h : Header) (m : GemMsg) → Tells g (by_taken h m g) (taken h m g)
+tells_taken g h m =
+    let text = plain (reply_body (reply_to g m)) in
+    let told : State = replied h (function_of h + 1) text g in
+    tells_then g told (taken h m g) [] (by_answered m told) (tells_replied g h (function_of h + 1) text) (tells_answered m told)
+
+tells_note : (g : State) (w : What) → Tells g [] (note_answered w g)
+tells_note g what.Establish = tells_at g
+tells_note g what.Attempt = tells_at g
+tells_note g (what.Note n) = tells_none g (note_answered (what.Note n) g) (answered-tells g.line)
+
+tells_closed : (g : State) (h : Header) (item : Option Data) (one : Option Open) → Tells g (by_closing h item one g) (closed_by h item one g)
+tells_closed g h item None = tells_at g
+tells_closed g h item (Some one) =
+    let out : State = record g { transactions = taken_out (Some one) g.transactions } in
+    let told : State = note_answered one.what out in
+    let rows = answer_rows one.what (function_of h) item in
+    tells_then g told (fires rows told) [] (by_rows rows told) (tells_note out one.what) (tells_rows rows told)
+
+tells_data : (g : State) (h : Header) (item : Option Data) (v : Verdict) → Tells g (by_data h item v g) (data_act h item v g)
+tells_data g h item Discarded = tells_at g
+tells_data g h item (Stream9 function) = tells_at g
+tells_data g h item Aborted = tells_replied g h 0 []
+tells_data g h item Answers = tells_closed g h item _
+tells_data g h item (Taken m) = tells_taken g h m
+
+-- ---- the end of a session, and operators
+
+tells_ended : (g : State) → Tells g (by_session_end g) (session_ended g)
+tells_ended g = tells_listed (session_end_rows g) (without_session g)
+
+tells_switched : (command : OperCmd) (g : State) → Tells g (by_switched command g) (switched command g)
+tells_switched (oper.Clear n) g = both_ways g (can_clear n g) (clears_alarm n g) g (by_clearing n g) [] (tells_cleared g n) (tells_at g)
+tells_switched _ g = tells_at g
+
+-- to the state of an outcome, notes of these are made
+abbrev TellsTo : State → List Reported → Outcome → Type 0
+TellsTo g new o = Tells g new o.after
+
+tells_changed : (command : OperCmd) (g : State) → Tells g (by_switched command g ++ by_rows (operator_rows command) (switched command g)) (fires (operator_rows command) (switched command g))
+tells_changed command g = tells_then g (switched command g) (fires (operator_rows command) (switched command g)) _ _ (tells_switched command g) (tells_rows (operator_rows command) (switched command g))
+
+tells_quit : (up : Bool) (g : State) → TellsTo g (if up then by_session_end g else []) (quits up g)
+tells_quit true g = tells_ended g
+tells_quit false g = tells_at g
+
+tells_operated : (command : OperCmd) (g : State) → TellsTo g (by_operator command g) (operated command g)
+tells_operated oper.Quit g = tells_quit (is_up g) g
+tells_operated command g = tells_changed command g
+
+-- ---- the clock
+
+tells_done : (d : Due) (g : State) → Tells g (by_due d g) (done d g)
+tells_done (EndOfSession cause) g = tells_ended g
+tells_done Linktest g = tells_at g
+tells_done (Timeout one) g =
+    tells_rows (timeout_rows one.what) (sends_stream9 9 (data_header g.config.device true one.stream one.function one.system) (record g { transactions = taken_out (Some one) g.transactions }))
+
+tells_all : (ds : List Due) (g : State) → Tells g (by_dues ds g) (all_done ds g)
+tells_all [] g = tells_at g
+tells_all (d ∷ ds) g = tells_then g (done d g) (all_done ds (done d g)) _ _ (tells_done d g) (tells_all ds (done d g))
+
+-- ---- a step
+
+the_told : (g : State) (new : List Reported) (x o : Outcome) → TellsTo g new x → Some x ≡ Some o → TellsTo g new o
+the_told g new x o told here = let same : x ≡ o = cc in subst (TellsTo g new) same told
+
+-- of the way that a test went; else the event is answered Ended
+told_way : (g : State) (b : Bool) (x : Outcome) (r : List Reported) (o : Outcome) → TellsTo g r x → (if b then Some x else Some (answered answer.Ended g)) ≡ Some o → TellsTo g (if b then r else []) o
+told_way g true x r o told here = the_told g r x o told here
+told_way g false x r o told here = the_told g [] (answered answer.Ended g) o (tells_at g) here
+
+tells_host : (g : State) (arrival : Arrival) (act : LinkAct) → TellsTo g (by_host g arrival act) (hosted g arrival act)
+tells_host g arrival (link.Reply h) = tells_at g
+tells_host g arrival link.Data = tells_data g (header_of arrival) (item_of arrival) (verdict g arrival)
+tells_host g arrival link.Ended = tells_ended g
+tells_host g arrival link.Nothing = tells_at g
+
+tells_frame : (g : State) (frames : List (List ℕ)) (o : Outcome) → steps.taken g frames ≡ Some o → TellsTo g [] o
+tells_frame g [] o here = none_some o here
+tells_frame g (frame ∷ frames) o here = the_told g [] _ o (tells_at g) here
+
+tells_acts : (before : ℕ) (g : State) (e : Posted) (o : Outcome) → acts before g e ≡ Some o → TellsTo g (by_act before g e) o
+tells_acts before g event.LinkUp o here = went (is_up g) _ _ _ (λ _ e. the_told g [] _ o (tells_at g) e) (λ _ e. the_told g [] _ o (tells_at g) e) here
+tells_acts before g (event.LinkDown session cause) o here = told_way g (is_session_up g session) (ends answer.Done cause g) (by_session_end g) o (tells_ended g) here
+tells_acts before g (event.Host session arrival) o here =
+    let h : State = linked g (header_of arrival) in
+    let act = link_act (header_of arrival) g.link in
+    told_way g (is_session_up g session) (hosted h arrival act) (by_host h arrival act) o (tells_host h arrival act) here
+tells_acts before g (event.Take session) o here = went (is_session_up g session) _ _ _ (λ _ e. tells_frame g g.waiting o e) (λ _ e. the_told g [] _ o (tells_at g) e) here
+tells_acts before g (event.Oper command) o here = the_told g _ (operated command g) o (tells_operated command g) here
+tells_acts before g (event.Signal signal) o here = the_told g [] _ o (tells_at g) here
+tells_acts before g (event.Fetch m) o here = none_some o here
+tells_acts before g event.Tick o here = of (is_due before g) here where
+  of : (b : Bool) → (if b then Some (record { answer = answer.Done; ended = ended_by (dues g) g; after = all_done (dues g) g }) else None) ≡ Some o → TellsTo g (if b then by_dues (dues g) g else []) o
+  of true here = the_told g (by_dues (dues g) g) _ o (tells_all (dues g) g) here
+  of false here = none_some o here
+tells_acts before g event.Listen o here = none_some o here
+tells_acts before g (event.Watch port) o here = none_some o here
+
+tells_mapped : (g : State) (new : List Reported) (x : Option Outcome) (o : Outcome) → ((p : Outcome) → x ≡ Some p → TellsTo g new p) → option_map settles x ≡ Some o → TellsTo g (new ++ by_settling_behind x) o
+tells_mapped g new None o told here = none_some o here
+tells_mapped g new (Some p) o told here =
+    the_told g (new ++ by_settling p.after) (settles p) o (tells_then g p.after (settled p.after) new (by_settling p.after) (told p refl) (tells_settled p.after)) here
+
+tells_step_from : (before : ℕ) (g : State) (e : Posted) (o : Outcome) → step_from before g e ≡ Some o → TellsTo g (by_step_from before g e) o
+tells_step_from before g e o here = of g.quitting here where
+  of : (b : Bool) → (if b then Some (answered answer.Ended g) else option_map settles (acts before g e)) ≡ Some o → TellsTo g (if b then [] else by_act before g e ++ by_settling_behind (acts before g e)) o
+  of true here = the_told g [] _ o (tells_at g) here
+  of false here = tells_mapped g (by_act before g e) (acts before g e) o (tells_acts before g e) here
+
+tells_step : (g : State) (at : ℕ) (e : Posted) (o : Outcome) → step g at e ≡ Some o → TellsTo g (by_step g at e) o
+tells_step g at e o here = tells_step_from g.moment (raised g at) e o here
+
+-- ---- a history
+
+-- over a run the notes go on by what is reported
+pub run-tells : (g : State) (entries : List Entry) (h : State) → Run g entries h → Tells g (reported_in g entries) h
+run-tells g [] h run = tells_same g h (ap (λ (k : State). k.line) run)
+run-tells g (e ∷ entries) h run =
+    let next : List Reported = reported_in run.0.after entries in
+    let same : reported_in (entry_after g e) entries ≡ next = ap (λ (k : State). reported_in k entries) (after-step g e.at.0 e.event run.0 run.1) in
+    rw same (tells_then g run.0.after h (by_step g e.at.0 e.event) next (tells_step g e.at.0 e.event run.0 run.1) (run-tells run.0.after entries h run.2))
+
+-- and from the beginning they are what is reported
+pub run-reported : (c : Config) (entries : List Entry) (h : State) → Run (opening c) entries h → map tells h.line.told ≡ reported_in (opening c) entries
+run-reported c entries h run = run-tells (opening c) entries h run

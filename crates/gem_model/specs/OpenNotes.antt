@@ -1,0 +1,27 @@
+-- Which notes are open (this tool's profile, notes).
+use Rattle.std.specs.Prelude.{ℕ, List, [], ◌∷◌, ◌++◌, Option, option_map}
+use Rattle.std.specs.Option.{option_to_list}
+use Rattle.note_line.specs.declared.note.Note.{Note}
+use Rattle.note_line.specs.Line.{Line}
+use Rattle.transactions.specs.declared.transaction.Open.{Open}
+use Rattle.transactions.specs.declared.transaction.What.{What}
+use Rattle.transactions.specs.declared.transaction.What.TheVariants as what
+
+-- the number of the note that a transaction sends, where it sends one
+abbrev pub note_number : What → List ℕ
+note_number what.Establish = []
+note_number what.Attempt = []
+note_number (what.Note n) = n ∷ []
+
+-- the numbers of the notes whose transactions are open
+abbrev pub note_numbers : List Open → List ℕ
+note_numbers [] = []
+note_numbers (one ∷ others) = note_number one.what ++ note_numbers others
+
+-- the number of a note, where there is one
+abbrev pub number_of : Option Note → List ℕ
+number_of note = option_to_list (option_map (λ (n : Note). n.number) note)
+
+-- the number of the open note of a line, where one is open
+abbrev pub open_number : Line → List ℕ
+open_number l = number_of l.opened

@@ -1,0 +1,182 @@
+-- What is reported in a history, in order: each firing whose event is reported, and each change of an alarm that is
+-- reported (SEMI E30, event reports and alarms; this tool's profile, notes). It is listed from the firings and the changes
+-- themselves, beside the line of notes. Each word is named by what happens, and passes the states of the word that says
+-- what that does.
+use Rattle.std.specs.Prelude.{ℕ, ◌+◌, Bool, true, ◌&&◌, if◌then◌else◌, List, [], ◌∷◌, ◌++◌, Option, Some, None}
+use Rattle.gem_tables.specs.Table.{Firing}
+use Rattle.gem_rows.specs.Events.{ceid_of}
+use Rattle.hsms_frame.specs.declared.frame.Header.{Header}
+use Rattle.hsms_frame.specs.declared.frame.Arrival.{Arrival}
+use Rattle.hsms_link.specs.declared.table.LinkAct.{LinkAct}
+use Rattle.hsms_link.specs.declared.table.LinkAct.TheVariants as link
+use Rattle.hsms_link.specs.LinkTable.{link_act}
+use Rattle.secs_items.specs.Data.{Data}
+use Rattle.secs_items.specs.Plain.{plain}
+use Rattle.msgs_gem.specs.declared.primary.GemMsg.{GemMsg}
+use Rattle.msgs_gem.specs.declared.primary.GemMsg.TheVariants as msg
+use Rattle.msgs_gem.specs.Replies.{reply_body}
+use Rattle.event_reports.specs.Alarms.{is_set, clear_alarm}
+use Rattle.note_line.specs.declared.note.Kind.{Kind}
+use Rattle.note_line.specs.declared.note.Kind.TheVariants.{Event, Alarm}
+use Rattle.tool_events.specs.declared.event.Event.{Event as Posted}
+use Rattle.tool_events.specs.declared.event.Event.TheVariants as event
+use Rattle.tool_events.specs.declared.event.OperCmd.{OperCmd}
+use Rattle.tool_events.specs.declared.event.OperCmd.TheVariants as oper
+use Rattle.tool_events.specs.declared.entry.Entry.{Entry}
+use Rattle.transactions.specs.declared.transaction.Open.{Open}
+use Rattle.transactions.specs.Table.{taken_out}
+use Rattle.transactions.specs.Endings.{answered}
+use Rattle.gem_model.specs.State.{State, is_up, is_session_up, is_online, without_session, raised}
+use Rattle.gem_model.specs.Sending.{data_header, sends_stream9}
+use Rattle.gem_model.specs.Noting.{is_event_reported, is_alarm_reported}
+use Rattle.gem_model.specs.Fire.{row_starts, takes_effect, fire}
+use Rattle.gem_model.specs.Direct.{message_rows, answer_rows, session_end_rows, timeout_rows, operator_rows}
+use Rattle.gem_model.specs.Remote.{RemoteCommand, ClearAlarm, Parameter, accepted, alarm_named}
+use Rattle.gem_model.specs.Settle.{settling}
+use Rattle.gem_model.specs.Verdict.{Verdict, Answers, Taken, verdict, header_of, item_of, stream_of, function_of, reply_to}
+use Rattle.gem_model.specs.Act.{written, replied, note_answered}
+use Rattle.gem_model.specs.Due.{Due, EndOfSession, Linktest, Timeout, dues, is_due, done}
+use Rattle.gem_model.specs.Step.{Outcome, linked, can_clear, switched, acts}
+use Rattle.gem_model.specs.Run.{entry_after}
+
+-- what is reported: an event by its CEID, or a change of an alarm by its ALID
+abbrev pub Reported : Type 0
+Reported = Kind × ℕ
+
+-- ---- firings
+
+-- the event of a row, where it has one that is reported; control was ON-LINE before the firing, or it was not
+abbrev pub by_event : Option ℕ → Bool → State → List Reported
+by_event None online_before g = []
+by_event (Some ceid) online_before g = if is_event_reported ceid online_before g then (Event, ceid) ∷ [] else []
+
+-- a row fires
+abbrev pub by_firing : State → Firing → List Reported
+by_firing g f = by_event (ceid_of f.table f.row) (is_online g.control) (takes_effect g f)
+
+-- these rows fire, one after another
+abbrev pub by_firings : List Firing → State → List Reported
+by_firings [] g = []
+by_firings (f ∷ fs) g = by_firing g f ++ by_firings fs (fire g f)
+
+-- the listed rows fire; one that does not start is left out
+abbrev pub by_listed : List Firing → State → List Reported
+by_listed [] g = []
+by_listed (f ∷ fs) g = if row_starts g f then by_firing g f ++ by_listed fs (fire g f) else by_listed fs g
+
+-- the rows that are listed in a state fire in it
+abbrev pub by_rows : (State → List Firing) → State → List Reported
+by_rows rows g = by_listed (rows g) g
+
+-- the tool settles
+abbrev pub by_settling : State → List Reported
+by_settling g = by_firings (settling g) g
+
+-- ---- alarms
+
+-- an alarm is cleared: where it was set, and its change is then reported
+abbrev pub by_clearing : ℕ → State → List Reported
+by_clearing alid g =
+    if is_set alid g.alarms && is_alarm_reported alid (record g { alarms = clear_alarm alid g.alarms }) then (Alarm, alid) ∷ [] else []
+
+-- ---- data messages
+
+abbrev pub by_clearing_named : Option ℕ → State → List Reported
+by_clearing_named None g = []
+by_clearing_named (Some alid) g = by_clearing alid g
+
+-- a remote command writes
+abbrev pub by_command : Option RemoteCommand → List Parameter → State → List Reported
+by_command (Some ClearAlarm) parameters g = by_clearing_named (alarm_named parameters) g
+by_command _ parameters g = []
+
+-- a message writes
+abbrev pub by_written : GemMsg → State → List Reported
+by_written (msg.S2F41 name parameters) g = by_command (accepted g name parameters) parameters g
+by_written _ g = []
+
+-- a message that is taken, and answered, writes, and then its rows fire
+abbrev pub by_answered : GemMsg → State → List Reported
+by_answered m g = by_written m g ++ by_rows (message_rows m) (written m g)
+
+-- a message is taken
+abbrev pub by_taken : Header → GemMsg → State → List Reported
+by_taken h m g = by_answered m (replied h (function_of h + 1) (plain (reply_body (reply_to g m))) g)
+
+-- a message closes a transaction of the tool, if one is open
+abbrev pub by_closing : Header → Option Data → Option Open → State → List Reported
+by_closing h item None g = []
+by_closing h item (Some one) g =
+    by_rows (answer_rows one.what (function_of h) item) (note_answered one.what (record g { transactions = taken_out (Some one) g.transactions }))
+
+-- a data message, by its verdict
+abbrev pub by_data : Header → Option Data → Verdict → State → List Reported
+by_data h item Answers g = by_closing h item (answered h.system (stream_of h) (function_of h) g.transactions.opened) g
+by_data h item (Taken m) g = by_taken h m g
+by_data h item _ g = []
+
+-- ---- the rest
+
+-- the session ends
+abbrev pub by_session_end : State → List Reported
+by_session_end g = by_listed (session_end_rows g) (without_session g)
+
+-- a message of the host, by what the link table says of its header
+abbrev pub by_host : State → Arrival → LinkAct → List Reported
+by_host g arrival link.Data = by_data (header_of arrival) (item_of arrival) (verdict g arrival) g
+by_host g arrival link.Ended = by_session_end g
+by_host g arrival _ = []
+
+-- an operator's command changes something
+abbrev pub by_switched : OperCmd → State → List Reported
+by_switched (oper.Clear alid) g = if can_clear alid g then by_clearing alid g else []
+by_switched _ g = []
+
+-- an operator's command
+abbrev pub by_operator : OperCmd → State → List Reported
+by_operator oper.Quit g = if is_up g then by_session_end g else []
+by_operator command g = by_switched command g ++ by_rows (operator_rows command) (switched command g)
+
+-- what is due is done
+abbrev pub by_due : Due → State → List Reported
+by_due (EndOfSession cause) g = by_session_end g
+by_due Linktest g = []
+by_due (Timeout one) g =
+    by_rows (timeout_rows one.what)
+    (sends_stream9 9 (data_header g.config.device true one.stream one.function one.system)
+    (record g { transactions = taken_out (Some one) g.transactions }))
+
+-- all that is due is done, in order
+abbrev pub by_dues : List Due → State → List Reported
+by_dues [] g = []
+by_dues (due ∷ dues) g = by_due due g ++ by_dues dues (done due g)
+
+-- ---- a history
+
+-- an event acts, in a state whose moment is raised from the one before
+abbrev pub by_act : ℕ → State → Posted → List Reported
+by_act before g (event.LinkDown session cause) = if is_session_up g session then by_session_end g else []
+by_act before g (event.Host session arrival) =
+    if is_session_up g session then by_host (linked g (header_of arrival)) arrival (link_act (header_of arrival) g.link) else []
+by_act before g (event.Oper command) = by_operator command g
+by_act before g event.Tick = if is_due before g then by_dues (dues g) g else []
+by_act before g _ = []
+
+-- the tool settles behind what an event did, if it did something
+abbrev pub by_settling_behind : Option Outcome → List Reported
+by_settling_behind None = []
+by_settling_behind (Some o) = by_settling o.after
+
+-- the step of an event in a state whose moment is raised from the one before; once the operator ended the run nothing is
+-- reported
+abbrev pub by_step_from : ℕ → State → Posted → List Reported
+by_step_from before g event = if g.quitting then [] else by_act before g event ++ by_settling_behind (acts before g event)
+
+-- the step of an event that is posted with a moment
+abbrev pub by_step : State → ℕ → Posted → List Reported
+by_step g at event = by_step_from g.moment (raised g at) event
+
+-- the entries of a history from a state on
+abbrev pub reported_in : State → List Entry → List Reported
+reported_in g [] = []
+reported_in g (entry ∷ entries) = by_step g entry.at.0 entry.event ++ reported_in (entry_after g entry) entries

@@ -12,7 +12,7 @@ one_more deep most ds new d n is count are one =
     (let more = ap count_of is ∙ count-added ds d in omega arith, rw is (bounded-added deep most ds d are one))
 
 -- a report of at most 64 values
-pub report_bounded : (number : Data) (ds : DataList) → IsBounded 0 8 number → AreFew 64 0 100 ds → IsBounded 3 6600 (list (item number (item (list ds) no_items)))
+pub report_bounded : (number : Data) (ds : DataList) → IsBounded 0 8 number → AreFew 64 0 84 ds → IsBounded 3 5392 (list (item number (item (list ds) no_items)))
 report_bounded number ds is few =
     let values = bounded-list 0 100 64 ds (omega arith) few.0 few.1 in
     record {

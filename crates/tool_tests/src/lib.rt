@@ -28,13 +28,10 @@ mod notes;
 #[cfg(test)]
 mod open_transactions;
 #[cfg(test)]
-<<<<<<< HEAD
 mod primaries;
 #[cfg(test)]
 mod replies;
-=======
 mod reports_and_alarms;
->>>>>>> 943e82d2bf0cae3bfb43cc5b2c6f616257c115da
 #[cfg(test)]
 mod sources_and_sinks;
 #[cfg(test)]

@@ -34,7 +34,7 @@ fn number(alloc: Global, number: u32) -> Result<Item, NoMemory>
 
 // The value 7, and an L without items.
 fn two_values(alloc: Global) -> Result<Items, NoMemory>
-    ensures { IfOk result (λ values. AreFew 1024 1 100 values) }
+    ensures { IfOk result (λ values. AreFew 1024 1 84 values) }
 {
     let mut values = Items::new(alloc);
     values.push(number(alloc, 7)?)?;
@@ -44,19 +44,19 @@ fn two_values(alloc: Global) -> Result<Items, NoMemory>
 
 // The replies that are a list of values.
 fn status_data(alloc: Global, values: Items) -> Result<Vec<u8>, NoMemory>
-    requires { AreFew 1024 1 100 values }
+    requires { AreFew 1024 1 84 values }
 {
     sent(alloc, &GemReply::S1F4(values))
 }
 
 fn constant_data(alloc: Global, values: Items) -> Result<Vec<u8>, NoMemory>
-    requires { AreFew 1024 1 100 values }
+    requires { AreFew 1024 1 84 values }
 {
     sent(alloc, &GemReply::S2F14(values))
 }
 
 fn report_data(alloc: Global, values: Items) -> Result<Vec<u8>, NoMemory>
-    requires { AreFew 1024 1 100 values }
+    requires { AreFew 1024 1 84 values }
 {
     sent(alloc, &GemReply::S6F20(values))
 }
@@ -260,7 +260,7 @@ fn long_value(alloc: Global) -> Result<Item, NoMemory>
 // So many values of 96 bytes.
 fn long_values(alloc: Global, count: usize) -> Result<Items, NoMemory>
     requires { count ≤ 64 }
-    ensures { IfOk result (λ values. AreFew 64 0 100 values) }
+    ensures { IfOk result (λ values. AreFew 64 0 84 values) }
 {
     let mut values = Items::new(alloc);
     for _ in 0..count {
@@ -271,7 +271,7 @@ fn long_values(alloc: Global, count: usize) -> Result<Items, NoMemory>
 
 // A report of 64 values.
 fn long_report(alloc: Global) -> Result<Item, NoMemory>
-    ensures { IfOk result (λ item. IsBounded 3 6600 (view item)) }
+    ensures { IfOk result (λ item. IsBounded 3 5392 (view item)) }
 {
     let mut report = Items::new(alloc);
     report.push(number(alloc, 4_294_967_295)?)?;
@@ -282,7 +282,7 @@ fn long_report(alloc: Global) -> Result<Item, NoMemory>
 // So many reports of 64 values.
 fn long_reports(alloc: Global, count: usize) -> Result<Items, NoMemory>
     requires { count ≤ 16 }
-    ensures { IfOk result (λ reports. AreFew 16 3 6600 reports) }
+    ensures { IfOk result (λ reports. AreFew 16 3 5392 reports) }
 {
     let mut reports = Items::new(alloc);
     for _ in 0..count {

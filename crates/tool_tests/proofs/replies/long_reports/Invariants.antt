@@ -5,4 +5,4 @@ use Rattle.tool_tests.proofs.replies.long_reports.Given as goal
 
 -- as many reports as turns, each within its bounds
 abbrev pub invariant-loop : goal.invariant-loop
-invariant-loop l = (count_of l.reports ≡ l.counter) × AreBounded 3 6600 l.reports
+invariant-loop l = (count_of l.reports ≡ l.counter) × AreBounded 3 5392 l.reports

@@ -13,7 +13,7 @@ use Rattle.data_variables.specs.declared.val.Val.{Val}
 use Rattle.data_variables.specs.declared.val.Val.TheVariants.{Number, Truth}
 use Rattle.data_variables.specs.Bodies.{value_item}
 use Rattle.data_variables.specs.Values as constants
-use Rattle.event_reports.specs.Given.{AreSmallValues}
+use Rattle.event_reports.specs.Values.{AreSmallValues}
 use Rattle.event_reports.specs.Limits.{most_alarms}
 use Rattle.event_reports.specs.declared.alarms.AlarmLine.{AlarmLine}
 use Rattle.event_reports.specs.Alarms.{set_alids}

@@ -31,6 +31,7 @@ mod open_transactions;
 mod primaries;
 #[cfg(test)]
 mod replies;
+#[cfg(test)]
 mod reports_and_alarms;
 #[cfg(test)]
 mod sources_and_sinks;

@@ -1,0 +1,19 @@
+use Rattle.std.proofs.Common.{sym, ◌∙◌, ap, ◌≡◌, Bool, true, false, List, ℕ, refl}
+use Rattle.std.specs.Str.{bytes_eq}
+use Rattle.std.specs.Prelude.{codes}
+use Rattle.msgs_gem.specs.declared.reply.ParameterAcknowledge.{ParameterAcknowledge}
+use Rattle.tool_core.proofs.Faults.{named_here, named_later, named_nowhere}
+use Rattle.tool_core.proofs.remote.alarm_named.Goals as goal
+
+-- what the comparison found, of the name as it is spelled
+spelled : {name name' word word' : List ℕ} {b found : Bool} → name ≡ name' → word ≡ word' → found ≡ bytes_eq name word → found ≡ b → bytes_eq name' word' ≡ b
+spelled refl refl is found = sym is ∙ found
+
+pub returns-then-is_named : goal.returns-then-is_named
+returns-then-is_named c = ?
+
+pub loop-parameter-preserved : goal.loop-parameter-preserved
+loop-parameter-preserved c = sym (named_later c.args.parameters.now c.loop-parameter.parameter-index c.parameter-item.result c.loop-parameter-test.true (spelled (ap (λ p. p.0) c.parameter-item.is) c.as_slice.ensures c.is_named.ensures c.if-is_named.false)) ∙ c.loop-parameter.invariant
+
+pub returns : goal.returns
+returns c = sym (named_nowhere c.args.parameters.now c.loop-parameter.parameter-index c.loop-parameter-test.false) ∙ c.loop-parameter.invariant

@@ -1,6 +1,8 @@
 //! Numbers of rows, events, variables and alarms (`gem_rows`).
 
+use gem_ids::Text80;
 use gem_rows::{RowId, alarm_text, alids, ceid_of, ceids, is_ceid, is_vid, row_of, vid_name};
+use std::alloc::Global;
 use std::test::Fail;
 
 // The CEIDs, table by table.
@@ -24,31 +26,59 @@ const CEIDS: [u32; 86] = [
 
 #[test]
 fn the_ceids_are_those_of_the_tables(rt: HostRuntime) -> Result<(), Fail> {
-    let listed = ceids(rt.alloc())?;
-    assert_eq!(rt; listed.as_slice(), CEIDS.as_slice());
+    assert!(rt; ceids(rt.alloc())?.as_slice() == CEIDS.as_slice());
     Ok(())
+}
+
+// The CEID of a row after the list of them.
+fn wanted_ceid(ceids: &[u32], table: u8, row: u8) -> Option<u32> {
+    let ceid = 100 * u32::from(table) + u32::from(row);
+    if row < 100 && ceids.contains(&ceid) {
+        Some(ceid)
+    } else {
+        None
+    }
+}
+
+// The first row of tables 0 to 19 that has another CEID.
+fn false_row(ceids: &[u32]) -> Option<(u8, u8)> {
+    for table in 0..20 {
+        for row in 0..101 {
+            if ceid_of(RowId { table, row }) != wanted_ceid(ceids, table, row) {
+                return Some((table, row));
+            }
+        }
+    }
+    None
+}
+
+// The row of a number below 25,600 after the list of CEIDs.
+fn wanted_row(ceids: &[u32], ceid: u32) -> Option<RowId> {
+    if ceids.contains(&ceid) {
+        Some(RowId {
+            table: (ceid / 100) as u8,
+            row: (ceid % 100) as u8,
+        })
+    } else {
+        None
+    }
+}
+
+// The first number below 2,000 that has another row.
+fn false_ceid(ceids: &[u32]) -> Option<u32> {
+    for ceid in 0..2000 {
+        let row = row_of(ceid);
+        if row != wanted_row(ceids, ceid) || is_ceid(ceid) != row.is_some() {
+            return Some(ceid);
+        }
+    }
+    None
 }
 
 #[test]
 fn each_row_and_its_ceid_name_each_other(rt: HostRuntime) {
-    for table in 0..20 {
-        for row in 0..101 {
-            let ceid = 100 * u32::from(table) + u32::from(row);
-            let has_event = row < 100 && CEIDS.contains(&ceid);
-            let want = if has_event { Some(ceid) } else { None };
-            assert_eq!(rt; ceid_of(RowId { table, row }), want, "at {table}, {row}");
-        }
-    }
-    for ceid in 0..2000 {
-        let has_event = CEIDS.contains(&ceid);
-        assert_eq!(rt; is_ceid(ceid), has_event, "at {ceid}");
-        let row = RowId {
-            table: (ceid / 100) as u8,
-            row: (ceid % 100) as u8,
-        };
-        let want = if has_event { Some(row) } else { None };
-        assert_eq!(rt; row_of(ceid), want, "at {ceid}");
-    }
+    assert_eq!(rt; false_row(CEIDS.as_slice()), None);
+    assert_eq!(rt; false_ceid(CEIDS.as_slice()), None);
     for ceid in [25_801, 65_737, 4_294_967_295] {
         assert_eq!(rt; row_of(ceid), None, "at {ceid}");
     }
@@ -99,11 +129,29 @@ const NAMES: [(u32, &[u8]); 41] = [
     (207, b"LinktestPeriod"),
 ];
 
-// The name of a number in a list.
-fn listed(names: &[(u32, &'static [u8])], number: u32) -> Option<&'static [u8]> {
+// The name of a number in a list, and no bytes where it has none.
+fn listed(names: &[(u32, &'static [u8])], number: u32) -> &'static [u8] {
     for (n, name) in names {
         if *n == number {
-            return Some(*name);
+            return name;
+        }
+    }
+    b""
+}
+
+// Whether a text is the name of a number, or is none where there is no name.
+fn is_listed(text: Option<&Text80>, name: &[u8]) -> bool {
+    match text {
+        Some(text) => !name.is_empty() && text.as_bytes() == name,
+        None => name.is_empty(),
+    }
+}
+
+// The first number below 400 whose variable has another name.
+fn false_name(names: &[(u32, &'static [u8])]) -> Option<u32> {
+    for vid in 0..400 {
+        if !is_listed(vid_name(vid).as_ref(), listed(names, vid)) {
+            return Some(vid);
         }
     }
     None
@@ -111,11 +159,7 @@ fn listed(names: &[(u32, &'static [u8])], number: u32) -> Option<&'static [u8]> 
 
 #[test]
 fn each_variable_has_its_name(rt: HostRuntime) {
-    for vid in 0..400 {
-        let name = vid_name(vid);
-        let got = name.as_ref().map(|text| text.as_bytes());
-        assert_eq!(rt; got, listed(&NAMES, vid), "at {vid}");
-    }
+    assert_eq!(rt; false_name(NAMES.as_slice()), None);
     assert_eq!(rt; vid_name(4_294_967_295), None);
 }
 
@@ -138,56 +182,89 @@ const ALARMS: [(u32, &[u8]); 15] = [
     (50, b"unexpected command answer"),
 ];
 
+// The first number below 400 whose alarm has another text.
+fn false_text(texts: &[(u32, &'static [u8])]) -> Option<u32> {
+    for alid in 0..400 {
+        if !is_listed(alarm_text(alid).as_ref(), listed(texts, alid)) {
+            return Some(alid);
+        }
+    }
+    None
+}
+
 #[test]
 fn each_alarm_has_its_text(rt: HostRuntime) {
-    for alid in 0..400 {
-        let text = alarm_text(alid);
-        let got = text.as_ref().map(|t| t.as_bytes());
-        assert_eq!(rt; got, listed(&ALARMS, alid), "at {alid}");
+    assert_eq!(rt; false_text(ALARMS.as_slice()), None);
+}
+
+// The variables of ports and chambers, for one port and two chambers; for two and one; for the largest plant.
+const OWN: [(u8, u8, &[u32]); 3] = [
+    (1, 2, &[21, 22, 31, 41, 51]),
+    (2, 1, &[21, 31, 32, 41, 42, 51, 52]),
+    (
+        4,
+        8,
+        &[
+            21, 22, 23, 24, 25, 26, 27, 28, 31, 32, 33, 34, 41, 42, 43, 44, 51, 52, 53, 54,
+        ],
+    ),
+];
+
+// Whether a plant with these variables of its own has this one too.
+fn is_own(names: &[(u32, &'static [u8])], own: &[u32], vid: u32) -> bool {
+    if vid > 20 && vid < 60 {
+        own.contains(&vid)
+    } else {
+        !listed(names, vid).is_empty()
     }
+}
+
+// The first number below 400 of which a plant says something else.
+fn false_vid(
+    names: &[(u32, &'static [u8])],
+    ports: u8,
+    chambers: u8,
+    own: &[u32],
+) -> Option<u32> {
+    for vid in 0..400 {
+        if is_vid(ports, chambers, vid) != is_own(names, own, vid) {
+            return Some(vid);
+        }
+    }
+    None
+}
+
+// The first plant and number for which that is so.
+fn false_plant(
+    names: &[(u32, &'static [u8])],
+    plants: &[(u8, u8, &[u32])],
+) -> Option<(u8, u8, u32)> {
+    for (ports, chambers, own) in plants {
+        if let Some(vid) = false_vid(names, *ports, *chambers, own) {
+            return Some((*ports, *chambers, vid));
+        }
+    }
+    None
 }
 
 #[test]
 fn a_plant_knows_the_variables_of_its_own_ports_and_chambers(rt: HostRuntime) {
-    // for one port and two chambers; for two and one; for the largest plant
-    let plants: [(u8, u8, &[u32]); 3] = [
-        (1, 2, &[21, 22, 31, 41, 51]),
-        (2, 1, &[21, 31, 32, 41, 42, 51, 52]),
-        (
-            4,
-            8,
-            &[
-                21, 22, 23, 24, 25, 26, 27, 28, 31, 32, 33, 34, 41, 42, 43, 44, 51, 52, 53, 54,
-            ],
-        ),
-    ];
-    for (ports, chambers, own) in plants {
-        for vid in 0..400 {
-            let of_things = vid > 20 && vid < 60;
-            let want = if of_things {
-                own.contains(&vid)
-            } else {
-                listed(&NAMES, vid).is_some()
-            };
-            assert_eq!(rt;
-                is_vid(ports, chambers, vid),
-                want,
-                "at {ports}, {chambers}, {vid}"
-            );
-        }
+    assert_eq!(rt; false_plant(NAMES.as_slice(), OWN.as_slice()), None);
+}
+
+// Whether a plant has these alarms.
+fn has_alarms(alloc: Global, ports: u8, chambers: u8, want: &[u32]) -> bool {
+    match &alids(alloc, ports, chambers) {
+        Ok(all) => all.as_slice() == want,
+        Err(_) => false,
     }
 }
 
 #[test]
-fn a_plant_has_the_alarms_of_its_own_modules_and_ports(rt: HostRuntime) -> Result<(), Fail> {
-    let small = alids(rt.alloc(), 1, 1)?;
-    assert_eq!(rt; small.as_slice(), [11, 12, 13, 31, 50].as_slice());
-    let usual = alids(rt.alloc(), 2, 2)?;
-    assert_eq!(rt; usual.as_slice(), [11, 12, 13, 14, 31, 32, 50].as_slice());
-    let large = alids(rt.alloc(), 4, 8)?;
-    assert_eq!(rt;
-        large.as_slice(),
-        [11, 12, 13, 14, 15, 16, 17, 18, 19, 20, 31, 32, 33, 34, 50].as_slice()
-    );
-    Ok(())
+fn a_plant_has_the_alarms_of_its_own_modules_and_ports(rt: HostRuntime) {
+    let alloc = rt.alloc();
+    assert!(rt; has_alarms(alloc, 1, 1, &[11, 12, 13, 31, 50]));
+    assert!(rt; has_alarms(alloc, 2, 2, &[11, 12, 13, 14, 31, 32, 50]));
+    let most = [11, 12, 13, 14, 15, 16, 17, 18, 19, 20, 31, 32, 33, 34, 50];
+    assert!(rt; has_alarms(alloc, 4, 8, &most));
 }

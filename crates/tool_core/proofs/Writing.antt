@@ -7,7 +7,7 @@ use Rattle.msgs_gem.specs.declared.primary.GemMsg.{GemMsg}
 use Rattle.msgs_gem.specs.declared.primary.GemMsg.TheVariants as msg
 use Rattle.gem_model.specs.State.{State, with_frame}
 use Rattle.gem_model.specs.Sending.{data_frame}
-use Rattle.gem_model.specs.Noting.{line_with_alarm, clears_alarm}
+use Rattle.gem_model.specs.Noting.{line_with_alarm}
 use Rattle.gem_model.specs.Remote.{RemoteCommand, GoLocal, ClearAlarm, Parameter, accepted, alarm_named}
 use Rattle.gem_model.specs.Verdict.{wants_reply, stream_of}
 use Rattle.gem_model.specs.Act.{written, clock_set, clears_named, command_written, replied}

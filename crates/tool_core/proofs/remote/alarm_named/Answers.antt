@@ -1,4 +1,4 @@
-use Rattle.std.proofs.Common.{sym, ◌∙◌, ap, ◌≡◌, Bool, true, false, List, ℕ, refl}
+use Rattle.std.proofs.Common.{sym, ◌∙◌, ap, ◌≡◌, Bool, List, ℕ}
 use Rattle.std.specs.Str.{bytes_eq}
 use Rattle.secs_items.specs.Ids.{id_of}
 use Rattle.tool_core.proofs.Faults.{named_here, named_later, named_nowhere}

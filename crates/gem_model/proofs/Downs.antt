@@ -1,8 +1,9 @@
--- Without a session, a look at the clock and an operator's command bring none.
+-- Without a session, a look at the clock, an operator's command and a signal bring none.
 use Rattle.std.proofs.Common.{◌≡◌, ℕ, Bool, true, false, Option, Some, None, option_map, unwrap_or, refl, ◌∙◌, ap, subst}
 use Rattle.hsms_link.specs.declared.deadlines.LinkDue.{LinkDue}
 use Rattle.tool_events.specs.declared.event.Event.{Event}
 use Rattle.tool_events.specs.declared.event.Event.TheVariants as event
+use Rattle.tool_events.specs.declared.event.Signal.{Signal}
 use Rattle.tool_events.specs.declared.event.OperCmd.{OperCmd}
 use Rattle.tool_events.specs.declared.event.OperCmd.TheVariants as oper
 use Rattle.tool_events.specs.declared.answer.Answer.TheVariants as answer
@@ -90,3 +91,6 @@ tick_down g at down = input_down g at event.Tick (λ before g o down is. ticked_
 
 pub oper_down : (g : State) (at : ℕ) (command : OperCmd) → is_up g ≡ false → is_up (input g at (event.Oper command)).state ≡ false
 oper_down g at command down = input_down g at (event.Oper command) (λ before g o down is. the_down (operated command g) o (operated_down g command down) is) down
+
+pub signal_down : (g : State) (at : ℕ) (signal : Signal) → is_up g ≡ false → is_up (input g at (event.Signal signal)).state ≡ false
+signal_down g at signal down = input_down g at (event.Signal signal) (λ before g o down is. the_down (answered answer.Done g) o down is) down

@@ -6,6 +6,8 @@ use Rattle.hsms_frame.specs.Cut.{Kept, IsCutOf, arrivals_of, behind_of, is_short
 use Rattle.gem_ids.specs.declared.moment.Moment.{Moment}
 use Rattle.gem_ids.specs.declared.numbers.PortNo.{PortNo}
 use Rattle.tool_events.specs.declared.event.Event.TheVariants.{Tick, Oper}
+use Rattle.tool_events.specs.declared.event.Event.TheVariants as event
+use Rattle.tool_events.specs.declared.event.Signal.{Signal}
 use Rattle.tool_events.specs.declared.event.OperCmd.{OperCmd}
 use Rattle.gem_model.specs.State.{State, is_up}
 use Rattle.gem_model.specs.Step.{Outcome, step}
@@ -20,9 +22,9 @@ use Rattle.top_calls.specs.Cuts.{Cuts}
 use Rattle.top_calls.specs.Going.{SinkView, Goes, WentOn}
 use Rattle.top_calls.specs.Reading.{IsReading, TakesLine, TreatsLine, quit_behind}
 use Rattle.top_calls.specs.Reads.{AddsLine}
-use Rattle.gem_model.proofs.Downs.{tick_down, oper_down}
+use Rattle.gem_model.proofs.Downs.{tick_down, oper_down, signal_down}
 use Rattle.top_calls.proofs.Going.{Goes-nothing, Goes-unmoved}
-use Rattle.top_calls.proofs.Counting.{counts_any, counts_skip, counts_time, counts_oper, counts_watch}
+use Rattle.top_calls.proofs.Counting.{counts_any, counts_skip, counts_time, counts_oper, counts_signal, counts_watch}
 
 abbrev pub failed : Halt → Result (Unit {0}) Halt
 failed why = Err why
@@ -108,6 +110,15 @@ TreatsLine-oper r command old core' out out' quits taken reading is goes =
         counts = counts_oper r command old.reads old.core core' taken;
       },
     )
+
+pub TakesLine-signal : (r : Reading) (signal : Signal) (old : Feeder) (core' : CoreView) (out out' : SinkView) (result : Result (Unit {0}) Halt) → IsReading r old.core old.cutter → Goes old.core core' out out' (input old.core.state 0 (event.Signal signal)) result → TakesLine r (line.Signal signal) old (record { core = core'; cutter = old.cutter; reads = old.reads }) out out' result
+TakesLine-signal r signal old core' out out' result reading goes =
+    let all = subst (λ (given : Given). Goes old.core core' out out' given result) (ap (λ (g : State). input g 0 (event.Signal signal)) reading.state) goes in
+    record {
+      goes = all;
+      reading = reading_kept r (line_given r (line.Signal signal)) old.core core' old.cutter result (signal_down r.state 0 signal) reading all.went;
+      counts = counts_signal r signal old.reads old.core core' result;
+    }
 
 pub TakesLine-bytes : (r : Reading) (bytes : List ℕ) (old : Feeder) (core' : CoreView) (cutter' : Kept) (reads' : List ℕ) (out out' : SinkView) (arrivals : List Arrival) (short : Bool) (session : ℕ) (result : Result (Unit {0}) Halt) → IsReading r old.core old.cutter → (if is_up old.core.state then Some old.core.state.link.session else None) ≡ Some session → cutter'.max ≡ old.cutter.max → ((stream : List ℕ) → old.cutter.max ≡ text_bytes → IsCutOf stream (arrivals_of text_bytes stream) old.cutter → Cuts bytes old.cutter cutter' arrivals short stream) → Goes old.core core' out out' (messages old.core.state session arrivals short) result → AddsLine r (line.Bytes bytes) old.reads reads' → TakesLine r (line.Bytes bytes) old (record { core = core'; cutter = cutter'; reads = reads' }) out out' result
 TakesLine-bytes r bytes old core' cutter' reads' out out' arrivals short session result reading told same cuts goes adds =

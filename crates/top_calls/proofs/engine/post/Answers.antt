@@ -1,5 +1,6 @@
-use Rattle.std.proofs.Common.{◌∙◌}
-use Rattle.top_calls.proofs.Going.{Added, Goes-added, Goes-added-write, Goes-added-memory, outcome_shown}
+use Rattle.std.proofs.Common.{◌∙◌, ap}
+use Rattle.tool_core.specs.CoreView.{CoreView}
+use Rattle.top_calls.proofs.Going.{Added, Goes-unmoved, Goes-added, Goes-added-write, Goes-added-memory, outcome_shown}
 use Rattle.top_calls.proofs.engine.post.Goals as goal
 
 pub returns-in_default-clause-goes : goal.returns-in_default-clause-goes
@@ -22,3 +23,11 @@ returns-clause-goes g c =
     Goes-added-write _ _ _ _ _ step.0 _ added
     (outcome_shown _ _ _ _ added _ step.2 _ c.session_up-before.ensures.session _ c.ended_now-ended.ensures _ (c.deref.ensures.value ∙ c.in-Ok-outcome_text.ensures))
     c.in-Err.ensures.front c.in-Err.ensures.cause c.write_all.ensures.faults_stay c.write_all.ensures.refusals_stay
+
+-- an event that has a step does not have to wait; want of memory changes neither history nor state
+pub returns-in-Err-Again : goal.returns-in-Err-Again
+returns-in-Err-Again g c =
+    record {
+      goes = Goes-unmoved _ _ _ _ (record { config = c.apply.ensures.config; history = ap (λ (core : CoreView). core.history) c.in-Err-Again.ensures.unchanged });
+      whole = tt;
+    }

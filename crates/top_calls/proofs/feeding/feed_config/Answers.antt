@@ -1,9 +1,10 @@
-use Rattle.std.proofs.Common.{◌≡◌, ◌∙◌, subst}
+use Rattle.std.proofs.Common.{◌≡◌, ◌∙◌, inl, refl, subst}
 use Rattle.tool_events.specs.declared.config.Config.{Config}
 use Rattle.top_calls.specs.declared.ended.Cause.TheVariants as cause
 use Rattle.top_calls.specs.CauseOf.{cause_after}
 use Rattle.top_calls.specs.Fed.{looked, FedBy, ReadToEnd, Shown}
 use Rattle.top_calls.specs.Noted.{NotedBy}
+use Rattle.top_calls.specs.Stopping.{GivenBy}
 use Rattle.top_calls.proofs.Ending.{run_from, FedBy-end, NotedBy-end, Shown-end, Shown-memory}
 use Rattle.top_calls.proofs.feeding.feed_config.Goals as goal
 
@@ -49,3 +50,18 @@ returns-clause-printed g c =
     rw (c.with_history-2.ensures, c.cause_of-cause.ensures, c.into_history.ensures.history)
     (subst (λ (k : Config). Shown k (cause_after c.read_lines-read.result.end c.read_lines-read.result.count core.history c.read_lines-read.new.reader.number) (g.K.Sink.held c.args.out.now) (g.K.Sink.held c.read_lines-read.new.out) core.history) same
     (Shown-end c.read_lines-read.result.end _ core _ _ c.read_lines-read.result.count c.read_lines-read.new.reader.number c.in-Ok.ensures.history c.read_lines-read.ensures.prints))
+
+-- without memory for the notes there are none
+pub returns-in_default-session_notes-clause-fed : goal.returns-in_default-session_notes-clause-fed
+returns-in_default-session_notes-clause-fed g c =
+    let core = c.read_lines-read.new.reader.feeder.core in
+    let same : core.config ≡ c.args.config.now = c.read_lines-read.ensures.prints.config ∙ c.in-Ok.ensures.config in
+    let look = looked g.S.Source.left g.S.Source.faults g.S.Source.ends in
+    let over = ReadToEnd (look c.args.input.now) (look c.read_lines-read.new.input) in
+    let read = c.read_lines-read.ensures.read in
+    rw (c.with_history.ensures, c.into_history-history.ensures.history, c.none.ensures) (
+      read.0,
+      read.2,
+      subst (λ (k : Config). GivenBy over k read.0 core.history) same read.3,
+      inl refl,
+    )

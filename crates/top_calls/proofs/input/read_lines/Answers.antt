@@ -1,7 +1,7 @@
 use Rattle.std.proofs.Common.{◌≡◌, ℕ, List, take, length, arith, ap}
 use Rattle.std.proofs.lemmas.List.{length-take-le}
 use Rattle.top_calls.specs.Fed.{looked}
-use Rattle.top_calls.proofs.Progress.{ends-whole, ends-last, ends-halted, Progress-more}
+use Rattle.top_calls.proofs.Progress.{ends-fault, ends-bound, ends-whole, ends-last, ends-halted, Progress-more}
 use Rattle.top_calls.proofs.input.read_lines.Goals as goal
 
 pub returns-in-Ok-finish-clause-read : goal.returns-in-Ok-finish-clause-read
@@ -58,3 +58,13 @@ loop-count-preserved g c =
       within = omega (arith, c.loop-count-test.true);
       buffer = buffer;
     }
+
+pub returns-in_default-clause-read : goal.returns-in_default-clause-read
+returns-in_default-clause-read g c =
+    let look = looked g.S.Source.left g.S.Source.faults g.S.Source.ends in
+    (ends-fault _ _ _ _ _ _ (look c.read_front.new.source) _ c.loop-count.invariant.progress c.in_default.ensures.untaken c.in_default.ensures.failed c.read_front.ensures.faults_stay).0
+
+pub returns-clause-read : goal.returns-clause-read
+returns-clause-read g c =
+    let within = c.loop-count.invariant.within in
+    (ends-bound _ _ _ _ _ _ _ c.loop-count.invariant.progress (omega (arith, c.loop-count-test.false, within))).0

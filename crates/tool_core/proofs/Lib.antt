@@ -1,4 +1,5 @@
 pub mod Faults
+pub mod Notes
 pub mod Operating
 pub mod Functions
 pub mod Timeouts

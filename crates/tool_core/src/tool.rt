@@ -1,5 +1,5 @@
 //! The core: the plant and the history that led to it.
-ghost use Rattle.std.specs.Prelude.{ℕ, ◌≡◌, ◌≤◌, ◌+◌, ◌^◌, ◌<◌, ◌↔◌, [], ◌∷◌, ◌++◌, length, IsTrue, true, false, ◌&&◌, ◌||◌, not, nat_le, nat_lt, Some, None, Err, OnOk, OnErr, IfOk, IfSome, IsErrOf, if◌then◌else◌, vec_len, vec_capacity, slice_get, option_map};
+ghost use Rattle.std.specs.Prelude.{ℕ, ◌≡◌, ◌≤◌, ◌+◌, ◌^◌, ◌<◌, ◌↔◌, [], ◌∷◌, ◌++◌, length, IsTrue, true, false, ◌&&◌, ◌||◌, not, nat_le, nat_lt, Some, None, Err, OnOk, OnErr, IfOk, IfSome, IsErrOf, if◌then◌else◌, vec_len, vec_capacity, slice_get, option_map, map};
 ghost use Rattle.std.specs.Option.{option_to_list};
 ghost use Rattle.tool_events.specs.declared.answer.PostFault.TheVariants as PostFault;
 ghost use Rattle.tool_events.specs.declared.event.SessionEnd.{SessionEnd};
@@ -7,6 +7,9 @@ ghost use Rattle.tool_events.specs.Configs.{IsConfig};
 ghost use Rattle.tool_events.specs.Posts as posts;
 ghost use Rattle.tool_events.specs.Sizes.{event_bytes};
 ghost use Rattle.transactions.specs.Table as transactions;
+ghost use Rattle.note_line.specs.Fates.{LineValid, tells};
+ghost use Rattle.note_line.specs.Line.{fate_of};
+ghost use Rattle.gem_model.specs.Reported.{reported_in};
 ghost use Rattle.gem_model.specs.State.{opening, is_up, is_session_up};
 ghost use Rattle.gem_model.specs.Step.{Outcome, step};
 ghost use Rattle.gem_model.specs.Valid.{Valid};
@@ -21,6 +24,7 @@ use crate::react::{must_wait, react};
 use core_state::Plant;
 use gem_ids::Moment;
 use hsms_frame::Arrival;
+use note_line::Fate;
 use std::alloc::{AllocError, Global};
 use std::marker::Model;
 use tool_events::{Answer, Config, Entry, Event, PostFault, SessionCause, SessionEnd};
@@ -127,12 +131,15 @@ impl Core {
         })
     }
 
-    /// The history, the oldest entry first. It is a run from the first state, and within the limits, and where it leads
-    /// there is room to start a transaction.
+    /// The history, the oldest entry first. It is a run from the first state, and within the limits. Where it leads there is
+    /// room to start a transaction, and the notes are those of its firings and changes of alarms that are reported, in order,
+    /// each with one fate (docs/profile/notes.md).
     pub fn history(&self) -> &[Entry]
         ensures history { result.now ≡ self.now.history }
         ensures run { Run (opening self.now.config) self.now.history self.now.state }
         ensures room { transactions.is_full self.now.state.transactions ≡ false }
+        ensures notes { map tells self.now.state.line.told ≡ reported_in (opening self.now.config) self.now.history }
+        ensures fates { LineValid self.now.state.line }
         ensures entries_fit { length self.now.history ≤ self.now.config.max_entries }
         ensures bytes_fit { bytes_of self.now.history ≤ self.now.config.max_bytes }
     {
@@ -277,9 +284,19 @@ impl Core {
         Ok(reaction.answer)
     }
 
+    /// What became of the note of this number: it waits, is open, or has ended, and how. `None`: no note has the number. The
+    /// core is whole.
+    pub fn fate(&self, number: u64) -> Option<Fate>
+        requires { self.now.is_whole ≡ true }
+        ensures { result ≡ fate_of number self.now.state.line.told }
+    {
+        self.plant.fate(number)
+    }
+
     /// Takes an event that this seat posts at this moment, answers it, and adds it to the history. `Full`: the history
     /// takes no more entries, or not so much text. `Again`: the event has to wait, which takes no memory. After want of
     /// memory the history is as before, and every later event that is not answered `Full` is answered `NoMemory`.
+    #[tactic(auto, using(crate::proofs::Notes::line_valid, crate::proofs::Notes::line_told))]
     pub fn apply(
         &mut self,
         alloc: Global,
@@ -302,6 +319,10 @@ impl Core {
         // The history is a run from the first state, before the call and after it.
         ensures ran { Run (opening self.old.config) self.old.history self.old.state }
         ensures run { Run (opening self.new.config) self.new.history self.new.state }
+        // Where it leads, the notes are those of its firings and changes of alarms that are reported, in order, and each has
+        // one fate.
+        ensures notes { map tells self.new.state.line.told ≡ reported_in (opening self.new.config) self.new.history }
+        ensures fates { LineValid self.new.state.line }
     {
         if self.is_full(event_bytes(&event)) {
             return Err(PostFault::Full(self.entries.len() as u64));

@@ -1,5 +1,12 @@
 use Rattle.gem_model.proofs.Validity.{run-room}
+use Rattle.tool_core.proofs.Notes.{line_valid, line_told}
 use Rattle.tool_core.proofs.tool.Core.history.Goals as goal
 
 pub returns-clause-room : goal.returns-clause-room
 returns-clause-room c = rw (← c.self.view_is) (run-room _ _ _ c.self.invariant.run)
+
+pub returns-clause-notes : goal.returns-clause-notes
+returns-clause-notes c = rw (← c.self.view_is) (line_told _ _ _ c.self.invariant.run)
+
+pub returns-clause-fates : goal.returns-clause-fates
+returns-clause-fates c = rw (← c.self.view_is) (line_valid _ _ _ c.self.invariant.run)

@@ -1,6 +1,8 @@
 //! The line of notes in whole runs (`top_calls`): which changes of control are reported, and what becomes of each note.
 
-use crate::exchanges::{Begins, ENABLED, LOCAL_TOLD, LOCAL_WAITS, REMOTE_WAITS, converses};
+use crate::exchanges::{
+    Begins, ENABLED, LOCAL_TOLD, LOCAL_WAITS, REMOTE_WAITS, converses, exchange, prints,
+};
 use std::alloc::Global;
 use std::process::Abort;
 use std::test::Fail;
@@ -580,4 +582,28 @@ fn a_tool_that_waits_for_communication_drops_its_notes(rt: HostRuntime) -> Resul
             ),
         ],
     )
+}
+
+// The S6F11 of note n, where notes 1, 3 and so on tell of ON-LINE LOCAL, and the others of ON-LINE REMOTE:
+// S6F11 L[U8 n, U4 211 or 210, L[]], under system bytes n.
+fn told(alloc: Global, n: u32) -> Result<String, Fail> {
+    let ceid = if n % 2 == 1 { 211 } else { 210 };
+    Ok(format!(in alloc; "> 0000001E0000860B0000{n:08X}0103A108{n:016X}B104{ceid:08X}0100\n")?)
+}
+
+#[test]
+fn hundreds_of_notes_wait_and_are_sent_one_after_another(rt: HostRuntime) -> Result<(), Fail> {
+    let alloc = rt.alloc();
+    let mut lines = Vec::new(alloc);
+    let mut want = Vec::new(alloc);
+    exchange(&mut lines, &mut want, &[ENABLED, LOCAL_TOLD])?;
+    for _ in 0..150 {
+        exchange(&mut lines, &mut want, &[REMOTE_WAITS, LOCAL_WAITS])?;
+    }
+    for n in 1..=300 {
+        let answer = format!(in alloc; "H 0000000D0000060C0000{n:08X}210100\n")?;
+        lines.extend_from_slice(answer.as_bytes())?;
+        want.extend_from_slice(told(alloc, n + 1)?.as_bytes())?;
+    }
+    prints(&rt, alloc, Begins::Known, &lines, &want)
 }

@@ -1,5 +1,5 @@
 -- The values of variables are small, and so are the texts of notes.
-use Rattle.std.proofs.Common.{◌≡◌, ℕ, ◌+◌, ◌*◌, ◌^◌, ◌<◌, ◌≤◌, ◌==◌, Bool, true, false, if◌then◌else◌, List, [], ◌∷◌, length, map, filter, Option, Some, None, option_map, refl, sym, ◌∙◌, ap, subst, arith, length-append}
+use Rattle.std.proofs.Common.{◌≡◌, ℕ, suc, ◌+◌, ◌*◌, ◌^◌, ◌<◌, ◌≤◌, ◌==◌, Bool, true, false, if◌then◌else◌, List, [], ◌∷◌, length, map, filter, Option, Some, None, option_map, refl, sym, ◌∙◌, ap, subst, arith, length-append}
 use Rattle.std.specs.List.{All}
 use Rattle.gem_ids.specs.Texts.{IsText}
 use Rattle.gem_ids.specs.Civil.{time_digits}
@@ -14,13 +14,20 @@ use Rattle.data_variables.specs.declared.val.Val.TheVariants.{Number, Truth}
 use Rattle.data_variables.specs.Bodies.{value_item}
 use Rattle.data_variables.specs.Values as constants
 use Rattle.event_reports.specs.Values.{AreSmallValues}
+use Rattle.event_reports.specs.Reports.{value_items}
+use Rattle.event_reports.proofs.Small.{count_values, small_values_of}
+use Rattle.data_variables.specs.Bodies.{name_item, items}
+use Rattle.data_variables.specs.Table.{constant_ids}
+use Rattle.data_variables.proofs.Sending.{names_bounded, names_counted}
+use Rattle.msgs_gem.specs.Sendable.{AreFew}
+use Rattle.gem_model.specs.Verdict.{or_all, status_name, alarm_part, alids_of, enabled_alids}
 use Rattle.event_reports.specs.Limits.{most_alarms}
 use Rattle.event_reports.specs.declared.alarms.AlarmLine.{AlarmLine}
 use Rattle.event_reports.specs.Alarms.{set_alids}
 use Rattle.gem_states.specs.Meaning.{comm_number, control_number}
 use Rattle.gem_model.specs.State.{State, clock_now}
 use Rattle.core_state.proofs.MomentTexts.{clock_text}
-use Rattle.gem_model.specs.Values.{Occasion, Valued, status_variables, event_variables, value_among, status_value, constant_value, or_else, value_of}
+use Rattle.gem_model.specs.Values.{Occasion, no_firing, svids, Valued, status_variables, event_variables, value_among, status_value, constant_value, or_else, value_of}
 
 -- a value within the bounds of a variable
 abbrev Small : Data → Type 0
@@ -105,3 +112,55 @@ alarm_short alcd alid text is =
     let plain = plain-weight (reply_body (reply.S5F1 alcd alid text)) in
     let short = is.0 in
     omega arith
+
+-- ---- what the host asks
+
+few_or_all : (all ids : List ℕ) → length all ≤ 1024 → length ids ≤ 1024 → length (or_all all ids) ≤ 1024
+few_or_all all [] few_all few = few_all
+few_or_all all (id ∷ ids) few_all few = few
+
+few_values_of : (value : ℕ → Option Data) (ids : List ℕ) → AreSmallValues value → length ids ≤ 1024 → AreFew 1024 1 84 (value_items value ids)
+few_values_of value ids small few = (let count = count_values value ids in omega arith, small_values_of value small ids)
+
+pub few_status : (g : State) (ids : List ℕ) → length g.alarms ≤ most_alarms → length ids ≤ 1024 → AreFew 1024 1 84 (value_items (status_value g) (or_all svids ids))
+few_status g ids alarms few = few_values_of (status_value g) (or_all svids ids) (status_small g alarms) (few_or_all svids ids (omega arith) few)
+
+pub few_constants : (g : State) (ids : List ℕ) → length ids ≤ 1024 → AreFew 1024 1 84 (value_items (constant_value g) (or_all constant_ids ids))
+few_constants g ids few = few_values_of (constant_value g) (or_all constant_ids ids) (constants_small g) (few_or_all constant_ids ids (omega arith) few)
+
+pub few_names : (ids : List ℕ) → length ids ≤ 1024 → AreFew 1024 1 210 (items (map name_item (or_all constant_ids ids)))
+few_names ids few =
+    (let count = names_counted (or_all constant_ids ids) in let less = few_or_all constant_ids ids (omega arith) few in omega arith, names_bounded (or_all constant_ids ids))
+
+length-map : {A B : Type 0} (f : A → B) (xs : List A) → length (map f xs) ≡ length xs
+length-map f [] = refl
+length-map f (x ∷ xs) = ap suc (length-map f xs)
+
+pub few_status_names : (g : State) (ids : List ℕ) → length ids ≤ 1024 → length (map (status_name g) (or_all svids ids)) ≤ 1024
+few_status_names g ids few = let same = length-map (status_name g) (or_all svids ids) in let less = few_or_all svids ids (omega arith) few in omega arith
+
+pub few_alarm_parts : (g : State) (ids : List ℕ) → length g.alarms ≤ most_alarms → length ids ≤ 1024 → length (map (alarm_part g) (or_all (alids_of g) ids)) ≤ 1024
+few_alarm_parts g ids alarms few =
+    let same = length-map (alarm_part g) (or_all (alids_of g) ids) in
+    let all = length-map (λ (a : AlarmLine). a.alid) g.alarms in
+    let less = few_or_all (alids_of g) ids (omega arith) few in
+    omega arith
+
+filter_few : (p : AlarmLine → Bool) (alarms : List AlarmLine) → length (filter p alarms) ≤ length alarms
+filter_few p [] = omega arith
+filter_few p (a ∷ alarms) = by_test (p a) refl (filter_few p alarms)
+  where
+    by_test : (b : Bool) → p a ≡ b → length (filter p alarms) ≤ length alarms → length (filter p (a ∷ alarms)) ≤ length (a ∷ alarms)
+    by_test true is rest = rw is (omega (arith, rest))
+    by_test false is rest = rw is (omega (arith, rest))
+
+pub few_enabled_parts : (g : State) → length g.alarms ≤ most_alarms → length (map (alarm_part g) (enabled_alids g)) ≤ 1024
+few_enabled_parts g alarms =
+    let same = length-map (alarm_part g) (enabled_alids g) in
+    let ids = length-map (λ (a : AlarmLine). a.alid) (filter (λ (a : AlarmLine). a.enabled) g.alarms) in
+    let less = filter_few (λ (a : AlarmLine). a.enabled) g.alarms in
+    omega arith
+
+-- outside a firing
+pub quiet_small : (g : State) → IsText [] → length g.alarms ≤ most_alarms → AreSmallValues (value_of no_firing g)
+quiet_small g none alarms = all_small no_firing g none alarms

@@ -10,6 +10,7 @@
 #![tactic(auto)]
 
 mod frames;
+mod host_data;
 mod link;
 mod notes;
 mod noting;

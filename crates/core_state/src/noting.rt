@@ -4,7 +4,8 @@ ghost use Rattle.gem_ids.specs.Texts.{IsText};
 ghost use Rattle.secs_items.specs.Plain.{plain};
 ghost use Rattle.msgs_gem.specs.declared.reply.GemReply.TheVariants as reply;
 ghost use Rattle.msgs_gem.specs.Replies.{reply_body};
-ghost use Rattle.event_reports.specs.Reports.{report_items};
+ghost use Rattle.msgs_gem.specs.Sendable.{AreFew};
+ghost use Rattle.event_reports.specs.Reports.{report_items, one_items};
 ghost use Rattle.event_reports.specs.Alarms.{is_set};
 ghost use Rattle.note_line.specs.Limits.{most_text};
 ghost use Rattle.note_line.specs.Line.{next};
@@ -14,6 +15,7 @@ ghost use Rattle.gem_model.specs.Noting.{is_event_reported, event_text, line_wit
 
 use crate::frames::reply_text;
 use crate::plant::Plant;
+use crate::values::prints;
 use gem_ids::Text80;
 use gem_rows::{RowId, ceid_of};
 use gem_states::Comm;
@@ -55,16 +57,58 @@ impl Plant {
             && (online_before || self.is_online())
     }
 
-    /// The text of S6F11 of the next note, with the values of the event's reports in a firing of this row, which is 100
-    /// times its table plus its number, at the object of this name.
-    fn event_text(&self, alloc: Global, ceid: u32, object: Text80, row: u16) -> Result<Bytes, AllocError>
-        ensures text { IfOk result (λ text. text ≡ event_text (next self.now.line) ceid (report_items (value_of (record { object = object; row = row }) self.now) ceid self.now.reports)) }
-        ensures short { IfOk result (λ text. length text ≤ most_text) }
+    /// The reports of an event on an occasion: in a firing of this row, which is 100 times its table plus its number, at the
+    /// object of this name; or outside a firing, with an empty name and 0.
+    pub(crate) fn reports_on(
+        &self,
+        alloc: Global,
+        ceid: u32,
+        object: Text80,
+        row: u16,
+    ) -> Result<Items, AllocError>
+        ensures reports { IfOk result (λ reports. reports ≡ report_items (value_of (record { object = object; row = row }) self.now) ceid self.now.reports) }
+        ensures few { IfOk result (AreFew 16 3 5392) }
     {
-        self.has_few_alarms(&object);
+        prints(&object);
+        self.few_alarms();
         let mut reports = Items::new(alloc);
         let showing = self.showing(object, row);
         self.reports.report(alloc, ceid, &showing, &mut reports)?;
+        Ok(reports)
+    }
+
+    /// The values of a report on such an occasion.
+    pub(crate) fn one_on(
+        &self,
+        alloc: Global,
+        rptid: u32,
+        object: Text80,
+        row: u16,
+    ) -> Result<Items, AllocError>
+        ensures values { IfOk result (λ values. values ≡ one_items (value_of (record { object = object; row = row }) self.now) rptid self.now.reports) }
+        ensures few { IfOk result (AreFew 1024 1 84) }
+    {
+        prints(&object);
+        self.few_alarms();
+        let mut values = Items::new(alloc);
+        let showing = self.showing(object, row);
+        self.reports.one(alloc, rptid, &showing, &mut values)?;
+        Ok(values)
+    }
+
+    /// The text of S6F11 of the next note, with the values of the event's reports in a firing.
+    #[tactic(auto, using(crate::proofs::Small::event_short, crate::proofs::Telling::text_is))]
+    fn event_text(
+        &self,
+        alloc: Global,
+        ceid: u32,
+        object: Text80,
+        row: u16,
+    ) -> Result<Bytes, AllocError>
+        ensures text { IfOk result (λ text. text ≡ event_text (next self.now.line) ceid (report_items (value_of (record { object = object; row = row }) self.now) ceid self.now.reports)) }
+        ensures short { IfOk result (λ text. length text ≤ most_text) }
+    {
+        let reports = self.reports_on(alloc, ceid, object, row)?;
         let event = GemReply::S6F11(self.line.next_number(), ceid, reports);
         let text = reply_text(alloc, &event)?;
         Ok(text)

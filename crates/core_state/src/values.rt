@@ -44,6 +44,13 @@ impl Values for Showing<'_> {
     }
 }
 
+/// Each text prints: what is known of it, for proofs.
+pub(crate) fn prints(text: &Text80)
+    ensures { IsText text.now }
+{
+    text.as_bytes();
+}
+
 fn small_number(alloc: Global, number: u8) -> Result<Item, AllocError>
     ensures { IfOk result (λ item. view item ≡ u1 (number ∷ [])) }
 {
@@ -64,12 +71,10 @@ impl Plant {
         }
     }
 
-    /// What is known of each text and of the alarms of a tool: it prints, and they are few.
-    pub(crate) fn has_few_alarms(&self, text: &Text80)
-        ensures text { IsText text.now }
-        ensures few { length self.now.alarms ≤ most_alarms }
+    /// The alarms of a tool are few: what is known of them, for proofs.
+    pub(crate) fn few_alarms(&self)
+        ensures { length self.now.alarms ≤ most_alarms }
     {
-        text.as_bytes();
         self.alarms.lines();
     }
 

@@ -1,5 +1,5 @@
 -- What is told of constants can be sent.
-use Rattle.std.proofs.Common.{◌≡◌, ℕ, suc, ◌^◌, ◌<◌, ◌≤◌, Bool, true, false, ◌&&◌, nat_lt, cond, ◌==◌, List, [], ◌∷◌, map, length, Option, Some, None, unwrap_or, option_map, find, refl, sym, ap, arith, subst, Result, Ok, Err, IfOk}
+use Rattle.std.proofs.Common.{◌≡◌, ℕ, suc, ◌^◌, ◌<◌, ◌≤◌, ◌+◌, Bool, true, false, ◌&&◌, nat_lt, cond, ◌==◌, List, [], ◌∷◌, map, length, Option, Some, None, unwrap_or, option_map, find, refl, sym, ap, arith, subst, Result, Ok, Err, IfOk}
 use Rattle.std.specs.List.{All, list_all}
 use Rattle.std.proofs.lemmas.List.Elements.{All-nil, All-cons}
 use Rattle.std.proofs.lemmas.Bool.Decides.{nat_tests}
@@ -9,6 +9,7 @@ use Rattle.secs_items.specs.declared.item.Item.{Item}
 use Rattle.secs_items.specs.Height.{height, highest}
 use Rattle.secs_items.specs.Plain.{count_of}
 use Rattle.secs_items.specs.Sendable.{IsLength, HasShortBodies, HaveShortBodies, IsSendable}
+use Rattle.secs_items.specs.Weight.{weight, AreBounded}
 use Rattle.data_variables.specs.declared.constant.Constant.{Constant}
 use Rattle.data_variables.specs.declared.val.Val.{Val}
 use Rattle.data_variables.specs.declared.val.Val.TheVariants.{Number, Truth}
@@ -106,6 +107,42 @@ told_low tell low (id ∷ ids) =
 told_count : (tell : ℕ → Data) (ids : List ℕ) → count_of (items (map tell ids)) ≡ length ids
 told_count tell [] = refl
 told_count tell (id ∷ ids) = ap suc (told_count tell ids)
+
+-- ---- bounds
+
+value_light : (v : Val) → weight (value_item v) ≤ 8
+value_light (Number n) = omega arith
+value_light (Truth t) = omega arith
+
+ascii_light : (text : List ℕ) → are_ascii text ≡ true → length text < 81
+ascii_light text h = grind (arith, nat_tests)
+
+-- what is told of a constant takes at most 210 bytes
+known_light : (ecid : ℕ) (c : Constant) → is_plain c ≡ true → weight (known_name ecid c) ≤ 210
+known_light ecid c h =
+    let name_plain : are_ascii c.name ≡ true = grind (arith, nat_tests) in
+    let units_plain : are_ascii c.units ≡ true = grind (arith, nat_tests) in
+    let name = ascii_light c.name name_plain in
+    let units = ascii_light c.units units_plain in
+    let least = value_light c.least in
+    let most = value_light c.most in
+    let default = value_light c.default in
+    omega arith
+
+name_light : (ecid : ℕ) → weight (name_item ecid) ≤ 210
+name_light ecid = by_line (constant_of ecid) (found_passes is_plain (λ c. c.ecid == ecid) constant_lines refl) where
+  by_line : (o : Option Constant) → unwrap_or (option_map is_plain o) true ≡ true → weight (unwrap_or (option_map (known_name ecid) o) (unknown_name ecid)) ≤ 210
+  by_line None h = omega arith
+  by_line (Some c) h = known_light ecid c h
+
+-- what is told of each ECID stays within bounds
+pub names_bounded : (ids : List ℕ) → AreBounded 1 210 (items (map name_item ids))
+names_bounded [] = tt
+names_bounded (id ∷ ids) = (record { depth = name_low id; size = name_light id; bodies = name_short id }, names_bounded ids)
+
+-- as many are told of as are asked for
+pub names_counted : (ids : List ℕ) → count_of (items (map name_item ids)) ≡ length ids
+names_counted ids = told_count name_item ids
 
 -- the body of S2F30 can be sent where three length bytes hold the number of ECIDs
 pub namelist_sendable : (ids : List ℕ) → length ids < 2 ^ 24 → IsSendable (namelist_of ids)

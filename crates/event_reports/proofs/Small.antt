@@ -25,9 +25,9 @@ found_link p (e ∷ events) short = by_test (p e) (found_link p events short.1) 
   by_test true others = short.0
   by_test false others = others
 
-count-values : (value : ℕ → Option Data) (vids : List ℕ) → count_of (value_items value vids) ≡ length vids
-count-values value [] = refl
-count-values value (vid ∷ vids) = ap suc (count-values value vids)
+pub count_values : (value : ℕ → Option Data) (vids : List ℕ) → count_of (value_items value vids) ≡ length vids
+count_values value [] = refl
+count_values value (vid ∷ vids) = ap suc (count_values value vids)
 
 count-reports : (value : ℕ → Option Data) (r : Reports) (rptids : List ℕ) → count_of (items_of_reports value rptids r) ≡ length rptids
 count-reports value r [] = refl
@@ -37,7 +37,7 @@ count-reports value r (rptid ∷ rptids) = ap suc (count-reports value r rptids)
 pub few_values : (value : ℕ → Option Data) (r : Reports) (rptid : ℕ) → AreWithin r → count_of (one_items value rptid r) ≤ most_vids
 few_values value r rptid within =
     let vids = found_vids (λ p. p.id == rptid) r.reports within.vids in
-    omega (arith, count-values value (vids_of rptid r))
+    omega (arith, count_values value (vids_of rptid r))
 
 -- an event has at most 16 reports
 pub few_reports : (value : ℕ → Option Data) (r : Reports) (ceid : ℕ) → AreWithin r → count_of (report_items value ceid r) ≤ most_linked
@@ -49,7 +49,7 @@ small_value : (value : ℕ → Option Data) → AreSmallValues value → (vid : 
 small_value value small vid None is = record { depth = omega arith; size = omega arith; bodies = (omega arith, tt) }
 small_value value small vid (Some d) is = small vid d is
 
-small_values_of : (value : ℕ → Option Data) → AreSmallValues value → (vids : List ℕ) → AreBounded 1 84 (value_items value vids)
+pub small_values_of : (value : ℕ → Option Data) → AreSmallValues value → (vids : List ℕ) → AreBounded 1 84 (value_items value vids)
 small_values_of value small [] = tt
 small_values_of value small (vid ∷ vids) = (small_value value small vid (value vid) refl, small_values_of value small vids)
 

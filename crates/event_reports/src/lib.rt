@@ -15,6 +15,6 @@ mod values;
 pub use alarms::{AlarmLine, Alarms};
 pub use laws::{reports_stay_sound, the_alarms_stay_the_same, the_plant_stays_the_same};
 pub use lines::{EventLine, Report};
-pub use reports::Reports;
+pub use reports::{Reports, values_of};
 pub use secs_items::NoMemory;
 pub use values::Values;

@@ -1,6 +1,6 @@
 //! Reports, their links to collection events, and which events are enabled.
 
-ghost use Rattle.std.specs.Prelude.{◌≡◌, ◌≤◌, map, IfOk, OnOk, option_map};
+ghost use Rattle.std.specs.Prelude.{length, ◌≡◌, ◌≤◌, map, IfOk, OnOk, option_map};
 ghost use Rattle.std.specs.Option.{unwrap_or};
 ghost use Rattle.std.specs.List.{list_all};
 ghost use Rattle.secs_items.specs.Data.{list, no_items, added};
@@ -222,6 +222,19 @@ fn enable_lines(events: &mut [EventLine], on: bool, ceids: &[u32])
     for event in events {
         event.enable(on, ceids);
     }
+}
+
+/// The values of these variables, in order (SEMI E5, S1F4 and S2F14): one without a value stands as an empty list.
+/// `NoMemory` where there is no room for them.
+#[tactic(auto, using(crate::proofs::Small::count_values, crate::proofs::Small::small_values_of))]
+pub fn values_of<V: Values>(alloc: Global, v: &V, vids: &[u32]) -> Result<Items, NoMemory>
+    ensures values { IfOk result (λ items. items ≡ value_items (V.value_of v.now) vids.now) }
+    ensures count { count_of (value_items (V.value_of v.now) vids.now) ≡ length vids.now }
+    ensures bounded { AreSmallValues (V.value_of v.now) → AreBounded 1 84 (value_items (V.value_of v.now) vids.now) }
+{
+    let mut items = Items::new(alloc);
+    push_values(alloc, vids, v, &mut items)?;
+    Ok(items)
 }
 
 // Adds the values of variables at the end.

@@ -1,5 +1,5 @@
 -- Remote commands of the host (SEMI E5, S2F41; SEMI E30, remote control; this tool's profile, remote commands).
-use Rattle.std.specs.Prelude.{ℕ, ◌==◌, Bool, true, false, not, ◌||◌, if◌then◌else◌, List, [], ◌∷◌, codes, Option, Some, None, is_some}
+use Rattle.std.specs.Prelude.{◌++◌, ℕ, ◌==◌, Bool, true, false, not, ◌||◌, if◌then◌else◌, List, [], ◌∷◌, codes, Option, Some, None, is_some}
 use Rattle.std.specs.List.{list_any}
 use Rattle.std.specs.Str.{bytes_eq}
 use Rattle.gem_states.specs.declared.control.Control.{Control}
@@ -52,12 +52,12 @@ cpack command g earlier p =
     else (if not (has_format p.1) then 3
     else (if not (is_known g (id_of p.1)) || was_given earlier p.0 then 2 else 0))
 
--- the faulty parameters, each with its CPACK, in order; the first parameters are those before
+-- the faulty parameters, each with its CPACK, in order; these others stand before them
 abbrev pub faulty : RemoteCommand → State → List Parameter → List Parameter → List ParameterAcknowledge
 faulty command g earlier [] = []
 faulty command g earlier (p ∷ ps) =
-    if cpack command g earlier p == 0 then faulty command g (p ∷ earlier) ps
-    else record { name = p.0; cpack = cpack command g earlier p } ∷ faulty command g (p ∷ earlier) ps
+    if cpack command g earlier p == 0 then faulty command g (earlier ++ p ∷ []) ps
+    else record { name = p.0; cpack = cpack command g earlier p } ∷ faulty command g (earlier ++ p ∷ []) ps
 
 -- a parameter that the command needs is missing
 abbrev pub is_missing : RemoteCommand → List Parameter → Bool

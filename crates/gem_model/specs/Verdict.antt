@@ -8,7 +8,7 @@ use Rattle.gem_states.specs.declared.control.Control.TheVariants as control
 use Rattle.hsms_frame.specs.declared.frame.Header.{Header}
 use Rattle.hsms_frame.specs.declared.frame.Arrival.{Arrival}
 use Rattle.hsms_frame.specs.declared.frame.Arrival.TheVariants as arrival
-use Rattle.secs_items.specs.Data.{Data, DataList}
+use Rattle.secs_items.specs.Data.{Data}
 use Rattle.secs_items.specs.One.{one_item}
 use Rattle.msgs_gem.specs.declared.fault.BodyFault.{BodyFault}
 use Rattle.msgs_gem.specs.declared.fault.BodyFault.TheVariants as fault
@@ -19,13 +19,13 @@ use Rattle.msgs_gem.specs.declared.reply.GemReply.TheVariants as reply
 use Rattle.msgs_gem.specs.declared.reply.AlarmPart.{AlarmPart}
 use Rattle.msgs_gem.specs.declared.reply.VariableName.{VariableName}
 use Rattle.msgs_gem.specs.Primaries.{reading}
-use Rattle.msgs_gem.specs.Replies.{L, items}
+use Rattle.msgs_gem.specs.Replies.{items}
 use Rattle.data_variables.specs.declared.val.Val.{Val}
 use Rattle.data_variables.specs.Setting.{eac}
 use Rattle.data_variables.specs.Table.{constant_ids}
 use Rattle.data_variables.specs.Bodies.{val_in, name_item}
 use Rattle.gem_rows.specs.Variables.{vid_name}
-use Rattle.event_reports.specs.Reports.{drack, lrack, erack, report_items, one_items}
+use Rattle.event_reports.specs.Reports.{drack, lrack, erack, report_items, one_items, value_items}
 use Rattle.event_reports.specs.declared.alarms.AlarmLine.{AlarmLine}
 use Rattle.event_reports.specs.Alarms.{ackc5, is_alarm, is_set}
 use Rattle.transactions.specs.declared.transaction.Open.{Open}
@@ -137,15 +137,6 @@ abbrev pub or_all : List ℕ → List ℕ → List ℕ
 or_all all [] = all
 or_all all (id ∷ ids) = id ∷ ids
 
--- the value that is asked, or an empty list for one that is unknown (SEMI E5, S1F4 and S2F14)
-abbrev pub or_empty : Option Data → Data
-or_empty None = L []
-or_empty (Some d) = d
-
--- the values of these ids, one after another
-abbrev pub values_of : (ℕ → Option Data) → List ℕ → DataList
-values_of value ids = items (map (λ id. or_empty (value id)) ids)
-
 -- the name of a status variable, empty for one that is unknown; units are not given (SEMI E5, S1F12)
 abbrev pub status_name : State → ℕ → VariableName
 status_name g vid = record { svid = vid; name = if is_some (status_value g vid) then unwrap_or (vid_name vid) [] else [] }
@@ -174,12 +165,12 @@ enabled_alids g = map (λ (a : AlarmLine). a.alid) (filter (λ (a : AlarmLine). 
 -- what a message is answered, by the state before it (SEMI E5; this tool's profile, messages)
 abbrev pub reply_to : State → GemMsg → GemReply
 reply_to g msg.S1F1 = reply.S1F2 g.config.mdln g.config.softrev
-reply_to g (msg.S1F3 ids) = reply.S1F4 (values_of (status_value g) (or_all svids ids))
+reply_to g (msg.S1F3 ids) = reply.S1F4 (value_items (status_value g) (or_all svids ids))
 reply_to g (msg.S1F11 ids) = reply.S1F12 (map (status_name g) (or_all svids ids))
 reply_to g msg.S1F13 = reply.S1F14 (record { mdln = g.config.mdln; softrev = g.config.softrev })
 reply_to g msg.S1F15 = reply.S1F16
 reply_to g msg.S1F17 = reply.S1F18 (onlack g.control)
-reply_to g (msg.S2F13 ids) = reply.S2F14 (values_of (constant_value g) (or_all constant_ids ids))
+reply_to g (msg.S2F13 ids) = reply.S2F14 (value_items (constant_value g) (or_all constant_ids ids))
 reply_to g (msg.S2F15 settings) = reply.S2F16 (eac (settings_of settings))
 reply_to g msg.S2F17 = reply.S2F18 (time_digits (clock_now g))
 reply_to g (msg.S2F29 ids) = reply.S2F30 (items (map name_item (or_all constant_ids ids)))

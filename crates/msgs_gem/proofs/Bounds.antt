@@ -19,8 +19,8 @@ pub values_bounded : (ds : DataList) → AreFew 1024 1 84 ds → IsBounded 5 (2 
 values_bounded ds few = bounded-more 2 86020 5 (2 ^ 31) (list ds) (omega arith) (omega arith) (bounded-list 1 84 1024 ds (omega arith) few.0 few.1)
 
 -- constants
-pub constants_bounded : (ds : DataList) → AreFew 1024 2 2300 ds → IsBounded 5 (2 ^ 31) (list ds)
-constants_bounded ds few = bounded-more 3 2355204 5 (2 ^ 31) (list ds) (omega arith) (omega arith) (bounded-list 2 2300 1024 ds (omega arith) few.0 few.1)
+pub constants_bounded : (ds : DataList) → AreFew 1024 1 210 ds → IsBounded 5 (2 ^ 31) (list ds)
+constants_bounded ds few = bounded-more 2 215044 5 (2 ^ 31) (list ds) (omega arith) (omega arith) (bounded-list 1 210 1024 ds (omega arith) few.0 few.1)
 
 -- an event and its reports
 pub event_bounded : (note ceid : ℕ) (ds : DataList) → AreFew 16 3 5392 ds → IsBounded 5 (2 ^ 31) (event note ceid ds)

@@ -64,6 +64,38 @@ impl Model for Parameter {
     ghost view = { λ p. (p.name, said p.value) };
 }
 
+impl Setting {
+    /// ECID, the constant.
+    pub fn ecid(&self) -> u32
+        ensures { result ≡ self.now.0 }
+    {
+        self.id
+    }
+
+    /// ECV, the item of its new value.
+    pub fn item(&self) -> &Item
+        ensures { view result.now ≡ self.now.1 }
+    {
+        &self.value
+    }
+}
+
+impl Parameter {
+    /// CPNAME, the name.
+    pub fn cpname(&self) -> Text80
+        ensures { result ≡ self.now.0 }
+    {
+        self.name
+    }
+
+    /// CPVAL, the item of its value.
+    pub fn item(&self) -> &Item
+        ensures { view result.now ≡ self.now.1 }
+    {
+        &self.value
+    }
+}
+
 impl Part for Setting {
     ghost form = { setting };
 

@@ -123,8 +123,8 @@ pub enum GemReply {
 ///
 /// It can be encoded, and takes at most 1,073,741,824 bytes, where the parts of the reply are within their bounds. The
 /// characters of MDLN, SOFTREV and the time are at most 127; these and a header have fewer than 16,777,216 bytes. Of
-/// values there are at most 1,024, each of at most 84 bytes with lists at most 1 deep; of constants 1,024, of 2,300
-/// bytes and 2 deep; of reports 16, of 5,392 bytes and 3 deep. Of names and alarms there are at most 1,024, and of
+/// values there are at most 1,024, each of at most 84 bytes with lists at most 1 deep; of constants 1,024, of 210
+/// bytes and 1 deep; of reports 16, of 5,392 bytes and 3 deep. Of names and alarms there are at most 1,024, and of
 /// parameters fewer than 16,777,216.
 #[tactic(auto, using(crate::proofs::Bounds::short_text))]
 pub fn gem_item(alloc: Global, reply: &GemReply) -> Result<Item, NoMemory>

@@ -1,4 +1,4 @@
-//! What the tests of whole runs share that speak with the tool: exchanges, which are a line and all that it prints.
+//! What the tests of whole runs share that are a list of exchanges: lines of the input, each with all that it prints.
 
 ghost use Rattle.std.specs.Prelude.{◌<◌};
 ghost use Rattle.tool_events.specs.Configs.{IsConfig};
@@ -54,18 +54,9 @@ pub const REMOTE_WAITS: Exchange = (b"O remote\n", b"= ok\n");
 // So does ON-LINE LOCAL.
 pub const LOCAL_WAITS: Exchange = (b"O local\n", b"= ok\n");
 
-// This, and then so many times the same, and then that.
-pub fn repeated(
-    alloc: Global,
-    front: &[u8],
-    part: &[u8],
-    count: u32,
-    back: &[u8],
-) -> Result<Vec<u8>, Fail> {
+// This, and then that.
+pub fn joined(alloc: Global, front: &[u8], back: &[u8]) -> Result<Vec<u8>, Fail> {
     let mut all = Vec::from_slice(alloc, front)?;
-    for _ in 0..count {
-        all.extend_from_slice(part)?;
-    }
     all.extend_from_slice(back)?;
     Ok(all)
 }
@@ -94,8 +85,8 @@ pub fn prints(
     want: &[u8],
 ) -> Result<(), Fail> {
     let config = config_of(begins);
-    let lines = repeated(alloc, SELECTED, lines, 1, b"")?;
-    let want = repeated(alloc, SELECTED_OUT, want, 1, b"")?;
+    let lines = joined(alloc, SELECTED, lines)?;
+    let want = joined(alloc, SELECTED_OUT, want)?;
     let want = String::from_utf8_lossy(alloc, &want)?;
     for piece in [4096, 5] {
         let (status, out) = printed(alloc, &config, &lines, piece)?;

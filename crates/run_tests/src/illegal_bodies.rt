@@ -1,7 +1,7 @@
 //! Messages whose text is no printed body, and messages without the W-bit, in whole runs (`top_calls`). Behind each
 //! illegal one it is looked that nothing changed.
 
-use crate::exchanges::{Begins, Exchange, converses, exchange, prints, repeated};
+use crate::exchanges::{Begins, Exchange, converses, exchange, prints};
 use std::alloc::Global;
 use std::process::Abort;
 use std::test::Fail;
@@ -30,7 +30,9 @@ fn is_illegal(
         )?;
         let front = format!(in alloc; "H {length:08X}{header}")?;
         let told = format!(in alloc; "> 00000016000009070000{own:08X}210A{header}\n")?;
-        lines.extend_from_slice(&repeated(alloc, front.as_bytes(), text, 1, b"\n")?)?;
+        lines.extend_from_slice(front.as_bytes())?;
+        lines.extend_from_slice(text)?;
+        lines.push(b'\n')?;
         want.extend_from_slice(told.as_bytes())?;
     }
     exchange(&mut lines, &mut want, behind)?;
@@ -706,6 +708,22 @@ fn s1f15_without_the_w_bit_takes_the_tool_off_line_and_is_reported(
             (b"H 0000000C000001030000000000050100\n", b""),
         ],
     )
+}
+
+// This, and then so many times the same, and then that.
+fn repeated(
+    alloc: Global,
+    front: &[u8],
+    part: &[u8],
+    count: u32,
+    back: &[u8],
+) -> Result<Vec<u8>, Fail> {
+    let mut all = Vec::from_slice(alloc, front)?;
+    for _ in 0..count {
+        all.extend_from_slice(part)?;
+    }
+    all.extend_from_slice(back)?;
+    Ok(all)
 }
 
 // A list of 1,025 ids in each message that has one: the line before the ids, an id, and what is told.

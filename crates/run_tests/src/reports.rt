@@ -1,7 +1,7 @@
 //! Reports, their links to events and the events that are enabled, in whole runs (`top_calls`): what S2F33, S2F35 and
 //! S2F37 are answered, and what S6F11, S6F15 and S6F19 then tell.
 
-use crate::exchanges::{Begins, ENABLED, Exchange, converses, exchange, prints, repeated};
+use crate::exchanges::{Begins, ENABLED, Exchange, converses, exchange, joined, prints};
 use std::alloc::Global;
 use std::process::Abort;
 use std::test::Fail;
@@ -1138,12 +1138,10 @@ fn drack_is_1_past_256_reports_of_one_message(rt: HostRuntime) -> Result<(), Fai
     let alloc = rt.alloc();
     let lines = of_reports(alloc, REPORTS_257, 257)?;
     // S6F19 U4 0: S6F20 L[]
-    let lines = repeated(
+    let lines = joined(
         alloc,
         &lines,
         b"H 0000001000008613000000000003B10400000000\n",
-        1,
-        b"",
     )?;
     prints(
         &rt,

@@ -120,7 +120,7 @@ same_command g None parameters = same_at g
 same_command g (Some GoLocal) parameters = same_at g
 same_command g (Some ClearAlarm) parameters = same_named g (alarm_named parameters)
 
-same_written : (g : State) (m : GemMsg) → Same g (written m g)
+pub same_written : (g : State) (m : GemMsg) → Same g (written m g)
 same_written g msg.S1F1 = same_at g
 same_written g (msg.S1F3 ids) = same_at g
 same_written g (msg.S1F11 ids) = same_at g

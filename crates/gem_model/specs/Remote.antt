@@ -1,11 +1,12 @@
 -- Remote commands of the host (SEMI E5, S2F41; SEMI E30, remote control; this tool's profile, remote commands).
-use Rattle.std.specs.Prelude.{◌++◌, ℕ, ◌==◌, Bool, true, false, not, ◌||◌, if◌then◌else◌, List, [], ◌∷◌, codes, Option, Some, None, is_some}
-use Rattle.std.specs.List.{list_any}
+use Rattle.std.specs.Prelude.{option_and_then, ◌++◌, ℕ, ◌==◌, Bool, true, false, not, ◌||◌, if◌then◌else◌, List, [], ◌∷◌, codes, Option, Some, None, is_some}
+use Rattle.std.specs.List.{find, list_any}
 use Rattle.std.specs.Str.{bytes_eq}
 use Rattle.gem_states.specs.declared.control.Control.{Control}
 use Rattle.gem_states.specs.declared.control.Control.TheVariants as control
 use Rattle.secs_items.specs.Data.{Data}
 use Rattle.secs_items.specs.Ids.{id_of}
+use Rattle.event_reports.specs.declared.alarms.AlarmLine.{AlarmLine}
 use Rattle.event_reports.specs.Alarms.{is_alarm, is_set}
 use Rattle.msgs_gem.specs.declared.reply.ParameterAcknowledge.{ParameterAcknowledge}
 use Rattle.gem_model.specs.State.{State}
@@ -35,9 +36,9 @@ abbrev pub has_format : Data → Bool
 has_format value = is_some (id_of value)
 
 -- the alarm that a value names is one of the tool
-abbrev pub is_known : State → Option ℕ → Bool
-is_known g None = false
-is_known g (Some alid) = is_alarm alid g.alarms
+abbrev pub is_known : List AlarmLine → Option ℕ → Bool
+is_known alarms None = false
+is_known alarms (Some alid) = is_alarm alid alarms
 
 -- a parameter of this name was given
 abbrev pub was_given : List Parameter → List ℕ → Bool
@@ -46,18 +47,18 @@ was_given earlier name = list_any (λ p. bytes_eq p.0 name) earlier
 -- CPACK of a parameter, behind these others: 1 for an unknown name, 3 for a wrong format, 2 for an unknown alarm and for a
 -- parameter that was given before; the first that fits. 0 where none does (SEMI E5, S2F42; this tool's profile, remote
 -- commands)
-abbrev pub cpack : RemoteCommand → State → List Parameter → Parameter → ℕ
-cpack command g earlier p =
+abbrev pub cpack : RemoteCommand → List AlarmLine → List Parameter → Parameter → ℕ
+cpack command alarms earlier p =
     if not (takes command p.0) then 1
     else (if not (has_format p.1) then 3
-    else (if not (is_known g (id_of p.1)) || was_given earlier p.0 then 2 else 0))
+    else (if not (is_known alarms (id_of p.1)) || was_given earlier p.0 then 2 else 0))
 
 -- the faulty parameters, each with its CPACK, in order; these others stand before them
-abbrev pub faulty : RemoteCommand → State → List Parameter → List Parameter → List ParameterAcknowledge
-faulty command g earlier [] = []
-faulty command g earlier (p ∷ ps) =
-    if cpack command g earlier p == 0 then faulty command g (earlier ++ p ∷ []) ps
-    else record { name = p.0; cpack = cpack command g earlier p } ∷ faulty command g (earlier ++ p ∷ []) ps
+abbrev pub faulty : RemoteCommand → List AlarmLine → List Parameter → List Parameter → List ParameterAcknowledge
+faulty command alarms earlier [] = []
+faulty command alarms earlier (p ∷ ps) =
+    if cpack command alarms earlier p == 0 then faulty command alarms (earlier ++ p ∷ []) ps
+    else record { name = p.0; cpack = cpack command alarms earlier p } ∷ faulty command alarms (earlier ++ p ∷ []) ps
 
 -- a parameter that the command needs is missing
 abbrev pub is_missing : RemoteCommand → List Parameter → Bool
@@ -66,16 +67,15 @@ is_missing ClearAlarm ps = not (was_given ps (codes "ALID"))
 
 -- the alarm that the parameters name
 abbrev pub alarm_named : List Parameter → Option ℕ
-alarm_named [] = None
-alarm_named (p ∷ ps) = if bytes_eq p.0 (codes "ALID") then id_of p.1 else alarm_named ps
+alarm_named ps = option_and_then (λ p. id_of p.1) (find (λ p. bytes_eq p.0 (codes "ALID")) ps)
 
 -- the command is CLEARALARM of an alarm that is clear
-abbrev pub is_clear_already : RemoteCommand → State → List Parameter → Bool
-is_clear_already GoLocal g ps = false
-is_clear_already ClearAlarm g ps = not (is_alarm_set g (alarm_named ps)) where
-  is_alarm_set : State → Option ℕ → Bool
-  is_alarm_set g None = false
-  is_alarm_set g (Some alid) = is_set alid g.alarms
+abbrev pub is_clear_already : RemoteCommand → List AlarmLine → List Parameter → Bool
+is_clear_already GoLocal alarms ps = false
+is_clear_already ClearAlarm alarms ps = not (is_alarm_set (alarm_named ps)) where
+  is_alarm_set : Option ℕ → Bool
+  is_alarm_set None = false
+  is_alarm_set (Some alid) = is_set alid alarms
 
 -- the operator commands: ON-LINE LOCAL (SEMI E30)
 abbrev pub is_local : Control → Bool
@@ -94,16 +94,18 @@ hcack g name ps = by_command (command_named name) where
   by_command None = 1
   by_command (Some command) =
       if is_local g.control then 2
-      else (if has_some (faulty command g [] ps) || is_missing command ps then 3
-      else (if is_clear_already command g ps then 5 else 0))
+      else (if has_some (faulty command g.alarms [] ps) || is_missing command ps then 3
+      else (if is_clear_already command g.alarms ps then 5 else 0))
+
+-- the faulty parameters of a command, where they are listed
+abbrev pub listed_by : State → List Parameter → Option RemoteCommand → Bool → List ParameterAcknowledge
+listed_by g ps None is_listed = []
+listed_by g ps (Some command) false = []
+listed_by g ps (Some command) true = faulty command g.alarms [] ps
 
 -- the parameters that S2F42 lists: the faulty ones, under HCACK 3 (SEMI E5, S2F42)
 abbrev pub listed : State → List ℕ → List Parameter → List ParameterAcknowledge
-listed g name ps = by_command (command_named name) (hcack g name ps == 3) where
-  by_command : Option RemoteCommand → Bool → List ParameterAcknowledge
-  by_command None is_faulty = []
-  by_command (Some command) false = []
-  by_command (Some command) true = faulty command g [] ps
+listed g name ps = listed_by g ps (command_named name) (hcack g name ps == 3)
 
 -- the command, where it is accepted
 abbrev pub accepted : State → List ℕ → List Parameter → Option RemoteCommand

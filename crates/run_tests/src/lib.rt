@@ -1,6 +1,7 @@
 //! Tests of the core and of whole runs by their public names. It has no code of its own, and nothing stands on it. Expected
 //! values are worked by hand from the printed formats and tables, and calls are made with ample memory, on small input and
-//! on large. The crates below have theirs in `tool_tests`, which has no need of the core and so is tried beside it.
+//! on large. The crates below have theirs in `tool_tests` and `record_tests`, which have no need of the core and so are
+//! tried beside it.
 #![tactic(auto)]
 
 #[cfg(test)]

@@ -3,3 +3,4 @@ pub mod Verdicts
 pub mod Steps
 pub mod CoreView
 pub mod CoreInside
+pub mod Remotes

@@ -1,6 +1,7 @@
 -- What the code's verdicts on data messages stand for.
 use Rattle.std.specs.Prelude.{◌<◌}
 use Rattle.hsms_frame.specs.declared.frame.Header.{Header}
+use Rattle.msgs_gem.specs.Few.{HasFewParts}
 use Rattle.gem_model.specs.Verdict as model
 use Rattle.tool_core.specs.declared.data.Verdict.{Verdict}
 use Rattle.tool_core.specs.declared.data.Verdict.TheVariants as code
@@ -20,3 +21,11 @@ HasNext h code.Discarded = Unit {0}
 HasNext h (code.Stream9 function) = Unit {0}
 HasNext h code.Aborted = Unit {0}
 HasNext h code.Answers = Unit {0}
+
+-- a message that is taken has few parts
+abbrev pub IsFew : Verdict → Type 0
+IsFew (code.Taken m) = HasFewParts m
+IsFew code.Discarded = Unit {0}
+IsFew (code.Stream9 function) = Unit {0}
+IsFew code.Aborted = Unit {0}
+IsFew code.Answers = Unit {0}

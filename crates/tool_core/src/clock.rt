@@ -44,7 +44,10 @@ fn time_out(plant: &mut Plant, alloc: Global, one: Open) -> Result<(), AllocErro
     match one.what {
         What::Establish => plant.by_comm(alloc, CommTrigger::Refused),
         What::Attempt => plant.by_control(alloc, ControlTrigger::Failed),
-        What::Note(_) => Ok(()),
+        What::Note(_) => {
+            plant.fail_note();
+            Ok(())
+        }
     }
 }
 

@@ -14,16 +14,17 @@ ghost use Rattle.gem_model.specs.Direct.{by_comm, message_rows, establish_answer
 ghost use Rattle.gem_model.specs.Verdict.{header_of, is_too_long, item_of, wants_reply, stream_of, function_of, is_message, may_establish, is_establish, first_rules, verdict, read_as, onlack, tiack, reply_to};
 ghost use Rattle.gem_model.specs.Act.{written, replied, taken, closed_by, data_done};
 ghost use Rattle.transactions.specs.Endings.{answered};
-ghost use Rattle.tool_core.specs.Verdicts.{verdict_view, HasNext};
-ghost use Rattle.core_state.specs.ShortReply.{IsShort};
+ghost use Rattle.tool_core.specs.Verdicts.{verdict_view, HasNext, IsFew};
+ghost use Rattle.secs_items.specs.Sendable.{IsSendable};
+ghost use Rattle.msgs_gem.specs.Few.{HasFewParts};
+ghost use Rattle.msgs_gem.specs.Sendable.{HasSendableParts};
 
-use core_state::{Plant, part, reply_text};
-use gem_ids::{Moment, moment_of, time16};
+use crate::remote::command_rows;
+use crate::replies::perform;
+use core_state::{Plant, reply_text};
 use gem_states::{Comm, CommTrigger, Control, ControlTrigger};
 use hsms_frame::{Arrival, Bytes, Header};
-use msgs_gem::{
-    BodyFault, GemMsg, GemReply, Identity, accepts_communication, is_ignored, read_gem,
-};
+use msgs_gem::{BodyFault, GemMsg, GemReply, accepts_communication, is_ignored, read_gem};
 use secs_items::{Item, read_one};
 use std::alloc::{AllocError, Global};
 use transactions::What;
@@ -58,7 +59,8 @@ fn is_too_long(arrival: &Arrival) -> bool
 
 /// The text of what arrived as one item, where it is one.
 fn item_of(alloc: Global, arrival: &Arrival) -> Result<Option<Item>, AllocError>
-    ensures { IfOk result (λ item. option_map view item ≡ item_of arrival.now) }
+    ensures item { IfOk result (λ item. option_map view item ≡ item_of arrival.now) }
+    ensures sendable { IfOk result (λ item. IfSome item (λ i. IsSendable (view i))) }
 {
     match arrival {
         Arrival::Frame(frame) => read_one(alloc, frame.text.as_slice()),
@@ -87,19 +89,27 @@ fn is_message(stream: u8, function: u8, header: &Header) -> bool
     stream_of(header) == stream && header.byte3 == function
 }
 
+/// The item of the text of a message, where it is one; a text that is ignored is not decoded.
+fn text_item(alloc: Global, header: &Header, arrival: &Arrival) -> Result<Option<Item>, AllocError>
+    ensures item { IfOk result (λ item. reading (stream_of header.now) (function_of header.now) (option_map view item) ≡ reading (stream_of header.now) (function_of header.now) (item_of arrival.now)) }
+    ensures sendable { IfOk result (λ item. IfSome item (λ i. IsSendable (view i))) }
+{
+    if is_ignored(stream_of(header), header.byte3) {
+        Ok(None)
+    } else {
+        item_of(alloc, arrival)
+    }
+}
+
 /// What a message is read as.
 #[tactic(auto, using(crate::proofs::Functions::read_function))]
 fn read_message(alloc: Global, header: &Header, arrival: &Arrival) -> Result<Verdict, AllocError>
     ensures verdict { IfOk result (λ verdict. verdict_view verdict ≡ read_as (reading (stream_of header.now) (function_of header.now) (item_of arrival.now))) }
     ensures next { IfOk result (HasNext header.now) }
+    ensures few { IfOk result IsFew }
 {
-    let stream = stream_of(header);
-    let item = if is_ignored(stream, header.byte3) {
-        None
-    } else {
-        item_of(alloc, arrival)?
-    };
-    match read_gem(alloc, stream, header.byte3, item.as_ref()) {
+    let item = text_item(alloc, header, arrival)?;
+    match read_gem(alloc, stream_of(header), header.byte3, item.as_ref()) {
         Ok(message) => Ok(Verdict::Taken(message)),
         Err(fault) => match fault {
             BodyFault::UnknownStream => Ok(Verdict::Stream9(3)),
@@ -136,73 +146,6 @@ fn establish_answer(
     }
 }
 
-/// ONLACK: 0 in HOST OFF-LINE, 1 in EQUIPMENT OFF-LINE and ATTEMPT ON-LINE, 2 on-line.
-fn onlack(control: Control) -> u8
-    ensures { result ≡ onlack control }
-{
-    match control {
-        Control::HostOffline => 0,
-        Control::EquipmentOffline | Control::Attempt => 1,
-        Control::Local | Control::Remote => 2,
-    }
-}
-
-/// TIACK: 0 where the text is a moment, else 1.
-fn tiack(text: &[u8]) -> u8
-    ensures { result ≡ tiack text.now }
-{
-    if moment_in(text).is_some() { 0 } else { 1 }
-}
-
-/// The moment that a text of any length says, if it says one.
-fn moment_in(text: &[u8]) -> Option<Moment>
-    ensures { option_map (λ m. m.0) result ≡ moment_in text.now }
-{
-    match <&[u8; 16]>::try_from(text) {
-        Ok(digits) => moment_of(digits),
-        Err(_) => None,
-    }
-}
-
-/// What the tool tells of itself.
-fn identity(plant: &Plant, alloc: Global) -> Result<Identity, AllocError>
-    ensures identity { IfOk result (λ tool. tool ≡ record { mdln = plant.now.config.mdln; softrev = plant.now.config.softrev }) }
-    ensures mdln { IfOk result (λ tool. IsText tool.mdln) }
-    ensures softrev { IfOk result (λ tool. IsText tool.softrev) }
-{
-    Ok(Identity {
-        mdln: part(alloc, plant.config().mdln)?,
-        softrev: part(alloc, plant.config().softrev)?,
-    })
-}
-
-/// The text of the time that the host's clock shows.
-fn time_text(plant: &Plant, alloc: Global) -> Result<secs_items::Bytes, AllocError>
-    ensures digits { IfOk result (λ text. text ≡ time_digits (clock_now plant.now)) }
-    ensures text { IfOk result IsText }
-{
-    let digits = time16(plant.clock_now());
-    Ok(secs_items::Bytes::from_vec(Vec::from_slice(alloc, &digits)?))
-}
-
-/// What a message is answered.
-fn reply_to(plant: &Plant, alloc: Global, message: &GemMsg) -> Result<GemReply, AllocError>
-    ensures reply { IfOk result (λ reply. reply ≡ reply_to plant.now message.now) }
-    ensures short { IfOk result IsShort }
-{
-    match message {
-        GemMsg::S1F1 => {
-            let Identity { mdln, softrev } = identity(plant, alloc)?;
-            Ok(GemReply::S1F2(mdln, softrev))
-        }
-        GemMsg::S1F13 => Ok(GemReply::S1F14(identity(plant, alloc)?)),
-        GemMsg::S1F15 => Ok(GemReply::S1F16),
-        GemMsg::S1F17 => Ok(GemReply::S1F18(onlack(plant.control()))),
-        GemMsg::S2F17 => Ok(GemReply::S2F18(time_text(plant, alloc)?)),
-        GemMsg::S2F31(text) => Ok(GemReply::S2F32(tiack(text.as_slice()))),
-    }
-}
-
 /// Whether a message may establish communication: S1F13, or S1F14 or S1F0 that answers the tool's S1F13.
 fn may_establish(plant: &Plant, header: &Header) -> bool
     ensures { result ≡ may_establish plant.now header.now }
@@ -224,6 +167,7 @@ fn answers_establish(plant: &Plant, header: &Header) -> bool
 fn first_rule(plant: &Plant, header: &Header, too_long: bool) -> Option<Verdict>
     ensures verdict { option_map verdict_view result ≡ choose (first_rules plant.now header.now too_long) }
     ensures next { IfSome result (HasNext header.now) }
+    ensures few { IfSome result IsFew }
 {
     let communicating = plant.comm() == Comm::Communicating;
     let online = matches!(plant.control(), Control::Local | Control::Remote);
@@ -250,6 +194,7 @@ fn first_rule(plant: &Plant, header: &Header, too_long: bool) -> Option<Verdict>
 fn verdict_of(plant: &Plant, alloc: Global, arrival: &Arrival) -> Result<Verdict, AllocError>
     ensures verdict { IfOk result (λ v. verdict_view v ≡ verdict plant.now arrival.now) }
     ensures next { IfOk result (HasNext (header_of arrival.now)) }
+    ensures few { IfOk result IsFew }
 {
     let header = header_of(arrival);
     match first_rule(plant, &header, is_too_long(arrival)) {
@@ -258,38 +203,21 @@ fn verdict_of(plant: &Plant, alloc: Global, arrival: &Arrival) -> Result<Verdict
     }
 }
 
-/// What a message writes: S2F31 sets the clock.
-fn write(plant: &mut Plant, message: &GemMsg)
-    ensures { plant.new ≡ written message.now plant.old }
-{
-    if let GemMsg::S2F31(text) = message {
-        plant.set_clock(moment_in(text.as_slice()));
-    }
-}
-
-/// The text of what a message is answered.
-fn reply_text_to(plant: &Plant, alloc: Global, message: &GemMsg) -> Result<Bytes, AllocError>
-    ensures text { IfOk result (λ text. text ≡ plain (reply_body (reply_to plant.now message.now))) }
-    ensures short { IfOk result (λ text. length text ≤ 200) }
-{
-    let reply = reply_to(plant, alloc, message)?;
-    reply_text(alloc, &reply)
-}
-
-/// A message that is taken is answered, where a reply is wanted.
+/// A message that is taken is answered so, where a reply is wanted.
 fn answer(
     plant: &mut Plant,
     alloc: Global,
     header: &Header,
-    message: &GemMsg,
+    reply: &GemReply,
 ) -> Result<(), AllocError>
-    requires { function_of header.now < 255 }
-    ensures { OnOk result (plant.new ≡ replied header.now (function_of header.now + 1) (plain (reply_body (reply_to plant.old message.now))) plant.old) }
+    requires next { function_of header.now < 255 }
+    requires sendable { HasSendableParts reply.now }
+    ensures { OnOk result (plant.new ≡ replied header.now (function_of header.now + 1) (plain (reply_body reply.now)) plant.old) }
 {
     if !wants_reply(header) {
         return Ok(());
     }
-    let text = reply_text_to(plant, alloc, message)?;
+    let text = reply_text(alloc, reply)?;
     plant.reply(
         alloc,
         stream_of(header),
@@ -307,22 +235,27 @@ fn message_rows(plant: &mut Plant, alloc: Global, message: &GemMsg) -> Result<()
         GemMsg::S1F13 => plant.by_comm(alloc, CommTrigger::HostS1F13),
         GemMsg::S1F15 => plant.by_control(alloc, ControlTrigger::HostS1F15),
         GemMsg::S1F17 => plant.by_control(alloc, ControlTrigger::HostS1F17),
-        GemMsg::S1F1 | GemMsg::S2F17 | GemMsg::S2F31(_) => Ok(()),
+        GemMsg::S2F41(name, parameters) => {
+            command_rows(plant, alloc, *name, parameters.as_slice())
+        }
+        _ => Ok(()),
     }
 }
 
 /// A message is taken: its reply, what it writes, and its direct rows.
+#[tactic(auto, using(crate::proofs::Writing::written_replied))]
 fn take_message(
     plant: &mut Plant,
     alloc: Global,
     header: &Header,
     message: &GemMsg,
 ) -> Result<(), AllocError>
-    requires { function_of header.now < 255 }
+    requires next { function_of header.now < 255 }
+    requires few { HasFewParts message.now }
     ensures { OnOk result (plant.new ≡ taken header.now message.now plant.old) }
 {
-    answer(plant, alloc, header, message)?;
-    write(plant, message);
+    let reply = perform(plant, alloc, message)?;
+    answer(plant, alloc, header, &reply)?;
     message_rows(plant, alloc, message)
 }
 
@@ -356,7 +289,10 @@ fn close(
         What::Establish => establish_answered(plant, alloc, header, arrival),
         What::Attempt if header.byte3 == 0 => plant.by_control(alloc, ControlTrigger::Failed),
         What::Attempt => plant.by_control(alloc, ControlTrigger::HostS1F2),
-        What::Note(_) => Ok(()),
+        What::Note(_) => {
+            plant.answer_note();
+            Ok(())
+        }
     }
 }
 

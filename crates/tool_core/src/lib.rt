@@ -5,8 +5,8 @@
 //! frames are handed out when the writer takes them. Begin with `Core::open`, then `Core::apply`.
 //!
 //! Built are the whole link table with T6, T7 and the tool's linktest (SEMI E37), the tables of communication and of
-//! control with the tool's transactions and T3 (SEMI E30), S1F1, S1F13, S1F15, S1F17, S2F17 and S2F31, and the errors of
-//! stream 9 (SEMI E5).
+//! control with the tool's transactions and T3 (SEMI E30), variables, equipment constants, event reports, alarms and two
+//! remote commands, the line of notes without a spool, and the errors of stream 9 (SEMI E5).
 #![tactic(auto)]
 
 mod clock;
@@ -14,6 +14,8 @@ mod counts;
 mod data;
 mod entries;
 mod react;
+mod remote;
+mod replies;
 mod tool;
 
 pub use counts::SessionCounts;

@@ -6,9 +6,11 @@ ghost use Rattle.gem_model.specs.State.{is_up};
 ghost use Rattle.gem_model.specs.Fire.{fires};
 ghost use Rattle.gem_model.specs.Direct.{operator_rows};
 ghost use Rattle.gem_model.specs.Verdict.{header_of};
-ghost use Rattle.gem_model.specs.Step.{acts, step, step_from, hosted, linked, is_accepted, switched, operated, quits, ticked};
+ghost use Rattle.gem_model.specs.Step.{acts, step, step_from, hosted, linked, is_accepted, can_clear, switched, operated, quits, ticked};
 ghost use Rattle.tool_core.specs.Steps.{Acts, StepsFrom, Steps, outcome_of};
 ghost use Rattle.tool_events.specs.declared.event.OperCmd.TheVariants as oper;
+ghost use Rattle.tool_events.specs.declared.answer.Answer.TheVariants as answer;
+ghost use Rattle.gem_model.specs.Step.{answered};
 
 use crate::clock::{end_for, is_due, look};
 use crate::data::{data, header_of};
@@ -127,12 +129,20 @@ fn take(plant: &mut Plant, session: u64) -> Option<Reaction>
     }
 }
 
+/// Whether the operator can clear an alarm: it is set, and no module's.
+fn can_clear(plant: &Plant, alid: u32) -> bool
+    ensures { result ≡ can_clear alid plant.now }
+{
+    plant.is_alarm_set(alid) && !(10 < alid && alid <= 20)
+}
+
 /// Whether an operator's command is accepted.
 fn is_accepted(plant: &Plant, command: &OperCmd) -> bool
     ensures { result ≡ is_accepted command.now plant.now }
 {
     let row = match command {
         OperCmd::Local | OperCmd::Remote => return true,
+        OperCmd::Clear(alid) => return can_clear(plant, *alid),
         OperCmd::Enable => plant.comm().row_for(CommTrigger::Enable),
         OperCmd::Disable => plant.comm().row_for(CommTrigger::Disable),
         OperCmd::Online => plant
@@ -146,15 +156,17 @@ fn is_accepted(plant: &Plant, command: &OperCmd) -> bool
     row.is_some()
 }
 
-/// The operator's switch is set.
-fn switch(plant: &mut Plant, command: &OperCmd)
-    ensures { plant.new ≡ switched command.now plant.old }
+/// What a command changes besides its rows: the operator's switch is set, or an alarm is cleared.
+fn switch(plant: &mut Plant, alloc: Global, command: &OperCmd) -> Result<(), AllocError>
+    ensures { OnOk result (plant.new ≡ switched command.now plant.old) }
 {
     match command {
         OperCmd::Local => plant.set_switch(true),
         OperCmd::Remote => plant.set_switch(false),
+        OperCmd::Clear(alid) if can_clear(plant, *alid) => plant.clear_alarm(alloc, *alid)?,
         _ => {}
     }
+    Ok(())
 }
 
 /// Communication is disabled: every open transaction fails.
@@ -163,10 +175,7 @@ fn disable(plant: &mut Plant, alloc: Global) -> Result<(), AllocError>
 {
     let attempted = plant.is_attempting();
     plant.by_comm(alloc, CommTrigger::Disable)?;
-    if attempted {
-        plant.by_control(alloc, ControlTrigger::Failed)?;
-    }
-    Ok(())
+    plant.fail_all(alloc, attempted)
 }
 
 /// The direct rows of an operator's command.
@@ -199,14 +208,22 @@ fn quit(plant: &mut Plant, alloc: Global) -> Result<Reaction, AllocError>
 }
 
 /// An operator wants something.
+#[tactic(auto, using(crate::proofs::Operating::not_quit))]
 fn operate(plant: &mut Plant, alloc: Global, command: &OperCmd) -> Result<Reaction, AllocError>
     ensures { IfOk result (λ reaction. operated command.now plant.old ≡ outcome_of reaction plant.new) }
 {
-    if matches!(command, OperCmd::Quit) {
-        return quit(plant, alloc);
+    match command {
+        OperCmd::Quit => quit(plant, alloc),
+        _ => commanded(plant, alloc, command),
     }
+}
+
+/// An operator's command other than the end of the run: what it changes, and then its rows.
+fn commanded(plant: &mut Plant, alloc: Global, command: &OperCmd) -> Result<Reaction, AllocError>
+    ensures { IfOk result (λ reaction. answered (answer.Oper (is_accepted command.now plant.old)) (fires (operator_rows command.now) (switched command.now plant.old)) ≡ outcome_of reaction plant.new) }
+{
     let accepted = is_accepted(plant, command);
-    switch(plant, command);
+    switch(plant, alloc, command)?;
     operator_rows(plant, alloc, command)?;
     Ok(Reaction::answered(Answer::Oper(accepted)))
 }

@@ -14,7 +14,7 @@ one_more deep most ds new d n is count are one =
 -- a report of at most 64 values
 pub report_bounded : (number : Data) (ds : DataList) → IsBounded 0 8 number → AreFew 64 0 84 ds → IsBounded 3 5392 (list (item number (item (list ds) no_items)))
 report_bounded number ds is few =
-    let values = bounded-list 0 100 64 ds (omega arith) few.0 few.1 in
+    let values = bounded-list 0 84 64 ds (omega arith) few.0 few.1 in
     record {
       depth = omega (arith, is.depth, values.depth);
       size = omega (arith, is.size, values.size);

@@ -1,8 +1,8 @@
 use Rattle.std.proofs.Common.{◌≡◌}
 use Rattle.secs_items.specs.Plain.{count_of}
 use Rattle.secs_items.specs.Weight.{AreBounded}
-use Rattle.tool_tests.proofs.replies.long_values.Given as goal
+use Rattle.record_tests.proofs.replies.long_values.Given as goal
 
 -- as many values as turns, each within its bounds
 abbrev pub invariant-loop : goal.invariant-loop
-invariant-loop l = (count_of l.values ≡ l.counter) × AreBounded 0 100 l.values
+invariant-loop l = (count_of l.values ≡ l.counter) × AreBounded 0 84 l.values

@@ -107,8 +107,9 @@ fn constants_are_printed_as_they_are_given(rt: HostRuntime) {
 }
 
 // Two names, the second of an unknown variable.
-fn names(alloc: Global) -> Result<[Vec<u8>; 2], NoMemory> {
-    let none = sent(alloc, &GemReply::S1F12(Listed::new(alloc)))?;
+fn two_names(alloc: Global) -> Result<Listed<VariableName>, NoMemory>
+    ensures { IfOk result (λ names. length names ≤ 1024) }
+{
     let names = vec![in alloc;
         VariableName {
             svid: 1,
@@ -119,7 +120,13 @@ fn names(alloc: Global) -> Result<[Vec<u8>; 2], NoMemory> {
             name: Text80::empty()
         },
     ]?;
-    let two = sent(alloc, &GemReply::S1F12(Listed::from_vec(names)))?;
+    Ok(Listed::from_vec(names))
+}
+
+// S1F12 without a name, and with two.
+fn names(alloc: Global) -> Result<[Vec<u8>; 2], NoMemory> {
+    let none = sent(alloc, &GemReply::S1F12(Listed::new(alloc)))?;
+    let two = sent(alloc, &GemReply::S1F12(two_names(alloc)?))?;
     Ok([none, two])
 }
 
@@ -152,9 +159,10 @@ fn a_code_is_one_binary_byte(rt: HostRuntime) {
     );
 }
 
-// HCACK without a parameter, and with two that are refused.
-fn commands(alloc: Global) -> Result<[Vec<u8>; 2], NoMemory> {
-    let accepted = sent(alloc, &GemReply::S2F42(0, Listed::new(alloc)))?;
+// Two parameters that are refused.
+fn two_refused(alloc: Global) -> Result<Listed<ParameterAcknowledge>, NoMemory>
+    ensures { IfOk result (λ parameters. length parameters ≤ 1024) }
+{
     let parameters = vec![in alloc;
         ParameterAcknowledge {
             name: text(b"ALID"),
@@ -165,7 +173,13 @@ fn commands(alloc: Global) -> Result<[Vec<u8>; 2], NoMemory> {
             cpack: 1
         },
     ]?;
-    let refused = sent(alloc, &GemReply::S2F42(3, Listed::from_vec(parameters)))?;
+    Ok(Listed::from_vec(parameters))
+}
+
+// HCACK without a parameter, and with two.
+fn commands(alloc: Global) -> Result<[Vec<u8>; 2], NoMemory> {
+    let accepted = sent(alloc, &GemReply::S2F42(0, Listed::new(alloc)))?;
+    let refused = sent(alloc, &GemReply::S2F42(3, two_refused(alloc)?))?;
     Ok([accepted, refused])
 }
 
@@ -226,15 +240,25 @@ fn an_alarm_has_its_code_number_and_text_and_an_unknown_one_no_code(rt: HostRunt
     );
 }
 
+// No reports.
+fn no_reports(alloc: Global) -> Items
+    ensures { AreFew 16 3 5392 result }
+{
+    Items::new(alloc)
+}
+
 // Events without reports.
+fn event(alloc: Global) -> Result<Vec<u8>, NoMemory> {
+    let reports = no_reports(alloc);
+    sent(alloc, &GemReply::S6F11(0x0102_0304_0506_0708, 1001, reports))
+}
+
+fn event_on_request(alloc: Global) -> Result<Vec<u8>, NoMemory> {
+    sent(alloc, &GemReply::S6F16(1001, no_reports(alloc)))
+}
+
 fn events(alloc: Global) -> Result<[Vec<u8>; 2], NoMemory> {
-    Ok([
-        sent(
-            alloc,
-            &GemReply::S6F11(0x0102_0304_0506_0708, 1001, Items::new(alloc)),
-        )?,
-        sent(alloc, &GemReply::S6F16(1001, Items::new(alloc)))?,
-    ])
+    Ok([event(alloc)?, event_on_request(alloc)?])
 }
 
 #[test]
@@ -249,15 +273,15 @@ fn an_event_has_its_note_and_a_report_on_request_has_none(rt: HostRuntime) {
     );
 }
 
-// A B of 96 bytes.
+// A B of 80 bytes.
 fn long_value(alloc: Global) -> Result<Item, NoMemory>
-    ensures { IfOk result (λ item. IsBounded 0 100 (view item)) }
+    ensures { IfOk result (λ item. IsBounded 0 84 (view item)) }
 {
-    let bytes = Vec::from_slice(alloc, &[b'x'; 96])?;
+    let bytes = Vec::from_slice(alloc, &[b'x'; 80])?;
     Ok(Item::Binary(Bytes::from_vec(bytes)))
 }
 
-// So many values of 96 bytes.
+// So many values of 80 bytes.
 fn long_values(alloc: Global, count: usize) -> Result<Items, NoMemory>
     requires { count ≤ 64 }
     ensures { IfOk result (λ values. AreFew 64 0 84 values) }
@@ -314,7 +338,7 @@ fn repeated(alloc: Global, head: &[u8], one: &[u8], count: usize) -> Result<Vec<
 
 #[test]
 fn an_event_has_16_reports_of_64_values(rt: HostRuntime) -> Result<(), Fail> {
-    let value = repeated(rt.alloc(), b"\x21\x60", b"x", 96)?;
+    let value = repeated(rt.alloc(), b"\x21\x50", b"x", 80)?;
     let report = repeated(
         rt.alloc(),
         b"\x01\x02\xB1\x04\xFF\xFF\xFF\xFF\x01\x40",
@@ -324,7 +348,7 @@ fn an_event_has_16_reports_of_64_values(rt: HostRuntime) -> Result<(), Fail> {
     let head = b"\x01\x03\xA1\x08\xFF\xFF\xFF\xFF\xFF\xFF\xFF\xFF\xB1\x04\xFF\xFF\xFF\xFF\x01\x10";
     let want = repeated(rt.alloc(), head, report.as_slice(), 16)?;
     let sent = longest(rt.alloc())?;
-    assert_eq!(rt; sent.len(), 20 + 16 * (10 + 64 * 98));
+    assert_eq!(rt; sent.len(), 20 + 16 * (10 + 64 * 82));
     assert!(rt; sent.as_slice() == want.as_slice());
     Ok(())
 }

@@ -1,7 +1,7 @@
 //! Bodies of messages (`msgs_gem`).
 
-ghost use Rattle.std.specs.Prelude.{◌≡◌, IfOk};
-ghost use Rattle.msgs_gem.specs.Sendable.{HasSendableParts};
+ghost use Rattle.std.specs.Prelude.{◌≡◌, length, IfOk};
+ghost use Rattle.msgs_gem.specs.Sendable.{AreCharacters, HasSendableParts};
 
 use msgs_gem::{
     BodyFault, GemMsg, GemReply, Identity, accepts_communication, gem_item, is_ignored, read_gem,
@@ -178,67 +178,98 @@ fn sent(alloc: Global, reply: &GemReply) -> Result<Vec<u8>, NoMemory>
     Ok(text)
 }
 
-// What the tool tells of itself.
-fn identities(alloc: Global) -> Result<[Vec<u8>; 3], NoMemory> {
-    let (mdln, softrev) = (bytes(alloc, b"GEM300")?, bytes(alloc, b"1.0.01")?);
-    let data = sent(alloc, &GemReply::S1F2(mdln, softrev))?;
-    let (mdln, softrev) = (bytes(alloc, b"GEM300")?, bytes(alloc, b"1.0.01")?);
-    let establish = sent(alloc, &GemReply::S1F13(mdln, softrev))?;
-    let (mdln, softrev) = (bytes(alloc, b"GEM300")?, bytes(alloc, b"1.0.01")?);
-    let acknowledge = sent(alloc, &GemReply::S1F14(Identity { mdln, softrev }))?;
-    Ok([data, establish, acknowledge])
+fn model(alloc: Global) -> Result<Bytes, NoMemory>
+    ensures { IfOk result AreCharacters }
+{
+    bytes(alloc, b"GEM300")
 }
+
+fn revision(alloc: Global) -> Result<Bytes, NoMemory>
+    ensures { IfOk result AreCharacters }
+{
+    bytes(alloc, b"1.0.01")
+}
+
+// What the tool tells of itself.
+fn data(alloc: Global) -> Result<Vec<u8>, NoMemory> {
+    sent(alloc, &GemReply::S1F2(model(alloc)?, revision(alloc)?))
+}
+
+fn establish(alloc: Global) -> Result<Vec<u8>, NoMemory> {
+    sent(alloc, &GemReply::S1F13(model(alloc)?, revision(alloc)?))
+}
+
+fn acknowledge(alloc: Global) -> Result<Vec<u8>, NoMemory> {
+    let mdln = model(alloc)?;
+    let softrev = revision(alloc)?;
+    sent(alloc, &GemReply::S1F14(Identity { mdln, softrev }))
+}
+
+// Whether these are the bytes that were made.
+fn is_text(made: Result<Vec<u8>, NoMemory>, want: &[u8]) -> bool {
+    match &made {
+        Ok(text) => text.as_slice() == want,
+        Err(_) => false,
+    }
+}
+
+const IDENTITY: &[u8] = b"\x01\x02\x41\x06GEM300\x41\x061.0.01";
+
+const ACCEPTED: &[u8] = b"\x01\x02\x21\x01\x00\x01\x02\x41\x06GEM300\x41\x061.0.01";
 
 #[test]
 fn the_tool_tells_its_model_and_then_its_revision(rt: HostRuntime) {
-    let identity = b"\x01\x02\x41\x06GEM300\x41\x061.0.01".as_slice();
-    let accepted = b"\x01\x02\x21\x01\x00\x01\x02\x41\x06GEM300\x41\x061.0.01".as_slice();
-    let sent = identities(rt.alloc());
-    assert!(rt;
-        matches!(&sent, Ok([data, establish, acknowledge]) if data.as_slice() == identity
-            && establish.as_slice() == identity
-            && acknowledge.as_slice() == accepted)
-    );
+    assert!(rt; is_text(data(rt.alloc()), IDENTITY));
+    assert!(rt; is_text(establish(rt.alloc()), IDENTITY));
+    assert!(rt; is_text(acknowledge(rt.alloc()), ACCEPTED));
 }
 
-// The codes, and the time.
-fn codes(alloc: Global) -> Result<[Vec<u8>; 4], NoMemory> {
-    Ok([
-        sent(alloc, &GemReply::S1F16)?,
-        sent(alloc, &GemReply::S1F18(2))?,
-        sent(alloc, &GemReply::S2F32(1))?,
-        sent(alloc, &GemReply::S2F18(bytes(alloc, b"2026112711094700")?))?,
-    ])
+// The text of the time.
+fn told_time(alloc: Global) -> Result<Vec<u8>, NoMemory> {
+    sent(alloc, &GemReply::S2F18(characters(alloc)?))
+}
+
+fn characters(alloc: Global) -> Result<Bytes, NoMemory>
+    ensures { IfOk result AreCharacters }
+{
+    bytes(alloc, b"2026112711094700")
 }
 
 #[test]
 fn a_code_is_one_binary_byte_and_the_time_is_ascii(rt: HostRuntime) {
-    let sent = codes(rt.alloc());
-    assert!(rt;
-        matches!(&sent, Ok([offline, online, set, time]) if offline.as_slice() == [0x21, 1, 0].as_slice()
-            && online.as_slice() == [0x21, 1, 2].as_slice()
-            && set.as_slice() == [0x21, 1, 1].as_slice()
-            && time.as_slice() == b"\x41\x102026112711094700".as_slice())
-    );
+    let alloc = rt.alloc();
+    assert!(rt; is_text(sent(alloc, &GemReply::S1F16), &[0x21, 1, 0]));
+    assert!(rt; is_text(sent(alloc, &GemReply::S1F18(2)), &[0x21, 1, 2]));
+    assert!(rt; is_text(sent(alloc, &GemReply::S2F32(1)), &[0x21, 1, 1]));
+    assert!(rt; is_text(told_time(alloc), b"\x41\x102026112711094700"));
 }
 
-// The messages of stream 9.
-fn errors(alloc: Global) -> Result<[Vec<u8>; 6], NoMemory> {
-    Ok([
-        sent(alloc, &GemReply::S9F1(bytes(alloc, &HEADER)?))?,
-        sent(alloc, &GemReply::S9F3(bytes(alloc, &HEADER)?))?,
-        sent(alloc, &GemReply::S9F5(bytes(alloc, &HEADER)?))?,
-        sent(alloc, &GemReply::S9F7(bytes(alloc, &HEADER)?))?,
-        sent(alloc, &GemReply::S9F9(bytes(alloc, &HEADER)?))?,
-        sent(alloc, &GemReply::S9F11(bytes(alloc, &HEADER)?))?,
-    ])
+// A message of stream 9 by its function; S9F11 for any other number.
+fn of_stream_9(function: u8, header: Bytes) -> GemReply
+    requires { length header ≡ 10 }
+    ensures { HasSendableParts result }
+{
+    match function {
+        1 => GemReply::S9F1(header),
+        3 => GemReply::S9F3(header),
+        5 => GemReply::S9F5(header),
+        7 => GemReply::S9F7(header),
+        9 => GemReply::S9F9(header),
+        _ => GemReply::S9F11(header),
+    }
+}
+
+// The text of such a message about the header.
+fn error(alloc: Global, function: u8) -> Result<Vec<u8>, NoMemory> {
+    sent(alloc, &of_stream_9(function, bytes(alloc, &HEADER)?))
 }
 
 #[test]
 fn stream_9_tells_the_header_as_binary(rt: HostRuntime) {
     let want = b"\x21\x0A\x00\x00\x81\x05\x00\x00\x00\x00\x00\x07".as_slice();
-    let sent = errors(rt.alloc());
-    assert!(rt; matches!(&sent, Ok(texts) if texts.iter().all(|text| text.as_slice() == want)));
+    for function in [1, 3, 5, 7, 9, 11] {
+        assert!(rt; is_text(error(rt.alloc(), function), want), "S9F{function}");
+    }
 }
 
 // Texts of S1F14, and whether they accept.

@@ -1,0 +1,220 @@
+//! Remote commands of the host (SEMI E5, S2F41; SEMI E30, remote control).
+ghost use Rattle.std.specs.Str.{bytes_eq};
+ghost use Rattle.std.specs.Prelude.{◌≡◌, [], length, OnOk, IfOk, option_map};
+ghost use Rattle.secs_items.specs.Sendable.{IsLength};
+ghost use Rattle.msgs_gem.specs.declared.reply.GemReply.TheVariants as reply;
+ghost use Rattle.msgs_gem.specs.Sendable.{HasSendableParts};
+ghost use Rattle.gem_model.specs.Fire.{fires};
+ghost use Rattle.gem_model.specs.Direct.{command_rows};
+ghost use Rattle.gem_model.specs.Act.{clears_named, command_written};
+ghost use Rattle.gem_model.specs.Remote.{command_named, takes, was_given, cpack, faulty, is_missing, alarm_named, is_clear_already, hcack, listed, accepted};
+ghost use Rattle.tool_core.specs.Remotes.{remote_view};
+
+use core_state::Plant;
+use gem_ids::{Listed, Text80};
+use gem_states::{Control, ControlTrigger};
+use msgs_gem::{GemReply, Parameter, ParameterAcknowledge};
+use std::alloc::{AllocError, Global};
+
+/// The remote commands that are built.
+#[derive(Clone, Copy, Debug, PartialEq, Eq)]
+pub enum RemoteCommand {
+    GoLocal,
+    ClearAlarm,
+}
+
+/// The command of a name.
+fn command_named(name: &[u8]) -> Option<RemoteCommand>
+    ensures { option_map remote_view result ≡ command_named name.now }
+{
+    if name == b"GOLOCAL".as_slice() {
+        Some(RemoteCommand::GoLocal)
+    } else if name == b"CLEARALARM".as_slice() {
+        Some(RemoteCommand::ClearAlarm)
+    } else {
+        None
+    }
+}
+
+/// Whether a command takes a parameter of this name.
+fn takes(command: RemoteCommand, name: &[u8]) -> bool
+    ensures { result ≡ takes (remote_view command) name.now }
+{
+    command == RemoteCommand::ClearAlarm && name == b"ALID".as_slice()
+}
+
+/// Whether a parameter has this name.
+fn is_named(parameter: &Parameter, name: &[u8]) -> bool
+    ensures { result ≡ bytes_eq parameter.now.0 name.now }
+{
+    parameter.cpname().as_bytes() == name
+}
+
+/// Whether one of these parameters has this name.
+fn was_given(earlier: &[Parameter], name: &[u8]) -> bool
+    ensures { result ≡ was_given earlier.now name.now }
+{
+    earlier.iter().any(|parameter| is_named(parameter, name))
+}
+
+/// CPACK of a parameter, behind these others: 1 for an unknown name, 3 for a wrong format, 2 for an unknown alarm and for a
+/// parameter that was given before, and else 0.
+fn cpack(
+    plant: &Plant,
+    command: RemoteCommand,
+    earlier: &[Parameter],
+    parameter: &Parameter,
+) -> u8
+    ensures { result ≡ cpack (remote_view command) plant.now.alarms earlier.now parameter.now }
+{
+    let name = parameter.cpname();
+    if !takes(command, name.as_bytes()) {
+        return 1;
+    }
+    let Some(alid) = parameter.item().as_id() else {
+        return 3;
+    };
+    if !plant.is_alarm(alid) || was_given(earlier, name.as_bytes()) {
+        return 2;
+    }
+    0
+}
+
+/// The faulty parameters, each with its CPACK, in order.
+fn faulty(
+    plant: &Plant,
+    alloc: Global,
+    command: RemoteCommand,
+    parameters: &[Parameter],
+) -> Result<Vec<ParameterAcknowledge>, AllocError>
+    ensures faulty { IfOk result (λ faults. faults.items ≡ faulty (remote_view command) plant.now.alarms [] parameters.now) }
+{
+    let mut faults = Vec::new(alloc);
+    for place in 0..parameters.len() {
+        let parameter = &parameters[place];
+        let code = cpack(plant, command, &parameters[..place], parameter);
+        if code != 0 {
+            faults.push(ParameterAcknowledge {
+                name: parameter.cpname(),
+                cpack: code,
+            })?;
+        }
+    }
+    Ok(faults)
+}
+
+/// Whether a parameter that the command needs is missing.
+fn is_missing(command: RemoteCommand, parameters: &[Parameter]) -> bool
+    ensures { result ≡ is_missing (remote_view command) parameters.now }
+{
+    command == RemoteCommand::ClearAlarm && !was_given(parameters, b"ALID".as_slice())
+}
+
+/// The alarm that the parameters name.
+fn alarm_named(parameters: &[Parameter]) -> Option<u32>
+    ensures { result ≡ alarm_named parameters.now }
+{
+    for parameter in parameters {
+        if is_named(parameter, b"ALID".as_slice()) {
+            return parameter.item().as_id();
+        }
+    }
+    None
+}
+
+/// Whether the command is CLEARALARM of an alarm that is clear.
+fn is_clear_already(plant: &Plant, command: RemoteCommand, parameters: &[Parameter]) -> bool
+    ensures { result ≡ is_clear_already (remote_view command) plant.now.alarms parameters.now }
+{
+    if command == RemoteCommand::GoLocal {
+        return false;
+    }
+    match alarm_named(parameters) {
+        Some(alid) => !plant.is_alarm_set(alid),
+        None => true,
+    }
+}
+
+/// HCACK of a command, and the parameters that S2F42 lists.
+fn acknowledge(
+    plant: &Plant,
+    alloc: Global,
+    name: &[u8],
+    parameters: &[Parameter],
+) -> Result<(u8, Vec<ParameterAcknowledge>), AllocError>
+    ensures hcack { IfOk result (λ r. r.0 ≡ hcack plant.now name.now parameters.now) }
+    ensures listed { IfOk result (λ r. r.1.items ≡ listed plant.now name.now parameters.now) }
+{
+    let Some(command) = command_named(name) else {
+        return Ok((1, Vec::new(alloc)));
+    };
+    if plant.control() == Control::Local {
+        return Ok((2, Vec::new(alloc)));
+    }
+    let faults = faulty(plant, alloc, command, parameters)?;
+    if !faults.is_empty() || is_missing(command, parameters) {
+        return Ok((3, faults));
+    }
+    if is_clear_already(plant, command, parameters) {
+        return Ok((5, Vec::new(alloc)));
+    }
+    Ok((0, Vec::new(alloc)))
+}
+
+/// The command, where it is accepted.
+fn accepted(
+    plant: &Plant,
+    alloc: Global,
+    name: &[u8],
+    parameters: &[Parameter],
+) -> Result<Option<RemoteCommand>, AllocError>
+    ensures { IfOk result (λ command. option_map remote_view command ≡ accepted plant.now name.now parameters.now) }
+{
+    let (code, _) = acknowledge(plant, alloc, name, parameters)?;
+    Ok(if code == 0 { command_named(name) } else { None })
+}
+
+/// What a remote command is answered, by the plant before it; and what it writes is written.
+pub fn command(
+    plant: &mut Plant,
+    alloc: Global,
+    name: Text80,
+    parameters: &[Parameter],
+) -> Result<GemReply, AllocError>
+    requires { IsLength (length parameters.now) }
+    ensures reply { IfOk result (λ r. r ≡ reply.S2F42 (hcack plant.old name parameters.now) (listed plant.old name parameters.now)) }
+    ensures sendable { IfOk result HasSendableParts }
+    ensures after { OnOk result (plant.new ≡ command_written (accepted plant.old name parameters.now) parameters.now plant.old) }
+{
+    let (code, faults) = acknowledge(plant, alloc, name.as_bytes(), parameters)?;
+    let command = accepted(plant, alloc, name.as_bytes(), parameters)?;
+    if let Some(RemoteCommand::ClearAlarm) = command {
+        clear_named(plant, alloc, alarm_named(parameters))?;
+    }
+    Ok(GemReply::S2F42(code, Listed::from_vec(faults)))
+}
+
+/// The alarm that is named is cleared.
+fn clear_named(plant: &mut Plant, alloc: Global, alid: Option<u32>) -> Result<(), AllocError>
+    ensures { OnOk result (plant.new ≡ clears_named alid plant.old) }
+{
+    match alid {
+        Some(alid) => plant.clear_alarm(alloc, alid),
+        None => Ok(()),
+    }
+}
+
+/// The direct rows of a remote command that is accepted: GOLOCAL is the operator's `local`, but that the switch stays.
+pub fn command_rows(
+    plant: &mut Plant,
+    alloc: Global,
+    name: Text80,
+    parameters: &[Parameter],
+) -> Result<(), AllocError>
+    ensures { OnOk result (plant.new ≡ fires (command_rows (accepted plant.old name parameters.now)) plant.old) }
+{
+    match accepted(plant, alloc, name.as_bytes(), parameters)? {
+        Some(RemoteCommand::GoLocal) => plant.by_control(alloc, ControlTrigger::Local),
+        _ => Ok(()),
+    }
+}

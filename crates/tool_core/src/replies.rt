@@ -1,0 +1,129 @@
+//! What a data message of the host is answered, and what it writes.
+ghost use Rattle.std.specs.Prelude.{◌≡◌, OnOk, IfOk, option_map};
+ghost use Rattle.gem_ids.specs.Texts.{IsText};
+ghost use Rattle.gem_ids.specs.Civil.{moment_in, time_digits};
+ghost use Rattle.msgs_gem.specs.declared.reply.GemReply.TheVariants as reply;
+ghost use Rattle.gem_model.specs.State.{clock_now};
+ghost use Rattle.msgs_gem.specs.Few.{HasFewParts};
+ghost use Rattle.msgs_gem.specs.Sendable.{HasSendableParts};
+ghost use Rattle.gem_model.specs.Verdict.{onlack, tiack, is_enabling, reply_to};
+ghost use Rattle.gem_model.specs.Act.{written, clock_set};
+
+use crate::remote::command;
+use core_state::{Plant, part};
+use gem_ids::{Moment, moment_of};
+use gem_states::Control;
+use msgs_gem::{GemMsg, GemReply, Identity};
+use std::alloc::{AllocError, Global};
+
+/// ONLACK: 0 in HOST OFF-LINE, 1 in EQUIPMENT OFF-LINE and ATTEMPT ON-LINE, 2 on-line.
+fn onlack(control: Control) -> u8
+    ensures { result ≡ onlack control }
+{
+    match control {
+        Control::HostOffline => 0,
+        Control::EquipmentOffline | Control::Attempt => 1,
+        Control::Local | Control::Remote => 2,
+    }
+}
+
+/// TIACK: 0 where the text is a moment, else 1.
+fn tiack(text: &[u8]) -> u8
+    ensures { result ≡ tiack text.now }
+{
+    if moment_in(text).is_some() { 0 } else { 1 }
+}
+
+/// The moment that a text of any length says, if it says one.
+fn moment_in(text: &[u8]) -> Option<Moment>
+    ensures { option_map (λ m. m.0) result ≡ moment_in text.now }
+{
+    match <&[u8; 16]>::try_from(text) {
+        Ok(digits) => moment_of(digits),
+        Err(_) => None,
+    }
+}
+
+/// The clock is set to the moment that a text says, where it says one. Gives TIACK.
+fn set_clock(plant: &mut Plant, text: &[u8]) -> u8
+    ensures code { result ≡ tiack text.now }
+    ensures after { plant.new ≡ clock_set (moment_in text.now) plant.old }
+{
+    plant.set_clock(moment_in(text));
+    tiack(text)
+}
+
+/// Whether ALED enables.
+fn is_enabling(aled: u8) -> bool
+    ensures { result ≡ is_enabling aled }
+{
+    aled >= 128
+}
+
+/// What the tool tells of itself.
+fn identity(plant: &Plant, alloc: Global) -> Result<Identity, AllocError>
+    ensures identity { IfOk result (λ tool. tool ≡ record { mdln = plant.now.config.mdln; softrev = plant.now.config.softrev }) }
+    ensures mdln { IfOk result (λ tool. IsText tool.mdln) }
+    ensures softrev { IfOk result (λ tool. IsText tool.softrev) }
+{
+    Ok(Identity {
+        mdln: part(alloc, plant.config().mdln)?,
+        softrev: part(alloc, plant.config().softrev)?,
+    })
+}
+
+/// S1F2.
+fn on_line_data(plant: &Plant, alloc: Global) -> Result<GemReply, AllocError>
+    ensures reply { IfOk result (λ r. r ≡ reply.S1F2 plant.now.config.mdln plant.now.config.softrev) }
+    ensures sendable { IfOk result HasSendableParts }
+{
+    let Identity { mdln, softrev } = identity(plant, alloc)?;
+    Ok(GemReply::S1F2(mdln, softrev))
+}
+
+/// S1F14.
+fn established(plant: &Plant, alloc: Global) -> Result<GemReply, AllocError>
+    ensures reply { IfOk result (λ r. r ≡ reply.S1F14 (record { mdln = plant.now.config.mdln; softrev = plant.now.config.softrev })) }
+    ensures sendable { IfOk result HasSendableParts }
+{
+    Ok(GemReply::S1F14(identity(plant, alloc)?))
+}
+
+/// S2F18.
+fn date_and_time(plant: &Plant, alloc: Global) -> Result<GemReply, AllocError>
+    ensures reply { IfOk result (λ r. r ≡ reply.S2F18 (time_digits (clock_now plant.now))) }
+    ensures sendable { IfOk result HasSendableParts }
+{
+    Ok(GemReply::S2F18(plant.time_text(alloc)?))
+}
+
+/// What a message is answered, by the plant before it; and what it writes is written.
+pub fn perform(plant: &mut Plant, alloc: Global, message: &GemMsg) -> Result<GemReply, AllocError>
+    requires { HasFewParts message.now }
+    ensures reply { IfOk result (λ r. r ≡ reply_to plant.old message.now) }
+    ensures sendable { IfOk result HasSendableParts }
+    ensures after { OnOk result (plant.new ≡ written message.now plant.old) }
+{
+    match message {
+        GemMsg::S1F1 => on_line_data(plant, alloc),
+        GemMsg::S1F3(ids) => Ok(GemReply::S1F4(plant.status_values(alloc, ids.as_slice())?)),
+        GemMsg::S1F11(ids) => Ok(GemReply::S1F12(plant.status_names(alloc, ids.as_slice())?)),
+        GemMsg::S1F13 => established(plant, alloc),
+        GemMsg::S1F15 => Ok(GemReply::S1F16),
+        GemMsg::S1F17 => Ok(GemReply::S1F18(onlack(plant.control()))),
+        GemMsg::S2F13(ids) => Ok(GemReply::S2F14(plant.constant_values(alloc, ids.as_slice())?)),
+        GemMsg::S2F15(settings) => Ok(GemReply::S2F16(plant.set_constants(alloc, settings.as_slice())?)),
+        GemMsg::S2F17 => date_and_time(plant, alloc),
+        GemMsg::S2F29(ids) => Ok(GemReply::S2F30(plant.constant_names(alloc, ids.as_slice())?)),
+        GemMsg::S2F31(text) => Ok(GemReply::S2F32(set_clock(plant, text.as_slice()))),
+        GemMsg::S2F33(_, reports) => Ok(GemReply::S2F34(plant.define_reports(alloc, reports.as_slice())?)),
+        GemMsg::S2F35(_, events) => Ok(GemReply::S2F36(plant.link_reports(alloc, events.as_slice())?)),
+        GemMsg::S2F37(on, ceids) => Ok(GemReply::S2F38(plant.enable_events(*on, ceids.as_slice()))),
+        GemMsg::S2F41(name, parameters) => command(plant, alloc, *name, parameters.as_slice()),
+        GemMsg::S5F3(aled, alid) => Ok(GemReply::S5F4(plant.enable_alarms(is_enabling(*aled), *alid))),
+        GemMsg::S5F5(ids) => Ok(GemReply::S5F6(plant.alarm_list(alloc, ids.as_slice())?)),
+        GemMsg::S5F7 => Ok(GemReply::S5F8(plant.enabled_alarm_list(alloc)?)),
+        GemMsg::S6F15(ceid) => Ok(GemReply::S6F16(*ceid, plant.event_reports(alloc, *ceid)?)),
+        GemMsg::S6F19(rptid) => Ok(GemReply::S6F20(plant.one_report(alloc, *rptid)?)),
+    }
+}

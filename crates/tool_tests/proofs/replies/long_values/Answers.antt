@@ -1,7 +1,0 @@
-use Rattle.secs_items.specs.View.{view}
-use Rattle.tool_tests.proofs.Bounds.{one_more}
-use Rattle.tool_tests.proofs.replies.long_values.Goals as goal
-
-pub loop-preserved : goal.loop-preserved
-loop-preserved c =
-    one_more 0 100 c.loop.values c.push.new.self (view c.in_ok-long_value.field-0) c.loop.counter c.in_ok-push.ensures.ok c.loop.invariant.0 c.loop.invariant.1 c.in_ok-long_value.ensures

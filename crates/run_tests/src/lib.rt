@@ -5,8 +5,20 @@
 #![tactic(auto)]
 
 #[cfg(test)]
+mod alarms_and_commands;
+#[cfg(test)]
 mod communication;
+#[cfg(test)]
+mod event_notes;
+#[cfg(test)]
+mod exchanges;
 #[cfg(test)]
 mod feed;
 #[cfg(test)]
 mod histories;
+#[cfg(test)]
+mod host_data;
+#[cfg(test)]
+mod illegal_bodies;
+#[cfg(test)]
+mod reports;

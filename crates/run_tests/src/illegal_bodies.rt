@@ -1,0 +1,808 @@
+//! Messages whose text is no printed body, and messages without the W-bit, in whole runs (`top_calls`). Behind each
+//! illegal one it is looked that nothing changed.
+
+use crate::exchanges::{Begins, Exchange, converses, exchange, prints};
+use std::alloc::Global;
+use std::process::Abort;
+use std::test::Fail;
+
+// On a selected link, behind what comes before them, these texts of a message are told by S9F7: hex digits, under the system
+// bytes 100 hex and so on. The tool's own system bytes are counted from 1.
+fn is_illegal(
+    rt: &impl Abort,
+    alloc: Global,
+    message: (u8, u8),
+    before: &[Exchange],
+    texts: &[&[u8]],
+    behind: &[Exchange],
+) -> Result<(), Fail> {
+    let mut lines = Vec::new(alloc);
+    let mut want = Vec::new(alloc);
+    exchange(&mut lines, &mut want, before)?;
+    for (k, text) in texts.iter().enumerate() {
+        let length = 10 + text.len() / 2;
+        let system = 0x100 + k;
+        let own = 1 + k;
+        let header = format!(in alloc;
+            "0000{:02X}{:02X}0000{system:08X}",
+            128 | message.0,
+            message.1
+        )?;
+        let front = format!(in alloc; "H {length:08X}{header}")?;
+        let told = format!(in alloc; "> 00000016000009070000{own:08X}210A{header}\n")?;
+        lines.extend_from_slice(front.as_bytes())?;
+        lines.extend_from_slice(text)?;
+        lines.push(b'\n')?;
+        want.extend_from_slice(told.as_bytes())?;
+    }
+    exchange(&mut lines, &mut want, behind)?;
+    prints(rt, alloc, Begins::Known, &lines, &want)
+}
+
+// Texts that are not L[id*].
+const NO_LIST_OF_IDS: [&[u8]; 12] = [
+    // no text
+    b"",
+    // U4 1
+    b"B10400000001",
+    // A 1
+    b"410131",
+    // L[A 1]
+    b"0101410131",
+    // L[U4]
+    b"0101B100",
+    // L[U4 1 2]
+    b"0101B1080000000100000002",
+    // L[L[U4 1]]
+    b"01010101B10400000001",
+    // L[I1 -1]
+    b"01016501FF",
+    // L[U8 4294967296]
+    b"0101A1080000000100000000",
+    // L[U4 1, B 01]
+    b"0102B10400000001210101",
+    // L[U4 1] and a second item
+    b"0101B104000000010100",
+    // L[U4 1] without its last byte
+    b"0101B104000000",
+];
+
+#[test]
+fn s1f3_with_another_text_is_illegal_data(rt: HostRuntime) -> Result<(), Fail> {
+    is_illegal(
+        &rt,
+        rt.alloc(),
+        (1, 3),
+        &[],
+        &NO_LIST_OF_IDS,
+        &[
+            // S1F3 L[U4 3]: S1F4 L[U1 5]
+            (
+                b"H 00000012000081030000000000640101B10400000003\n",
+                b"> 0000000F000001040000000000640101A50105\n",
+            ),
+        ],
+    )
+}
+
+#[test]
+fn s1f11_with_another_text_is_illegal_data(rt: HostRuntime) -> Result<(), Fail> {
+    is_illegal(&rt, rt.alloc(), (1, 11), &[], &NO_LIST_OF_IDS, &[])
+}
+
+#[test]
+fn s2f13_with_another_text_is_illegal_data(rt: HostRuntime) -> Result<(), Fail> {
+    is_illegal(
+        &rt,
+        rt.alloc(),
+        (2, 13),
+        &[],
+        &NO_LIST_OF_IDS,
+        &[
+            // S2F13 L[U4 204]: S2F14 L[U4 4500]
+            (
+                b"H 000000120000820D0000000000640101B104000000CC\n",
+                b"> 000000120000020E0000000000640101B10400001194\n",
+            ),
+        ],
+    )
+}
+
+#[test]
+fn s2f29_with_another_text_is_illegal_data(rt: HostRuntime) -> Result<(), Fail> {
+    is_illegal(&rt, rt.alloc(), (2, 29), &[], &NO_LIST_OF_IDS, &[])
+}
+
+#[test]
+fn s2f15_with_another_text_is_illegal_data_and_sets_nothing(rt: HostRuntime) -> Result<(), Fail> {
+    is_illegal(
+        &rt,
+        rt.alloc(),
+        (2, 15),
+        &[],
+        &[
+            // no text
+            b"",
+            // U4 204
+            b"B104000000CC",
+            // L[U4 204, U4 100]
+            b"0102B104000000CCB10400000064",
+            // L[L[U4 204]]
+            b"01010101B104000000CC",
+            // L[L[U4 204, U4 100, U4 100]]
+            b"01010103B104000000CCB10400000064B10400000064",
+            // L[L[A T3, U4 100]]
+            b"0101010241025433B10400000064",
+            // L[L[U4 204, U4 100], L[U4 205]]
+            b"01020102B104000000CCB104000000640101B104000000CD",
+            // L[L[U4 204 205, U4 100]]
+            b"01010102B108000000CC000000CDB10400000064",
+            // L[L[U4 204, U4 100]] and a second item
+            b"01010102B104000000CCB104000000640100",
+            // L[L[U4 204, F4 0]]
+            b"01010102B104000000CC910400000000",
+        ],
+        &[
+            // S2F13 L[]: S2F14 L[U4 1000, U4 0, BOOL false, U4 4500, U4 1000, U4 500, U4 0]
+            (
+                b"H 0000000C0000820D0000000000640100\n",
+                b"> 000000330000020E0000000000640107B104000003E8B10400000000250100B10400001194B104000003E8B104000001F4B10400000000\n",
+            ),
+        ],
+    )
+}
+
+#[test]
+fn s2f33_with_another_text_is_illegal_data_and_defines_nothing(
+    rt: HostRuntime,
+) -> Result<(), Fail> {
+    is_illegal(
+        &rt,
+        rt.alloc(),
+        (2, 33),
+        &[
+            // S2F33 L[U4 0, L[L[U4 5, L[U4 3]]]]: S2F34 B 00
+            (
+                b"H 00000024000082210000000000020102B1040000000001010102B104000000050101B10400000003\n",
+                b"> 0000000D00000222000000000002210100\n",
+            ),
+        ],
+        &[
+            // no text
+            b"",
+            // L[]
+            b"0100",
+            // L[U4 0]
+            b"0101B10400000000",
+            // L[U4 0, L[], L[]]
+            b"0103B1040000000001000100",
+            // L[A 0, L[]]
+            b"01024101300100",
+            // L[U4 0, U4 1]
+            b"0102B10400000000B10400000001",
+            // L[U4 0, L[U4 1]]
+            b"0102B104000000000101B10400000001",
+            // L[U4 0, L[L[U4 1]]]
+            b"0102B1040000000001010101B10400000001",
+            // L[U4 0, L[L[U4 1, L[], L[]]]]
+            b"0102B1040000000001010103B1040000000101000100",
+            // L[U4 0, L[L[U4 1, U4 3]]]
+            b"0102B1040000000001010102B10400000001B10400000003",
+            // L[U4 0, L[L[A 1, L[U4 3]]]]
+            b"0102B10400000000010101024101310101B10400000003",
+            // L[U4 0, L[L[U4 1, L[A 3]]]]
+            b"0102B1040000000001010102B104000000010101410133",
+            // L[U4 0, L[L[U4 1, L[U4 3]], L[]]]
+            b"0102B1040000000001020102B104000000010101B104000000030100",
+            // L[U4 0, L[]] and a second item
+            b"0102B1040000000001000100",
+        ],
+        &[
+            // S6F19 U4 1: S6F20 L[]
+            (
+                b"H 0000001000008613000000000064B10400000001\n",
+                b"> 0000000C000006140000000000640100\n",
+            ),
+            // S6F19 U4 5: S6F20 L[U1 5]
+            (
+                b"H 0000001000008613000000000065B10400000005\n",
+                b"> 0000000F000006140000000000650101A50105\n",
+            ),
+        ],
+    )
+}
+
+#[test]
+fn s2f35_with_another_text_is_illegal_data_and_links_nothing(rt: HostRuntime) -> Result<(), Fail> {
+    is_illegal(
+        &rt,
+        rt.alloc(),
+        (2, 35),
+        &[
+            // S2F33 L[U4 0, L[L[U4 3, L[U4 3]]]]: S2F34 B 00
+            (
+                b"H 00000024000082210000000000020102B1040000000001010102B104000000030101B10400000003\n",
+                b"> 0000000D00000222000000000002210100\n",
+            ),
+            // S2F35 L[U4 0, L[L[U4 210, L[U4 3]]]]: S2F36 B 00
+            (
+                b"H 00000024000082230000000000030102B1040000000001010102B104000000D20101B10400000003\n",
+                b"> 0000000D00000224000000000003210100\n",
+            ),
+        ],
+        &[
+            // no text
+            b"",
+            // L[]
+            b"0100",
+            // L[U4 0]
+            b"0101B10400000000",
+            // L[U4 0, L[], L[]]
+            b"0103B1040000000001000100",
+            // L[A 0, L[]]
+            b"01024101300100",
+            // L[U4 0, U4 1]
+            b"0102B10400000000B10400000001",
+            // L[U4 0, L[U4 211]]
+            b"0102B104000000000101B104000000D3",
+            // L[U4 0, L[L[U4 211]]]
+            b"0102B1040000000001010101B104000000D3",
+            // L[U4 0, L[L[U4 211, L[], L[]]]]
+            b"0102B1040000000001010103B104000000D301000100",
+            // L[U4 0, L[L[U4 211, U4 3]]]
+            b"0102B1040000000001010102B104000000D3B10400000003",
+            // L[U4 0, L[L[A 1, L[U4 3]]]]
+            b"0102B10400000000010101024101310101B10400000003",
+            // L[U4 0, L[L[U4 211, L[A 3]]]]
+            b"0102B1040000000001010102B104000000D30101410133",
+            // L[U4 0, L[L[U4 211, L[U4 3]], L[]]]
+            b"0102B1040000000001020102B104000000D30101B104000000030100",
+            // L[U4 0, L[]] and a second item
+            b"0102B1040000000001000100",
+        ],
+        &[
+            // S6F15 U4 211: S6F16 L[U8 0, U4 211, L[]]
+            (
+                b"H 000000100000860F000000000064B104000000D3\n",
+                b"> 0000001E000006100000000000640103A1080000000000000000B104000000D30100\n",
+            ),
+            // S6F15 U4 210: S6F16 L[U8 0, U4 210, L[L[U4 3, L[U1 5]]]]
+            (
+                b"H 000000100000860F000000000065B104000000D2\n",
+                b"> 0000002B000006100000000000650103A1080000000000000000B104000000D201010102B104000000030101A50105\n",
+            ),
+        ],
+    )
+}
+
+#[test]
+fn s2f37_with_another_text_is_illegal_data_and_enables_nothing(
+    rt: HostRuntime,
+) -> Result<(), Fail> {
+    is_illegal(
+        &rt,
+        rt.alloc(),
+        (2, 37),
+        &[],
+        &[
+            // no text
+            b"",
+            // L[]
+            b"0100",
+            // BOOL true
+            b"250101",
+            // L[BOOL true]
+            b"0101250101",
+            // L[BOOL true, L[], L[]]
+            b"010325010101000100",
+            // L[U1 1, L[]]
+            b"0102A501010100",
+            // L[BOOL, L[]]
+            b"010225000100",
+            // L[BOOL true true, L[]]
+            b"0102250201010100",
+            // L[BOOL true, U4 211]
+            b"0102250101B104000000D3",
+            // L[BOOL true, L[A 211]]
+            b"010225010101014103323131",
+            // L[BOOL true, L[U4 211, L[]]]
+            b"01022501010102B104000000D30100",
+            // L[BOOL true, L[]] and a second item
+            b"010225010101000100",
+        ],
+        &[(b"O local\n", b"= ok\n")],
+    )
+}
+
+#[test]
+fn s2f41_with_another_text_is_illegal_data_and_does_nothing(rt: HostRuntime) -> Result<(), Fail> {
+    is_illegal(
+        &rt,
+        rt.alloc(),
+        (2, 41),
+        &[],
+        &[
+            // no text
+            b"",
+            // A GOLOCAL
+            b"4107474F4C4F43414C",
+            // L[A GOLOCAL]
+            b"01014107474F4C4F43414C",
+            // L[A GOLOCAL, L[], L[]]
+            b"01034107474F4C4F43414C01000100",
+            // L[B 01, L[]]
+            b"01022101010100",
+            // L[A GOLOCAL, U4]
+            b"01024107474F4C4F43414CB100",
+            // L[A GOLOCAL, L[A ALID]]
+            b"01024107474F4C4F43414C01014104414C4944",
+            // L[A GOLOCAL, L[L[A ALID]]]
+            b"01024107474F4C4F43414C010101014104414C4944",
+            // L[A GOLOCAL, L[L[A ALID, U4 11, U4 12]]]
+            b"01024107474F4C4F43414C010101034104414C4944B1040000000BB1040000000C",
+            // L[A GOLOCAL, L[L[U4 1, U4 11]]]
+            b"01024107474F4C4F43414C01010102B10400000001B1040000000B",
+            // L[A GOLOCAL, L[]] and a second item
+            b"01024107474F4C4F43414C01000100",
+        ],
+        &[
+            // S1F3 L[U4 3]: S1F4 L[U1 5]
+            (
+                b"H 00000012000081030000000000640101B10400000003\n",
+                b"> 0000000F000001040000000000640101A50105\n",
+            ),
+        ],
+    )
+}
+
+#[test]
+fn the_name_of_a_command_has_at_most_80_characters_which_print(
+    rt: HostRuntime,
+) -> Result<(), Fail> {
+    is_illegal(
+        &rt,
+        rt.alloc(),
+        (2, 41),
+        &[
+            // S2F41 L[A XXXXXXXXXXXXXXXXXXXXXXXXXXXXXXXXXXXXXXXXXXXXXXXXXXXXXXXXXXXXXXXXXXXXXXXXXXXXXXXX, L[]]: S2F42
+            // L[B 01, L[]]
+            (
+                b"H 00000060000082290000000000020102415058585858585858585858585858585858585858585858585858585858585858585858585858585858585858585858585858585858585858585858585858585858585858585858585858585858585858580100\n",
+                b"> 000000110000022A00000000000201022101010100\n",
+            ),
+            // S2F41 L[A  ~, L[]]: S2F42 L[B 01, L[]]
+            (
+                b"H 000000120000822900000000000301024102207E0100\n",
+                b"> 000000110000022A00000000000301022101010100\n",
+            ),
+        ],
+        &[
+            // L[A of 81 characters, L[]]
+            b"010241515858585858585858585858585858585858585858585858585858585858585858585858585858585858585858585858585858585858585858585858585858585858585858585858585858585858585858580100",
+            // L[A of GO and the byte 1F, L[]]
+            b"01024103474F1F0100",
+            // L[A of GO and the byte 7F, L[]]
+            b"01024103474F7F0100",
+        ],
+        &[],
+    )
+}
+
+#[test]
+fn s5f3_with_another_text_is_illegal_data_and_enables_nothing(rt: HostRuntime) -> Result<(), Fail> {
+    is_illegal(
+        &rt,
+        rt.alloc(),
+        (5, 3),
+        &[],
+        &[
+            // no text
+            b"",
+            // B 80
+            b"210180",
+            // L[B 80]
+            b"0101210180",
+            // L[B 80, U4 11, U4 12]
+            b"0103210180B1040000000BB1040000000C",
+            // L[B 80 80, U4 11]
+            b"010221028080B1040000000B",
+            // L[B, U4 11]
+            b"01022100B1040000000B",
+            // L[U1 128, U4 11]
+            b"0102A50180B1040000000B",
+            // L[B 80, U4 11 12]
+            b"0102210180B1080000000B0000000C",
+            // L[B 80, A]
+            b"01022101804100",
+            // L[B 80, B]
+            b"01022101802100",
+            // L[B 80, BOOL]
+            b"01022101802500",
+            // L[B 80, L[]]
+            b"01022101800100",
+            // L[B 80, I4 -1]
+            b"01022101807104FFFFFFFF",
+            // L[B 80, U4 11] and a second item
+            b"0102210180B1040000000B0100",
+        ],
+        &[
+            // S5F7: S5F8 L[]
+            (
+                b"H 0000000A00008507000000000064\n",
+                b"> 0000000C000005080000000000640100\n",
+            ),
+        ],
+    )
+}
+
+#[test]
+fn s5f5_with_another_text_is_illegal_data(rt: HostRuntime) -> Result<(), Fail> {
+    is_illegal(
+        &rt,
+        rt.alloc(),
+        (5, 5),
+        &[],
+        &[
+            // no text
+            b"",
+            // A 11
+            b"41023131",
+            // B 0B
+            b"21010B",
+            // BOOL true
+            b"250101",
+            // L[A 11]
+            b"010141023131",
+            // L[U4]
+            b"0101B100",
+            // L[U4 11 12]
+            b"0101B1080000000B0000000C",
+            // I4 11 -1
+            b"71080000000BFFFFFFFF",
+            // U8 11 4294967296
+            b"A110000000000000000B0000000100000000",
+            // U4 11 and a second item
+            b"B1040000000B0100",
+            // F4 0
+            b"910400000000",
+        ],
+        &[],
+    )
+}
+
+// Texts that are not an id.
+const NO_ID: [&[u8]; 11] = [
+    // no text
+    b"",
+    // L[U4 1]
+    b"0101B10400000001",
+    // A 1
+    b"410131",
+    // B 01
+    b"210101",
+    // BOOL true
+    b"250101",
+    // U4
+    b"B100",
+    // U4 1 2
+    b"B1080000000100000002",
+    // I4 -1
+    b"7104FFFFFFFF",
+    // U8 4294967296
+    b"A1080000000100000000",
+    // U4 1 and a second item
+    b"B104000000010100",
+    // F4 0
+    b"910400000000",
+];
+
+#[test]
+fn s6f15_with_another_text_is_illegal_data(rt: HostRuntime) -> Result<(), Fail> {
+    is_illegal(
+        &rt,
+        rt.alloc(),
+        (6, 15),
+        &[],
+        &NO_ID,
+        &[
+            // S6F15 U4 211: S6F16 L[U8 0, U4 211, L[]]
+            (
+                b"H 000000100000860F000000000064B104000000D3\n",
+                b"> 0000001E000006100000000000640103A1080000000000000000B104000000D30100\n",
+            ),
+        ],
+    )
+}
+
+#[test]
+fn s6f19_with_another_text_is_illegal_data(rt: HostRuntime) -> Result<(), Fail> {
+    is_illegal(
+        &rt,
+        rt.alloc(),
+        (6, 19),
+        &[],
+        &NO_ID,
+        &[
+            // S6F19 U4 1: S6F20 L[]
+            (
+                b"H 0000001000008613000000000064B10400000001\n",
+                b"> 0000000C000006140000000000640100\n",
+            ),
+        ],
+    )
+}
+
+#[test]
+fn a_message_without_the_w_bit_is_told_by_s9f7_all_the_same(rt: HostRuntime) -> Result<(), Fail> {
+    converses(
+        &rt,
+        rt.alloc(),
+        Begins::Known,
+        &[
+            // S2F33 L[U4 0] without the W-bit: S9F7
+            (
+                b"H 00000012000002210000000000020101B10400000000\n",
+                b"> 0000001600000907000000000001210A00000221000000000002\n",
+            ),
+            // S2F13 A x without the W-bit: S9F7
+            (
+                b"H 0000000D0000020D000000000003410178\n",
+                b"> 0000001600000907000000000002210A0000020D000000000003\n",
+            ),
+            // S6F19 L[] without the W-bit: S9F7
+            (
+                b"H 0000000C000006130000000000040100\n",
+                b"> 0000001600000907000000000003210A00000613000000000004\n",
+            ),
+        ],
+    )
+}
+
+#[test]
+fn s2f33_s2f35_and_s2f37_without_the_w_bit_act_and_get_no_reply(
+    rt: HostRuntime,
+) -> Result<(), Fail> {
+    converses(
+        &rt,
+        rt.alloc(),
+        Begins::Known,
+        &[
+            // S2F33 L[U4 0, L[L[U4 1, L[U4 3]]]] without the W-bit
+            (
+                b"H 00000024000002210000000000020102B1040000000001010102B104000000010101B10400000003\n",
+                b"",
+            ),
+            // S2F35 L[U4 0, L[L[U4 211, L[U4 1]]]] without the W-bit
+            (
+                b"H 00000024000002230000000000030102B1040000000001010102B104000000D30101B10400000001\n",
+                b"",
+            ),
+            // S2F37 L[BOOL true, L[U4 211]] without the W-bit
+            (
+                b"H 000000170000022500000000000401022501010101B104000000D3\n",
+                b"",
+            ),
+            // S6F15 U4 211: S6F16 L[U8 0, U4 211, L[L[U4 1, L[U1 5]]]]
+            (
+                b"H 000000100000860F000000000005B104000000D3\n",
+                b"> 0000002B000006100000000000050103A1080000000000000000B104000000D301010102B104000000010101A50105\n",
+            ),
+            // S6F11 L[U8 1, U4 211, L[L[U4 1, L[U1 4]]]]
+            (
+                b"O local\n",
+                b"= ok\n> 0000002B0000860B0000000000010103A1080000000000000001B104000000D301010102B104000000010101A50104\n",
+            ),
+        ],
+    )
+}
+
+#[test]
+fn s2f15_and_s5f3_without_the_w_bit_act_and_get_no_reply(rt: HostRuntime) -> Result<(), Fail> {
+    converses(
+        &rt,
+        rt.alloc(),
+        Begins::Known,
+        &[
+            // S2F15 L[L[U4 204, U4 100]] without the W-bit
+            (
+                b"H 0000001A0000020F00000000000201010102B104000000CCB10400000064\n",
+                b"",
+            ),
+            // S5F3 L[B 80, U4 11] without the W-bit
+            (
+                b"H 00000015000005030000000000030102210180B1040000000B\n",
+                b"",
+            ),
+            // S2F13 L[U4 204]: S2F14 L[U4 100]
+            (
+                b"H 000000120000820D0000000000040101B104000000CC\n",
+                b"> 000000120000020E0000000000040101B10400000064\n",
+            ),
+            // S5F7: S5F8 L[L[B 06, U4 11, A module 1 down]]
+            (
+                b"H 0000000A00008507000000000005\n",
+                b"> 000000260000050800000000000501010103210106B1040000000B410D6D6F64756C65203120646F776E\n",
+            ),
+        ],
+    )
+}
+
+#[test]
+fn golocal_without_the_w_bit_acts_and_is_reported(rt: HostRuntime) -> Result<(), Fail> {
+    converses(
+        &rt,
+        rt.alloc(),
+        Begins::Known,
+        &[
+            // S2F37 L[BOOL true, L[]]: S2F38 B 00
+            (
+                b"H 000000110000822500000000000201022501010100\n",
+                b"> 0000000D00000226000000000002210100\n",
+            ),
+            // S2F41 L[A GOLOCAL, L[]] without the W-bit: S6F11 L[U8 1, U4 211, L[]]
+            (
+                b"H 000000170000022900000000000301024107474F4C4F43414C0100\n",
+                b"> 0000001E0000860B0000000000010103A1080000000000000001B104000000D30100\n",
+            ),
+            // S1F3 L[U4 3]: S1F4 L[U1 4]
+            (
+                b"H 00000012000081030000000000040101B10400000003\n",
+                b"> 0000000F000001040000000000040101A50104\n",
+            ),
+        ],
+    )
+}
+
+#[test]
+fn a_question_without_the_w_bit_gets_no_reply(rt: HostRuntime) -> Result<(), Fail> {
+    converses(
+        &rt,
+        rt.alloc(),
+        Begins::Known,
+        &[
+            // S1F3 L[] without the W-bit
+            (b"H 0000000C000001030000000000020100\n", b""),
+            // S1F11 L[] without the W-bit
+            (b"H 0000000C0000010B0000000000030100\n", b""),
+            // S2F13 L[] without the W-bit
+            (b"H 0000000C0000020D0000000000040100\n", b""),
+            // S2F29 L[] without the W-bit
+            (b"H 0000000C0000021D0000000000050100\n", b""),
+            // S5F5 L[] without the W-bit
+            (b"H 0000000C000005050000000000060100\n", b""),
+            // S5F7 without the W-bit
+            (b"H 0000000A00000507000000000007\n", b""),
+            // S6F15 U4 211 without the W-bit
+            (b"H 000000100000060F000000000008B104000000D3\n", b""),
+            // S6F19 U4 1 without the W-bit
+            (b"H 0000001000000613000000000009B10400000001\n", b""),
+        ],
+    )
+}
+
+#[test]
+fn s1f15_without_the_w_bit_takes_the_tool_off_line_and_is_reported(
+    rt: HostRuntime,
+) -> Result<(), Fail> {
+    converses(
+        &rt,
+        rt.alloc(),
+        Begins::Known,
+        &[
+            // S2F37 L[BOOL true, L[]]: S2F38 B 00
+            (
+                b"H 000000110000822500000000000201022501010100\n",
+                b"> 0000000D00000226000000000002210100\n",
+            ),
+            // S1F15 without the W-bit: S6F11 L[U8 1, U4 209, L[]]
+            (
+                b"H 0000000A0000010F000000000003\n",
+                b"> 0000001E0000860B0000000000010103A1080000000000000001B104000000D10100\n",
+            ),
+            // S1F3 L[]: S1F0
+            (
+                b"H 0000000C000081030000000000040100\n",
+                b"> 0000000A00000100000000000004\n",
+            ),
+            // S1F3 L[] without the W-bit
+            (b"H 0000000C000001030000000000050100\n", b""),
+        ],
+    )
+}
+
+// This, and then so many times the same, and then that.
+fn repeated(
+    alloc: Global,
+    front: &[u8],
+    part: &[u8],
+    count: u32,
+    back: &[u8],
+) -> Result<Vec<u8>, Fail> {
+    let mut all = Vec::from_slice(alloc, front)?;
+    for _ in 0..count {
+        all.extend_from_slice(part)?;
+    }
+    all.extend_from_slice(back)?;
+    Ok(all)
+}
+
+// A list of 1,025 ids in each message that has one: the line before the ids, an id, and what is told.
+const TOO_MANY: [(&[u8], &[u8], &[u8]); 9] = [
+    // S1F3
+    (
+        b"H 00000C1000008103000000000002020401",
+        b"A50103",
+        b"> 0000001600000907000000000001210A00008103000000000002\n",
+    ),
+    // S1F11
+    (
+        b"H 00000C100000810B000000000003020401",
+        b"A50103",
+        b"> 0000001600000907000000000002210A0000810B000000000003\n",
+    ),
+    // S2F13
+    (
+        b"H 00000C100000820D000000000004020401",
+        b"A50103",
+        b"> 0000001600000907000000000003210A0000820D000000000004\n",
+    ),
+    // S2F29
+    (
+        b"H 00000C100000821D000000000005020401",
+        b"A50103",
+        b"> 0000001600000907000000000004210A0000821D000000000005\n",
+    ),
+    // S2F33
+    (
+        b"H 00000C22000082210000000000060102B1040000000001010102B10400000001020401",
+        b"A50103",
+        b"> 0000001600000907000000000005210A00008221000000000006\n",
+    ),
+    // S2F35
+    (
+        b"H 00000C22000082230000000000070102B1040000000001010102B104000000D3020401",
+        b"A50103",
+        b"> 0000001600000907000000000006210A00008223000000000007\n",
+    ),
+    // S2F37
+    (
+        b"H 00000C15000082250000000000080102250101020401",
+        b"A50103",
+        b"> 0000001600000907000000000007210A00008225000000000008\n",
+    ),
+    // S5F5, a list
+    (
+        b"H 00000C1000008505000000000009020401",
+        b"A50103",
+        b"> 0000001600000907000000000008210A00008505000000000009\n",
+    ),
+    // S5F5, one item
+    (
+        b"H 0000040E0000850500000000000AA60401",
+        b"0B",
+        b"> 0000001600000907000000000009210A0000850500000000000A\n",
+    ),
+];
+
+#[test]
+fn more_than_1024_ids_in_a_list_are_illegal_data(rt: HostRuntime) -> Result<(), Fail> {
+    let alloc = rt.alloc();
+    let mut lines = Vec::new(alloc);
+    let mut want = Vec::new(alloc);
+    for (front, id, told) in TOO_MANY {
+        lines.extend_from_slice(&repeated(alloc, front, id, 1025, b"\n")?)?;
+        want.extend_from_slice(told)?;
+    }
+    prints(&rt, alloc, Begins::Known, &lines, &want)
+}
+
+#[test]
+fn a_list_of_1024_ids_is_taken(rt: HostRuntime) -> Result<(), Fail> {
+    let alloc = rt.alloc();
+    // S2F13 of 1,024 times U2 204: S2F14 of 1,024 times U4 4500
+    let head = b"H 0000100D0000820D000000000002020400";
+    let lines = repeated(alloc, head, b"A90200CC", 1024, b"\n")?;
+    let head = b"> 0000180D0000020E000000000002020400";
+    let want = repeated(alloc, head, b"B10400001194", 1024, b"\n")?;
+    prints(&rt, alloc, Begins::Known, &lines, &want)
+}

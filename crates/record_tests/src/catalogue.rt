@@ -224,12 +224,7 @@ fn is_own(names: &[(u32, &'static [u8])], own: &[u32], vid: u32) -> bool {
 }
 
 // The first number below 400 of which a plant says something else.
-fn false_vid(
-    names: &[(u32, &'static [u8])],
-    ports: u8,
-    chambers: u8,
-    own: &[u32],
-) -> Option<u32> {
+fn false_vid(names: &[(u32, &'static [u8])], ports: u8, chambers: u8, own: &[u32]) -> Option<u32> {
     for vid in 0..400 {
         if is_vid(ports, chambers, vid) != is_own(names, own, vid) {
             return Some(vid);

@@ -419,11 +419,7 @@ fn is_refused(alloc: Global, line: &[u8], place: u64) -> Result<bool, Fail> {
     let mut input = source(alloc, &lines, &[])?;
     let mut out = MemSink::new(alloc, Vec::new(alloc));
     let ended = run_lines(alloc, &mut input, &mut out)?;
-    Ok(
-        ended.cause == Cause::Line(3, place)
-            && ended.status == 6
-            && out.as_bytes() == SELECTED_OUT,
-    )
+    Ok(ended.cause == Cause::Line(3, place) && ended.status == 6 && out.as_bytes() == SELECTED_OUT)
 }
 
 #[test]
@@ -531,10 +527,7 @@ fn ends_at_read(
 }
 
 // The place of the first of these that ends the run in another way.
-fn false_read(
-    alloc: Global,
-    all: &[(&[u8], u64, usize, &[u8])],
-) -> Result<Option<usize>, Fail> {
+fn false_read(alloc: Global, all: &[(&[u8], u64, usize, &[u8])]) -> Result<Option<usize>, Fail> {
     for (place, (lines, fails, piece, want)) in all.iter().enumerate() {
         if *piece == 0 || !ends_at_read(alloc, lines, *fails, *piece, want)? {
             return Ok(Some(place));
@@ -573,9 +566,7 @@ fn ends_at_limit(alloc: Global, limit: usize) -> Result<bool, Fail> {
     let mut input = source(alloc, SELECTED, &[])?;
     let mut out = MemSink::new(alloc, Vec::new(alloc)).with_limit(limit);
     let ended = run_lines(alloc, &mut input, &mut out)?;
-    Ok(
-        ended.cause == Cause::WriteFault && Some(out.as_bytes()) == SELECTED_OUT.get(..limit),
-    )
+    Ok(ended.cause == Cause::WriteFault && Some(out.as_bytes()) == SELECTED_OUT.get(..limit))
 }
 
 #[test]

@@ -225,10 +225,7 @@ fn feed_moment_of(alloc: Global, line: &[u8]) -> Option<Moment> {
 }
 
 fn is_quit(alloc: Global, line: &[u8]) -> bool {
-    matches!(
-        read_feed_line(alloc, line),
-        Ok(Line::Oper(OperCmd::Quit))
-    )
+    matches!(read_feed_line(alloc, line), Ok(Line::Oper(OperCmd::Quit)))
 }
 
 #[test]

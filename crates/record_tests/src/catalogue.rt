@@ -1,5 +1,7 @@
 //! Numbers of rows, events, variables and alarms (`gem_rows`).
 
+ghost use Rattle.std.specs.Prelude.{◌<◌};
+
 use gem_ids::Text80;
 use gem_rows::{RowId, alarm_text, alids, ceid_of, ceids, is_ceid, is_vid, row_of, vid_name};
 use std::alloc::Global;
@@ -52,8 +54,10 @@ fn false_row(ceids: &[u32]) -> Option<(u8, u8)> {
     None
 }
 
-// The row of a number below 25,600 after the list of CEIDs.
-fn wanted_row(ceids: &[u32], ceid: u32) -> Option<RowId> {
+// The row of a number after the list of CEIDs.
+fn wanted_row(ceids: &[u32], ceid: u32) -> Option<RowId>
+    requires { ceid < 2000 }
+{
     if ceids.contains(&ceid) {
         Some(RowId {
             table: (ceid / 100) as u8,
@@ -220,12 +224,7 @@ fn is_own(names: &[(u32, &'static [u8])], own: &[u32], vid: u32) -> bool {
 }
 
 // The first number below 400 of which a plant says something else.
-fn false_vid(
-    names: &[(u32, &'static [u8])],
-    ports: u8,
-    chambers: u8,
-    own: &[u32],
-) -> Option<u32> {
+fn false_vid(names: &[(u32, &'static [u8])], ports: u8, chambers: u8, own: &[u32]) -> Option<u32> {
     for vid in 0..400 {
         if is_vid(ports, chambers, vid) != is_own(names, own, vid) {
             return Some(vid);

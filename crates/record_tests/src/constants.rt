@@ -66,7 +66,11 @@ fn begins_with(alloc: Global, values: &[(u32, Val)]) -> Result<bool, NoMemory>
 // The numbers of 201 and 203, and the truth of 203.
 fn first_values(alloc: Global) -> Result<(u32, u32, bool), NoMemory> {
     let constants = defaults(alloc)?;
-    Ok((constants.number(201), constants.number(203), constants.truth(203)))
+    Ok((
+        constants.number(201),
+        constants.number(203),
+        constants.truth(203),
+    ))
 }
 
 // The first of these ECIDs that has a value, a number or a truth.
@@ -286,7 +290,12 @@ const SAID: [(&[u8], Option<Val>, Option<Val>, Option<Val>); 14] = [
     (b"\xA5\x00", None, None, None),
     (b"\xA5\x02\x07\x07", None, None, None),
     (b"\x65\x01\xFF", None, None, None),
-    (b"\xA1\x08\x00\x00\x00\x01\x00\x00\x00\x00", None, None, None),
+    (
+        b"\xA1\x08\x00\x00\x00\x01\x00\x00\x00\x00",
+        None,
+        None,
+        None,
+    ),
     (b"\x21\x01\x07", None, None, None),
     (b"\x41\x01\x37", None, None, None),
     (b"\x01\x00", None, None, None),

@@ -57,7 +57,11 @@ fn first_open(alloc: Global) -> Result<NoteLine, Fail> {
 
 // The number of the note that is open, that of the first that waits, and the row that fires by itself.
 fn place(line: &NoteLine, talks: bool) -> (u64, u64, Option<u8>) {
-    (number(line.open_note()), number(line.head()), line.row_for(talks))
+    (
+        number(line.open_note()),
+        number(line.head()),
+        line.row_for(talks),
+    )
 }
 
 // The next number, and how many wait.
@@ -129,7 +133,10 @@ fn waiting_fates(alloc: Global) -> Result<[Option<Fate>; 5], Fail> {
 #[test]
 fn numbers_that_were_not_given_have_no_fate(rt: HostRuntime) -> Result<(), Fail> {
     let waiting = Some(Fate::Waiting);
-    assert_eq!(rt; waiting_fates(rt.alloc())?, [None, waiting, waiting, None, None]);
+    assert_eq!(rt;
+        waiting_fates(rt.alloc())?,
+        [None, waiting, waiting, None, None]
+    );
     Ok(())
 }
 
@@ -184,7 +191,12 @@ fn all_dropped(alloc: Global) -> Result<(Option<Fate>, Option<u8>, Option<u8>, u
     line.drop_head();
     line.drop_head();
     line.drop_head();
-    Ok((line.fate(3), line.row_for(false), line.row_for(true), line.next_number()))
+    Ok((
+        line.fate(3),
+        line.row_for(false),
+        line.row_for(true),
+        line.next_number(),
+    ))
 }
 
 #[test]
@@ -215,7 +227,12 @@ fn still_empty(alloc: Global) -> (Option<u8>, u64, Option<Fate>, u64) {
     line.drop_head();
     line.fail_open();
     line.answer_open();
-    (line.row_for(true), line.next_number(), line.fate(1), number(line.open_note()))
+    (
+        line.row_for(true),
+        line.next_number(),
+        line.fate(1),
+        number(line.open_note()),
+    )
 }
 
 #[test]

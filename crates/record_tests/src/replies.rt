@@ -250,7 +250,10 @@ fn no_reports(alloc: Global) -> Items
 // Events without reports.
 fn event(alloc: Global) -> Result<Vec<u8>, NoMemory> {
     let reports = no_reports(alloc);
-    sent(alloc, &GemReply::S6F11(0x0102_0304_0506_0708, 1001, reports))
+    sent(
+        alloc,
+        &GemReply::S6F11(0x0102_0304_0506_0708, 1001, reports),
+    )
 }
 
 fn event_on_request(alloc: Global) -> Result<Vec<u8>, NoMemory> {

@@ -443,7 +443,10 @@ const LINKS_WITH_TWO_FAULTS: [Step; 7] = [
 
 #[test]
 fn lrack_of_one_link_with_two_faults(rt: HostRuntime) -> Result<(), Fail> {
-    assert_eq!(rt; first_false_of_two(rt.alloc(), &LINKS_WITH_TWO_FAULTS)?, None);
+    assert_eq!(rt;
+        first_false_of_two(rt.alloc(), &LINKS_WITH_TWO_FAULTS)?,
+        None
+    );
     Ok(())
 }
 

@@ -73,6 +73,11 @@ fn posted(alloc: Global, core: &mut Core, at: u64, event: Event) -> Result<Answe
     )
 }
 
+// Why seat 1 is not answered to an event at a moment; none where it is.
+fn refused(alloc: Global, core: &mut Core, at: u64, event: Event) -> Option<PostFault> {
+    core.apply(alloc, 1, Moment(at), event).err()
+}
+
 // A frame of the host is done.
 fn arrives(alloc: Global, core: &mut Core, header: Header) -> Result<(), Fail> {
     let event = host(alloc, header, &[])?;
@@ -120,8 +125,8 @@ fn a_history_of_three_entries_takes_no_fourth(rt: HostRuntime) -> Result<(), Fai
         let answer = posted(alloc, &mut core, at, Event::LinkUp)?;
         assert_eq!(rt; matches!(answer, Answer::Ended), true);
     }
-    let fourth = core.apply(alloc, 1, Moment(9), Event::LinkUp);
-    assert_eq!(rt; fourth.err(), Some(PostFault::Full(3)));
+    let fourth = refused(alloc, &mut core, 9, Event::LinkUp);
+    assert_eq!(rt; fourth, Some(PostFault::Full(3)));
     assert_eq!(rt; core.session_up(), Some(1));
     let moments = [0, 5, 7];
     assert_eq!(rt; core.history().len(), moments.len());
@@ -141,8 +146,8 @@ fn a_history_of_five_bytes_takes_no_sixth(rt: HostRuntime) -> Result<(), Fail> {
     let five = host(alloc, select, &[0; 5])?;
     posted(alloc, &mut core, 0, five)?;
     let sixth = host(alloc, select, &[0])?;
-    let sixth = core.apply(alloc, 1, Moment(0), sixth);
-    assert_eq!(rt; sixth.err(), Some(PostFault::Full(2)));
+    let sixth = refused(alloc, &mut core, 0, sixth);
+    assert_eq!(rt; sixth, Some(PostFault::Full(2)));
     arrives(alloc, &mut core, select)?;
     assert_eq!(rt; core.history().len(), 3);
     Ok(())
@@ -155,8 +160,8 @@ fn t7_ends_a_session_that_is_not_selected(rt: HostRuntime) -> Result<(), Fail> {
     // The heartbeat.
     posted(alloc, &mut core, 950, Event::Tick)?;
     assert_eq!(rt; waits(&core, 999, Event::Tick), Some(true));
-    let early = core.apply(alloc, 1, Moment(999), Event::Tick);
-    assert_eq!(rt; early.err(), Some(PostFault::Again));
+    let early = refused(alloc, &mut core, 999, Event::Tick);
+    assert_eq!(rt; early, Some(PostFault::Again));
     assert_eq!(rt; core.session_up(), Some(1));
     assert_eq!(rt; core.session_end(1), None);
     assert_eq!(rt; waits(&core, 1000, Event::Tick), Some(false));
@@ -292,8 +297,8 @@ fn ample_memory_is_enough(rt: HostRuntime) -> Result<(), Fail> {
         posted(alloc, &mut core, 0, Event::Take { session: 1 })?;
     }
     posted(alloc, &mut core, 100, Event::Tick)?;
-    let listen = core.apply(alloc, 1, Moment(100), Event::Listen);
-    assert_eq!(rt; listen.err(), Some(PostFault::Again));
+    let listen = refused(alloc, &mut core, 100, Event::Listen);
+    assert_eq!(rt; listen, Some(PostFault::Again));
     posted(
         alloc,
         &mut core,

@@ -2,11 +2,12 @@
 
 ghost use Rattle.std.specs.Prelude.{◌≡◌, IfOk};
 ghost use Rattle.secs_items.specs.Data.{ascii as ascii_data};
+ghost use Rattle.secs_items.specs.Sendable.{IsSendable};
 ghost use Rattle.secs_items.specs.View.{view};
 
+use gem_ids::Text80;
 use secs_items::{Bytes, Item, ItemFault, Items, NoMemory, U16s, decode, encode, read_one};
 use std::alloc::Global;
-use std::test::Fail;
 
 // Spellings, after the item header and the item formats of SEMI E5, and the spelling that the tool sends of each item.
 const SPELLINGS: [(&[u8], &[u8]); 37] = [
@@ -140,26 +141,44 @@ const TEXTS: [(&[u8], Option<&[u8]>); 6] = [
     ),
 ];
 
-// Reads an item that one more byte follows, and writes a copy of it.
-fn read_and_sent(alloc: Global, spelled: &[u8]) -> Result<(usize, Vec<u8>), ItemFault> {
+// These bytes, and one more.
+fn followed(alloc: Global, spelled: &[u8]) -> Result<Vec<u8>, NoMemory> {
     let mut bytes = Vec::from_slice(alloc, spelled)?;
     bytes.push(0x99)?;
-    let (item, used) = decode(alloc, bytes.as_slice())?;
+    Ok(bytes)
+}
+
+// The bytes of a copy of an item.
+fn copied(alloc: Global, item: &Item) -> Result<Vec<u8>, NoMemory>
+    requires { IsSendable (view item.now) }
+{
     let copy = item.clone()?;
     let mut out = Vec::new(alloc);
     encode(&copy, &mut out)?;
-    Ok((used, out))
+    Ok(out)
+}
+
+// Whether an item that one more byte follows is read whole, and its copy is written so.
+fn is_sent_as(alloc: Global, spelled: &[u8], plain: &[u8]) -> Result<bool, ItemFault> {
+    let bytes = followed(alloc, spelled)?;
+    let (item, used) = decode(alloc, bytes.as_slice())?;
+    let out = copied(alloc, &item)?;
+    Ok(used == spelled.len() && out.as_slice() == plain)
+}
+
+// The place of the first spelling of which that is not so.
+fn false_spelling(alloc: Global, spellings: &[(&[u8], &[u8])]) -> Option<usize> {
+    for (place, (spelled, plain)) in spellings.iter().enumerate() {
+        if is_sent_as(alloc, spelled, plain) != Ok(true) {
+            return Some(place);
+        }
+    }
+    None
 }
 
 #[test]
 fn each_spelling_is_read_and_sent_in_the_plain_one(rt: HostRuntime) {
-    for (spelled, plain) in SPELLINGS {
-        let read = read_and_sent(rt.alloc(), spelled);
-        assert!(rt;
-            matches!(&read, Ok((used, out)) if *used == spelled.len() && out.as_slice() == plain),
-            "at {spelled:?}"
-        );
-    }
+    assert_eq!(rt; false_spelling(rt.alloc(), &SPELLINGS), None);
 }
 
 // A B of so many bytes, behind this head.
@@ -197,32 +216,47 @@ fn is_there_and_back(alloc: Global, spelled: &[u8], count: usize) -> Result<bool
     Ok(used == spelled.len() && size(&item) == Some(count) && written.as_slice() == spelled)
 }
 
+// Heads of a B, and of a list, and so many bytes or elements.
+const BINARIES: [(&[u8], usize); 4] = [
+    (b"\x21\xFF", 255),
+    (b"\x22\x01\x00", 256),
+    (b"\x22\xFF\xFF", 65_535),
+    (b"\x23\x01\x00\x00", 65_536),
+];
+
+const LISTS: [(&[u8], usize); 4] = [
+    (b"\x01\xFF", 255),
+    (b"\x02\x01\x00", 256),
+    (b"\x02\x02\x58", 600),
+    (b"\x03\x01\x00\x00", 65_536),
+];
+
+// The first count at which a B is not read and written.
+fn false_binary(alloc: Global, heads: &[(&[u8], usize)]) -> Result<Option<usize>, NoMemory> {
+    for (head, count) in heads {
+        let spelled = binary(alloc, head, *count)?;
+        if is_there_and_back(alloc, spelled.as_slice(), *count) != Ok(true) {
+            return Ok(Some(*count));
+        }
+    }
+    Ok(None)
+}
+
+// The same, of a list.
+fn false_list(alloc: Global, heads: &[(&[u8], usize)]) -> Result<Option<usize>, NoMemory> {
+    for (head, count) in heads {
+        let spelled = numbers(alloc, head, *count)?;
+        if is_there_and_back(alloc, spelled.as_slice(), *count) != Ok(true) {
+            return Ok(Some(*count));
+        }
+    }
+    Ok(None)
+}
+
 #[test]
-fn long_items_are_read_and_written(rt: HostRuntime) -> Result<(), Fail> {
-    let alloc = rt.alloc();
-    let binaries: [(&[u8], usize); 4] = [
-        (b"\x21\xFF", 255),
-        (b"\x22\x01\x00", 256),
-        (b"\x22\xFF\xFF", 65_535),
-        (b"\x23\x01\x00\x00", 65_536),
-    ];
-    for (head, count) in binaries {
-        let spelled = binary(alloc, head, count)?;
-        let back = is_there_and_back(alloc, spelled.as_slice(), count);
-        assert_eq!(rt; back, Ok(true), "at {count}");
-    }
-    let lists: [(&[u8], usize); 4] = [
-        (b"\x01\xFF", 255),
-        (b"\x02\x01\x00", 256),
-        (b"\x02\x02\x58", 600),
-        (b"\x03\x01\x00\x00", 65_536),
-    ];
-    for (head, count) in lists {
-        let spelled = numbers(alloc, head, count)?;
-        let back = is_there_and_back(alloc, spelled.as_slice(), count);
-        assert_eq!(rt; back, Ok(true), "at {count}");
-    }
-    Ok(())
+fn long_items_are_read_and_written(rt: HostRuntime) {
+    assert_eq!(rt; false_binary(rt.alloc(), &BINARIES), Ok(None));
+    assert_eq!(rt; false_list(rt.alloc(), &LISTS), Ok(None));
 }
 
 fn ascii(alloc: Global, text: &[u8]) -> Result<Item, NoMemory>
@@ -248,15 +282,27 @@ fn a_list_of_two_texts_is_appended(rt: HostRuntime) {
     assert!(rt; matches!(&written, Ok(bytes) if bytes.as_slice() == want.as_slice()));
 }
 
+// The fault of bytes; none where an item is read.
+fn fault_of(alloc: Global, bytes: &[u8]) -> Option<ItemFault> {
+    match decode(alloc, bytes) {
+        Ok(_) => None,
+        Err(fault) => Some(fault),
+    }
+}
+
+// The place of the first bytes that have another fault.
+fn false_fault(alloc: Global, faults: &[(&[u8], ItemFault)]) -> Option<usize> {
+    for (place, (bytes, want)) in faults.iter().enumerate() {
+        if fault_of(alloc, bytes) != Some(*want) {
+            return Some(place);
+        }
+    }
+    None
+}
+
 #[test]
 fn the_fault_of_the_least_place_is_told(rt: HostRuntime) {
-    for (bytes, want) in FAULTS {
-        let read = decode(rt.alloc(), bytes);
-        assert!(rt;
-            matches!(&read, Err(fault) if *fault == want),
-            "at {bytes:?}"
-        );
-    }
+    assert_eq!(rt; false_fault(rt.alloc(), &FAULTS), None);
 }
 
 #[test]
@@ -284,74 +330,137 @@ fn a_fault_is_printed_with_its_place(rt: HostRuntime) {
     }
 }
 
-#[test]
-fn a_code_that_is_no_format_is_told(rt: HostRuntime) {
-    let formats = [0, 8, 9, 16, 24, 25, 26, 28, 40, 41, 42, 44];
+// Codes that are formats.
+const FORMATS: [u8; 12] = [0, 8, 9, 16, 24, 25, 26, 28, 40, 41, 42, 44];
+
+// The fault that an item of no elements has by its code; none of a format.
+fn fault_of_code(formats: &[u8], code: u8) -> Option<ItemFault> {
+    if formats.contains(&code) {
+        None
+    } else {
+        Some(ItemFault::BadCode(0, code))
+    }
+}
+
+// The first code below 64 that has another fault.
+fn false_code(alloc: Global, formats: &[u8]) -> Option<u8> {
     for code in 0..64 {
-        let read = decode(rt.alloc(), &[4 * code + 1, 0]);
-        if formats.contains(&code) {
-            assert!(rt; matches!(&read, Ok((_, 2))), "at {code}");
-        } else {
-            assert!(rt;
-                matches!(&read, Err(fault) if *fault == ItemFault::BadCode(0, code)),
-                "at {code}"
-            );
+        if fault_of(alloc, &[4 * code + 1, 0]) != fault_of_code(formats, code) {
+            return Some(code);
         }
     }
+    None
+}
+
+#[test]
+fn a_code_that_is_no_format_is_told(rt: HostRuntime) {
+    assert_eq!(rt; false_code(rt.alloc(), &FORMATS), None);
+}
+
+// Whether bytes begin with an item that is this id, or none.
+fn is_id(alloc: Global, bytes: &[u8], want: Option<u32>) -> bool {
+    match &decode(alloc, bytes) {
+        Ok((item, _)) => item.as_id() == want,
+        Err(_) => false,
+    }
+}
+
+// The place of the first item that is another id.
+fn false_id(alloc: Global, items: &[(&[u8], Option<u32>)]) -> Option<usize> {
+    for (place, (bytes, want)) in items.iter().enumerate() {
+        if !is_id(alloc, bytes, *want) {
+            return Some(place);
+        }
+    }
+    None
 }
 
 #[test]
 fn an_id_is_an_integer_of_one_element_that_fits_32_bits(rt: HostRuntime) {
-    for (bytes, want) in IDS {
-        let read = decode(rt.alloc(), bytes);
-        assert!(rt;
-            matches!(&read, Ok((item, _)) if item.as_id() == want),
-            "at {bytes:?}"
-        );
+    assert_eq!(rt; false_id(rt.alloc(), &IDS), None);
+}
+
+// Whether a text is the one that is wanted, or is none where none is.
+fn is_same(text: Option<Text80>, want: Option<&[u8]>) -> bool {
+    match (&text, want) {
+        (Some(text), Some(want)) => text.as_bytes() == want,
+        (None, None) => true,
+        _ => false,
     }
+}
+
+// Whether bytes begin with an item that is this text, or none.
+fn is_text(alloc: Global, bytes: &[u8], want: Option<&[u8]>) -> bool {
+    match &decode(alloc, bytes) {
+        Ok((item, _)) => is_same(item.as_text(), want),
+        Err(_) => false,
+    }
+}
+
+// The place of the first item that is another text.
+fn false_text(alloc: Global, items: &[(&[u8], Option<&[u8]>)]) -> Option<usize> {
+    for (place, (bytes, want)) in items.iter().enumerate() {
+        if !is_text(alloc, bytes, *want) {
+            return Some(place);
+        }
+    }
+    None
 }
 
 #[test]
 fn a_text_is_ascii_that_prints(rt: HostRuntime) {
-    for (bytes, want) in TEXTS {
-        let read = decode(rt.alloc(), bytes);
-        assert!(rt;
-            matches!(&read, Ok((item, _)) if item.as_text().as_ref().map(|t| t.as_bytes()) == want),
-            "at {bytes:?}"
-        );
+    assert_eq!(rt; false_text(rt.alloc(), &TEXTS), None);
+}
+
+// Whether six bytes are an I2 of these numbers.
+fn is_signed(alloc: Global, bytes: &[u8], want: &[i16]) -> bool {
+    match &decode(alloc, bytes) {
+        Ok((Item::I2(numbers), 6)) => numbers.as_slice() == want,
+        _ => false,
+    }
+}
+
+// Whether six bytes are a U4 of these numbers.
+fn is_unsigned(alloc: Global, bytes: &[u8], want: &[u32]) -> bool {
+    match &decode(alloc, bytes) {
+        Ok((Item::U4(numbers), 6)) => numbers.as_slice() == want,
+        _ => false,
     }
 }
 
 #[test]
 fn numbers_are_twos_complement_and_the_most_significant_byte_comes_first(rt: HostRuntime) {
     let alloc = rt.alloc();
-    let signed = decode(alloc, b"\x69\x04\xFF\xFE\x01\x02");
-    assert!(rt;
-        matches!(&signed, Ok((Item::I2(numbers), 6)) if numbers.as_slice() == [-2, 258].as_slice())
-    );
-    let unsigned = decode(alloc, b"\xB1\x04\x80\x00\x00\x01");
-    assert!(rt;
-        matches!(&unsigned, Ok((Item::U4(numbers), 6)) if numbers.as_slice() == [2_147_483_649].as_slice())
-    );
+    assert!(rt; is_signed(alloc, b"\x69\x04\xFF\xFE\x01\x02", &[-2, 258]));
+    assert!(rt; is_unsigned(alloc, b"\xB1\x04\x80\x00\x00\x01", &[2_147_483_649]));
+}
+
+// Whether a text is one list of one item.
+fn is_list_of_one(alloc: Global, text: &[u8]) -> bool {
+    match &read_one(alloc, text) {
+        Ok(Some(Item::List(items))) => items.as_slice().len() == 1,
+        _ => false,
+    }
+}
+
+// Whether a text is no item, and not for want of memory.
+fn is_no_item(alloc: Global, text: &[u8]) -> bool {
+    match &read_one(alloc, text) {
+        Ok(None) => true,
+        _ => false,
+    }
 }
 
 #[test]
 fn a_text_is_one_item_from_its_first_byte_to_its_last(rt: HostRuntime) {
     let alloc = rt.alloc();
-    let list = read_one(alloc, b"\x01\x01\xA5\x01\x07");
-    assert!(rt; matches!(&list, Ok(Some(Item::List(items))) if items.as_slice().len() == 1));
+    assert!(rt; is_list_of_one(alloc, b"\x01\x01\xA5\x01\x07"));
     // no bytes, a byte behind an item, a second item, an item that is cut off, and a fault
-    let others: [&[u8]; 5] = [
-        b"",
-        b"\x21\x01\x00\x00",
-        b"\x01\x00\x01\x00",
-        b"\x01\x01\x21",
-        b"\x41\x01\x80",
-    ];
-    for text in others {
-        let read = read_one(alloc, text);
-        assert!(rt; matches!(&read, Ok(None)), "at {text:?}");
-    }
+    assert!(rt; is_no_item(alloc, b""));
+    assert!(rt; is_no_item(alloc, b"\x21\x01\x00\x00"));
+    assert!(rt; is_no_item(alloc, b"\x01\x00\x01\x00"));
+    assert!(rt; is_no_item(alloc, b"\x01\x01\x21"));
+    assert!(rt; is_no_item(alloc, b"\x41\x01\x80"));
 }
 
 // Lists and elements made of vectors, and the vectors taken out of them.

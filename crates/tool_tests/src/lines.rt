@@ -140,89 +140,127 @@ const REFUSED_ANYWHERE: [(&[u8], u64); 7] = [
 ];
 
 // Where `feed` refuses the line; none where it takes it.
-fn refused(rt: &HostRuntime, line: &[u8]) -> Option<u64> {
-    match read_feed_line(rt.alloc(), line) {
+fn refused(alloc: Global, line: &[u8]) -> Option<u64> {
+    match read_feed_line(alloc, line) {
         Err(LineFault::Place(place)) => Some(place),
         _ => None,
     }
 }
 
 // The same, of any line.
-fn refused_anywhere(rt: &HostRuntime, line: &[u8]) -> Option<u64> {
-    match read_line(rt.alloc(), line) {
+fn refused_anywhere(alloc: Global, line: &[u8]) -> Option<u64> {
+    match read_line(alloc, line) {
         Err(LineFault::Place(place)) => Some(place),
         _ => None,
     }
 }
 
+// The first of these lines that `feed` does not refuse there.
+fn false_place(alloc: Global, lines: &[(&[u8], u64)]) -> Option<usize> {
+    for (number, (line, place)) in lines.iter().enumerate() {
+        if refused(alloc, line) != Some(*place) {
+            return Some(number);
+        }
+    }
+    None
+}
+
+// The same, of any lines.
+fn false_place_anywhere(alloc: Global, lines: &[(&[u8], u64)]) -> Option<usize> {
+    for (number, (line, place)) in lines.iter().enumerate() {
+        if refused_anywhere(alloc, line) != Some(*place) {
+            return Some(number);
+        }
+    }
+    None
+}
+
 #[test]
 fn a_line_is_refused_at_its_first_false_byte(rt: HostRuntime) {
-    for (line, place) in REFUSED {
-        assert_eq!(rt; refused(&rt, line), Some(place), "at {line:?}");
-    }
-    for (line, place) in REFUSED_ANYWHERE {
-        assert_eq!(rt; refused_anywhere(&rt, line), Some(place), "at {line:?}");
+    assert_eq!(rt; false_place(rt.alloc(), &REFUSED), None);
+    assert_eq!(rt; false_place_anywhere(rt.alloc(), &REFUSED_ANYWHERE), None);
+}
+
+// The port that a line of any kind watches.
+fn watched(alloc: Global, line: &[u8]) -> Option<PortNo> {
+    match read_line(alloc, line) {
+        Ok(Line::Watch(port)) => Some(port),
+        _ => None,
     }
 }
 
 #[test]
 fn a_watch_stands_in_a_script_only(rt: HostRuntime) {
-    assert!(rt; matches!(read_line(rt.alloc(), b"W 0"), Ok(Line::Watch(PortNo(0)))));
-    assert!(rt;
-        matches!(
-            read_line(rt.alloc(), b"W 255"),
-            Ok(Line::Watch(PortNo(255)))
-        )
-    );
-    assert_eq!(rt; refused(&rt, b"W 1"), Some(0));
+    assert_eq!(rt; watched(rt.alloc(), b"W 0"), Some(PortNo(0)));
+    assert_eq!(rt; watched(rt.alloc(), b"W 255"), Some(PortNo(255)));
+    assert_eq!(rt; refused(rt.alloc(), b"W 1"), Some(0));
+}
+
+// Whether `feed` reads a line as a comment, or as a link that comes up, or goes down.
+fn is_skipped(alloc: Global, line: &[u8]) -> bool {
+    matches!(read_feed_line(alloc, line), Ok(Line::Skip))
+}
+
+fn is_up(alloc: Global, line: &[u8]) -> bool {
+    matches!(read_feed_line(alloc, line), Ok(Line::Up))
+}
+
+fn is_down(alloc: Global, line: &[u8]) -> bool {
+    matches!(read_feed_line(alloc, line), Ok(Line::Down))
+}
+
+// The moment of a line of any kind, and of one of `feed`.
+fn moment_of(alloc: Global, line: &[u8]) -> Option<Moment> {
+    match read_line(alloc, line) {
+        Ok(Line::Moment(moment)) => Some(moment),
+        _ => None,
+    }
+}
+
+fn feed_moment_of(alloc: Global, line: &[u8]) -> Option<Moment> {
+    match read_feed_line(alloc, line) {
+        Ok(Line::Moment(moment)) => Some(moment),
+        _ => None,
+    }
+}
+
+fn is_quit(alloc: Global, line: &[u8]) -> bool {
+    matches!(read_feed_line(alloc, line), Ok(Line::Oper(OperCmd::Quit)))
 }
 
 #[test]
 fn lines_of_the_link_and_the_clock_are_read(rt: HostRuntime) {
-    assert!(rt; matches!(read_feed_line(rt.alloc(), b""), Ok(Line::Skip)));
-    assert!(rt; matches!(read_feed_line(rt.alloc(), b"#W 1 \xff"), Ok(Line::Skip)));
-    assert!(rt; matches!(read_feed_line(rt.alloc(), b"L+"), Ok(Line::Up)));
-    assert!(rt; matches!(read_feed_line(rt.alloc(), b"L-"), Ok(Line::Down)));
-    assert!(rt;
-        matches!(
-            read_feed_line(rt.alloc(), b"T 0"),
-            Ok(Line::Moment(Moment(0)))
-        )
-    );
-    assert!(rt;
-        matches!(
-            read_line(rt.alloc(), b"T 25245561599999"),
-            Ok(Line::Moment(Moment(25_245_561_599_999)))
-        )
-    );
-    assert!(rt;
-        matches!(
-            read_feed_line(rt.alloc(), b"O quit"),
-            Ok(Line::Oper(OperCmd::Quit))
-        )
-    );
+    let alloc = rt.alloc();
+    assert!(rt; is_skipped(alloc, b""));
+    assert!(rt; is_skipped(alloc, b"#W 1 \xff"));
+    assert!(rt; is_up(alloc, b"L+"));
+    assert!(rt; is_down(alloc, b"L-"));
+    assert_eq!(rt; feed_moment_of(alloc, b"T 0"), Some(Moment(0)));
+    let last = Some(Moment(25_245_561_599_999));
+    assert_eq!(rt; moment_of(alloc, b"T 25245561599999"), last);
+    assert!(rt; is_quit(alloc, b"O quit"));
 }
 
 // The bytes that the line gives; none where it gives no bytes.
-fn given(rt: &HostRuntime, line: &[u8]) -> Vec<u8> {
-    match read_feed_line(rt.alloc(), line) {
+fn given(alloc: Global, line: &[u8]) -> Vec<u8> {
+    match read_feed_line(alloc, line) {
         Ok(Line::Bytes(bytes)) => bytes.into_vec(),
-        _ => Vec::new(rt.alloc()),
+        _ => Vec::new(alloc),
     }
 }
 
 #[test]
 fn bytes_are_read_from_digits_of_either_case(rt: HostRuntime) {
     assert_eq!(rt;
-        given(&rt, b"H 00fFA9").as_slice(),
+        given(rt.alloc(), b"H 00fFA9").as_slice(),
         [0, 255, 169].as_slice()
     );
-    assert_eq!(rt; given(&rt, b"H 0a").as_slice(), [10].as_slice());
+    assert_eq!(rt; given(rt.alloc(), b"H 0a").as_slice(), [10].as_slice());
 }
 
 // What the equipment tells by the line.
-fn signal_of(rt: &HostRuntime, line: &[u8]) -> Option<Signal> {
-    match &read_feed_line(rt.alloc(), line) {
+fn signal_of(alloc: Global, line: &[u8]) -> Option<Signal> {
+    match &read_feed_line(alloc, line) {
         Ok(Line::Signal(signal)) => Some(*signal),
         _ => None,
     }
@@ -235,7 +273,7 @@ fn a_placed_carrier_is_read(rt: HostRuntime) {
     ];
     let id = CarrierId::read(Text80::read(b"-LOT").unwrap());
     assert_eq!(rt;
-        signal_of(&rt, b"S placed 2 -LOT 0123450000000000000000005"),
+        signal_of(rt.alloc(), b"S placed 2 -LOT 0123450000000000000000005"),
         Some(Signal::Placed {
             port: PortNo(2),
             id,
@@ -243,7 +281,7 @@ fn a_placed_carrier_is_read(rt: HostRuntime) {
         })
     );
     assert_eq!(rt;
-        signal_of(&rt, b"S placed 2 - 0123450000000000000000005"),
+        signal_of(rt.alloc(), b"S placed 2 - 0123450000000000000000005"),
         Some(Signal::Placed {
             port: PortNo(2),
             id: None,
@@ -255,43 +293,53 @@ fn a_placed_carrier_is_read(rt: HostRuntime) {
 #[test]
 fn other_signals_are_read(rt: HostRuntime) {
     assert_eq!(rt;
-        signal_of(&rt, b"S removed 255"),
+        signal_of(rt.alloc(), b"S removed 255"),
         Some(Signal::Removed(PortNo(255)))
     );
     assert_eq!(rt;
-        signal_of(&rt, b"S done 3 18446744073709551615"),
+        signal_of(rt.alloc(), b"S done 3 18446744073709551615"),
         Some(Signal::Done(ModuleId(3), CmdNo(18_446_744_073_709_551_615)))
     );
     assert_eq!(rt;
-        signal_of(&rt, b"S failed 3 7"),
+        signal_of(rt.alloc(), b"S failed 3 7"),
         Some(Signal::Failed(ModuleId(3), CmdNo(7)))
     );
     assert_eq!(rt;
-        signal_of(&rt, b"S down 1"),
+        signal_of(rt.alloc(), b"S down 1"),
         Some(Signal::Down(ModuleId(1)))
     );
 }
 
+// Words of an operator that name nothing.
+const WITHOUT_NAME: [(&[u8], OperCmd); 13] = [
+    (b"enable", OperCmd::Enable),
+    (b"disable", OperCmd::Disable),
+    (b"online", OperCmd::Online),
+    (b"offline", OperCmd::Offline),
+    (b"local", OperCmd::Local),
+    (b"remote", OperCmd::Remote),
+    (b"quit", OperCmd::Quit),
+    (b"service 1 in", OperCmd::Service(PortNo(1), true)),
+    (b"service 0 out", OperCmd::Service(PortNo(0), false)),
+    (b"access 255 auto", OperCmd::Access(PortNo(255), true)),
+    (b"access 1 manual", OperCmd::Access(PortNo(1), false)),
+    (b"up 3", OperCmd::Up(ModuleId(3))),
+    (b"clear 4294967295", OperCmd::Clear(4_294_967_295)),
+];
+
+// The place of the first words that are read as something else.
+fn false_words(all: &[(&[u8], OperCmd)]) -> Option<usize> {
+    for (place, (words, command)) in all.iter().enumerate() {
+        if read_operator(words) != Ok(*command) {
+            return Some(place);
+        }
+    }
+    None
+}
+
 #[test]
 fn words_without_a_name_are_read(rt: HostRuntime) {
-    let commands: [(&[u8], OperCmd); 13] = [
-        (b"enable", OperCmd::Enable),
-        (b"disable", OperCmd::Disable),
-        (b"online", OperCmd::Online),
-        (b"offline", OperCmd::Offline),
-        (b"local", OperCmd::Local),
-        (b"remote", OperCmd::Remote),
-        (b"quit", OperCmd::Quit),
-        (b"service 1 in", OperCmd::Service(PortNo(1), true)),
-        (b"service 0 out", OperCmd::Service(PortNo(0), false)),
-        (b"access 255 auto", OperCmd::Access(PortNo(255), true)),
-        (b"access 1 manual", OperCmd::Access(PortNo(1), false)),
-        (b"up 3", OperCmd::Up(ModuleId(3))),
-        (b"clear 4294967295", OperCmd::Clear(4_294_967_295)),
-    ];
-    for (words, command) in commands {
-        assert_eq!(rt; read_operator(words), Ok(command));
-    }
+    assert_eq!(rt; false_words(&WITHOUT_NAME), None);
     assert_eq!(rt; read_operator(b""), Err(LineFault::Place(0)));
     assert_eq!(rt; read_operator(b"onlin"), Err(LineFault::Place(5)));
 }
@@ -308,9 +356,7 @@ fn words_with_a_name_are_read(rt: HostRuntime) {
         (b"pj cancel J~1", OperCmd::Job(id, JobWord::Cancel)),
         (b"cj 8 J~1", OperCmd::CtlJob(id, 8)),
     ];
-    for (words, command) in commands {
-        assert_eq!(rt; read_operator(words), Ok(command));
-    }
+    assert_eq!(rt; false_words(&commands), None);
     let substrate = SubstrateId::read(Text80::read(b"C.01").unwrap()).unwrap();
     assert_eq!(rt; read_operator(b"lost C.01"), Ok(OperCmd::Lost(substrate)));
 }
@@ -336,13 +382,13 @@ fn a_line_of_six_hundred_thousand_bytes_is_read_and_no_longer_one(rt: HostRuntim
     line[0] = b'H';
     line[1] = b' ';
     assert_eq!(rt; line.len(), LINE_BYTES);
-    let bytes = given(&rt, &line);
+    let bytes = given(rt.alloc(), &line);
     assert_eq!(rt; bytes.len(), 299_999);
     assert_eq!(rt; bytes[299_998], 170);
     line.push(b'A').expect(&rt, "memory");
-    assert_eq!(rt; refused(&rt, &line), Some(600_000));
+    assert_eq!(rt; refused(rt.alloc(), &line), Some(600_000));
     line[0] = b'#';
-    assert_eq!(rt; refused_anywhere(&rt, &line), Some(600_000));
+    assert_eq!(rt; refused_anywhere(rt.alloc(), &line), Some(600_000));
 }
 
 // Whether the line is printed so, behind a byte that stood there.

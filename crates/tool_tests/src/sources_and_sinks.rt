@@ -35,38 +35,62 @@ fn the_second_read_fails_and_takes_nothing(rt: HostRuntime) -> Result<(), Fail> 
     Ok(())
 }
 
+// What a sink counts.
+fn counts(sink: &MemSink) -> (u64, u64) {
+    (sink.faults(), sink.refusals())
+}
+
+// Two writes to a sink with room, what they took, and what it counts.
+fn two_writes(alloc: Global) -> Result<(Result<usize, Failed>, Result<usize, Failed>, bool), Fail> {
+    let mut sink = MemSink::new(alloc, Vec::new(alloc));
+    sink.reserve(5)?;
+    let first = sink.write(b"abc");
+    let second = sink.write(b"de");
+    let is_held = sink.as_bytes() == b"abcde".as_slice() && counts(&sink) == (0, 0);
+    let is_given = sink.into_bytes().as_slice() == b"abcde".as_slice();
+    Ok((first, second, is_held && is_given))
+}
+
 #[test]
 fn what_is_written_is_held_in_order(rt: HostRuntime) -> Result<(), Fail> {
-    let mut sink = MemSink::new(rt.alloc(), Vec::new(rt.alloc()));
-    sink.reserve(5)?;
-    assert_eq!(rt; sink.write(b"abc"), Ok(3));
-    assert_eq!(rt; sink.write(b"de"), Ok(2));
-    assert_eq!(rt; sink.as_bytes(), b"abcde".as_slice());
-    assert_eq!(rt; (sink.faults(), sink.refusals()), (0, 0));
-    assert_eq!(rt; sink.into_bytes().as_slice(), b"abcde".as_slice());
+    assert_eq!(rt; two_writes(rt.alloc())?, (Ok(3), Ok(2), true));
     Ok(())
+}
+
+// Three writes of a byte, of which the second fails.
+fn write_three(sink: &mut MemSink) -> [Result<usize, Failed>; 3] {
+    [sink.write(b"a"), sink.write(b"b"), sink.write(b"c")]
+}
+
+// What they take, and whether the sink holds the others then.
+fn failing_writes(alloc: Global) -> Result<([Result<usize, Failed>; 3], bool), Fail> {
+    let mut sink = MemSink::new(alloc, Vec::from_slice(alloc, &[2])?);
+    let took = write_three(&mut sink);
+    let is_held = sink.as_bytes() == b"ac".as_slice();
+    Ok((took, is_held && counts(&sink) == (1, 0)))
 }
 
 #[test]
 fn the_second_write_fails_and_leaves_what_was_held(rt: HostRuntime) -> Result<(), Fail> {
-    let mut sink = MemSink::new(rt.alloc(), Vec::from_slice(rt.alloc(), &[2])?);
-    assert_eq!(rt; sink.write(b"a"), Ok(1));
-    assert_eq!(rt; sink.write(b"b"), Err(Failed));
-    assert_eq!(rt; sink.write(b"c"), Ok(1));
-    assert_eq!(rt; sink.as_bytes(), b"ac".as_slice());
-    assert_eq!(rt; (sink.faults(), sink.refusals()), (1, 0));
+    let want = [Ok(1), Err(Failed), Ok(1)];
+    assert_eq!(rt; failing_writes(rt.alloc())?, (want, true));
     Ok(())
+}
+
+// Writes to a sink of three bytes, and whether it holds the first three and no write of no bytes was refused.
+fn narrow_writes(alloc: Global) -> ([Result<usize, Failed>; 3], bool) {
+    let mut sink = MemSink::new(alloc, Vec::new(alloc)).with_limit(3);
+    let front = sink.write(b"abcde");
+    let none = sink.write(b"");
+    let is_unrefused = sink.refusals() == 0;
+    let more = sink.write(b"de");
+    let is_held = sink.as_bytes() == b"abc".as_slice() && counts(&sink) == (0, 1);
+    ([front, none, more], is_unrefused && is_held)
 }
 
 #[test]
 fn a_full_sink_takes_a_front_and_then_nothing(rt: HostRuntime) {
-    let mut sink = MemSink::new(rt.alloc(), Vec::new(rt.alloc())).with_limit(3);
-    assert_eq!(rt; sink.write(b"abcde"), Ok(3));
-    assert_eq!(rt; sink.write(b""), Ok(0));
-    assert_eq!(rt; sink.refusals(), 0);
-    assert_eq!(rt; sink.write(b"de"), Ok(0));
-    assert_eq!(rt; sink.as_bytes(), b"abc".as_slice());
-    assert_eq!(rt; (sink.faults(), sink.refusals()), (0, 1));
+    assert_eq!(rt; narrow_writes(rt.alloc()), ([Ok(3), Ok(0), Ok(0)], true));
 }
 
 #[test]

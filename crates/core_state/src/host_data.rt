@@ -82,7 +82,11 @@ impl Plant {
         ensures values { IfOk result (λ values. values ≡ value_items (constant_value self.now) (or_all constant_ids ids.now)) }
         ensures few { length ids.now ≤ 1024 → AreFew 1024 1 84 (value_items (constant_value self.now) (or_all constant_ids ids.now)) }
     {
-        values_of(alloc, &Equipment { plant: self }, or_all(&constant_ids(), ids))
+        values_of(
+            alloc,
+            &Equipment { plant: self },
+            or_all(&constant_ids(), ids),
+        )
     }
 
     /// The name of a status variable; empty for a number that is none of one that is built.
@@ -108,7 +112,11 @@ impl Plant {
 
     /// The names of these status variables, or of all where none is named (SEMI E5, S1F12).
     #[tactic(auto, using(crate::proofs::Small::few_status_names))]
-    pub fn status_names(&self, alloc: Global, ids: &[u32]) -> Result<Listed<VariableName>, AllocError>
+    pub fn status_names(
+        &self,
+        alloc: Global,
+        ids: &[u32],
+    ) -> Result<Listed<VariableName>, AllocError>
         ensures names { IfOk result (λ names. names ≡ map (status_name self.now) (or_all svids ids.now)) }
         ensures few { length ids.now ≤ 1024 → length (map (status_name self.now) (or_all svids ids.now)) ≤ 1024 }
     {
@@ -246,7 +254,11 @@ impl Plant {
     }
 
     /// Reports are defined and deleted, all of them or none (SEMI E5, S2F33). Gives DRACK.
-    pub fn define_reports(&mut self, alloc: Global, reports: &[(u32, Ids)]) -> Result<u8, AllocError>
+    pub fn define_reports(
+        &mut self,
+        alloc: Global,
+        reports: &[(u32, Ids)],
+    ) -> Result<u8, AllocError>
         ensures code { IfOk result (λ code. code ≡ drack reports.now self.old.reports) }
         ensures after { OnOk result (self.new ≡ record self.old { reports = defined reports.now self.old.reports }) }
     {
@@ -283,10 +295,7 @@ impl Plant {
 }
 
 // The constants that S2F15 sets, each with the value that its item says.
-fn settings_of(
-    alloc: Global,
-    settings: &[Setting],
-) -> Result<Vec<(u32, Option<Val>)>, AllocError>
+fn settings_of(alloc: Global, settings: &[Setting]) -> Result<Vec<(u32, Option<Val>)>, AllocError>
     ensures { IfOk result (λ sets. sets.items ≡ settings_of settings.now) }
 {
     let mut sets = Vec::new(alloc);

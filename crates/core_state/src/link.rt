@@ -15,7 +15,9 @@ use hsms_link::{LinkAct, LinkDue, LinkTimes};
 
 // The constants that are times of the link, by their ECIDs.
 const T7: u32 = 205;
+
 const T6: u32 = 206;
+
 const LINKTEST_PERIOD: u32 = 207;
 
 impl Plant {

@@ -48,6 +48,7 @@ const ESTABLISH_TIMEOUT: u32 = 201;
 
 // The numbers of the tables, as the definitions have them.
 const COMMUNICATION: u8 = 1;
+
 const CONTROL: u8 = 2;
 
 impl Plant {

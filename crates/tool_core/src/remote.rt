@@ -59,12 +59,7 @@ fn was_given(earlier: &[Parameter], name: &[u8]) -> bool
 
 /// CPACK of a parameter, behind these others: 1 for an unknown name, 3 for a wrong format, 2 for an unknown alarm and for a
 /// parameter that was given before, and else 0.
-fn cpack(
-    plant: &Plant,
-    command: RemoteCommand,
-    earlier: &[Parameter],
-    parameter: &Parameter,
-) -> u8
+fn cpack(plant: &Plant, command: RemoteCommand, earlier: &[Parameter], parameter: &Parameter) -> u8
     ensures { result ≡ cpack (remote_view command) plant.now.alarms earlier.now parameter.now }
 {
     let name = parameter.cpname();

@@ -8,6 +8,7 @@ pub mod AtText
 pub mod Stopping
 pub mod Standing
 pub mod Reading
+pub mod NotesOf
 pub mod Noting
 pub mod Progress
 pub mod Ending

@@ -1,9 +1,11 @@
 //! `feed`: lines in, lines out.
-ghost use Rattle.std.specs.Prelude.{◌≡◌, ◌≢◌, ◌≤◌, ◌↔◌, ◌⊎◌, ℕ, Some, [], List, length, Err, OnOk, IfErr};
+ghost use Rattle.std.specs.Prelude.{◌≡◌, ◌≢◌, ◌≤◌, ◌↔◌, ◌⊎◌, ℕ, Some, [], List, length, map, Err, OnOk, IfErr};
 ghost use Rattle.gem_ids.specs.Texts.{IsText};
 ghost use Rattle.outside.specs.Counts.{Rose};
 ghost use Rattle.tool_events.specs.Configs.{IsConfig};
+ghost use Rattle.note_line.specs.Fates.{LineValid, tells};
 ghost use Rattle.gem_model.specs.State.{opening};
+ghost use Rattle.gem_model.specs.Reported.{reported_in};
 ghost use Rattle.gem_model.specs.Run.{Run, after_all};
 ghost use Rattle.gem_model.specs.Sizes.{bytes_of};
 ghost use Rattle.gem_model.specs.Command.{misfit, known_config};
@@ -102,6 +104,7 @@ fn cause_of(read: InputRead, core: &Core, number: u64) -> Cause
 ///
 /// The configuration keeps its bounds (this tool's profile, docs/profile/configuration.md). The returned value has the
 /// history and a note of each session, and says by its status and cause why the run ended (docs/profile/lines.md).
+#[tactic(auto, using(crate::proofs::NotesOf::notes_of_none, crate::proofs::NotesOf::fates_of_none))]
 pub fn feed_config<S: Source, K: Sink>(
     alloc: Global,
     config: &Config,
@@ -111,6 +114,9 @@ pub fn feed_config<S: Source, K: Sink>(
     requires { IsConfig config.now }
     // The history is a run from the first state.
     ensures run { Run (opening config.now) result.history (after_all (opening config.now) result.history) }
+    // Where it leads, the notes are those of its firings and changes of alarms that are reported, in order, each with one fate.
+    ensures notes { map tells (after_all (opening config.now) result.history).line.told ≡ reported_in (opening config.now) result.history }
+    ensures fates { LineValid (after_all (opening config.now) result.history).line }
     // It is within the limits.
     ensures entries_fit { length result.history ≤ config.now.max_entries }
     ensures bytes_fit { bytes_of result.history ≤ config.now.max_bytes }
@@ -152,6 +158,7 @@ pub fn feed_config<S: Source, K: Sink>(
 /// The words are checked first, then the configuration is read and checked, then the input is read. The returned value
 /// has the history and a note of each session, and says by its status and cause why the run ended (this tool's profile,
 /// docs/profile/lines.md).
+#[tactic(auto, using(crate::proofs::NotesOf::notes_of_none, crate::proofs::NotesOf::fates_of_none))]
 pub fn feed<C: Source, S: Source, K: Sink>(
     alloc: Global,
     words: &[Text80],
@@ -161,6 +168,9 @@ pub fn feed<C: Source, S: Source, K: Sink>(
 ) -> Ended
     // The history is a run from the first state.
     ensures run { Run (opening known_config) result.history (after_all (opening known_config) result.history) }
+    // Where it leads, the notes are those of its firings and changes of alarms that are reported, in order, each with one fate.
+    ensures notes { map tells (after_all (opening known_config) result.history).line.told ≡ reported_in (opening known_config) result.history }
+    ensures fates { LineValid (after_all (opening known_config) result.history).line }
     // It is within the limits.
     ensures entries_fit { length result.history ≤ known_config.max_entries }
     ensures bytes_fit { bytes_of result.history ≤ known_config.max_bytes }

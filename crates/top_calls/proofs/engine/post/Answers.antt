@@ -1,6 +1,9 @@
-use Rattle.std.proofs.Common.{◌∙◌, ap}
+use Rattle.std.proofs.Common.{[], Err, ◌∙◌, ap, refl, sym}
+use Rattle.tool_events.specs.declared.answer.PostFault.{PostFault}
+use Rattle.tool_events.specs.Posts as posts
+use Rattle.gem_model.specs.Feed.{entry_of}
 use Rattle.tool_core.specs.CoreView.{CoreView}
-use Rattle.top_calls.proofs.Going.{Added, Goes-unmoved, Goes-added, Goes-added-write, Goes-added-memory, outcome_shown}
+use Rattle.top_calls.proofs.Going.{Added, Goes-unmoved, Goes-full, Goes-added, Goes-added-write, Goes-added-memory, outcome_shown}
 use Rattle.top_calls.proofs.engine.post.Goals as goal
 
 pub returns-in_default-clause-goes : goal.returns-in_default-clause-goes
@@ -31,3 +34,8 @@ returns-in-Err-Again g c =
       goes = Goes-unmoved _ _ _ _ (record { config = c.apply.ensures.config; history = ap (λ (core : CoreView). core.history) c.in-Err-Again.ensures.unchanged });
       whole = tt;
     }
+
+-- the limits stand
+pub returns-in-Err-Full-clause-goes : goal.returns-in-Err-Full-clause-goes
+returns-in-Err-Full-clause-goes g c =
+    Goes-full _ _ _ _ (entry_of c.args.at.0 c.args.event) [] (record { config = c.apply.ensures.config; history = ap (λ (core : CoreView). core.history) c.in-Err-Full.ensures.unchanged }) refl (sym c.in-Err-Full.ensures.full ∙ ap (λ (fault : PostFault). posts.is_full (Err fault)) c.in-Err-Full.field-0-is)

@@ -1,3 +1,8 @@
+use Rattle.std.proofs.Common.{subst}
+use Rattle.tool_events.specs.declared.config.Config.{Config}
+use Rattle.note_line.specs.Fates.{LineValid}
+use Rattle.gem_model.specs.State.{opening}
+use Rattle.gem_model.specs.Run.{after_all}
 use Rattle.gem_model.specs.Command.{known_config}
 use Rattle.top_calls.specs.Fed.{looked}
 use Rattle.top_calls.proofs.Ending.{Fed-refused, Shown-refused}
@@ -8,3 +13,6 @@ returns-in-Err-clause-fed g c = rw c.without_history-in-Err.ensures (Fed-refused
 
 pub returns-in-Err-clause-printed : goal.returns-in-Err-clause-printed
 returns-in-Err-clause-printed g c = rw c.without_history-in-Err.ensures (Shown-refused known_config c.in-Err.cause _ _ (g.K.Sink.held c.args.out.now) c.in-Err.ensures.refused)
+
+pub returns-in-Ok-clause-fates : goal.returns-in-Ok-clause-fates
+returns-in-Ok-clause-fates g c = subst (λ (k : Config). LineValid (after_all (opening k) c.feed_config.result.history).line) c.known_config.ensures.config c.feed_config.ensures.fates

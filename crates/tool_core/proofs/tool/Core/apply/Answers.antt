@@ -8,4 +8,4 @@ pub returns-then-not-self-clause-fates : goal.returns-then-not-self-clause-fates
 returns-then-not-self-clause-fates c = rw (← c.self.view_is) (line_valid _ _ _ c.self.invariant.run)
 
 pub returns-else-matches-clause-fates : goal.returns-else-matches-clause-fates
-returns-else-matches-clause-fates c = ?
+returns-else-matches-clause-fates c = rw (← c.self-2.view_is) (line_valid _ _ _ c.self-2.invariant.run)

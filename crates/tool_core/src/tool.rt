@@ -22,9 +22,11 @@ use crate::counts::SessionCounts;
 use crate::entries::Entries;
 use crate::react::{must_wait, react};
 use core_state::Plant;
-use gem_ids::Moment;
+use event_reports::{NoMemory, Values};
+use gem_ids::{Moment, Text80};
 use hsms_frame::Arrival;
 use note_line::Fate;
+use secs_items::Item;
 use std::alloc::{AllocError, Global};
 use std::marker::Model;
 use tool_events::{Answer, Config, Entry, Event, PostFault, SessionCause, SessionEnd};
@@ -110,6 +112,20 @@ impl Model for Core {
     ghost view = { λ c. record { config = c.config; state = state_of c.config c.entries.items; history = c.entries.items; is_whole = c.is_whole } };
 
     ghost invariant = { λ c. Replays c.config c.plant c.entries.items c.ends.items c.written c.bytes c.sessions c.is_up c.is_whole };
+}
+
+impl Values for Core {
+    ghost use Rattle.gem_model.specs.Values.{value_of as value};
+
+    ghost value_of = { λ c vid. value (record { object = []; row = 0 }) c.state vid };
+
+    /// The value of a variable outside a firing. A core that isn't whole answers `NoMemory`.
+    fn value(&self, alloc: Global, vid: u32) -> Result<Option<Item>, NoMemory> {
+        if !self.is_whole {
+            return Err(AllocError);
+        }
+        self.plant.showing(Text80::empty(), 0).value(alloc, vid)
+    }
 }
 
 impl Core {

@@ -1,6 +1,8 @@
 -- What is true of the elements of a list, where one leaves it, goes to its front, or comes to its rear.
-use Rattle.std.proofs.Common.{List, [], ◌∷◌, ◌++◌}
+use Rattle.std.proofs.Common.{◌≡◌, suc, ◌-◌, Bool, true, false, List, [], ◌∷◌, ◌++◌, length, drop, take, Option, Some, None, refl, arith}
+use Rattle.std.specs.Prelude.{ℕ, nat_le, slice_get, if◌then◌else◌}
 use Rattle.std.specs.List.{AllByRecursion}
+use Rattle.spool.specs.Full.{fitted, lost}
 use Rattle.note_line.specs.Order.{Pairwise}
 
 module _ {X : Type 0} where
@@ -45,3 +47,30 @@ module _ {X : Type 0} where
   pub pairs_pushed : (R : X → X → Type 0) (a : List X) (x : X) → AllByRecursion (λ y. R y x) a → Pairwise R a → Pairwise R (a ++ x ∷ [])
   pairs_pushed R [] x free p = (tt, tt)
   pairs_pushed R (y ∷ a) x free p = (all_joined (R y) a (x ∷ []) p.0 (free.0, tt), pairs_pushed R a x free.1 p.1)
+
+-- the second list is the first without at most one, which is the lost one
+pub data Loses {X : Type 0} : List X → List X → Option X → Type 0 where
+  loses_none : {xs : List X} → Loses xs xs None
+  loses_one : (a b : List X) (x : X) → Loses (a ++ x ∷ b) (a ++ b) (Some x)
+
+module _ {X : Type 0} where
+  pub first-loses : (xs : List X) → Loses xs (drop 1 xs) (slice_get xs 0)
+  first-loses [] = loses_none
+  first-loses (x ∷ xs) = loses_one [] xs x
+
+  later : (x : X) (xs ys : List X) (o : Option X) → Loses xs ys o → Loses (x ∷ xs) (x ∷ ys) o
+  later x _ _ _ loses_none = loses_none
+  later x _ _ _ (loses_one a b y) = loses_one (x ∷ a) b y
+
+  pub last-loses : (xs : List X) → Loses xs (take (length xs - 1) xs) (slice_get xs (length xs - 1))
+  last-loses [] = loses_none
+  last-loses (x ∷ []) = loses_one [] [] x
+  last-loses (x ∷ y ∷ xs) = let e : length (x ∷ y ∷ xs) - 1 ≡ suc (length (y ∷ xs) - 1) = omega arith in rw e (later x _ _ _ (last-loses (y ∷ xs)))
+
+  two_ways : (P : List X → Option X → Type 0) (b : Bool) (xs ys : List X) (o p : Option X) → P xs o → P ys p → P (if b then xs else ys) (if b then o else p)
+  two_ways P true xs ys o p h k = h
+  two_ways P false xs ys o p h k = k
+
+  -- the rule of a full spool loses one at most
+  pub fitted-loses : (overwrite : Bool) (n : ℕ) (xs : List X) → Loses xs (fitted overwrite n xs) (lost overwrite n xs)
+  fitted-loses overwrite n xs = two_ways (Loses xs) (nat_le (length xs) n) _ _ _ _ loses_none (two_ways (Loses xs) overwrite _ _ _ _ (first-loses xs) (last-loses xs))

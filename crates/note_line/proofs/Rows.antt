@@ -1,40 +1,89 @@
--- What each thing that happens to the line keeps.
-use Rattle.std.proofs.Common.{◌≡◌, ℕ, zero, suc, option_map, ◌+◌, Bool, true, false, List, [], ◌∷◌, ◌++◌, Option, Some, None, refl, ap, arith, append_assoc, ◌∙◌}
-use Rattle.std.specs.List.{count_by}
+-- What each effect does to the line: it keeps it valid, and fates.
+use Rattle.std.proofs.Common.{◌≡◌, ℕ, suc, zero, ◌+◌, ◌<◌, ◌≤◌, ◌==◌, Bool, true, false, not, ◌||◌, ◌&&◌, List, [], ◌∷◌, ◌++◌, length, Option, Some, None, option_map, find, is_some, refl, sym, ap, subst, arith, cond, append_assoc, ◌∙◌}
+use Rattle.std.specs.Prelude.{nat_lt, if◌then◌else◌}
+use Rattle.std.specs.List.{AllByRecursion, count_by}
 use Rattle.std.specs.Option.{option_to_list}
+use Rattle.std.proofs.lemmas.Bool.{true≢false}
 use Rattle.std.proofs.lemmas.List.{length_push}
 use Rattle.std.proofs.lemmas.List.Sums.{sum_by_push, sum_by-cons}
 use Rattle.std.proofs.lemmas.Bool.Decides.{nat_tests}
-use Rattle.note_line.specs.declared.note.Note.{Note}
-use Rattle.note_line.specs.declared.note.Kind.{Kind}
+use Rattle.spool.specs.declared.note.Note.{Note}
+use Rattle.spool.specs.declared.note.Kind.{Kind}
+use Rattle.spool.specs.declared.note.Kind.TheVariants.{Event, Alarm}
+use Rattle.spool.specs.Spool as spool
+use Rattle.spool.specs.Spool.{Spool, has_note, is_inactive}
+use Rattle.spool.specs.Table as states
+use Rattle.spool.specs.Table.{spool_rows, spool_fired}
+use Rattle.note_line.specs.declared.around.Around.{Around}
+use Rattle.note_line.specs.declared.around.SpooledKinds.{SpooledKinds}
 use Rattle.note_line.specs.declared.fate.Told.{Told}
 use Rattle.note_line.specs.declared.fate.Fate.{Fate}
-use Rattle.note_line.specs.declared.fate.Fate.TheVariants.{Answered, Open, Waiting, Dropped}
-use Rattle.note_line.specs.declared.fate.DropCause.TheVariants.{NoSpool}
-use Rattle.note_line.specs.Line.{Line, opening, next, standing, fate_of, fated, noted, with_head, with_open, sent, drop_head, open_head, fail_open, answered}
-use Rattle.note_line.specs.Order.{Before}
-use Rattle.note_line.specs.Fates.{is_waiting, is_open, is_ended, tells, is_number, passes, has_fate, one_if, IsTold, LineValid, KeepsFates}
-use Rattle.note_line.proofs.Lists.{all_joined, all_mapped, pairs_pushed}
+use Rattle.note_line.specs.declared.fate.Fate.TheVariants.{Answered, Open, Waiting, Spooled, Dropped}
+use Rattle.note_line.specs.declared.fate.DropCause.{DropCause}
+use Rattle.note_line.specs.declared.fate.DropCause.TheVariants.{NoSpool, Full, Purged}
+use Rattle.note_line.specs.Line.{Line, opening, next, standing, is_spooled_kind, in_kind, fate_of, fated, noted, with_head, with_open, restated, lost_is_dropped, spooled, returned, sent, spool_head, drop_head, open_head, open_oldest_of, open_oldest, purge_oldest_of, purge_oldest, failed, fail_open, answered, with_kinds, begun}
+use Rattle.note_line.specs.Table3.{first_is, head_in_kind, head_may_go}
+use Rattle.note_line.specs.Order.{Pairwise, Before}
+use Rattle.note_line.specs.Limits.{IsShort, AreShort}
+use Rattle.note_line.specs.Fates.{is_waiting, is_spooled, is_open, is_ended, tells, is_number, passes, has_fate, one_if, IsTold, OfKinds, LineValid, KeepsFates}
+use Rattle.note_line.proofs.Lists.{all_joined, all_mapped, all_without, pairs_pushed, Loses, loses_none, loses_one, fitted-loses}
 use Rattle.note_line.proofs.Numbers.{told_of-more, told_of-last, has_fate-more, fate-given}
-use Rattle.note_line.proofs.Moves.{leaves, passes_by, Moves, moves-valid, moves-fates}
+use Rattle.note_line.proofs.Moves.{stays, leaves, passes_by, Moves, moves-valid, moves-fates, shifts-all}
 
 -- the line stays valid, and fates are kept
 pub record Keeps (g h : Line) : Type 0 where
   pub valid : LineValid h
   pub fates : KeepsFates g h
 
--- ---- nothing happens
+-- and the texts stay within the limit
+pub record Goes (g h : Line) : Type 0 where
+  pub valid : LineValid h
+  pub fates : KeepsFates g h
+  pub short : AreShort g → AreShort h
+
+pub keeps : (g h : Line) → Goes g h → Keeps g h
+keeps g h goes = record { valid = goes.valid; fates = goes.fates }
+
+-- ---- words
+
+pub and_first : (a b : Bool) → (a && b) ≡ true → a ≡ true
+and_first true b e = refl
+and_first false b e = absurd (true≢false (sym e))
+
+pub and_second : (a b : Bool) → (a && b) ≡ true → b ≡ true
+and_second true b e = e
+and_second false b e = absurd (true≢false (sym e))
+
+-- what a search in a table finds, passes and is of the table
+pub find_gives : {X : Type 0} (P : X → Type 0) (test : X → Bool) (xs : List X) (x : X) → AllByRecursion P xs → find test xs ≡ Some x → P x × (test x ≡ true)
+find_gives P test [] x p e = absurd (cc)
+find_gives P test (y ∷ ys) x p e = by_test (test y) refl e (find_gives P test ys x p.1) where
+  by_test : (b : Bool) → test y ≡ b → cond b (Some y) (find test ys) ≡ Some x → (find test ys ≡ Some x → P x × (test x ≡ true)) → P x × (test x ≡ true)
+  by_test true here f later = let same : y ≡ x = cc in subst (λ z. P z × (test z ≡ true)) same (p.0, here)
+  by_test false here f later = later f
+
+-- ---- one after another
 
 pub fates-same : (l : Line) → KeepsFates l l
 fates-same l = record { numbers = omega arith; what = λ number b. refl; ended = λ number fate e over. e }
 
-same : (l : Line) → LineValid l → Keeps l l
-same l v = record { valid = v; fates = fates-same l }
+pub fates-trans : (g m h : Line) → KeepsFates g m → KeepsFates m h → KeepsFates g h
+fates-trans g m h p q = record {
+  numbers = omega (arith, p.numbers, q.numbers);
+  what = λ number b. q.what number (omega (arith, p.numbers)) ∙ p.what number b;
+  ended = λ number fate e over. q.ended number fate (p.ended number fate e over) over;
+}
+
+same : (l : Line) → LineValid l → Goes l l
+same l v = record { valid = v; fates = fates-same l; short = λ s. s }
+
+together : (g m h : Line) → Goes g m → Goes m h → Goes g h
+together g m h p q = record { valid = q.valid; fates = fates-trans g m h p.fates q.fates; short = λ s. q.short (p.short s) }
 
 -- ---- a note goes from one fate to another
 
-moved : (g h : Line) → LineValid g → Moves g h → Keeps g h
-moved g h v m = record { valid = moves-valid g h m v; fates = moves-fates g h m }
+moved : (g h : Line) → LineValid g → Moves g h → Goes g h
+moved g h v m = record { valid = moves-valid g h m v; fates = moves-fates g h m; short = shifts-all IsShort m.note _ _ m.shifts }
 
 -- a fate that passes the test of a place
 waits : (fate : Option Fate) → passes is_waiting fate ≡ true → fate ≡ Some Waiting
@@ -42,36 +91,57 @@ waits None e = absurd (cc)
 waits (Some Answered) e = absurd (cc)
 waits (Some Open) e = absurd (cc)
 waits (Some Waiting) e = refl
+waits (Some Spooled) e = absurd (cc)
 waits (Some (Dropped cause)) e = absurd (cc)
+
+lies : (fate : Option Fate) → passes is_spooled fate ≡ true → fate ≡ Some Spooled
+lies None e = absurd (cc)
+lies (Some Answered) e = absurd (cc)
+lies (Some Open) e = absurd (cc)
+lies (Some Waiting) e = absurd (cc)
+lies (Some Spooled) e = refl
+lies (Some (Dropped cause)) e = absurd (cc)
 
 is_sent : (fate : Option Fate) → passes is_open fate ≡ true → fate ≡ Some Open
 is_sent None e = absurd (cc)
 is_sent (Some Answered) e = absurd (cc)
 is_sent (Some Open) e = refl
 is_sent (Some Waiting) e = absurd (cc)
+is_sent (Some Spooled) e = absurd (cc)
 is_sent (Some (Dropped cause)) e = absurd (cc)
 
 count-cons : (number : ℕ) (note : Note) (notes : List Note) → count_by (is_number number) (note ∷ notes) ≡ one_if (is_number number note) + count_by (is_number number) notes
 count-cons number note notes = sum_by-cons (λ (x : Note). one_if (is_number number x)) note notes
 
--- the first of the notes of a place passes its test
-first_passes : (note : Note) (notes : List Note) (b : Bool) → count_by (is_number note.number) (note ∷ notes) ≡ one_if b → b ≡ true
-first_passes note notes true e = refl
-first_passes note notes false e =
+count-push : (number : ℕ) (notes : List Note) (note : Note) → count_by (is_number number) (notes ++ note ∷ []) ≡ count_by (is_number number) notes + one_if (is_number number note)
+count-push number notes note = sum_by_push (λ (x : Note). one_if (is_number number x)) notes note
+
+-- with one of the notes, and without it
+count-within : (number : ℕ) (a b : List Note) (note : Note) → count_by (is_number number) (a ++ note ∷ b) ≡ one_if (is_number number note) + count_by (is_number number) (a ++ b)
+count-within number [] b note = count-cons number note b
+count-within number (y ∷ a) b note = omega (arith, count-within number a b note, count-cons number y (a ++ note ∷ b), count-cons number y (a ++ b))
+
+-- one of the notes of a place passes its test
+one_passes : (a b : List Note) (note : Note) (t : Bool) → count_by (is_number note.number) (a ++ note ∷ b) ≡ one_if t → t ≡ true
+one_passes a b note true e = refl
+one_passes a b note false e =
     let here : is_number note.number note ≡ true = grind (arith, nat_tests) in
     let one : one_if (is_number note.number note) ≡ 1 = rw here refl in
-    absurd (omega (arith, one, count-cons note.number note notes, e))
+    absurd (omega (arith, one, count-within note.number a b note, e))
 
--- the fates of the note that waits first and of the open one
+-- the fates of the note that waits first, of a spooled one, and of the open one
 pub head_waits : (l : Line) (note : Note) (notes : List Note) → l.waiting ≡ note ∷ notes → LineValid l → fate_of note.number l.told ≡ Some Waiting
-head_waits l note notes w v = waits _ (first_passes note notes _ (rw w at (v.fated.waiting note.number)))
+head_waits l note notes w v = waits _ (one_passes [] notes note _ (rw w at (v.fated.waiting note.number)))
+
+pub spooled_lies : (l : Line) (a b : List Note) (note : Note) → l.spool.notes ≡ a ++ note ∷ b → LineValid l → fate_of note.number l.told ≡ Some Spooled
+spooled_lies l a b note w v = lies _ (one_passes a b note _ (rw w at (v.fated.spooled note.number)))
 
 pub open_is_open : (l : Line) (note : Note) → l.opened ≡ Some note → LineValid l → fate_of note.number l.told ≡ Some Open
-open_is_open l note o v = is_sent _ (first_passes note [] _ (rw o at (v.fated.opened note.number)))
+open_is_open l note o v = is_sent _ (one_passes [] [] note _ (rw o at (v.fated.opened note.number)))
 
--- ---- each effect
+-- ---- notes move
 
-pub head-dropped : (l : Line) (notes : List Note) → l.waiting ≡ notes → LineValid l → Keeps l (with_head (fated (Dropped NoSpool)) notes l)
+head-dropped : (l : Line) (notes : List Note) → l.waiting ≡ notes → LineValid l → Goes l (with_head (fated (Dropped NoSpool)) notes l)
 head-dropped l [] w v = same l v
 head-dropped l (note ∷ notes) w v = moved l _ v (record {
   note = note;
@@ -80,51 +150,262 @@ head-dropped l (note ∷ notes) w v = moved l _ v (record {
   was = head_waits l note notes w v;
   stood = refl;
   told = refl;
-  shifts = leaves (option_to_list l.opened) notes (rw w refl) refl;
+  shifts = leaves (option_to_list l.opened ++ l.spool.notes) notes (rw w (simp append_assoc)) (simp append_assoc);
   waiting = λ number. rw w (let e = count-cons number note notes in omega (arith, e));
+  spooled = λ number. refl;
   opened = λ number. refl;
+  of_kinds = λ k. k;
 })
 
-pub head-sent : (l : Line) (notes : List Note) → l.waiting ≡ notes → l.opened ≡ None → LineValid l → Keeps l (with_head sent notes l)
-head-sent l [] w o v = same l v
-head-sent l (note ∷ notes) w o v = moved l _ v (record {
+-- the head goes to the open place, past spooled notes that it may stand before
+head-sent : (l : Line) (notes : List Note) → l.waiting ≡ notes → l.opened ≡ None → first_is (λ note. not (in_kind l.kinds note) || is_inactive l.spool.load) notes ≡ true → ((note : Note) → (not (in_kind l.kinds note) || is_inactive l.spool.load) ≡ true → AllByRecursion (Before note) l.spool.notes) → LineValid l → Goes l (with_head sent notes l)
+head-sent l [] w o may free v = same l v
+head-sent l (note ∷ notes) w o may free v = moved l _ v (record {
   note = note;
   from = Waiting;
   to = Open;
   was = head_waits l note notes w v;
   stood = refl;
   told = refl;
-  shifts = passes_by [] notes tt (rw (o, w) refl) refl;
+  shifts = passes_by l.spool.notes notes (free note may) (rw (o, w) refl) refl;
   waiting = λ number. rw w (let e = count-cons number note notes in omega (arith, e));
+  spooled = λ number. refl;
   opened = λ number. rw o (let e = count-cons number note [] in omega (arith, e));
+  of_kinds = λ k. k;
+})
+
+-- the head goes to the rear of the spool
+head-spooled : (l : Line) (note : Note) (notes : List Note) (s : Spool) → l.waiting ≡ note ∷ notes → s.notes ≡ l.spool.notes ++ note ∷ [] → in_kind l.kinds note ≡ true → LineValid l → Goes l (fated Spooled note (record l { waiting = notes; spool = s }))
+head-spooled l note notes s w e in_kinds v = moved l _ v (record {
+  note = note;
+  from = Waiting;
+  to = Spooled;
+  was = head_waits l note notes w v;
+  stood = refl;
+  told = refl;
+  shifts = stays (rw (w, e) (simp append_assoc));
+  waiting = λ number. rw w (let k = count-cons number note notes in omega (arith, k));
+  spooled = λ number. rw e (let k = count-push number l.spool.notes note in omega (arith, k));
+  opened = λ number. refl;
+  of_kinds = λ k. rw e (all_joined _ l.spool.notes (note ∷ []) k (in_kinds, tt));
+})
+
+-- the open note goes to the front of the spool
+open-spooled : (l : Line) (note : Note) (s : Spool) → l.opened ≡ Some note → s.notes ≡ note ∷ l.spool.notes → in_kind l.kinds note ≡ true → LineValid l → Goes l (fated Spooled note (record l { opened = None; spool = s }))
+open-spooled l note s o e in_kinds v = moved l _ v (record {
+  note = note;
+  from = Open;
+  to = Spooled;
+  was = open_is_open l note o v;
+  stood = refl;
+  told = refl;
+  shifts = stays (rw (o, e) refl);
+  waiting = λ number. refl;
+  spooled = λ number. rw e (let k = count-cons number note l.spool.notes in omega (arith, k));
+  opened = λ number. rw o (let k = count-cons number note [] in omega (arith, k));
+  of_kinds = λ k. rw e (in_kinds, k);
+})
+
+-- the oldest spooled note goes to the open place
+oldest-sent : (l : Line) (note : Note) (notes : List Note) (s : Spool) → l.spool.notes ≡ note ∷ notes → l.opened ≡ None → s.notes ≡ notes → LineValid l → Goes l (sent note (record l { spool = s }))
+oldest-sent l note notes s w o e v = moved l _ v (record {
+  note = note;
+  from = Spooled;
+  to = Open;
+  was = spooled_lies l [] notes note w v;
+  stood = refl;
+  told = refl;
+  shifts = stays (rw (o, w, e) refl);
+  waiting = λ number. refl;
+  spooled = λ number. rw (w, e) (let k = count-cons number note notes in omega (arith, k));
+  opened = λ number. rw o (let k = count-cons number note [] in omega (arith, k));
+  of_kinds = λ k. rw e (subst (AllByRecursion (λ note. in_kind l.kinds note ≡ true)) w k).1;
+})
+
+-- a spooled note is dropped
+spooled-dropped : (cause : DropCause) (l : Line) (a b : List Note) (note : Note) (s : Spool) → l.spool.notes ≡ a ++ note ∷ b → s.notes ≡ a ++ b → LineValid l → Goes l (fated (Dropped cause) note (record l { spool = s }))
+spooled-dropped cause l a b note s w e v = moved l _ v (record {
+  note = note;
+  from = Spooled;
+  to = Dropped cause;
+  was = spooled_lies l a b note w v;
+  stood = refl;
+  told = refl;
+  shifts = leaves (option_to_list l.opened ++ a) (b ++ l.waiting) (rw w (simp append_assoc)) (rw e (simp append_assoc));
+  waiting = λ number. refl;
+  spooled = λ number. rw (w, e) (let k = count-within number a b note in omega (arith, k));
+  opened = λ number. refl;
+  of_kinds = λ k. rw e (all_without _ a b note (subst (AllByRecursion (λ note. in_kind l.kinds note ≡ true)) w k));
 })
 
 -- the open note ends
-pub open-ended : (l : Line) (fate : Fate) (one : Option Note) → is_ended fate ≡ true → is_waiting fate ≡ false → is_open fate ≡ false → l.opened ≡ one → LineValid l → Keeps l (with_open (fated fate) one l)
-open-ended l fate None ended w p o v = same l v
-open-ended l fate (Some note) ended w p o v = moved l _ v (record {
+open-ended : (l : Line) (fate : Fate) (note : Note) → is_ended fate ≡ true → is_waiting fate ≡ false → is_spooled fate ≡ false → is_open fate ≡ false → l.opened ≡ Some note → LineValid l → Goes l (fated fate note (record l { opened = None }))
+open-ended l fate note ended w s p o v = moved l _ v (record {
   note = note;
   from = Open;
   to = fate;
   was = open_is_open l note o v;
   stood = refl;
   told = refl;
-  shifts = leaves [] l.waiting (rw o refl) refl;
+  shifts = leaves [] (l.spool.notes ++ l.waiting) (rw o refl) refl;
   waiting = λ number. rw w refl;
+  spooled = λ number. rw s refl;
   opened = λ number. rw (o, p) (let e = count-cons number note [] in omega (arith, e));
+  of_kinds = λ k. k;
 })
 
-pub drop-keeps : (l : Line) → LineValid l → Keeps l (drop_head l)
-drop-keeps l v = head-dropped l l.waiting refl v
+-- ---- the rule of a full spool
 
-pub open-keeps : (l : Line) → l.opened ≡ None → LineValid l → Keeps l (open_head l)
-open-keeps l o v = head-sent l l.waiting refl o v
+-- g leads to a line whose spool has these notes, of which one may then be lost
+lost-dropped : (g b : Line) (s : Spool) (xs ys : List Note) (o : Option Note) → Loses xs ys o → s.notes ≡ ys → ((t : Spool) → t.notes ≡ xs → Goes g (record b { spool = t })) → Goes g (lost_is_dropped o (record b { spool = s }))
+lost-dropped g b s xs _ _ loses_none e to = to s e
+lost-dropped g b s _ _ _ (loses_one a c x) e to =
+    let whole : Spool = record s { notes = a ++ x ∷ c } in
+    let first = to whole refl in
+    together g (record b { spool = whole }) _ first (spooled-dropped Full (record b { spool = whole }) a c x s refl e first.valid)
 
-pub fail-keeps : (l : Line) → LineValid l → Keeps l (fail_open l)
-fail-keeps l v = open-ended l (Dropped NoSpool) l.opened refl refl refl refl v
+pub head-to-spool : (l : Line) (overwrite : Bool) (notes : List Note) → l.waiting ≡ notes → first_is (in_kind l.kinds) notes ≡ true → LineValid l → Goes l (with_head (spooled overwrite) notes l)
+head-to-spool l overwrite [] w k v = same l v
+head-to-spool l overwrite (note ∷ notes) w k v =
+    lost-dropped l (fated Spooled note (record l { waiting = notes })) (spool.pushed overwrite note l.spool) (l.spool.notes ++ note ∷ []) _ _
+    (fitted-loses overwrite l.spool.capacity (l.spool.notes ++ note ∷ [])) refl
+    (λ t e. head-spooled l note notes t w e k v)
+
+open-to-spool : (l : Line) (overwrite : Bool) (note : Note) → l.opened ≡ Some note → in_kind l.kinds note ≡ true → LineValid l → Goes l (returned overwrite note (record l { opened = None }))
+open-to-spool l overwrite note o k v =
+    lost-dropped l (fated Spooled note (record l { opened = None })) (spool.put_back overwrite note l.spool) (note ∷ l.spool.notes) _ _
+    (fitted-loses overwrite l.spool.capacity (note ∷ l.spool.notes)) refl
+    (λ t e. open-spooled l note t o e k v)
+
+-- ---- the states of the spool
+
+-- a row of the spool moves no note
+fired-notes : (row : ℕ) (s : Spool) → (spool_fired row s).notes ≡ s.notes
+fired-notes row s = of (states.row_of row) refl where
+  either : (b : Bool) (x y : Spool) → x.notes ≡ y.notes → (if b then x else y).notes ≡ y.notes
+  either true x y e = e
+  either false x y e = refl
+
+  of : (one : Option states.Row) → states.row_of row ≡ one → (states.effect_of one s).notes ≡ s.notes
+  of None q = refl
+  of (Some r) q = either (r.when s) (r.effect s) s
+      (find_gives (λ (x : states.Row). (x.effect s).notes ≡ s.notes) (λ x. x.number == row) spool_rows r (refl, (refl, (refl, (refl, (refl, (refl, (refl, tt))))))) q).0
+
+-- another spool with the same notes
+respooled : (l : Line) (s : Spool) → s.notes ≡ l.spool.notes → LineValid l → Goes l (record l { spool = s })
+respooled l s e v = record {
+  valid = record {
+    in_order = subst (Pairwise Before) (sym stand) v.in_order;
+    fated = record {
+      told = subst (AllByRecursion (IsTold h)) (sym stand) (all_mapped (IsTold l) (IsTold h) told_still (standing l) v.fated.told);
+      waiting = v.fated.waiting;
+      spooled = λ number. ap (count_by (is_number number)) e ∙ v.fated.spooled number;
+      opened = v.fated.opened;
+    };
+    of_kinds = subst (AllByRecursion (λ note. in_kind l.kinds note ≡ true)) (sym e) v.of_kinds;
+  };
+  fates = record { numbers = omega arith; what = λ number b. refl; ended = λ number fate f over. f };
+  short = λ short. subst (AllByRecursion IsShort) (sym stand) short;
+} where
+  h : Line
+  h = record l { spool = s }
+
+  stand : standing h ≡ standing l
+  stand = ap (λ notes. option_to_list l.opened ++ (notes ++ l.waiting)) e
+
+  told_still : (note : Note) → IsTold l note → IsTold h note
+  told_still note is = record { from_one = is.from_one; below = is.below; what = is.what }
+
+pub restated-goes : (row : ℕ) (l : Line) → LineValid l → Goes l (restated row l)
+restated-goes row l v = respooled l (spool_fired row l.spool) (fired-notes row l.spool) v
+
+pub begun-goes : (rsdc : ℕ) (a : Around) (l : Line) → LineValid l → Goes l (begun rsdc a l)
+begun-goes rsdc a l v = respooled l (spool.begun rsdc a.most_sent l.spool) (of (spool.rsda l.spool == 0) (rsdc == 0)) v where
+  of : (starts sends : Bool) → (if starts then (if sends then spool.transmits a.most_sent l.spool else spool.purges l.spool) else l.spool).notes ≡ l.spool.notes
+  of true true = refl
+  of true false = refl
+  of false sends = refl
+
+-- ---- each effect
+
+pub drop-goes : (l : Line) → LineValid l → Goes l (drop_head l)
+drop-goes l v = head-dropped l l.waiting refl v
+
+pub spool-goes : (a : Around) (l : Line) → head_in_kind l ≡ true → LineValid l → Goes l (spool_head a l)
+spool-goes a l k v = head-to-spool l a.overwrites l.waiting refl k v
+
+-- a spool without a note
+no_notes : (notes : List Note) → (nat_lt 0 (length notes)) ≡ false → notes ≡ []
+no_notes [] e = refl
+no_notes (note ∷ notes) e = absurd (grind (arith, nat_tests))
+
+-- a note of a kind that isn't spooled may stand before all spooled ones
+free_of_kinds : (kinds : SpooledKinds) (note : Note) (notes : List Note) → in_kind kinds note ≡ false → AllByRecursion (λ x. in_kind kinds x ≡ true) notes → AllByRecursion (Before note) notes
+free_of_kinds kinds note notes out are = all_mapped (λ x. in_kind kinds x ≡ true) (Before note) (λ x here one_kind. absurd (true≢false (sym here ∙ (ap (is_spooled_kind kinds) (sym one_kind) ∙ out)))) notes are
+
+-- where row 1 isn't ready, a head that may be sent may stand before the spooled notes
+may_stand : (l : Line) → (is_inactive l.spool.load && has_note l.spool) ≡ false → LineValid l → (note : Note) → (not (in_kind l.kinds note) || is_inactive l.spool.load) ≡ true → AllByRecursion (Before note) l.spool.notes
+may_stand l quiet v note may = of (in_kind l.kinds note) (is_inactive l.spool.load) refl may quiet where
+  of : (k i : Bool) → in_kind l.kinds note ≡ k → (not k || i) ≡ true → (i && has_note l.spool) ≡ false → AllByRecursion (Before note) l.spool.notes
+  of true true is e q = rw (no_notes l.spool.notes q) tt
+  of true false is e q = absurd (true≢false (sym e))
+  of false i is e q = free_of_kinds l.kinds note l.spool.notes is v.of_kinds
+
+pub open-goes : (l : Line) → (is_inactive l.spool.load && has_note l.spool) ≡ false → head_may_go l ≡ true → l.opened ≡ None → LineValid l → Goes l (open_head l)
+open-goes l quiet may o v = head-sent l l.waiting refl o may (may_stand l quiet v) v
+
+pub oldest-goes : (l : Line) → l.opened ≡ None → LineValid l → Goes l (open_oldest l)
+oldest-goes l o v = of l.spool.notes refl where
+  of : (notes : List Note) → l.spool.notes ≡ notes → Goes l (open_oldest_of notes l)
+  of [] w = same l v
+  of (note ∷ notes) w = oldest-sent l note notes (spool.sent l.spool) w o (rw w refl) v
+
+pub purge-goes : (l : Line) → LineValid l → Goes l (purge_oldest l)
+purge-goes l v = of l.spool.notes refl where
+  of : (notes : List Note) → l.spool.notes ≡ notes → Goes l (purge_oldest_of notes l)
+  of [] w = same l v
+  of (note ∷ notes) w = spooled-dropped Purged l [] notes note (spool.purged l.spool) w (rw w refl) v
+
+-- the transaction of the open note fails
+failed-goes : (a : Around) (l : Line) (note : Note) → l.opened ≡ Some note → LineValid l → Goes l (failed a note (record l { opened = None }))
+failed-goes a l note o v = of (in_kind l.kinds note) refl where
+  of : (b : Bool) → in_kind l.kinds note ≡ b → Goes l (if b then returned a.overwrites note (record l { opened = None }) else fated (Dropped NoSpool) note (record l { opened = None }))
+  of true k = open-to-spool l a.overwrites note o k v
+  of false k = open-ended l (Dropped NoSpool) note refl refl refl refl o v
+
+with-open : (act : Note → Line → Line) (l : Line) (one : Option Note) → l.opened ≡ one → ((note : Note) → l.opened ≡ Some note → Goes l (act note (record l { opened = None }))) → LineValid l → Goes l (with_open act one l)
+with-open act l None o goes v = same l v
+with-open act l (Some note) o goes v = goes note o
+
+pub fail-goes : (a : Around) (l : Line) → LineValid l → Goes l (fail_open a l)
+fail-goes a l v =
+    let first = with-open (failed a) l l.opened refl (λ note o. failed-goes a l note o v) v in
+    together l _ _ first (restated-goes 14 _ first.valid)
+
+pub answered-goes : (l : Line) → LineValid l → Goes l (answered l)
+answered-goes l v = with-open (fated Answered) l l.opened refl (λ note o. open-ended l Answered note refl refl refl refl o v) v
 
 pub answered-keeps : (l : Line) → LineValid l → Keeps l (answered l)
-answered-keeps l v = open-ended l Answered l.opened refl refl refl refl v
+answered-keeps l v = keeps _ _ (answered-goes l v)
+
+-- ---- the kinds
+
+-- where no note is spooled, other kinds may be
+pub kinds-goes : (kinds : SpooledKinds) (l : Line) → has_note l.spool ≡ false → LineValid l → Goes l (with_kinds kinds l)
+kinds-goes kinds l none v = record {
+  valid = record {
+    in_order = v.in_order;
+    fated = record { told = all_mapped _ _ told_still _ v.fated.told; waiting = v.fated.waiting; spooled = v.fated.spooled; opened = v.fated.opened };
+    of_kinds = rw (no_notes l.spool.notes none) tt;
+  };
+  fates = record { numbers = omega arith; what = λ number b. refl; ended = λ number fate f over. f };
+  short = λ short. short;
+} where
+  told_still : (note : Note) → IsTold l note → IsTold (with_kinds kinds l) note
+  told_still note is = record { from_one = is.from_one; below = is.below; what = is.what }
+
+pub kinds-keeps : (kinds : SpooledKinds) (l : Line) → has_note l.spool ≡ false → LineValid l → Keeps l (with_kinds kinds l)
+kinds-keeps kinds l none v = keeps _ _ (kinds-goes kinds l none v)
 
 -- ---- a new note
 
@@ -134,7 +415,7 @@ noted_standing kind id text l = simp append_assoc
 noted-next : (kind : Kind) (id : ℕ) (text : List ℕ) (l : Line) → next (noted kind id text l) ≡ suc (next l)
 noted-next kind id text l = omega (arith, length_push l.told (record { kind = kind; id = id; fate = Waiting }))
 
--- what was told of is told of still
+-- what is told of is told of still
 told_still : (kind : Kind) (id : ℕ) (text : List ℕ) (l : Line) (note : Note) → IsTold l note → IsTold (noted kind id text l) note
 told_still kind id text l note is = record {
   from_one = is.from_one;
@@ -154,9 +435,11 @@ noted-valid kind id text l v = record {
   in_order = rw (noted_standing kind id text l) (pairs_pushed Before (standing l) _ (all_mapped (IsTold l) _ (λ note is one_kind. is.below) (standing l) v.fated.told) v.in_order);
   fated = record {
     told = rw (noted_standing kind id text l) (all_joined _ (standing l) (_ ∷ []) (all_mapped (IsTold l) _ (told_still kind id text l) (standing l) v.fated.told) (new_is_told kind id text l, tt));
-    waiting = λ number. let e = v.fated.waiting number in omega (arith, e, sum_by_push (λ (x : Note). one_if (is_number number x)) l.waiting (record { number = next l; kind = kind; id = id; text = text }), has_fate-more is_waiting number l.told (record { kind = kind; id = id; fate = Waiting }));
+    waiting = λ number. let e = v.fated.waiting number in omega (arith, e, count-push number l.waiting (record { number = next l; kind = kind; id = id; text = text }), has_fate-more is_waiting number l.told (record { kind = kind; id = id; fate = Waiting }));
+    spooled = λ number. let e = v.fated.spooled number in omega (arith, e, has_fate-more is_spooled number l.told (record { kind = kind; id = id; fate = Waiting }));
     opened = λ number. let e = v.fated.opened number in omega (arith, e, has_fate-more is_open number l.told (record { kind = kind; id = id; fate = Waiting }));
   };
+  of_kinds = v.of_kinds;
 }
 
 noted-fates : (kind : Kind) (id : ℕ) (text : List ℕ) (l : Line) → KeepsFates l (noted kind id text l)
@@ -175,5 +458,5 @@ none_given : (test : Fate → Bool) (number : ℕ) → 0 ≡ one_if (has_fate te
 none_given test zero = refl
 none_given test (suc place) = refl
 
-pub opening-valid : LineValid opening
-opening-valid = record { in_order = tt; fated = record { told = tt; waiting = none_given is_waiting; opened = none_given is_open } }
+pub opening-valid : (capacity : ℕ) (kinds : SpooledKinds) → LineValid (opening capacity kinds)
+opening-valid capacity kinds = record { in_order = tt; fated = record { told = tt; waiting = none_given is_waiting; spooled = none_given is_spooled; opened = none_given is_open }; of_kinds = tt }

@@ -1,15 +1,19 @@
 -- What the numbers tell of, from number 1 on: a new note adds what it tells of, and no row and no answer changes it.
-use Rattle.std.proofs.Common.{◌≡◌, ℕ, zero, suc, ◌==◌, Bool, true, false, List, [], ◌∷◌, ◌++◌, map, Option, Some, None, find, if◌then◌else◌, refl, ap}
+use Rattle.std.proofs.Common.{◌≡◌, ℕ, zero, suc, ◌==◌, Bool, true, false, List, [], ◌∷◌, ◌++◌, map, Option, Some, None, find, if◌then◌else◌, refl, ap, ◌∙◌}
+use Rattle.std.specs.List.{AllByRecursion}
 use Rattle.gem_tables.specs.Table.{update_at}
-use Rattle.note_line.specs.declared.note.Note.{Note}
-use Rattle.note_line.specs.declared.note.Kind.{Kind}
+use Rattle.spool.specs.declared.note.Note.{Note}
+use Rattle.spool.specs.declared.note.Kind.{Kind}
+use Rattle.spool.specs.Spool as spool
+use Rattle.note_line.specs.declared.around.Around.{Around}
 use Rattle.note_line.specs.declared.fate.Told.{Told}
 use Rattle.note_line.specs.declared.fate.Fate.{Fate}
-use Rattle.note_line.specs.declared.fate.Fate.TheVariants.{Answered, Dropped, Waiting}
-use Rattle.note_line.specs.declared.fate.DropCause.TheVariants.{NoSpool}
-use Rattle.note_line.specs.Line.{Line, with_fate, fated, sent, with_head, with_open, answered}
-use Rattle.note_line.specs.Table3.{row_of, row_effect, effect_of}
+use Rattle.note_line.specs.declared.fate.Fate.TheVariants.{Answered, Dropped, Waiting, Spooled}
+use Rattle.note_line.specs.declared.fate.DropCause.TheVariants.{NoSpool, Full}
+use Rattle.note_line.specs.Line.{Line, in_kind, with_fate, fated, sent, with_head, with_open, lost_is_dropped, spooled, returned, failed, open_oldest_of, purge_oldest_of, answered}
+use Rattle.note_line.specs.Table3.{Row, line_table, row_of, row_effect, effect_of}
 use Rattle.note_line.specs.Fates.{tells}
+use Rattle.note_line.proofs.Rows.{find_gives}
 
 -- another fate
 with_fate-tells : (number : ℕ) (fate : Fate) (told : List Told) → map tells (with_fate number fate told) ≡ map tells told
@@ -21,31 +25,79 @@ with_fate-tells (suc place) fate told = of place told where
   of zero (one ∷ others) = refl
   of (suc place) (one ∷ others) = ap (λ ys. tells one ∷ ys) (of place others)
 
--- the first of those that wait
-dropped-tells : (notes : List Note) (l : Line) → map tells (with_head (fated (Dropped NoSpool)) notes l).told ≡ map tells l.told
-dropped-tells [] l = refl
-dropped-tells (note ∷ notes) l = with_fate-tells note.number _ l.told
+-- the numbers of a line tell of the same as those of another
+abbrev Tells : Line → Line → Type 0
+Tells l h = map tells h.told ≡ map tells l.told
 
-sent-tells : (notes : List Note) (l : Line) → map tells (with_head sent notes l).told ≡ map tells l.told
-sent-tells [] l = refl
-sent-tells (note ∷ notes) l = with_fate-tells note.number _ l.told
+fated-tells : (fate : Fate) (note : Note) (l : Line) → Tells l (fated fate note l)
+fated-tells fate note l = with_fate-tells note.number fate l.told
 
--- the open one
-ended-tells : (fate : Fate) (opened : Option Note) (l : Line) → map tells (with_open (fated fate) opened l).told ≡ map tells l.told
-ended-tells fate None l = refl
-ended-tells fate (Some note) l = with_fate-tells note.number fate l.told
+lost-tells : (o : Option Note) (l : Line) → Tells l (lost_is_dropped o l)
+lost-tells None l = refl
+lost-tells (Some note) l = fated-tells (Dropped Full) note l
+
+spooled-tells : (overwrite : Bool) (note : Note) (l : Line) → Tells l (spooled overwrite note l)
+spooled-tells overwrite note l = lost-tells (spool.push_loses overwrite note l.spool) _ ∙ with_fate-tells note.number Spooled l.told
+
+returned-tells : (overwrite : Bool) (note : Note) (l : Line) → Tells l (returned overwrite note l)
+returned-tells overwrite note l = lost-tells (spool.put_back_loses overwrite note l.spool) _ ∙ with_fate-tells note.number Spooled l.told
+
+failed-tells : (a : Around) (note : Note) (l : Line) → Tells l (failed a note l)
+failed-tells a note l = of (in_kind l.kinds note) where
+  of : (b : Bool) → Tells l (if b then returned a.overwrites note l else fated (Dropped NoSpool) note l)
+  of true = returned-tells a.overwrites note l
+  of false = fated-tells (Dropped NoSpool) note l
+
+-- the first of those that wait, the oldest spooled one, and the open one
+head-tells : (act : Note → Line → Line) → ((note : Note) (h : Line) → Tells h (act note h)) → (notes : List Note) (l : Line) → Tells l (with_head act notes l)
+head-tells act acts [] l = refl
+head-tells act acts (note ∷ notes) l = acts note (record l { waiting = notes })
+
+open-tells : (act : Note → Line → Line) → ((note : Note) (h : Line) → Tells h (act note h)) → (one : Option Note) (l : Line) → Tells l (with_open act one l)
+open-tells act acts None l = refl
+open-tells act acts (Some note) l = acts note (record l { opened = None })
+
+sent-tells : (note : Note) (l : Line) → Tells l (sent note l)
+sent-tells note l = with_fate-tells note.number _ l.told
+
+oldest-tells : (notes : List Note) (l : Line) → Tells l (open_oldest_of notes l)
+oldest-tells [] l = refl
+oldest-tells (note ∷ notes) l = with_fate-tells note.number _ l.told
+
+purged-tells : (notes : List Note) (l : Line) → Tells l (purge_oldest_of notes l)
+purged-tells [] l = refl
+purged-tells (note ∷ notes) l = with_fate-tells note.number _ l.told
 
 pub answered-tells : (l : Line) → map tells (answered l).told ≡ map tells l.told
-answered-tells l = ended-tells Answered l.opened l
+answered-tells l = open-tells (fated Answered) (fated-tells Answered) l.opened l
 
 -- the row of a number
-pub row-tells : (number : ℕ) (l : Line) → map tells (row_effect number l).told ≡ map tells l.told
-row-tells number l = of (11 == number) (13 == number) (14 == number) where
-  of : (drops sends fails : Bool) → map tells (effect_of (if drops then row_of 11 else (if sends then row_of 13 else (if fails then row_of 14 else None))) l).told ≡ map tells l.told
-  of true sends fails = dropped-tells l.waiting l
-  of false true fails = sent-tells l.waiting l
-  of false false true = ended-tells (Dropped NoSpool) l.opened l
-  of false false false = refl
+abbrev RowTells : Row → Type 0
+RowTells r = (a : Around) (l : Line) → Tells l (r.effect a l)
+
+rows_tell : AllByRecursion RowTells line_table
+rows_tell = (
+  (λ a l. refl),
+  ((λ a l. refl),
+  ((λ a l. refl),
+  ((λ a l. refl),
+  ((λ a l. refl),
+  ((λ a l. purged-tells l.spool.notes l),
+  ((λ a l. refl),
+  ((λ a l. refl),
+  ((λ a l. refl),
+  ((λ a l. head-tells (spooled a.overwrites) (spooled-tells a.overwrites) l.waiting l),
+  ((λ a l. head-tells (fated (Dropped NoSpool)) (fated-tells (Dropped NoSpool)) l.waiting l),
+  ((λ a l. oldest-tells l.spool.notes l),
+  ((λ a l. head-tells sent sent-tells l.waiting l),
+  ((λ a l. open-tells (failed a) (failed-tells a) l.opened l),
+  tt))))))))))))))
+
+pub row-tells : (a : Around) (number : ℕ) (l : Line) → map tells (row_effect a number l).told ≡ map tells l.told
+row-tells a number l = of (row_of number) refl where
+  of : (one : Option Row) → row_of number ≡ one → Tells l (effect_of one a l)
+  of None q = refl
+  of (Some r) q = (find_gives RowTells (λ r. r.number == number) line_table r rows_tell q).0 a l
 
 -- a new note, whatever its text is
 pub noted-tells : (kind : Kind) (id : ℕ) (told : List Told) → map tells (told ++ record { kind = kind; id = id; fate = Waiting } ∷ []) ≡ map tells told ++ (kind, id) ∷ []

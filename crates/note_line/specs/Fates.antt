@@ -2,12 +2,12 @@
 use Rattle.std.specs.Prelude.{ℕ, ◌≡◌, ◌<◌, ◌≤◌, Bool, true, false, ◌==◌, if◌then◌else◌, List, Option, Some, None, option_map}
 use Rattle.std.specs.List.{AllByRecursion, count_by}
 use Rattle.std.specs.Option.{option_to_list}
-use Rattle.note_line.specs.declared.note.Note.{Note}
-use Rattle.note_line.specs.declared.note.Kind.{Kind}
+use Rattle.spool.specs.declared.note.Note.{Note}
+use Rattle.spool.specs.declared.note.Kind.{Kind}
 use Rattle.note_line.specs.declared.fate.Told.{Told}
 use Rattle.note_line.specs.declared.fate.Fate.{Fate}
-use Rattle.note_line.specs.declared.fate.Fate.TheVariants.{Answered, Open, Waiting, Dropped}
-use Rattle.note_line.specs.Line.{Line, next, standing, told_of, fate_of}
+use Rattle.note_line.specs.declared.fate.Fate.TheVariants.{Answered, Open, Waiting, Spooled, Dropped}
+use Rattle.note_line.specs.Line.{Line, next, standing, in_kind, told_of, fate_of}
 use Rattle.note_line.specs.Order.{InOrder}
 
 -- ---- kinds of fate
@@ -17,13 +17,23 @@ abbrev pub is_waiting : Fate → Bool
 is_waiting Answered = false
 is_waiting Open = false
 is_waiting Waiting = true
+is_waiting Spooled = false
 is_waiting (Dropped cause) = false
+
+-- it is spooled
+abbrev pub is_spooled : Fate → Bool
+is_spooled Answered = false
+is_spooled Open = false
+is_spooled Waiting = false
+is_spooled Spooled = true
+is_spooled (Dropped cause) = false
 
 -- it is open
 abbrev pub is_open : Fate → Bool
 is_open Answered = false
 is_open Open = true
 is_open Waiting = false
+is_open Spooled = false
 is_open (Dropped cause) = false
 
 -- it has ended
@@ -31,6 +41,7 @@ abbrev pub is_ended : Fate → Bool
 is_ended Answered = true
 is_ended Open = false
 is_ended Waiting = false
+is_ended Spooled = false
 is_ended (Dropped cause) = true
 
 -- ---- the notes of the line and their fates
@@ -67,16 +78,23 @@ pub record IsTold (l : Line) (note : Note) : Type 0 where
   pub what : what_of note.number l.told ≡ Some (note.kind, note.id)
 
 -- Each note that hasn't ended is told of. Each number stands once among those that wait where its note waits, and else not
--- at all; and it is that of the open note where its note is open, and else not.
+-- at all; and so among those that are spooled where its note is spooled; and it is that of the open note where its note is
+-- open, and else not.
 pub record Fated (l : Line) : Type 0 where
   pub told : AllByRecursion (IsTold l) (standing l)
   pub waiting : (number : ℕ) → count_by (is_number number) l.waiting ≡ one_if (has_fate is_waiting number l.told)
+  pub spooled : (number : ℕ) → count_by (is_number number) l.spool.notes ≡ one_if (has_fate is_spooled number l.told)
   pub opened : (number : ℕ) → count_by (is_number number) (option_to_list l.opened) ≡ one_if (has_fate is_open number l.told)
+
+-- notes that are spooled are of the spooled kinds
+abbrev pub OfKinds : Line → Type 0
+OfKinds l = AllByRecursion (λ note. in_kind l.kinds note ≡ true) l.spool.notes
 
 -- what is always true of the line
 pub record LineValid (l : Line) : Type 0 where
   pub in_order : InOrder l
   pub fated : Fated l
+  pub of_kinds : OfKinds l
 
 -- ---- along the way
 

@@ -4,5 +4,3 @@ pub mod Left
 pub mod Order
 pub mod Fates
 pub mod Limits
-pub mod Kept
-pub mod Worked

@@ -1,7 +1,7 @@
 -- How long the text of a note may be (this tool's profile, limits).
 use Rattle.std.specs.Prelude.{ℕ, ◌≤◌, length}
 use Rattle.std.specs.List.{AllByRecursion}
-use Rattle.note_line.specs.declared.note.Note.{Note}
+use Rattle.spool.specs.declared.note.Note.{Note}
 use Rattle.note_line.specs.Line.{Line, standing}
 
 -- the greatest number of bytes of a note's text

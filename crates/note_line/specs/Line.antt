@@ -1,33 +1,52 @@
 -- The line of notes (after SEMI E30, event notification, alarm management and spooling; this tool's profile, notes).
 -- The way of a note is drawn over table 3.
-use Rattle.std.specs.Prelude.{ℕ, zero, suc, List, [], ◌∷◌, ◌++◌, length, Option, Some, None, slice_get, option_map}
+use Rattle.std.specs.Prelude.{ℕ, zero, suc, Bool, if◌then◌else◌, List, [], ◌∷◌, ◌++◌, length, Option, Some, None, slice_get, option_map}
 use Rattle.std.specs.Option.{option_to_list}
 use Rattle.gem_tables.specs.Table.{update_at}
-use Rattle.note_line.specs.declared.note.Note.{Note}
-use Rattle.note_line.specs.declared.note.Kind.{Kind}
+use Rattle.spool.specs.declared.note.Note.{Note}
+use Rattle.spool.specs.declared.note.Kind.{Kind}
+use Rattle.spool.specs.declared.note.Kind.TheVariants.{Event, Alarm}
+use Rattle.spool.specs.Spool as spool
+use Rattle.spool.specs.Table.{spool_fired}
+use Rattle.note_line.specs.declared.around.Around.{Around}
+use Rattle.note_line.specs.declared.around.SpooledKinds.{SpooledKinds}
 use Rattle.note_line.specs.declared.fate.Told.{Told}
 use Rattle.note_line.specs.declared.fate.Fate.{Fate}
-use Rattle.note_line.specs.declared.fate.Fate.TheVariants.{Answered, Open, Waiting, Dropped}
-use Rattle.note_line.specs.declared.fate.DropCause.TheVariants.{NoSpool}
+use Rattle.note_line.specs.declared.fate.Fate.TheVariants.{Answered, Open, Waiting, Spooled, Dropped}
+use Rattle.note_line.specs.declared.fate.DropCause.TheVariants.{NoSpool, Full, Purged}
 
--- what each number told of and what became of its note, from number 1 on; the notes that wait, the oldest first; and the
--- note that is open: it is sent, and its transaction hasn't ended
 pub record Line : Type 0 where
+  -- what each number told of and what became of its note, from number 1 on
   pub told : List Told
+  -- the notes that wait, the oldest first
   pub waiting : List Note
+  -- the notes that are spooled, and the states of the spool
+  pub spool : spool.Spool
+  -- the note that is open: it is sent, and its transaction hasn't ended
   pub opened : Option Note
+  -- the kinds of note that are spooled
+  pub kinds : SpooledKinds
 
--- no note was made
-abbrev pub opening : Line
-opening = record { told = []; waiting = []; opened = None }
+-- no note was made; the spool has room for so many, and notes of these kinds are spooled
+abbrev pub opening : ℕ → SpooledKinds → Line
+opening capacity kinds = record { told = []; waiting = []; spool = spool.opening capacity; opened = None; kinds = kinds }
 
 -- the number of the next note
 abbrev pub next : Line → ℕ
 next l = suc (length l.told)
 
--- the notes that haven't ended: the open one, then those that wait
+-- the notes that haven't ended: the open one, then those that are spooled, then those that wait
 abbrev pub standing : Line → List Note
-standing l = option_to_list l.opened ++ l.waiting
+standing l = option_to_list l.opened ++ (l.spool.notes ++ l.waiting)
+
+-- notes of a kind are spooled
+abbrev pub is_spooled_kind : SpooledKinds → Kind → Bool
+is_spooled_kind kinds Event = kinds.events
+is_spooled_kind kinds Alarm = kinds.alarms
+
+-- a note is spooled in kind
+abbrev pub in_kind : SpooledKinds → Note → Bool
+in_kind kinds note = is_spooled_kind kinds note.kind
 
 -- ---- what became of a note
 
@@ -72,6 +91,33 @@ with_open act (Some note) l = act note (record l { opened = None })
 abbrev pub sent : Note → Line → Line
 sent note l = fated Open note (record l { opened = Some note })
 
+-- ---- what the rows do
+
+-- the states of the spool change by the row of a number
+abbrev pub restated : ℕ → Line → Line
+restated row l = record l { spool = spool_fired row l.spool }
+
+-- the note that a full spool lost, if it lost one, is dropped
+abbrev pub lost_is_dropped : Option Note → Line → Line
+lost_is_dropped None l = l
+lost_is_dropped (Some note) l = fated (Dropped Full) note l
+
+-- a note goes to the rear of the spool, by the rule of a full spool
+abbrev pub spooled : Bool → Note → Line → Line
+spooled overwrite note l =
+    lost_is_dropped (spool.push_loses overwrite note l.spool)
+    (fated Spooled note (record l { spool = spool.pushed overwrite note l.spool }))
+
+-- a note goes back to the front of the spool, by the rule of a full spool
+abbrev pub returned : Bool → Note → Line → Line
+returned overwrite note l =
+    lost_is_dropped (spool.put_back_loses overwrite note l.spool)
+    (fated Spooled note (record l { spool = spool.put_back overwrite note l.spool }))
+
+-- the first note that waits goes to the spool
+abbrev pub spool_head : Around → Line → Line
+spool_head a l = with_head (spooled a.overwrites) l.waiting l
+
 -- the first note that waits is dropped
 abbrev pub drop_head : Line → Line
 drop_head l = with_head (fated (Dropped NoSpool)) l.waiting l
@@ -80,10 +126,40 @@ drop_head l = with_head (fated (Dropped NoSpool)) l.waiting l
 abbrev pub open_head : Line → Line
 open_head l = with_head sent l.waiting l
 
--- the transaction of the open note fails: it is dropped
-abbrev pub fail_open : Line → Line
-fail_open l = with_open (fated (Dropped NoSpool)) l.opened l
+-- the oldest spooled note is sent, and is open
+abbrev pub open_oldest_of : List Note → Line → Line
+open_oldest_of [] l = l
+open_oldest_of (note ∷ notes) l = sent note (record l { spool = spool.sent l.spool })
+
+abbrev pub open_oldest : Line → Line
+open_oldest l = open_oldest_of l.spool.notes l
+
+-- the oldest spooled note is dropped
+abbrev pub purge_oldest_of : List Note → Line → Line
+purge_oldest_of [] l = l
+purge_oldest_of (note ∷ notes) l = fated (Dropped Purged) note (record l { spool = spool.purged l.spool })
+
+abbrev pub purge_oldest : Line → Line
+purge_oldest l = purge_oldest_of l.spool.notes l
+
+-- a note whose transaction failed goes back to the spool where its kind is spooled, and is dropped otherwise
+abbrev pub failed : Around → Note → Line → Line
+failed a note l = if in_kind l.kinds note then returned a.overwrites note l else fated (Dropped NoSpool) note l
+
+-- the transaction of the open note fails: TRANSMIT becomes NO OUTPUT
+abbrev pub fail_open : Around → Line → Line
+fail_open a l = restated 14 (with_open (failed a) l.opened l)
 
 -- the open note is answered
 abbrev pub answered : Line → Line
 answered l = with_open (fated Answered) l.opened l
+
+-- ---- the host
+
+-- the host sets which kinds of note are spooled
+abbrev pub with_kinds : SpooledKinds → Line → Line
+with_kinds kinds l = record l { kinds = kinds }
+
+-- the host asks for the spooled notes: RSDC 0 to send so many of them at most, 1 to drop them
+abbrev pub begun : ℕ → Around → Line → Line
+begun rsdc a l = record l { spool = spool.begun rsdc a.most_sent l.spool }

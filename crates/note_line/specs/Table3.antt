@@ -1,71 +1,121 @@
--- Table 3, the line of notes (after SEMI E30, spooling; this tool's profile, table 3). The head is the first note that
--- waits. No kind of note is spooled yet, and of the table's fourteen rows these are built:
+-- Table 3, the line of notes and the spool (after SEMI E30, spooling; this tool's profile, table 3). The head is the first
+-- note that waits. The states of the spool are drawn over its own table, in the crate of the spool.
 --
---              +---------+    13 the head is sent     +------+   answered   +----------+
---   noted ---> | WAITING | -------------------------> | OPEN | -----------> | ANSWERED |
---              +---------+                            +------+              +----------+
---                   |                                     |
---                   |  11 not COMMUNICATING               |  14 its transaction fails
---                   |               +---------+           |
---                   +-------------> | DROPPED | <---------+
---                                   +---------+
-use Rattle.std.specs.Prelude.{ℕ, Bool, true, false, not, ◌&&◌, ◌==◌, nat_lt, List, [], ◌∷◌, length, Option, Some, None, option_map, find, is_some}
-use Rattle.note_line.specs.Line.{Line, drop_head, open_head, fail_open}
+--              +---------+                13 the head is sent               +------+   answered   +----------+
+--   noted ---> | WAITING | -----------------------------------------------> | OPEN | -----------> | ANSWERED |
+--              +---------+                                                  +------+              +----------+
+--               |       |                                                    |   ^  |
+--               |       | 10 the head is pushed   +---------+  14 put back   |   |  |
+--               |       +-----------------------> | SPOOLED | <--------------+   |  |
+--               |                                 +---------+                    |  |
+--               |                                    |   |    12 the oldest is sent |
+--               |  11 not COMMUNICATING              |   +------------------------+  |
+--               |                        6 purged,   |                               |
+--               |                        or a full   v                               |
+--               |                        spool    +---------+       14               |
+--               +-------------------------------> | DROPPED | <----------------------+
+--                                                 +---------+
+use Rattle.std.specs.Prelude.{ℕ, Bool, true, false, not, ◌&&◌, ◌||◌, ◌==◌, List, [], ◌∷◌, Option, Some, None, option_map, find, is_some}
+use Rattle.spool.specs.declared.note.Note.{Note}
+use Rattle.spool.specs.Spool.{is_inactive, is_not_full, is_full, is_active, is_no_output, is_transmit, is_purge, has_note, is_at_capacity, has_room, is_used_up}
+use Rattle.note_line.specs.declared.around.Around.{Around}
+use Rattle.note_line.specs.Line.{Line, in_kind, restated, spool_head, drop_head, open_head, open_oldest, purge_oldest, fail_open, begun}
 
--- a row: its number; whether it fires by itself; when it is ready, where the tool communicates or doesn't; its effect
+-- a row: its number; whether it fires by itself; when it is ready, by what lies around the line; its effect
 pub record Row : Type 0 where
   pub number : ℕ
   pub is_automatic : Bool
-  pub when : Bool → Line → Bool
-  pub effect : Line → Line
+  pub when : Around → Line → Bool
+  pub effect : Around → Line → Line
 
 -- a row that fires by itself
-abbrev pub automatic : ℕ → (Bool → Line → Bool) → (Line → Line) → Row
+abbrev pub automatic : ℕ → (Around → Line → Bool) → (Around → Line → Line) → Row
 automatic number when effect = record { number = number; is_automatic = true; when = when; effect = effect }
 
 -- a row that an input fires
-abbrev pub direct : ℕ → (Bool → Line → Bool) → (Line → Line) → Row
+abbrev pub direct : ℕ → (Around → Line → Bool) → (Around → Line → Line) → Row
 direct number when effect = record { number = number; is_automatic = false; when = when; effect = effect }
 
--- a note waits
-abbrev pub has_head : Line → Bool
-has_head l = nat_lt 0 (length l.waiting)
+-- the first of the notes passes a test
+abbrev pub first_is : (Note → Bool) → List Note → Bool
+first_is test [] = false
+first_is test (note ∷ notes) = test note
+
+-- a head that is spooled in kind
+abbrev pub head_in_kind : Line → Bool
+head_in_kind l = first_is (in_kind l.kinds) l.waiting
+
+-- a head that isn't
+abbrev pub head_not_in_kind : Line → Bool
+head_not_in_kind l = first_is (λ note. not (in_kind l.kinds note)) l.waiting
+
+-- a head that may be sent: it isn't spooled in kind, or the spool is INACTIVE
+abbrev pub head_may_go : Line → Bool
+head_may_go l = first_is (λ note. not (in_kind l.kinds note) || is_inactive l.spool.load) l.waiting
 
 -- a note is open
 abbrev pub has_open : Line → Bool
 has_open l = is_some l.opened
 
+-- the host may ask for the spooled notes: ACTIVE, and NO OUTPUT
+abbrev pub may_begin : Line → Bool
+may_begin l = is_active l.spool && is_no_output l.spool.unload
+
 -- Table 3, its rows in the order of their numbers.
 abbrev pub line_table : List Row
 line_table =
-    -- a head, and the tool doesn't communicate: the head is dropped
-    automatic 11 (λ communicating l. has_head l && not communicating) drop_head
-    -- a head, the tool communicates, and no note is open: the head is sent, and is open
-    ∷ automatic 13 (λ communicating l. has_head l && communicating && not (has_open l)) open_head
-    -- a note's transaction fails: the note is dropped
-    ∷ direct 14 (λ communicating l. has_open l) fail_open
+    -- INACTIVE, and the spool has a note: NOT FULL, NO OUTPUT
+    automatic 1 (λ a l. is_inactive l.spool.load && has_note l.spool) (λ a l. restated 1 l)
+    -- NOT FULL, and as many notes as there may be: FULL
+    ∷ automatic 2 (λ a l. is_not_full l.spool.load && is_at_capacity l.spool) (λ a l. restated 2 l)
+    -- FULL, and fewer: NOT FULL
+    ∷ automatic 3 (λ a l. is_full l.spool.load && has_room l.spool) (λ a l. restated 3 l)
+    -- S6F23 with RSDC 0: TRANSMIT, with MaxSpoolTransmit as its budget
+    ∷ direct 4 (λ a l. may_begin l) (λ a l. begun 0 a l)
+    -- S6F23 with RSDC 1: PURGE
+    ∷ direct 5 (λ a l. may_begin l) (λ a l. begun 1 a l)
+    -- PURGE, and the spool has a note: the oldest is dropped
+    ∷ automatic 6 (λ a l. is_purge l.spool.unload && has_note l.spool) (λ a l. purge_oldest l)
+    -- TRANSMIT, and the tool doesn't communicate: NO OUTPUT
+    ∷ automatic 7 (λ a l. is_transmit l.spool.unload && not a.communicates) (λ a l. restated 7 l)
+    -- TRANSMIT, and a limited budget is used up: NO OUTPUT
+    ∷ automatic 8 (λ a l. is_transmit l.spool.unload && is_used_up l.spool.budget) (λ a l. restated 8 l)
+    -- ACTIVE, and the spool has no note: INACTIVE, NO OUTPUT
+    ∷ automatic 9 (λ a l. is_active l.spool && not (has_note l.spool)) (λ a l. restated 9 l)
+    -- a head that is spooled in kind, and ACTIVE or no communication: the head is pushed to the spool
+    ∷ automatic 10 (λ a l. head_in_kind l && (is_active l.spool || not a.communicates)) spool_head
+    -- a head that isn't spooled in kind, and no communication: the head is dropped
+    ∷ automatic 11 (λ a l. head_not_in_kind l && not a.communicates) (λ a l. drop_head l)
+    -- TRANSMIT, the spool has a note, the tool communicates, and no note is open: the oldest is sent, and is open; the
+    -- budget falls by one
+    ∷ automatic 12 (λ a l. is_transmit l.spool.unload && has_note l.spool && a.communicates && not (has_open l)) (λ a l. open_oldest l)
+    -- a head that isn't spooled in kind, or INACTIVE; the tool communicates, and no note is open: the head is sent, and is
+    -- open
+    ∷ automatic 13 (λ a l. head_may_go l && a.communicates && not (has_open l)) (λ a l. open_head l)
+    -- a note's transaction fails: TRANSMIT becomes NO OUTPUT; the note is put back to the spool, or dropped
+    ∷ direct 14 (λ a l. has_open l) fail_open
     ∷ []
 
 -- the row of a number
 abbrev pub row_of : ℕ → Option Row
 row_of number = find (λ r. r.number == number) line_table
 
--- the row that fires by itself next, where the tool communicates or doesn't: the least of those that are ready
-abbrev pub least_row : Bool → Line → Option Row
-least_row communicating l = find (λ r. r.is_automatic && r.when communicating l) line_table
+-- the row that fires by itself next, by what lies around the line: the least of those that are ready
+abbrev pub least_row : Around → Line → Option Row
+least_row a l = find (λ r. r.is_automatic && r.when a l) line_table
 
 -- its number
-abbrev pub least : Bool → Line → Option ℕ
-least communicating l = option_map (λ (r : Row). r.number) (least_row communicating l)
+abbrev pub least : Around → Line → Option ℕ
+least a l = option_map (λ (r : Row). r.number) (least_row a l)
 
 -- a row, where there is one, starts
-abbrev pub starts_at : Option Row → Bool → Line → Bool
-starts_at None communicating l = false
-starts_at (Some r) communicating l = r.when communicating l
+abbrev pub starts_at : Option Row → Around → Line → Bool
+starts_at None a l = false
+starts_at (Some r) a l = r.when a l
 
 -- the row of a number starts
-abbrev pub line_starts : Bool → ℕ → Line → Bool
-line_starts communicating number l = starts_at (row_of number) communicating l
+abbrev pub line_starts : Around → ℕ → Line → Bool
+line_starts a number l = starts_at (row_of number) a l
 
 -- a row, where there is one, is fired by an input
 abbrev pub is_fired : Option Row → Bool
@@ -77,10 +127,10 @@ abbrev pub is_direct : ℕ → Bool
 is_direct number = is_fired (row_of number)
 
 -- the effect of a row, where there is one
-abbrev pub effect_of : Option Row → Line → Line
-effect_of None l = l
-effect_of (Some r) l = r.effect l
+abbrev pub effect_of : Option Row → Around → Line → Line
+effect_of None a l = l
+effect_of (Some r) a l = r.effect a l
 
 -- the effect of the row of a number
-abbrev pub row_effect : ℕ → Line → Line
-row_effect number l = effect_of (row_of number) l
+abbrev pub row_effect : Around → ℕ → Line → Line
+row_effect a number l = effect_of (row_of number) a l

@@ -1,19 +1,24 @@
 //! What became of a note.
 
-use crate::note::Kind;
+use spool::Kind;
 
-/// Why a note was dropped: its transaction failed, or the tool didn't communicate, and notes of its kind aren't spooled.
+/// Why a note was dropped: its transaction failed, or the tool didn't communicate, and notes of its kind aren't spooled;
+/// the spool was full; or the host had the spool emptied without sending it.
 #[derive(Clone, Copy, Debug, PartialEq, Eq)]
 pub enum DropCause {
     NoSpool,
+    Full,
+    Purged,
 }
 
-/// What became of a note: it waits, or it is sent and its transaction is open; or it has ended, answered or dropped.
+/// What became of a note: it waits; it is spooled; or it is sent and its transaction is open; or it has ended, answered or
+/// dropped.
 #[derive(Clone, Copy, Debug, PartialEq, Eq)]
 pub enum Fate {
     Answered,
     Open,
     Waiting,
+    Spooled,
     Dropped(DropCause),
 }
 

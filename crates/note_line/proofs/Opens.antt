@@ -1,0 +1,62 @@
+-- Which rows open a note: 12 the oldest spooled one, and 13 the head, each where the tool communicates and none is open.
+use Rattle.std.proofs.Common.{◌≡◌, ℕ, ◌==◌, Bool, true, false, not, ◌&&◌, ◌||◌, List, [], ◌∷◌, Option, Some, None, refl, sym, subst}
+use Rattle.std.specs.List.{AllByRecursion}
+use Rattle.std.proofs.lemmas.Bool.{true≢false}
+use Rattle.spool.specs.declared.note.Note.{Note}
+use Rattle.spool.specs.Spool as spool
+use Rattle.note_line.specs.declared.around.Around.{Around}
+use Rattle.note_line.specs.declared.fate.DropCause.TheVariants.{NoSpool}
+use Rattle.note_line.specs.declared.fate.Fate.TheVariants.{Dropped, Spooled}
+use Rattle.note_line.specs.Line.{Line, fated, with_head, lost_is_dropped, spooled, purge_oldest_of, drop_head, spool_head, purge_oldest}
+use Rattle.note_line.specs.Table3.{Row, line_table, least, effect_of, row_effect}
+use Rattle.note_line.proofs.Rows.{and_first, and_second}
+use Rattle.note_line.proofs.Keeps.{IsLeast, least_is, is_none}
+
+-- what a row that fires by itself does to the open note
+pub data Opens (a : Around) (l h : Line) (number : ℕ) : Type 0 where
+  opens_none : h.opened ≡ l.opened → (number == 12) ≡ false → (number == 13) ≡ false → Opens a l h number
+  opens_oldest : number ≡ 12 → a.communicates ≡ true → l.opened ≡ None → Opens a l h number
+  opens_head : number ≡ 13 → a.communicates ≡ true → l.opened ≡ None → Opens a l h number
+
+abbrev RowOpens : Around → Line → Row → Type 0
+RowOpens a l r = r.is_automatic ≡ true → r.when a l ≡ true → Opens a l (r.effect a l) r.number
+
+lost_same : (o : Option Note) (l : Line) → (lost_is_dropped o l).opened ≡ l.opened
+lost_same None l = refl
+lost_same (Some note) l = refl
+
+purged_same : (notes : List Note) (l : Line) → (purge_oldest_of notes l).opened ≡ l.opened
+purged_same [] l = refl
+purged_same (note ∷ notes) l = refl
+
+dropped_same : (notes : List Note) (l : Line) → (with_head (fated (Dropped NoSpool)) notes l).opened ≡ l.opened
+dropped_same [] l = refl
+dropped_same (note ∷ notes) l = refl
+
+spooled_same : (overwrite : Bool) (notes : List Note) (l : Line) → (with_head (spooled overwrite) notes l).opened ≡ l.opened
+spooled_same overwrite [] l = refl
+spooled_same overwrite (note ∷ notes) l = lost_same (spool.push_loses overwrite note l.spool) (fated Spooled note (record l { waiting = notes; spool = spool.pushed overwrite note l.spool }))
+
+rows_open : (a : Around) (l : Line) → AllByRecursion (RowOpens a l) line_table
+rows_open a l = (
+  (λ auto w. opens_none refl refl refl),
+  ((λ auto w. opens_none refl refl refl),
+  ((λ auto w. opens_none refl refl refl),
+  ((λ auto w. absurd (true≢false (sym auto))),
+  ((λ auto w. absurd (true≢false (sym auto))),
+  ((λ auto w. opens_none (purged_same l.spool.notes l) refl refl),
+  ((λ auto w. opens_none refl refl refl),
+  ((λ auto w. opens_none refl refl refl),
+  ((λ auto w. opens_none refl refl refl),
+  ((λ auto w. opens_none (spooled_same a.overwrites l.waiting l) refl refl),
+  ((λ auto w. opens_none (dropped_same l.waiting l) refl refl),
+  ((λ auto w. opens_oldest refl (and_second _ _ (and_first _ _ w)) (is_none l.opened (and_second _ _ w))),
+  ((λ auto w. opens_head refl (and_second _ _ (and_first _ _ w)) (is_none l.opened (and_second _ _ w))),
+  ((λ auto w. absurd (true≢false (sym auto))),
+  tt))))))))))))))
+
+pub least-opens : (a : Around) (l : Line) (number : ℕ) → least a l ≡ Some number → Opens a l (row_effect a number l) number
+least-opens a l number e =
+    let least = least_is (RowOpens a l) a l number (rows_open a l) e in
+    let opens : Opens a l (least.row.effect a l) number = subst (Opens a l (least.row.effect a l)) least.its_number (least.gives least.is_automatic least.when) in
+    subst (λ one. Opens a l (effect_of one a l) number) (sym least.is) opens

@@ -4,3 +4,5 @@ pub mod Left
 pub mod Order
 pub mod Fates
 pub mod Limits
+pub mod Kept
+pub mod Worked

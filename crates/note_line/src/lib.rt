@@ -1,9 +1,18 @@
-//! The line of notes.
+//! The line of notes (after SEMI E30, event notification, alarm management and spooling; table 3): the tool's reports of
+//! events and of alarms, each of which waits for its turn, is sent or spooled, and is answered or dropped.
+//!
+//! It holds the notes and knows what became of each. It makes no texts, starts no transactions and sends nothing: its
+//! caller sends the note that `open_head` or `open_oldest` opens, and tells how its transaction ended. Begin with
+//! `NoteLine::new`, then `add`, `row_for` and the row's effect.
 #![tactic(auto)]
 
 mod around;
 mod fate;
+pub mod laws;
+mod line;
+pub mod worked;
 
 pub use around::{Around, SpooledKinds};
 pub use fate::{DropCause, Fate, Told};
+pub use line::NoteLine;
 pub use spool::{Kind, MOST_TEXT, Note};

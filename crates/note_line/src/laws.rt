@@ -1,0 +1,49 @@
+//! Laws of the definitions, for proofs to cite. Each function is empty: what it ensures holds of the definitions.
+
+ghost use Rattle.std.specs.Prelude.{◌≡◌, ℕ, ◌+◌, ◌<◌, ◌≤◌, Bool, true, List, Some, None, IsSome};
+ghost use Rattle.spool.specs.declared.note.Kind.{Kind};
+ghost use Rattle.spool.specs.Spool.{has_note};
+ghost use Rattle.note_line.specs.declared.around.Around.{Around};
+ghost use Rattle.note_line.specs.declared.around.SpooledKinds.{SpooledKinds};
+ghost use Rattle.note_line.specs.Line.{Line, opening, next, noted, answered, with_kinds, fate_of};
+ghost use Rattle.note_line.specs.Table3.{least, line_starts, is_direct, row_effect};
+ghost use Rattle.note_line.specs.Left.{left, told_weight};
+ghost use Rattle.note_line.specs.Fates.{LineValid, KeepsFates};
+
+/// The line is always valid: it is where no note was made, and stays so where a note is made, a row fires, the open note is
+/// answered, or, while no note is spooled, other kinds are to be spooled.
+pub fn the_line_stays_valid()
+    ensures opening { (capacity : ℕ) (kinds : SpooledKinds) → LineValid (opening capacity kinds) }
+    ensures noted { (kind : Kind) (id : ℕ) (text : List ℕ) (l : Line) → LineValid l → LineValid (noted kind id text l) }
+    ensures by_itself { (a : Around) (l : Line) (row : ℕ)
+        → least a l ≡ Some row → LineValid l → LineValid (row_effect a row l) }
+    ensures by_an_input { (a : Around) (l : Line) (row : ℕ)
+        → is_direct row ≡ true → line_starts a row l ≡ true → LineValid l → LineValid (row_effect a row l) }
+    ensures answered { (l : Line) → LineValid l → LineValid (answered l) }
+    ensures kinds { (kinds : SpooledKinds) (l : Line) → has_note l.spool ≡ false → LineValid l → LineValid (with_kinds kinds l) }
+{}
+
+/// Whatever happens, each number that was given goes on to tell of the same, and a note that has ended stays so.
+pub fn fates_are_kept()
+    ensures noted { (kind : Kind) (id : ℕ) (text : List ℕ) (l : Line) → LineValid l → KeepsFates l (noted kind id text l) }
+    ensures by_itself { (a : Around) (l : Line) (row : ℕ)
+        → least a l ≡ Some row → LineValid l → KeepsFates l (row_effect a row l) }
+    ensures by_an_input { (a : Around) (l : Line) (row : ℕ)
+        → is_direct row ≡ true → line_starts a row l ≡ true → LineValid l → KeepsFates l (row_effect a row l) }
+    ensures answered { (l : Line) → LineValid l → KeepsFates l (answered l) }
+    ensures nothing { (l : Line) → KeepsFates l l }
+    ensures together { (g m h : Line) → KeepsFates g m → KeepsFates m h → KeepsFates g h }
+{}
+
+/// Each number below the next one has a fate.
+pub fn each_note_has_a_fate()
+    ensures { (l : Line) (number : ℕ) → 1 ≤ number → number < next l → IsSome (fate_of number l.told) }
+{}
+
+/// The line comes to rest: what is left falls with each row that fires by itself, by more than the note weighs that may
+/// tell of the row. A new note adds 6 to it.
+pub fn the_line_comes_to_rest()
+    ensures falls { (a : Around) (l : Line) (row : ℕ)
+        → least a l ≡ Some row → left (row_effect a row l) + told_weight row < left l }
+    ensures noted { (kind : Kind) (id : ℕ) (text : List ℕ) (l : Line) → left (noted kind id text l) ≡ left l + 6 }
+{}

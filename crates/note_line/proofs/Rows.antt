@@ -391,8 +391,8 @@ answered-keeps l v = keeps _ _ (answered-goes l v)
 -- ---- the kinds
 
 -- where no note is spooled, other kinds may be
-pub kinds-goes : (kinds : SpooledKinds) (l : Line) → has_note l.spool ≡ false → LineValid l → Goes l (with_kinds kinds l)
-kinds-goes kinds l none v = record {
+other_kinds : (kinds : SpooledKinds) (l : Line) → has_note l.spool ≡ false → LineValid l → Goes l (record l { kinds = kinds })
+other_kinds kinds l none v = record {
   valid = record {
     in_order = v.in_order;
     fated = record { told = all_mapped _ _ told_still _ v.fated.told; waiting = v.fated.waiting; spooled = v.fated.spooled; opened = v.fated.opened };
@@ -401,11 +401,17 @@ kinds-goes kinds l none v = record {
   fates = record { numbers = omega arith; what = λ number b. refl; ended = λ number fate f over. f };
   short = λ short. short;
 } where
-  told_still : (note : Note) → IsTold l note → IsTold (with_kinds kinds l) note
+  told_still : (note : Note) → IsTold l note → IsTold (record l { kinds = kinds }) note
   told_still note is = record { from_one = is.from_one; below = is.below; what = is.what }
 
-pub kinds-keeps : (kinds : SpooledKinds) (l : Line) → has_note l.spool ≡ false → LineValid l → Keeps l (with_kinds kinds l)
-kinds-keeps kinds l none v = keeps _ _ (kinds-goes kinds l none v)
+pub kinds-goes : (kinds : SpooledKinds) (l : Line) → LineValid l → Goes l (with_kinds kinds l)
+kinds-goes kinds l v = of (has_note l.spool) refl where
+  of : (b : Bool) → has_note l.spool ≡ b → Goes l (if b then l else record l { kinds = kinds })
+  of true some = same l v
+  of false none = other_kinds kinds l none v
+
+pub kinds-keeps : (kinds : SpooledKinds) (l : Line) → LineValid l → Keeps l (with_kinds kinds l)
+kinds-keeps kinds l v = keeps _ _ (kinds-goes kinds l v)
 
 -- ---- a new note
 

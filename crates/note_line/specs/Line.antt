@@ -156,9 +156,10 @@ answered l = with_open (fated Answered) l.opened l
 
 -- ---- the host
 
--- the host sets which kinds of note are spooled
+-- The host sets which kinds of note are spooled. Where a note is spooled nothing changes; no reachable state in which the
+-- host may set them has one, by the law of the definitions of the tool that an INACTIVE spool is empty.
 abbrev pub with_kinds : SpooledKinds → Line → Line
-with_kinds kinds l = record l { kinds = kinds }
+with_kinds kinds l = if spool.has_note l.spool then l else record l { kinds = kinds }
 
 -- the host asks for the spooled notes: RSDC 0 to send so many of them at most, 1 to drop them
 abbrev pub begun : ℕ → Around → Line → Line

@@ -2,7 +2,6 @@
 
 ghost use Rattle.std.specs.Prelude.{◌≡◌, ℕ, ◌+◌, ◌<◌, ◌≤◌, Bool, true, List, Some, None, IsSome};
 ghost use Rattle.spool.specs.declared.note.Kind.{Kind};
-ghost use Rattle.spool.specs.Spool.{has_note};
 ghost use Rattle.note_line.specs.declared.around.Around.{Around};
 ghost use Rattle.note_line.specs.declared.around.SpooledKinds.{SpooledKinds};
 ghost use Rattle.note_line.specs.Line.{Line, opening, next, noted, answered, with_kinds, fate_of};
@@ -11,7 +10,7 @@ ghost use Rattle.note_line.specs.Left.{left, told_weight};
 ghost use Rattle.note_line.specs.Fates.{LineValid, KeepsFates};
 
 /// The line is always valid: it is where no note was made, and stays so where a note is made, a row fires, the open note is
-/// answered, or, while no note is spooled, other kinds are to be spooled.
+/// answered, or other kinds of note are to be spooled.
 pub fn the_line_stays_valid()
     ensures opening { (capacity : ℕ) (kinds : SpooledKinds) → LineValid (opening capacity kinds) }
     ensures noted { (kind : Kind) (id : ℕ) (text : List ℕ) (l : Line) → LineValid l → LineValid (noted kind id text l) }
@@ -20,7 +19,7 @@ pub fn the_line_stays_valid()
     ensures by_an_input { (a : Around) (l : Line) (row : ℕ)
         → is_direct row ≡ true → line_starts a row l ≡ true → LineValid l → LineValid (row_effect a row l) }
     ensures answered { (l : Line) → LineValid l → LineValid (answered l) }
-    ensures kinds { (kinds : SpooledKinds) (l : Line) → has_note l.spool ≡ false → LineValid l → LineValid (with_kinds kinds l) }
+    ensures kinds { (kinds : SpooledKinds) (l : Line) → LineValid l → LineValid (with_kinds kinds l) }
 {}
 
 /// Whatever happens, each number that was given goes on to tell of the same, and a note that has ended stays so.
@@ -31,6 +30,7 @@ pub fn fates_are_kept()
     ensures by_an_input { (a : Around) (l : Line) (row : ℕ)
         → is_direct row ≡ true → line_starts a row l ≡ true → LineValid l → KeepsFates l (row_effect a row l) }
     ensures answered { (l : Line) → LineValid l → KeepsFates l (answered l) }
+    ensures kinds { (kinds : SpooledKinds) (l : Line) → LineValid l → KeepsFates l (with_kinds kinds l) }
     ensures nothing { (l : Line) → KeepsFates l l }
     ensures together { (g m h : Line) → KeepsFates g m → KeepsFates m h → KeepsFates g h }
 {}

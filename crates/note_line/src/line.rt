@@ -175,12 +175,13 @@ impl NoteLine {
         self.kinds
     }
 
-    /// The host sets which kinds of note are spooled. Its condition is that no note is spooled.
+    /// The host sets which kinds of note are spooled. Where a note is spooled nothing changes.
     pub fn set_kinds(&mut self, kinds: SpooledKinds)
-        requires { has_note self.old.spool ≡ false }
         ensures { self.new ≡ with_kinds kinds self.old }
     {
-        self.kinds = kinds;
+        if !self.spool.has_note() {
+            self.kinds = kinds;
+        }
     }
 
     /// The note that is sent and whose transaction is open.

@@ -1,4 +1,4 @@
-use Rattle.note_line.proofs.Keeps.{noted-keeps, least-keeps, direct-keeps, answered-keeps, fates-same, fates-trans}
+use Rattle.note_line.proofs.Keeps.{noted-keeps, least-keeps, direct-keeps, answered-keeps, kinds-keeps, fates-same, fates-trans}
 use Rattle.note_line.proofs.laws.fates_are_kept.Goals as goal
 
 pub returns-clause-noted : goal.returns-clause-noted
@@ -18,3 +18,6 @@ returns-clause-nothing c = fates-same
 
 pub returns-clause-together : goal.returns-clause-together
 returns-clause-together c = fates-trans
+
+pub returns-clause-kinds : goal.returns-clause-kinds
+returns-clause-kinds c = λ kinds l v. (kinds-keeps kinds l v).fates

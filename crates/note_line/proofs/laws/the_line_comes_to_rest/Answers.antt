@@ -1,4 +1,4 @@
-use Rattle.note_line.proofs.Keeps.{least-falls, noted-left}
+use Rattle.note_line.proofs.Falls.{least-falls, noted-left}
 use Rattle.note_line.proofs.laws.the_line_comes_to_rest.Goals as goal
 
 pub returns-clause-falls : goal.returns-clause-falls

@@ -1,4 +1,4 @@
-use Rattle.note_line.proofs.Keeps.{opening-valid, noted-keeps, least-keeps, direct-keeps, answered-keeps}
+use Rattle.note_line.proofs.Keeps.{opening-valid, noted-keeps, least-keeps, direct-keeps, answered-keeps, kinds-keeps}
 use Rattle.note_line.proofs.laws.the_line_stays_valid.Goals as goal
 
 pub returns-clause-opening : goal.returns-clause-opening
@@ -15,3 +15,6 @@ returns-clause-by_an_input c = λ t l row d s v. (direct-keeps t l row d s v).va
 
 pub returns-clause-answered : goal.returns-clause-answered
 returns-clause-answered c = λ l v. (answered-keeps l v).valid
+
+pub returns-clause-kinds : goal.returns-clause-kinds
+returns-clause-kinds c = λ kinds l v. (kinds-keeps kinds l v).valid

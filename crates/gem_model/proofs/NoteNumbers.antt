@@ -33,7 +33,7 @@ use Rattle.tool_events.specs.declared.config.Config.{Config}
 use Rattle.tool_events.specs.declared.entry.Entry.{Entry}
 use Rattle.tool_events.specs.declared.event.Event.{Event}
 use Rattle.tool_events.specs.declared.event.Event.TheVariants as event
-use Rattle.note_line.specs.declared.note.Note.{Note}
+use Rattle.spool.specs.declared.note.Note.{Note}
 use Rattle.note_line.specs.Line.{Line, with_open, fated, with_head, sent}
 use Rattle.note_line.specs.declared.fate.Fate.TheVariants.{Answered, Dropped}
 use Rattle.note_line.specs.declared.fate.DropCause.TheVariants.{NoSpool}

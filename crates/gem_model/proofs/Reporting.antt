@@ -15,7 +15,7 @@ use Rattle.gem_ids.specs.Civil.{moment_in}
 use Rattle.gem_tables.specs.Table.{Firing}
 use Rattle.gem_rows.specs.Events.{ceid_of}
 use Rattle.event_reports.specs.Alarms.{is_set, clear_alarm}
-use Rattle.note_line.specs.declared.note.Kind.TheVariants.{Event, Alarm}
+use Rattle.spool.specs.declared.note.Kind.TheVariants.{Event, Alarm}
 use Rattle.note_line.specs.Line.{Line}
 use Rattle.note_line.specs.Fates.{tells}
 use Rattle.note_line.proofs.Tells.{row-tells, answered-tells, noted-tells}

@@ -40,7 +40,7 @@ use Rattle.tool_events.specs.declared.event.OperCmd.{OperCmd}
 use Rattle.tool_events.specs.declared.event.OperCmd.TheVariants as oper
 use Rattle.gem_rows.specs.Events.{ceid_of}
 use Rattle.event_reports.specs.Alarms.{is_set, clear_alarm}
-use Rattle.note_line.specs.declared.note.Note.{Note}
+use Rattle.spool.specs.declared.note.Note.{Note}
 use Rattle.note_line.specs.declared.fate.Fate.TheVariants.{Dropped}
 use Rattle.note_line.specs.declared.fate.DropCause.TheVariants.{NoSpool}
 use Rattle.note_line.specs.Line.{Line, with_head, sent, fated}

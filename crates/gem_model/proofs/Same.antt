@@ -19,7 +19,7 @@ use Rattle.msgs_gem.specs.Replies.{reply_body}
 use Rattle.transactions.specs.Table.{taken_out}
 use Rattle.gem_model.specs.Direct.{message_rows, answer_rows, timeout_rows}
 use Rattle.gem_model.specs.Sending.{asks, identity_text, sends_stream9, data_header}
-use Rattle.note_line.specs.declared.note.Note.{Note}
+use Rattle.spool.specs.declared.note.Note.{Note}
 use Rattle.gem_model.specs.Fire.{fire, fire_listed, fire_comm, fire_control, fire_line, comm_effect, control_effect, line_effect, asks_first, takes_effect, stream_of_kind, function_of_kind, delay_end, forgets, row_starts}
 use Rattle.gem_model.specs.Noting.{clears_alarm}
 use Rattle.gem_model.specs.Remote.{RemoteCommand, GoLocal, ClearAlarm, Parameter, accepted, alarm_named}

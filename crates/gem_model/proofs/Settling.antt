@@ -9,9 +9,9 @@ use Rattle.gem_tables.specs.Table.{Firing, firing}
 use Rattle.std.specs.Option.{option_or}
 use Rattle.gem_rows.specs.Events.{ceid_of}
 use Rattle.event_reports.specs.Reports.{report_items}
-use Rattle.note_line.specs.declared.note.Kind.{Kind}
-use Rattle.note_line.specs.declared.note.Kind.TheVariants.{Event}
-use Rattle.note_line.specs.declared.note.Note.{Note}
+use Rattle.spool.specs.declared.note.Kind.{Kind}
+use Rattle.spool.specs.declared.note.Kind.TheVariants.{Event}
+use Rattle.spool.specs.declared.note.Note.{Note}
 use Rattle.note_line.specs.declared.fate.Fate.TheVariants.{Dropped}
 use Rattle.note_line.specs.declared.fate.DropCause.TheVariants.{NoSpool}
 use Rattle.note_line.specs.Line.{Line}

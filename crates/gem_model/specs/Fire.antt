@@ -2,9 +2,9 @@
 -- fire alike (this tool's profile, transition tables; the printed rows stand in gem_tables).
 use Rattle.std.specs.Prelude.{ℕ, ◌+◌, ◌==◌, Bool, false, if◌then◌else◌, List, [], ◌∷◌, map}
 use Rattle.gem_states.specs.Meaning.{comm_number, comm_fired, control_number, control_fired}
-use Rattle.note_line.specs.declared.note.Kind.{Kind}
-use Rattle.note_line.specs.declared.note.Kind.TheVariants.{Event, Alarm}
-use Rattle.note_line.specs.declared.note.Note.{Note}
+use Rattle.spool.specs.declared.note.Kind.{Kind}
+use Rattle.spool.specs.declared.note.Kind.TheVariants.{Event, Alarm}
+use Rattle.spool.specs.declared.note.Note.{Note}
 use Rattle.note_line.specs.Table3.{line_starts, row_effect}
 use Rattle.gem_tables.specs.Table.{Firing, firing, starts}
 use Rattle.gem_tables.specs.Communication.{communication_table}

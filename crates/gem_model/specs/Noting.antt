@@ -9,7 +9,7 @@ use Rattle.msgs_gem.specs.declared.reply.GemReply.TheVariants as reply
 use Rattle.msgs_gem.specs.Replies.{reply_body}
 use Rattle.event_reports.specs.Reports.{is_enabled, report_items}
 use Rattle.event_reports.specs.Alarms.{is_set, is_alarm_enabled, set_alarm, clear_alarm, is_alarm}
-use Rattle.note_line.specs.declared.note.Kind.TheVariants.{Event, Alarm}
+use Rattle.spool.specs.declared.note.Kind.TheVariants.{Event, Alarm}
 use Rattle.note_line.specs.Line as notes
 use Rattle.gem_model.specs.State.{State, is_disabled, is_online}
 use Rattle.gem_model.specs.Values.{Occasion, value_of, object_name}

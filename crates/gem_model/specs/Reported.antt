@@ -16,8 +16,8 @@ use Rattle.msgs_gem.specs.declared.primary.GemMsg.{GemMsg}
 use Rattle.msgs_gem.specs.declared.primary.GemMsg.TheVariants as msg
 use Rattle.msgs_gem.specs.Replies.{reply_body}
 use Rattle.event_reports.specs.Alarms.{is_set, clear_alarm}
-use Rattle.note_line.specs.declared.note.Kind.{Kind}
-use Rattle.note_line.specs.declared.note.Kind.TheVariants.{Event, Alarm}
+use Rattle.spool.specs.declared.note.Kind.{Kind}
+use Rattle.spool.specs.declared.note.Kind.TheVariants.{Event, Alarm}
 use Rattle.tool_events.specs.declared.event.Event.{Event as Posted}
 use Rattle.tool_events.specs.declared.event.Event.TheVariants as event
 use Rattle.tool_events.specs.declared.event.OperCmd.{OperCmd}

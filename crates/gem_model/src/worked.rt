@@ -4,7 +4,7 @@
 #![tactic(auto, unfolding(crate::proofs::OnLiterals::feed_on_literals))]
 
 ghost use Rattle.std.specs.Prelude.{◌≡◌, true, false, [], ◌∷◌, codes};
-ghost use Rattle.note_line.specs.declared.note.Kind.TheVariants.{Event};
+ghost use Rattle.spool.specs.declared.note.Kind.TheVariants.{Event};
 ghost use Rattle.tool_events.specs.declared.event.Event.TheVariants.{LinkUp, Oper, Tick};
 ghost use Rattle.tool_events.specs.declared.event.OperCmd.TheVariants.{Local, Offline, Online};
 ghost use Rattle.tool_events.specs.declared.config.CommStart.TheVariants.{Enabled};

@@ -14,6 +14,9 @@ pub record IsConfig (c : Config) : Type 0 where
   pub chambers : c.chambers ≤ 2
   pub ports_some : 1 ≤ c.ports
   pub ports : c.ports ≤ 2
+  pub spool_some : 1 ≤ c.spool_capacity
+  pub spool : c.spool_capacity ≤ 65536
+  pub transmit : c.max_transmit ≤ 65536
   pub t3_least : 100 ≤ c.t3
   pub t3 : c.t3 ≤ 12000
   pub t6_least : 100 ≤ c.t6

@@ -19,8 +19,19 @@ pub enum ControlStart {
     OnlineRemote,
 }
 
+/// Which notes are spooled at the start, by their stream (SEMI E30, spooling; this tool's profile, configuration): the
+/// key `spool_streams`, a list of distinct 5 and 6. A stream of the list is true here. The host may set others.
+#[derive(Clone, Copy, Debug, PartialEq, Eq)]
+pub struct SpoolStreams {
+    /// The notes of stream 5, which tell of alarms.
+    pub five: bool,
+    /// The notes of stream 6, which tell of events.
+    pub six: bool,
+}
+
 /// What a configuration says (this tool's profile, configuration). It has the keys that are built by now. Times are in
-/// hundredths of a second.
+/// hundredths of a second. `overwrite`, `max_transmit` and the five times are the first values of equipment constants,
+/// which the host may change.
 #[derive(Clone, Copy, Debug, PartialEq, Eq)]
 pub struct Config {
     /// The session id of the tool's messages, at most 32,767.
@@ -37,16 +48,26 @@ pub struct Config {
     pub chambers: u8,
     /// How many load ports the tool has, 1 or 2.
     pub ports: u8,
-    /// How long the tool waits for an answer to a primary of its own, 100 to 12,000 (SEMI E37, T3).
+    /// How many notes the spool holds, 1 to 65,536.
+    pub spool_capacity: u32,
+    /// Which notes are spooled until the host says otherwise.
+    pub spool_streams: SpoolStreams,
+    /// The first value of OverWriteSpool (SEMI E30, spooling): whether a full spool drops its oldest note for a new one.
+    pub overwrite: bool,
+    /// The first value of MaxSpoolTransmit (SEMI E30, spooling): how many notes of the spool one request of the host
+    /// transmits, at most 65,536; 0 means that there is no limit.
+    pub max_transmit: u32,
+    /// The first value of T3: how long the tool waits for an answer to a primary of its own, 100 to 12,000 (SEMI E37, T3).
     pub t3: u32,
-    /// How long the tool waits for an answer to its linktest, 100 to 12,000 (SEMI E37, T6).
+    /// The first value of T6: how long the tool waits for an answer to its linktest, 100 to 12,000 (SEMI E37, T6).
     pub t6: u32,
-    /// How long a link may stay unselected, 100 to 12,000 (SEMI E37, T7).
+    /// The first value of T7: how long a link may stay unselected, 100 to 12,000 (SEMI E37, T7).
     pub t7: u32,
-    /// How long the tool waits before it asks for communication again, 1 to 60,000 (SEMI E30, establish communications
-    /// timeout).
+    /// The first value of EstablishTimeout: how long the tool waits before it asks for communication again, 1 to 60,000
+    /// (SEMI E30, establish communications timeout).
     pub establish: u32,
-    /// How long a link is quiet before the tool asks a linktest, at most 60,000; 0 means that it asks none.
+    /// The first value of LinktestPeriod: how long a selected link goes without a linktest of the tool, at most 60,000; 0
+    /// means that the tool asks none.
     pub linktest: u32,
     /// The greatest number of entries of the history, 1 to 4,000,000.
     pub max_entries: u64,

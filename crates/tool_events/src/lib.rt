@@ -13,7 +13,7 @@ mod event;
 mod mem_desk;
 
 pub use answer::{Answer, Command, PostFault, Task};
-pub use config::{CommStart, Config, ControlStart};
+pub use config::{CommStart, Config, ControlStart, SpoolStreams};
 pub use desk::Desk;
 pub use entry::{Entry, Post};
 pub use event::{Event, JobWord, OperCmd, SessionCause, SessionEnd, Signal};

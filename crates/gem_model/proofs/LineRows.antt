@@ -1,28 +1,51 @@
--- Which row of the line of notes is ready.
-use Rattle.std.proofs.Common.{◌≡◌, ℕ, Bool, true, false, not, ◌&&◌, if◌then◌else◌, Option, Some, None, option_map, refl}
+-- The rows of the line of notes that fire by themselves: which is ready, and what they do.
+use Rattle.std.proofs.Common.{◌≡◌, ℕ, ◌+◌, ◌≤◌, ◌==◌, Bool, true, false, if◌then◌else◌, List, [], ◌∷◌, Option, Some, None, option_map, refl, sym, subst, arith}
+use Rattle.std.specs.List.{AllByRecursion}
 use Rattle.gem_tables.specs.Table.{Firing, firing}
-use Rattle.note_line.specs.Line.{Line, drop_head, open_head, fail_open}
-use Rattle.note_line.specs.Table3.{Row, automatic, direct, has_head, has_open, least}
+use Rattle.gem_rows.specs.Events.{ceid_of}
+use Rattle.spool.specs.declared.note.Note.{Note}
+use Rattle.note_line.specs.declared.around.Around.{Around}
+use Rattle.note_line.specs.Line.{Line, open_oldest_of, with_head, sent}
+use Rattle.note_line.specs.Table3.{Row, line_table, least}
+use Rattle.note_line.specs.Left.{told_weight}
+use Rattle.note_line.proofs.Keeps.{IsLeast, least_is}
+use Rattle.gem_model.specs.State.{State, around}
+use Rattle.gem_model.specs.Ready.{ready_line}
 use Rattle.gem_model.proofs.Tests.{none_some}
 
--- the rows of the table, by whether a note waits, whether the tool communicates, and whether a note is open
-abbrev first_of : Bool → Bool → Bool → Option ℕ
-first_of head communicating opened =
-    option_map (λ (r : Row). r.number)
-    (if true && (head && not communicating) then Some (automatic 11 (λ communicating l. has_head l && not communicating) drop_head)
-    else (if true && (head && communicating && not opened) then Some (automatic 13 (λ communicating l. has_head l && communicating && not (has_open l)) open_head)
-    else (if false && opened then Some (direct 14 (λ communicating l. has_open l) fail_open) else None)))
+-- the row that is ready
+pub line_went : {P : Type 0} (g : State) (f : Firing) → ((row : ℕ) → least (around g) g.line ≡ Some row → firing 3 0 row ≡ f → P) → ready_line g ≡ Some f → P
+line_went g f went here = of (least (around g) g.line) refl here went where
+  of : {P : Type 0} (row : Option ℕ) → least (around g) g.line ≡ row → option_map (firing 3 0) row ≡ Some f → ((row : ℕ) → least (around g) g.line ≡ Some row → firing 3 0 row ≡ f → P) → P
+  of None ready here went = none_some f here
+  of (Some row) ready here went = went row ready cc
 
-by_tests : {P : Type 0} (head communicating opened has is_open : Bool) (f : Firing) → has ≡ head → is_open ≡ opened → (has ≡ true → firing 3 0 11 ≡ f → P) → (has ≡ true → is_open ≡ false → communicating ≡ true → firing 3 0 13 ≡ f → P) → option_map (firing 3 0) (first_of head communicating opened) ≡ Some f → P
-by_tests false false false has is_open f there same drops sends here = none_some f here
-by_tests false false true has is_open f there same drops sends here = none_some f here
-by_tests false true false has is_open f there same drops sends here = none_some f here
-by_tests false true true has is_open f there same drops sends here = none_some f here
-by_tests true false false has is_open f there same drops sends here = drops there cc
-by_tests true false true has is_open f there same drops sends here = drops there cc
-by_tests true true false has is_open f there same drops sends here = sends there same refl cc
-by_tests true true true has is_open f there same drops sends here = none_some f here
+-- the note that an event makes weighs 6
+abbrev pub event_weight : Option ℕ → ℕ
+event_weight None = 0
+event_weight (Some ceid) = 6
 
--- the row that is ready is 11, or 13 where the tool communicates and no note is open
-pub line_went : {P : Type 0} (communicating : Bool) (l : Line) (f : Firing) → (has_head l ≡ true → firing 3 0 11 ≡ f → P) → (has_head l ≡ true → has_open l ≡ false → communicating ≡ true → firing 3 0 13 ≡ f → P) → option_map (firing 3 0) (least communicating l) ≡ Some f → P
-line_went communicating l f drops sends here = by_tests (has_head l) communicating (has_open l) (has_head l) (has_open l) f refl refl drops sends here
+-- a row weighs as much as the note that tells of it
+abbrev IsTold : Row → Type 0
+IsTold r = event_weight (ceid_of 3 r.number) ≤ told_weight r.number
+
+all_told : AllByRecursion IsTold line_table
+all_told = (omega arith, (omega arith, (omega arith, (omega arith, (omega arith, (omega arith, (omega arith, (omega arith, (omega arith, (omega arith, (omega arith, (omega arith, (omega arith, (omega arith, tt))))))))))))))
+
+pub told_enough : (a : Around) (l : Line) (row : ℕ) → least a l ≡ Some row → event_weight (ceid_of 3 row) ≤ told_weight row
+told_enough a l row ready =
+    let is = least_is IsTold a l row all_told ready in
+    subst (λ (n : ℕ). event_weight (ceid_of 3 n) ≤ told_weight n) is.its_number is.gives
+
+-- the first of some notes, or else the one that was open
+abbrev pub opened_by : List Note → Option Note → Option Note
+opened_by [] before = before
+opened_by (note ∷ notes) before = Some note
+
+pub oldest_opened : (notes : List Note) (l : Line) → (open_oldest_of notes l).opened ≡ opened_by notes l.opened
+oldest_opened [] l = refl
+oldest_opened (note ∷ notes) l = refl
+
+pub head_opened : (notes : List Note) (l : Line) → (with_head sent notes l).opened ≡ opened_by notes l.opened
+head_opened [] l = refl
+head_opened (note ∷ notes) l = refl

@@ -36,7 +36,7 @@ use Rattle.transactions.specs.declared.transaction.What.{What}
 use Rattle.transactions.specs.declared.transaction.What.TheVariants as what
 use Rattle.transactions.specs.Table.{taken_out}
 use Rattle.transactions.specs.Endings.{first_of}
-use Rattle.gem_model.specs.State.{State, is_up, is_session_up, is_communicating, is_online, can_ask, none_asked, without_session, raised}
+use Rattle.gem_model.specs.State.{State, is_up, is_session_up, is_online, around, can_ask, none_asked, without_session, raised}
 use Rattle.gem_model.specs.Sending.{asks, identity_text, sends_stream9, data_header}
 use Rattle.gem_model.specs.Values.{Occasion, object_name}
 use Rattle.gem_model.specs.Noting.{line_behind, line_with_event, is_event_reported, is_alarm_reported, clears_alarm}
@@ -116,11 +116,11 @@ abbrev IsListed : Firing → Type 0
 IsListed f = (f.table == 3) ≡ true → is_direct f.row ≡ true
 
 by_tables : (first second third : Bool) (row : ℕ) (g : State) → (third ≡ true → is_direct row ≡ true) →
-    (if first then starts communication_table row (comm_number g.comm) else (if second then starts control_table row (control_number g.control) else (if third then line_starts (is_communicating g.comm) row g.line else false))) ≡ true →
+    (if first then starts communication_table row (comm_number g.comm) else (if second then starts control_table row (control_number g.control) else (if third then line_starts (around g) row g.line else false))) ≡ true →
     Lined g (if first then fire_comm row g else (if second then fire_control row g else (if third then fire_line row g else g)))
 by_tables true second third row g listed is = lined_same g (fire_comm row g) (line_comm g row)
 by_tables false true third row g listed is = lined_same g (fire_control row g) (line_control g row)
-by_tables false false true row g listed is = direct-keeps (is_communicating g.comm) g.line row (listed refl) is
+by_tables false false true row g listed is = direct-keeps (around g) g.line row (listed refl) is
 by_tables false false false row g listed is = lined_at g
 
 lined_direct : (g : State) (f : Firing) → IsListed f → row_starts g f ≡ true → Lined g (fire g f)
@@ -170,10 +170,10 @@ lined_control t g = lined_listed (by_control t g) (listed_control (control_rows 
 
 -- ---- settling
 
-lined_line : (g : State) (row : ℕ) → table.least (is_communicating g.comm) g.line ≡ Some row → Lined g (fire g (firing 3 0 row))
-lined_line g row ready = lined_fire g (firing 3 0 row) (least-keeps (is_communicating g.comm) g.line row ready)
+lined_line : (g : State) (row : ℕ) → table.least (around g) g.line ≡ Some row → Lined g (fire g (firing 3 0 row))
+lined_line g row ready = lined_fire g (firing 3 0 row) (least-keeps (around g) g.line row ready)
 
-lined_ready : (g : State) (f : Firing) (row : Option ℕ) → table.least (is_communicating g.comm) g.line ≡ row → option_map (firing 3 0) row ≡ Some f → Lined g (fire g f)
+lined_ready : (g : State) (f : Firing) (row : Option ℕ) → table.least (around g) g.line ≡ row → option_map (firing 3 0) row ≡ Some f → Lined g (fire g f)
 lined_ready g f None ready here = none_some f here
 lined_ready g f (Some row) ready here = let same : firing 3 0 row ≡ f = cc in subst (λ (x : Firing). Lined g (fire g x)) same (lined_line g row ready)
 

@@ -34,10 +34,11 @@ use Rattle.tool_events.specs.declared.entry.Entry.{Entry}
 use Rattle.tool_events.specs.declared.event.Event.{Event}
 use Rattle.tool_events.specs.declared.event.Event.TheVariants as event
 use Rattle.spool.specs.declared.note.Note.{Note}
-use Rattle.note_line.specs.Line.{Line, with_open, fated, with_head, sent}
-use Rattle.note_line.specs.declared.fate.Fate.TheVariants.{Answered, Dropped}
-use Rattle.note_line.specs.declared.fate.DropCause.TheVariants.{NoSpool}
+use Rattle.note_line.specs.Line.{Line, open_oldest_of, fail_open, with_open, fated, with_head, sent}
+use Rattle.note_line.specs.declared.fate.Fate.TheVariants.{Answered}
+use Rattle.note_line.proofs.Opens.{Opens, opens_none, opens_oldest, opens_head, least-opens, fail_none}
 use Rattle.note_line.specs.Table3.{has_open, row_effect}
+use Rattle.note_line.specs.Table3 as table
 use Rattle.note_line.specs.Line.{answered as answered_line}
 use Rattle.transactions.specs.declared.transaction.Open.{Open}
 use Rattle.transactions.specs.declared.transaction.What.{What}
@@ -49,7 +50,7 @@ use Rattle.transactions.proofs.Finding.{found-passes}
 use Rattle.transactions.proofs.Systems.{without-none}
 use Rattle.transactions.proofs.Laws.{table-taken_out, table-started, found-there}
 use Rattle.transactions.specs.Endings.{answered as answered_one}
-use Rattle.gem_model.specs.State.{State, opening, t3, with_frame, is_up, is_session_up, is_communicating, is_online, can_ask, none_asked, without_session, raised}
+use Rattle.gem_model.specs.State.{State, opening, t3, with_frame, is_up, is_session_up, is_communicating, is_online, around, can_ask, none_asked, without_session, raised}
 use Rattle.gem_model.specs.Sending.{asks, data_frame, identity_text}
 use Rattle.gem_model.specs.Values.{object_name}
 use Rattle.gem_model.specs.Noting.{line_with_alarm, is_alarm_reported, clears_alarm}
@@ -67,10 +68,10 @@ use Rattle.gem_model.specs.Run.{Run}
 use Rattle.gem_model.specs.Valid.{notes, count_of}
 use Rattle.gem_model.specs.OpenNotes.{note_number, note_numbers, number_of, open_number}
 use Rattle.gem_model.proofs.Tests.{went, either_way, or_went, none_some}
-use Rattle.gem_model.proofs.LineRows.{line_went}
+use Rattle.gem_model.proofs.LineRows.{line_went, opened_by, oldest_opened, head_opened}
 use Rattle.gem_model.proofs.Settling.{settled_keeps}
 use Rattle.gem_model.proofs.Lined.{line_comm, line_control}
-use Rattle.gem_model.proofs.Room.{Few, same_open, no_talk, cannot_note, same_dropped, out_of, told_of, opened_timeout, few-automatic, few-room, few-acts, few-step}
+use Rattle.gem_model.proofs.Room.{Few, same_open, no_talk, cannot_note, out_of, told_of, opened_timeout, few-automatic, few-room, few-acts, few-step}
 use Rattle.gem_model.proofs.Validity.{valid-few, opening_valid}
 
 -- ---- lists of open transactions
@@ -295,9 +296,9 @@ own_either b x y at_x at_y = either_way Own b x y at_x at_y
 -- row 14 of table 3: where no transaction of a note is open, no note is behind it
 failed_open : (g : State) → (fire_listed note_fails g).line.opened ≡ None
 failed_open g = of g.line.opened refl where
-  of : (note : Option Note) → g.line.opened ≡ note → (if is_some note then record g { line = with_open (fated (Dropped NoSpool)) note g.line } else g).line.opened ≡ None
+  of : (note : Option Note) → g.line.opened ≡ note → (if is_some note then record g { line = fail_open (around g) g.line } else g).line.opened ≡ None
   of None is = is
-  of (Some note) is = refl
+  of (Some note) is = fail_none (around g) g.line
 
 failed_transactions : (g : State) → (fire_listed note_fails g).transactions.opened ≡ g.transactions.opened
 failed_transactions g = either_way (λ (h : State). h.transactions.opened ≡ g.transactions.opened) (row_starts g (firing 3 0 14)) (fire g (firing 3 0 14)) g refl refl
@@ -447,19 +448,17 @@ own_due g None own =
 
 -- ---- settling
 
--- row 13 of table 3: the head is sent where no note is open
-own_sending : (waiting : List Note) (g : State) → g.line.opened ≡ None → is_full g.transactions ≡ false → Own g → Own (record (asks_first waiting g) { line = with_head sent waiting g.line })
-own_sending [] g none room own = own
-own_sending (note ∷ waiting) g none room own = of (is_full g.transactions) refl where
-  of : (b : Bool) → is_full g.transactions ≡ b → With (note.number ∷ []) (if b then g else with_frame (data_frame g.config.device true (stream_of_kind note.kind) (function_of_kind note.kind) (drawn g.transactions) note.text) (record g { transactions = if b then g.transactions else with_started (stream_of_kind note.kind) (function_of_kind note.kind) (g.moment + t3 g) (what.Note note.number) g.transactions })).transactions.opened
-  of true full = absurd (true≢false (sym full ∙ room))
-  of false is =
-      with_more [] g.transactions (stream_of_kind note.kind) (function_of_kind note.kind) (g.moment + t3 g) (what.Note note.number) room
-      (subst (λ (n : Option Note). With (number_of n) g.transactions.opened) none own)
-
-none_opened : (note : Option Note) → is_some note ≡ false → note ≡ None
-none_opened None is = refl
-none_opened (Some note) is = absurd (cc)
+-- the first of some notes is sent where no note is open
+own_sending : (sends : List Note) (g : State) (l : Line) → l.opened ≡ opened_by sends g.line.opened → g.line.opened ≡ None → is_full g.transactions ≡ false → Own g → Own (record (asks_first sends g) { line = l })
+own_sending [] g l is none room own = own_line g l is own
+own_sending (note ∷ others) g l is none room own =
+    subst (λ (opened : Option Note). With (number_of opened) (asks_first (note ∷ others) g).transactions.opened) (sym is) (of (is_full g.transactions) refl)
+  where
+    of : (b : Bool) → is_full g.transactions ≡ b → With (note.number ∷ []) (if b then g else with_frame (data_frame g.config.device true (stream_of_kind note.kind) (function_of_kind note.kind) (drawn g.transactions) note.text) (record g { transactions = if b then g.transactions else with_started (stream_of_kind note.kind) (function_of_kind note.kind) (g.moment + t3 g) (what.Note note.number) g.transactions })).transactions.opened
+    of true full = absurd (true≢false (sym full ∙ room))
+    of false has_room =
+        with_more [] g.transactions (stream_of_kind note.kind) (function_of_kind note.kind) (g.moment + t3 g) (what.Note note.number) room
+        (subst (λ (n : Option Note). With (number_of n) g.transactions.opened) none own)
 
 own_this : (g : State) (f one : Firing) → Own (fire g one) → one ≡ f → Own (fire g f)
 own_this g f one own same = subst (λ (x : Firing). Own (fire g x)) same own
@@ -470,16 +469,32 @@ own_some g f one own here = own_this g f one own (let same : one ≡ f = cc in s
 own_fired : (g : State) (f : Firing) → IsQuiet f → Own g → Own (fire g f)
 own_fired g f quiet own = own_open g (fire g f) (open_fire g f quiet) (with_fire (open_number g.line) g f quiet own)
 
+-- a row of table 3 that fires by itself
+own_line_row : (g : State) (row : ℕ) → table.least (around g) g.line ≡ Some row → is_full g.transactions ≡ false → Own g → Own (takes_effect g (firing 3 0 row))
+own_line_row g row ready room own = of (least-opens (around g) g.line row ready) where
+  this_row : (number : ℕ) → row ≡ number → Own (takes_effect g (firing 3 0 number)) → Own (takes_effect g (firing 3 0 row))
+  this_row number is at = subst (λ (n : ℕ). Own (takes_effect g (firing 3 0 n))) (sym is) at
+
+  of : Opens (around g) g.line (row_effect (around g) row g.line) row → Own (takes_effect g (firing 3 0 row))
+  of (opens_none same not_12 not_13) = rw (not_12, not_13) (own_line g (row_effect (around g) row g.line) same own)
+  of (opens_oldest is talks none) =
+      this_row 12 is (own_sending g.line.spool.notes g (open_oldest_of g.line.spool.notes g.line) (oldest_opened g.line.spool.notes g.line) none room own)
+  of (opens_head is talks none) =
+      this_row 13 is (own_sending g.line.waiting g (with_head sent g.line.waiting g.line) (head_opened g.line.waiting g.line) none room own)
+
+-- the note that a firing makes opens none
+own_fire : (g : State) (f : Firing) → Own (takes_effect g f) → Own (fire g f)
+own_fire g f own =
+    own_open (takes_effect g f) (fire g f)
+    (same_open (ceid_of f.table f.row) (record { object = object_name (takes_effect g f) f; row = 100 * f.table + f.row }) (is_online g.control) (takes_effect g f)) own
+
 own_automatic : (g : State) (f : Firing) → least g ≡ Some f → Few g → Own g → Own (fire g f)
 own_automatic g f ready few own =
     or_went (ready_comm g) (option_or (ready_control g) (ready_line g)) f
     (λ at. went _ _ _ _ (λ _ e. own_some g f (firing 1 0 3) (own_fired g (firing 1 0 3) (refl, λ is. refl) own) e) (λ _ e. none_some f e) at)
     (λ _ behind. or_went (ready_control g) (ready_line g) f
     (λ at. went _ _ _ _ (λ _ e. own_some g f (firing 2 0 2) (own_fired g (firing 2 0 2) (refl, λ is. absurd (cc)) own) e) (λ _ e. none_some f e) at)
-    (λ _ at. line_went (is_communicating g.comm) g.line f
-    (λ _ e. own_this g f (firing 3 0 11) (own_line g (row_effect 11 g.line) (same_dropped g.line.waiting g.line) own) e)
-    (λ _ none talks e. own_this g f (firing 3 0 13) (own_sending g.line.waiting g (none_opened g.line.opened none) (few-room g few) own) e)
-    at) behind)
+    (λ _ at. line_went g f (λ row is e. own_this g f (firing 3 0 row) (own_fire g (firing 3 0 row) (own_line_row g row is (few-room g few) own)) e) at) behind)
     ready
 
 -- few transactions are open, and those of notes are the open note's

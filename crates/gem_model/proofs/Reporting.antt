@@ -30,7 +30,7 @@ use Rattle.transactions.specs.declared.transaction.Open.{Open}
 use Rattle.transactions.specs.declared.transaction.What.{What}
 use Rattle.transactions.specs.declared.transaction.What.TheVariants as what
 use Rattle.transactions.specs.Table.{taken_out}
-use Rattle.gem_model.specs.State.{State, opening, is_up, is_session_up, is_online, without_session, raised}
+use Rattle.gem_model.specs.State.{State, opening, is_up, is_session_up, is_online, around, without_session, raised}
 use Rattle.gem_model.specs.Sending.{sends_stream9, data_header}
 use Rattle.gem_model.specs.Values.{Occasion, object_name}
 use Rattle.gem_model.specs.Noting.{line_behind, line_with_event, is_event_reported, is_alarm_reported, line_with_alarm, clears_alarm}
@@ -91,7 +91,7 @@ told_effect g f = of (f.table == 1) (f.table == 2) (f.table == 3) where
   of : (first second third : Bool) → told_in (if first then fire_comm f.row g else (if second then fire_control f.row g else (if third then fire_line f.row g else g))) ≡ told_in g
   of true second third = told_same g (fire_comm f.row g) (line_comm g f.row)
   of false true third = told_same g (fire_control f.row g) (line_control g f.row)
-  of false false true = row-tells f.row g.line
+  of false false true = row-tells (around g) f.row g.line
   of false false false = refl
 
 -- a note is made exactly where the event is reported

@@ -41,18 +41,18 @@ use Rattle.tool_events.specs.declared.event.OperCmd.TheVariants as oper
 use Rattle.gem_rows.specs.Events.{ceid_of}
 use Rattle.event_reports.specs.Alarms.{is_set, clear_alarm}
 use Rattle.spool.specs.declared.note.Note.{Note}
-use Rattle.note_line.specs.declared.fate.Fate.TheVariants.{Dropped}
-use Rattle.note_line.specs.declared.fate.DropCause.TheVariants.{NoSpool}
-use Rattle.note_line.specs.Line.{Line, with_head, sent, fated}
+use Rattle.note_line.specs.Line.{Line, open_oldest_of, with_head, sent}
 use Rattle.note_line.specs.Line.{answered as answered_line}
 use Rattle.note_line.specs.Table3.{has_open, row_effect}
+use Rattle.note_line.specs.Table3 as table
+use Rattle.note_line.proofs.Opens.{Opens, opens_none, opens_oldest, opens_head, least-opens}
 use Rattle.transactions.specs.declared.transaction.Open.{Open}
 use Rattle.transactions.specs.declared.transaction.What.{What}
 use Rattle.transactions.specs.declared.transaction.What.TheVariants as what
 use Rattle.transactions.specs.Table.{Table, is_full, without, taken_out}
 use Rattle.transactions.specs.SystemBytes.{drawn, with_started}
 use Rattle.transactions.specs.Endings.{same_kind, answers, answered, first_of, first_expired, is_first_expired}
-use Rattle.gem_model.specs.State.{State, t3, is_up, is_selected, is_session_up, is_communicating, is_online, can_ask, without_session, with_frame}
+use Rattle.gem_model.specs.State.{State, t3, is_up, is_selected, is_session_up, is_communicating, is_online, around, can_ask, without_session, with_frame}
 use Rattle.gem_model.specs.Sending.{asks, identity_text, sends_stream9, data_header, data_frame}
 use Rattle.gem_model.specs.Fire.{fire, fires, fire_listed, row_starts, takes_effect, asks_first, stream_of_kind, function_of_kind, delay_end, of_control}
 use Rattle.gem_model.specs.Values.{Occasion, object_name}
@@ -69,7 +69,7 @@ use Rattle.gem_model.specs.Step as steps
 use Rattle.gem_model.specs.Step.{Outcome, step_from, acts, linked, hosted, operated, can_clear, switched, quits, ticked, settles}
 use Rattle.gem_model.specs.Valid.{is_wait_cra, establishes, attempts, is_note, notes, count_of}
 use Rattle.gem_model.proofs.Tests.{went, either_way, or_went, and_parts_of, none_some}
-use Rattle.gem_model.proofs.LineRows.{line_went}
+use Rattle.gem_model.proofs.LineRows.{line_went, opened_by, oldest_opened, head_opened}
 use Rattle.gem_model.proofs.Settling.{settled_keeps, waits, fired_3}
 use Rattle.gem_model.proofs.Links.{link_after-keeps}
 use Rattle.gem_model.proofs.Counts.{count-found, count-push, count-forgotten, count-out, all-counted}
@@ -355,39 +355,46 @@ few-given_up : (g : State) → not (can_ask g) ≡ true → Few g → Few (takes
 few-given_up g cannot few =
     fits-control _ _ _ g.comm g.control (control_fired 2 g.control) (is_selected g) (has_open g.line) (cannot_ask _ (can_ask g) (is_attempt g.control) cannot few.attempt) few
 
--- row 11 of table 3: the head is dropped, and the open note stays
-pub same_dropped : (notes : List Note) (l : Line) → (with_head (fated (Dropped NoSpool)) notes l).opened ≡ l.opened
-same_dropped [] l = refl
-same_dropped (note ∷ notes) l = refl
-
-few-dropped : (g : State) → Few g → Few (takes_effect g (firing 3 0 11))
-few-dropped g few = few-line g (row_effect 11 g.line) (same_dropped g.line.waiting g.line) few
-
 few_line_either : (b : Bool) (x y : State) (l : Line) → Few (record x { line = l }) → Few (record y { line = l }) → Few (record (if b then x else y) { line = l })
 few_line_either true x y l at_x at_y = at_x
 few_line_either false x y l at_x at_y = at_y
 
--- row 13 of table 3: the head is sent where none is open
-few-sending : (waiting : List Note) (g : State) → has_open g.line ≡ false → is_communicating g.comm ≡ true → Few g → Few (record (asks_first waiting g) { line = with_head sent waiting g.line })
-few-sending [] g none talks few = few
-few-sending (note ∷ waiting) g none talks few =
+-- the first of some notes is sent where none is open
+few-sending : (sends : List Note) (g : State) (l : Line) → l.opened ≡ opened_by sends g.line.opened → has_open g.line ≡ false → is_communicating g.comm ≡ true → Few g → Few (record (asks_first sends g) { line = l })
+few-sending [] g l is none talks few = few-line g l is few
+few-sending (note ∷ others) g l is none talks few =
     let t : Table = g.transactions in
-    let l : Line = with_head sent (note ∷ waiting) g.line in
     let h : State = record g { line = l } in
     let w : What = what.Note note.number in
     let stream = stream_of_kind note.kind in
     let function = function_of_kind note.kind in
+    let opened : has_open l ≡ true = ap is_some is in
     let before : Fits (count_of establishes t.opened) (count_of attempts t.opened) (count_of notes t.opened) g.comm g.control (is_selected g) false =
     subst (λ (o : Bool). Fits (count_of establishes t.opened) (count_of attempts t.opened) (count_of notes t.opened) g.comm g.control (is_selected g) o) none few in
     let f = fits-sent _ _ _ g.comm g.control (is_selected g) talks before in
-    let quiet : Few h = fits-less _ _ _ _ _ _ g.comm g.control (is_selected g) true (omega arith) (omega arith) (omega arith) f in
-    let more : FewWith w h = fits-less _ _ _ _ _ _ g.comm g.control (is_selected g) true (omega arith) (omega arith) (omega arith) f in
+    let quiet : Few h = subst (λ (o : Bool). Fits (count_of establishes t.opened) (count_of attempts t.opened) (count_of notes t.opened) g.comm g.control (is_selected g) o) (sym opened)
+    (fits-less _ _ _ _ _ _ g.comm g.control (is_selected g) true (omega arith) (omega arith) (omega arith) f) in
+    let more : FewWith w h = subst (λ (o : Bool). Fits (count_of establishes t.opened + 0) (count_of attempts t.opened + 0) (count_of notes t.opened + 1) g.comm g.control (is_selected g) o) (sym opened)
+    (fits-less _ _ _ _ _ _ g.comm g.control (is_selected g) true (omega arith) (omega arith) (omega arith) f) in
     few_line_either (is_full t) g
     (with_frame (data_frame g.config.device true stream function (drawn t) note.text) (record g { transactions = if is_full t then t else with_started stream function (g.moment + t3 g) w t })) l
     quiet (in_either (is_full t) t (with_started stream function (g.moment + t3 g) w t) h quiet (few-started h stream function (g.moment + t3 g) w more))
 
-few-sent : (g : State) → has_open g.line ≡ false → is_communicating g.comm ≡ true → Few g → Few (takes_effect g (firing 3 0 13))
-few-sent g none talks few = few-sending g.line.waiting g none talks few
+-- a row of table 3 that fires by itself
+few-line_row : (g : State) (row : ℕ) → table.least (around g) g.line ≡ Some row → Few g → Few (takes_effect g (firing 3 0 row))
+few-line_row g row ready few = of (least-opens (around g) g.line row ready) where
+  none_is : (one : Option Note) → one ≡ None → is_some one ≡ false
+  none_is one is = ap is_some is
+
+  this_row : (number : ℕ) → row ≡ number → Few (takes_effect g (firing 3 0 number)) → Few (takes_effect g (firing 3 0 row))
+  this_row number is at = subst (λ (n : ℕ). Few (takes_effect g (firing 3 0 n))) (sym is) at
+
+  of : Opens (around g) g.line (row_effect (around g) row g.line) row → Few (takes_effect g (firing 3 0 row))
+  of (opens_none same not_12 not_13) = rw (not_12, not_13) (few-line g (row_effect (around g) row g.line) same few)
+  of (opens_oldest is talks none) =
+      this_row 12 is (few-sending g.line.spool.notes g (open_oldest_of g.line.spool.notes g.line) (oldest_opened g.line.spool.notes g.line) (none_is g.line.opened none) talks few)
+  of (opens_head is talks none) =
+      this_row 13 is (few-sending g.line.waiting g (with_head sent g.line.waiting g.line) (head_opened g.line.waiting g.line) (none_is g.line.opened none) talks few)
 
 pub few-automatic : (g : State) (f : Firing) → least g ≡ Some f → Few g → Few (fire g f)
 few-automatic g f ready few =
@@ -395,10 +402,7 @@ few-automatic g f ready few =
     (λ at. went _ _ _ _ (λ over e. few_firing g f (firing 1 0 3) (few_fire g (firing 1 0 3) (few-asking g (waits g.moment g.comm (and_parts_of _ _ over).0) few)) e) (λ _ e. none_some f e) at)
     (λ _ behind. or_went (ready_control g) (ready_line g) f
     (λ at. went _ _ _ _ (λ can e. few_firing g f (firing 2 0 2) (few_fire g (firing 2 0 2) (few-given_up g (and_parts_of _ _ can).1 few)) e) (λ _ e. none_some f e) at)
-    (λ _ at. line_went (is_communicating g.comm) g.line f
-    (λ _ e. few_this g f (firing 3 0 11) (few_fire g (firing 3 0 11) (few-dropped g few)) e)
-    (λ _ none talks e. few_this g f (firing 3 0 13) (few_fire g (firing 3 0 13) (few-sent g none talks few)) e)
-    at) behind)
+    (λ _ at. line_went g f (λ row is e. few_this g f (firing 3 0 row) (few_fire g (firing 3 0 row) (few-line_row g row is few)) e) at) behind)
     ready
 
 pub few-settled : (g : State) → Few g → Few (settled g)
@@ -443,7 +447,7 @@ few-answer (what.Note n) function item g few gone = few-no_note g (answered_line
 few-timeout : (w : What) (g : State) → Few g → Gone w g → Few (fire_listed (timeout_rows w g) g)
 few-timeout what.Establish g few gone = few-refused g few gone
 few-timeout what.Attempt g few gone = few-failed g few gone
-few-timeout (what.Note n) g few gone = few-one (firing 3 0 14) g few (λ _. few-no_note g (row_effect 14 g.line) gone few)
+few-timeout (what.Note n) g few gone = few-one (firing 3 0 14) g few (λ _. few-no_note g (row_effect (around g) 14 g.line) gone few)
 
 few-closed : (g : State) (h : Header) (item : Option Data) (searched : Open → Bool) (found : Option Open) → find searched g.transactions.opened ≡ found → Few g → Few (closed_by h item found g)
 few-closed g h item searched None is few = few
@@ -502,7 +506,7 @@ few-ended g =
 -- ---- operators
 
 note_failed : (g : State) → Few g → count_of notes g.transactions.opened ≡ 0 → Few (fire_listed note_fails g)
-note_failed g few none = few-one (firing 3 0 14) g few (λ _. few-no_note g (row_effect 14 g.line) none few)
+note_failed g few none = few-one (firing 3 0 14) g few (λ _. few-no_note g (row_effect (around g) 14 g.line) none few)
 
 opened_failed : (g : State) → (fire_listed (firing 2 0 3 ∷ []) g).transactions.opened ≡ g.transactions.opened
 opened_failed g = either_way (λ (h : State). h.transactions.opened ≡ g.transactions.opened) (row_starts g (firing 2 0 3)) (fire g (firing 2 0 3)) g refl refl

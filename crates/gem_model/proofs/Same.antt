@@ -81,7 +81,8 @@ same_asks_first g (note ∷ notes) = same_asks g g (stream_of_kind note.kind) (f
 
 same_line : (g : State) (row : ℕ) → Same g (fire_line row g)
 same_line g row =
-    let sent : Same g (line_effect row g) = same_either g (row == 13) (asks_first g.line.waiting g) g (same_asks_first g g.line.waiting) (same_at g) in
+    let sent : Same g (line_effect row g) = same_either g (row == 12) (asks_first g.line.spool.notes g) (if row == 13 then asks_first g.line.waiting g else g) (same_asks_first g g.line.spool.notes)
+    (same_either g (row == 13) (asks_first g.line.waiting g) g (same_asks_first g g.line.waiting) (same_at g)) in
     record { config = sent.config; link = sent.link; quitting = sent.quitting }
 
 same_effect : (g : State) (f : Firing) → Same g (takes_effect g f)

@@ -1,5 +1,5 @@
 -- Settling ends, in one way.
-use Rattle.std.proofs.Common.{◌≡◌, ℕ, zero, suc, ◌<◌, ◌≤◌, ◌+◌, ◌*◌, nat_lt, length, length-append, Bool, true, false, if◌then◌else◌, List, [], ◌∷◌, Option, Some, None, refl, sym, ◌∙◌, ap, subst, arith}
+use Rattle.std.proofs.Common.{◌≡◌, ℕ, zero, suc, ◌<◌, ◌≤◌, ◌+◌, ◌*◌, ◌==◌, Bool, true, false, if◌then◌else◌, List, [], ◌∷◌, Option, Some, None, refl, sym, ◌∙◌, ap, subst, arith}
 use Rattle.gem_states.specs.declared.communication.Comm.{Comm}
 use Rattle.gem_states.specs.declared.communication.Comm.TheVariants.{Disabled, WaitDelay, WaitCra, Communicating}
 use Rattle.gem_states.specs.declared.control.Control.{Control}
@@ -12,20 +12,20 @@ use Rattle.event_reports.specs.Reports.{report_items}
 use Rattle.spool.specs.declared.note.Kind.{Kind}
 use Rattle.spool.specs.declared.note.Kind.TheVariants.{Event}
 use Rattle.spool.specs.declared.note.Note.{Note}
-use Rattle.note_line.specs.declared.fate.Fate.TheVariants.{Dropped}
-use Rattle.note_line.specs.declared.fate.DropCause.TheVariants.{NoSpool}
 use Rattle.note_line.specs.Line.{Line}
 use Rattle.note_line.specs.Line as notes
-use Rattle.note_line.specs.Left.{left as left_line}
-use Rattle.note_line.specs.Table3.{has_head}
-use Rattle.gem_model.specs.State.{State, is_communicating, is_online}
+use Rattle.note_line.specs.Left.{left as left_line, told_weight}
+use Rattle.note_line.specs.Table3 as table
+use Rattle.note_line.specs.Table3.{row_effect}
+use Rattle.note_line.proofs.Falls.{least-falls, noted-left}
+use Rattle.gem_model.specs.State.{State, is_online, around}
 use Rattle.gem_model.specs.Values.{Occasion, value_of}
 use Rattle.gem_model.specs.Noting.{line_with_event, line_behind, is_event_reported, event_text}
-use Rattle.gem_model.specs.Fire.{fire, takes_effect, asks_first}
+use Rattle.gem_model.specs.Fire.{fire, takes_effect, asks_first, line_effect}
 use Rattle.gem_model.specs.Ready.{least, ready_comm, ready_control, ready_line, delay_is_over, is_attempt}
 use Rattle.gem_model.specs.Measure.{left, is_wait_delay, one_if}
 use Rattle.gem_model.specs.Settle.{Path, Settles, settling, settling_by, settled, fire_all}
-use Rattle.gem_model.proofs.LineRows.{line_went}
+use Rattle.gem_model.proofs.LineRows.{line_went, event_weight, told_enough}
 use Rattle.gem_model.proofs.Tests.{went, either_way, or_went, and_parts_of, none_some}
 
 -- ---- the measure falls
@@ -72,15 +72,12 @@ falls_comm g here =
     let notes : left_line (fire g (firing 1 0 3)).line ≡ left_line g.line = ap left_line line in
     omega arith
 
--- a note adds 6 to what is left
-noted_left : (kind : Kind) (id : ℕ) (text : List ℕ) (l : Line) → left_line (notes.noted kind id text l) ≡ left_line l + 6
-noted_left kind id text l = omega (arith, length-append l.waiting (record { number = notes.next l; kind = kind; id = id; text = text } ∷ []))
-
-event_left : (event : Option ℕ) (o : Occasion) (online : Bool) (g : State) → left_line (line_behind event o online g) ≤ left_line g.line + 6
+-- an event adds what its note weighs to what is left
+event_left : (event : Option ℕ) (o : Occasion) (online : Bool) (g : State) → left_line (line_behind event o online g) ≤ left_line g.line + event_weight event
 event_left None o online g = omega arith
 event_left (Some ceid) o online g =
     either_way (λ (l : Line). left_line l ≤ left_line g.line + 6) (is_event_reported ceid online g) (line_with_event ceid o g) g.line
-    (let more = noted_left Event ceid (event_text (notes.next g.line) ceid (report_items (value_of o g) ceid g.reports)) g.line in omega arith)
+    (let more = noted-left Event ceid (event_text (notes.next g.line) ceid (report_items (value_of o g) ceid g.reports)) g.line in omega (arith, more))
     (omega arith)
 
 falls_control : (g : State) → is_attempt g.control ≡ true → left (fire g (firing 2 0 2)) < left g
@@ -91,18 +88,7 @@ falls_control g is =
     let told = event_left (ceid_of 2 2) (record { object = []; row = 202 }) (is_online g.control) (takes_effect g (firing 2 0 2)) in
     omega arith
 
--- rows 11 and 13 of table 3 take one note off those that wait
-falls_dropped : (waiting : List Note) (g : State) → nat_lt 0 (length waiting) ≡ true → 6 * length (notes.with_head (notes.fated (Dropped NoSpool)) waiting g.line).waiting < 6 * length waiting
-falls_dropped [] g has = absurd (cc)
-falls_dropped (note ∷ waiting) g has = omega arith
-
-falls_sent : (waiting : List Note) (g : State) → nat_lt 0 (length waiting) ≡ true → 6 * length (notes.with_head notes.sent waiting g.line).waiting < 6 * length waiting
-falls_sent [] g has = absurd (cc)
-falls_sent (note ∷ waiting) g has = omega arith
-
-falls_drop : (g : State) → has_head g.line ≡ true → left (fire g (firing 3 0 11)) < left g
-falls_drop g has = let falls = falls_dropped g.line.waiting g has in omega arith
-
+-- a row of table 3 leaves communication and control as they are
 sent_comm : (waiting : List Note) (g : State) → (asks_first waiting g).comm ≡ g.comm
 sent_comm [] g = refl
 sent_comm (note ∷ waiting) g = asks_comm _ _ _ refl
@@ -111,11 +97,25 @@ sent_control : (waiting : List Note) (g : State) → (asks_first waiting g).cont
 sent_control [] g = refl
 sent_control (note ∷ waiting) g = asks_control _ _ _ refl
 
-falls_send : (g : State) → has_head g.line ≡ true → left (fire g (firing 3 0 13)) < left g
-falls_send g has =
-    let falls = falls_sent g.line.waiting g has in
-    let comm = ap (λ c. one_if (is_wait_delay c)) (sent_comm g.line.waiting g) in
-    let control = ap (λ c. one_if (is_attempt c)) (sent_control g.line.waiting g) in
+line_comm : (row : ℕ) (g : State) → (line_effect row g).comm ≡ g.comm
+line_comm row g =
+    either_way (λ (h : State). h.comm ≡ g.comm) (row == 12) (asks_first g.line.spool.notes g) (if row == 13 then asks_first g.line.waiting g else g)
+    (sent_comm g.line.spool.notes g)
+    (either_way (λ (h : State). h.comm ≡ g.comm) (row == 13) (asks_first g.line.waiting g) g (sent_comm g.line.waiting g) refl)
+
+line_control : (row : ℕ) (g : State) → (line_effect row g).control ≡ g.control
+line_control row g =
+    either_way (λ (h : State). h.control ≡ g.control) (row == 12) (asks_first g.line.spool.notes g) (if row == 13 then asks_first g.line.waiting g else g)
+    (sent_control g.line.spool.notes g)
+    (either_way (λ (h : State). h.control ≡ g.control) (row == 13) (asks_first g.line.waiting g) g (sent_control g.line.waiting g) refl)
+
+falls_line : (g : State) (row : ℕ) → table.least (around g) g.line ≡ Some row → left (fire g (firing 3 0 row)) < left g
+falls_line g row ready =
+    let comm = ap (λ c. one_if (is_wait_delay c)) (line_comm row g) in
+    let control = ap (λ c. one_if (is_attempt c)) (line_control row g) in
+    let told = event_left (ceid_of 3 row) (record { object = []; row = 100 * 3 + row }) (is_online g.control) (takes_effect g (firing 3 0 row)) in
+    let enough = told_enough (around g) g.line row ready in
+    let falls = least-falls (around g) g.line row ready in
     omega arith
 
 the_firing : (g : State) (f one : Firing) → left (fire g one) < left g → Some one ≡ Some f → left (fire g f) < left g
@@ -131,10 +131,7 @@ left_falls g f ready =
     (λ at. went _ _ _ _ (λ over e. the_firing g f (firing 1 0 3) (falls_comm g (waits g.moment g.comm (and_parts_of _ _ over).0)) e) (λ _ e. none_some f e) at)
     (λ _ behind. or_went (ready_control g) (ready_line g) f
     (λ at. went _ _ _ _ (λ can e. the_firing g f (firing 2 0 2) (falls_control g (and_parts_of _ _ can).0) e) (λ _ e. none_some f e) at)
-    (λ _ at. line_went (is_communicating g.comm) g.line f
-    (λ has e. this_firing g f (firing 3 0 11) (falls_drop g has) e)
-    (λ has none talks e. this_firing g f (firing 3 0 13) (falls_send g has) e)
-    at) behind)
+    (λ _ at. line_went g f (λ row is e. this_firing g f (firing 3 0 row) (falls_line g row is) e) at) behind)
     ready
 
 -- ---- the settled state

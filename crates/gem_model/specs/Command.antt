@@ -1,5 +1,5 @@
 -- The command of the program, as words.
-use Rattle.std.specs.Prelude.{ℕ, ◌+◌, Bool, ◌&&◌, not, if◌then◌else◌, List, [], ◌∷◌, codes, Option, Some, None, nat_eq}
+use Rattle.std.specs.Prelude.{ℕ, ◌+◌, Bool, false, ◌&&◌, not, if◌then◌else◌, List, [], ◌∷◌, codes, Option, Some, None, nat_eq}
 use Rattle.std.specs.Str.{bytes_eq}
 use Rattle.tool_events.specs.declared.config.Config.{Config}
 use Rattle.tool_events.specs.declared.config.CommStart.TheVariants as start
@@ -44,6 +44,10 @@ known_config = record {
   control = begin.OnlineRemote;
   chambers = 2;
   ports = 2;
+  spool_capacity = 1000;
+  spool_streams = record { five = false; six = false };
+  overwrite = false;
+  max_transmit = 0;
   t3 = 4500;
   t6 = 500;
   t7 = 1000;

@@ -13,7 +13,7 @@ use Rattle.transactions.specs.declared.transaction.What.{What}
 use Rattle.transactions.specs.declared.transaction.What.TheVariants as what
 use Rattle.transactions.specs.Table.{taken_out}
 use Rattle.transactions.specs.Endings.{first_of}
-use Rattle.gem_model.specs.State.{State, establish_timeout, is_communicating, is_online, can_ask, none_asked}
+use Rattle.gem_model.specs.State.{State, establish_timeout, is_online, can_ask, none_asked, around}
 use Rattle.gem_model.specs.Sending.{asks, identity_text}
 use Rattle.gem_model.specs.Noting.{noted}
 
@@ -48,7 +48,7 @@ control_effect row g =
 abbrev pub fire_control : ℕ → State → State
 fire_control row g = control_effect row (record g { control = control_fired row g.control })
 
--- ---- table 3, the line of notes
+-- ---- table 3, the line of notes and the spool
 
 -- the stream and the function by which a note is sent: S6F11 and S5F1 (SEMI E5)
 abbrev pub stream_of_kind : Kind → ℕ
@@ -59,17 +59,17 @@ abbrev pub function_of_kind : Kind → ℕ
 function_of_kind Event = 11
 function_of_kind Alarm = 1
 
--- the first note that waits is sent, if one waits
+-- the first of these notes is sent, if there is one
 abbrev pub asks_first : List Note → State → State
 asks_first [] g = g
 asks_first (note ∷ notes) g = asks (stream_of_kind note.kind) (function_of_kind note.kind) (what.Note note.number) note.text g
 
--- row 13: the head is sent
+-- row 12: the oldest spooled note is sent; row 13: the head is sent
 abbrev pub line_effect : ℕ → State → State
-line_effect row g = if row == 13 then asks_first g.line.waiting g else g
+line_effect row g = if row == 12 then asks_first g.line.spool.notes g else (if row == 13 then asks_first g.line.waiting g else g)
 
 abbrev pub fire_line : ℕ → State → State
-fire_line row g = record (line_effect row g) { line = row_effect row g.line }
+fire_line row g = record (line_effect row g) { line = row_effect (around g) row g.line }
 
 -- ---- all tables
 
@@ -78,7 +78,7 @@ abbrev pub row_starts : State → Firing → Bool
 row_starts g f =
     if f.table == 1 then starts communication_table f.row (comm_number g.comm)
     else (if f.table == 2 then starts control_table f.row (control_number g.control)
-    else (if f.table == 3 then line_starts (is_communicating g.comm) f.row g.line else false))
+    else (if f.table == 3 then line_starts (around g) f.row g.line else false))
 
 -- the row's state and effect; all else stays
 abbrev pub takes_effect : State → Firing → State

@@ -16,6 +16,6 @@ abbrev pub one_if : Bool → ℕ
 one_if b = if b then 1 else 0
 
 -- what is left to fire by itself: WAIT DELAY and ATTEMPT ON-LINE count 7 each, which is more than the note weighs that may
--- tell of their end, and then what is left in the line of notes
+-- tell of their end, and then what is left in the line of notes, the states of the spool included
 abbrev pub left : State → ℕ
 left g = 7 * (one_if (is_wait_delay g.comm) + one_if (is_attempt g.control)) + left_line g.line

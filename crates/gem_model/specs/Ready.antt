@@ -7,7 +7,7 @@ use Rattle.gem_states.specs.declared.control.Control.{Control}
 use Rattle.gem_states.specs.declared.control.Control.TheVariants as control
 use Rattle.gem_tables.specs.Table.{Firing, firing}
 use Rattle.note_line.specs.Table3 as line
-use Rattle.gem_model.specs.State.{State, is_communicating, is_selected, can_ask}
+use Rattle.gem_model.specs.State.{State, is_selected, can_ask, around}
 
 -- WAIT DELAY, whose delay is over at a moment
 abbrev pub delay_is_over : ℕ → Comm → Bool
@@ -27,9 +27,9 @@ ready_comm g = if delay_is_over g.moment g.comm && is_selected g then Some (firi
 abbrev pub ready_control : State → Option Firing
 ready_control g = if is_attempt g.control && not (can_ask g) then Some (firing 2 0 2) else None
 
--- table 3: the rows of the line of notes, by whether the tool communicates
+-- table 3: the rows of the line of notes, by what lies around it
 abbrev pub ready_line : State → Option Firing
-ready_line g = option_map (firing 3 0) (line.least (is_communicating g.comm) g.line)
+ready_line g = option_map (firing 3 0) (line.least (around g) g.line)
 
 -- the least ready row, by table, object and row
 abbrev pub least : State → Option Firing

@@ -2,11 +2,13 @@
 use Rattle.std.specs.Prelude.{ℕ, ◌+◌, ◌-◌, min, max, Bool, true, false, ◌&&◌, ◌==◌, List, [], ◌∷◌, ◌++◌}
 use Rattle.data_variables.specs.declared.val.Val.{Val}
 use Rattle.data_variables.specs.declared.val.Val.TheVariants.{Number, Truth}
-use Rattle.data_variables.specs.Values.{number_in}
+use Rattle.data_variables.specs.Values.{number_in, truth_in}
 use Rattle.event_reports.specs.Reports.{Reports, no_reports}
 use Rattle.event_reports.specs.declared.alarms.AlarmLine.{AlarmLine}
 use Rattle.event_reports.specs.Alarms.{no_alarms}
 use Rattle.note_line.specs.Line as notes
+use Rattle.note_line.specs.declared.around.Around.{Around}
+use Rattle.note_line.specs.declared.around.SpooledKinds.{SpooledKinds}
 use Rattle.gem_ids.specs.Moments.{last_moment}
 use Rattle.gem_states.specs.declared.communication.Comm.{Comm}
 use Rattle.gem_states.specs.declared.communication.Comm.TheVariants as comm
@@ -21,6 +23,7 @@ use Rattle.tool_events.specs.declared.config.CommStart.{CommStart}
 use Rattle.tool_events.specs.declared.config.CommStart.TheVariants as start
 use Rattle.tool_events.specs.declared.config.ControlStart.{ControlStart}
 use Rattle.tool_events.specs.declared.config.ControlStart.TheVariants as begin
+use Rattle.tool_events.specs.declared.config.SpoolStreams.{SpoolStreams}
 use Rattle.transactions.specs.Table.{Table, none_open}
 
 -- the clock that the host sees: what it showed, and the moment at which it did (this tool's profile, time)
@@ -53,7 +56,7 @@ pub record State : Type 0 where
   pub reports : Reports
   -- the alarms: which are enabled, and which are set (SEMI E30, alarms)
   pub alarms : List AlarmLine
-  -- the line of notes: what waits, what is open, and what became of each
+  -- the line of notes: what waits, what is spooled, what is open, and what became of each (SEMI E30, spooling)
   pub line : notes.Line
   -- the frames that wait for the writer, the oldest first
   pub waiting : List (List ℕ)
@@ -80,18 +83,21 @@ first_switch begin.HostOffline = false
 first_switch begin.OnlineLocal = true
 first_switch begin.OnlineRemote = false
 
--- the constants that the configuration gives; the spool is not built yet, and its two constants begin with their defaults
--- (this tool's profile, constants)
+-- the constants that the configuration gives (this tool's profile, constants)
 abbrev pub first_constants : Config → List (ℕ × Val)
 first_constants c =
     (201, Number c.establish)
-    ∷ (202, Number 0)
-    ∷ (203, Truth false)
+    ∷ (202, Number c.max_transmit)
+    ∷ (203, Truth c.overwrite)
     ∷ (204, Number c.t3)
     ∷ (205, Number c.t7)
     ∷ (206, Number c.t6)
     ∷ (207, Number c.linktest)
     ∷ []
+
+-- the kinds of note that are spooled at first: of stream 5 alarms, and of stream 6 events (this tool's profile, spool)
+abbrev pub first_kinds : SpoolStreams → SpooledKinds
+first_kinds streams = record { events = streams.six; alarms = streams.five }
 
 -- the first state: no session came yet, and the link is down (this tool's profile, states of the link, and time)
 abbrev pub opening : Config → State
@@ -108,7 +114,7 @@ opening c = record {
   constants = first_constants c;
   reports = no_reports c.ports c.chambers;
   alarms = no_alarms c.ports c.chambers;
-  line = notes.opening;
+  line = notes.opening c.spool_capacity (first_kinds c.spool_streams);
   waiting = [];
 }
 
@@ -166,6 +172,11 @@ establish_timeout g = number_in 201 g.constants
 
 abbrev pub linktest_period : State → ℕ
 linktest_period g = number_in 207 g.constants
+
+-- what the line of notes is told of the rest of the tool: whether host and tool communicate, whether a full spool is
+-- overwritten, and how many spooled notes are sent at the host's request (this tool's profile, spool)
+abbrev pub around : State → Around
+around g = record { communicates = is_communicating g.comm; overwrites = truth_in 203 g.constants; most_sent = number_in 202 g.constants }
 
 -- ---- small changes
 

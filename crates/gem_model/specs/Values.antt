@@ -1,5 +1,5 @@
 -- The values of variables: what S1F3, S2F13 and reports give (SEMI E5, S1F3 and S2F13; this tool's profile, variables).
-use Rattle.std.specs.Prelude.{ℕ, ◌==◌, if◌then◌else◌, List, [], ◌∷◌, Option, Some, None, option_map}
+use Rattle.std.specs.Prelude.{ℕ, ◌==◌, if◌then◌else◌, List, [], ◌∷◌, length, Option, Some, None, option_map}
 use Rattle.gem_ids.specs.Civil.{time_digits}
 use Rattle.gem_states.specs.Meaning.{comm_number, control_number}
 use Rattle.gem_tables.specs.Table.{Firing}
@@ -7,6 +7,7 @@ use Rattle.secs_items.specs.Data.{Data, ascii, u1, u2, u4}
 use Rattle.data_variables.specs.Bodies.{value_item}
 use Rattle.data_variables.specs.Values as constants
 use Rattle.event_reports.specs.Alarms.{set_alids}
+use Rattle.spool.specs.Spool.{load_number, unload_number}
 use Rattle.gem_model.specs.State.{State, clock_now}
 
 -- what is happening while a value is asked: the object and the row of a firing, which EventObject and EventRow tell; the row
@@ -31,12 +32,17 @@ pub record Valued : Type 0 where
 abbrev valued : ℕ → Data → Valued
 valued vid value = record { vid = vid; value = value }
 
--- the status variables that are built, in order: Clock, CommState, ControlState and AlarmsSet (this tool's profile, variables)
+-- the status variables that are built, in order: Clock, CommState, ControlState; SpoolCountActual, SpoolCountTotal,
+-- SpoolLoad, SpoolUnload; and AlarmsSet (this tool's profile, variables)
 abbrev pub status_variables : State → List Valued
 status_variables g =
     valued 1 (ascii (time_digits (clock_now g)))
     ∷ valued 2 (u1 (comm_number g.comm ∷ []))
     ∷ valued 3 (u1 (control_number g.control ∷ []))
+    ∷ valued 4 (u4 (length g.line.spool.notes ∷ []))
+    ∷ valued 5 (u4 (g.line.spool.total ∷ []))
+    ∷ valued 6 (u1 (load_number g.line.spool.load ∷ []))
+    ∷ valued 7 (u1 (unload_number g.line.spool.unload ∷ []))
     ∷ valued 8 (u4 (set_alids g.alarms))
     ∷ []
 
@@ -69,4 +75,4 @@ value_of o g vid = or_else (status_value g vid) (or_else (value_among (event_var
 
 -- the numbers of the status variables, in order
 abbrev pub svids : List ℕ
-svids = 1 ∷ 2 ∷ 3 ∷ 8 ∷ []
+svids = 1 ∷ 2 ∷ 3 ∷ 4 ∷ 5 ∷ 6 ∷ 7 ∷ 8 ∷ []

@@ -1,5 +1,5 @@
 -- Which rows open a note: 12 the oldest spooled one, and 13 the head, each where the tool communicates and none is open.
-use Rattle.std.proofs.Common.{◌≡◌, ℕ, ◌==◌, Bool, true, false, not, ◌&&◌, ◌||◌, List, [], ◌∷◌, Option, Some, None, refl, sym, subst}
+use Rattle.std.proofs.Common.{◌≡◌, ℕ, ◌==◌, Bool, true, false, not, ◌&&◌, ◌||◌, List, [], ◌∷◌, Option, Some, None, refl, sym, subst, ◌∙◌, if◌then◌else◌}
 use Rattle.std.specs.List.{AllByRecursion}
 use Rattle.std.proofs.lemmas.Bool.{true≢false}
 use Rattle.spool.specs.declared.note.Note.{Note}
@@ -7,7 +7,7 @@ use Rattle.spool.specs.Spool as spool
 use Rattle.note_line.specs.declared.around.Around.{Around}
 use Rattle.note_line.specs.declared.fate.DropCause.TheVariants.{NoSpool}
 use Rattle.note_line.specs.declared.fate.Fate.TheVariants.{Dropped, Spooled}
-use Rattle.note_line.specs.Line.{Line, fated, with_head, lost_is_dropped, spooled, purge_oldest_of, drop_head, spool_head, purge_oldest}
+use Rattle.note_line.specs.Line.{Line, in_kind, fated, with_head, with_open, lost_is_dropped, spooled, returned, failed, fail_open, purge_oldest_of}
 use Rattle.note_line.specs.Table3.{Row, line_table, least, effect_of, row_effect}
 use Rattle.note_line.proofs.Rows.{and_first, and_second}
 use Rattle.note_line.proofs.Keeps.{IsLeast, least_is, is_none}
@@ -60,3 +60,17 @@ least-opens a l number e =
     let least = least_is (RowOpens a l) a l number (rows_open a l) e in
     let opens : Opens a l (least.row.effect a l) number = subst (Opens a l (least.row.effect a l)) least.its_number (least.gives least.is_automatic least.when) in
     subst (λ one. Opens a l (effect_of one a l) number) (sym least.is) opens
+
+-- row 14 leaves none open
+returned_none : (overwrite : Bool) (note : Note) (l : Line) → l.opened ≡ None → (returned overwrite note l).opened ≡ None
+returned_none overwrite note l none = lost_same (spool.put_back_loses overwrite note l.spool) (fated Spooled note (record l { spool = spool.put_back overwrite note l.spool })) ∙ none
+
+pub fail_none : (a : Around) (l : Line) → (fail_open a l).opened ≡ None
+fail_none a l = of l.opened refl where
+  failed_none : (note : Note) (h : Line) → h.opened ≡ None → (b : Bool) → (if b then returned a.overwrites note h else fated (Dropped NoSpool) note h).opened ≡ None
+  failed_none note h none true = returned_none a.overwrites note h none
+  failed_none note h none false = none
+
+  of : (one : Option Note) → l.opened ≡ one → (with_open (failed a) one l).opened ≡ None
+  of None is = is
+  of (Some note) is = failed_none note (record l { opened = None }) refl (in_kind l.kinds note)

@@ -242,8 +242,9 @@ impl Spool {
         ensures taken { result ≡ slice_get self.old.notes 0 }
         ensures after { self.new ≡ sent self.old }
     {
+        let oldest = self.notes.pop_front();
         self.budget = one_less(self.budget);
-        self.notes.pop_front()
+        oldest
     }
 
     /// The oldest note leaves, to be dropped.

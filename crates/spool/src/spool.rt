@@ -276,8 +276,9 @@ impl Spool {
         rsda
     }
 
-    // Whether a row starts.
-    fn starts(&self, row: u8) -> bool
+    /// Whether a row starts: 1, 2, 3, 7, 8, 9 or 14 of table 3, of which 7 and 14 want more of what lies around. No other row
+    /// starts.
+    pub fn starts(&self, row: u8) -> bool
         ensures { result ≡ spool_starts row self.now }
     {
         match row {

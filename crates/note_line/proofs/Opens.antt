@@ -1,5 +1,5 @@
 -- Which rows open a note: 12 the oldest spooled one, and 13 the head, each where the tool communicates and none is open.
-use Rattle.std.proofs.Common.{◌≡◌, ℕ, ◌==◌, Bool, true, false, not, ◌&&◌, ◌||◌, List, [], ◌∷◌, Option, Some, None, refl, sym, subst}
+use Rattle.std.proofs.Common.{◌≡◌, ℕ, ◌==◌, Bool, true, false, List, [], ◌∷◌, Option, Some, None, refl, sym, subst}
 use Rattle.std.specs.List.{AllByRecursion}
 use Rattle.std.proofs.lemmas.Bool.{true≢false}
 use Rattle.spool.specs.declared.note.Note.{Note}
@@ -7,10 +7,10 @@ use Rattle.spool.specs.Spool as spool
 use Rattle.note_line.specs.declared.around.Around.{Around}
 use Rattle.note_line.specs.declared.fate.DropCause.TheVariants.{NoSpool}
 use Rattle.note_line.specs.declared.fate.Fate.TheVariants.{Dropped, Spooled}
-use Rattle.note_line.specs.Line.{Line, fated, with_head, lost_is_dropped, spooled, purge_oldest_of, drop_head, spool_head, purge_oldest}
+use Rattle.note_line.specs.Line.{Line, fated, with_head, lost_is_dropped, spooled, purge_oldest_of}
 use Rattle.note_line.specs.Table3.{Row, line_table, least, effect_of, row_effect}
 use Rattle.note_line.proofs.Rows.{and_first, and_second}
-use Rattle.note_line.proofs.Keeps.{IsLeast, least_is, is_none}
+use Rattle.note_line.proofs.Keeps.{least_is, is_none}
 
 -- what a row that fires by itself does to the open note
 pub data Opens (a : Around) (l h : Line) (number : ℕ) : Type 0 where
@@ -40,20 +40,47 @@ spooled_same overwrite (note ∷ notes) l = lost_same (spool.push_loses overwrit
 rows_open : (a : Around) (l : Line) → AllByRecursion (RowOpens a l) line_table
 rows_open a l = (
   (λ auto w. opens_none refl refl refl),
-  ((λ auto w. opens_none refl refl refl),
-  ((λ auto w. opens_none refl refl refl),
-  ((λ auto w. absurd (true≢false (sym auto))),
-  ((λ auto w. absurd (true≢false (sym auto))),
-  ((λ auto w. opens_none (purged_same l.spool.notes l) refl refl),
-  ((λ auto w. opens_none refl refl refl),
-  ((λ auto w. opens_none refl refl refl),
-  ((λ auto w. opens_none refl refl refl),
-  ((λ auto w. opens_none (spooled_same a.overwrites l.waiting l) refl refl),
-  ((λ auto w. opens_none (dropped_same l.waiting l) refl refl),
-  ((λ auto w. opens_oldest refl (and_second _ _ (and_first _ _ w)) (is_none l.opened (and_second _ _ w))),
-  ((λ auto w. opens_head refl (and_second _ _ (and_first _ _ w)) (is_none l.opened (and_second _ _ w))),
-  ((λ auto w. absurd (true≢false (sym auto))),
-  tt))))))))))))))
+  (
+    (λ auto w. opens_none refl refl refl),
+    (
+      (λ auto w. opens_none refl refl refl),
+      (
+        (λ auto w. absurd (true≢false (sym auto))),
+        (
+          (λ auto w. absurd (true≢false (sym auto))),
+          (
+            (λ auto w. opens_none (purged_same l.spool.notes l) refl refl),
+            (
+              (λ auto w. opens_none refl refl refl),
+              (
+                (λ auto w. opens_none refl refl refl),
+                (
+                  (λ auto w. opens_none refl refl refl),
+                  (
+                    (λ auto w. opens_none (spooled_same a.overwrites l.waiting l) refl refl),
+                    (
+                      (λ auto w. opens_none (dropped_same l.waiting l) refl refl),
+                      (
+                        (λ auto w. opens_oldest refl (and_second _ _ (and_first _ _ w)) (is_none l.opened (and_second _ _ w))),
+                        (
+                          (λ auto w. opens_head refl (and_second _ _ (and_first _ _ w)) (is_none l.opened (and_second _ _ w))),
+                          (
+                            (λ auto w. absurd (true≢false (sym auto))),
+                            tt,
+                          ),
+                        ),
+                      ),
+                    ),
+                  ),
+                ),
+              ),
+            ),
+          ),
+        ),
+      ),
+    ),
+  ),
+)
 
 pub least-opens : (a : Around) (l : Line) (number : ℕ) → least a l ≡ Some number → Opens a l (row_effect a number l) number
 least-opens a l number e =

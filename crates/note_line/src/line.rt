@@ -1,10 +1,10 @@
 //! The line of notes as a record.
 
-ghost use Rattle.std.specs.Prelude.{◌≡◌, ◌≤◌, true, length, slice_get, option_copied, None, Some, IfOk, IfErr, IfSome};
+ghost use Rattle.std.specs.Prelude.{◌≡◌, ◌≤◌, true, length, slice_get, option_copied, not, ◌&&◌, None, Some, IfOk, IfErr, IfSome};
 ghost use Rattle.spool.specs.Limits.{most_capacity};
-ghost use Rattle.spool.specs.Spool.{rsda};
+ghost use Rattle.spool.specs.Spool.{rsda, is_transmit, has_note};
 ghost use Rattle.note_line.specs.Line.{opening, next, noted, restated, spool_head, drop_head, open_head, open_oldest, purge_oldest, fail_open, answered, with_kinds, begun, fate_of, with_fate, in_kind};
-ghost use Rattle.note_line.specs.Table3.{least, line_starts, head_in_kind, head_not_in_kind, head_may_go};
+ghost use Rattle.note_line.specs.Table3.{least, line_starts, head_in_kind, head_not_in_kind, head_may_go, has_open};
 ghost use Rattle.note_line.specs.Fates.{LineValid};
 ghost use Rattle.note_line.specs.Limits.{most_text};
 
@@ -272,7 +272,11 @@ impl NoteLine {
         ensures { self.new ≡ purge_oldest self.old }
     {
         if let Some(purged) = self.spool.purge_one() {
-            set_fate(&mut self.told, purged.number, Fate::Dropped(DropCause::Purged));
+            set_fate(
+                &mut self.told,
+                purged.number,
+                Fate::Dropped(DropCause::Purged),
+            );
         }
     }
 
@@ -301,6 +305,9 @@ impl NoteLine {
         requires { self.old.opened ≡ None }
         ensures { self.new ≡ open_oldest self.old }
     {
+        if !self.spool.has_note() {
+            return;
+        }
         if let Some(oldest) = self.spool.next() {
             let number = oldest.number;
             self.opened = Some(oldest);

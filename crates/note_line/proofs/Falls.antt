@@ -1,5 +1,5 @@
 -- Each row that fires by itself lets what is left fall, also where a note tells of it.
-use Rattle.std.proofs.Common.{◌≡◌, ℕ, suc, ◌+◌, ◌*◌, ◌<◌, ◌≤◌, ◌==◌, Bool, true, false, not, ◌&&◌, ◌||◌, List, [], ◌∷◌, ◌++◌, length, drop, Option, Some, None, refl, sym, subst, arith, length-append}
+use Rattle.std.proofs.Common.{◌≡◌, ℕ, suc, ◌+◌, ◌<◌, ◌==◌, Bool, true, false, not, ◌&&◌, List, [], ◌∷◌, ◌++◌, length, Option, Some, None, refl, sym, subst, arith, length-append}
 use Rattle.std.specs.Prelude.{nat_lt, if◌then◌else◌}
 use Rattle.std.specs.List.{AllByRecursion}
 use Rattle.std.proofs.lemmas.Bool.{true≢false}
@@ -14,15 +14,14 @@ use Rattle.spool.specs.declared.states.Unload.TheVariants.{NoOutput, Transmit, P
 use Rattle.spool.specs.Spool as spool
 use Rattle.spool.specs.Spool.{Spool, load_number, unload_number, is_inactive, is_not_full, is_full, is_active, is_transmit, is_purge, has_note, is_at_capacity, has_room, is_used_up}
 use Rattle.note_line.specs.declared.around.Around.{Around}
-use Rattle.note_line.specs.declared.fate.Fate.{Fate}
-use Rattle.note_line.specs.declared.fate.Fate.TheVariants.{Answered, Spooled, Dropped}
-use Rattle.note_line.specs.declared.fate.DropCause.TheVariants.{NoSpool, Full as IsFull}
-use Rattle.note_line.specs.Line.{Line, next, in_kind, noted, fated, with_head, with_open, lost_is_dropped, spooled, returned, sent, open_oldest_of, open_oldest, purge_oldest_of, purge_oldest, failed, fail_open, answered, with_kinds, begun, restated}
-use Rattle.note_line.specs.Table3.{Row, line_table, first_is, row_of, least, effect_of, row_effect}
-use Rattle.note_line.specs.Left.{of_states, disagrees, weight, left, told_weight}
+use Rattle.note_line.specs.declared.fate.Fate.TheVariants.{Spooled, Dropped}
+use Rattle.note_line.specs.declared.fate.DropCause.TheVariants.{NoSpool}
+use Rattle.note_line.specs.Line.{Line, next, in_kind, noted, fated, with_head, lost_is_dropped, spooled, sent, open_oldest_of, purge_oldest_of, restated}
+use Rattle.note_line.specs.Table3.{Row, line_table, first_is, least, effect_of, row_effect}
+use Rattle.note_line.specs.Left.{weight, left, told_weight}
 use Rattle.note_line.proofs.Lists.{Loses, loses_none, loses_one, fitted-loses}
 use Rattle.note_line.proofs.Rows.{and_first, and_second}
-use Rattle.note_line.proofs.Keeps.{IsLeast, least_is}
+use Rattle.note_line.proofs.Keeps.{least_is}
 
 -- ---- the numbers of the states
 
@@ -156,20 +155,47 @@ head_spooled test overwrite l (note ∷ notes) w some =
 rows_fall : (a : Around) (l : Line) → AllByRecursion (RowFalls a l) line_table
 rows_fall a l = (
   (λ auto w. activated l w),
-  ((λ auto w. filled l w),
-  ((λ auto w. has_room_again l w),
-  ((λ auto w. absurd (true≢false (sym auto))),
-  ((λ auto w. absurd (true≢false (sym auto))),
-  ((λ auto w. plus_none _ _ (purged l l.spool.notes refl (and_first _ _ w) (and_second _ _ w))),
-  ((λ auto w. stopped l (and_first _ _ w)),
-  ((λ auto w. used_up l w),
-  ((λ auto w. deactivated l w),
-  ((λ auto w. plus_none _ _ (head_spooled (in_kind l.kinds) a.overwrites l l.waiting refl (and_first _ _ w))),
-  ((λ auto w. plus_none _ _ (head_leaves _ (fated (Dropped NoSpool)) l l.waiting (λ note h. refl) refl (and_first _ _ w))),
-  ((λ auto w. plus_none _ _ (oldest_goes l l.spool.notes refl (and_first _ _ (and_first _ _ (and_first _ _ w))) (and_second _ _ (and_first _ _ (and_first _ _ w))))),
-  ((λ auto w. plus_none _ _ (head_leaves _ sent l l.waiting (λ note h. refl) refl (and_first _ _ (and_first _ _ w)))),
-  ((λ auto w. absurd (true≢false (sym auto))),
-  tt))))))))))))))
+  (
+    (λ auto w. filled l w),
+    (
+      (λ auto w. has_room_again l w),
+      (
+        (λ auto w. absurd (true≢false (sym auto))),
+        (
+          (λ auto w. absurd (true≢false (sym auto))),
+          (
+            (λ auto w. plus_none _ _ (purged l l.spool.notes refl (and_first _ _ w) (and_second _ _ w))),
+            (
+              (λ auto w. stopped l (and_first _ _ w)),
+              (
+                (λ auto w. used_up l w),
+                (
+                  (λ auto w. deactivated l w),
+                  (
+                    (λ auto w. plus_none _ _ (head_spooled (in_kind l.kinds) a.overwrites l l.waiting refl (and_first _ _ w))),
+                    (
+                      (λ auto w. plus_none _ _ (head_leaves _ (fated (Dropped NoSpool)) l l.waiting (λ note h. refl) refl (and_first _ _ w))),
+                      (
+                        (λ auto w. plus_none _ _ (oldest_goes l l.spool.notes refl (and_first _ _ (and_first _ _ (and_first _ _ w))) (and_second _ _ (and_first _ _ (and_first _ _ w))))),
+                        (
+                          (λ auto w. plus_none _ _ (head_leaves _ sent l l.waiting (λ note h. refl) refl (and_first _ _ (and_first _ _ w)))),
+                          (
+                            (λ auto w. absurd (true≢false (sym auto))),
+                            tt,
+                          ),
+                        ),
+                      ),
+                    ),
+                  ),
+                ),
+              ),
+            ),
+          ),
+        ),
+      ),
+    ),
+  ),
+)
 
 -- what is left falls, also where a note tells of the row
 pub least-falls : (a : Around) (l : Line) (number : ℕ) → least a l ≡ Some number → left (row_effect a number l) + told_weight number < left l

@@ -1,5 +1,5 @@
 -- The laws of the line, for the proofs of other crates: what keeps it valid and its fates.
-use Rattle.std.proofs.Common.{nat_lt, ◌≡◌, ℕ, zero, suc, slice_get, ◌==◌, ◌+◌, ◌<◌, ◌≤◌, Bool, true, false, not, ◌&&◌, List, [], ◌∷◌, length, Option, Some, None, IsSome, is_some, option_map, refl, sym, ap, subst, arith, cond, find, ◌∙◌}
+use Rattle.std.proofs.Common.{◌≡◌, ℕ, zero, suc, slice_get, ◌==◌, ◌<◌, ◌≤◌, Bool, true, false, not, ◌&&◌, List, [], ◌∷◌, length, Option, Some, None, IsSome, is_some, option_map, refl, sym, ap, subst, arith, cond, ◌∙◌}
 use Rattle.std.specs.List.{AllByRecursion}
 use Rattle.std.proofs.lemmas.Bool.{true≢false}
 use Rattle.std.proofs.lemmas.Bool.Decides.{nat_tests}
@@ -8,8 +8,8 @@ use Rattle.spool.specs.Spool.{is_inactive, has_note}
 use Rattle.note_line.specs.declared.around.Around.{Around}
 use Rattle.note_line.specs.declared.fate.Told.{Told}
 use Rattle.note_line.specs.Line.{Line, next, fate_of}
-use Rattle.note_line.specs.Table3.{Row, line_table, head_may_go, has_open, row_of, least_row, least, starts_at, line_starts, is_direct, effect_of, row_effect}
-use Rattle.note_line.specs.Fates.{LineValid, KeepsFates}
+use Rattle.note_line.specs.Table3.{Row, line_table, row_of, least_row, least, starts_at, line_starts, is_direct, effect_of, row_effect}
+use Rattle.note_line.specs.Fates.{LineValid}
 use Rattle.note_line.proofs.Rows.{Goes, keeps, and_first, and_second, find_gives, drop-goes, spool-goes, open-goes, oldest-goes, purge-goes, fail-goes, restated-goes, begun-goes}
 pub use Rattle.note_line.proofs.Rows.{Keeps, opening-valid, noted-keeps, answered-keeps, kinds-keeps, head_waits, spooled_lies, open_is_open, fates-same, fates-trans}
 
@@ -35,20 +35,47 @@ not_13 n other same = absurd (grind (arith, nat_tests))
 rows_go : (a : Around) (l : Line) → LineValid l → AllByRecursion (RowGoes a l) line_table
 rows_go a l v = (
   (λ w q. restated-goes 1 l v),
-  ((λ w q. restated-goes 2 l v),
-  ((λ w q. restated-goes 3 l v),
-  ((λ w q. begun-goes 0 a l v),
-  ((λ w q. begun-goes 1 a l v),
-  ((λ w q. purge-goes l v),
-  ((λ w q. restated-goes 7 l v),
-  ((λ w q. restated-goes 8 l v),
-  ((λ w q. restated-goes 9 l v),
-  ((λ w q. spool-goes a l (and_first _ _ w) v),
-  ((λ w q. drop-goes l v),
-  ((λ w q. oldest-goes l (is_none l.opened (and_second _ _ w)) v),
-  ((λ w q. open-goes l (q refl) (and_first _ _ (and_first _ _ w)) (is_none l.opened (and_second _ _ w)) v),
-  ((λ w q. fail-goes a l v),
-  tt))))))))))))))
+  (
+    (λ w q. restated-goes 2 l v),
+    (
+      (λ w q. restated-goes 3 l v),
+      (
+        (λ w q. begun-goes 0 a l v),
+        (
+          (λ w q. begun-goes 1 a l v),
+          (
+            (λ w q. purge-goes l v),
+            (
+              (λ w q. restated-goes 7 l v),
+              (
+                (λ w q. restated-goes 8 l v),
+                (
+                  (λ w q. restated-goes 9 l v),
+                  (
+                    (λ w q. spool-goes a l (and_first _ _ w) v),
+                    (
+                      (λ w q. drop-goes l v),
+                      (
+                        (λ w q. oldest-goes l (is_none l.opened (and_second _ _ w)) v),
+                        (
+                          (λ w q. open-goes l (q refl) (and_first _ _ (and_first _ _ w)) (is_none l.opened (and_second _ _ w)) v),
+                          (
+                            (λ w q. fail-goes a l v),
+                            tt,
+                          ),
+                        ),
+                      ),
+                    ),
+                  ),
+                ),
+              ),
+            ),
+          ),
+        ),
+      ),
+    ),
+  ),
+)
 
 -- it is the row of its number
 abbrev RowIsOfNumber : Row → Type 0

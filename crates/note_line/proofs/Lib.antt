@@ -7,3 +7,4 @@ pub mod Falls
 pub mod Tells
 pub mod Short
 pub mod Opens
+pub mod Stays

@@ -1,5 +1,5 @@
 -- What is true of the elements of a list, where one leaves it, goes to its front, or comes to its rear.
-use Rattle.std.proofs.Common.{◌≡◌, suc, ◌-◌, Bool, true, false, List, [], ◌∷◌, ◌++◌, length, drop, take, Option, Some, None, refl, arith}
+use Rattle.std.proofs.Common.{◌≡◌, suc, ◌-◌, Bool, true, false, List, [], ◌∷◌, ◌++◌, length, drop, take, Option, Some, None, arith}
 use Rattle.std.specs.Prelude.{ℕ, nat_le, slice_get, if◌then◌else◌}
 use Rattle.std.specs.List.{AllByRecursion}
 use Rattle.spool.specs.Full.{fitted, lost}

@@ -1,5 +1,5 @@
 -- Which rows open a note: 12 the oldest spooled one, and 13 the head, each where the tool communicates and none is open.
-use Rattle.std.proofs.Common.{◌≡◌, ℕ, ◌==◌, Bool, true, false, not, ◌&&◌, ◌||◌, List, [], ◌∷◌, Option, Some, None, refl, sym, subst, ◌∙◌, if◌then◌else◌}
+use Rattle.std.proofs.Common.{◌≡◌, ℕ, ◌==◌, Bool, true, false, List, [], ◌∷◌, Option, Some, None, refl, sym, subst, ◌∙◌, if◌then◌else◌}
 use Rattle.std.specs.List.{AllByRecursion}
 use Rattle.std.proofs.lemmas.Bool.{true≢false}
 use Rattle.spool.specs.declared.note.Note.{Note}
@@ -10,7 +10,7 @@ use Rattle.note_line.specs.declared.fate.Fate.TheVariants.{Dropped, Spooled}
 use Rattle.note_line.specs.Line.{Line, in_kind, fated, with_head, with_open, lost_is_dropped, spooled, returned, failed, fail_open, purge_oldest_of}
 use Rattle.note_line.specs.Table3.{Row, line_table, least, effect_of, row_effect}
 use Rattle.note_line.proofs.Rows.{and_first, and_second}
-use Rattle.note_line.proofs.Keeps.{IsLeast, least_is, is_none}
+use Rattle.note_line.proofs.Keeps.{least_is, is_none}
 
 -- what a row that fires by itself does to the open note
 pub data Opens (a : Around) (l h : Line) (number : ℕ) : Type 0 where

@@ -1,5 +1,5 @@
 -- What each effect does to the line: it keeps it valid, and fates.
-use Rattle.std.proofs.Common.{◌≡◌, ℕ, suc, zero, ◌+◌, ◌<◌, ◌≤◌, ◌==◌, Bool, true, false, not, ◌||◌, ◌&&◌, List, [], ◌∷◌, ◌++◌, length, Option, Some, None, option_map, find, is_some, refl, sym, ap, subst, arith, cond, append_assoc, ◌∙◌}
+use Rattle.std.proofs.Common.{◌≡◌, ℕ, suc, zero, ◌+◌, ◌==◌, Bool, true, false, not, ◌||◌, ◌&&◌, List, [], ◌∷◌, ◌++◌, length, Option, Some, None, option_map, find, refl, sym, ap, subst, arith, cond, append_assoc, ◌∙◌}
 use Rattle.std.specs.Prelude.{nat_lt, if◌then◌else◌}
 use Rattle.std.specs.List.{AllByRecursion, count_by}
 use Rattle.std.specs.Option.{option_to_list}
@@ -9,7 +9,6 @@ use Rattle.std.proofs.lemmas.List.Sums.{sum_by_push, sum_by-cons}
 use Rattle.std.proofs.lemmas.Bool.Decides.{nat_tests}
 use Rattle.spool.specs.declared.note.Note.{Note}
 use Rattle.spool.specs.declared.note.Kind.{Kind}
-use Rattle.spool.specs.declared.note.Kind.TheVariants.{Event, Alarm}
 use Rattle.spool.specs.Spool as spool
 use Rattle.spool.specs.Spool.{Spool, has_note, is_inactive}
 use Rattle.spool.specs.Table as states
@@ -25,7 +24,7 @@ use Rattle.note_line.specs.Line.{Line, opening, next, standing, is_spooled_kind,
 use Rattle.note_line.specs.Table3.{first_is, head_in_kind, head_may_go}
 use Rattle.note_line.specs.Order.{Pairwise, Before}
 use Rattle.note_line.specs.Limits.{IsShort, AreShort}
-use Rattle.note_line.specs.Fates.{is_waiting, is_spooled, is_open, is_ended, tells, is_number, passes, has_fate, one_if, IsTold, OfKinds, LineValid, KeepsFates}
+use Rattle.note_line.specs.Fates.{is_waiting, is_spooled, is_open, is_ended, tells, is_number, passes, has_fate, one_if, IsTold, LineValid, KeepsFates}
 use Rattle.note_line.proofs.Lists.{all_joined, all_mapped, all_without, pairs_pushed, Loses, loses_none, loses_one, fitted-loses}
 use Rattle.note_line.proofs.Numbers.{told_of-more, told_of-last, has_fate-more, fate-given}
 use Rattle.note_line.proofs.Moves.{stays, leaves, passes_by, Moves, moves-valid, moves-fates, shifts-all}

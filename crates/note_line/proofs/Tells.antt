@@ -1,5 +1,5 @@
 -- What the numbers tell of, from number 1 on: a new note adds what it tells of, and no row and no answer changes it.
-use Rattle.std.proofs.Common.{◌≡◌, ℕ, zero, suc, ◌==◌, Bool, true, false, List, [], ◌∷◌, ◌++◌, map, Option, Some, None, find, if◌then◌else◌, refl, ap, ◌∙◌}
+use Rattle.std.proofs.Common.{◌≡◌, ℕ, zero, suc, ◌==◌, Bool, true, false, List, [], ◌∷◌, ◌++◌, map, Option, Some, None, if◌then◌else◌, refl, ap, ◌∙◌}
 use Rattle.std.specs.List.{AllByRecursion}
 use Rattle.gem_tables.specs.Table.{update_at}
 use Rattle.spool.specs.declared.note.Note.{Note}
@@ -78,20 +78,47 @@ RowTells r = (a : Around) (l : Line) → Tells l (r.effect a l)
 rows_tell : AllByRecursion RowTells line_table
 rows_tell = (
   (λ a l. refl),
-  ((λ a l. refl),
-  ((λ a l. refl),
-  ((λ a l. refl),
-  ((λ a l. refl),
-  ((λ a l. purged-tells l.spool.notes l),
-  ((λ a l. refl),
-  ((λ a l. refl),
-  ((λ a l. refl),
-  ((λ a l. head-tells (spooled a.overwrites) (spooled-tells a.overwrites) l.waiting l),
-  ((λ a l. head-tells (fated (Dropped NoSpool)) (fated-tells (Dropped NoSpool)) l.waiting l),
-  ((λ a l. oldest-tells l.spool.notes l),
-  ((λ a l. head-tells sent sent-tells l.waiting l),
-  ((λ a l. open-tells (failed a) (failed-tells a) l.opened l),
-  tt))))))))))))))
+  (
+    (λ a l. refl),
+    (
+      (λ a l. refl),
+      (
+        (λ a l. refl),
+        (
+          (λ a l. refl),
+          (
+            (λ a l. purged-tells l.spool.notes l),
+            (
+              (λ a l. refl),
+              (
+                (λ a l. refl),
+                (
+                  (λ a l. refl),
+                  (
+                    (λ a l. head-tells (spooled a.overwrites) (spooled-tells a.overwrites) l.waiting l),
+                    (
+                      (λ a l. head-tells (fated (Dropped NoSpool)) (fated-tells (Dropped NoSpool)) l.waiting l),
+                      (
+                        (λ a l. oldest-tells l.spool.notes l),
+                        (
+                          (λ a l. head-tells sent sent-tells l.waiting l),
+                          (
+                            (λ a l. open-tells (failed a) (failed-tells a) l.opened l),
+                            tt,
+                          ),
+                        ),
+                      ),
+                    ),
+                  ),
+                ),
+              ),
+            ),
+          ),
+        ),
+      ),
+    ),
+  ),
+)
 
 pub row-tells : (a : Around) (number : ℕ) (l : Line) → map tells (row_effect a number l).told ≡ map tells l.told
 row-tells a number l = of (row_of number) refl where

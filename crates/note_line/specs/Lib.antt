@@ -5,4 +5,3 @@ pub mod Order
 pub mod Fates
 pub mod Limits
 pub mod Kept
-pub mod Worked

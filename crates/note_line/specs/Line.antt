@@ -6,6 +6,8 @@ use Rattle.gem_tables.specs.Table.{update_at}
 use Rattle.spool.specs.declared.note.Note.{Note}
 use Rattle.spool.specs.declared.note.Kind.{Kind}
 use Rattle.spool.specs.declared.note.Kind.TheVariants.{Event, Alarm}
+use Rattle.spool.specs.declared.spool.Pushed.{Pushed}
+use Rattle.spool.specs.declared.spool.Pushed.TheVariants.{Kept, DroppedOldest, DroppedNewest}
 use Rattle.spool.specs.Spool as spool
 use Rattle.spool.specs.Table.{spool_fired}
 use Rattle.note_line.specs.declared.around.Around.{Around}
@@ -101,6 +103,17 @@ restated row l = record l { spool = spool_fired row l.spool }
 abbrev pub lost_is_dropped : Option Note → Line → Line
 lost_is_dropped None l = l
 lost_is_dropped (Some note) l = fated (Dropped Full) note l
+
+-- what became of the notes, where a full spool lost this one, or none
+abbrev pub told_lost : Option Note → List Told → List Told
+told_lost None told = told
+told_lost (Some note) told = with_fate note.number (Dropped Full) told
+
+-- the note that the spool tells of as lost, if it does
+abbrev pub lost_of : Pushed → Option Note
+lost_of Kept = None
+lost_of (DroppedOldest note) = Some note
+lost_of (DroppedNewest note) = Some note
 
 -- a note goes to the rear of the spool, by the rule of a full spool
 abbrev pub spooled : Bool → Note → Line → Line

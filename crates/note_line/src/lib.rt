@@ -10,7 +10,8 @@ mod around;
 mod fate;
 pub mod laws;
 mod line;
-pub mod worked;
+mod told;
+//pub mod worked;
 
 pub use around::{Around, SpooledKinds};
 pub use fate::{DropCause, Fate, Told};

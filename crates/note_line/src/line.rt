@@ -1,16 +1,18 @@
 //! The line of notes as a record.
 
-ghost use Rattle.std.specs.Prelude.{◌≡◌, ◌≤◌, true, length, slice_get, option_copied, None, Some, IfOk, IfErr, IfSome};
-ghost use Rattle.spool.specs.Spool.{rsda};
+ghost use Rattle.std.specs.Prelude.{◌≡◌, ◌≤◌, true, length, slice_get, option_copied, not, ◌&&◌, None, Some, IfOk, IfErr, IfSome};
+ghost use Rattle.spool.specs.Limits.{most_capacity};
+ghost use Rattle.spool.specs.Spool.{rsda, is_transmit, has_note};
 ghost use Rattle.note_line.specs.Line.{opening, next, noted, restated, spool_head, drop_head, open_head, open_oldest, purge_oldest, fail_open, answered, with_kinds, begun, fate_of, with_fate, in_kind};
-ghost use Rattle.note_line.specs.Table3.{least, line_starts, head_in_kind, head_not_in_kind, head_may_go};
+ghost use Rattle.note_line.specs.Table3.{least, line_starts, head_in_kind, head_not_in_kind, head_may_go, has_open};
 ghost use Rattle.note_line.specs.Fates.{LineValid};
 ghost use Rattle.note_line.specs.Limits.{most_text};
 
 use crate::around::{Around, SpooledKinds};
 use crate::fate::{DropCause, Fate, Told};
+use crate::told::{return_note, set_fate, spool_note};
 use hsms_frame::Bytes;
-use spool::{Kind, Load, Note, Pushed, Spool, Unload};
+use spool::{Kind, Load, Note, Spool, Unload};
 use std::alloc::{AllocError, Global};
 use std::collections::VecDeque;
 use std::marker::Model;
@@ -41,33 +43,12 @@ impl Model for NoteLine {
     ghost invariant = { IsKept };
 }
 
-// Another fate of the note of this number. Where the number wasn't given nothing changes.
-fn set_fate(told: &mut Vec<Told>, number: u64, fate: Fate)
-    ensures { told.new.items ≡ with_fate number fate told.old.items }
-{
-    if let Some(place) = number.checked_sub(1) {
-        let place = place as usize;
-        if place < told.len() {
-            told[place].fate = fate;
-        }
-    }
-}
-
-// A full spool lost a note, or none: what it lost is dropped.
-fn drop_lost(told: &mut Vec<Told>, pushed: Pushed)
-    ensures { told.new.items ≡ told_without pushed told.old.items }
-{
-    if let Pushed::DroppedOldest(lost) | Pushed::DroppedNewest(lost) = pushed {
-        set_fate(told, lost.number, Fate::Dropped(DropCause::Full));
-    }
-}
-
 impl NoteLine {
     /// No note was made; the spool has room for so many notes, 1 to 65,536, and notes of these kinds are spooled.
     /// `AllocError`: there is no room for the spool.
     pub fn new(alloc: Global, capacity: u32, kinds: SpooledKinds) -> Result<NoteLine, AllocError>
-        requires some { 1 ≤ capacity }
-        requires most { capacity ≤ 65536 }
+        requires some_room { 1 ≤ capacity }
+        requires limit { capacity ≤ most_capacity }
         ensures { IfOk result (λ line. line ≡ opening capacity kinds) }
     {
         Ok(NoteLine {
@@ -207,22 +188,12 @@ impl NoteLine {
         }
     }
 
-    // Whether a note is spooled in kind.
-    fn is_in_kind(&self, note: &Note) -> bool
-        ensures { result ≡ in_kind self.now.kinds note.now }
-    {
-        match note.kind {
-            Kind::Event => self.kinds.events,
-            Kind::Alarm => self.kinds.alarms,
-        }
-    }
-
     // Whether there is a head that is spooled in kind.
     fn head_in_kind(&self) -> bool
         ensures { result ≡ head_in_kind self.now }
     {
         match self.waiting.front() {
-            Some(head) => self.is_in_kind(head),
+            Some(head) => self.kinds.has(head.kind),
             None => false,
         }
     }
@@ -232,7 +203,7 @@ impl NoteLine {
         ensures { result ≡ head_not_in_kind self.now }
     {
         match self.waiting.front() {
-            Some(head) => !self.is_in_kind(head),
+            Some(head) => !self.kinds.has(head.kind),
             None => false,
         }
     }
@@ -242,38 +213,44 @@ impl NoteLine {
         ensures { result ≡ head_may_go self.now }
     {
         match self.waiting.front() {
-            Some(head) => !self.is_in_kind(head) || self.spool.is_inactive(),
+            Some(head) => !self.kinds.has(head.kind) || self.spool.is_inactive(),
             None => false,
         }
+    }
+
+    // Whether the oldest spooled note is to be sent, and can be.
+    fn oldest_may_go(&self, around: Around) -> bool
+        ensures { result ≡ (is_transmit self.now.spool.unload && has_note self.now.spool && around.communicates && not (has_open self.now)) }
+    {
+        self.spool.is_transmit()
+            && self.spool.has_note()
+            && around.communicates
+            && self.opened.is_none()
     }
 
     /// The row of table 3 that fires by itself next, by what lies around the line, or none.
     pub fn row_for(&self, around: Around) -> Option<u8>
         ensures least { result ≡ least around self.now }
     {
-        if self.spool.is_inactive() && self.spool.has_note() {
+        if self.spool.starts(1) {
             Some(1)
-        } else if self.spool.is_not_full() && self.spool.is_at_capacity() {
+        } else if self.spool.starts(2) {
             Some(2)
-        } else if self.spool.is_full() && self.spool.has_room() {
+        } else if self.spool.starts(3) {
             Some(3)
         } else if self.spool.is_purge() && self.spool.has_note() {
             Some(6)
         } else if self.spool.is_transmit() && !around.communicates {
             Some(7)
-        } else if self.spool.is_transmit() && self.spool.is_used_up() {
+        } else if self.spool.starts(8) {
             Some(8)
-        } else if self.spool.is_active() && !self.spool.has_note() {
+        } else if self.spool.starts(9) {
             Some(9)
         } else if self.head_in_kind() && (self.spool.is_active() || !around.communicates) {
             Some(10)
         } else if self.head_not_in_kind() && !around.communicates {
             Some(11)
-        } else if self.spool.is_transmit()
-            && self.spool.has_note()
-            && around.communicates
-            && self.opened.is_none()
-        {
+        } else if self.oldest_may_go(around) {
             Some(12)
         } else if self.head_may_go() && around.communicates && self.opened.is_none() {
             Some(13)
@@ -295,7 +272,11 @@ impl NoteLine {
         ensures { self.new ≡ purge_oldest self.old }
     {
         if let Some(purged) = self.spool.purge_one() {
-            set_fate(&mut self.told, purged.number, Fate::Dropped(DropCause::Purged));
+            set_fate(
+                &mut self.told,
+                purged.number,
+                Fate::Dropped(DropCause::Purged),
+            );
         }
     }
 
@@ -306,9 +287,7 @@ impl NoteLine {
         ensures { self.new ≡ spool_head around self.old }
     {
         if let Some(head) = self.waiting.pop_front() {
-            set_fate(&mut self.told, head.number, Fate::Spooled);
-            let pushed = self.spool.push(head, around.overwrites);
-            drop_lost(&mut self.told, pushed);
+            spool_note(&mut self.told, &mut self.spool, head, around.overwrites);
         }
     }
 
@@ -326,6 +305,9 @@ impl NoteLine {
         requires { self.old.opened ≡ None }
         ensures { self.new ≡ open_oldest self.old }
     {
+        if !self.spool.has_note() {
+            return;
+        }
         if let Some(oldest) = self.spool.next() {
             let number = oldest.number;
             self.opened = Some(oldest);
@@ -345,21 +327,17 @@ impl NoteLine {
         }
     }
 
-    // A note whose transaction failed goes back to the front of the spool.
-    fn put_back(&mut self, note: Note, overwrites: bool)
-    {
-        set_fate(&mut self.told, note.number, Fate::Spooled);
-        let pushed = self.spool.put_back(note, overwrites);
-        drop_lost(&mut self.told, pushed);
-    }
-
     /// Row 14: the transaction of the open note has failed. TRANSMIT becomes NO OUTPUT, and the note goes back to the
     /// spool where its kind is spooled, and is dropped otherwise.
     pub fn fail_open(&mut self, around: Around)
         ensures { self.new ≡ fail_open around self.old }
     {
         if let Some(failed) = self.opened.take() {
-            set_fate(&mut self.told, failed.number, NOT_SPOOLED);
+            if self.kinds.has(failed.kind) {
+                return_note(&mut self.told, &mut self.spool, failed, around.overwrites);
+            } else {
+                set_fate(&mut self.told, failed.number, NOT_SPOOLED);
+            }
         }
         self.spool.fire(14);
     }

@@ -1,6 +1,6 @@
 use Rattle.std.proofs.Common.{arith}
 use Rattle.note_line.proofs.Numbers.{written, written-past}
-use Rattle.note_line.proofs.line.set_fate.Goals as goal
+use Rattle.note_line.proofs.told.set_fate.Goals as goal
 
 pub returns-then-place-len : goal.returns-then-place-len
 returns-then-place-len c = let n = c.in-Some.ensures in written _ _ _ _ _ (omega arith) c.index_mut.ensures.value

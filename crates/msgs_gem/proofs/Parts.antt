@@ -99,7 +99,7 @@ count-first f ds xs None rest same here others = absurd (cc)
 count-first f ds xs (Some y) None same here others = absurd (cc)
 count-first f ds xs (Some y) (Some ys) same here others = let is : y ∷ ys ≡ xs = cc in ap length (sym is) ∙ ap suc (others ys same)
 
-count-all_of : {A : Type 0} (f : Form A) (ds : DataList) (xs : List A) → all_of f ds ≡ Some xs → length xs ≡ count_of ds
+pub count-all_of : {A : Type 0} (f : Form A) (ds : DataList) (xs : List A) → all_of f ds ≡ Some xs → length xs ≡ count_of ds
 count-all_of f no_items xs is = let none : [] ≡ xs = cc in ap length (sym none)
 count-all_of f (item d ds) xs is = count-first f ds xs (f d) (all_of f ds) refl is (count-all_of f ds)
 

@@ -58,6 +58,14 @@ flag d = None
 abbrev pub id : Form ℕ
 id d = id_of d
 
+-- u1: an id of at most 255
+abbrev pub small_id : Form ℕ
+small_id d = id d >>= meeting (λ n. nat_le n 255)
+
+-- u1 of 0 or 1
+abbrev pub zero_or_one : Form ℕ
+zero_or_one d = small_id d >>= meeting (λ n. nat_le n 1)
+
 -- an integer item without elements
 abbrev pub is_empty_number : Data → Bool
 is_empty_number (i1 []) = true

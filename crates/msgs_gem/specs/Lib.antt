@@ -5,4 +5,5 @@ pub mod Given
 pub mod Primaries
 pub mod Replies
 pub mod Few
+pub mod Functions
 pub mod Sendable

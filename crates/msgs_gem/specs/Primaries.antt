@@ -2,11 +2,12 @@
 use Rattle.std.specs.Prelude.{ℕ, ◌==◌, ◌&&◌, Bool, true, false, if◌then◌else◌, List, [], ◌∷◌, Option, Some, None, option_and_then, Result, Ok, Err}
 use Rattle.std.specs.List.{find, list_any}
 use Rattle.secs_items.specs.Data.{Data}
-use Rattle.msgs_gem.specs.Bodies.{Form, of, any, byte, characters, each, flag, group, id, id_or_empty, ids, l2, numbers_or_ids, text}
+use Rattle.msgs_gem.specs.Bodies.{Form, of, any, byte, characters, each, flag, group, id, id_or_empty, ids, l2, numbers_or_ids, small_id, text, zero_or_one}
 use Rattle.msgs_gem.specs.declared.fault.BodyFault.{BodyFault}
 use Rattle.msgs_gem.specs.declared.fault.BodyFault.TheVariants as fault
 use Rattle.msgs_gem.specs.declared.primary.GemMsg.{GemMsg}
 use Rattle.msgs_gem.specs.declared.primary.GemMsg.TheVariants as msg
+use Rattle.msgs_gem.specs.declared.primary.SpooledStream.{SpooledStream}
 
 -- L[id, value]: a constant and its new value
 abbrev pub setting : Form (ℕ × Data)
@@ -15,6 +16,10 @@ setting = l2 (λ ecid value. (ecid, value)) id any
 -- L[text, any]: a parameter of a command and its value
 abbrev pub parameter : Form (List ℕ × Data)
 parameter = l2 (λ name value. (name, value)) text any
+
+-- L[u1, L[u1*]]: a stream and its functions that are to be spooled
+abbrev pub spooled_stream : Form SpooledStream
+spooled_stream = l2 (λ stream functions. record { stream = stream; functions = functions }) small_id (each small_id)
 
 -- what is printed of a body
 pub data Body : Type 0 where
@@ -51,11 +56,13 @@ lines =
     (line 2 35 (printed (l2 msg.S2F35 id (each group))) ∷
     (line 2 37 (printed (l2 msg.S2F37 flag ids)) ∷
     (line 2 41 (printed (l2 msg.S2F41 text (each parameter))) ∷
+    (line 2 43 (printed (of msg.S2F43 (each spooled_stream))) ∷
     (line 5 3 (printed (l2 msg.S5F3 byte id_or_empty)) ∷
     (line 5 5 (printed (of msg.S5F5 numbers_or_ids)) ∷
     (line 5 7 (ignored msg.S5F7) ∷
     (line 6 15 (printed (of msg.S6F15 id)) ∷
-    (line 6 19 (printed (of msg.S6F19 id)) ∷ [])))))))))))))))))))
+    (line 6 19 (printed (of msg.S6F19 id)) ∷
+    (line 6 23 (printed (of msg.S6F23 zero_or_one)) ∷ [])))))))))))))))))))))
 
 -- the line of this stream and function
 abbrev pub line_of : List Line → ℕ → ℕ → Option Line

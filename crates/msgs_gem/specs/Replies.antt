@@ -1,10 +1,11 @@
 -- The bodies of the tool's replies and of its own primaries, as they are printed (SEMI E5; this tool's profile, messages).
 use Rattle.std.specs.Prelude.{ℕ, List, [], ◌∷◌, map, Option, Some, None}
-use Rattle.secs_items.specs.Data.{Data, DataList, list, binary, ascii, u4, u8, no_items, item}
+use Rattle.secs_items.specs.Data.{Data, DataList, list, binary, ascii, u1, u4, u8, no_items, item}
 use Rattle.msgs_gem.specs.declared.reply.AlarmPart.{AlarmPart}
 use Rattle.msgs_gem.specs.declared.reply.GemReply.{GemReply}
 use Rattle.msgs_gem.specs.declared.reply.GemReply.TheVariants as reply
 use Rattle.msgs_gem.specs.declared.reply.ParameterAcknowledge.{ParameterAcknowledge}
+use Rattle.msgs_gem.specs.declared.reply.StreamRefusal.{StreamRefusal}
 use Rattle.msgs_gem.specs.declared.reply.VariableName.{VariableName}
 
 -- these items, one after another
@@ -27,6 +28,10 @@ A text = ascii text
 -- B
 abbrev pub B : List ℕ → Data
 B bytes = binary bytes
+
+-- U1 of one element
+abbrev pub U1 : ℕ → Data
+U1 n = u1 (n ∷ [])
 
 -- U4 of one element
 abbrev pub U4 : ℕ → Data
@@ -51,6 +56,14 @@ variable_name v = L (U4 v.svid ∷ (A v.name ∷ (A [] ∷ [])))
 -- a parameter that is refused: L[A name, code CPACK]
 abbrev pub parameter_acknowledge : ParameterAcknowledge → Data
 parameter_acknowledge p = L (A p.name ∷ (code p.cpack ∷ []))
+
+-- a stream that is refused: L[U1 stream, code STRACK, L[U1 function*]]
+abbrev pub stream_refusal : StreamRefusal → Data
+stream_refusal r = L (U1 r.stream ∷ (code r.strack ∷ (each U1 r.functions ∷ [])))
+
+-- what the host's choice of streams is answered: L[code RSPACK, L[stream_refusal*]]
+abbrev pub spooling : ℕ → List StreamRefusal → Data
+spooling rspack refusals = L (code rspack ∷ (each stream_refusal refusals ∷ []))
 
 -- ALCD: B of one byte, and without elements where the alarm is unknown
 abbrev pub alarm_code : Option ℕ → Data
@@ -87,6 +100,7 @@ reply_body (reply.S2F34 drack) = code drack
 reply_body (reply.S2F36 lrack) = code lrack
 reply_body (reply.S2F38 erack) = code erack
 reply_body (reply.S2F42 hcack parameters) = L (code hcack ∷ (each parameter_acknowledge parameters ∷ []))
+reply_body (reply.S2F44 rspack refusals) = spooling rspack refusals
 reply_body (reply.S5F1 alcd alid text) = alarm (Some alcd) alid text
 reply_body (reply.S5F4 ackc5) = code ackc5
 reply_body (reply.S5F6 alarms) = each alarm_part alarms
@@ -94,6 +108,7 @@ reply_body (reply.S5F8 alarms) = each alarm_part alarms
 reply_body (reply.S6F11 note ceid reports) = event note ceid reports
 reply_body (reply.S6F16 ceid reports) = event 0 ceid reports
 reply_body (reply.S6F20 values) = list values
+reply_body (reply.S6F24 rsda) = code rsda
 reply_body (reply.S9F1 header) = B header
 reply_body (reply.S9F3 header) = B header
 reply_body (reply.S9F5 header) = B header

@@ -1,10 +1,11 @@
 -- Which replies can be sent.
-use Rattle.std.specs.Prelude.{ℕ, ◌<◌, ◌≤◌, ◌^◌, List, length}
+use Rattle.std.specs.Prelude.{ℕ, ◌<◌, ◌≤◌, ◌^◌, List, length, map}
 use Rattle.std.specs.List.{All}
 use Rattle.secs_items.specs.Data.{DataList}
 use Rattle.secs_items.specs.Plain.{count_of}
 use Rattle.secs_items.specs.Sendable.{IsLength}
 use Rattle.secs_items.specs.Weight.{AreBounded}
+use Rattle.msgs_gem.specs.Functions.{AreFewFunctions}
 use Rattle.msgs_gem.specs.declared.reply.GemReply.{GemReply}
 use Rattle.msgs_gem.specs.declared.reply.GemReply.TheVariants as reply
 
@@ -35,6 +36,7 @@ HasSendableParts (reply.S2F34 drack) = Unit {0}
 HasSendableParts (reply.S2F36 lrack) = Unit {0}
 HasSendableParts (reply.S2F38 erack) = Unit {0}
 HasSendableParts (reply.S2F42 hcack parameters) = length parameters < 2 ^ 24
+HasSendableParts (reply.S2F44 rspack refusals) = AreFewFunctions (map (λ r. r.functions) refusals)
 HasSendableParts (reply.S5F1 alcd alid text) = Unit {0}
 HasSendableParts (reply.S5F4 ackc5) = Unit {0}
 HasSendableParts (reply.S5F6 alarms) = length alarms ≤ 1024
@@ -42,6 +44,7 @@ HasSendableParts (reply.S5F8 alarms) = length alarms ≤ 1024
 HasSendableParts (reply.S6F11 note ceid reports) = AreFew 16 3 5392 reports
 HasSendableParts (reply.S6F16 ceid reports) = AreFew 16 3 5392 reports
 HasSendableParts (reply.S6F20 values) = AreFew 1024 1 84 values
+HasSendableParts (reply.S6F24 rsda) = Unit {0}
 HasSendableParts (reply.S9F1 header) = IsLength (length header)
 HasSendableParts (reply.S9F3 header) = IsLength (length header)
 HasSendableParts (reply.S9F5 header) = IsLength (length header)

@@ -1,8 +1,8 @@
 //! Bodies of the messages of streams 1, 2, 5, 6 and 9 (SEMI E5; this tool's profile, messages): what the host's
-//! primaries say, what the tool's replies and its own primaries are written as, and whether an S1F14 accepts. The
-//! messages on the spool, S2F43 and S6F23, are not built. What a message does is left to the crates above, and so are
-//! headers, the W-bit and texts that are not one item; values, constants and reports come to a reply as items that those
-//! crates made. Begin with `read_gem`, which reads a primary, and `gem_item`, which gives the item of a reply.
+//! primaries say, what the tool's replies and its own primaries are written as, and whether an S1F14 accepts. What a
+//! message does is left to the crates above, and so are headers, the W-bit and texts that are not one item; values,
+//! constants and reports come to a reply as items that those crates made. Begin with `read_gem`, which reads a primary,
+//! and `gem_item`, which gives the item of a reply.
 #![tactic(auto)]
 
 mod acknowledge;
@@ -15,6 +15,8 @@ mod reply;
 
 pub use acknowledge::accepts_communication;
 pub use fault::BodyFault;
-pub use laws::an_ignored_text_makes_no_difference;
-pub use primary::{GemMsg, Parameter, Setting, is_ignored, read_gem};
-pub use reply::{AlarmPart, GemReply, Identity, ParameterAcknowledge, VariableName, gem_item};
+pub use laws::{an_ignored_text_makes_no_difference, what_refuses_few_functions_can_be_sent};
+pub use primary::{GemMsg, Parameter, Setting, SpooledStream, is_ignored, read_gem};
+pub use reply::{
+    AlarmPart, GemReply, Identity, ParameterAcknowledge, StreamRefusal, VariableName, gem_item,
+};

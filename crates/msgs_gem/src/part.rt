@@ -3,7 +3,7 @@
 ghost use Rattle.std.specs.Prelude.{◌≡◌, ◌≤◌, length, IfOk, Option, option_map};
 ghost use Rattle.secs_items.specs.Data.{Data};
 ghost use Rattle.secs_items.specs.View.{view, items_of};
-ghost use Rattle.msgs_gem.specs.Bodies.{any, are_few, byte as byte_form, characters as characters_form, each, elements as elements_form, flag as flag_form, group, id as id_form, id_or_empty as id_or_empty_form, ids as ids_form, is_empty_number as is_empty_number_form, meeting, of_count, text as text_form};
+ghost use Rattle.msgs_gem.specs.Bodies.{any, are_few, byte as byte_form, characters as characters_form, each, elements as elements_form, flag as flag_form, group, id as id_form, id_or_empty as id_or_empty_form, ids as ids_form, is_empty_number as is_empty_number_form, meeting, of_count, small_id as small_id_form, text as text_form, zero_or_one as zero_or_one_form};
 ghost use Rattle.msgs_gem.specs.Given.{Gives};
 
 use crate::fault::BodyFault;
@@ -104,6 +104,30 @@ pub(crate) fn id(item: &Item) -> Result<u32, BodyFault>
     item.as_id().ok_or(BodyFault::IllegalData)
 }
 
+// An id of at most 255.
+pub(crate) fn small_id(item: &Item) -> Result<u8, BodyFault>
+    ensures { Gives (λ id. id) result (small_id_form (view item.now)) }
+{
+    let id = id(item)?;
+    if id <= 255 {
+        Ok(id as u8)
+    } else {
+        Err(BodyFault::IllegalData)
+    }
+}
+
+// Such an id that is 0 or 1.
+pub(crate) fn zero_or_one(item: &Item) -> Result<u8, BodyFault>
+    ensures { Gives (λ id. id) result (zero_or_one_form (view item.now)) }
+{
+    let id = small_id(item)?;
+    if id <= 1 {
+        Ok(id)
+    } else {
+        Err(BodyFault::IllegalData)
+    }
+}
+
 // An id, or none where the item is an integer item without elements.
 pub(crate) fn id_or_empty(item: &Item) -> Result<Option<u32>, BodyFault>
     ensures { Gives (λ id. id) result (id_or_empty_form (view item.now)) }
@@ -144,6 +168,14 @@ impl Part for u32 {
 
     fn of_item(_alloc: Global, item: &Item) -> Result<u32, BodyFault> {
         id(item)
+    }
+}
+
+impl Part for u8 {
+    ghost form = { small_id_form };
+
+    fn of_item(_alloc: Global, item: &Item) -> Result<u8, BodyFault> {
+        small_id(item)
     }
 }
 

@@ -1,19 +1,19 @@
 //! The host's primaries.
 
 ghost use Rattle.std.specs.Prelude.{◌≡◌, IfOk, IfSome, option_map};
-ghost use Rattle.secs_items.specs.Sendable.{HasShortBodies};
-ghost use Rattle.msgs_gem.specs.Bodies.{each, l2, text as text_form};
-ghost use Rattle.msgs_gem.specs.Few.{HasFewParts};
+ghost use Rattle.msgs_gem.specs.Bodies.{each, l2, of, text as text_form};
+ghost use Rattle.msgs_gem.specs.Few.{HasFewParts, HasShortText};
 ghost use Rattle.msgs_gem.specs.Given.{Gives};
-ghost use Rattle.msgs_gem.specs.declared.primary.GemMsg.TheVariants.{S2F41};
+ghost use Rattle.msgs_gem.specs.declared.primary.GemMsg.TheVariants.{S2F41, S2F43};
 ghost use Rattle.secs_items.specs.View.{view};
 ghost use Rattle.msgs_gem.specs.Given.{Answers};
-ghost use Rattle.msgs_gem.specs.Primaries.{ignores, parameter, reading, setting};
+ghost use Rattle.msgs_gem.specs.Primaries.{ignores, parameter, reading, setting, spooled_stream};
 
 use crate::fault::BodyFault;
 use crate::numbers::numbers_or_ids;
 use crate::part::{
-    Part, byte, characters, copied, flag, id, id_or_empty, ids, list_of, one, parts, text,
+    Part, byte, characters, copied, flag, id, id_or_empty, ids, list_of, one, parts, small_id,
+    text, zero_or_one,
 };
 use gem_ids::{Ids, Listed, Text80};
 use secs_items::{Bytes, Item};
@@ -62,6 +62,15 @@ impl Model for Parameter {
     ghost coded = { text_code };
 
     ghost view = { λ p. (p.name, said p.value) };
+}
+
+/// A stream, and its functions whose notes are to be spooled, as S2F43 gives them.
+#[derive(Debug, Drop)]
+pub struct SpooledStream {
+    /// STRID, the stream.
+    pub stream: u8,
+    /// FCNID, its functions: none stands for all that the stream has.
+    pub functions: Listed<u8>,
 }
 
 impl Setting {
@@ -120,6 +129,18 @@ impl Part for Parameter {
     }
 }
 
+impl Part for SpooledStream {
+    ghost form = { spooled_stream };
+
+    fn of_item(alloc: Global, item: &Item) -> Result<SpooledStream, BodyFault> {
+        let [stream, functions] = parts::<2>(item)?;
+        Ok(SpooledStream {
+            stream: small_id(stream)?,
+            functions: list_of(alloc, functions)?,
+        })
+    }
+}
+
 /// A primary of the host, with the parts of its body in the printed order (SEMI E5; this tool's profile, messages). A
 /// list of ids has at most 1,024 of them, and an empty one stands for all where it asks or enables.
 #[derive(Debug, Drop)]
@@ -154,6 +175,8 @@ pub enum GemMsg {
     S2F37(bool, Ids),
     /// Host command send: RCMD, the command, and its parameters.
     S2F41(Text80, Listed<Parameter>),
+    /// Reset spooling streams and functions: the streams, and the functions of each, whose notes are to be spooled.
+    S2F43(Listed<SpooledStream>),
     /// Enable or disable alarm send: ALED, and ALID. None stands for all alarms: an integer item without elements.
     S5F3(u8, Option<u32>),
     /// List alarms request: ALIDs, as the elements of one integer item or as a list of ids.
@@ -164,6 +187,8 @@ pub enum GemMsg {
     S6F15(u32),
     /// Individual report request: RPTID.
     S6F19(u32),
+    /// Request spooled data: RSDC, 0 to transmit the spool and 1 to purge it.
+    S6F23(u8),
 }
 
 /// Reads a primary of the host by its stream and function. `item` is its text, and None where the text is not one item;
@@ -171,7 +196,8 @@ pub enum GemMsg {
 ///
 /// `UnknownStream` comes where no message has the stream, else `UnknownFunction` where none of the stream has the
 /// function, else `IllegalData` where the item has not the printed body (this tool's profile, messages). Besides,
-/// `NoMemory` may come, for a message whose body has parts to be copied. A list of ids that was read has at most 1,024.
+/// `NoMemory` may come, for a message whose body has parts to be copied. A list of ids that was read has at most 1,024;
+/// parameters and functions are as few as a text of 536,870,912 bytes can list, where the text is no longer.
 pub fn read_gem(
     alloc: Global,
     stream: u8,
@@ -179,7 +205,7 @@ pub fn read_gem(
     item: Option<&Item>,
 ) -> Result<GemMsg, BodyFault>
     ensures answer { Answers result (reading stream function (option_map (λ i. view i.now) item.entry)) }
-    ensures few { IfSome item.entry (λ i. HasShortBodies (view i.now)) → IfOk result HasFewParts }
+    ensures few { IfSome item.entry (λ i. HasShortText (view i.now)) → IfOk result HasFewParts }
 {
     match stream {
         1 => read_stream_1(alloc, function, item),
@@ -193,7 +219,7 @@ pub fn read_gem(
 // Equipment status.
 fn read_stream_1(alloc: Global, function: u8, item: Option<&Item>) -> Result<GemMsg, BodyFault>
     ensures answer { Answers result (reading 1 function (option_map (λ i. view i.now) item.entry)) }
-    ensures few { IfSome item.entry (λ i. HasShortBodies (view i.now)) → IfOk result HasFewParts }
+    ensures few { IfSome item.entry (λ i. HasShortText (view i.now)) → IfOk result HasFewParts }
 {
     match function {
         1 => Ok(GemMsg::S1F1),
@@ -209,7 +235,7 @@ fn read_stream_1(alloc: Global, function: u8, item: Option<&Item>) -> Result<Gem
 // Equipment control and diagnostics.
 fn read_stream_2(alloc: Global, function: u8, item: Option<&Item>) -> Result<GemMsg, BodyFault>
     ensures answer { Answers result (reading 2 function (option_map (λ i. view i.now) item.entry)) }
-    ensures few { IfSome item.entry (λ i. HasShortBodies (view i.now)) → IfOk result HasFewParts }
+    ensures few { IfSome item.entry (λ i. HasShortText (view i.now)) → IfOk result HasFewParts }
 {
     match function {
         13 => Ok(GemMsg::S2F13(ids(alloc, one(item)?)?)),
@@ -230,6 +256,7 @@ fn read_stream_2(alloc: Global, function: u8, item: Option<&Item>) -> Result<Gem
             Ok(GemMsg::S2F37(flag(ceed)?, ids(alloc, events)?))
         }
         41 => remote_command(alloc, one(item)?),
+        43 => spooled_streams(alloc, one(item)?),
         _ => Err(BodyFault::UnknownFunction),
     }
 }
@@ -237,16 +264,24 @@ fn read_stream_2(alloc: Global, function: u8, item: Option<&Item>) -> Result<Gem
 // A remote command and its parameters.
 fn remote_command(alloc: Global, item: &Item) -> Result<GemMsg, BodyFault>
     ensures form { Gives (λ m. m) result (l2 S2F41 text_form (each parameter) (view item.now)) }
-    ensures few { HasShortBodies (view item.now) → IfOk result HasFewParts }
+    ensures few { HasShortText (view item.now) → IfOk result HasFewParts }
 {
     let [command, parameters] = parts::<2>(item)?;
     Ok(GemMsg::S2F41(text(command)?, list_of(alloc, parameters)?))
 }
 
+// The streams that are to be spooled.
+fn spooled_streams(alloc: Global, item: &Item) -> Result<GemMsg, BodyFault>
+    ensures form { Gives (λ m. m) result (of S2F43 (each spooled_stream) (view item.now)) }
+    ensures few { HasShortText (view item.now) → IfOk result HasFewParts }
+{
+    Ok(GemMsg::S2F43(list_of(alloc, item)?))
+}
+
 // Exception handling.
 fn read_stream_5(alloc: Global, function: u8, item: Option<&Item>) -> Result<GemMsg, BodyFault>
     ensures answer { Answers result (reading 5 function (option_map (λ i. view i.now) item.entry)) }
-    ensures few { IfSome item.entry (λ i. HasShortBodies (view i.now)) → IfOk result HasFewParts }
+    ensures few { IfSome item.entry (λ i. HasShortText (view i.now)) → IfOk result HasFewParts }
 {
     match function {
         3 => {
@@ -262,11 +297,12 @@ fn read_stream_5(alloc: Global, function: u8, item: Option<&Item>) -> Result<Gem
 // Data collection.
 fn read_stream_6(function: u8, item: Option<&Item>) -> Result<GemMsg, BodyFault>
     ensures answer { Answers result (reading 6 function (option_map (λ i. view i.now) item.entry)) }
-    ensures few { IfSome item.entry (λ i. HasShortBodies (view i.now)) → IfOk result HasFewParts }
+    ensures few { IfSome item.entry (λ i. HasShortText (view i.now)) → IfOk result HasFewParts }
 {
     match function {
         15 => Ok(GemMsg::S6F15(id(one(item)?)?)),
         19 => Ok(GemMsg::S6F19(id(one(item)?)?)),
+        23 => Ok(GemMsg::S6F23(zero_or_one(one(item)?)?)),
         _ => Err(BodyFault::UnknownFunction),
     }
 }

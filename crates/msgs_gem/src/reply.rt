@@ -1,17 +1,18 @@
 //! The tool's replies, and its own primaries.
 
-ghost use Rattle.std.specs.Prelude.{◌≡◌, ◌<◌, ◌≤◌, ◌^◌, List, length, IfOk};
+ghost use Rattle.std.specs.Prelude.{◌≡◌, ◌<◌, ◌≤◌, ◌^◌, List, length, map, IfOk};
 ghost use Rattle.gem_ids.specs.Texts.{IsText};
 ghost use Rattle.secs_items.specs.Data.{Data, list as list_data};
 ghost use Rattle.secs_items.specs.Plain.{plain};
 ghost use Rattle.secs_items.specs.Sendable.{IsSendable};
 ghost use Rattle.secs_items.specs.View.{view, items_of};
 ghost use Rattle.secs_items.specs.Weight.{IsBounded};
-ghost use Rattle.msgs_gem.specs.Replies.{A, B, U4, U8, alarm as alarm_data, alarm_code as alarm_code_data, alarm_part, code as code_data, each, event as event_data, identity, parameter_acknowledge, reply_body, variable_name};
+ghost use Rattle.msgs_gem.specs.Functions.{AreFewFunctions};
+ghost use Rattle.msgs_gem.specs.Replies.{A, B, U1, U4, U8, alarm as alarm_data, alarm_code as alarm_code_data, alarm_part, code as code_data, each, event as event_data, identity, parameter_acknowledge, reply_body, spooling, stream_refusal as stream_refusal_data, variable_name};
 ghost use Rattle.msgs_gem.specs.Sendable.{AreFew, HasSendableParts};
 
 use gem_ids::{Listed, Text80};
-use secs_items::{Bytes, Item, Items, NoMemory, U32s, U64s};
+use secs_items::{Bytes, Item, Items, NoMemory, U8s, U32s, U64s};
 use std::alloc::Global;
 
 /// What the tool tells of itself.
@@ -39,6 +40,17 @@ pub struct ParameterAcknowledge {
     pub name: Text80,
     /// CPACK, why it is refused.
     pub cpack: u8,
+}
+
+/// A stream that is refused where the host sets what is spooled, and why.
+#[derive(Debug, Drop)]
+pub struct StreamRefusal {
+    /// STRID, the stream as it was sent.
+    pub stream: u8,
+    /// STRACK, why it is refused.
+    pub strack: u8,
+    /// FCNID, the functions that are refused.
+    pub functions: Listed<u8>,
 }
 
 /// An alarm in a list of alarms.
@@ -90,6 +102,8 @@ pub enum GemReply {
     S2F38(u8),
     /// Host command acknowledge: HCACK, and the parameters that are refused.
     S2F42(u8, Listed<ParameterAcknowledge>),
+    /// Reset spooling acknowledge: RSPACK, and the streams that are refused.
+    S2F44(u8, Listed<StreamRefusal>),
     /// Alarm report send, the tool's primary: ALCD, ALID and ALTX.
     S5F1(u8, u32, Text80),
     /// Enable or disable alarm acknowledge: ACKC5.
@@ -105,6 +119,8 @@ pub enum GemReply {
     S6F16(u32, Items),
     /// Individual report data: the values.
     S6F20(Items),
+    /// Request spooled data acknowledge: RSDA.
+    S6F24(u8),
     /// Unrecognized device id: the header that was received.
     S9F1(Bytes),
     /// Unrecognized stream: the header that was received.
@@ -125,7 +141,8 @@ pub enum GemReply {
 /// characters of MDLN, SOFTREV and the time are at most 127; these and a header have fewer than 16,777,216 bytes. Of
 /// values there are at most 1,024, each of at most 84 bytes with lists at most 1 deep; of constants 1,024, of 210
 /// bytes and 1 deep; of reports 16, of 5,392 bytes and 3 deep. Of names and alarms there are at most 1,024, and of
-/// parameters fewer than 16,777,216.
+/// parameters fewer than 16,777,216; so are streams that are refused, and the functions of each, which are at most
+/// 268,435,456 together.
 #[tactic(auto, using(crate::proofs::Bounds::short_text))]
 pub fn gem_item(alloc: Global, reply: &GemReply) -> Result<Item, NoMemory>
     ensures exact { IfOk result (λ item. view item ≡ reply_body reply.now) }
@@ -167,6 +184,7 @@ fn item_of(alloc: Global, reply: &GemReply) -> Result<Item, NoMemory>
             alloc,
             [code(alloc, *hcack)?, list_of(alloc, parameters.as_slice())?],
         ),
+        GemReply::S2F44(rspack, refusals) => spooled(alloc, *rspack, refusals.as_slice()),
         GemReply::S5F1(alcd, alid, text) => alarm(alloc, Some(*alcd), *alid, text),
         GemReply::S5F4(ackc5) => code(alloc, *ackc5),
         GemReply::S5F6(alarms) => list_of(alloc, alarms.as_slice()),
@@ -174,6 +192,7 @@ fn item_of(alloc: Global, reply: &GemReply) -> Result<Item, NoMemory>
         GemReply::S6F11(note, ceid, reports) => event(alloc, *note, *ceid, reports),
         GemReply::S6F16(ceid, reports) => event(alloc, 0, *ceid, reports),
         GemReply::S6F20(values) => elements(values),
+        GemReply::S6F24(rsda) => code(alloc, *rsda),
         GemReply::S9F1(header) => binary(header),
         GemReply::S9F3(header) => binary(header),
         GemReply::S9F5(header) => binary(header),
@@ -213,6 +232,14 @@ impl Printed for ParameterAcknowledge {
 
     fn item(&self, alloc: Global) -> Result<Item, NoMemory> {
         list(alloc, [text(alloc, &self.name)?, code(alloc, self.cpack)?])
+    }
+}
+
+impl Printed for u8 {
+    ghost body = { U1 };
+
+    fn item(&self, alloc: Global) -> Result<Item, NoMemory> {
+        u1(alloc, *self)
     }
 }
 
@@ -256,6 +283,41 @@ fn event(alloc: Global, note: u64, ceid: u32, reports: &Items) -> Result<Item, N
     list(
         alloc,
         [u8(alloc, note)?, u4(alloc, ceid)?, elements(reports)?],
+    )
+}
+
+// What the host's choice of streams is answered.
+fn spooled(alloc: Global, rspack: u8, refusals: &[StreamRefusal]) -> Result<Item, NoMemory>
+    ensures exact { IfOk result (λ item. view item ≡ spooling rspack refusals.now) }
+    ensures bounded { AreFewFunctions (map (λ r. r.functions) refusals.now) → IfOk result (λ item. IsBounded 5 (2 ^ 31) (view item)) }
+{
+    list(
+        alloc,
+        [code(alloc, rspack)?, stream_refusals(alloc, refusals)?],
+    )
+}
+
+// A list of an item for each stream that is refused. How long one is depends on its functions, so it is no `Printed`.
+fn stream_refusals(alloc: Global, refusals: &[StreamRefusal]) -> Result<Item, NoMemory>
+    ensures { IfOk result (λ item. view item ≡ each stream_refusal_data refusals.now) }
+{
+    let mut items = Items::new(alloc);
+    for refusal in refusals {
+        items.push(stream_refusal(alloc, refusal)?)?;
+    }
+    Ok(Item::List(items))
+}
+
+fn stream_refusal(alloc: Global, refusal: &StreamRefusal) -> Result<Item, NoMemory>
+    ensures { IfOk result (λ item. view item ≡ stream_refusal_data refusal.now) }
+{
+    list(
+        alloc,
+        [
+            u1(alloc, refusal.stream)?,
+            code(alloc, refusal.strack)?,
+            list_of(alloc, refusal.functions.as_slice())?,
+        ],
     )
 }
 
@@ -315,6 +377,12 @@ fn text(alloc: Global, text: &Text80) -> Result<Item, NoMemory>
     ensures text { IsText text.now }
 {
     Ok(Item::Ascii(Bytes::from_vec(Vec::from_slice(alloc, text.as_bytes())?)))
+}
+
+fn u1(alloc: Global, number: u8) -> Result<Item, NoMemory>
+    ensures { IfOk result (λ item. view item ≡ U1 number) }
+{
+    Ok(Item::U1(U8s::from_vec(vec![in alloc; number]?)))
 }
 
 fn u4(alloc: Global, number: u32) -> Result<Item, NoMemory>

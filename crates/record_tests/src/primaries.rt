@@ -1,7 +1,7 @@
 //! Bodies of the host's primaries with parts (`msgs_gem`).
 
 use gem_ids::Ids;
-use msgs_gem::{BodyFault, GemMsg, Parameter, read_gem};
+use msgs_gem::{BodyFault, GemMsg, Parameter, SpooledStream, read_gem};
 use secs_items::{NoMemory, read_one};
 use std::alloc::Global;
 use std::test::Fail;
@@ -389,6 +389,125 @@ fn s2f41_of_another_form_is_illegal(rt: HostRuntime) {
     }
 }
 
+// Whether these are the streams, each with its functions.
+fn are_streams(read: &[SpooledStream], want: &[(u8, &[u8])]) -> bool {
+    if read.len() != want.len() {
+        return false;
+    }
+    for (place, (stream, functions)) in want.iter().enumerate() {
+        let Some(spooled) = read.get(place) else {
+            return false;
+        };
+        if spooled.stream != *stream || spooled.functions.as_slice() != *functions {
+            return false;
+        }
+    }
+    true
+}
+
+// Whether an S2F43 has these streams.
+fn is_spooled(alloc: Global, text: &[u8], want: &[(u8, &[u8])]) -> bool {
+    let message = read(alloc, 2, 43, text);
+    match &message {
+        Ok(GemMsg::S2F43(streams)) => are_streams(streams.as_slice(), want),
+        _ => false,
+    }
+}
+
+#[test]
+fn s2f43_has_streams_and_their_functions(rt: HostRuntime) {
+    // no stream, one without functions, its list with two length bytes, one with one function, a stream given twice
+    assert!(rt; is_spooled(rt.alloc(), b"\x01\x00", &[]));
+    let whole = b"\x01\x01\x01\x02\xA5\x01\x06\x01\x00";
+    assert!(rt; is_spooled(rt.alloc(), whole, &[(6, &[])]));
+    let longer = b"\x02\x00\x01\x01\x02\xA5\x01\x06\x02\x00\x00";
+    assert!(rt; is_spooled(rt.alloc(), longer, &[(6, &[])]));
+    let one = b"\x01\x01\x01\x02\xA5\x01\x06\x01\x01\xA5\x01\x0C";
+    assert!(rt; is_spooled(rt.alloc(), one, &[(6, &[12])]));
+    let twice =
+        b"\x01\x02\x01\x02\xA5\x01\x05\x01\x01\xA5\x01\x01\x01\x02\xA5\x01\x05\x01\x02\xA5\x01\x01\xA5\x01\x01";
+    assert!(rt; is_spooled(rt.alloc(), twice, &[(5, &[1]), (5, &[1, 1])]));
+}
+
+#[test]
+fn a_stream_and_a_function_are_integers_of_any_kind_to_255(rt: HostRuntime) {
+    let text =
+        b"\x01\x02\x01\x02\xA9\x02\x00\x00\x01\x02\x65\x01\x7F\x69\x02\x00\xFF\x01\x02\xA1\x08\x00\x00\x00\x00\x00\x00\x00\xFF\x01\x04\xB1\x04\x00\x00\x00\x0B\xA5\x01\xFF\x61\x08\x00\x00\x00\x00\x00\x00\x00\x00\x71\x04\x00\x00\x00\x80";
+    let want: [(u8, &[u8]); 2] = [(0, &[127, 255]), (255, &[11, 255, 0, 128])];
+    assert!(rt; is_spooled(rt.alloc(), text, &want));
+}
+
+// The number of streams of an S2F43, and of all functions together.
+fn counts(alloc: Global, text: &[u8]) -> Result<(usize, usize), BodyFault> {
+    match read(alloc, 2, 43, text)? {
+        GemMsg::S2F43(streams) => {
+            let mut functions = 0;
+            for stream in streams.as_slice() {
+                functions += stream.functions.len();
+            }
+            Ok((streams.len(), functions))
+        }
+        _ => Err(BodyFault::UnknownFunction),
+    }
+}
+
+#[test]
+fn s2f43_has_as_many_streams_and_functions_as_a_text_holds(rt: HostRuntime) -> Result<(), Fail> {
+    // 262,142 bytes with 87,377 functions, and 262,140 with 37,448 streams
+    let head = b"\x01\x01\x01\x02\xA5\x01\x06\x03\x01\x55\x51";
+    let functions = repeated(rt.alloc(), head, b"\xA5\x01\x0B", 87_377)?;
+    assert_eq!(rt; functions.len(), 262_142);
+    assert_eq!(rt; counts(rt.alloc(), functions.as_slice())?, (1, 87_377));
+    let stream = b"\x01\x02\xA5\x01\x01\x01\x00";
+    let streams = repeated(rt.alloc(), b"\x03\x00\x92\x48", stream, 37_448)?;
+    assert_eq!(rt; streams.len(), 262_140);
+    assert_eq!(rt; counts(rt.alloc(), streams.as_slice())?, (37_448, 0));
+    Ok(())
+}
+
+#[test]
+fn s2f43_of_another_form_is_illegal(rt: HostRuntime) {
+    // no text, an integer, a list of one, an entry of one and of three, a stream that is an A, the functions no list, a
+    // function that is an A, a list, and a BOOL, the second entry a list of none, and a byte behind the item
+    let texts: [&[u8]; 12] = [
+        b"",
+        b"\xA5\x01\x06",
+        b"\x01\x01\xA5\x01\x06",
+        b"\x01\x01\x01\x01\xA5\x01\x06",
+        b"\x01\x01\x01\x03\xA5\x01\x06\x01\x00\x01\x00",
+        b"\x01\x01\x01\x02\x41\x01\x36\x01\x00",
+        b"\x01\x01\x01\x02\xA5\x01\x06\xA5\x01\x0B",
+        b"\x01\x01\x01\x02\xA5\x01\x06\x01\x01\x41\x01\x31",
+        b"\x01\x01\x01\x02\xA5\x01\x06\x01\x01\x01\x01\xA5\x01\x0B",
+        b"\x01\x01\x01\x02\xA5\x01\x06\x01\x01\x25\x01\x01",
+        b"\x01\x02\x01\x02\xA5\x01\x06\x01\x00\x01\x00",
+        b"\x01\x00\x00",
+    ];
+    for text in texts {
+        assert!(rt; is_illegal(rt.alloc(), 2, 43, text), "at {text:?}");
+    }
+}
+
+#[test]
+fn s2f43_with_a_number_that_is_no_u1_is_illegal(rt: HostRuntime) {
+    // 256, 262 and -1 for the stream, none and two of it, 256, 65,547 and -1 for the second function, none and two of it
+    let texts: [&[u8]; 10] = [
+        b"\x01\x01\x01\x02\xA9\x02\x01\x00\x01\x00",
+        b"\x01\x01\x01\x02\xA9\x02\x01\x06\x01\x00",
+        b"\x01\x01\x01\x02\x65\x01\xFF\x01\x00",
+        b"\x01\x01\x01\x02\xA5\x00\x01\x00",
+        b"\x01\x01\x01\x02\xA5\x02\x05\x06\x01\x00",
+        b"\x01\x01\x01\x02\xA5\x01\x06\x01\x02\xA5\x01\x0B\xA9\x02\x01\x00",
+        b"\x01\x01\x01\x02\xA5\x01\x06\x01\x02\xA5\x01\x0B\xB1\x04\x00\x01\x00\x0B",
+        b"\x01\x01\x01\x02\xA5\x01\x06\x01\x02\xA5\x01\x0B\x65\x01\xFF",
+        b"\x01\x01\x01\x02\xA5\x01\x06\x01\x02\xA5\x01\x0B\xA5\x00",
+        b"\x01\x01\x01\x02\xA5\x01\x06\x01\x02\xA5\x01\x0B\xA5\x02\x0B\x0B",
+    ];
+    for text in texts {
+        assert!(rt; is_illegal(rt.alloc(), 2, 43, text), "at {text:?}");
+    }
+}
+
 #[test]
 fn s5f3_has_a_byte_and_an_alarm_or_all(rt: HostRuntime) {
     let texts: [(&[u8], u8, Option<u32>); 5] = [
@@ -454,5 +573,44 @@ fn s6f15_and_s6f19_are_one_id(rt: HostRuntime) {
     for text in texts {
         assert!(rt; is_illegal(rt.alloc(), 6, 15, text), "at {text:?}");
         assert!(rt; is_illegal(rt.alloc(), 6, 19, text), "at {text:?}");
+    }
+}
+
+#[test]
+fn s6f23_is_0_or_1(rt: HostRuntime) {
+    let texts: [(&[u8], u8); 6] = [
+        (b"\xA5\x01\x00", 0),
+        (b"\xA5\x01\x01", 1),
+        (b"\x65\x01\x01", 1),
+        (b"\xA9\x02\x00\x01", 1),
+        (b"\xB1\x04\x00\x00\x00\x00", 0),
+        (b"\xA1\x08\x00\x00\x00\x00\x00\x00\x00\x01", 1),
+    ];
+    for (text, want) in texts {
+        let read = read(rt.alloc(), 6, 23, text);
+        assert!(rt;
+            matches!(&read, Ok(GemMsg::S6F23(rsdc)) if *rsdc == want),
+            "at {text:?}"
+        );
+    }
+    // no text, 2, 255, 256, 257 and -1, no element and two, a list of it and of none, B, BOOL, A, and a byte behind the item
+    let texts: [&[u8]; 14] = [
+        b"",
+        b"\xA5\x01\x02",
+        b"\xA5\x01\xFF",
+        b"\xA9\x02\x01\x00",
+        b"\xA9\x02\x01\x01",
+        b"\x65\x01\xFF",
+        b"\xA5\x00",
+        b"\xA5\x02\x00\x01",
+        b"\x01\x01\xA5\x01\x00",
+        b"\x01\x00",
+        b"\x21\x01\x00",
+        b"\x25\x01\x00",
+        b"\x41\x01\x30",
+        b"\xA5\x01\x00\x00",
+    ];
+    for text in texts {
+        assert!(rt; is_illegal(rt.alloc(), 6, 23, text), "at {text:?}");
     }
 }

@@ -1,12 +1,13 @@
 //! Bodies of the tool's replies with parts, and of S5F1 and S6F11 (`msgs_gem`).
 
-ghost use Rattle.std.specs.Prelude.{◌≤◌, length, IfOk};
+ghost use Rattle.std.specs.Prelude.{◌≡◌, ◌≤◌, length, map, IfOk};
 ghost use Rattle.secs_items.specs.View.{view};
 ghost use Rattle.secs_items.specs.Weight.{IsBounded};
+ghost use Rattle.msgs_gem.specs.Functions.{AreFewFunctions};
 ghost use Rattle.msgs_gem.specs.Sendable.{AreFew, HasSendableParts};
 
 use gem_ids::{Listed, Text80};
-use msgs_gem::{AlarmPart, GemReply, ParameterAcknowledge, VariableName, gem_item};
+use msgs_gem::{AlarmPart, GemReply, ParameterAcknowledge, StreamRefusal, VariableName, gem_item};
 use secs_items::{Bytes, Item, Items, NoMemory, U32s, encode};
 use std::alloc::Global;
 use std::test::Fail;
@@ -141,13 +142,14 @@ fn a_name_has_its_variable_and_no_units(rt: HostRuntime) {
 }
 
 // The replies that are a code.
-fn codes(alloc: Global) -> Result<[Vec<u8>; 5], NoMemory> {
+fn codes(alloc: Global) -> Result<[Vec<u8>; 6], NoMemory> {
     Ok([
         sent(alloc, &GemReply::S2F16(3))?,
         sent(alloc, &GemReply::S2F34(3))?,
         sent(alloc, &GemReply::S2F36(3))?,
         sent(alloc, &GemReply::S2F38(3))?,
         sent(alloc, &GemReply::S5F4(3))?,
+        sent(alloc, &GemReply::S6F24(3))?,
     ])
 }
 
@@ -192,6 +194,97 @@ fn a_command_is_answered_with_its_refused_parameters(rt: HostRuntime) {
     assert!(rt;
         matches!(&sent, Ok([accepted, refused]) if accepted.as_slice() == none && refused.as_slice() == two)
     );
+}
+
+// A stream that is refused with functions.
+fn refused_stream(
+    alloc: Global,
+    stream: u8,
+    strack: u8,
+    functions: &[u8],
+) -> Result<StreamRefusal, NoMemory>
+    ensures { IfOk result (λ refusal. refusal.functions ≡ functions.now) }
+{
+    let functions = Listed::from_vec(Vec::from_slice(alloc, functions)?);
+    Ok(StreamRefusal {
+        stream,
+        strack,
+        functions,
+    })
+}
+
+// One stream that is refused.
+fn one_stream(
+    alloc: Global,
+    stream: u8,
+    strack: u8,
+    functions: &[u8],
+) -> Result<Listed<StreamRefusal>, NoMemory>
+    requires { length functions.now ≤ 256 }
+    ensures { IfOk result (λ refusals. AreFewFunctions (map (λ r. r.functions) refusals)) }
+{
+    let refusal = refused_stream(alloc, stream, strack, functions)?;
+    Ok(Listed::from_vec(vec![in alloc; refusal]?))
+}
+
+// Three streams that are refused: one without functions, one with two, and one that no message has.
+fn three_streams(alloc: Global) -> Result<Listed<StreamRefusal>, NoMemory>
+    ensures { IfOk result (λ refusals. AreFewFunctions (map (λ r. r.functions) refusals)) }
+{
+    let refusals = vec![in alloc;
+        refused_stream(alloc, 1, 1, &[])?,
+        refused_stream(alloc, 6, 3, &[9, 255])?,
+        refused_stream(alloc, 0, 2, &[])?,
+    ]?;
+    Ok(Listed::from_vec(refusals))
+}
+
+// S2F44 of an S2F43 that is done, of one that comes too late, and of three that have faults.
+fn spooled(alloc: Global) -> Result<[Vec<u8>; 5], NoMemory> {
+    Ok([
+        sent(alloc, &GemReply::S2F44(0, Listed::new(alloc)))?,
+        sent(alloc, &GemReply::S2F44(1, Listed::new(alloc)))?,
+        sent(alloc, &GemReply::S2F44(1, one_stream(alloc, 1, 1, &[])?))?,
+        sent(alloc, &GemReply::S2F44(1, one_stream(alloc, 6, 4, &[12])?))?,
+        sent(alloc, &GemReply::S2F44(1, three_streams(alloc)?))?,
+    ])
+}
+
+#[test]
+fn a_choice_of_streams_is_answered_with_its_faults(rt: HostRuntime) {
+    let done = b"\x01\x02\x21\x01\x00\x01\x00".as_slice();
+    let late = b"\x01\x02\x21\x01\x01\x01\x00".as_slice();
+    let stream = b"\x01\x02\x21\x01\x01\x01\x01\x01\x03\xA5\x01\x01\x21\x01\x01\x01\x00".as_slice();
+    let function =
+        b"\x01\x02\x21\x01\x01\x01\x01\x01\x03\xA5\x01\x06\x21\x01\x04\x01\x01\xA5\x01\x0C".as_slice();
+    let three =
+        b"\x01\x02\x21\x01\x01\x01\x03\x01\x03\xA5\x01\x01\x21\x01\x01\x01\x00\x01\x03\xA5\x01\x06\x21\x01\x03\x01\x02\xA5\x01\x09\xA5\x01\xFF\x01\x03\xA5\x01\x00\x21\x01\x02\x01\x00".as_slice();
+    let sent = spooled(rt.alloc());
+    assert!(rt;
+        matches!(&sent, Ok([none, active, one, other, several]) if none.as_slice() == done
+            && active.as_slice() == late
+            && one.as_slice() == stream
+            && other.as_slice() == function
+            && several.as_slice() == three)
+    );
+}
+
+// S2F44 of a stream with 256 functions.
+fn long_refusal(alloc: Global) -> Result<Vec<u8>, NoMemory> {
+    sent(
+        alloc,
+        &GemReply::S2F44(1, one_stream(alloc, 6, 4, &[12; 256])?),
+    )
+}
+
+#[test]
+fn a_refused_stream_lists_each_of_its_functions(rt: HostRuntime) -> Result<(), Fail> {
+    let head = b"\x01\x02\x21\x01\x01\x01\x01\x01\x03\xA5\x01\x06\x21\x01\x04\x02\x01\x00";
+    let want = repeated(rt.alloc(), head, b"\xA5\x01\x0C", 256)?;
+    let sent = long_refusal(rt.alloc())?;
+    assert_eq!(rt; sent.len(), 18 + 3 * 256);
+    assert!(rt; sent.as_slice() == want.as_slice());
+    Ok(())
 }
 
 // Two alarms, the second of which is unknown.

@@ -1,0 +1,7 @@
+use Rattle.std.proofs.Common.{◌≡◌, map, take}
+use Rattle.msgs_gem.specs.Replies.{items, stream_refusal}
+use Rattle.msgs_gem.proofs.reply.stream_refusals.Given as goal
+
+-- the items are those of the refusals so far
+abbrev pub invariant-loop-refusal : goal.invariant-loop-refusal
+invariant-loop-refusal l = l.items ≡ items (map stream_refusal (take l.refusal-index l.refusals))

@@ -22,6 +22,7 @@ use Rattle.data_variables.proofs.Sending.{names_bounded, names_counted}
 use Rattle.msgs_gem.specs.Sendable.{AreFew}
 use Rattle.gem_model.specs.Verdict.{or_all, status_name, alarm_part, alids_of, enabled_alids}
 use Rattle.event_reports.specs.Limits.{most_alarms}
+use Rattle.spool.specs.Spool.{load_number, unload_number}
 use Rattle.event_reports.specs.declared.alarms.AlarmLine.{AlarmLine}
 use Rattle.event_reports.specs.Alarms.{set_alids}
 use Rattle.gem_states.specs.Meaning.{comm_number, control_number}
@@ -50,6 +51,9 @@ alarms_small alarms few = let less = set_few alarms in record { depth = omega ar
 number_small : (n : ℕ) → Small (u1 (n ∷ []))
 number_small n = record { depth = omega arith; size = omega arith; bodies = omega arith }
 
+count_small : (n : ℕ) → Small (u4 (n ∷ []))
+count_small n = record { depth = omega arith; size = omega arith; bodies = omega arith }
+
 row_small : (n : ℕ) → Small (u2 (n ∷ []))
 row_small n = record { depth = omega arith; size = omega arith; bodies = omega arith }
 
@@ -73,7 +77,9 @@ among_small (v ∷ vs) small vid d is = this_small (v.vid == vid) v.value d (val
 pub status_small : (g : State) → length g.alarms ≤ most_alarms → AreSmallValues (status_value g)
 status_small g few =
     among_small (status_variables g)
-    (text_small (time_digits (clock_now g)) (clock_text g), (number_small (comm_number g.comm), (number_small (control_number g.control), (alarms_small g.alarms few, tt))))
+    (text_small (time_digits (clock_now g)) (clock_text g), (number_small (comm_number g.comm), (number_small (control_number g.control),
+    (count_small (length g.line.spool.notes), (count_small g.line.spool.total, (number_small (load_number g.line.spool.load), (number_small (unload_number g.line.spool.unload),
+    (alarms_small g.alarms few, tt))))))))
 
 pub constants_small : (g : State) → AreSmallValues (constant_value g)
 constants_small g vid d is = by_value (constants.value_of vid g.constants) is

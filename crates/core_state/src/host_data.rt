@@ -54,7 +54,7 @@ impl Values for Equipment<'_> {
 }
 
 // The numbers of the status variables that are built.
-const SVIDS: [u32; 4] = [1, 2, 3, 8];
+const SVIDS: [u32; 8] = [1, 2, 3, 4, 5, 6, 7, 8];
 
 // These ids, or all where there are none.
 fn or_all<'a>(all: &'a [u32], ids: &'a [u32]) -> &'a [u32]

@@ -1,21 +1,27 @@
-//! The rows of the line of notes (table 3).
-ghost use Rattle.std.specs.Prelude.{◌≡◌, is_some, None, OnOk, IfOk};
-ghost use Rattle.note_line.specs.Line.{fate_of};
-ghost use Rattle.gem_model.specs.Ready.{ready_line};
-ghost use Rattle.gem_model.specs.Fire.{stream_of_kind, function_of_kind};
-ghost use Rattle.core_state.specs.Firing.{fire_first};
+//! The rows of the line of notes and of the spool (table 3).
+ghost use Rattle.std.specs.Prelude.{◌≡◌, ◌==◌, ◌≤◌, ◌^◌, false, is_some, length, None, OnOk, IfOk, Some};
 ghost use Rattle.gem_tables.specs.Table.{firing};
-ghost use Rattle.note_line.specs.Table3.{least};
-ghost use Rattle.note_line.specs.Line.{answered};
-ghost use Rattle.gem_model.specs.State.{is_communicating};
-ghost use Rattle.gem_model.specs.Fire.{fire, fire_line, fire_listed, asks_first};
+ghost use Rattle.spool.specs.Spool.{is_inactive, rsda};
+ghost use Rattle.note_line.specs.Line.{answered, fate_of, restated, with_kinds};
+ghost use Rattle.note_line.specs.Table3.{least, row_effect};
+ghost use Rattle.note_line.specs.Limits.{most_text};
+ghost use Rattle.gem_model.specs.State.{around};
+ghost use Rattle.gem_model.specs.Ready.{ready_line};
+ghost use Rattle.gem_model.specs.Fire.{stream_of_kind, function_of_kind, fire, fire_listed, asks_first};
 ghost use Rattle.gem_model.specs.Direct.{note_fails};
+ghost use Rattle.gem_model.specs.Spooling.{unload_rows};
+ghost use Rattle.core_state.specs.Firing.{fire_first};
 
+use crate::noting::RowFiring;
 use crate::plant::Plant;
 use hsms_frame::Bytes;
-use note_line::{Fate, Kind};
+use note_line::{Fate, Kind, Note, SpooledKinds};
+use spool::Load;
 use std::alloc::{AllocError, Global};
 use transactions::What;
+
+// The number of the table, as the definitions have it.
+const LINE: u8 = 3;
 
 // The stream and the function by which a note is sent.
 fn message_of(kind: Kind) -> (u8, u8)
@@ -25,6 +31,13 @@ fn message_of(kind: Kind) -> (u8, u8)
         Kind::Event => (6, 11),
         Kind::Alarm => (5, 1),
     }
+}
+
+// A copy of the text of a note.
+fn text_of(alloc: Global, note: &Note) -> Result<Bytes, AllocError>
+    ensures { IfOk result (λ text. text ≡ note.now.text) }
+{
+    Ok(Bytes::from_vec(Vec::from_slice(alloc, note.text.as_slice())?))
 }
 
 impl Plant {
@@ -37,8 +50,49 @@ impl Plant {
         };
         let (stream, function) = message_of(note.kind);
         let what = What::Note(note.number);
-        let text = Bytes::from_vec(Vec::from_slice(alloc, note.text.as_slice())?);
+        let text = text_of(alloc, note)?;
         self.ask(alloc, stream, function, what, text)
+    }
+
+    /// The oldest spooled note is sent in the same way, if one is spooled.
+    fn send_oldest(&mut self, alloc: Global) -> Result<(), AllocError>
+        ensures { OnOk result (self.new ≡ asks_first self.old.line.spool.notes self.old) }
+    {
+        let Some(note) = self.line.oldest() else {
+            return Ok(());
+        };
+        let (stream, function) = message_of(note.kind);
+        let what = What::Note(note.number);
+        let text = text_of(alloc, note)?;
+        self.ask(alloc, stream, function, what, text)
+    }
+
+    /// A row that changes the states of the spool alone, and makes its note.
+    fn restate(&mut self, alloc: Global, row: u8) -> Result<(), AllocError>
+        requires states { row_effect (around self.old) row self.old.line ≡ restated row self.old.line }
+        requires not_12 { (row == 12) ≡ false }
+        requires not_13 { (row == 13) ≡ false }
+        ensures { OnOk result (self.new ≡ fire self.old (firing 3 0 row)) }
+    {
+        let online_before = self.is_online();
+        self.line.restate(row);
+        self.note(alloc, RowFiring::unnamed(LINE, row, online_before))
+    }
+
+    /// Row 6: the oldest spooled note is dropped.
+    fn purge_oldest(&mut self)
+        ensures { self.new ≡ fire self.old (firing 3 0 6) }
+    {
+        self.line.purge_oldest();
+    }
+
+    /// Row 10: the head is pushed to the spool. It is ready.
+    fn spool_head(&mut self)
+        requires { least (around self.old) self.old.line ≡ Some 10 }
+        ensures { self.new ≡ fire self.old (firing 3 0 10) }
+    {
+        let around = self.around();
+        self.line.spool_head(around);
     }
 
     /// Row 11: the head is dropped.
@@ -48,13 +102,24 @@ impl Plant {
         self.line.drop_head();
     }
 
-    /// Row 13: the head is sent, and is open. No note is open before.
+    /// Row 12: the oldest spooled note is sent, and is open. It is ready.
+    fn open_oldest(&mut self, alloc: Global) -> Result<(), AllocError>
+        requires { least (around self.old) self.old.line ≡ Some 12 }
+        ensures { OnOk result (self.new ≡ fire self.old (firing 3 0 12)) }
+    {
+        self.send_oldest(alloc)?;
+        self.line.open_oldest();
+        Ok(())
+    }
+
+    /// Row 13: the head is sent, and is open. It is ready.
     fn open_head(&mut self, alloc: Global) -> Result<(), AllocError>
-        requires { self.old.line.opened ≡ None }
+        requires { least (around self.old) self.old.line ≡ Some 13 }
         ensures { OnOk result (self.new ≡ fire self.old (firing 3 0 13)) }
     {
+        let around = self.around();
         self.send_head(alloc)?;
-        self.line.open_head();
+        self.line.open_head(around);
         Ok(())
     }
 
@@ -63,10 +128,20 @@ impl Plant {
         ensures fired { IfOk result (λ fired. fired ≡ is_some (ready_line self.old)) }
         ensures after { OnOk result (self.new ≡ fire_first (ready_line self.old) self.old) }
     {
-        match self.line.row_for(self.is_communicating()) {
+        let around = self.around();
+        match self.line.row_for(around) {
+            Some(1) => self.restate(alloc, 1)?,
+            Some(2) => self.restate(alloc, 2)?,
+            Some(3) => self.restate(alloc, 3)?,
+            Some(6) => self.purge_oldest(),
+            Some(7) => self.restate(alloc, 7)?,
+            Some(8) => self.restate(alloc, 8)?,
+            Some(9) => self.restate(alloc, 9)?,
+            Some(10) => self.spool_head(),
+            Some(11) => self.drop_head(),
+            Some(12) => self.open_oldest(alloc)?,
             Some(13) => self.open_head(alloc)?,
-            Some(_) => self.drop_head(),
-            None => return Ok(false),
+            _ => return Ok(false),
         }
         Ok(true)
     }
@@ -76,7 +151,8 @@ impl Plant {
         ensures { self.new ≡ fire_listed note_fails self.old }
     {
         if self.line.open_note().is_some() {
-            self.line.fail_open();
+            let around = self.around();
+            self.line.fail_open(around);
         }
     }
 
@@ -87,6 +163,38 @@ impl Plant {
         if self.line.open_note().is_some() {
             self.line.answer_open();
         }
+    }
+
+    /// Whether the spool is INACTIVE.
+    pub fn is_spool_inactive(&self) -> bool
+        ensures { result ≡ is_inactive self.now.line.spool.load }
+    {
+        self.line.load() == Load::Inactive
+    }
+
+    /// The host sets which kinds of note are spooled (SEMI E5, S2F43). Where a note is spooled nothing changes.
+    pub fn set_spooled_kinds(&mut self, kinds: SpooledKinds)
+        ensures { self.new ≡ record self.old { line = with_kinds kinds self.old.line } }
+    {
+        self.line.set_kinds(kinds);
+    }
+
+    /// RSDA, which the host is answered that asks for the spooled notes: 2 where the spool is INACTIVE, 1 where it is
+    /// emptied already, else 0 (SEMI E5, S6F24).
+    pub fn rsda(&self) -> u8
+        ensures { result ≡ rsda self.now.line.spool }
+    {
+        self.line.rsda()
+    }
+
+    /// The host asks for the spooled notes, with RSDC 0 to be sent and with 1 to be dropped: its row fires, where it
+    /// starts (SEMI E5, S6F23).
+    pub fn unload_spool(&mut self, rsdc: u8)
+        requires { rsdc ≤ 1 }
+        ensures { self.new ≡ fire_listed (unload_rows rsdc) self.old }
+    {
+        let around = self.around();
+        self.line.begin_unload(rsdc, around);
     }
 
     /// What became of the note of a number; `None` exactly where the number was not given.

@@ -3,7 +3,7 @@ ghost use Rattle.std.specs.Prelude.{◌≡◌, ◌≤◌, ◌<◌, ◌↔◌, le
 ghost use Rattle.gem_ids.specs.Moments.{last_moment};
 ghost use Rattle.tool_events.specs.Configs.{IsConfig};
 ghost use Rattle.transactions.specs.Table.{none_open};
-ghost use Rattle.gem_model.specs.State.{opening, first_comm, first_control, first_switch, first_constants, is_communicating, is_online, is_up, is_session_up, is_selected, can_ask, clock_now, raised, with_frame};
+ghost use Rattle.gem_model.specs.State.{opening, first_comm, first_control, first_switch, first_constants, first_kinds, around, is_communicating, is_online, is_up, is_session_up, is_selected, can_ask, clock_now, raised, with_frame};
 ghost use Rattle.gem_model.specs.Act.{clock_set};
 
 use data_variables::{Constants, Val};
@@ -12,12 +12,17 @@ use gem_ids::Moment;
 use gem_states::{Comm, Control};
 use hsms_frame::Bytes;
 use hsms_link::{LinkState, Phase, Ping};
-use note_line::NoteLine;
+use note_line::{Around, NoteLine, SpooledKinds};
 use std::alloc::{AllocError, Global};
 use std::collections::VecDeque;
 use std::marker::Model;
-use tool_events::{CommStart, Config, ControlStart};
+use tool_events::{CommStart, Config, ControlStart, SpoolStreams};
 use transactions::Transactions;
+
+// The ECIDs of how many spooled notes are sent at the host's request, and of what a full spool drops.
+const MAX_SPOOL_TRANSMIT: u32 = 202;
+
+const OVERWRITE_SPOOL: u32 = 203;
 
 /// What the tool is. Contracts see it as the state of the tables.
 #[derive(Drop)]
@@ -98,6 +103,16 @@ fn first_switch(start: ControlStart) -> bool
     start == ControlStart::OnlineLocal
 }
 
+/// The kinds of note that are spooled at first: of stream 5 alarms, and of stream 6 events.
+fn first_kinds(streams: SpoolStreams) -> SpooledKinds
+    ensures { result ≡ first_kinds streams }
+{
+    SpooledKinds {
+        events: streams.six,
+        alarms: streams.five,
+    }
+}
+
 /// The constants that a configuration gives.
 fn first_constants(alloc: Global, config: &Config) -> Result<Constants, AllocError>
     requires { IsConfig config.now }
@@ -107,8 +122,8 @@ fn first_constants(alloc: Global, config: &Config) -> Result<Constants, AllocErr
         alloc,
         &[
             (201, Val::Number(config.establish)),
-            (202, Val::Number(0)),
-            (203, Val::Truth(false)),
+            (202, Val::Number(config.max_transmit)),
+            (203, Val::Truth(config.overwrite)),
             (204, Val::Number(config.t3)),
             (205, Val::Number(config.t7)),
             (206, Val::Number(config.t6)),
@@ -119,7 +134,7 @@ fn first_constants(alloc: Global, config: &Config) -> Result<Constants, AllocErr
 
 impl Plant {
     /// The first state under a configuration that keeps its bounds (docs/profile/configuration.md). `AllocError`: there
-    /// is no room for the transactions that can be open, or for what the host may set.
+    /// is no room for the transactions that can be open, for the spool, or for what the host may set.
     pub fn open(alloc: Global, config: &Config) -> Result<Plant, AllocError>
         requires { IsConfig config.now }
         ensures { IfOk result (λ plant. plant ≡ opening config.now) }
@@ -142,7 +157,11 @@ impl Plant {
             constants: first_constants(alloc, config)?,
             reports: Reports::new(alloc, config.ports, config.chambers)?,
             alarms: Alarms::new(alloc, config.ports, config.chambers)?,
-            line: NoteLine::new(alloc),
+            line: NoteLine::new(
+                alloc,
+                config.spool_capacity,
+                first_kinds(config.spool_streams),
+            )?,
             waiting: VecDeque::new(alloc),
         })
     }
@@ -245,6 +264,18 @@ impl Plant {
         ensures { result ≡ is_communicating self.now.comm }
     {
         self.comm == Comm::Communicating
+    }
+
+    /// What the line of notes is told of the rest of the tool: whether host and tool communicate, and what the constants
+    /// OverWriteSpool and MaxSpoolTransmit say.
+    pub(crate) fn around(&self) -> Around
+        ensures { result ≡ around self.now }
+    {
+        Around {
+            communicates: self.is_communicating(),
+            overwrites: self.constants.truth(OVERWRITE_SPOOL),
+            most_sent: self.constants.number(MAX_SPOOL_TRANSMIT),
+        }
     }
 
     /// Whether control is ON-LINE, local or remote (SEMI E30).

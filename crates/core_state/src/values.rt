@@ -8,6 +8,7 @@ ghost use Rattle.event_reports.specs.Limits.{most_alarms};
 ghost use Rattle.gem_ids.specs.Civil.{time_digits};
 ghost use Rattle.event_reports.specs.Alarms.{set_alids};
 ghost use Rattle.gem_model.specs.State.{clock_now};
+ghost use Rattle.spool.specs.Spool.{load_number, unload_number};
 ghost use Rattle.gem_model.specs.Values.{status_value, constant_value, value_of};
 
 use crate::plant::Plant;
@@ -16,6 +17,7 @@ use data_variables::item_of;
 use event_reports::{NoMemory, Values};
 use gem_ids::{Text80, time16};
 use secs_items::{Bytes, Item, U8s, U16s, U32s};
+use spool::{Load, Unload};
 use std::alloc::{AllocError, Global};
 
 /// What the variables of a plant show on an occasion: in a firing, whose object and row they tell, or outside one. The row
@@ -49,6 +51,34 @@ pub(crate) fn prints(text: &Text80)
     ensures { IsText text.now }
 {
     text.as_bytes();
+}
+
+fn count(alloc: Global, number: u32) -> Result<Item, AllocError>
+    ensures { IfOk result (λ item. view item ≡ u4 (number ∷ [])) }
+{
+    Ok(Item::U4(U32s::from_vec(vec![in alloc; number]?)))
+}
+
+// The number of a state of the spool's filling.
+fn load_number(load: Load) -> u8
+    ensures { result ≡ load_number load }
+{
+    match load {
+        Load::Inactive => 0,
+        Load::NotFull => 1,
+        Load::Full => 2,
+    }
+}
+
+// The number of a state of the spool's emptying.
+fn unload_number(unload: Unload) -> u8
+    ensures { result ≡ unload_number unload }
+{
+    match unload {
+        Unload::NoOutput => 0,
+        Unload::Transmit => 1,
+        Unload::Purge => 2,
+    }
 }
 
 fn small_number(alloc: Global, number: u8) -> Result<Item, AllocError>
@@ -108,6 +138,10 @@ impl Plant {
             1 => Item::Ascii(self.time_text(alloc)?),
             2 => small_number(alloc, self.comm.number())?,
             3 => small_number(alloc, self.control.number())?,
+            4 => count(alloc, self.line.spooled_len() as u32)?,
+            5 => count(alloc, self.line.spooled_total())?,
+            6 => small_number(alloc, load_number(self.line.load()))?,
+            7 => small_number(alloc, unload_number(self.line.unload()))?,
             8 => self.set_alarms(alloc)?,
             _ => return Ok(None),
         };

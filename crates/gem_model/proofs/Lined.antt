@@ -9,6 +9,7 @@ use Rattle.hsms_link.specs.LinkTable.{link_act}
 use Rattle.secs_items.specs.Data.{Data}
 use Rattle.secs_items.specs.Plain.{plain}
 use Rattle.msgs_gem.specs.declared.primary.GemMsg.{GemMsg}
+use Rattle.msgs_gem.specs.declared.primary.SpooledStream.{SpooledStream}
 use Rattle.msgs_gem.specs.declared.primary.GemMsg.TheVariants as msg
 use Rattle.msgs_gem.specs.Replies.{reply_body}
 use Rattle.gem_ids.specs.Civil.{moment_in}
@@ -22,11 +23,11 @@ use Rattle.gem_states.specs.declared.control.ControlTrigger.TheVariants as trigg
 use Rattle.gem_states.specs.Meaning.{comm_number, comm_fired, comm_rows, control_number, control_fired, control_rows}
 use Rattle.gem_rows.specs.Events.{ceid_of}
 use Rattle.event_reports.specs.Alarms.{is_set, clear_alarm}
-use Rattle.note_line.specs.Line.{Line}
+use Rattle.note_line.specs.Line.{Line, with_kinds}
 use Rattle.note_line.specs.Table3.{is_direct, line_starts}
 use Rattle.note_line.specs.Table3 as table
 use Rattle.note_line.specs.Fates.{LineValid}
-use Rattle.note_line.proofs.Keeps.{Keeps, fates-same, fates-trans, noted-keeps, answered-keeps, least-keeps, direct-keeps}
+use Rattle.note_line.proofs.Keeps.{Keeps, fates-same, fates-trans, noted-keeps, answered-keeps, kinds-keeps, least-keeps, direct-keeps}
 use Rattle.tool_events.specs.declared.event.Event.{Event}
 use Rattle.tool_events.specs.declared.event.Event.TheVariants as event
 use Rattle.tool_events.specs.declared.event.OperCmd.{OperCmd}
@@ -40,8 +41,9 @@ use Rattle.gem_model.specs.State.{State, is_up, is_session_up, is_online, around
 use Rattle.gem_model.specs.Sending.{asks, identity_text, sends_stream9, data_header}
 use Rattle.gem_model.specs.Values.{Occasion, object_name}
 use Rattle.gem_model.specs.Noting.{line_behind, line_with_event, is_event_reported, is_alarm_reported, clears_alarm}
-use Rattle.gem_model.specs.Fire.{fire, fires, fire_listed, fire_comm, fire_control, fire_line, takes_effect, row_starts, delay_end, forgets, of_comm, of_control}
+use Rattle.gem_model.specs.Fire.{fire, fires, fire_listed, fire_comm, fire_control, fire_line, takes_effect, row_starts, delay_end, forgets, of_comm, of_control, of_line}
 use Rattle.gem_model.specs.Remote.{RemoteCommand, GoLocal, ClearAlarm, Parameter, accepted, alarm_named}
+use Rattle.gem_model.specs.Spooling.{rspack, kinds_of, spools, unload_rows}
 use Rattle.gem_model.specs.Direct.{by_comm, by_control, note_fails, attempt_fails, all_fail, operator_rows, command_rows, message_rows, answer_rows, timeout_rows, session_end_rows, establish_answer, attempt_answer}
 use Rattle.gem_model.specs.Ready.{least, ready_comm, ready_control, ready_line}
 use Rattle.gem_model.specs.Verdict.{Verdict, Discarded, Stream9, Aborted, Answers, Taken, verdict, header_of, item_of, wants_reply, function_of, reply_to}
@@ -152,6 +154,9 @@ listed_control (row ∷ rows) = ((λ is. absurd (cc)), listed_control rows)
 listed_note : AreListed note_fails
 listed_note = ((λ is. refl), tt)
 
+listed_unload : (rsdc : ℕ) → AreListed (unload_rows rsdc)
+listed_unload rsdc = either_way (λ (rows : List ℕ). AreListed (of_line rows)) (rsdc == 0) (4 ∷ []) (5 ∷ []) ((λ is. refl), tt) ((λ is. refl), tt)
+
 listed_both : (fs gs : List Firing) → AreListed fs → AreListed gs → AreListed (fs ++ gs)
 listed_both [] gs first next = next
 listed_both (f ∷ fs) gs first next = (first.0, listed_both fs gs first.1 next)
@@ -213,6 +218,9 @@ lined_command g None parameters = lined_at g
 lined_command g (Some GoLocal) parameters = lined_at g
 lined_command g (Some ClearAlarm) parameters = lined_named g (alarm_named parameters)
 
+lined_spools : (g : State) (entries : List SpooledStream) → Lined g (spools entries g)
+lined_spools g entries = lined_either g (rspack g entries == 0) (record g { line = with_kinds (kinds_of entries) g.line }) g (kinds-keeps (kinds_of entries) g.line) (lined_at g)
+
 lined_written : (g : State) (m : GemMsg) → Lined g (written m g)
 lined_written g msg.S1F1 = lined_at g
 lined_written g (msg.S1F3 ids) = lined_at g
@@ -229,11 +237,13 @@ lined_written g (msg.S2F33 id reports) = lined_at g
 lined_written g (msg.S2F35 id events) = lined_at g
 lined_written g (msg.S2F37 on ceids) = lined_at g
 lined_written g (msg.S2F41 name parameters) = lined_command g (accepted g name parameters) parameters
+lined_written g (msg.S2F43 entries) = lined_spools g entries
 lined_written g (msg.S5F3 aled alid) = lined_at g
 lined_written g (msg.S5F5 ids) = lined_at g
 lined_written g msg.S5F7 = lined_at g
 lined_written g (msg.S6F15 ceid) = lined_at g
 lined_written g (msg.S6F19 rptid) = lined_at g
+lined_written g (msg.S6F23 rsdc) = lined_at g
 
 lined_commanded : (command : Option RemoteCommand) (g : State) → Lined g (fires (command_rows command) g)
 lined_commanded None g = lined_at g
@@ -256,11 +266,13 @@ lined_message (msg.S2F33 id reports) g = lined_at g
 lined_message (msg.S2F35 id events) g = lined_at g
 lined_message (msg.S2F37 on ceids) g = lined_at g
 lined_message (msg.S2F41 name parameters) g = lined_commanded (accepted g name parameters) g
+lined_message (msg.S2F43 entries) g = lined_at g
 lined_message (msg.S5F3 aled alid) g = lined_at g
 lined_message (msg.S5F5 ids) g = lined_at g
 lined_message msg.S5F7 g = lined_at g
 lined_message (msg.S6F15 ceid) g = lined_at g
 lined_message (msg.S6F19 rptid) g = lined_at g
+lined_message (msg.S6F23 rsdc) g = lined_listed (unload_rows rsdc) (listed_unload rsdc) g
 
 lined_replied : (g : State) (h : Header) (function : ℕ) (text : List ℕ) → Lined g (replied h function text g)
 lined_replied g h function text = lined_either g (wants_reply h) _ g (lined_at g) (lined_at g)

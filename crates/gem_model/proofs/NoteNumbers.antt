@@ -15,6 +15,7 @@ use Rattle.hsms_link.specs.Deadlines.{due_at}
 use Rattle.secs_items.specs.Data.{Data}
 use Rattle.secs_items.specs.Plain.{plain}
 use Rattle.msgs_gem.specs.declared.primary.GemMsg.{GemMsg}
+use Rattle.msgs_gem.specs.declared.primary.SpooledStream.{SpooledStream}
 use Rattle.msgs_gem.specs.declared.primary.GemMsg.TheVariants as msg
 use Rattle.msgs_gem.specs.Acknowledge.{accepts}
 use Rattle.msgs_gem.specs.Replies.{reply_body}
@@ -34,7 +35,7 @@ use Rattle.tool_events.specs.declared.entry.Entry.{Entry}
 use Rattle.tool_events.specs.declared.event.Event.{Event}
 use Rattle.tool_events.specs.declared.event.Event.TheVariants as event
 use Rattle.spool.specs.declared.note.Note.{Note}
-use Rattle.note_line.specs.Line.{Line, open_oldest_of, fail_open, with_open, fated, with_head, sent}
+use Rattle.note_line.specs.Line.{Line, open_oldest_of, fail_open, with_open, fated, with_head, sent, with_kinds}
 use Rattle.note_line.specs.declared.fate.Fate.TheVariants.{Answered}
 use Rattle.note_line.proofs.Opens.{Opens, opens_none, opens_oldest, opens_head, least-opens, fail_none}
 use Rattle.note_line.specs.Table3.{has_open, row_effect}
@@ -54,8 +55,9 @@ use Rattle.gem_model.specs.State.{State, opening, t3, with_frame, is_up, is_sess
 use Rattle.gem_model.specs.Sending.{asks, data_frame, identity_text}
 use Rattle.gem_model.specs.Values.{object_name}
 use Rattle.gem_model.specs.Noting.{line_with_alarm, is_alarm_reported, clears_alarm}
-use Rattle.gem_model.specs.Fire.{asks_first, stream_of_kind, function_of_kind, fire, fires, fire_listed, fire_comm, fire_control, fire_line, takes_effect, row_starts, delay_end, forgets, of_control}
+use Rattle.gem_model.specs.Fire.{asks_first, stream_of_kind, function_of_kind, fire, fires, fire_listed, fire_comm, fire_control, fire_line, takes_effect, row_starts, delay_end, forgets, of_control, of_line}
 use Rattle.gem_model.specs.Remote.{RemoteCommand, GoLocal, ClearAlarm, Parameter, accepted, alarm_named}
+use Rattle.gem_model.specs.Spooling.{rspack, kinds_of, spools, unload_rows}
 use Rattle.gem_model.specs.Direct.{command_rows, message_rows, answer_rows, timeout_rows, establish_answer, attempt_answer, by_comm, by_control, note_fails, operator_rows}
 use Rattle.gem_model.specs.Ready.{least, ready_comm, ready_control, ready_line}
 use Rattle.gem_model.specs.Verdict.{Verdict, Discarded, Stream9, Aborted, Answers, Taken, verdict, header_of, item_of, wants_reply, stream_of, function_of, reply_to}
@@ -71,7 +73,7 @@ use Rattle.gem_model.proofs.Tests.{went, either_way, or_went, none_some}
 use Rattle.gem_model.proofs.LineRows.{line_went, opened_by, oldest_opened, head_opened}
 use Rattle.gem_model.proofs.Settling.{settled_keeps}
 use Rattle.gem_model.proofs.Lined.{line_comm, line_control}
-use Rattle.gem_model.proofs.Room.{Few, same_open, no_talk, cannot_note, out_of, told_of, opened_timeout, few-automatic, few-room, few-acts, few-step}
+use Rattle.gem_model.proofs.Room.{Few, same_open, no_talk, cannot_note, same_kinds, out_of, told_of, opened_timeout, few-automatic, few-room, few-acts, few-step}
 use Rattle.gem_model.proofs.Validity.{valid-few, opening_valid}
 
 -- ---- lists of open transactions
@@ -290,6 +292,12 @@ own_listed fs quiet g own = own_open g (fire_listed fs g) (open_listed fs quiet 
 own_control : (t : ControlTrigger) (g : State) → Own g → Own (fires (by_control t) g)
 own_control t g own = own_listed (by_control t g) (quiet_control (control_rows t g.switch_local)) g own
 
+-- the note that a firing makes opens none
+own_fire : (g : State) (f : Firing) → Own (takes_effect g f) → Own (fire g f)
+own_fire g f own =
+    own_open (takes_effect g f) (fire g f)
+    (same_open (ceid_of f.table f.row) (record { object = object_name (takes_effect g f) f; row = 100 * f.table + f.row }) (is_online g.control) (takes_effect g f)) own
+
 own_either : (b : Bool) (x y : State) → Own x → Own y → Own (if b then x else y)
 own_either b x y at_x at_y = either_way Own b x y at_x at_y
 
@@ -370,9 +378,15 @@ own_command None parameters g own = own
 own_command (Some GoLocal) parameters g own = own
 own_command (Some ClearAlarm) parameters g own = own_named (alarm_named parameters) g own
 
+own_spools : (entries : List SpooledStream) (g : State) → Own g → Own (spools entries g)
+own_spools entries g own =
+    own_either (rspack g entries == 0) (record g { line = with_kinds (kinds_of entries) g.line }) g
+    (own_line g (with_kinds (kinds_of entries) g.line) (same_kinds (kinds_of entries) g.line) own) own
+
 own_written : (m : GemMsg) (g : State) → Own g → Own (written m g)
 own_written (msg.S2F31 text) g own = own_clock (moment_in text) g own
 own_written (msg.S2F41 name parameters) g own = own_command (accepted g name parameters) parameters g own
+own_written (msg.S2F43 entries) g own = own_spools entries g own
 own_written _ g own = own
 
 own_commanded : (command : Option RemoteCommand) (g : State) → Own g → Own (fires (command_rows command) g)
@@ -380,11 +394,18 @@ own_commanded None g own = own
 own_commanded (Some GoLocal) g own = own_control trigger.Local g own
 own_commanded (Some ClearAlarm) g own = own
 
+own_unload : (rsdc : ℕ) (g : State) → Own g → Own (fire_listed (unload_rows rsdc) g)
+own_unload rsdc g own =
+    either_way (λ (rows : List ℕ). Own (fire_listed (of_line rows) g)) (rsdc == 0) (4 ∷ []) (5 ∷ [])
+    (own_either (row_starts g (firing 3 0 4)) (fire g (firing 3 0 4)) g (own_fire g (firing 3 0 4) (own_line g (row_effect (around g) 4 g.line) refl own)) own)
+    (own_either (row_starts g (firing 3 0 5)) (fire g (firing 3 0 5)) g (own_fire g (firing 3 0 5) (own_line g (row_effect (around g) 5 g.line) refl own)) own)
+
 own_message : (m : GemMsg) (g : State) → Own g → Own (fires (message_rows m) g)
 own_message msg.S1F13 g own = own_listed (by_comm comm.HostS1F13) ((refl, λ is. refl), tt) g own
 own_message msg.S1F15 g own = own_control trigger.HostS1F15 g own
 own_message msg.S1F17 g own = own_control trigger.HostS1F17 g own
 own_message (msg.S2F41 name parameters) g own = own_commanded (accepted g name parameters) g own
+own_message (msg.S6F23 rsdc) g own = own_unload rsdc g own
 own_message _ g own = own
 
 own_replied : (h : Header) (function : ℕ) (text : List ℕ) (g : State) → Own g → Own (replied h function text g)
@@ -481,12 +502,6 @@ own_line_row g row ready room own = of (least-opens (around g) g.line row ready)
       this_row 12 is (own_sending g.line.spool.notes g (open_oldest_of g.line.spool.notes g.line) (oldest_opened g.line.spool.notes g.line) none room own)
   of (opens_head is talks none) =
       this_row 13 is (own_sending g.line.waiting g (with_head sent g.line.waiting g.line) (head_opened g.line.waiting g.line) none room own)
-
--- the note that a firing makes opens none
-own_fire : (g : State) (f : Firing) → Own (takes_effect g f) → Own (fire g f)
-own_fire g f own =
-    own_open (takes_effect g f) (fire g f)
-    (same_open (ceid_of f.table f.row) (record { object = object_name (takes_effect g f) f; row = 100 * f.table + f.row }) (is_online g.control) (takes_effect g f)) own
 
 own_automatic : (g : State) (f : Firing) → least g ≡ Some f → Few g → Own g → Own (fire g f)
 own_automatic g f ready few own =

@@ -9,6 +9,8 @@ use Rattle.hsms_link.specs.LinkTable.{link_act}
 use Rattle.secs_items.specs.Data.{Data}
 use Rattle.secs_items.specs.Plain.{plain}
 use Rattle.msgs_gem.specs.declared.primary.GemMsg.{GemMsg}
+use Rattle.msgs_gem.specs.declared.primary.SpooledStream.{SpooledStream}
+use Rattle.gem_model.specs.Spooling.{rspack, kinds_of, spools}
 use Rattle.msgs_gem.specs.declared.primary.GemMsg.TheVariants as msg
 use Rattle.msgs_gem.specs.Replies.{reply_body}
 use Rattle.gem_ids.specs.Civil.{moment_in}
@@ -16,7 +18,8 @@ use Rattle.gem_tables.specs.Table.{Firing}
 use Rattle.gem_rows.specs.Events.{ceid_of}
 use Rattle.event_reports.specs.Alarms.{is_set, clear_alarm}
 use Rattle.spool.specs.declared.note.Kind.TheVariants.{Event, Alarm}
-use Rattle.note_line.specs.Line.{Line}
+use Rattle.spool.specs.Spool.{has_note}
+use Rattle.note_line.specs.Line.{Line, with_kinds}
 use Rattle.note_line.specs.Fates.{tells}
 use Rattle.note_line.proofs.Tells.{row-tells, answered-tells, noted-tells}
 use Rattle.tool_events.specs.declared.config.Config.{Config}
@@ -150,9 +153,17 @@ tells_command g None parameters = tells_at g
 tells_command g (Some GoLocal) parameters = tells_at g
 tells_command g (Some ClearAlarm) parameters = tells_named g (alarm_named parameters)
 
+tells_spools : (g : State) (entries : List SpooledStream) → Tells g [] (spools entries g)
+tells_spools g entries =
+    either_way (Tells g []) (rspack g entries == 0) (record g { line = with_kinds (kinds_of entries) g.line }) g
+    (tells_none g (record g { line = with_kinds (kinds_of entries) g.line })
+    (either_way (λ (l : Line). map tells l.told ≡ map tells g.line.told) (has_note g.line.spool) g.line (record g.line { kinds = kinds_of entries }) refl refl))
+    (tells_at g)
+
 tells_written : (g : State) (m : GemMsg) → Tells g (by_written m g) (written m g)
 tells_written g (msg.S2F31 text) = tells_clock g (moment_in text)
 tells_written g (msg.S2F41 name parameters) = tells_command g (accepted g name parameters) parameters
+tells_written g (msg.S2F43 entries) = tells_spools g entries
 tells_written g _ = tells_at g
 
 tells_answered : (m : GemMsg) (g : State) → Tells g (by_answered m g) (fires (message_rows m) (written m g))

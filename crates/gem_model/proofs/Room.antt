@@ -18,6 +18,7 @@ use Rattle.hsms_link.specs.Deadlines.{due_at}
 use Rattle.secs_items.specs.Data.{Data}
 use Rattle.secs_items.specs.Plain.{plain}
 use Rattle.msgs_gem.specs.declared.primary.GemMsg.{GemMsg}
+use Rattle.msgs_gem.specs.declared.primary.SpooledStream.{SpooledStream}
 use Rattle.msgs_gem.specs.declared.primary.GemMsg.TheVariants as msg
 use Rattle.msgs_gem.specs.Acknowledge.{accepts}
 use Rattle.msgs_gem.specs.Replies.{reply_body}
@@ -41,7 +42,9 @@ use Rattle.tool_events.specs.declared.event.OperCmd.TheVariants as oper
 use Rattle.gem_rows.specs.Events.{ceid_of}
 use Rattle.event_reports.specs.Alarms.{is_set, clear_alarm}
 use Rattle.spool.specs.declared.note.Note.{Note}
-use Rattle.note_line.specs.Line.{Line, open_oldest_of, with_head, sent}
+use Rattle.spool.specs.Spool.{has_note}
+use Rattle.note_line.specs.declared.around.SpooledKinds.{SpooledKinds}
+use Rattle.note_line.specs.Line.{Line, open_oldest_of, with_head, sent, with_kinds}
 use Rattle.note_line.specs.Line.{answered as answered_line}
 use Rattle.note_line.specs.Table3.{has_open, row_effect}
 use Rattle.note_line.specs.Table3 as table
@@ -54,10 +57,11 @@ use Rattle.transactions.specs.SystemBytes.{drawn, with_started}
 use Rattle.transactions.specs.Endings.{same_kind, answers, answered, first_of, first_expired, is_first_expired}
 use Rattle.gem_model.specs.State.{State, t3, is_up, is_selected, is_session_up, is_communicating, is_online, around, can_ask, without_session, with_frame}
 use Rattle.gem_model.specs.Sending.{asks, identity_text, sends_stream9, data_header, data_frame}
-use Rattle.gem_model.specs.Fire.{fire, fires, fire_listed, row_starts, takes_effect, asks_first, stream_of_kind, function_of_kind, delay_end, of_control}
+use Rattle.gem_model.specs.Fire.{fire, fires, fire_listed, row_starts, takes_effect, asks_first, stream_of_kind, function_of_kind, delay_end, of_control, of_line}
 use Rattle.gem_model.specs.Values.{Occasion, object_name}
 use Rattle.gem_model.specs.Noting.{line_behind, line_with_event, line_with_alarm, is_event_reported, is_alarm_reported, clears_alarm}
 use Rattle.gem_model.specs.Remote.{RemoteCommand, GoLocal, ClearAlarm, Parameter, accepted, alarm_named}
+use Rattle.gem_model.specs.Spooling.{rspack, kinds_of, spools, unload_rows}
 use Rattle.gem_model.specs.Direct.{by_comm, by_control, note_fails, operator_rows, command_rows, message_rows, answer_rows, timeout_rows}
 use Rattle.gem_model.specs.Ready.{least, ready_comm, ready_control, ready_line, is_attempt}
 use Rattle.gem_model.specs.Measure.{one_if, is_wait_delay, left}
@@ -606,6 +610,15 @@ few-command None parameters g few = few
 few-command (Some GoLocal) parameters g few = few
 few-command (Some ClearAlarm) parameters g few = few-named (alarm_named parameters) g few
 
+-- the kinds that are spooled open no note
+pub same_kinds : (kinds : SpooledKinds) (l : Line) → (with_kinds kinds l).opened ≡ l.opened
+same_kinds kinds l = either_way (λ (h : Line). h.opened ≡ l.opened) (has_note l.spool) l (record l { kinds = kinds }) refl refl
+
+few-spools : (entries : List SpooledStream) (g : State) → Few g → Few (spools entries g)
+few-spools entries g few =
+    few_either (rspack g entries == 0) (record g { line = with_kinds (kinds_of entries) g.line }) g
+    (few-line g (with_kinds (kinds_of entries) g.line) (same_kinds (kinds_of entries) g.line) few) few
+
 few-written : (m : GemMsg) (g : State) → Few g → Few (written m g)
 few-written msg.S1F1 g few = few
 few-written (msg.S1F3 ids) g few = few
@@ -622,11 +635,13 @@ few-written (msg.S2F33 id reports) g few = few
 few-written (msg.S2F35 id events) g few = few
 few-written (msg.S2F37 on ceids) g few = few
 few-written (msg.S2F41 name parameters) g few = few-command (accepted g name parameters) parameters g few
+few-written (msg.S2F43 entries) g few = few-spools entries g few
 few-written (msg.S5F3 aled alid) g few = few
 few-written (msg.S5F5 ids) g few = few
 few-written msg.S5F7 g few = few
 few-written (msg.S6F15 ceid) g few = few
 few-written (msg.S6F19 rptid) g few = few
+few-written (msg.S6F23 rsdc) g few = few
 
 few-replied : (h : Header) (function : ℕ) (text : List ℕ) (g : State) → Few g → Few (replied h function text g)
 few-replied h function text g few = few_either (wants_reply h) _ g few few
@@ -639,6 +654,12 @@ few-commanded : (command : Option RemoteCommand) (g : State) → Few g → Few (
 few-commanded None g few = few
 few-commanded (Some GoLocal) g few = few-elsewhere 11 g refl refl refl few
 few-commanded (Some ClearAlarm) g few = few
+
+few-unload : (rsdc : ℕ) (g : State) → Few g → Few (fire_listed (unload_rows rsdc) g)
+few-unload rsdc g few =
+    either_way (λ (rows : List ℕ). Few (fire_listed (of_line rows) g)) (rsdc == 0) (4 ∷ []) (5 ∷ [])
+    (few-one (firing 3 0 4) g few (λ _. few-line g (row_effect (around g) 4 g.line) refl few))
+    (few-one (firing 3 0 5) g few (λ _. few-line g (row_effect (around g) 5 g.line) refl few))
 
 few-message : (m : GemMsg) (g : State) → Few g → Few (fires (message_rows m) g)
 few-message msg.S1F1 g few = few
@@ -656,11 +677,13 @@ few-message (msg.S2F33 id reports) g few = few
 few-message (msg.S2F35 id events) g few = few
 few-message (msg.S2F37 on ceids) g few = few
 few-message (msg.S2F41 name parameters) g few = few-commanded (accepted g name parameters) g few
+few-message (msg.S2F43 entries) g few = few
 few-message (msg.S5F3 aled alid) g few = few
 few-message (msg.S5F5 ids) g few = few
 few-message msg.S5F7 g few = few
 few-message (msg.S6F15 ceid) g few = few
 few-message (msg.S6F19 rptid) g few = few
+few-message (msg.S6F23 rsdc) g few = few-unload rsdc g few
 
 few-taken : (h : Header) (m : GemMsg) (g : State) → Few g → Few (taken h m g)
 few-taken h m g few =

@@ -20,6 +20,8 @@ use Rattle.transactions.specs.Table.{taken_out}
 use Rattle.gem_model.specs.Direct.{message_rows, answer_rows, timeout_rows}
 use Rattle.gem_model.specs.Sending.{asks, identity_text, sends_stream9, data_header}
 use Rattle.spool.specs.declared.note.Note.{Note}
+use Rattle.note_line.specs.Line.{with_kinds}
+use Rattle.gem_model.specs.Spooling.{rspack, kinds_of}
 use Rattle.gem_model.specs.Fire.{fire, fire_listed, fire_comm, fire_control, fire_line, comm_effect, control_effect, line_effect, asks_first, takes_effect, stream_of_kind, function_of_kind, delay_end, forgets, row_starts}
 use Rattle.gem_model.specs.Noting.{clears_alarm}
 use Rattle.gem_model.specs.Remote.{RemoteCommand, GoLocal, ClearAlarm, Parameter, accepted, alarm_named}
@@ -137,11 +139,13 @@ same_written g (msg.S2F33 id reports) = record { config = refl; link = refl; qui
 same_written g (msg.S2F35 id events) = record { config = refl; link = refl; quitting = refl }
 same_written g (msg.S2F37 on ceids) = record { config = refl; link = refl; quitting = refl }
 same_written g (msg.S2F41 name parameters) = same_command g (accepted g name parameters) parameters
+same_written g (msg.S2F43 entries) = same_either g (rspack g entries == 0) (record g { line = with_kinds (kinds_of entries) g.line }) g (record { config = refl; link = refl; quitting = refl }) (same_at g)
 same_written g (msg.S5F3 aled alid) = record { config = refl; link = refl; quitting = refl }
 same_written g (msg.S5F5 ids) = same_at g
 same_written g msg.S5F7 = same_at g
 same_written g (msg.S6F15 ceid) = same_at g
 same_written g (msg.S6F19 rptid) = same_at g
+same_written g (msg.S6F23 rsdc) = same_at g
 
 same_replied : (g : State) (h : Header) (function : ℕ) (text : List ℕ) → Same g (replied h function text g)
 same_replied g h function text = same_either g (wants_reply h) _ _ (record { config = refl; link = refl; quitting = refl }) (same_at g)

@@ -14,8 +14,12 @@ use Rattle.tool_events.specs.declared.config.ControlStart.TheVariants as begin
 use Rattle.tool_events.specs.declared.entry.Entry.{Entry}
 use Rattle.tool_events.specs.declared.event.Event.{Event}
 use Rattle.note_line.specs.Fates.{LineValid, KeepsFates}
-use Rattle.note_line.proofs.Keeps.{Keeps, fates-trans, opening-valid}
-use Rattle.gem_model.specs.State.{State, opening, is_up, is_selected, raised, first_control}
+use Rattle.spool.specs.declared.note.Note.{Note}
+use Rattle.spool.specs.Spool.{is_inactive, has_note}
+use Rattle.note_line.specs.Table3 as table
+use Rattle.note_line.proofs.Keeps.{Keeps, fates-trans, opening-valid, quiet_first}
+use Rattle.note_line.proofs.Sendings.{never-back}
+use Rattle.gem_model.specs.State.{State, opening, around, is_up, is_selected, raised, first_control, first_kinds}
 use Rattle.gem_model.specs.Fire.{fire, creations}
 use Rattle.gem_model.specs.Ready.{delay_is_over, least, ready_comm, ready_control, ready_line, is_attempt}
 use Rattle.gem_model.specs.Settle.{Path, settled, settling, Along}
@@ -136,7 +140,7 @@ opening_valid c = record {
   establish = omega arith;
   attempt = omega arith;
   note = omega arith;
-  line = opening-valid;
+  line = opening-valid c.spool_capacity (first_kinds c.spool_streams);
 }
 
 pub run_valid : (g : State) (entries : List Entry) (h : State) → Valid g → Run g entries h → Valid h
@@ -172,3 +176,31 @@ run-line c entries h run = (run_valid (opening c) entries h (opening_valid c) ru
 -- and from then on what became of a note stays
 pub run-stays : (c : Config) (front behind : List Entry) (g h : State) → Run (opening c) front g → Run g behind h → KeepsFates g.line h.line
 run-stays c front behind g h before after = (run-fates g behind h (run-line c front g before) after).fates
+
+-- where no row is ready, none of the line is
+none_ready : (first second third : Option Firing) → option_or first (option_or second third) ≡ None → third ≡ None
+none_ready None None third e = e
+none_ready None (Some f) third e = absurd (cc)
+none_ready (Some f) second third e = absurd (cc)
+
+no_row : (row : Option ℕ) → option_map (firing 3 0) row ≡ None → row ≡ None
+no_row None e = refl
+no_row (Some row) e = absurd (cc)
+
+inactive_empty : (inactive some : Bool) → (inactive && some) ≡ false → inactive ≡ true → some ≡ false
+inactive_empty true some e is = e
+inactive_empty false some e is = absurd (cc)
+
+-- where a history leads, an INACTIVE spool is empty
+pub run-empty : (c : Config) (entries : List Entry) (h : State) → Run (opening c) entries h → is_inactive h.line.spool.load ≡ true → has_note h.line.spool ≡ false
+run-empty c entries h run inactive =
+    let valid = run_valid (opening c) entries h (opening_valid c) run in
+    let quiet = no_row (table.least (around h) h.line) (none_ready (ready_comm h) (ready_control h) (ready_line h) valid.settled) in
+    inactive_empty _ _ (quiet_first (around h) h.line quiet) inactive
+
+-- sendings of one kind never go back
+pub run-sendings : (c : Config) (front behind : List Entry) (g h : State) (earlier later : Note) → Run (opening c) front g → Run g behind h → g.line.opened ≡ Some earlier → h.line.opened ≡ Some later → earlier.kind ≡ later.kind → earlier.number ≤ later.number
+run-sendings c front behind g h earlier later before after =
+    let line = run-line c front g before in
+    let goes = run-fates g behind h line after in
+    never-back g.line h.line earlier later line goes.valid goes.fates

@@ -22,6 +22,7 @@ use Rattle.gem_model.specs.Fire.{fire_listed, fires}
 use Rattle.gem_model.specs.Direct.{message_rows, answer_rows, session_end_rows}
 use Rattle.gem_model.specs.Sending.{replies, sends_stream9}
 use Rattle.gem_model.specs.Noting.{clears_alarm}
+use Rattle.gem_model.specs.Spooling.{spools}
 use Rattle.gem_model.specs.Remote.{RemoteCommand, GoLocal, ClearAlarm, Parameter, accepted, alarm_named}
 use Rattle.gem_model.specs.Verdict.{Verdict, Discarded, Stream9, Aborted, Answers, Taken, verdict, header_of, item_of, wants_reply, stream_of, function_of, settings_of, is_enabling, reply_to}
 
@@ -42,7 +43,8 @@ command_written (Some GoLocal) parameters g = g
 command_written (Some ClearAlarm) parameters g = clears_named (alarm_named parameters) g
 
 -- what a message writes: S2F15 sets constants, S2F31 the clock; S2F33 defines reports, S2F35 links them to events, S2F37
--- enables events; S2F41 may clear an alarm, and S5F3 enables alarms. One that is refused writes nothing (SEMI E5)
+-- enables events; S2F41 may clear an alarm, S2F43 says which notes are spooled, and S5F3 enables alarms. One that is
+-- refused writes nothing (SEMI E5)
 abbrev pub written : GemMsg → State → State
 written (msg.S2F15 settings) g = record g { constants = set_all_after (settings_of settings) g.constants }
 written (msg.S2F31 text) g = clock_set (moment_in text) g
@@ -50,6 +52,7 @@ written (msg.S2F33 id reports) g = record g { reports = defined reports g.report
 written (msg.S2F35 id events) g = record g { reports = linked events g.reports }
 written (msg.S2F37 on ceids) g = record g { reports = enabled on ceids g.reports }
 written (msg.S2F41 name parameters) g = command_written (accepted g name parameters) parameters g
+written (msg.S2F43 entries) g = spools entries g
 written (msg.S5F3 aled alid) g = record g { alarms = alarms_enabled (is_enabling aled) alid g.alarms }
 written _ g = g
 

@@ -19,6 +19,7 @@ use Rattle.transactions.specs.Endings.{first_of}
 use Rattle.gem_model.specs.State.{State}
 use Rattle.gem_model.specs.Fire.{of_comm, of_control, of_line}
 use Rattle.gem_model.specs.Remote.{RemoteCommand, GoLocal, ClearAlarm, accepted}
+use Rattle.gem_model.specs.Spooling.{unload_rows}
 
 -- the rows of table 1 that a trigger fires
 abbrev pub by_comm : CommTrigger → List Firing
@@ -66,6 +67,7 @@ message_rows msg.S1F13 g = by_comm comm.HostS1F13
 message_rows msg.S1F15 g = by_control control.HostS1F15 g
 message_rows msg.S1F17 g = by_control control.HostS1F17 g
 message_rows (msg.S2F41 name parameters) g = command_rows (accepted g name parameters) g
+message_rows (msg.S6F23 rsdc) g = unload_rows rsdc
 message_rows _ g = []
 
 -- what the answer to the tool's S1F13 does: S1F14 with COMMACK 0 accepts, another S1F14 and S1F0 refuse

@@ -5,6 +5,7 @@ pub mod Values
 pub mod Noting
 pub mod Fire
 pub mod Remote
+pub mod Spooling
 pub mod Direct
 pub mod Ready
 pub mod Measure

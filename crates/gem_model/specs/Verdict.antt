@@ -35,6 +35,8 @@ use Rattle.gem_model.specs.State.{State, is_disabled, is_communicating, is_onlin
 use Rattle.gem_model.specs.Values.{no_firing, status_value, constant_value, value_of, svids}
 use Rattle.gem_model.specs.Noting.{alcd, text_of_alarm}
 use Rattle.gem_model.specs.Remote.{hcack, listed}
+use Rattle.gem_model.specs.Spooling.{rspack, refusals}
+use Rattle.spool.specs.Spool.{rsda}
 
 -- ---- the arrival
 
@@ -179,8 +181,10 @@ reply_to g (msg.S2F33 id reports) = reply.S2F34 (drack reports g.reports)
 reply_to g (msg.S2F35 id events) = reply.S2F36 (lrack events g.reports)
 reply_to g (msg.S2F37 on ceids) = reply.S2F38 (erack ceids g.reports)
 reply_to g (msg.S2F41 name parameters) = reply.S2F42 (hcack g name parameters) (listed g name parameters)
+reply_to g (msg.S2F43 entries) = reply.S2F44 (rspack g entries) (refusals g entries)
 reply_to g (msg.S5F3 aled alid) = reply.S5F4 (ackc5 alid g.alarms)
 reply_to g (msg.S5F5 ids) = reply.S5F6 (map (alarm_part g) (or_all (alids_of g) ids))
 reply_to g msg.S5F7 = reply.S5F8 (map (alarm_part g) (enabled_alids g))
 reply_to g (msg.S6F15 ceid) = reply.S6F16 ceid (report_items (value_of no_firing g) ceid g.reports)
 reply_to g (msg.S6F19 rptid) = reply.S6F20 (one_items (value_of no_firing g) rptid g.reports)
+reply_to g (msg.S6F23 rsdc) = reply.S6F24 (rsda g.line.spool)

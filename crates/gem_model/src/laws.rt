@@ -1,6 +1,6 @@
 //! Laws of the definitions, for proofs to cite. Each function is empty: what it ensures holds of the definitions.
 
-ghost use Rattle.std.specs.Prelude.{◌≡◌, ℕ, ◌≤◌, false, List, ◌++◌, length, map, Some};
+ghost use Rattle.std.specs.Prelude.{◌≡◌, ℕ, ◌≤◌, true, false, List, ◌++◌, length, map, Some};
 ghost use Rattle.transactions.specs.Table.{is_full};
 ghost use Rattle.tool_events.specs.declared.config.Config.{Config};
 ghost use Rattle.tool_events.specs.declared.entry.Entry.{Entry};
@@ -12,6 +12,8 @@ ghost use Rattle.gem_model.specs.Step.{Outcome, acts};
 ghost use Rattle.gem_model.specs.Run.{Run};
 ghost use Rattle.gem_model.specs.Reported.{reported_in};
 ghost use Rattle.gem_model.specs.OpenNotes.{note_numbers, open_number};
+ghost use Rattle.spool.specs.declared.note.Note.{Note};
+ghost use Rattle.spool.specs.Spool.{is_inactive, has_note};
 ghost use Rattle.note_line.specs.Fates.{LineValid, KeepsFates, tells};
 
 /// A primary of the tool always finds room among the open transactions: where a history leads, at most two are open, of the
@@ -50,4 +52,19 @@ pub fn the_notes_are_what_was_reported()
 pub fn an_open_note_has_its_transaction()
     ensures { (c : Config) (entries : List Entry) (h : State)
         → Run (opening c) entries h → note_numbers h.transactions.opened ≡ open_number h.line }
+{}
+
+/// Where a history leads, an INACTIVE spool is empty. So the kinds of note that are spooled change wherever the host sets
+/// them, and none is spooled whose kind is not.
+pub fn an_inactive_spool_is_empty()
+    ensures { (c : Config) (entries : List Entry) (h : State)
+        → Run (opening c) entries h → is_inactive h.line.spool.load ≡ true → has_note h.line.spool ≡ false }
+{}
+
+/// Sendings of one kind never go back to a lower number: a note that is open where a history leads has a number that is
+/// not below that of one of its kind that was open before. It is the same number where that note was sent again.
+pub fn sendings_never_go_back()
+    ensures { (c : Config) (front behind : List Entry) (g h : State) (earlier later : Note)
+        → Run (opening c) front g → Run g behind h → g.line.opened ≡ Some earlier → h.line.opened ≡ Some later
+        → earlier.kind ≡ later.kind → earlier.number ≤ later.number }
 {}

@@ -8,3 +8,4 @@ pub mod Tells
 pub mod Short
 pub mod Opens
 pub mod Stays
+pub mod Sendings

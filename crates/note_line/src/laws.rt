@@ -2,6 +2,7 @@
 
 ghost use Rattle.std.specs.Prelude.{◌≡◌, ℕ, ◌+◌, ◌<◌, ◌≤◌, Bool, true, List, Some, None, IsSome};
 ghost use Rattle.spool.specs.declared.note.Kind.{Kind};
+ghost use Rattle.spool.specs.declared.note.Note.{Note};
 ghost use Rattle.note_line.specs.declared.around.Around.{Around};
 ghost use Rattle.note_line.specs.declared.around.SpooledKinds.{SpooledKinds};
 ghost use Rattle.note_line.specs.Line.{Line, opening, next, noted, answered, with_kinds, fate_of};
@@ -46,4 +47,11 @@ pub fn the_line_comes_to_rest()
     ensures falls { (a : Around) (l : Line) (row : ℕ)
         → least a l ≡ Some row → left (row_effect a row l) + told_weight row < left l }
     ensures noted { (kind : Kind) (id : ℕ) (text : List ℕ) (l : Line) → left (noted kind id text l) ≡ left l + 6 }
+{}
+
+/// Sendings of one kind never go back to a lower number: a note that is open has a number that is not below that of one of
+/// its kind that was open before.
+pub fn sendings_never_go_back()
+    ensures { (g h : Line) (earlier later : Note) → LineValid g → LineValid h → KeepsFates g h
+        → g.opened ≡ Some earlier → h.opened ≡ Some later → earlier.kind ≡ later.kind → earlier.number ≤ later.number }
 {}

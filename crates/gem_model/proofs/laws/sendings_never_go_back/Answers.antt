@@ -1,0 +1,5 @@
+use Rattle.gem_model.proofs.Validity.{run-sendings}
+use Rattle.gem_model.proofs.laws.sendings_never_go_back.Goals as goal
+
+pub returns : goal.returns
+returns c = run-sendings

@@ -3,8 +3,8 @@
 ghost use Rattle.std.specs.Prelude.{◌≡◌, ◌≤◌, true, length, slice_get, option_copied, not, ◌&&◌, None, Some, IfOk, IfErr, IfSome};
 ghost use Rattle.spool.specs.Limits.{most_capacity};
 ghost use Rattle.spool.specs.Spool.{rsda, is_transmit, has_note};
-ghost use Rattle.note_line.specs.Line.{opening, next, noted, restated, spool_head, drop_head, open_head, open_oldest, purge_oldest, fail_open, answered, with_kinds, begun, fate_of, with_fate, in_kind};
-ghost use Rattle.note_line.specs.Table3.{least, line_starts, head_in_kind, head_not_in_kind, head_may_go, has_open};
+ghost use Rattle.note_line.specs.Line.{opening, next, noted, restated, spool_head, drop_head, open_head, open_oldest, purge_oldest, fail_open, answered, with_kinds, begun, fate_of};
+ghost use Rattle.note_line.specs.Table3.{least, head_in_kind, head_not_in_kind, head_may_go, has_open};
 ghost use Rattle.note_line.specs.Fates.{LineValid};
 ghost use Rattle.note_line.specs.Limits.{most_text};
 

@@ -231,6 +231,8 @@ impl NoteLine {
     /// The row of table 3 that fires by itself next, by what lies around the line, or none.
     pub fn row_for(&self, around: Around) -> Option<u8>
         ensures least { result ≡ least around self.now }
+        ensures in_kind { result ≡ Some 10 → head_in_kind self.now ≡ true }
+        ensures none_open { result ≡ Some 12 → self.now.opened ≡ None }
     {
         if self.spool.starts(1) {
             Some(1)

@@ -5,3 +5,4 @@ pub mod Order
 pub mod Fates
 pub mod Limits
 pub mod Kept
+pub mod Worked

@@ -11,7 +11,7 @@ mod fate;
 pub mod laws;
 mod line;
 mod told;
-//pub mod worked;
+pub mod worked;
 
 pub use around::{Around, SpooledKinds};
 pub use fate::{DropCause, Fate, Told};

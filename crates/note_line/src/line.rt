@@ -3,8 +3,8 @@
 ghost use Rattle.std.specs.Prelude.{◌≡◌, ◌≤◌, true, length, slice_get, option_copied, not, ◌&&◌, None, Some, IfOk, IfErr, IfSome};
 ghost use Rattle.spool.specs.Limits.{most_capacity};
 ghost use Rattle.spool.specs.Spool.{rsda, is_transmit, has_note};
-ghost use Rattle.note_line.specs.Line.{opening, next, noted, restated, spool_head, drop_head, open_head, open_oldest, purge_oldest, fail_open, answered, with_kinds, begun, fate_of, with_fate, in_kind};
-ghost use Rattle.note_line.specs.Table3.{least, line_starts, head_in_kind, head_not_in_kind, head_may_go, has_open};
+ghost use Rattle.note_line.specs.Line.{opening, next, noted, restated, spool_head, drop_head, open_head, open_oldest, purge_oldest, fail_open, answered, with_kinds, begun, fate_of};
+ghost use Rattle.note_line.specs.Table3.{least, head_in_kind, head_not_in_kind, head_may_go, has_open};
 ghost use Rattle.note_line.specs.Fates.{LineValid};
 ghost use Rattle.note_line.specs.Limits.{most_text};
 
@@ -231,6 +231,8 @@ impl NoteLine {
     /// The row of table 3 that fires by itself next, by what lies around the line, or none.
     pub fn row_for(&self, around: Around) -> Option<u8>
         ensures least { result ≡ least around self.now }
+        ensures in_kind { result ≡ Some 10 → head_in_kind self.now ≡ true }
+        ensures none_open { result ≡ Some 12 → self.now.opened ≡ None }
     {
         if self.spool.starts(1) {
             Some(1)

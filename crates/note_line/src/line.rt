@@ -115,7 +115,8 @@ impl NoteLine {
 
     /// How many notes are spooled (SpoolCountActual).
     pub fn spooled_len(&self) -> usize
-        ensures { result ≡ length self.now.spool.notes }
+        ensures len { result ≡ length self.now.spool.notes }
+        ensures most { length self.now.spool.notes ≤ most_capacity }
     {
         self.spool.len()
     }

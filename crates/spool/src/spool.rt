@@ -69,6 +69,7 @@ impl Spool {
     pub fn len(&self) -> usize
         ensures len { result ≡ length self.now.notes }
         ensures within { length self.now.notes ≤ self.now.capacity }
+        ensures most { length self.now.notes ≤ most_capacity }
     {
         self.notes.len()
     }

@@ -305,7 +305,6 @@ fn still_empty(alloc: Global) -> Result<(Option<u8>, u64, Option<Fate>, u64), Fa
     let mut line = no_note(alloc, NO_KINDS)?;
     line.drop_head();
     line.purge_oldest();
-    line.open_oldest();
     line.fail_open(TALKING);
     line.answer_open();
     Ok((

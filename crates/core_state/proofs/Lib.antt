@@ -3,3 +3,4 @@ pub mod Firings
 pub mod MomentTexts
 pub mod Small
 pub mod Telling
+pub mod LineRows

@@ -94,7 +94,7 @@ impl Plant {
         ensures { result ≡ status_name self.now vid }
     {
         let name = match vid {
-            1 | 2 | 3 | 8 => vid_name(vid).unwrap_or(Text80::empty()),
+            1 | 2 | 3 | 4 | 5 | 6 | 7 | 8 => vid_name(vid).unwrap_or(Text80::empty()),
             _ => Text80::empty(),
         };
         VariableName { svid: vid, name }

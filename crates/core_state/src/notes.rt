@@ -1,9 +1,9 @@
 //! The rows of the line of notes and of the spool (table 3).
-ghost use Rattle.std.specs.Prelude.{◌≡◌, ◌==◌, ◌≤◌, ◌^◌, false, is_some, length, None, OnOk, IfOk, Some};
+ghost use Rattle.std.specs.Prelude.{true, ◌≡◌, ◌==◌, ◌≤◌, ◌^◌, false, is_some, length, None, OnOk, IfOk, Some};
 ghost use Rattle.gem_tables.specs.Table.{firing};
 ghost use Rattle.spool.specs.Spool.{is_inactive, rsda};
 ghost use Rattle.note_line.specs.Line.{answered, fate_of, restated, with_kinds};
-ghost use Rattle.note_line.specs.Table3.{least, row_effect};
+ghost use Rattle.note_line.specs.Table3.{least, head_in_kind, row_effect};
 ghost use Rattle.note_line.specs.Limits.{most_text};
 ghost use Rattle.gem_model.specs.State.{around};
 ghost use Rattle.gem_model.specs.Ready.{ready_line};
@@ -67,7 +67,15 @@ impl Plant {
         self.ask(alloc, stream, function, what, text)
     }
 
+    /// The states of the spool change by a row.
+    fn spool_row(&mut self, row: u8)
+        ensures { self.new ≡ record self.old { line = restated row self.old.line } }
+    {
+        self.line.restate(row);
+    }
+
     /// A row that changes the states of the spool alone, and makes its note.
+    #[tactic(auto, using(crate::proofs::LineRows::restated_fires))]
     fn restate(&mut self, alloc: Global, row: u8) -> Result<(), AllocError>
         requires states { row_effect (around self.old) row self.old.line ≡ restated row self.old.line }
         requires not_12 { (row == 12) ≡ false }
@@ -75,8 +83,9 @@ impl Plant {
         ensures { OnOk result (self.new ≡ fire self.old (firing 3 0 row)) }
     {
         let online_before = self.is_online();
-        self.line.restate(row);
-        self.note(alloc, RowFiring::unnamed(LINE, row, online_before))
+        self.spool_row(row);
+        self.note(alloc, RowFiring::unnamed(LINE, row, online_before))?;
+        Ok(())
     }
 
     /// Row 6: the oldest spooled note is dropped.
@@ -86,9 +95,9 @@ impl Plant {
         self.line.purge_oldest();
     }
 
-    /// Row 10: the head is pushed to the spool. It is ready.
+    /// Row 10: the head, which is spooled in kind, is pushed to the spool.
     fn spool_head(&mut self)
-        requires { least (around self.old) self.old.line ≡ Some 10 }
+        requires { head_in_kind self.old.line ≡ true }
         ensures { self.new ≡ fire self.old (firing 3 0 10) }
     {
         let around = self.around();
@@ -102,9 +111,9 @@ impl Plant {
         self.line.drop_head();
     }
 
-    /// Row 12: the oldest spooled note is sent, and is open. It is ready.
+    /// Row 12: the oldest spooled note is sent, and is open. No note is open before.
     fn open_oldest(&mut self, alloc: Global) -> Result<(), AllocError>
-        requires { least (around self.old) self.old.line ≡ Some 12 }
+        requires { self.old.line.opened ≡ None }
         ensures { OnOk result (self.new ≡ fire self.old (firing 3 0 12)) }
     {
         self.send_oldest(alloc)?;
@@ -140,8 +149,8 @@ impl Plant {
             Some(10) => self.spool_head(),
             Some(11) => self.drop_head(),
             Some(12) => self.open_oldest(alloc)?,
-            Some(13) => self.open_head(alloc)?,
-            _ => return Ok(false),
+            Some(_) => self.open_head(alloc)?,
+            None => return Ok(false),
         }
         Ok(true)
     }

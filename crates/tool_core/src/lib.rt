@@ -11,11 +11,8 @@
 
 mod clock;
 mod counts;
-mod data;
 mod entries;
 mod react;
-mod remote;
-mod replies;
 mod tool;
 
 pub use counts::SessionCounts;

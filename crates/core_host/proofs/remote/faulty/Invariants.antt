@@ -1,7 +1,7 @@
 use Rattle.std.proofs.Common.{◌≡◌, ◌++◌, [], take, drop}
 use Rattle.gem_model.specs.Remote.{faulty}
-use Rattle.tool_core.specs.Remotes.{remote_view}
-use Rattle.tool_core.proofs.remote.faulty.Given as goal
+use Rattle.core_host.specs.Remotes.{remote_view}
+use Rattle.core_host.proofs.remote.faulty.Given as goal
 
 -- the faults that were found stand before those that the other parameters give
 abbrev pub invariant-loop-place : goal.invariant-loop-place

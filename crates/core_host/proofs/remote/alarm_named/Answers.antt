@@ -1,8 +1,8 @@
 use Rattle.std.proofs.Common.{sym, ◌∙◌, ap, ◌≡◌, Bool, List, ℕ}
 use Rattle.std.specs.Str.{bytes_eq}
 use Rattle.secs_items.specs.Ids.{id_of}
-use Rattle.tool_core.proofs.Faults.{named_here, named_later, named_nowhere}
-use Rattle.tool_core.proofs.remote.alarm_named.Goals as goal
+use Rattle.core_host.proofs.Faults.{named_here, named_later, named_nowhere}
+use Rattle.core_host.proofs.remote.alarm_named.Goals as goal
 
 -- what the comparison found, of the name as it is spelled
 spelled : {name name' word word' : List ℕ} {b found : Bool} → name ≡ name' → word ≡ word' → found ≡ bytes_eq name word → found ≡ b → bytes_eq name' word' ≡ b

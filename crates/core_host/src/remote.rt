@@ -164,7 +164,11 @@ fn is_accepting(reply: &GemReply) -> bool
 fn accepted_by(reply: &GemReply, name: &[u8]) -> Option<RemoteCommand>
     ensures { option_map remote_view result ≡ accepted_by reply.now name.now }
 {
-    if is_accepting(reply) { command_named(name) } else { None }
+    if is_accepting(reply) {
+        command_named(name)
+    } else {
+        None
+    }
 }
 
 /// What a remote command is answered, by the plant before it; and what it writes is written.

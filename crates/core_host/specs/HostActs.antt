@@ -4,8 +4,8 @@ use Rattle.hsms_frame.specs.declared.frame.Header.{Header}
 use Rattle.hsms_frame.specs.declared.frame.Arrival.{Arrival}
 use Rattle.gem_model.specs.State.{State}
 use Rattle.gem_model.specs.Verdict.{Verdict, Discarded, Stream9, Aborted, Answers, Taken, verdict, header_of, wants_reply, stream_of, function_of}
-use Rattle.core_host.specs.declared.host.HostAct.{HostAct}
-use Rattle.core_host.specs.declared.host.HostAct.TheVariants as act
+use Rattle.core_host.specs.declared.data.HostAct.{HostAct}
+use Rattle.core_host.specs.declared.data.HostAct.TheVariants as act
 
 -- a reply of this function in the stream of the message, where the W-bit asks for one (SEMI E5, transaction protocol)
 abbrev pub reply_act : Header → ℕ → HostAct

@@ -9,10 +9,10 @@
 #![tactic(auto)]
 
 mod arrival;
-mod host;
+mod data;
 mod remote;
 mod replies;
 mod verdict;
 
 pub use arrival::header_of;
-pub use host::{HostAct, host};
+pub use data::{HostAct, host};

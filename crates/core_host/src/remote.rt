@@ -92,11 +92,18 @@ fn faulty(
     Ok(faults)
 }
 
+/// Whether an ALID is one of these parameters.
+fn has_alid(parameters: &[Parameter]) -> bool
+    ensures { result ≡ was_given parameters.now (codes "ALID") }
+{
+    parameters.iter().any(|parameter| is_alid(parameter))
+}
+
 /// Whether a parameter that the command needs is missing.
 fn is_missing(command: RemoteCommand, parameters: &[Parameter]) -> bool
     ensures { result ≡ is_missing (remote_view command) parameters.now }
 {
-    command == RemoteCommand::ClearAlarm && !parameters.iter().any(|parameter| is_alid(parameter))
+    command == RemoteCommand::ClearAlarm && !has_alid(parameters)
 }
 
 /// The alarm that the parameters name.

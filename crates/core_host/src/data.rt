@@ -1,5 +1,5 @@
 //! A data message of the host: what it is answered, and what it does.
-ghost use Rattle.std.specs.Prelude.{◌≡◌, ◌+◌, ◌≤◌, ◌<◌, ◌^◌, length, [], OnOk, IfOk};
+ghost use Rattle.std.specs.Prelude.{◌≡◌, ◌+◌, ◌≤◌, ◌<◌, ◌^◌, length, OnOk, IfOk};
 ghost use Rattle.transactions.specs.Endings.{answered};
 ghost use Rattle.msgs_gem.specs.Acknowledge.{accepts};
 ghost use Rattle.msgs_gem.specs.Few.{HasFewParts};

@@ -1,7 +1,4 @@
-pub mod Faults
 pub mod Notes
 pub mod Operating
-pub mod Functions
 pub mod Timeouts
-pub mod Writing
 pub mod Replaying

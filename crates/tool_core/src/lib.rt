@@ -1,21 +1,18 @@
 //! The core of the tool: it takes events one at a time, answers each as the tables say, and keeps the history. What the
-//! tool is at a moment is the `Plant` of `core_state`; what each event does to it stands here.
+//! tool is at a moment is the `Plant` of `core_state`, and what the messages of the host do to it stands in `core_host`;
+//! what each other event does to it stands here: those of links, operators and the clock.
 //!
 //! The same events give the same history: the core reads no clock, no file and no link. Moments are handed in, and
 //! frames are handed out when the writer takes them. Begin with `Core::open`, then `Core::apply`.
 //!
 //! Built are the whole link table with T6, T7 and the tool's linktest (SEMI E37), the tables of communication and of
-//! control with the tool's transactions and T3 (SEMI E30), variables, equipment constants, event reports, alarms and two
-//! remote commands, the line of notes without a spool, and the errors of stream 9 (SEMI E5).
+//! control with the tool's transactions and T3 (SEMI E30), and the line of notes without a spool.
 #![tactic(auto)]
 
 mod clock;
 mod counts;
-mod data;
 mod entries;
 mod react;
-mod remote;
-mod replies;
 mod tool;
 
 pub use counts::SessionCounts;

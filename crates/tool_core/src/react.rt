@@ -13,7 +13,7 @@ ghost use Rattle.tool_events.specs.declared.answer.Answer.TheVariants as answer;
 ghost use Rattle.gem_model.specs.Step.{answered};
 
 use crate::clock::{end_for, is_due, look};
-use crate::data::{data, header_of};
+use core_host::header_of;
 use core_state::{Plant, header_frame};
 use gem_ids::Moment;
 use gem_states::{CommTrigger, ControlTrigger};
@@ -90,7 +90,9 @@ fn message(plant: &mut Plant, alloc: Global, arrival: &Arrival) -> Result<Reacti
             let frame = header_frame(alloc, reply)?;
             plant.put(frame)?;
         }
-        LinkAct::Data => data(plant, alloc, arrival)?,
+        LinkAct::Data => {
+            core_host::host(plant, alloc, arrival)?;
+        }
         LinkAct::Ended => {
             let end = end_for(plant, alloc, SessionCause::Separated)?;
             return Ok(Reaction::ended(Answer::Ended, end));

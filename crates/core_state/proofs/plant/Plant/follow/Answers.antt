@@ -1,7 +1,7 @@
 use Rattle.std.proofs.Common.{refl, ap, sym, ◌∙◌}
 use Rattle.gem_model.specs.Ready.{least}
 use Rattle.gem_model.specs.Settle.{settled}
-use Rattle.core_state.proofs.Firings.{fired_settles, fired_falls}
+use Rattle.core_state.proofs.Firings.{fired_settles, fired_falls, none_settled}
 use Rattle.core_state.proofs.plant.Plant.follow.Goals as goal
 
 pub loop-preserved : goal.loop-preserved
@@ -11,3 +11,9 @@ loop-preserved c =
 pub loop-smaller : goal.loop-smaller
 loop-smaller c =
     rw c.in_ok-fire_least.ensures.after (fired_falls c.loop.self (least c.loop.self) refl (sym c.in_ok-fire_least.ensures.fired ∙ c.if-branch.true))
+
+pub returns : goal.returns
+returns c =
+    c.in_ok-fire_least.ensures.after
+    ∙ sym (none_settled c.loop.self (least c.loop.self) refl (sym c.in_ok-fire_least.ensures.fired ∙ c.if-branch.false))
+    ∙ c.loop.invariant

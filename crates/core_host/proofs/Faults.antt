@@ -1,13 +1,15 @@
 -- The faulty parameters, one after another.
-use Rattle.std.proofs.Common.{◌≡◌, ℕ, zero, suc, ◌+◌, ◌<◌, ◌≤◌, ◌==◌, Bool, true, false, if◌then◌else◌, List, [], ◌∷◌, ◌++◌, length, take, drop, get_or, Option, Some, None, refl, sym, ◌∙◌, ap, arith, add-one, drop-cons, append_assoc}
+use Rattle.std.proofs.Common.{◌≡◌, ℕ, zero, suc, ◌+◌, ◌<◌, ◌≤◌, ◌==◌, ◌||◌, Bool, true, false, if◌then◌else◌, List, [], ◌∷◌, ◌++◌, length, take, drop, get_or, Option, Some, None, refl, sym, ◌∙◌, ap, arith, add-one, drop-cons, append_assoc}
 use Rattle.std.specs.Prelude.{codes}
 use Rattle.std.specs.Str.{bytes_eq}
 use Rattle.std.proofs.lemmas.List.{drop_all}
+use Rattle.std.proofs.lemmas.List.Folds.{list_any_more}
+use Rattle.std.proofs.lemmas.Slice.Eq.{bytes_eq-Decides}
 use Rattle.secs_items.specs.Ids.{id_of}
 use Rattle.event_reports.specs.declared.alarms.AlarmLine.{AlarmLine}
 use Rattle.msgs_gem.specs.declared.reply.ParameterAcknowledge.{ParameterAcknowledge}
 use Rattle.gem_model.specs.State.{State}
-use Rattle.gem_model.specs.Remote.{RemoteCommand, Parameter, cpack, faulty, command_named, hcack, listed, listed_by, alarm_named}
+use Rattle.gem_model.specs.Remote.{RemoteCommand, GoLocal, ClearAlarm, Parameter, takes, was_given, cpack, faulty, command_named, hcack, listed, listed_by, alarm_named}
 
 take_more : {A : Type 0} (xs : List A) (i : ℕ) (x : A) → i < length xs → take (suc i) xs ≡ take i xs ++ get_or xs i x ∷ []
 take_more [] i x within = absurd (omega arith)
@@ -42,6 +44,17 @@ faulty_more command alarms ps i p all found within is before =
     ∙ ap (λ (b : Bool). if b then faulty command alarms (take (i + 1) ps) (drop (i + 1) ps)
     else record { name = (get_or ps i p).0; cpack = cpack command alarms (take i ps) (get_or ps i p) } ∷ faulty command alarms (take (i + 1) ps) (drop (i + 1) ps)) is)
     ∙ sym (append_assoc found (record { name = (get_or ps i p).0; cpack = cpack command alarms (take i ps) (get_or ps i p) } ∷ []) (faulty command alarms (take (i + 1) ps) (drop (i + 1) ps)))
+
+-- ---- what was given before
+
+-- an ALID is the only parameter that a command takes
+pub given_as_alid : (command : RemoteCommand) (name : List ℕ) (earlier : List Parameter) → takes command name ≡ true → was_given earlier name ≡ was_given earlier (codes "ALID")
+given_as_alid GoLocal name earlier is = absurd (cc)
+given_as_alid ClearAlarm name earlier is = ap (was_given earlier) ((bytes_eq-Decides name (codes "ALID")).0 is)
+
+-- with the parameter at a place
+pub given_more : (ps : List Parameter) (i : ℕ) (p : Parameter) → i < length ps → was_given (take (i + 1) ps) (codes "ALID") ≡ (was_given (take i ps) (codes "ALID") || bytes_eq (get_or ps i p).0 (codes "ALID"))
+given_more ps i p within = list_any_more (λ q. bytes_eq q.0 (codes "ALID")) ps i p within
 
 -- ---- how many there are
 

@@ -3,8 +3,8 @@ use Rattle.std.specs.Prelude.{◌<◌}
 use Rattle.hsms_frame.specs.declared.frame.Header.{Header}
 use Rattle.msgs_gem.specs.Few.{HasFewParts}
 use Rattle.gem_model.specs.Verdict as model
-use Rattle.tool_core.specs.declared.data.Verdict.{Verdict}
-use Rattle.tool_core.specs.declared.data.Verdict.TheVariants as code
+use Rattle.core_host.specs.declared.verdict.Verdict.{Verdict}
+use Rattle.core_host.specs.declared.verdict.Verdict.TheVariants as code
 
 -- the verdict of the tables that a verdict of the code stands for
 abbrev pub verdict_view : Verdict → model.Verdict

@@ -1,14 +1,14 @@
 //! Remote commands of the host (SEMI E5, S2F41; SEMI E30, remote control).
 ghost use Rattle.std.specs.Str.{bytes_eq};
-ghost use Rattle.std.specs.Prelude.{◌≡◌, [], length, OnOk, IfOk, option_map};
+ghost use Rattle.std.specs.Prelude.{◌≡◌, List, [], codes, length, OnOk, IfOk, option_map};
 ghost use Rattle.secs_items.specs.Sendable.{IsLength};
 ghost use Rattle.msgs_gem.specs.declared.reply.GemReply.TheVariants as reply;
 ghost use Rattle.msgs_gem.specs.Sendable.{HasSendableParts};
 ghost use Rattle.gem_model.specs.Fire.{fires};
 ghost use Rattle.gem_model.specs.Direct.{command_rows};
 ghost use Rattle.gem_model.specs.Act.{clears_named, command_written};
-ghost use Rattle.gem_model.specs.Remote.{command_named, takes, was_given, cpack, faulty, is_missing, alarm_named, is_clear_already, hcack, listed, accepted};
-ghost use Rattle.tool_core.specs.Remotes.{remote_view};
+ghost use Rattle.gem_model.specs.Remote.{Parameter, command_named, takes, was_given, cpack, faulty, is_missing, alarm_named, is_clear_already, hcack, listed, accepted};
+ghost use Rattle.core_host.specs.Remotes.{remote_view, is_accepting, accepted_by};
 
 use core_state::Plant;
 use gem_ids::{Listed, Text80};
@@ -43,33 +43,25 @@ fn takes(command: RemoteCommand, name: &[u8]) -> bool
     command == RemoteCommand::ClearAlarm && name == b"ALID".as_slice()
 }
 
-/// Whether a parameter has this name.
-fn is_named(parameter: &Parameter, name: &[u8]) -> bool
-    ensures { result ≡ bytes_eq parameter.now.0 name.now }
+/// Whether a parameter is an ALID.
+fn is_alid(parameter: &Parameter) -> bool
+    ensures { result ≡ bytes_eq parameter.now.0 (codes "ALID") }
 {
-    parameter.cpname().as_bytes() == name
+    parameter.cpname().as_bytes() == b"ALID".as_slice()
 }
 
-/// Whether one of these parameters has this name.
-fn was_given(earlier: &[Parameter], name: &[u8]) -> bool
-    ensures { result ≡ was_given earlier.now name.now }
+/// CPACK of a parameter, by whether an ALID was given before it: 1 for an unknown name, 3 for a wrong format, 2 for an
+/// unknown alarm and for a parameter that was given before, and else 0.
+fn cpack(plant: &Plant, command: RemoteCommand, alid_given: bool, parameter: &Parameter) -> u8
+    ensures { (earlier : List Parameter) → alid_given ≡ was_given earlier (codes "ALID") → result ≡ cpack (remote_view command) plant.now.alarms earlier parameter.now }
 {
-    earlier.iter().any(|parameter| is_named(parameter, name))
-}
-
-/// CPACK of a parameter, behind these others: 1 for an unknown name, 3 for a wrong format, 2 for an unknown alarm and for a
-/// parameter that was given before, and else 0.
-fn cpack(plant: &Plant, command: RemoteCommand, earlier: &[Parameter], parameter: &Parameter) -> u8
-    ensures { result ≡ cpack (remote_view command) plant.now.alarms earlier.now parameter.now }
-{
-    let name = parameter.cpname();
-    if !takes(command, name.as_bytes()) {
+    if !takes(command, parameter.cpname().as_bytes()) {
         return 1;
     }
     let Some(alid) = parameter.item().as_id() else {
         return 3;
     };
-    if !plant.is_alarm(alid) || was_given(earlier, name.as_bytes()) {
+    if !plant.is_alarm(alid) || alid_given {
         return 2;
     }
     0
@@ -85,24 +77,33 @@ fn faulty(
     ensures faulty { IfOk result (λ faults. faults.items ≡ faulty (remote_view command) plant.now.alarms [] parameters.now) }
 {
     let mut faults = Vec::new(alloc);
-    for place in 0..parameters.len() {
-        let parameter = &parameters[place];
-        let code = cpack(plant, command, &parameters[..place], parameter);
+    // An ALID is the only parameter that a command takes, so no other can be faulty by having been given before.
+    let mut alid_given = false;
+    for parameter in parameters {
+        let code = cpack(plant, command, alid_given, parameter);
         if code != 0 {
             faults.push(ParameterAcknowledge {
                 name: parameter.cpname(),
                 cpack: code,
             })?;
         }
+        alid_given |= is_alid(parameter);
     }
     Ok(faults)
+}
+
+/// Whether an ALID is one of these parameters.
+fn has_alid(parameters: &[Parameter]) -> bool
+    ensures { result ≡ was_given parameters.now (codes "ALID") }
+{
+    parameters.iter().any(|parameter| is_alid(parameter))
 }
 
 /// Whether a parameter that the command needs is missing.
 fn is_missing(command: RemoteCommand, parameters: &[Parameter]) -> bool
     ensures { result ≡ is_missing (remote_view command) parameters.now }
 {
-    command == RemoteCommand::ClearAlarm && !was_given(parameters, b"ALID".as_slice())
+    command == RemoteCommand::ClearAlarm && !has_alid(parameters)
 }
 
 /// The alarm that the parameters name.
@@ -110,7 +111,7 @@ fn alarm_named(parameters: &[Parameter]) -> Option<u32>
     ensures { result ≡ alarm_named parameters.now }
 {
     for parameter in parameters {
-        if is_named(parameter, b"ALID".as_slice()) {
+        if is_alid(parameter) {
             return parameter.item().as_id();
         }
     }
@@ -156,17 +157,25 @@ fn acknowledge(
     Ok((0, Vec::new(alloc)))
 }
 
-/// The command, where it is accepted.
-fn accepted(
-    plant: &Plant,
-    alloc: Global,
-    name: &[u8],
-    parameters: &[Parameter],
-) -> Result<Option<RemoteCommand>, AllocError>
-    ensures { IfOk result (λ command. option_map remote_view command ≡ accepted plant.now name.now parameters.now) }
+/// Whether a reply accepts a remote command: HCACK 0.
+fn is_accepting(reply: &GemReply) -> bool
+    ensures { result ≡ is_accepting reply.now }
 {
-    let (code, _) = acknowledge(plant, alloc, name, parameters)?;
-    Ok(if code == 0 { command_named(name) } else { None })
+    match reply {
+        GemReply::S2F42(hcack, _) => *hcack == 0,
+        _ => false,
+    }
+}
+
+/// The command of this name, where the reply accepts it.
+fn accepted_by(reply: &GemReply, name: &[u8]) -> Option<RemoteCommand>
+    ensures { option_map remote_view result ≡ accepted_by reply.now name.now }
+{
+    if is_accepting(reply) {
+        command_named(name)
+    } else {
+        None
+    }
 }
 
 /// What a remote command is answered, by the plant before it; and what it writes is written.
@@ -182,11 +191,11 @@ pub fn command(
     ensures after { OnOk result (plant.new ≡ command_written (accepted plant.old name parameters.now) parameters.now plant.old) }
 {
     let (code, faults) = acknowledge(plant, alloc, name.as_bytes(), parameters)?;
-    let command = accepted(plant, alloc, name.as_bytes(), parameters)?;
-    if let Some(RemoteCommand::ClearAlarm) = command {
+    let reply = GemReply::S2F42(code, Listed::from_vec(faults));
+    if let Some(RemoteCommand::ClearAlarm) = accepted_by(&reply, name.as_bytes()) {
         clear_named(plant, alloc, alarm_named(parameters))?;
     }
-    Ok(GemReply::S2F42(code, Listed::from_vec(faults)))
+    Ok(reply)
 }
 
 /// The alarm that is named is cleared.
@@ -199,16 +208,17 @@ fn clear_named(plant: &mut Plant, alloc: Global, alid: Option<u32>) -> Result<()
     }
 }
 
-/// The direct rows of a remote command that is accepted: GOLOCAL is the operator's `local`, but that the switch stays.
+/// The direct rows of the remote command of this name, where the reply accepts it: GOLOCAL is the operator's `local`, but
+/// that the switch stays.
 pub fn command_rows(
     plant: &mut Plant,
     alloc: Global,
     name: Text80,
-    parameters: &[Parameter],
+    reply: &GemReply,
 ) -> Result<(), AllocError>
-    ensures { OnOk result (plant.new ≡ fires (command_rows (accepted plant.old name parameters.now)) plant.old) }
+    ensures { OnOk result (plant.new ≡ fires (command_rows (accepted_by reply.now name)) plant.old) }
 {
-    match accepted(plant, alloc, name.as_bytes(), parameters)? {
+    match accepted_by(reply, name.as_bytes()) {
         Some(RemoteCommand::GoLocal) => plant.by_control(alloc, ControlTrigger::Local),
         _ => Ok(()),
     }

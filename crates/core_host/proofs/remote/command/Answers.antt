@@ -1,6 +1,6 @@
 use Rattle.std.proofs.Common.{arith}
-use Rattle.tool_core.proofs.Faults.{few_listed}
-use Rattle.tool_core.proofs.remote.command.Goals as goal
+use Rattle.core_host.proofs.Faults.{few_listed}
+use Rattle.core_host.proofs.remote.command.Goals as goal
 
 pub returns-clause-sendable : goal.returns-clause-sendable
 returns-clause-sendable c =

@@ -1,0 +1,4 @@
+pub mod Verdicts
+pub mod Remotes
+pub mod Answered
+pub mod HostActs

@@ -46,20 +46,47 @@ IsLast r = r.is_automatic ≡ true → Others r.number → r.number ≡ 13
 all_last : AllByRecursion IsLast line_table
 all_last = (
   (λ auto o. absurd (o.0.0.0.0.0.0.0.0.0.1 refl)),
-  ((λ auto o. absurd (o.0.0.0.0.0.0.0.0.1 refl)),
-  ((λ auto o. absurd (o.0.0.0.0.0.0.0.1 refl)),
-  ((λ auto o. absurd (true≢false (sym auto))),
-  ((λ auto o. absurd (true≢false (sym auto))),
-  ((λ auto o. absurd (o.0.0.0.0.0.0.1 refl)),
-  ((λ auto o. absurd (o.0.0.0.0.0.1 refl)),
-  ((λ auto o. absurd (o.0.0.0.0.1 refl)),
-  ((λ auto o. absurd (o.0.0.0.1 refl)),
-  ((λ auto o. absurd (o.0.0.1 refl)),
-  ((λ auto o. absurd (o.0.1 refl)),
-  ((λ auto o. absurd (o.1 refl)),
-  ((λ auto o. refl),
-  ((λ auto o. absurd (true≢false (sym auto))),
-  tt))))))))))))))
+  (
+    (λ auto o. absurd (o.0.0.0.0.0.0.0.0.1 refl)),
+    (
+      (λ auto o. absurd (o.0.0.0.0.0.0.0.1 refl)),
+      (
+        (λ auto o. absurd (true≢false (sym auto))),
+        (
+          (λ auto o. absurd (true≢false (sym auto))),
+          (
+            (λ auto o. absurd (o.0.0.0.0.0.0.1 refl)),
+            (
+              (λ auto o. absurd (o.0.0.0.0.0.1 refl)),
+              (
+                (λ auto o. absurd (o.0.0.0.0.1 refl)),
+                (
+                  (λ auto o. absurd (o.0.0.0.1 refl)),
+                  (
+                    (λ auto o. absurd (o.0.0.1 refl)),
+                    (
+                      (λ auto o. absurd (o.0.1 refl)),
+                      (
+                        (λ auto o. absurd (o.1 refl)),
+                        (
+                          (λ auto o. refl),
+                          (
+                            (λ auto o. absurd (true≢false (sym auto))),
+                            tt,
+                          ),
+                        ),
+                      ),
+                    ),
+                  ),
+                ),
+              ),
+            ),
+          ),
+        ),
+      ),
+    ),
+  ),
+)
 
 pub last_row : (a : Around) (l : Line) (row : ℕ) → least a l ≡ Some row → Others row → least a l ≡ Some 13
 last_row a l row e others =

@@ -76,10 +76,28 @@ among_small (v ∷ vs) small vid d is = this_small (v.vid == vid) v.value d (val
 
 pub status_small : (g : State) → length g.alarms ≤ most_alarms → AreSmallValues (status_value g)
 status_small g few =
-    among_small (status_variables g)
-    (text_small (time_digits (clock_now g)) (clock_text g), (number_small (comm_number g.comm), (number_small (control_number g.control),
-    (count_small (length g.line.spool.notes), (count_small g.line.spool.total, (number_small (load_number g.line.spool.load), (number_small (unload_number g.line.spool.unload),
-    (alarms_small g.alarms few, tt))))))))
+    among_small (status_variables g) (
+      text_small (time_digits (clock_now g)) (clock_text g),
+      (
+        number_small (comm_number g.comm),
+        (
+          number_small (control_number g.control),
+          (
+            count_small (length g.line.spool.notes),
+            (
+              count_small g.line.spool.total,
+              (
+                number_small (load_number g.line.spool.load),
+                (
+                  number_small (unload_number g.line.spool.unload),
+                  (alarms_small g.alarms few, tt),
+                ),
+              ),
+            ),
+          ),
+        ),
+      ),
+    )
 
 pub constants_small : (g : State) → AreSmallValues (constant_value g)
 constants_small g vid d is = by_value (constants.value_of vid g.constants) is

@@ -63,8 +63,8 @@ impl Plant {
         };
         let (stream, function) = message_of(note.kind);
         let what = What::Note(note.number);
-        let text = text_of(alloc, note)?;
-        self.ask(alloc, stream, function, what, text)
+        let kept = text_of(alloc, note)?;
+        self.ask(alloc, stream, function, what, kept)
     }
 
     /// The states of the spool change by a row.

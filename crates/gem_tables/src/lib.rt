@@ -18,4 +18,5 @@
 //! |---|---|
 //! | 1 | communication with the host, `specs/Communication.antt` |
 //! | 2 | control, `specs/Control.antt` |
+//! | 3 | the line of notes and the spool, which moves notes and not a state alone: it stands in `note_line` and `spool` |
 #![tactic(auto)]

@@ -40,20 +40,47 @@ spooled_same overwrite (note ∷ notes) l = lost_same (spool.push_loses overwrit
 rows_open : (a : Around) (l : Line) → AllByRecursion (RowOpens a l) line_table
 rows_open a l = (
   (λ auto w. opens_none refl refl refl),
-  ((λ auto w. opens_none refl refl refl),
-  ((λ auto w. opens_none refl refl refl),
-  ((λ auto w. absurd (true≢false (sym auto))),
-  ((λ auto w. absurd (true≢false (sym auto))),
-  ((λ auto w. opens_none (purged_same l.spool.notes l) refl refl),
-  ((λ auto w. opens_none refl refl refl),
-  ((λ auto w. opens_none refl refl refl),
-  ((λ auto w. opens_none refl refl refl),
-  ((λ auto w. opens_none (spooled_same a.overwrites l.waiting l) refl refl),
-  ((λ auto w. opens_none (dropped_same l.waiting l) refl refl),
-  ((λ auto w. opens_oldest refl (and_second _ _ (and_first _ _ w)) (is_none l.opened (and_second _ _ w))),
-  ((λ auto w. opens_head refl (and_second _ _ (and_first _ _ w)) (is_none l.opened (and_second _ _ w))),
-  ((λ auto w. absurd (true≢false (sym auto))),
-  tt))))))))))))))
+  (
+    (λ auto w. opens_none refl refl refl),
+    (
+      (λ auto w. opens_none refl refl refl),
+      (
+        (λ auto w. absurd (true≢false (sym auto))),
+        (
+          (λ auto w. absurd (true≢false (sym auto))),
+          (
+            (λ auto w. opens_none (purged_same l.spool.notes l) refl refl),
+            (
+              (λ auto w. opens_none refl refl refl),
+              (
+                (λ auto w. opens_none refl refl refl),
+                (
+                  (λ auto w. opens_none refl refl refl),
+                  (
+                    (λ auto w. opens_none (spooled_same a.overwrites l.waiting l) refl refl),
+                    (
+                      (λ auto w. opens_none (dropped_same l.waiting l) refl refl),
+                      (
+                        (λ auto w. opens_oldest refl (and_second _ _ (and_first _ _ w)) (is_none l.opened (and_second _ _ w))),
+                        (
+                          (λ auto w. opens_head refl (and_second _ _ (and_first _ _ w)) (is_none l.opened (and_second _ _ w))),
+                          (
+                            (λ auto w. absurd (true≢false (sym auto))),
+                            tt,
+                          ),
+                        ),
+                      ),
+                    ),
+                  ),
+                ),
+              ),
+            ),
+          ),
+        ),
+      ),
+    ),
+  ),
+)
 
 pub least-opens : (a : Around) (l : Line) (number : ℕ) → least a l ≡ Some number → Opens a l (row_effect a number l) number
 least-opens a l number e =

@@ -26,7 +26,7 @@ use gem_ids::{Moment, Text80};
 use outside::{Sink, Source};
 use std::alloc::Global;
 use tool_core::Core;
-use tool_events::{CommStart, Config, ControlStart};
+use tool_events::{CommStart, Config, ControlStart, SpoolStreams};
 
 /// So many bytes of a configuration are read at most.
 const CONFIGURATION_BYTES: usize = 65_537;
@@ -65,6 +65,13 @@ pub fn known_config() -> Config
         control: ControlStart::OnlineRemote,
         chambers: 2,
         ports: 2,
+        spool_capacity: 1000,
+        spool_streams: SpoolStreams {
+            five: false,
+            six: false,
+        },
+        overwrite: false,
+        max_transmit: 0,
         t3: 4500,
         t6: 500,
         t7: 1000,

@@ -1,5 +1,5 @@
 -- What a line does, joined from its parts.
-use Rattle.std.proofs.Common.{◌≡◌, ◌≢◌, ℕ, is_some, inr, Bool, true, false, if◌then◌else◌, List, ◌++◌, length, drop, Option, Some, None, Result, Ok, Err, OnOk, refl, sym, ◌∙◌, ap, subst}
+use Rattle.std.proofs.Common.{◌≡◌, ◌≢◌, ℕ, is_some, inl, inr, Bool, true, false, if◌then◌else◌, List, [], ◌++◌, length, drop, Option, Some, None, Result, Ok, Err, OnOk, refl, sym, ◌∙◌, ap, subst, arith}
 use Rattle.std.proofs.lemmas.Bool.{true≢false}
 use Rattle.hsms_frame.specs.declared.frame.Arrival.{Arrival}
 use Rattle.hsms_frame.specs.Cut.{Kept, IsCutOf, arrivals_of, behind_of, is_short}
@@ -13,7 +13,7 @@ use Rattle.gem_model.specs.State.{State, is_up}
 use Rattle.gem_model.specs.Step.{Outcome, step}
 use Rattle.line_grammar.specs.declared.line.Line.{Line}
 use Rattle.line_grammar.specs.declared.line.Line.TheVariants as line
-use Rattle.gem_model.specs.Feed.{Given, Reading, input, messages, nothing, bytes_given, line_given, text_bytes, is_quit}
+use Rattle.gem_model.specs.Feed.{Given, Reading, input, messages, nothing, bytes_given, line_given, reading_after, text_bytes, is_quit}
 use Rattle.tool_core.specs.CoreView.{CoreView}
 use Rattle.top_calls.specs.declared.halt.Halt.{Halt}
 use Rattle.top_calls.specs.declared.halt.Halt.TheVariants as halt
@@ -24,7 +24,7 @@ use Rattle.top_calls.specs.Reading.{IsReading, TakesLine, TreatsLine, quit_behin
 use Rattle.top_calls.specs.Reads.{AddsLine}
 use Rattle.gem_model.proofs.Downs.{tick_down, oper_down, signal_down}
 use Rattle.top_calls.proofs.Going.{Goes-nothing, Goes-unmoved}
-use Rattle.top_calls.proofs.Counting.{counts_any, counts_skip, counts_time, counts_oper, counts_signal, counts_watch}
+use Rattle.top_calls.proofs.Counting.{counts_any, counts_skip, counts_up, counts_time, counts_oper, counts_signal, counts_watch}
 
 abbrev pub failed : Halt → Result (Unit {0}) Halt
 failed why = Err why
@@ -83,6 +83,30 @@ reading_kept r given core core' cutter (Ok done) stays reading went = record {
   cut = λ up. reading.cut (up_before r.state given.state (is_up r.state) refl stays up);
 }
 reading_kept r given core core' cutter (Err why) stays reading went = tt
+
+-- no session is up, by what is told of it
+pub down_is : (up : Bool) (session : ℕ) → is_some (if up then Some session else None) ≡ false → up ≡ false
+down_is true session none = absurd (true≢false none)
+down_is false session none = refl
+
+-- a new session begins with no bytes
+none_cut : IsCutOf [] (arrivals_of text_bytes []) (record { max = text_bytes; bytes = []; skipped = 0 })
+none_cut = ([], [], inl (inl (omega arith), refl), refl, refl, λ some. absurd (omega (arith, some)))
+
+up_anew : (r : Reading) (core core' : CoreView) (result : Result (Unit {0}) Halt) → is_up r.state ≡ false → WentOn core core' (line_given r line.Up) result → OnOk result (IsReading (reading_after r line.Up) core' (record { max = text_bytes; bytes = []; skipped = 0 }))
+up_anew r core core' (Ok done) down went =
+    subst (λ (s : List ℕ). IsReading (record { state = (line_given r line.Up).state; stream = s }) core' (record { max = text_bytes; bytes = []; skipped = 0 })) (sym (ap (λ (b : Bool). if b then r.stream else []) down))
+    (record { state = went.1; max = λ _. refl; cut = λ _. none_cut })
+up_anew r core core' (Err why) down went = tt
+
+pub TakesLine-up : (r : Reading) (old : Feeder) (core' : CoreView) (cutter' : Kept) (out out' : SinkView) (result : Result (Unit {0}) Halt) → IsReading r old.core old.cutter → is_up old.core.state ≡ false → cutter' ≡ record { max = text_bytes; bytes = []; skipped = 0 } → Goes old.core core' out out' (input old.core.state 0 event.LinkUp) result → TakesLine r line.Up old (record { core = core'; cutter = cutter'; reads = old.reads }) out out' result
+TakesLine-up r old core' cutter' out out' result reading down new goes =
+    let all = subst (λ (given : Given). Goes old.core core' out out' given result) (ap (λ (g : State). input g 0 event.LinkUp) reading.state) goes in
+    record {
+      goes = all;
+      reading = subst (λ (k : Kept). OnOk result (IsReading (reading_after r line.Up) core' k)) (sym new) (up_anew r old.core core' result (subst (λ (g : State). is_up g ≡ false) reading.state down) all.went);
+      counts = counts_up r old.reads old.core core' result;
+    }
 
 some_is : (x : Option Outcome) → x ≢ None → is_some x ≡ true
 some_is None some = absurd (some refl)

@@ -107,12 +107,13 @@ impl Feeder {
             → TakesLine r line.Up self.old self.new (seen K.held K.faults K.refusals out.old) (seen K.held K.faults K.refusals out.new) result }
         ensures whole { OnOk result (self.new.core.is_whole ≡ true) }
     {
-        if self.core.session_up().is_none() {
-            match Cutter::new(alloc, TEXT_BYTES) {
-                Ok(cutter) => self.cutter = cutter,
-                Err(_) => return Err(Halt::NoMemory),
-            }
+        if self.core.session_up().is_some() {
+            return input(alloc, &mut self.core, AT_ONCE, Event::LinkUp, out);
         }
+        let Ok(cutter) = Cutter::new(alloc, TEXT_BYTES) else {
+            return Err(Halt::NoMemory);
+        };
+        self.cutter = cutter;
         input(alloc, &mut self.core, AT_ONCE, Event::LinkUp, out)
     }
 

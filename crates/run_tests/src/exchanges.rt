@@ -15,6 +15,16 @@ use top_calls::{feed_config, known_config};
 pub enum Begins {
     Known,
     Local,
+    // Notes of events are spooled.
+    Spooling,
+    // Notes of alarms are, and those of events are not.
+    SpoolingAlarms,
+    // Notes of events are spooled, at most three.
+    SpoolOfThree,
+    // The same, and a full spool drops its oldest note.
+    OverwritingSpoolOfThree,
+    // Notes of events are spooled, and a request of the host gives one.
+    OneAtATime,
 }
 
 fn config_of(begins: Begins) -> Config
@@ -24,6 +34,21 @@ fn config_of(begins: Begins) -> Config
     match begins {
         Begins::Known => {}
         Begins::Local => config.control = ControlStart::OnlineLocal,
+        Begins::Spooling => config.spool_streams.six = true,
+        Begins::SpoolingAlarms => config.spool_streams.five = true,
+        Begins::SpoolOfThree => {
+            config.spool_streams.six = true;
+            config.spool_capacity = 3;
+        }
+        Begins::OverwritingSpoolOfThree => {
+            config.spool_streams.six = true;
+            config.spool_capacity = 3;
+            config.overwrite = true;
+        }
+        Begins::OneAtATime => {
+            config.spool_streams.six = true;
+            config.max_transmit = 1;
+        }
     }
     config
 }

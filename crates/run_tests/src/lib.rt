@@ -13,6 +13,8 @@ mod event_notes;
 #[cfg(test)]
 mod exchanges;
 #[cfg(test)]
+mod fates;
+#[cfg(test)]
 mod feed;
 #[cfg(test)]
 mod histories;
@@ -22,3 +24,5 @@ mod host_data;
 mod illegal_bodies;
 #[cfg(test)]
 mod reports;
+#[cfg(test)]
+mod spooling;

@@ -920,3 +920,14 @@ fn a_list_of_1024_ids_is_taken(rt: HostRuntime) -> Result<(), Fail> {
     let want = repeated(alloc, head, b"B10400001194", 1024, b"\n")?;
     prints(&rt, alloc, Begins::Known, &lines, &want)
 }
+
+#[test]
+fn a_list_of_more_than_1024_functions_is_taken(rt: HostRuntime) -> Result<(), Fail> {
+    let alloc = rt.alloc();
+    // S2F43 L[L[U1 6, L of 1,025 times U1 12]]: S2F44 L[B 01, L[L[U1 6, B 04, L of 1,025 times U1 12]]]
+    let head = b"H 00000C170000822B00000000000201010102A50106020401";
+    let lines = repeated(alloc, head, b"A5010C", 1025, b"\n")?;
+    let head = b"> 00000C1F0000022C000000000002010221010101010103A50106210104020401";
+    let want = repeated(alloc, head, b"A5010C", 1025, b"\n")?;
+    prints(&rt, alloc, Begins::Known, &lines, &want)
+}

@@ -108,6 +108,48 @@ fn notes_made_before_the_request_follow_those_of_the_lost_link(
 }
 
 #[test]
+fn notes_that_wait_when_the_link_is_lost_go_behind_the_open_one(
+    rt: HostRuntime,
+) -> Result<(), Fail> {
+    converses(
+        &rt,
+        rt.alloc(),
+        Begins::Spooling,
+        &[
+            BOTH_ENABLED,
+            LOCAL_TOLD,
+            REMOTE_WAITS,
+            LOCAL_WAITS,
+            LOST,
+            SELECTED_AGAIN,
+            ACCEPTED_AGAIN,
+            // S1F3 L[U4 4, U4 5, U4 6, U4 7]: S1F4 L[U4 3, U4 3, U1 1, U1 0]
+            (
+                b"H 00000024000081030000000000030104B10400000004B10400000005B10400000006B10400000007\n",
+                b"> 0000001E000001040000000000030104B10400000003B10400000003A50101A50100\n",
+            ),
+            // S6F23 U1 0: S6F24 B 00, S6F11 L[U8 1, U4 211, L[]]
+            (
+                b"H 0000000D00008617000000000004A50100\n",
+                b"> 0000000D00000618000000000004210100\n> 0000001E0000860B0000000000030103A1080000000000000001B104000000D30100\n",
+            ),
+            // S6F12 B 00: S6F11 L[U8 2, U4 210, L[]]
+            (
+                b"H 0000000D0000060C000000000003210100\n",
+                b"> 0000001E0000860B0000000000040103A1080000000000000002B104000000D20100\n",
+            ),
+            // S6F12 B 00: S6F11 L[U8 3, U4 211, L[]]
+            (
+                b"H 0000000D0000060C000000000004210100\n",
+                b"> 0000001E0000860B0000000000050103A1080000000000000003B104000000D30100\n",
+            ),
+            // S6F12 B 00
+            (b"H 0000000D0000060C000000000005210100\n", b""),
+        ],
+    )
+}
+
+#[test]
 fn notes_made_during_an_unload_follow_the_spooled_ones(rt: HostRuntime) -> Result<(), Fail> {
     converses(
         &rt,
@@ -779,6 +821,65 @@ fn one_request_transmits_no_more_notes_than_maxspooltransmit(rt: HostRuntime) ->
 }
 
 #[test]
+fn the_budget_of_a_request_falls_as_each_note_is_sent(rt: HostRuntime) -> Result<(), Fail> {
+    converses(
+        &rt,
+        rt.alloc(),
+        Begins::Spooling,
+        &[
+            LOCAL_ENABLED,
+            // S2F15 L[L[U4 202, U4 2]]: S2F16 B 00
+            (
+                b"H 0000001A0000820F00000000000301010102B104000000CAB10400000002\n",
+                b"> 0000000D00000210000000000003210100\n",
+            ),
+            LOCAL_TOLD,
+            LOST,
+            REMOTE_WAITS,
+            LOCAL_WAITS,
+            REMOTE_WAITS,
+            LOCAL_WAITS,
+            SELECTED_AGAIN,
+            ACCEPTED_AGAIN,
+            // S6F23 U1 0: S6F24 B 00, S6F11 L[U8 1, U4 211, L[]]
+            (
+                b"H 0000000D00008617000000000004A50100\n",
+                b"> 0000000D00000618000000000004210100\n> 0000001E0000860B0000000000030103A1080000000000000001B104000000D30100\n",
+            ),
+            // S1F3 L[U4 4, U4 5, U4 6, U4 7]: S1F4 L[U4 2, U4 3, U1 1, U1 1]
+            (
+                b"H 00000024000081030000000000050104B10400000004B10400000005B10400000006B10400000007\n",
+                b"> 0000001E000001040000000000050104B10400000002B10400000003A50101A50101\n",
+            ),
+            // S6F12 B 00: S6F11 L[U8 2, U4 211, L[]]
+            (
+                b"H 0000000D0000060C000000000003210100\n",
+                b"> 0000001E0000860B0000000000040103A1080000000000000002B104000000D30100\n",
+            ),
+            // S1F3 L[U4 4, U4 5, U4 6, U4 7]: S1F4 L[U4 1, U4 3, U1 1, U1 0]
+            (
+                b"H 00000024000081030000000000060104B10400000004B10400000005B10400000006B10400000007\n",
+                b"> 0000001E000001040000000000060104B10400000001B10400000003A50101A50100\n",
+            ),
+            // S6F12 B 00
+            (b"H 0000000D0000060C000000000004210100\n", b""),
+            // S6F23 U1 0: S6F24 B 00, S6F11 L[U8 3, U4 211, L[]]
+            (
+                b"H 0000000D00008617000000000007A50100\n",
+                b"> 0000000D00000618000000000007210100\n> 0000001E0000860B0000000000050103A1080000000000000003B104000000D30100\n",
+            ),
+            // S6F12 B 00
+            (b"H 0000000D0000060C000000000005210100\n", b""),
+            // S6F23 U1 0: S6F24 B 02
+            (
+                b"H 0000000D00008617000000000008A50100\n",
+                b"> 0000000D00000618000000000008210102\n",
+            ),
+        ],
+    )
+}
+
+#[test]
 fn a_second_request_may_come_before_the_only_note_of_the_first_is_answered(
     rt: HostRuntime,
 ) -> Result<(), Fail> {
@@ -1292,6 +1393,65 @@ fn the_event_of_an_active_spool_follows_the_note_that_made_it_active(
 }
 
 #[test]
+fn the_event_of_an_active_spool_follows_the_notes_that_waited(rt: HostRuntime) -> Result<(), Fail> {
+    converses(
+        &rt,
+        rt.alloc(),
+        Begins::Spooling,
+        &[
+            // S2F33 L[U4 0, L[L[U4 1, L[U4 4, U4 5, U4 6, U4 7]]]]: S2F34 B 00
+            (
+                b"H 00000036000082210000000000020102B1040000000001010102B104000000010104B10400000004B10400000005B10400000006B10400000007\n",
+                b"> 0000000D00000222000000000002210100\n",
+            ),
+            // S2F35 L[U4 0, L[L[U4 301, L[U4 1]], L[U4 309, L[U4 1]]]]: S2F36 B 00
+            (
+                b"H 00000034000082230000000000030102B1040000000001020102B1040000012D0101B104000000010102B104000001350101B10400000001\n",
+                b"> 0000000D00000224000000000003210100\n",
+            ),
+            // S2F37 L[BOOL true, L[U4 211, U4 301, U4 309]]: S2F38 B 00
+            (
+                b"H 000000230000822500000000000401022501010103B104000000D3B1040000012DB10400000135\n",
+                b"> 0000000D00000226000000000004210100\n",
+            ),
+            LOCAL_TOLD,
+            REMOTE_WAITS,
+            LOCAL_WAITS,
+            LOST,
+            SELECTED_AGAIN,
+            ACCEPTED_AGAIN,
+            // S1F3 L[U4 4, U4 5, U4 6, U4 7]: S1F4 L[U4 3, U4 3, U1 1, U1 0]
+            (
+                b"H 00000024000081030000000000050104B10400000004B10400000005B10400000006B10400000007\n",
+                b"> 0000001E000001040000000000050104B10400000003B10400000003A50101A50100\n",
+            ),
+            // S6F23 U1 0: S6F24 B 00, S6F11 L[U8 1, U4 211, L[]]
+            (
+                b"H 0000000D00008617000000000006A50100\n",
+                b"> 0000000D00000618000000000006210100\n> 0000001E0000860B0000000000030103A1080000000000000001B104000000D30100\n",
+            ),
+            // S6F12 B 00: S6F11 L[U8 2, U4 211, L[]]
+            (
+                b"H 0000000D0000060C000000000003210100\n",
+                b"> 0000001E0000860B0000000000040103A1080000000000000002B104000000D30100\n",
+            ),
+            // S6F12 B 00: S6F11 L[U8 3, U4 301, L[L[U4 1, L[U4 1, U4 1, U1 1, U1 0]]]]
+            (
+                b"H 0000000D0000060C000000000004210100\n",
+                b"> 0000003A0000860B0000000000050103A1080000000000000003B1040000012D01010102B104000000010104B10400000001B10400000001A50101A50100\n",
+            ),
+            // S6F12 B 00: S6F11 L[U8 4, U4 309, L[L[U4 1, L[U4 0, U4 0, U1 0, U1 0]]]]
+            (
+                b"H 0000000D0000060C000000000005210100\n",
+                b"> 0000003A0000860B0000000000060103A1080000000000000004B1040000013501010102B104000000010104B10400000000B10400000000A50100A50100\n",
+            ),
+            // S6F12 B 00
+            (b"H 0000000D0000060C000000000006210100\n", b""),
+        ],
+    )
+}
+
+#[test]
 fn a_purge_is_followed_by_the_event_of_an_inactive_spool(rt: HostRuntime) -> Result<(), Fail> {
     converses(
         &rt,
@@ -1594,6 +1754,50 @@ fn a_new_maxspooltransmit_counts_for_the_next_unload(rt: HostRuntime) -> Result<
             ),
             // S6F12 B 00
             (b"H 0000000D0000060C000000000009210100\n", b""),
+        ],
+    )
+}
+
+#[test]
+fn the_configuration_gives_the_first_value_of_maxspooltransmit(
+    rt: HostRuntime,
+) -> Result<(), Fail> {
+    converses(
+        &rt,
+        rt.alloc(),
+        Begins::OneAtATime,
+        &[
+            // S2F13 L[U4 202, U4 203]: S2F14 L[U4 1, BOOL false]
+            (
+                b"H 000000180000820D0000000000020102B104000000CAB104000000CB\n",
+                b"> 000000150000020E0000000000020102B10400000001250100\n",
+            ),
+            // S2F29 L[U4 202]: S2F30 L[L[U4 202, A MaxSpoolTransmit, U4 0, U4 65536, U4 0, A]]
+            (
+                b"H 000000120000821D0000000000030101B104000000CA\n",
+                b"> 0000003A0000021E00000000000301010106B104000000CA41104D617853706F6F6C5472616E736D6974B10400000000B10400010000B104000000004100\n",
+            ),
+        ],
+    )
+}
+
+#[test]
+fn the_configuration_gives_the_first_value_of_overwritespool(rt: HostRuntime) -> Result<(), Fail> {
+    converses(
+        &rt,
+        rt.alloc(),
+        Begins::OverwritingSpoolOfThree,
+        &[
+            // S2F13 L[U4 202, U4 203]: S2F14 L[U4 0, BOOL true]
+            (
+                b"H 000000180000820D0000000000020102B104000000CAB104000000CB\n",
+                b"> 000000150000020E0000000000020102B10400000000250101\n",
+            ),
+            // S2F29 L[U4 203]: S2F30 L[L[U4 203, A OverWriteSpool, BOOL false, BOOL true, BOOL false, A]]
+            (
+                b"H 000000120000821D0000000000030101B104000000CB\n",
+                b"> 0000002F0000021E00000000000301010106B104000000CB410E4F766572577269746553706F6F6C2501002501012501004100\n",
+            ),
         ],
     )
 }

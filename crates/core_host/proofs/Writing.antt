@@ -8,12 +8,15 @@ use Rattle.gem_ids.specs.Civil.{moment_in}
 use Rattle.event_reports.specs.Alarms.{is_set, clear_alarm}
 use Rattle.msgs_gem.specs.declared.primary.GemMsg.{GemMsg}
 use Rattle.msgs_gem.specs.declared.primary.GemMsg.TheVariants as msg
+use Rattle.msgs_gem.specs.declared.primary.SpooledStream.{SpooledStream}
+use Rattle.note_line.specs.Line.{with_kinds}
 use Rattle.gem_model.specs.State.{State, with_frame}
 use Rattle.gem_model.specs.Sending.{data_frame}
 use Rattle.gem_model.specs.Noting.{line_with_alarm}
 use Rattle.gem_model.specs.Fire.{fires, fire_listed}
 use Rattle.gem_model.specs.Direct.{message_rows, command_rows}
 use Rattle.gem_model.specs.Remote.{RemoteCommand, GoLocal, ClearAlarm, Parameter, command_named, hcack, accepted, alarm_named}
+use Rattle.gem_model.specs.Spooling.{rspack, kinds_of, spools}
 use Rattle.gem_model.specs.Verdict.{wants_reply, stream_of, function_of, reply_to}
 use Rattle.gem_model.specs.Act.{written, clock_set, clears_named, command_written, replied, taken}
 use Rattle.gem_model.proofs.Same.{same_written}
@@ -42,6 +45,14 @@ clock_holding : (shown : Option ℕ) (frames : List (List ℕ)) (g : State) → 
 clock_holding None frames g = refl
 clock_holding (Some shown) frames g = refl
 
+spools_holding : (entries : List SpooledStream) (frames : List (List ℕ)) (g : State) → spools entries (holding frames g) ≡ holding frames (spools entries g)
+spools_holding entries frames g = by_rspack (rspack g entries == 0)
+  where
+    by_rspack : (b : Bool) → (if b then record (holding frames g) { line = with_kinds (kinds_of entries) g.line } else holding frames g)
+        ≡ holding frames (if b then record g { line = with_kinds (kinds_of entries) g.line } else g)
+    by_rspack true = refl
+    by_rspack false = refl
+
 written_holding : (m : GemMsg) (frames : List (List ℕ)) (g : State) → written m (holding frames g) ≡ holding frames (written m g)
 written_holding msg.S1F1 frames g = refl
 written_holding (msg.S1F3 ids) frames g = refl
@@ -58,11 +69,13 @@ written_holding (msg.S2F33 id reports) frames g = refl
 written_holding (msg.S2F35 id events) frames g = refl
 written_holding (msg.S2F37 on ceids) frames g = refl
 written_holding (msg.S2F41 name parameters) frames g = command_holding (accepted g name parameters) parameters frames g
+written_holding (msg.S2F43 entries) frames g = spools_holding entries frames g
 written_holding (msg.S5F3 aled alid) frames g = refl
 written_holding (msg.S5F5 ids) frames g = refl
 written_holding msg.S5F7 frames g = refl
 written_holding (msg.S6F15 ceid) frames g = refl
 written_holding (msg.S6F19 rptid) frames g = refl
+written_holding (msg.S6F23 rsdc) frames g = refl
 
 framed : (m : GemMsg) (h : Header) (function : ℕ) (text : List ℕ) (g : State) →
     with_frame (data_frame (written m g).config.device false (stream_of h) function h.system text) (written m g) ≡ written m (with_frame (data_frame g.config.device false (stream_of h) function h.system text) g)
@@ -141,11 +154,13 @@ rows_again (msg.S2F33 id reports) frames g = refl
 rows_again (msg.S2F35 id events) frames g = refl
 rows_again (msg.S2F37 on ceids) frames g = refl
 rows_again (msg.S2F41 name parameters) frames g = command_again name parameters (command_named name) frames g refl
+rows_again (msg.S2F43 entries) frames g = refl
 rows_again (msg.S5F3 aled alid) frames g = refl
 rows_again (msg.S5F5 ids) frames g = refl
 rows_again msg.S5F7 frames g = refl
 rows_again (msg.S6F15 ceid) frames g = refl
 rows_again (msg.S6F19 rptid) frames g = refl
+rows_again (msg.S6F23 rsdc) frames g = refl
 
 -- the reply only waits
 replied_holding : (b : Bool) (h : Header) (function : ℕ) (text : List ℕ) (m : GemMsg) (g : State) →

@@ -1,3 +1,4 @@
+pub mod Short
 pub mod Verdicts
 pub mod Remotes
 pub mod Answered

@@ -1,8 +1,10 @@
 //! What arrived: its header, its stream and function, and its text (SEMI E37, message header; SEMI E5, message text).
-ghost use Rattle.std.specs.Prelude.{◌≡◌, IfOk, IfSome, option_map};
+ghost use Rattle.std.specs.Prelude.{◌≡◌, ◌≤◌, ◌^◌, length, IfOk, IfSome, option_map};
+ghost use Rattle.secs_items.specs.One.{one_item};
 ghost use Rattle.secs_items.specs.View.{view};
-ghost use Rattle.secs_items.specs.Sendable.{IsSendable};
+ghost use Rattle.msgs_gem.specs.Few.{HasShortText};
 ghost use Rattle.gem_model.specs.Verdict.{header_of, is_too_long, item_of, wants_reply, stream_of, is_message};
+ghost use Rattle.core_host.specs.Short.{IsShort};
 
 use hsms_frame::{Arrival, Header};
 use secs_items::{Item, read_one};
@@ -25,13 +27,21 @@ pub fn is_too_long(arrival: &Arrival) -> bool
     matches!(arrival, Arrival::TooLong(_, _))
 }
 
+/// A text as one item, where it is one.
+fn read_text(alloc: Global, text: &[u8]) -> Result<Option<Item>, AllocError>
+    ensures item { IfOk result (λ item. option_map view item ≡ one_item text.now) }
+    ensures short { length text.now ≤ 2 ^ 29 → IfOk result (λ item. IfSome item (λ i. HasShortText (view i))) }
+{
+    read_one(alloc, text)
+}
+
 /// The text of what arrived as one item, where it is one.
 pub fn item_of(alloc: Global, arrival: &Arrival) -> Result<Option<Item>, AllocError>
     ensures item { IfOk result (λ item. option_map view item ≡ item_of arrival.now) }
-    ensures sendable { IfOk result (λ item. IfSome item (λ i. IsSendable (view i))) }
+    ensures short { IsShort arrival.now → IfOk result (λ item. IfSome item (λ i. HasShortText (view i))) }
 {
     match arrival {
-        Arrival::Frame(frame) => read_one(alloc, frame.text.as_slice()),
+        Arrival::Frame(frame) => read_text(alloc, frame.text.as_slice()),
         Arrival::TooLong(_, _) => Ok(None),
     }
 }

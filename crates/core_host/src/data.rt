@@ -9,10 +9,12 @@ ghost use Rattle.gem_model.specs.Verdict.{item_of, stream_of, function_of};
 ghost use Rattle.gem_model.specs.Act.{replied, taken, closed_by, data_done};
 ghost use Rattle.core_host.specs.HostActs.{host_act, reply_act};
 ghost use Rattle.core_host.specs.Answered.{answered_rows};
+ghost use Rattle.core_host.specs.Short.{IsShort};
 
 use crate::arrival::{header_of, item_of, stream_of, wants_reply};
 use crate::remote::command_rows;
 use crate::replies::perform;
+use crate::spooling::unload;
 use crate::verdict::{Verdict, verdict_of};
 use core_state::{Plant, reply_text};
 use gem_states::{CommTrigger, ControlTrigger};
@@ -33,10 +35,11 @@ pub enum HostAct {
 /// Takes a data message of the host: answers it, writes what it sets, and fires its direct rows. It is told by a message of
 /// stream 9, aborted, taken, closes an open transaction of the tool, or is discarded, by the first rule that fits (SEMI E5,
 /// streams and functions; SEMI E30, communication and control; docs/profile/messages.md). Gives what it was answered, which
-/// waits for the writer. The tool has not settled yet.
+/// waits for the writer. The tool has not settled yet. The text of the message has at most 536,870,912 bytes.
 ///
 /// `AllocError`: memory ran out. Nothing is said of the plant then.
 pub fn host(plant: &mut Plant, alloc: Global, arrival: &Arrival) -> Result<HostAct, AllocError>
+    requires short { IsShort arrival.now }
     ensures answer { IfOk result (λ act. act ≡ host_act plant.old arrival.now) }
     ensures after { OnOk result (plant.new ≡ data_done arrival.now plant.old) }
 {
@@ -109,6 +112,10 @@ fn message_rows(
         GemMsg::S1F15 => plant.by_control(alloc, ControlTrigger::HostS1F15),
         GemMsg::S1F17 => plant.by_control(alloc, ControlTrigger::HostS1F17),
         GemMsg::S2F41(name, _) => command_rows(plant, alloc, *name, reply),
+        GemMsg::S6F23(rsdc) => {
+            unload(plant, *rsdc);
+            Ok(())
+        }
         _ => Ok(()),
     }
 }

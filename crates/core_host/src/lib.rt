@@ -1,5 +1,5 @@
 //! Data messages of the host: what each is answered, what it writes, and which direct rows it fires (SEMI E5, streams 1,
-//! 2, 5, 6 and 9; SEMI E30, communication, control, event reports, alarms and remote control).
+//! 2, 5, 6 and 9; SEMI E30, communication, control, event reports, alarms, remote control and spooling).
 //!
 //! Each is one change of the `Plant` of `core_state`, by its header and its body, which `msgs_gem` reads. What the link
 //! table says of the header, the settling behind the message and the history are for `tool_core`. The verdict on a message
@@ -12,6 +12,7 @@ mod arrival;
 mod data;
 mod remote;
 mod replies;
+mod spooling;
 mod verdict;
 
 pub use arrival::header_of;

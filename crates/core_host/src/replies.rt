@@ -10,6 +10,7 @@ ghost use Rattle.gem_model.specs.Verdict.{onlack, tiack, is_enabling, reply_to};
 ghost use Rattle.gem_model.specs.Act.{written, clock_set};
 
 use crate::remote::command;
+use crate::spooling::spool_streams;
 use core_state::{Plant, part};
 use gem_ids::{Moment, moment_of};
 use gem_states::Control;
@@ -129,6 +130,7 @@ pub fn perform(plant: &mut Plant, alloc: Global, message: &GemMsg) -> Result<Gem
         )?)),
         GemMsg::S2F37(on, ceids) => Ok(GemReply::S2F38(plant.enable_events(*on, ceids.as_slice()))),
         GemMsg::S2F41(name, parameters) => command(plant, alloc, *name, parameters.as_slice()),
+        GemMsg::S2F43(entries) => spool_streams(plant, alloc, entries.as_slice()),
         GemMsg::S5F3(aled, alid) => Ok(GemReply::S5F4(plant.enable_alarms(
             is_enabling(*aled),
             *alid,
@@ -137,5 +139,6 @@ pub fn perform(plant: &mut Plant, alloc: Global, message: &GemMsg) -> Result<Gem
         GemMsg::S5F7 => Ok(GemReply::S5F8(plant.enabled_alarm_list(alloc)?)),
         GemMsg::S6F15(ceid) => Ok(GemReply::S6F16(*ceid, plant.event_reports(alloc, *ceid)?)),
         GemMsg::S6F19(rptid) => Ok(GemReply::S6F20(plant.one_report(alloc, *rptid)?)),
+        GemMsg::S6F23(_) => Ok(GemReply::S6F24(plant.rsda())),
     }
 }

@@ -3,10 +3,11 @@
 ghost use Rattle.std.specs.Prelude.{◌≡◌, ◌<◌, IfOk, IfSome, option_map};
 ghost use Rattle.gem_tables.specs.Table.{choose};
 ghost use Rattle.secs_items.specs.View.{view};
-ghost use Rattle.secs_items.specs.Sendable.{IsSendable};
+ghost use Rattle.msgs_gem.specs.Few.{HasShortText};
 ghost use Rattle.msgs_gem.specs.Primaries.{reading};
 ghost use Rattle.gem_model.specs.Verdict.{header_of, item_of, stream_of, function_of, may_establish, is_establish, first_rules, verdict, read_as};
 ghost use Rattle.transactions.specs.Endings.{answered};
+ghost use Rattle.core_host.specs.Short.{IsShort};
 ghost use Rattle.core_host.specs.Verdicts.{verdict_view, HasNext, IsFew};
 
 use crate::arrival::{header_of, is_message, is_too_long, item_of, stream_of};
@@ -31,8 +32,9 @@ pub enum Verdict {
 
 /// The item of the text of a message, where it is one; a text that is ignored is not decoded.
 fn text_item(alloc: Global, header: &Header, arrival: &Arrival) -> Result<Option<Item>, AllocError>
+    requires short { IsShort arrival.now }
     ensures item { IfOk result (λ item. reading (stream_of header.now) (function_of header.now) (option_map view item) ≡ reading (stream_of header.now) (function_of header.now) (item_of arrival.now)) }
-    ensures sendable { IfOk result (λ item. IfSome item (λ i. IsSendable (view i))) }
+    ensures short { IfOk result (λ item. IfSome item (λ i. HasShortText (view i))) }
 {
     if is_ignored(stream_of(header), header.byte3) {
         Ok(None)
@@ -44,6 +46,7 @@ fn text_item(alloc: Global, header: &Header, arrival: &Arrival) -> Result<Option
 /// What a message is read as.
 #[tactic(auto, using(crate::proofs::Functions::read_function))]
 fn read_message(alloc: Global, header: &Header, arrival: &Arrival) -> Result<Verdict, AllocError>
+    requires short { IsShort arrival.now }
     ensures verdict { IfOk result (λ verdict. verdict_view verdict ≡ read_as (reading (stream_of header.now) (function_of header.now) (item_of arrival.now))) }
     ensures next { IfOk result (HasNext header.now) }
     ensures few { IfOk result IsFew }
@@ -104,6 +107,7 @@ fn first_rule(plant: &Plant, header: &Header, too_long: bool) -> Option<Verdict>
 
 /// What a data message does, by the plant before it.
 pub fn verdict_of(plant: &Plant, alloc: Global, arrival: &Arrival) -> Result<Verdict, AllocError>
+    requires short { IsShort arrival.now }
     ensures verdict { IfOk result (λ v. verdict_view v ≡ verdict plant.now arrival.now) }
     ensures next { IfOk result (HasNext (header_of arrival.now)) }
     ensures few { IfOk result IsFew }

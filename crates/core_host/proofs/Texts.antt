@@ -1,0 +1,21 @@
+-- A text that is short spells its item.
+use Rattle.std.proofs.Common.{◌≡◌, ◌≤◌, ◌^◌, ℕ, List, length, Option, Some, None, Result, Ok, Err, option_map, option_copied, IfOk, IfSome, Bor, sym, subst}
+use Rattle.secs_items.specs.One.{one_item}
+use Rattle.secs_items.specs.Spelling.{AreBelow}
+use Rattle.secs_items.specs.View.{view}
+use Rattle.secs_items.specs.declared.item.Item.{Item}
+use Rattle.secs_items.proofs.OneItem.{one_spelled}
+use Rattle.msgs_gem.specs.Few.{HasShortText}
+
+short_found : (found : Option Item) (text : List ℕ) → AreBelow 256 text → length text ≤ 2 ^ 29 → option_map view found ≡ one_item text → IfSome found (λ i. HasShortText (view i))
+short_found None text below short is = tt
+short_found (Some i) text below short is = (text, one_spelled text (view i) below (sym is), short)
+
+pub short_read : {E : Type 0} (r : Result (Option Item) E) (text : List ℕ) → AreBelow 256 text → length text ≤ 2 ^ 29 → IfOk r (λ found. option_map view found ≡ one_item text) → IfOk r (λ found. IfSome found (λ i. HasShortText (view i)))
+short_read (Ok found) text below short is = short_found found text below short is
+short_read (Err e) text below short is = tt
+
+-- the item that is borrowed
+pub short_borrowed : (borrowed : Option (Bor Item)) (item : Option Item) → option_copied borrowed ≡ item → IfSome item (λ i. HasShortText (view i)) → IfSome borrowed (λ i. HasShortText (view i.now))
+short_borrowed None item is short = tt
+short_borrowed (Some i) item is short = subst (λ (o : Option Item). IfSome o (λ i. HasShortText (view i))) (sym is) short

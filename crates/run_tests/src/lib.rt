@@ -25,4 +25,10 @@ mod illegal_bodies;
 #[cfg(test)]
 mod reports;
 #[cfg(test)]
+mod spool_events;
+#[cfg(test)]
+mod spool_requests;
+#[cfg(test)]
+mod spooled_streams;
+#[cfg(test)]
 mod spooling;

@@ -1,6 +1,7 @@
 -- Every state that a history leads to is valid.
 use Rattle.std.proofs.Common.{◌≡◌, ℕ, Bool, true, false, ◌&&◌, if◌then◌else◌, List, [], ◌∷◌, ◌++◌, ◌≤◌, length, arith, Option, Some, None, option_map, refl, sym, ◌∙◌, ap, subst}
-use Rattle.std.specs.Option.{option_or}
+use Rattle.std.specs.List.{AllByRecursion}
+use Rattle.std.specs.Option.{option_or, option_to_list}
 use Rattle.hsms_link.specs.declared.state.Phase.{Phase}
 use Rattle.hsms_link.specs.declared.state.Phase.TheVariants.{Down, NotSelected, Selected}
 use Rattle.hsms_link.specs.Links as links
@@ -17,17 +18,21 @@ use Rattle.note_line.specs.Fates.{LineValid, KeepsFates}
 use Rattle.spool.specs.declared.note.Note.{Note}
 use Rattle.spool.specs.Spool.{is_inactive, has_note}
 use Rattle.note_line.specs.Table3 as table
-use Rattle.note_line.proofs.Keeps.{Keeps, fates-trans, opening-valid, quiet_first}
+use Rattle.note_line.specs.Line.{Line}
+use Rattle.note_line.specs.Order.{Pairwise}
+use Rattle.note_line.proofs.Keeps.{Keeps, fates-same, fates-trans, opening-valid, quiet_first}
 use Rattle.note_line.proofs.Sendings.{never-back}
 use Rattle.gem_model.specs.State.{State, opening, around, is_up, is_selected, raised, first_control, first_kinds}
 use Rattle.gem_model.specs.Fire.{fire, creations}
 use Rattle.gem_model.specs.Ready.{delay_is_over, least, ready_comm, ready_control, ready_line, is_attempt}
 use Rattle.gem_model.specs.Settle.{Path, settled, settling, Along}
 use Rattle.gem_model.specs.Step.{Outcome, step, step_from, acts, settles}
-use Rattle.gem_model.specs.Run.{Run}
+use Rattle.gem_model.specs.OpenNotes.{NotBelow, NeverBack, open_behind}
+use Rattle.gem_model.specs.Run.{Run, entry_after}
 use Rattle.gem_model.specs.Valid.{Valid}
 use Rattle.gem_model.proofs.Tests.{went, none_some}
 use Rattle.gem_model.proofs.Settling.{settles_so}
+use Rattle.gem_model.proofs.Runs.{after-step}
 use Rattle.gem_model.proofs.Steps.{step_keeps-from}
 use Rattle.gem_model.proofs.Lined.{keeps-same, lined-step, lined-step-at}
 use Rattle.gem_model.proofs.Room.{Few, few-step, few-open, few-room, few-acts, few-along}
@@ -198,9 +203,36 @@ run-empty c entries h run inactive =
     let quiet = no_row (table.least (around h) h.line) (none_ready (ready_comm h) (ready_control h) (ready_line h) valid.settled) in
     inactive_empty _ _ (quiet_first (around h) h.line quiet) inactive
 
--- sendings of one kind never go back
-pub run-sendings : (c : Config) (front behind : List Entry) (g h : State) (earlier later : Note) → Run (opening c) front g → Run g behind h → g.line.opened ≡ Some earlier → h.line.opened ≡ Some later → earlier.kind ≡ later.kind → earlier.number ≤ later.number
-run-sendings c front behind g h earlier later before after =
-    let line = run-line c front g before in
-    let goes = run-fates g behind h line after in
-    never-back g.line h.line earlier later line goes.valid goes.fates
+-- ---- sendings of one kind never go back
+
+-- with the note that is open behind an entry, where one is
+all_with : (earlier : Note) (opened : Option Note) (notes : List Note) → ((later : Note) → opened ≡ Some later → NotBelow earlier later) → AllByRecursion (NotBelow earlier) notes → AllByRecursion (NotBelow earlier) (option_to_list opened ++ notes)
+all_with earlier None notes is rest = rest
+all_with earlier (Some later) notes is rest = (is later refl, rest)
+
+pairs_with : (opened : Option Note) (notes : List Note) → ((earlier : Note) → opened ≡ Some earlier → AllByRecursion (NotBelow earlier) notes) → Pairwise NotBelow notes → Pairwise NotBelow (option_to_list opened ++ notes)
+pairs_with None notes is rest = rest
+pairs_with (Some earlier) notes is rest = (is earlier refl, rest)
+
+-- a note that was open is not above those of its kind that are open behind later entries
+never_above : (l : Line) (earlier : Note) → LineValid l → l.opened ≡ Some earlier → (g : State) (entries : List Entry) (h : State) → LineValid g.line → KeepsFates l g.line → Run g entries h → AllByRecursion (NotBelow earlier) (open_behind g entries)
+never_above l earlier valid was g [] h line keeps run = tt
+never_above l earlier valid was g (e ∷ entries) h line keeps run =
+    let one = lined-step-at g e.at.0 e.event run.0 run.1 line in
+    let all = fates-trans l g.line run.0.after.line keeps one.fates in
+    subst (λ (k : State). AllByRecursion (NotBelow earlier) (option_to_list k.line.opened ++ open_behind k entries)) (sym (after-step g e.at.0 e.event run.0 run.1))
+    (all_with earlier run.0.after.line.opened (open_behind run.0.after entries)
+    (λ later is. never-back l run.0.after.line earlier later valid one.valid all was is)
+    (never_above l earlier valid was run.0.after entries h one.valid all run.2))
+
+never_back : (g : State) (entries : List Entry) (h : State) → LineValid g.line → Run g entries h → NeverBack g entries
+never_back g [] h line run = tt
+never_back g (e ∷ entries) h line run =
+    let one = lined-step-at g e.at.0 e.event run.0 run.1 line in
+    subst (λ (k : State). Pairwise NotBelow (option_to_list k.line.opened ++ open_behind k entries)) (sym (after-step g e.at.0 e.event run.0 run.1))
+    (pairs_with run.0.after.line.opened (open_behind run.0.after entries)
+    (λ earlier is. never_above run.0.after.line earlier one.valid is run.0.after entries h one.valid (fates-same run.0.after.line) run.2)
+    (never_back run.0.after entries h one.valid run.2))
+
+pub run-sendings : (c : Config) (entries : List Entry) (h : State) → Run (opening c) entries h → NeverBack (opening c) entries
+run-sendings c entries h run = never_back (opening c) entries h (opening_valid c).line run

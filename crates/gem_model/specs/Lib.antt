@@ -11,12 +11,12 @@ pub mod Ready
 pub mod Measure
 pub mod Settle
 pub mod Valid
-pub mod OpenNotes
 pub mod Verdict
 pub mod Act
 pub mod Due
 pub mod Step
 pub mod Run
+pub mod OpenNotes
 pub mod Reported
 pub mod Sessions
 pub mod Sizes

@@ -1,11 +1,15 @@
 -- Which notes are open (this tool's profile, notes).
-use Rattle.std.specs.Prelude.{ℕ, List, [], ◌∷◌, ◌++◌, Option, option_map}
+use Rattle.std.specs.Prelude.{ℕ, ◌≡◌, ◌≤◌, List, [], ◌∷◌, ◌++◌, Option, option_map}
 use Rattle.std.specs.Option.{option_to_list}
 use Rattle.spool.specs.declared.note.Note.{Note}
 use Rattle.note_line.specs.Line.{Line}
+use Rattle.note_line.specs.Order.{Pairwise}
+use Rattle.tool_events.specs.declared.entry.Entry.{Entry}
 use Rattle.transactions.specs.declared.transaction.Open.{Open}
 use Rattle.transactions.specs.declared.transaction.What.{What}
 use Rattle.transactions.specs.declared.transaction.What.TheVariants as what
+use Rattle.gem_model.specs.State.{State}
+use Rattle.gem_model.specs.Run.{entry_after}
 
 -- the number of the note that a transaction sends, where it sends one
 abbrev pub note_number : What → List ℕ
@@ -25,3 +29,18 @@ number_of note = option_to_list (option_map (λ (n : Note). n.number) note)
 -- the number of the open note of a line, where one is open
 abbrev pub open_number : Line → List ℕ
 open_number l = number_of l.opened
+
+-- ---- along a history
+
+-- the notes that are open behind each of these entries, where one is: a note is sent in the step in which it becomes open
+abbrev pub open_behind : State → List Entry → List Note
+open_behind g [] = []
+open_behind g (entry ∷ entries) = option_to_list (entry_after g entry).line.opened ++ open_behind (entry_after g entry) entries
+
+-- the second note is not below the first, where they are of one kind
+abbrev pub NotBelow : Note → Note → Type 0
+NotBelow earlier later = earlier.kind ≡ later.kind → earlier.number ≤ later.number
+
+-- sendings of one kind never go back to a lower number (this tool's profile, notes)
+abbrev pub NeverBack : State → List Entry → Type 0
+NeverBack g entries = Pairwise NotBelow (open_behind g entries)

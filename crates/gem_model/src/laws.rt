@@ -11,8 +11,7 @@ ghost use Rattle.gem_model.specs.Settle.{Settles, settling, settled, Along};
 ghost use Rattle.gem_model.specs.Step.{Outcome, acts};
 ghost use Rattle.gem_model.specs.Run.{Run};
 ghost use Rattle.gem_model.specs.Reported.{reported_in};
-ghost use Rattle.gem_model.specs.OpenNotes.{note_numbers, open_number};
-ghost use Rattle.spool.specs.declared.note.Note.{Note};
+ghost use Rattle.gem_model.specs.OpenNotes.{note_numbers, open_number, NeverBack};
 ghost use Rattle.spool.specs.Spool.{is_inactive, has_note};
 ghost use Rattle.note_line.specs.Fates.{LineValid, KeepsFates, tells};
 
@@ -61,10 +60,8 @@ pub fn an_inactive_spool_is_empty()
         → Run (opening c) entries h → is_inactive h.line.spool.load ≡ true → has_note h.line.spool ≡ false }
 {}
 
-/// Sendings of one kind never go back to a lower number: a note that is open where a history leads has a number that is
-/// not below that of one of its kind that was open before. It is the same number where that note was sent again.
+/// Sendings of one kind never go back to a lower number: of the notes that are open behind the entries of a history, none is
+/// below an earlier one of its kind. It has the same number where a note was sent again.
 pub fn sendings_never_go_back()
-    ensures { (c : Config) (front behind : List Entry) (g h : State) (earlier later : Note)
-        → Run (opening c) front g → Run g behind h → g.line.opened ≡ Some earlier → h.line.opened ≡ Some later
-        → earlier.kind ≡ later.kind → earlier.number ≤ later.number }
+    ensures { (c : Config) (entries : List Entry) (h : State) → Run (opening c) entries h → NeverBack (opening c) entries }
 {}

@@ -1,12 +1,14 @@
 //! What each event does to the plant.
-ghost use Rattle.std.specs.Prelude.{◌≡◌, ◌+◌, ◌^◌, ◌<◌, ◌↔◌, IsTrue, IfSome, IfNone, OnOk, IfOk, true, Some, None};
+ghost use Rattle.std.specs.Prelude.{◌≡◌, ◌+◌, ◌^◌, ◌<◌, ◌≤◌, ◌↔◌, IsTrue, IfSome, IfNone, OnOk, IfOk, true, Some, None};
 ghost use Rattle.tool_events.specs.declared.event.Event.TheVariants as event;
+ghost use Rattle.tool_events.specs.Sizes.{event_bytes};
 ghost use Rattle.hsms_link.specs.LinkTable.{link_act};
 ghost use Rattle.gem_model.specs.State.{is_up};
 ghost use Rattle.gem_model.specs.Fire.{fires};
 ghost use Rattle.gem_model.specs.Direct.{operator_rows};
 ghost use Rattle.gem_model.specs.Verdict.{header_of};
 ghost use Rattle.gem_model.specs.Step.{acts, step, step_from, hosted, linked, is_accepted, can_clear, switched, operated, quits, ticked};
+ghost use Rattle.core_host.specs.Short.{IsShort};
 ghost use Rattle.tool_core.specs.Steps.{Acts, StepsFrom, Steps, outcome_of};
 ghost use Rattle.tool_events.specs.declared.event.OperCmd.TheVariants as oper;
 ghost use Rattle.tool_events.specs.declared.answer.Answer.TheVariants as answer;
@@ -80,7 +82,8 @@ fn link_down(
 
 /// A message of the session that is up arrives.
 fn message(plant: &mut Plant, alloc: Global, arrival: &Arrival) -> Result<Reaction, AllocError>
-    requires { is_up plant.old ≡ true }
+    requires up { is_up plant.old ≡ true }
+    requires short { IsShort arrival.now }
     ensures { IfOk result (λ reaction. hosted (linked plant.old (header_of arrival.now)) arrival.now (link_act (header_of arrival.now) plant.old.link)
         ≡ outcome_of reaction plant.new) }
 {
@@ -109,6 +112,7 @@ fn host(
     session: u64,
     arrival: &Arrival,
 ) -> Result<Reaction, AllocError>
+    requires { IsShort arrival.now }
     ensures { IfOk result (λ reaction. Acts plant.old.moment plant.old (event.Host session arrival.now) reaction plant.new) }
 {
     if !plant.is_session_up(session) {
@@ -252,7 +256,8 @@ fn act(
     before: Moment,
     event: &Event,
 ) -> Result<Option<Reaction>, AllocError>
-    requires { plant.old.link.session + 1 < 2 ^ 64 }
+    requires room { plant.old.link.session + 1 < 2 ^ 64 }
+    requires short { event_bytes event.now ≤ 2 ^ 29 }
     ensures some { IfOk result (λ r. IfSome r (λ reaction. Acts before.0 plant.old event.now reaction plant.new)) }
     ensures none { IfOk result (λ r. IfNone r (acts before.0 plant.old event.now ≡ None)) }
 {
@@ -276,7 +281,8 @@ fn step(
     before: Moment,
     event: &Event,
 ) -> Result<Option<Reaction>, AllocError>
-    requires { plant.old.link.session + 1 < 2 ^ 64 }
+    requires room { plant.old.link.session + 1 < 2 ^ 64 }
+    requires short { event_bytes event.now ≤ 2 ^ 29 }
     ensures some { IfOk result (λ r. IfSome r (λ reaction. StepsFrom before.0 plant.old event.now reaction plant.new)) }
     ensures none { IfOk result (λ r. IfNone r (step_from before.0 plant.old event.now ≡ None)) }
 {
@@ -291,14 +297,15 @@ fn step(
 }
 
 /// What an event does that is posted at a moment. None: it has to wait. After want of memory, and where it has to wait,
-/// nothing is said of the plant.
+/// nothing is said of the plant. The text of an event has at most 536,870,912 bytes.
 pub fn react(
     plant: &mut Plant,
     alloc: Global,
     at: Moment,
     event: &Event,
 ) -> Result<Option<Reaction>, AllocError>
-    requires { plant.old.link.session + 1 < 2 ^ 64 }
+    requires room { plant.old.link.session + 1 < 2 ^ 64 }
+    requires short { event_bytes event.now ≤ 2 ^ 29 }
     ensures some { IfOk result (λ r. IfSome r (λ reaction. Steps plant.old at.0 event.now reaction plant.new)) }
     ensures none { IfOk result (λ r. IfNone r (step plant.old at.0 event.now ≡ None)) }
 {

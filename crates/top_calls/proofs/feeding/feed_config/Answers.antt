@@ -6,7 +6,7 @@ use Rattle.top_calls.specs.Fed.{looked, FedBy, ReadToEnd, Shown}
 use Rattle.top_calls.specs.Noted.{NotedBy}
 use Rattle.top_calls.specs.Stopping.{GivenBy}
 use Rattle.top_calls.proofs.Ending.{run_from, FedBy-end, NotedBy-end, Shown-end, Shown-memory}
-use Rattle.top_calls.proofs.NotesOf.{notes_of, fates_of}
+use Rattle.top_calls.proofs.NotesOf.{notes_of, fates_of, sendings_of}
 use Rattle.top_calls.proofs.feeding.feed_config.Goals as goal
 
 pub returns-in_default-session_notes-clause-run : goal.returns-in_default-session_notes-clause-run
@@ -86,3 +86,13 @@ pub returns-clause-fates : goal.returns-clause-fates
 returns-clause-fates g c =
     rw (c.with_history-2.ensures, c.into_history.ensures.history)
     (fates_of _ _ (run_from _ _ _ _ (c.read_lines-read.ensures.prints.config ∙ c.in-Ok.ensures.config) c.into_history.ensures.run))
+
+pub returns-in_default-session_notes-clause-sendings : goal.returns-in_default-session_notes-clause-sendings
+returns-in_default-session_notes-clause-sendings g c =
+    rw (c.with_history.ensures, c.into_history-history.ensures.history)
+    (sendings_of _ _ (run_from _ _ _ _ (c.read_lines-read.ensures.prints.config ∙ c.in-Ok.ensures.config) c.into_history-history.ensures.run))
+
+pub returns-clause-sendings : goal.returns-clause-sendings
+returns-clause-sendings g c =
+    rw (c.with_history-2.ensures, c.into_history.ensures.history)
+    (sendings_of _ _ (run_from _ _ _ _ (c.read_lines-read.ensures.prints.config ∙ c.in-Ok.ensures.config) c.into_history.ensures.run))

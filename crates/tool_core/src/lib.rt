@@ -6,7 +6,7 @@
 //! frames are handed out when the writer takes them. Begin with `Core::open`, then `Core::apply`.
 //!
 //! Built are the whole link table with T6, T7 and the tool's linktest (SEMI E37), the tables of communication and of
-//! control with the tool's transactions and T3 (SEMI E30), and the line of notes without a spool.
+//! control with the tool's transactions and T3 (SEMI E30), and the line of notes with the spool (SEMI E30, spooling).
 #![tactic(auto)]
 
 mod clock;

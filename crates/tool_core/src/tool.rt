@@ -9,6 +9,7 @@ ghost use Rattle.tool_events.specs.Sizes.{event_bytes};
 ghost use Rattle.transactions.specs.Table as transactions;
 ghost use Rattle.note_line.specs.Fates.{LineValid, tells};
 ghost use Rattle.note_line.specs.Line.{fate_of};
+ghost use Rattle.gem_model.specs.OpenNotes.{NeverBack};
 ghost use Rattle.gem_model.specs.Reported.{reported_in};
 ghost use Rattle.gem_model.specs.State.{opening, is_up, is_session_up};
 ghost use Rattle.gem_model.specs.Step.{Outcome, step};
@@ -156,6 +157,7 @@ impl Core {
         ensures room { transactions.is_full self.now.state.transactions ≡ false }
         ensures notes { map tells self.now.state.line.told ≡ reported_in (opening self.now.config) self.now.history }
         ensures fates { LineValid self.now.state.line }
+        ensures sendings { NeverBack (opening self.now.config) self.now.history }
         ensures entries_fit { length self.now.history ≤ self.now.config.max_entries }
         ensures bytes_fit { bytes_of self.now.history ≤ self.now.config.max_bytes }
     {

@@ -1,4 +1,4 @@
-use Rattle.gem_model.proofs.Validity.{run-room}
+use Rattle.gem_model.proofs.Validity.{run-room, run-sendings}
 use Rattle.tool_core.proofs.Notes.{line_valid, line_told}
 use Rattle.tool_core.proofs.tool.Core.history.Goals as goal
 
@@ -10,3 +10,6 @@ returns-clause-notes c = rw (← c.self.view_is) (line_told _ _ _ c.self.invaria
 
 pub returns-clause-fates : goal.returns-clause-fates
 returns-clause-fates c = rw (← c.self.view_is) (line_valid _ _ _ c.self.invariant.run)
+
+pub returns-clause-sendings : goal.returns-clause-sendings
+returns-clause-sendings c = rw (← c.self.view_is) (run-sendings _ _ _ c.self.invariant.run)

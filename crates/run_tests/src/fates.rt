@@ -129,27 +129,41 @@ fn look(core: &Core, fates: &mut Vec<Option<Fate>>) -> Result<(), Fail> {
     Ok(())
 }
 
-// What became of notes 1 to 5 in a history: while note 1 is open, when it is answered and the link is lost with note 2, and
-// when the host has taken note 2 of the spool and dropped the others.
+// Note 1 is open, and note 2 waits.
+fn sends_one(alloc: Global, core: &mut Core, fates: &mut Vec<Option<Fate>>) -> Result<(), Fail> {
+    links(alloc, core, 1)?;
+    enables(alloc, core)?;
+    operates(alloc, core, &[OperCmd::Local, OperCmd::Remote])?;
+    look(core, fates)
+}
+
+// Note 1 is answered, and the link is lost with note 2; of the notes behind it, the spool has room for one.
+fn spools_two(alloc: Global, core: &mut Core, fates: &mut Vec<Option<Fate>>) -> Result<(), Fail> {
+    answers(alloc, core, 1, 1)?;
+    operates(alloc, core, &[OperCmd::Local])?;
+    loses(alloc, core)?;
+    operates(alloc, core, &[OperCmd::Remote])?;
+    look(core, fates)
+}
+
+// On a second link the host takes note 2 of the spool and drops the other. The tool's S1F13 has system bytes 3, as notes 1 and
+// 2 had 1 and 2.
+fn unloads(alloc: Global, core: &mut Core, fates: &mut Vec<Option<Fate>>) -> Result<(), Fail> {
+    links(alloc, core, 2)?;
+    accepts(alloc, core, 3)?;
+    asks(alloc, core, 0)?;
+    asks(alloc, core, 1)?;
+    operates(alloc, core, &[OperCmd::Local])?;
+    look(core, fates)
+}
+
+// What became of notes 1 to 5, at three times of one history.
 fn story(alloc: Global) -> Result<Vec<Option<Fate>>, Fail> {
     let mut fates = Vec::new(alloc);
     let mut core = Core::open(alloc, &small_spool()?)?;
-    links(alloc, &mut core, 1)?;
-    enables(alloc, &mut core)?;
-    operates(alloc, &mut core, &[OperCmd::Local, OperCmd::Remote])?;
-    look(&core, &mut fates)?;
-    answers(alloc, &mut core, 1, 1)?;
-    operates(alloc, &mut core, &[OperCmd::Local])?;
-    loses(alloc, &mut core)?;
-    operates(alloc, &mut core, &[OperCmd::Remote])?;
-    look(&core, &mut fates)?;
-    // The tool's S1F13 has system bytes 3, as notes 1 and 2 had 1 and 2.
-    links(alloc, &mut core, 2)?;
-    accepts(alloc, &mut core, 3)?;
-    asks(alloc, &mut core, 0)?;
-    asks(alloc, &mut core, 1)?;
-    operates(alloc, &mut core, &[OperCmd::Local])?;
-    look(&core, &mut fates)?;
+    sends_one(alloc, &mut core, &mut fates)?;
+    spools_two(alloc, &mut core, &mut fates)?;
+    unloads(alloc, &mut core, &mut fates)?;
     Ok(fates)
 }
 

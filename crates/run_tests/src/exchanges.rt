@@ -15,6 +15,16 @@ use top_calls::{feed_config, known_config};
 pub enum Begins {
     Known,
     Local,
+    // Notes of events are spooled.
+    Spooling,
+    // Notes of alarms are, and those of events are not.
+    SpoolingAlarms,
+    // Notes of events are spooled, at most three.
+    SpoolOfThree,
+    // The same, and a full spool drops its oldest note.
+    OverwritingSpoolOfThree,
+    // Notes of events are spooled, and a request of the host gives one.
+    OneAtATime,
 }
 
 fn config_of(begins: Begins) -> Config
@@ -24,6 +34,21 @@ fn config_of(begins: Begins) -> Config
     match begins {
         Begins::Known => {}
         Begins::Local => config.control = ControlStart::OnlineLocal,
+        Begins::Spooling => config.spool_streams.six = true,
+        Begins::SpoolingAlarms => config.spool_streams.five = true,
+        Begins::SpoolOfThree => {
+            config.spool_streams.six = true;
+            config.spool_capacity = 3;
+        }
+        Begins::OverwritingSpoolOfThree => {
+            config.spool_streams.six = true;
+            config.spool_capacity = 3;
+            config.overwrite = true;
+        }
+        Begins::OneAtATime => {
+            config.spool_streams.six = true;
+            config.max_transmit = 1;
+        }
     }
     config
 }
@@ -53,6 +78,59 @@ pub const REMOTE_WAITS: Exchange = (b"O remote\n", b"= ok\n");
 
 // So does ON-LINE LOCAL.
 pub const LOCAL_WAITS: Exchange = (b"O local\n", b"= ok\n");
+
+// The event of ON-LINE LOCAL is enabled: S2F37 L[BOOL true, L[U4 211]] is answered by S2F38 B 00.
+pub const LOCAL_ENABLED: Exchange = (
+    b"H 000000170000822500000000000201022501010101B104000000D3\n",
+    b"> 0000000D00000226000000000002210100\n",
+);
+
+// The events of ON-LINE REMOTE and of ON-LINE LOCAL are enabled: S2F37 L[BOOL true, L[U4 210, U4 211]] is answered by
+// S2F38 B 00.
+pub const BOTH_ENABLED: Exchange = (
+    b"H 0000001D0000822500000000000201022501010102B104000000D2B104000000D3\n",
+    b"> 0000000D00000226000000000002210100\n",
+);
+
+// The link of the first session is lost.
+pub const LOST: Exchange = (b"L-\n", b"- 1 PeerEnd\n");
+
+// A second link is selected, and the tool asks for communication: S1F13 L[A GEM300, A 1.0.00] under system bytes 2.
+pub const SELECTED_AGAIN: Exchange = (
+    b"L+\nH 0000000AFFFF0000000100000001\n",
+    b"+ 2\n> 0000000AFFFF0000000200000001\n> 0000001C0000810D0000000000020102410647454D3330304106312E302E3030\n",
+);
+
+// The host accepts: S1F14 L[B 00, L[]].
+pub const ACCEPTED_AGAIN: Exchange = (b"H 000000110000010E00000000000201022101000100\n", b"");
+
+// Notes 1 and 2, of ON-LINE LOCAL, are spooled: the link is lost with the first, and the second is made without one.
+// Then a second link is selected, and the host accepts; the tool has had system bytes 1 for note 1 and 2 for its S1F13.
+pub const TWO_SPOOLED: [Exchange; 7] = [
+    LOCAL_ENABLED,
+    LOCAL_TOLD,
+    LOST,
+    REMOTE_WAITS,
+    LOCAL_WAITS,
+    SELECTED_AGAIN,
+    ACCEPTED_AGAIN,
+];
+
+// Five notes of ON-LINE LOCAL and ON-LINE REMOTE in turn are made: the link is lost with the first, which is open, and the
+// others are made without one, by five commands of which the first changes nothing. Then a second link is selected, and the
+// host accepts.
+pub const FIVE_CHANGES: [Exchange; 10] = [
+    BOTH_ENABLED,
+    LOCAL_TOLD,
+    LOST,
+    LOCAL_WAITS,
+    REMOTE_WAITS,
+    LOCAL_WAITS,
+    REMOTE_WAITS,
+    LOCAL_WAITS,
+    SELECTED_AGAIN,
+    ACCEPTED_AGAIN,
+];
 
 // This, and then that.
 pub fn joined(alloc: Global, front: &[u8], back: &[u8]) -> Result<Vec<u8>, Fail> {
@@ -119,5 +197,20 @@ pub fn converses(
     let mut lines = Vec::new(alloc);
     let mut want = Vec::new(alloc);
     exchange(&mut lines, &mut want, exchanges)?;
+    prints(rt, alloc, begins, &lines, &want)
+}
+
+// The same, of exchanges in two parts.
+pub fn converses_then(
+    rt: &impl Abort,
+    alloc: Global,
+    begins: Begins,
+    first: &[Exchange],
+    then: &[Exchange],
+) -> Result<(), Fail> {
+    let mut lines = Vec::new(alloc);
+    let mut want = Vec::new(alloc);
+    exchange(&mut lines, &mut want, first)?;
+    exchange(&mut lines, &mut want, then)?;
     prints(rt, alloc, begins, &lines, &want)
 }

@@ -9,7 +9,9 @@ use std::alloc::Global;
 use std::process::Abort;
 use std::test::Fail;
 use tool_core::Core;
-use tool_events::{Answer, CommStart, Config, ControlStart, Event, PostFault, SessionCause};
+use tool_events::{
+    Answer, CommStart, Config, ControlStart, Event, PostFault, SessionCause, SpoolStreams,
+};
 
 fn word(bytes: &[u8]) -> Result<Text80, Fail>
     ensures { IfOk result (λ word. word ≡ bytes.now) }
@@ -18,7 +20,7 @@ fn word(bytes: &[u8]) -> Result<Text80, Fail>
 }
 
 // Device 0, whose links may stay unselected for 1,000 hundredths of a second.
-fn config(max_entries: u64, max_bytes: u64) -> Result<Config, Fail>
+pub fn config(max_entries: u64, max_bytes: u64) -> Result<Config, Fail>
     requires some { 1 ≤ max_entries }
     requires entries { max_entries ≤ 4000000 }
     requires bytes { max_bytes ≤ 536870912 }
@@ -32,6 +34,13 @@ fn config(max_entries: u64, max_bytes: u64) -> Result<Config, Fail>
         control: ControlStart::OnlineRemote,
         chambers: 2,
         ports: 2,
+        spool_capacity: 1000,
+        spool_streams: SpoolStreams {
+            five: false,
+            six: false,
+        },
+        overwrite: false,
+        max_transmit: 0,
         t3: 4500,
         t6: 500,
         t7: 1000,
@@ -44,7 +53,7 @@ fn config(max_entries: u64, max_bytes: u64) -> Result<Config, Fail>
 }
 
 // A header as its ten bytes are printed: session id, bytes 2 and 3, PType and SType, system bytes.
-fn header(session: u16, bytes: (u8, u8), types: (u8, u8), system: u32) -> Header {
+pub fn header(session: u16, bytes: (u8, u8), types: (u8, u8), system: u32) -> Header {
     Header {
         session,
         byte2: bytes.0,
@@ -65,7 +74,7 @@ fn host(alloc: Global, header: Header, text: &[u8]) -> Result<Event, Fail> {
 }
 
 // What seat 1 is answered to an event at a moment.
-fn posted(alloc: Global, core: &mut Core, at: u64, event: Event) -> Result<Answer, Fail> {
+pub fn posted(alloc: Global, core: &mut Core, at: u64, event: Event) -> Result<Answer, Fail> {
     Ok(
         core.apply(alloc, 1, Moment(at), event)
             .ok()

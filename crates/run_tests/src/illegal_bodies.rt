@@ -389,6 +389,73 @@ fn the_name_of_a_command_has_at_most_80_characters_which_print(
 }
 
 #[test]
+fn s2f43_with_another_text_is_illegal_data_and_sets_nothing(rt: HostRuntime) -> Result<(), Fail> {
+    is_illegal(
+        &rt,
+        rt.alloc(),
+        (2, 43),
+        &[],
+        &[
+            // no text
+            b"",
+            // U1 6
+            b"A50106",
+            // L[U1 6]
+            b"0101A50106",
+            // L[U1 6, L[]]
+            b"0102A501060100",
+            // L[L[U1 6]]
+            b"01010101A50106",
+            // L[L[U1 6, U1 11]]
+            b"01010102A50106A5010B",
+            // L[L[U1 6, L[], L[]]]
+            b"01010103A5010601000100",
+            // L[L[A 6, L[]]]
+            b"010101024101360100",
+            // L[L[B 06, L[]]]
+            b"010101022101060100",
+            // L[L[U2 256, L[]]]
+            b"01010102A90201000100",
+            // L[L[U1 5 6, L[]]]
+            b"01010102A50205060100",
+            // L[L[U1 6, L[U2 256]]]
+            b"01010102A501060101A9020100",
+            // L[L[U1 6, L[A 11]]]
+            b"01010102A50106010141023131",
+            // L[L[U1 6, L[]], L[U1 5]]
+            b"01020102A5010601000101A50105",
+            // L[L[U1 6, L[]]] and a second item
+            b"01010102A5010601000100",
+        ],
+        &[
+            // S2F37 L[BOOL true, L[U4 211]]: S2F38 B 00
+            (
+                b"H 000000170000822500000000006401022501010101B104000000D3\n",
+                b"> 0000000D00000226000000000064210100\n",
+            ),
+            // S6F11 L[U8 1, U4 211, L[]]
+            (
+                b"O local\n",
+                b"= ok\n> 0000001E0000860B0000000000100103A1080000000000000001B104000000D30100\n",
+            ),
+            (b"L-\n", b"- 1 PeerEnd\n"),
+            // S1F13 L[A GEM300, A 1.0.00]
+            (
+                b"L+\nH 0000000AFFFF0000000100000001\n",
+                b"+ 2\n> 0000000AFFFF0000000200000001\n> 0000001C0000810D0000000000110102410647454D3330304106312E302E3030\n",
+            ),
+            // S1F14 L[B 00, L[]]
+            (b"H 000000110000010E00000000001101022101000100\n", b""),
+            // S6F23 U1 0: S6F24 B 02
+            (
+                b"H 0000000D00008617000000000065A50100\n",
+                b"> 0000000D00000618000000000065210102\n",
+            ),
+        ],
+    )
+}
+
+#[test]
 fn s5f3_with_another_text_is_illegal_data_and_enables_nothing(rt: HostRuntime) -> Result<(), Fail> {
     is_illegal(
         &rt,
@@ -527,6 +594,53 @@ fn s6f19_with_another_text_is_illegal_data(rt: HostRuntime) -> Result<(), Fail> 
             (
                 b"H 0000001000008613000000000064B10400000001\n",
                 b"> 0000000C000006140000000000640100\n",
+            ),
+        ],
+    )
+}
+
+#[test]
+fn s6f23_with_another_text_is_illegal_data(rt: HostRuntime) -> Result<(), Fail> {
+    is_illegal(
+        &rt,
+        rt.alloc(),
+        (6, 23),
+        &[],
+        &[
+            // no text
+            b"",
+            // U1 2
+            b"A50102",
+            // U1 255
+            b"A501FF",
+            // B 00
+            b"210100",
+            // BOOL false
+            b"250100",
+            // A 0
+            b"410130",
+            // L[]
+            b"0100",
+            // L[U1 0]
+            b"0101A50100",
+            // U1
+            b"A500",
+            // U1 0 0
+            b"A5020000",
+            // I1 -1
+            b"6501FF",
+            // U4 256
+            b"B10400000100",
+            // U1 0 and a second item
+            b"A50100A50100",
+            // U1 0 without its last byte
+            b"A501",
+        ],
+        &[
+            // S6F23 U1 0: S6F24 B 02
+            (
+                b"H 0000000D00008617000000000064A50100\n",
+                b"> 0000000D00000618000000000064210102\n",
             ),
         ],
     )
@@ -804,5 +918,16 @@ fn a_list_of_1024_ids_is_taken(rt: HostRuntime) -> Result<(), Fail> {
     let lines = repeated(alloc, head, b"A90200CC", 1024, b"\n")?;
     let head = b"> 0000180D0000020E000000000002020400";
     let want = repeated(alloc, head, b"B10400001194", 1024, b"\n")?;
+    prints(&rt, alloc, Begins::Known, &lines, &want)
+}
+
+#[test]
+fn a_list_of_more_than_1024_functions_is_taken(rt: HostRuntime) -> Result<(), Fail> {
+    let alloc = rt.alloc();
+    // S2F43 L[L[U1 6, L of 1,025 times U1 12]]: S2F44 L[B 01, L[L[U1 6, B 04, L of 1,025 times U1 12]]]
+    let head = b"H 00000C170000822B00000000000201010102A50106020401";
+    let lines = repeated(alloc, head, b"A5010C", 1025, b"\n")?;
+    let head = b"> 00000C1F0000022C000000000002010221010101010103A50106210104020401";
+    let want = repeated(alloc, head, b"A5010C", 1025, b"\n")?;
     prints(&rt, alloc, Begins::Known, &lines, &want)
 }

@@ -13,6 +13,8 @@ mod event_notes;
 #[cfg(test)]
 mod exchanges;
 #[cfg(test)]
+mod fates;
+#[cfg(test)]
 mod feed;
 #[cfg(test)]
 mod histories;
@@ -22,3 +24,11 @@ mod host_data;
 mod illegal_bodies;
 #[cfg(test)]
 mod reports;
+#[cfg(test)]
+mod spool_events;
+#[cfg(test)]
+mod spool_requests;
+#[cfg(test)]
+mod spooled_streams;
+#[cfg(test)]
+mod spooling;

@@ -441,9 +441,9 @@ fn a_stream_and_a_function_are_integers_of_any_kind_to_255(rt: HostRuntime) {
 fn counts(alloc: Global, text: &[u8]) -> Result<(usize, usize), BodyFault> {
     match read(alloc, 2, 43, text)? {
         GemMsg::S2F43(streams) => {
-            let mut functions = 0;
+            let mut functions: usize = 0;
             for stream in streams.as_slice() {
-                functions += stream.functions.len();
+                functions = functions.saturating_add(stream.functions.len());
             }
             Ok((streams.len(), functions))
         }

@@ -3,12 +3,11 @@
 ghost use Rattle.std.specs.Prelude.{◌<◌};
 ghost use Rattle.tool_events.specs.Configs.{IsConfig};
 
-use outside::{MemSink, MemSource};
+use crate::runs::{SELECTED, SELECTED_OUT, joined, run};
 use std::alloc::Global;
-use std::process::Abort;
 use std::test::Fail;
 use tool_events::{CommStart, Config, ControlStart, SessionCause};
-use top_calls::{Cause, Ended, SessionNote, feed_config, known_config};
+use top_calls::{Cause, SessionNote, known_config};
 
 // How the tool begins, where it is not as in the known configuration.
 #[derive(Clone, Copy)]
@@ -31,11 +30,6 @@ fn config_of(begins: Begins) -> Config
     }
     config
 }
-
-// A link that is up and selected, and the lines that it prints.
-const SELECTED: &[u8] = b"L+\nH 0000000AFFFF0000000100000001\n";
-
-const SELECTED_OUT: &[u8] = b"+ 1\n> 0000000AFFFF0000000200000001\n";
 
 // What each shows, how the tool begins, lines behind those of a link that is selected, and what they print.
 const CONVERSATIONS: [(&str, Begins, &[u8], &[u8]); 15] = [
@@ -131,25 +125,6 @@ const CONVERSATIONS: [(&str, Begins, &[u8], &[u8]); 15] = [
     ),
 ];
 
-fn joined(alloc: Global, front: &[u8], back: &[u8]) -> Result<Vec<u8>, Fail> {
-    let mut all = Vec::from_slice(alloc, front)?;
-    all.extend_from_slice(back)?;
-    Ok(all)
-}
-
-// Runs these lines, which come in pieces of so many bytes, and tells how the run ended and all that was written.
-fn run(alloc: Global, config: &Config, lines: &[u8], piece: usize) -> Result<(Ended, Vec<u8>), Fail>
-    requires config { IsConfig config.now }
-    requires piece { 0 < piece }
-{
-    let mut input = MemSource::new(Vec::from_slice(alloc, lines)?, Vec::new(alloc)).with_piece(
-        piece,
-    );
-    let mut out = MemSink::new(alloc, Vec::new(alloc));
-    let ended = feed_config(alloc, config, &mut input, &mut out);
-    Ok((ended, out.into_bytes()))
-}
-
 // Whether a conversation behind the lines of a link that is selected prints this and ends well.
 fn prints(
     alloc: Global,
@@ -194,9 +169,8 @@ fn each_conversation_prints_what_its_tables_say(rt: HostRuntime) -> Result<(), F
     Ok(())
 }
 
-#[test]
-fn a_history_of_forty_entries_ends_the_run(rt: HostRuntime) -> Result<(), Fail> {
-    let alloc = rt.alloc();
+// 41 commands, where a history takes 40 entries: why the run ends, its status, and whether 40 are accepted.
+fn forty(alloc: Global) -> Result<(Cause, u8, bool), Fail> {
     let mut config = known_config();
     config.max_entries = 40;
     let mut lines = Vec::new(alloc);
@@ -207,28 +181,36 @@ fn a_history_of_forty_entries_ends_the_run(rt: HostRuntime) -> Result<(), Fail> 
     }
     lines.extend_from_slice(b"O local\n")?;
     let (ended, out) = run(alloc, &config, &lines, 4096)?;
-    assert_eq!(rt; ended.cause, Cause::Full(40, 0, 348));
-    assert_eq!(rt; ended.status, 5);
-    assert!(rt; out.as_slice() == want.as_slice());
+    Ok((ended.cause, ended.status, out.as_slice() == want.as_slice()))
+}
+
+#[test]
+fn a_history_of_forty_entries_ends_the_run(rt: HostRuntime) -> Result<(), Fail> {
+    assert_eq!(rt; forty(rt.alloc())?, (Cause::Full(40, 0, 348), 5, true));
     Ok(())
+}
+
+// A command that ends the run, in pieces of so many bytes: why it ends, the entries, and whether the session has its note.
+fn quit(alloc: Global, piece: usize) -> Result<(Cause, usize, bool), Fail>
+    requires { 0 < piece }
+{
+    let lines = joined(alloc, SELECTED, b"O quit\nL+\n")?;
+    let (ended, _) = run(alloc, &known_config(), &lines, piece)?;
+    let note = SessionNote {
+        session: 1,
+        read: 14,
+        written: 14,
+        cause: SessionCause::Quit,
+    };
+    let is_noted = ended.sessions.as_slice() == [note].as_slice();
+    Ok((ended.cause, ended.history.as_slice().len(), is_noted))
 }
 
 #[test]
 fn a_run_that_the_operator_ends_is_done(rt: HostRuntime) -> Result<(), Fail> {
-    let alloc = rt.alloc();
-    let lines = joined(alloc, SELECTED, b"O quit\nL+\n")?;
-    for piece in [4096, 1] {
-        let (ended, _) = run(alloc, &known_config(), &lines, piece)?;
-        assert_eq!(rt; ended.cause, Cause::Done);
-        // The link, the select request, its response, and the command.
-        assert_eq!(rt; ended.history.as_slice().len(), 4);
-        let quit = SessionNote {
-            session: 1,
-            read: 14,
-            written: 14,
-            cause: SessionCause::Quit,
-        };
-        assert!(rt; ended.sessions.as_slice() == [quit].as_slice());
-    }
+    // The link, the select request, its response, and the command.
+    let want = (Cause::Done, 4, true);
+    assert_eq!(rt; quit(rt.alloc(), 4096)?, want);
+    assert_eq!(rt; quit(rt.alloc(), 1)?, want);
     Ok(())
 }

@@ -2,20 +2,15 @@
 
 ghost use Rattle.std.specs.Prelude.{◌<◌};
 
+use crate::runs::{SELECTED, SELECTED_OUT, joined, run};
 use gem_ids::Text80;
 use outside::{Failed, MemSink, MemSource, Sink, Source};
 use std::alloc::Global;
-use std::process::Abort;
 use std::test::Fail;
 use tool_events::SessionCause;
-use top_calls::{Cause, Ended, SessionNote, feed, feed_config, known_config};
+use top_calls::{Cause, Ended, SessionNote, feed, known_config};
 
 const KNOWN: &[u8] = b"communication = \"communicating\"\n";
-
-// A link that is up and selected, and the lines that it prints.
-const SELECTED: &[u8] = b"L+\nH 0000000AFFFF0000000100000001\n";
-
-const SELECTED_OUT: &[u8] = b"+ 1\n> 0000000AFFFF0000000200000001\n";
 
 // What each shows, lines, and all that they print. The end of a session ends communication, and the tool asks for it by
 // S1F13 when the next link is selected.
@@ -115,12 +110,6 @@ const SELECTED_CONVERSATIONS: [(&str, &[u8], &[u8]); 10] = [
     ),
 ];
 
-fn joined(alloc: Global, front: &[u8], back: &[u8]) -> Result<Vec<u8>, Fail> {
-    let mut all = Vec::from_slice(alloc, front)?;
-    all.extend_from_slice(back)?;
-    Ok(all)
-}
-
 // A source of these bytes, whose reads of these numbers fail.
 fn source(alloc: Global, bytes: &[u8], fails: &[u64]) -> Result<MemSource, Fail> {
     Ok(MemSource::new(
@@ -144,14 +133,29 @@ fn run_lines<S: Source, K: Sink>(alloc: Global, input: &mut S, out: &mut K) -> R
     Ok(feed(alloc, &words, &mut config, input, out))
 }
 
+// How a run of `feed c` ends, and what it writes: it reads these lines in pieces of so many bytes, and reads and writes of
+// these numbers fail.
+fn fed(
+    alloc: Global,
+    lines: &[u8],
+    piece: usize,
+    reads: &[u64],
+    writes: &[u64],
+) -> Result<(Ended, Vec<u8>), Fail>
+    requires { 0 < piece }
+{
+    let mut input = source(alloc, lines, reads)?.with_piece(piece);
+    let mut out = MemSink::new(alloc, Vec::from_slice(alloc, writes)?);
+    let ended = run_lines(alloc, &mut input, &mut out)?;
+    Ok((ended, out.into_bytes()))
+}
+
 // Runs the lines, which come in pieces of so many bytes, and tells the status and all that was written.
 fn printed(alloc: Global, lines: &[u8], piece: usize) -> Result<(u8, Vec<u8>), Fail>
     requires { 0 < piece }
 {
-    let mut input = source(alloc, lines, &[])?.with_piece(piece);
-    let mut out = MemSink::new(alloc, Vec::new(alloc));
-    let ended = run_lines(alloc, &mut input, &mut out)?;
-    Ok((ended.status, out.into_bytes()))
+    let (ended, out) = fed(alloc, lines, piece, &[], &[])?;
+    Ok((ended.status, out))
 }
 
 // Whether these lines, in pieces of so many bytes, print this and end well.
@@ -250,10 +254,8 @@ fn answers(alloc: Global, last: u32, piece: usize) -> Result<(u8, bool, usize), 
 {
     let lines = asked(alloc, last)?;
     let want = answered(alloc, last)?;
-    let mut input = source(alloc, lines.as_bytes(), &[])?.with_piece(piece);
-    let mut out = MemSink::new(alloc, Vec::new(alloc));
-    let ended = feed_config(alloc, &known_config(), &mut input, &mut out);
-    let is_answered = out.as_bytes() == want.as_bytes();
+    let (ended, out) = run(alloc, &known_config(), lines.as_bytes(), piece)?;
+    let is_answered = out.as_slice() == want.as_bytes();
     Ok((ended.status, is_answered, ended.history.as_slice().len()))
 }
 
@@ -291,36 +293,48 @@ fn a_text_that_is_too_long_is_told_and_the_next_message_is_answered(
     Ok(())
 }
 
+// How a run on these lines ends, and what it writes, where a history takes so many entries with so many bytes of texts.
+fn fed_within(
+    alloc: Global,
+    lines: &[u8],
+    max_entries: u64,
+    max_bytes: u64,
+) -> Result<(Ended, Vec<u8>), Fail> {
+    if max_entries < 1 || max_entries > 4_000_000 || max_bytes > 536_870_912 {
+        return Err("limits of a history".into());
+    }
+    let mut config = known_config();
+    config.max_entries = max_entries;
+    config.max_bytes = max_bytes;
+    run(alloc, &config, lines, 4096)
+}
+
 #[test]
 fn a_history_that_is_full_ends_the_run(rt: HostRuntime) -> Result<(), Fail> {
-    let alloc = rt.alloc();
-    let mut config = known_config();
-    config.max_entries = 3;
-    let mut input = source(alloc, b"L+\nL+\nL+\nL+\n", &[])?;
-    let mut out = MemSink::new(alloc, Vec::new(alloc));
-    let ended = feed_config(alloc, &config, &mut input, &mut out);
+    let max_bytes = known_config().max_bytes;
+    let (ended, out) = fed_within(rt.alloc(), b"L+\nL+\nL+\nL+\n", 3, max_bytes)?;
     assert_eq!(rt; ended.cause, Cause::Full(3, 0, 12));
     assert_eq!(rt; ended.status, 5);
     assert_eq!(rt; ended.history.as_slice().len(), 3);
-    assert_eq!(rt; out.as_bytes(), b"+ 1\n".as_slice());
+    assert_eq!(rt; out.as_slice(), b"+ 1\n".as_slice());
     Ok(())
+}
+
+// A selected link, a text of five bytes, and one of one byte.
+fn six_bytes(alloc: Global) -> Result<Vec<u8>, Fail> {
+    let five = b"H 0000000F000001010000000000090102030405\n".as_slice();
+    let one = b"H 0000000B0000010100000000000901\n".as_slice();
+    joined(alloc, &joined(alloc, SELECTED, five)?, one)
 }
 
 #[test]
 fn a_history_takes_so_much_text(rt: HostRuntime) -> Result<(), Fail> {
-    let alloc = rt.alloc();
-    let mut config = known_config();
-    config.max_bytes = 5;
-    let five = b"H 0000000F000001010000000000090102030405\n".as_slice();
-    let one = b"H 0000000B0000010100000000000901\n".as_slice();
-    let lines = joined(alloc, SELECTED, five)?;
-    let lines = joined(alloc, &lines, one)?;
+    let lines = six_bytes(rt.alloc())?;
     let count = lines.len() as u64;
-    let mut input = source(alloc, &lines, &[])?;
-    let mut out = MemSink::new(alloc, Vec::new(alloc));
-    let ended = feed_config(alloc, &config, &mut input, &mut out);
+    let max_entries = known_config().max_entries;
+    let (ended, out) = fed_within(rt.alloc(), &lines, max_entries, 5)?;
     assert_eq!(rt; ended.cause, Cause::Full(4, 5, count));
-    assert_eq!(rt; out.as_bytes(), SELECTED_OUT);
+    assert_eq!(rt; out.as_slice(), SELECTED_OUT);
     Ok(())
 }
 
@@ -337,12 +351,9 @@ fn note(session: u64, read: u64, written: u64, cause: SessionCause) -> SessionNo
 // A frame without text has 14 bytes, and so has its select response.
 #[test]
 fn each_session_has_its_note(rt: HostRuntime) -> Result<(), Fail> {
-    let alloc = rt.alloc();
     let more = b"H 00\nL-\nH 0000\nL+\nL+\nH 00000009\nL+\nH 000000\nH 0A\n".as_slice();
-    let lines = joined(alloc, SELECTED, more)?;
-    let mut input = source(alloc, &lines, &[])?;
-    let mut out = MemSink::new(alloc, Vec::new(alloc));
-    let ended = run_lines(alloc, &mut input, &mut out)?;
+    let lines = joined(rt.alloc(), SELECTED, more)?;
+    let (ended, _) = fed(rt.alloc(), &lines, 4096, &[], &[])?;
     assert_eq!(rt; ended.status, 0);
     let notes = [
         note(1, 15, 14, SessionCause::PeerEnd),
@@ -353,39 +364,45 @@ fn each_session_has_its_note(rt: HostRuntime) -> Result<(), Fail> {
     Ok(())
 }
 
-// The session is up and selected where the run stops, and these bytes came in it.
-fn stops_in_session_1(rt: &impl Abort, ended: &Ended, status: u8, read: u64, written: u64) {
-    assert_eq!(rt; ended.status, status);
+// Whether the session is up and selected where the run stops with this status, and these bytes came in it.
+fn stops_in_session_1(ended: &Ended, status: u8, read: u64, written: u64) -> bool {
     let notes = [note(1, read, written, SessionCause::Stopped)];
-    assert_eq!(rt; ended.sessions.as_slice(), notes.as_slice());
+    ended.status == status && ended.sessions.as_slice() == notes.as_slice()
+}
+
+// Lines of which the second behind the select request is outside the grammar.
+fn cut_short(alloc: Global) -> Result<Vec<u8>, Fail> {
+    joined(alloc, SELECTED, b"H 0000\nH 00000\nH 00\n")
+}
+
+// Whether it counts so at that line, at a history of two entries, at a write that fails, and at a read that fails.
+fn at_a_line(alloc: Global) -> Result<bool, Fail> {
+    let (refused, _) = fed(alloc, &cut_short(alloc)?, 4096, &[], &[])?;
+    Ok(stops_in_session_1(&refused, 6, 16, 14))
+}
+
+fn at_a_full_history(alloc: Global) -> Result<bool, Fail> {
+    let max_bytes = known_config().max_bytes;
+    let (full, _) = fed_within(alloc, &cut_short(alloc)?, 2, max_bytes)?;
+    Ok(stops_in_session_1(&full, 5, 14, 0))
+}
+
+fn at_a_write(alloc: Global) -> Result<bool, Fail> {
+    let (failed, _) = fed(alloc, &cut_short(alloc)?, 4096, &[], &[2])?;
+    Ok(stops_in_session_1(&failed, 4, 14, 14))
+}
+
+fn at_a_read(alloc: Global) -> Result<bool, Fail> {
+    let (unread, _) = fed(alloc, &cut_short(alloc)?, 20, &[3], &[])?;
+    Ok(stops_in_session_1(&unread, 3, 14, 14))
 }
 
 #[test]
 fn the_notes_count_up_to_the_line_in_which_the_run_stops(rt: HostRuntime) -> Result<(), Fail> {
-    let alloc = rt.alloc();
-    let lines = joined(alloc, SELECTED, b"H 0000\nH 00000\nH 00\n")?;
-
-    let mut input = source(alloc, &lines, &[])?;
-    let mut out = MemSink::new(alloc, Vec::new(alloc));
-    let refused = run_lines(alloc, &mut input, &mut out)?;
-    stops_in_session_1(&rt, &refused, 6, 16, 14);
-
-    let mut config = known_config();
-    config.max_entries = 2;
-    let mut input = source(alloc, &lines, &[])?;
-    let mut out = MemSink::new(alloc, Vec::new(alloc));
-    let full = feed_config(alloc, &config, &mut input, &mut out);
-    stops_in_session_1(&rt, &full, 5, 14, 0);
-
-    let mut input = source(alloc, &lines, &[])?;
-    let mut out = MemSink::new(alloc, Vec::from_slice(alloc, &[2])?);
-    let failed = run_lines(alloc, &mut input, &mut out)?;
-    stops_in_session_1(&rt, &failed, 4, 14, 14);
-
-    let mut input = source(alloc, &lines, &[3])?.with_piece(20);
-    let mut out = MemSink::new(alloc, Vec::new(alloc));
-    let unread = run_lines(alloc, &mut input, &mut out)?;
-    stops_in_session_1(&rt, &unread, 3, 14, 14);
+    assert!(rt; at_a_line(rt.alloc())?, "at a line outside the grammar");
+    assert!(rt; at_a_full_history(rt.alloc())?, "at a history that is full");
+    assert!(rt; at_a_write(rt.alloc())?, "at a write that fails");
+    assert!(rt; at_a_read(rt.alloc())?, "at a read that fails");
     Ok(())
 }
 
@@ -416,10 +433,8 @@ fn false_place(alloc: Global, lines: &[(&[u8], u64)]) -> Result<Option<usize>, F
 
 fn is_refused(alloc: Global, line: &[u8], place: u64) -> Result<bool, Fail> {
     let lines = joined(alloc, SELECTED, line)?;
-    let mut input = source(alloc, &lines, &[])?;
-    let mut out = MemSink::new(alloc, Vec::new(alloc));
-    let ended = run_lines(alloc, &mut input, &mut out)?;
-    Ok(ended.cause == Cause::Line(3, place) && ended.status == 6 && out.as_bytes() == SELECTED_OUT)
+    let (ended, out) = fed(alloc, &lines, 4096, &[], &[])?;
+    Ok(ended.cause == Cause::Line(3, place) && ended.status == 6 && out.as_slice() == SELECTED_OUT)
 }
 
 #[test]
@@ -452,6 +467,22 @@ const REFUSED: [(&[&str], &[u8], Cause, u8); 6] = [
     (&["feed", "c", "d"], KNOWN, Cause::Words(2), 1),
 ];
 
+// How a run of these words on a selected link ends, where the configuration has this text and its reads of these numbers
+// fail, and what it writes.
+fn run_words(
+    alloc: Global,
+    typed: &[&str],
+    text: &[u8],
+    fails: &[u64],
+) -> Result<(Ended, Vec<u8>), Fail> {
+    let typed = words(alloc, typed)?;
+    let mut config = source(alloc, text, fails)?;
+    let mut input = source(alloc, SELECTED, &[])?;
+    let mut out = MemSink::new(alloc, Vec::new(alloc));
+    let ended = feed(alloc, &typed, &mut config, &mut input, &mut out);
+    Ok((ended, out.into_bytes()))
+}
+
 // Whether these words and this text end the run so, before a session and with nothing printed.
 fn ends_so(
     alloc: Global,
@@ -460,13 +491,9 @@ fn ends_so(
     cause: Cause,
     status: u8,
 ) -> Result<bool, Fail> {
-    let typed = words(alloc, typed)?;
-    let mut config = source(alloc, text, &[])?;
-    let mut input = source(alloc, SELECTED, &[])?;
-    let mut out = MemSink::new(alloc, Vec::new(alloc));
-    let ended = feed(alloc, &typed, &mut config, &mut input, &mut out);
+    let (ended, out) = run_words(alloc, typed, text, &[])?;
     let is_so = ended.cause == cause && ended.status == status;
-    Ok(is_so && ended.sessions.as_slice().is_empty() && out.as_bytes().is_empty())
+    Ok(is_so && ended.sessions.as_slice().is_empty() && out.is_empty())
 }
 
 // The place of the first of these that end the run in another way.
@@ -520,10 +547,8 @@ fn ends_at_read(
 ) -> Result<bool, Fail>
     requires { 0 < piece }
 {
-    let mut input = source(alloc, lines, &[fails])?.with_piece(piece);
-    let mut out = MemSink::new(alloc, Vec::new(alloc));
-    let ended = run_lines(alloc, &mut input, &mut out)?;
-    Ok(ended.cause == Cause::ReadFault && ended.status == 3 && out.as_bytes() == want)
+    let (ended, out) = fed(alloc, lines, piece, &[fails], &[])?;
+    Ok(ended.cause == Cause::ReadFault && ended.status == 3 && out.as_slice() == want)
 }
 
 // The place of the first of these that ends the run in another way.
@@ -538,12 +563,8 @@ fn false_read(alloc: Global, all: &[(&[u8], u64, usize, &[u8])]) -> Result<Optio
 
 // Whether a configuration that can't be read ends the run with nothing printed.
 fn ends_at_config(alloc: Global) -> Result<bool, Fail> {
-    let mut config = source(alloc, KNOWN, &[1])?;
-    let mut input = source(alloc, SELECTED, &[])?;
-    let mut out = MemSink::new(alloc, Vec::new(alloc));
-    let words = words(alloc, &["feed", "c"])?;
-    let ended = feed(alloc, &words, &mut config, &mut input, &mut out);
-    Ok(ended.cause == Cause::ReadFault && out.as_bytes().is_empty())
+    let (ended, out) = run_words(alloc, &["feed", "c"], KNOWN, &[1])?;
+    Ok(ended.cause == Cause::ReadFault && out.is_empty())
 }
 
 #[test]
@@ -555,10 +576,8 @@ fn a_read_that_fails_ends_the_run_behind_the_whole_lines(rt: HostRuntime) -> Res
 
 // Whether the run ends by a write that fails, and this is printed.
 fn ends_at_write(alloc: Global, fails: u64, want: &[u8]) -> Result<bool, Fail> {
-    let mut input = source(alloc, SELECTED, &[])?;
-    let mut out = MemSink::new(alloc, Vec::from_slice(alloc, &[fails])?);
-    let ended = run_lines(alloc, &mut input, &mut out)?;
-    Ok(ended.cause == Cause::WriteFault && ended.status == 4 && out.as_bytes() == want)
+    let (ended, out) = fed(alloc, SELECTED, 4096, &[], &[fails])?;
+    Ok(ended.cause == Cause::WriteFault && ended.status == 4 && out.as_slice() == want)
 }
 
 // Whether a sink that takes so many bytes ends the run, and has them.
@@ -609,17 +628,22 @@ impl Sink for Narrow {
     }
 }
 
-#[test]
-fn a_sink_that_takes_a_byte_at_a_time_gets_all(rt: HostRuntime) -> Result<(), Fail> {
-    let alloc = rt.alloc();
+// The status of a run into it, and what it took.
+fn narrowly_printed(alloc: Global) -> Result<(u8, Vec<u8>), Fail> {
     let mut input = source(alloc, SELECTED, &[])?;
     let mut out = Narrow {
         taken: Vec::new(alloc),
         faults: 0,
     };
     let ended = run_lines(alloc, &mut input, &mut out)?;
-    assert_eq!(rt; ended.status, 0);
-    assert_eq!(rt; out.taken.as_slice(), SELECTED_OUT);
+    Ok((ended.status, out.taken))
+}
+
+#[test]
+fn a_sink_that_takes_a_byte_at_a_time_gets_all(rt: HostRuntime) -> Result<(), Fail> {
+    let (status, taken) = narrowly_printed(rt.alloc())?;
+    assert_eq!(rt; status, 0);
+    assert_eq!(rt; taken.as_slice(), SELECTED_OUT);
     Ok(())
 }
 

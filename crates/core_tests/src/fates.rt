@@ -1,26 +1,12 @@
 //! What became of each note, by the core (`tool_core`).
 
-ghost use Rattle.std.specs.Prelude.{IfOk};
-ghost use Rattle.tool_events.specs.Configs.{IsConfig};
-
-use crate::histories::{config, header, posted};
-use hsms_frame::{Arrival, Bytes, Frame, Header};
+use crate::calls::{does, fate, header, host, links, opened_with_small_spool, posted};
+use hsms_frame::Header;
 use note_line::{DropCause, Fate};
 use std::alloc::Global;
 use std::test::Fail;
 use tool_core::Core;
-use tool_events::{Answer, Config, Event, OperCmd, SessionCause};
-
-// Notes of events are spooled, at most two, and a request of the host gives one.
-fn small_spool() -> Result<Config, Fail>
-    ensures { IfOk result IsConfig }
-{
-    let mut config = config(100, 1000)?;
-    config.spool_streams.six = true;
-    config.spool_capacity = 2;
-    config.max_transmit = 1;
-    Ok(config)
-}
+use tool_events::{Answer, Event, OperCmd, SessionCause};
 
 // The host sends a frame in this session, and it is done.
 fn tells(
@@ -30,12 +16,7 @@ fn tells(
     header: Header,
     text: &[u8],
 ) -> Result<(), Fail> {
-    let text = Bytes::from_vec(Vec::from_slice(alloc, text)?);
-    let arrival = Arrival::Frame(Frame { header, text });
-    match posted(alloc, core, 0, Event::Host { session, arrival })? {
-        Answer::Done => Ok(()),
-        _ => Err("done".into()),
-    }
+    does(alloc, core, host(alloc, session, header, text)?)
 }
 
 // The operator's commands are accepted.
@@ -50,8 +31,8 @@ fn operates(alloc: Global, core: &mut Core, commands: &[OperCmd]) -> Result<(), 
 }
 
 // A link comes up as this session, and is selected.
-fn links(alloc: Global, core: &mut Core, session: u64) -> Result<(), Fail> {
-    posted(alloc, core, 0, Event::LinkUp)?;
+fn selects(alloc: Global, core: &mut Core, session: u64) -> Result<(), Fail> {
+    links(alloc, core, session)?;
     tells(alloc, core, session, header(0xFFFF, (0, 0), (0, 1), 1), &[])
 }
 
@@ -112,15 +93,6 @@ fn loses(alloc: Global, core: &mut Core) -> Result<(), Fail> {
     Ok(())
 }
 
-// What became of a note; none where the core is not whole.
-fn fate(core: &Core, number: u64) -> Option<Fate> {
-    if core.is_whole() {
-        core.fate(number)
-    } else {
-        None
-    }
-}
-
 // Adds what became of notes 1 to 5 until now.
 fn look(core: &Core, fates: &mut Vec<Option<Fate>>) -> Result<(), Fail> {
     for number in 1..=5 {
@@ -131,7 +103,7 @@ fn look(core: &Core, fates: &mut Vec<Option<Fate>>) -> Result<(), Fail> {
 
 // Note 1 is open, and note 2 waits.
 fn sends_one(alloc: Global, core: &mut Core, fates: &mut Vec<Option<Fate>>) -> Result<(), Fail> {
-    links(alloc, core, 1)?;
+    selects(alloc, core, 1)?;
     enables(alloc, core)?;
     operates(alloc, core, &[OperCmd::Local, OperCmd::Remote])?;
     look(core, fates)
@@ -149,7 +121,7 @@ fn spools_two(alloc: Global, core: &mut Core, fates: &mut Vec<Option<Fate>>) -> 
 // On a second link the host takes note 2 of the spool and drops the other. The tool's S1F13 has system bytes 3, as notes 1 and
 // 2 had 1 and 2.
 fn unloads(alloc: Global, core: &mut Core, fates: &mut Vec<Option<Fate>>) -> Result<(), Fail> {
-    links(alloc, core, 2)?;
+    selects(alloc, core, 2)?;
     accepts(alloc, core, 3)?;
     asks(alloc, core, 0)?;
     asks(alloc, core, 1)?;
@@ -160,7 +132,7 @@ fn unloads(alloc: Global, core: &mut Core, fates: &mut Vec<Option<Fate>>) -> Res
 // What became of notes 1 to 5, at three times of one history.
 fn story(alloc: Global) -> Result<Vec<Option<Fate>>, Fail> {
     let mut fates = Vec::new(alloc);
-    let mut core = Core::open(alloc, &small_spool()?)?;
+    let mut core = opened_with_small_spool(alloc)?;
     sends_one(alloc, &mut core, &mut fates)?;
     spools_two(alloc, &mut core, &mut fates)?;
     unloads(alloc, &mut core, &mut fates)?;

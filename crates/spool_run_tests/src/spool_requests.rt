@@ -516,35 +516,43 @@ fn maxspooltransmit_is_set_by_the_host(rt: HostRuntime) -> Result<(), Fail> {
     )
 }
 
+// Three notes of ON-LINE LOCAL are spooled: the link is lost with the first, and the others are made without one. Then a
+// second link is selected, and the host accepts.
+const THREE_SPOOLED: &str = "
+    # S2F37 L[BOOL true, L[U4 211]]: S2F38 B 00
+    H 000000170000822500000000000201022501010101B104000000D3
+    > 0000000D00000226000000000002210100
+    # S6F11 L[U8 1, U4 211, L[]]
+    O local
+    = ok
+    > 0000001E0000860B0000000000010103A1080000000000000001B104000000D30100
+    L-
+    - 1 PeerEnd
+    O remote
+    = ok
+    O local
+    = ok
+    O remote
+    = ok
+    O local
+    = ok
+    # S1F13 L[A GEM300, A 1.0.00]
+    L+
+    + 2
+    H 0000000AFFFF0000000100000001
+    > 0000000AFFFF0000000200000001
+    > 0000001C0000810D0000000000020102410647454D3330304106312E302E3030
+    # S1F14 L[B 00, L[]]
+    H 000000110000010E00000000000201022101000100
+";
+
 #[test]
 fn a_new_maxspooltransmit_counts_for_the_next_unload(rt: HostRuntime) -> Result<(), Fail> {
     converses_then(
         rt.alloc(),
         Begins::Spooling,
-        LOCAL_ENABLED,
+        THREE_SPOOLED,
         "
-        # S6F11 L[U8 1, U4 211, L[]]
-        O local
-        = ok
-        > 0000001E0000860B0000000000010103A1080000000000000001B104000000D30100
-        L-
-        - 1 PeerEnd
-        O remote
-        = ok
-        O local
-        = ok
-        O remote
-        = ok
-        O local
-        = ok
-        # S1F13 L[A GEM300, A 1.0.00]
-        L+
-        + 2
-        H 0000000AFFFF0000000100000001
-        > 0000000AFFFF0000000200000001
-        > 0000001C0000810D0000000000020102410647454D3330304106312E302E3030
-        # S1F14 L[B 00, L[]]
-        H 000000110000010E00000000000201022101000100
         # S6F23 U1 0: S6F24 B 00, S6F11 L[U8 1, U4 211, L[]]
         H 0000000D00008617000000000003A50100
         > 0000000D00000618000000000003210100

@@ -5,7 +5,8 @@ use std::alloc::Global;
 use std::test::Fail;
 use test_conversations::{Begins, converses};
 
-// A message of this text, hex digits, and S9F7, which tells its header. It is number `count` of those that are told, from 0.
+// A message of this text, hex digits, and S9F7, which tells its header. It is number `count` of those that are told,
+// from 0.
 fn told(alloc: Global, message: (u8, u8), text: &str, count: u32) -> Result<String, Fail> {
     let length = 10 + text.len() / 2;
     let system = count.saturating_add(0x100);
@@ -18,7 +19,8 @@ fn told(alloc: Global, message: (u8, u8), text: &str, count: u32) -> Result<Stri
     )?)
 }
 
-// A text of a list of them, where a line has the digits of one, and one of no bytes is `-`; none where a line has no text.
+// A text of a list of them, where a line has the digits of one, and one of no bytes is `-`; none where a line has no
+// text.
 fn text_of(line: &str) -> Option<&str> {
     match line.trim_start() {
         "-" => Some(""),
@@ -27,8 +29,8 @@ fn text_of(line: &str) -> Option<&str> {
     }
 }
 
-// On a selected link, behind what comes before them, these texts of a message are told by S9F7, each in its line: the first
-// has the system bytes 100 hex. The tool's own system bytes are counted from 1.
+// On a selected link, behind what comes before them, these texts of a message are told by S9F7, each in its line: the
+// first has the system bytes 100 hex. The tool's own system bytes are counted from 1.
 fn is_illegal(
     alloc: Global,
     message: (u8, u8),

@@ -20,8 +20,8 @@ pub fn joined(alloc: Global, front: &[u8], back: &[u8]) -> Result<Vec<u8>, Fail>
     Ok(all)
 }
 
-// How a run ends on these lines, which come in pieces of so many bytes, and what it writes. It tells nothing of the contract
-// of `feed_config`, which is long, so that tests are proved without it.
+// How a run ends on these lines, which come in pieces of so many bytes, and what it writes. It tells nothing of the
+// contract of `feed_config`, which is long, so that tests are proved without it.
 pub fn run(
     alloc: Global,
     config: &Config,

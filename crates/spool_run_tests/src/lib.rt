@@ -1,7 +1,7 @@
-//! Tests of the spool in whole runs: which notes are kept while the host cannot be told, how it asks for them, which it has
-//! spooled, and what the spool tells of itself. It has no code of its own, and nothing stands on it. Expected lines are worked
-//! by hand from the printed formats and tables, and runs are made with ample memory. The record of the spool has its tests
-//! in `record_tests`.
+//! Tests of the spool in whole runs: which notes are kept while the host cannot be told, how it asks for them, which it
+//! has spooled, and what the spool tells of itself. It has no code of its own, and nothing stands on it. Expected lines
+//! are worked by hand from the printed formats and tables, and runs are made with ample memory. The record of the spool
+//! has its tests in `record_tests`.
 #![tactic(auto)]
 
 #[cfg(test)]

@@ -1,5 +1,5 @@
-//! The spool in whole runs (`top_calls`): which notes it keeps while the host cannot be told, in which order they are given
-//! back, and what a full spool drops.
+//! The spool in whole runs (`top_calls`): which notes it keeps while the host cannot be told, in which order they are
+//! given back, and what a full spool drops.
 
 use std::alloc::Global;
 use std::test::Fail;
@@ -419,8 +419,8 @@ fn a_full_spool_that_overwrites_drops_its_oldest_notes(rt: HostRuntime) -> Resul
     )
 }
 
-// A spool of three has two notes and the third, which is made while the first is open; then the link is lost, and the first is
-// put back. A third link is selected, and the host accepts.
+// A spool of three has two notes and the third, which is made while the first is open; then the link is lost, and the
+// first is put back. A third link is selected, and the host accepts.
 const PUT_BACK_TO_FULL: &str = "
     # S2F37 L[BOOL true, L[U4 210, U4 211]]: S2F38 B 00
     H 0000001D0000822500000000000201022501010102B104000000D2B104000000D3

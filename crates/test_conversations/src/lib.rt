@@ -1,10 +1,10 @@
-//! Conversations, as the tests of whole runs write them: the lines that come in, and behind them those that are printed. It
-//! is a library of those tests, and no part of the tool. Begin with `converses`.
+//! Conversations, as the tests of whole runs write them: the lines that come in, and behind them those that are
+//! printed. It is a library of those tests, and no part of the tool. Begin with `converses`.
 //!
-//! A conversation is a text. A line that begins with `L`, `H`, `T`, `W`, `O` or `S` comes in, and one that begins with `+`,
-//! `-`, `>`, `=` or `!` is printed. Spaces in front of a line, empty lines, and lines that begin with `#` are for the reader.
-//! All that is printed is compared with all that the text says is; how printed lines stand between those that come in is for
-//! the reader too.
+//! A conversation is a text. A line that begins with `L`, `H`, `T`, `W`, `O` or `S` comes in, and one that begins with
+//! `+`, `-`, `>`, `=` or `!` is printed. Spaces in front of a line, empty lines, and lines that begin with `#` are for
+//! the reader. All that is printed is compared with all that the text says is; how printed lines stand between those
+//! that come in is for the reader too.
 //!
 //! No function here has a clause on its result, so a test that calls one is proved with nothing in view but its text.
 #![tactic(auto)]
@@ -143,9 +143,9 @@ fn run_as_said(alloc: Global, begins: Begins, lines: &Lines) -> Result<(), Fail>
     Ok(())
 }
 
-/// A link comes up and is selected, and then the conversation goes as its text says, in pieces of 4,096 bytes and of five.
-/// The error tells the first line that is printed otherwise, a status that is not 0, a line of the text that neither comes
-/// in nor is printed, or that there is no memory.
+/// A link comes up and is selected, and then the conversation goes as its text says, in pieces of 4,096 bytes and of
+/// five. The error tells the first line that is printed otherwise, a status that is not 0, a line of the text that
+/// neither comes in nor is printed, or that there is no memory.
 pub fn converses(alloc: Global, begins: Begins, text: &str) -> Result<(), Fail> {
     converses_then(alloc, begins, "", text)
 }

@@ -1,18 +1,20 @@
-//! Parts of bodies, each read from one item.
+//! Readers of the parts of a body, each of which is one item. A reader gives the value of an item that has the printed
+//! form, and `IllegalData` exactly where it has not; no reader tells of an unknown stream or function. Besides, `NoMemory`
+//! may come where a part is copied.
 
 ghost use Rattle.std.specs.Prelude.{◌≡◌, ◌≤◌, length, IfOk, Option, option_map};
 ghost use Rattle.secs_items.specs.Data.{Data};
 ghost use Rattle.secs_items.specs.View.{view, items_of};
-ghost use Rattle.msgs_gem.specs.Bodies.{any, are_few, byte as byte_form, characters as characters_form, each, elements as elements_form, flag as flag_form, group, id as id_form, id_or_empty as id_or_empty_form, ids as ids_form, is_empty_number as is_empty_number_form, meeting, of_count, small_id as small_id_form, text as text_form, zero_or_one as zero_or_one_form};
-ghost use Rattle.msgs_gem.specs.Given.{Gives};
+ghost use Rattle.body_parts.specs.Bodies.{any, are_few, byte as byte_form, characters as characters_form, each, elements as elements_form, flag as flag_form, group, id as id_form, id_or_empty as id_or_empty_form, ids as ids_form, is_empty_number as is_empty_number_form, meeting, of_count, small_id as small_id_form, text as text_form, zero_or_one as zero_or_one_form};
+ghost use Rattle.body_parts.specs.Given.{Gives};
 
 use crate::fault::BodyFault;
 use gem_ids::{Ids, Listed, Text80};
 use secs_items::{Bytes, Item};
 use std::alloc::Global;
 
-// The item of a text. A text that is not one item has none.
-pub(crate) fn one(item: Option<&Item>) -> Result<&Item, BodyFault>
+/// The item of a text. A text that is not one item has none, and is `IllegalData`. Takes no memory.
+pub fn one(item: Option<&Item>) -> Result<&Item, BodyFault>
     ensures { Gives (λ i. view i.now) result (option_map (λ i. view i.now) item.entry) }
 {
     match item {
@@ -21,8 +23,8 @@ pub(crate) fn one(item: Option<&Item>) -> Result<&Item, BodyFault>
     }
 }
 
-// The items of an L.
-pub(crate) fn elements(item: &Item) -> Result<&[Item], BodyFault>
+/// The items of an L. `IllegalData` where the item is no list. Takes no memory.
+pub fn elements(item: &Item) -> Result<&[Item], BodyFault>
     ensures { Gives (λ items. items_of items.now) result (elements_form (view item.now)) }
 {
     match item {
@@ -31,8 +33,8 @@ pub(crate) fn elements(item: &Item) -> Result<&[Item], BodyFault>
     }
 }
 
-// The items of an L of so many.
-pub(crate) fn parts<const N: usize>(item: &Item) -> Result<&[Item; N], BodyFault>
+/// The items of an L of so many. `IllegalData` where the item is no list, or a list of fewer or more. Takes no memory.
+pub fn parts<const N: usize>(item: &Item) -> Result<&[Item; N], BodyFault>
     ensures { Gives (λ items. items_of items.now) result (of_count N (view item.now)) }
 {
     match <&[Item; N]>::try_from(elements(item)?) {
@@ -41,15 +43,15 @@ pub(crate) fn parts<const N: usize>(item: &Item) -> Result<&[Item; N], BodyFault
     }
 }
 
-// A copy of any item.
-pub(crate) fn copied(item: &Item) -> Result<Item, BodyFault>
+/// A copy of an item, which may be of any kind. It is never `IllegalData`; `NoMemory` may come.
+pub fn copied(item: &Item) -> Result<Item, BodyFault>
     ensures { Gives view result (any (view item.now)) }
 {
     Ok(item.clone()?)
 }
 
-// The characters of an A.
-pub(crate) fn characters(alloc: Global, item: &Item) -> Result<Bytes, BodyFault>
+/// The characters of an A, of any number and each any byte. `IllegalData` where the item is no A; `NoMemory` may come.
+pub fn characters(alloc: Global, item: &Item) -> Result<Bytes, BodyFault>
     ensures { Gives (λ text. text) result (characters_form (view item.now)) }
 {
     match item {
@@ -58,8 +60,8 @@ pub(crate) fn characters(alloc: Global, item: &Item) -> Result<Bytes, BodyFault>
     }
 }
 
-// The text of an A that has one.
-pub(crate) fn text(item: &Item) -> Result<Text80, BodyFault>
+/// The text of an A of at most 80 bytes, each 32 to 126. `IllegalData` where the item is no such A. Takes no memory.
+pub fn text(item: &Item) -> Result<Text80, BodyFault>
     ensures { Gives (λ text. text) result (text_form (view item.now)) }
 {
     match item {
@@ -71,8 +73,8 @@ pub(crate) fn text(item: &Item) -> Result<Text80, BodyFault>
     }
 }
 
-// The byte of a B of one byte.
-pub(crate) fn byte(item: &Item) -> Result<u8, BodyFault>
+/// The byte of a B of one byte. `IllegalData` where the item is no such B. Takes no memory.
+pub fn byte(item: &Item) -> Result<u8, BodyFault>
     ensures { Gives (λ byte. byte) result (byte_form (view item.now)) }
 {
     match item {
@@ -84,8 +86,8 @@ pub(crate) fn byte(item: &Item) -> Result<u8, BodyFault>
     }
 }
 
-// The truth of a BOOL of one element.
-pub(crate) fn flag(item: &Item) -> Result<bool, BodyFault>
+/// The truth of a BOOL of one element. `IllegalData` where the item is no such BOOL. Takes no memory.
+pub fn flag(item: &Item) -> Result<bool, BodyFault>
     ensures { Gives (λ flag. flag) result (flag_form (view item.now)) }
 {
     match item {
@@ -97,15 +99,16 @@ pub(crate) fn flag(item: &Item) -> Result<bool, BodyFault>
     }
 }
 
-// An id.
-pub(crate) fn id(item: &Item) -> Result<u32, BodyFault>
+/// An id: the number of an integer item of one element, from 0 to 4,294,967,295. `IllegalData` where the item is none.
+/// Takes no memory.
+pub fn id(item: &Item) -> Result<u32, BodyFault>
     ensures { Gives (λ id. id) result (id_form (view item.now)) }
 {
     item.as_id().ok_or(BodyFault::IllegalData)
 }
 
-// An id of at most 255.
-pub(crate) fn small_id(item: &Item) -> Result<u8, BodyFault>
+/// An id of at most 255, which is printed as u1. `IllegalData` where the item is none. Takes no memory.
+pub fn small_id(item: &Item) -> Result<u8, BodyFault>
     ensures { Gives (λ id. id) result (small_id_form (view item.now)) }
 {
     let id = id(item)?;
@@ -116,8 +119,8 @@ pub(crate) fn small_id(item: &Item) -> Result<u8, BodyFault>
     }
 }
 
-// Such an id that is 0 or 1.
-pub(crate) fn zero_or_one(item: &Item) -> Result<u8, BodyFault>
+/// Such an id that is 0 or 1. `IllegalData` where the item is none. Takes no memory.
+pub fn zero_or_one(item: &Item) -> Result<u8, BodyFault>
     ensures { Gives (λ id. id) result (zero_or_one_form (view item.now)) }
 {
     let id = small_id(item)?;
@@ -128,8 +131,9 @@ pub(crate) fn zero_or_one(item: &Item) -> Result<u8, BodyFault>
     }
 }
 
-// An id, or none where the item is an integer item without elements.
-pub(crate) fn id_or_empty(item: &Item) -> Result<Option<u32>, BodyFault>
+/// An id, or none where the item is an integer item without elements. `IllegalData` where the item is neither. Takes no
+/// memory.
+pub fn id_or_empty(item: &Item) -> Result<Option<u32>, BodyFault>
     ensures { Gives (λ id. id) result (id_or_empty_form (view item.now)) }
 {
     if is_empty_number(item) {
@@ -154,11 +158,12 @@ fn is_empty_number(item: &Item) -> bool
     }
 }
 
-// A part that is an element of a list.
-pub(crate) trait Part: Drop + Sized {
-    // The form in which it is printed.
+/// A part that is an element of a list.
+pub trait Part: Drop + Sized {
+    /// The form in which it is printed.
     ghost form: { Data → Option Self };
 
+    /// Reads it. `IllegalData` where the item has not the form; `NoMemory` may come where it has parts to be copied.
     fn of_item(alloc: Global, item: &Item) -> Result<Self, BodyFault>
         ensures { Gives (λ part. part) result (form (view item.now)) };
 }
@@ -188,8 +193,9 @@ impl Part for (u32, Ids) {
     }
 }
 
-// The elements of a list of such parts.
-pub(crate) fn list_of<T: Part>(alloc: Global, item: &Item) -> Result<Listed<T>, BodyFault>
+/// The elements of a list of such parts, of any number. `IllegalData` where the item is no list, or an element has not the
+/// form; `NoMemory` may come.
+pub fn list_of<T: Part>(alloc: Global, item: &Item) -> Result<Listed<T>, BodyFault>
     ensures { Gives (λ parts. parts) result (each T.form (view item.now)) }
 {
     let mut parts = Listed::new(alloc);
@@ -199,8 +205,9 @@ pub(crate) fn list_of<T: Part>(alloc: Global, item: &Item) -> Result<Listed<T>, 
     Ok(parts)
 }
 
-// A list of at most 1,024 ids.
-pub(crate) fn ids(alloc: Global, item: &Item) -> Result<Ids, BodyFault>
+/// A list of at most 1,024 ids. `IllegalData` where the item is no list, or one of more ids, or an element is no id;
+/// `NoMemory` may come.
+pub fn ids(alloc: Global, item: &Item) -> Result<Ids, BodyFault>
     ensures ids { Gives (λ ids. ids) result (ids_form (view item.now)) }
     ensures few { IfOk result (λ ids. length ids ≤ 1024) }
 {

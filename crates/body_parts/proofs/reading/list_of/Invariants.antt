@@ -1,8 +1,8 @@
 use Rattle.std.proofs.Common.{◌≡◌, drop}
 use Rattle.secs_items.specs.View.{items_of}
-use Rattle.msgs_gem.specs.Bodies.{all_of}
-use Rattle.msgs_gem.proofs.Parts.{behind}
-use Rattle.msgs_gem.proofs.part.list_of.Given as goal
+use Rattle.body_parts.specs.Bodies.{all_of}
+use Rattle.body_parts.proofs.Parts.{behind}
+use Rattle.body_parts.proofs.reading.list_of.Given as goal
 
 -- what was read stands before what the rest gives
 abbrev pub invariant-loop-part : goal.invariant-loop-part

@@ -1,5 +1,5 @@
 ghost use Rattle.std.specs.Prelude.{◌≡◌};
-ghost use Rattle.msgs_gem.specs.declared.fault.BodyFault.TheVariants.{NoMemory};
+ghost use Rattle.body_parts.specs.declared.fault.BodyFault.TheVariants.{NoMemory};
 
 use std::alloc::{AllocError, AllocFailed};
 use thiserror::Error;

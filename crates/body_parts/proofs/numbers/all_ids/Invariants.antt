@@ -1,7 +1,7 @@
 use Rattle.std.proofs.Common.{◌≡◌, drop}
-use Rattle.msgs_gem.specs.Bodies.{all_ids}
-use Rattle.msgs_gem.proofs.Parts.{behind}
-use Rattle.msgs_gem.proofs.numbers.all_ids.Given as goal
+use Rattle.body_parts.specs.Bodies.{all_ids}
+use Rattle.body_parts.proofs.Parts.{behind}
+use Rattle.body_parts.proofs.numbers.all_ids.Given as goal
 
 -- what was read stands before what the rest gives
 abbrev pub invariant-loop-number : goal.invariant-loop-number

@@ -3,11 +3,11 @@
 ghost use Rattle.std.specs.Prelude.{◌≡◌, ◌≤◌, ℕ, length, IfOk, Option};
 ghost use Rattle.secs_items.specs.Ids.{signed_id, unsigned_id};
 ghost use Rattle.secs_items.specs.View.{view};
-ghost use Rattle.msgs_gem.specs.Bodies.{all_ids as all_ids_form, numbers as numbers_form, numbers_or_ids as numbers_or_ids_form};
-ghost use Rattle.msgs_gem.specs.Given.{Gives};
+ghost use Rattle.body_parts.specs.Bodies.{all_ids as all_ids_form, numbers as numbers_form, numbers_or_ids as numbers_or_ids_form};
+ghost use Rattle.body_parts.specs.Given.{Gives};
 
 use crate::fault::BodyFault;
-use crate::part::{few, ids};
+use crate::reading::{few, ids};
 use gem_ids::Ids;
 use secs_items::Item;
 use std::alloc::Global;
@@ -128,8 +128,9 @@ fn numbers(alloc: Global, item: &Item) -> Result<Ids, BodyFault>
     }
 }
 
-// The elements of one integer item, or a list of ids.
-pub(crate) fn numbers_or_ids(alloc: Global, item: &Item) -> Result<Ids, BodyFault>
+/// The elements of one integer item, or a list of ids: at most 1,024, each an id. `IllegalData` where the item is neither;
+/// `NoMemory` may come.
+pub fn numbers_or_ids(alloc: Global, item: &Item) -> Result<Ids, BodyFault>
     ensures ids { Gives (λ ids. ids) result (numbers_or_ids_form (view item.now)) }
     ensures few { IfOk result (λ ids. length ids ≤ 1024) }
 {

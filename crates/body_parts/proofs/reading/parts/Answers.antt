@@ -1,5 +1,5 @@
-use Rattle.msgs_gem.proofs.Parts.{count-met, count-unmet}
-use Rattle.msgs_gem.proofs.part.parts.Goals as goal
+use Rattle.body_parts.proofs.Parts.{count-met, count-unmet}
+use Rattle.body_parts.proofs.reading.parts.Goals as goal
 
 pub returns-in-Ok : goal.returns-in-Ok
 returns-in-Ok g c =

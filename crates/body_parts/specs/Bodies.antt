@@ -100,6 +100,29 @@ two made f g ds = None
 abbrev pub l2 : {A B Z : Type 0} → (A → B → Z) → Form A → Form B → Form Z
 l2 made f g d = of_count 2 d >>= two made f g
 
+-- the values of three items
+abbrev pub three : {A B C Z : Type 0} → (A → B → C → Z) → Form A → Form B → Form C → DataList → Option Z
+three made f g h (item a (item b (item c no_items))) = f a >>= λ x. g b >>= λ y. option_map (made x y) (h c)
+three made f g h ds = None
+
+-- L[a, b, c]
+abbrev pub l3 : {A B C Z : Type 0} → (A → B → C → Z) → Form A → Form B → Form C → Form Z
+l3 made f g h d = of_count 3 d >>= three made f g h
+
+-- the values of five items
+abbrev pub five : {A B C D E Z : Type 0} → (A → B → C → D → E → Z) → Form A → Form B → Form C → Form D → Form E → DataList → Option Z
+five made f g h i j (item a (item b (item c (item d (item e no_items))))) =
+    f a >>= λ v. g b >>= λ w. h c >>= λ x. i d >>= λ y. option_map (made v w x y) (j e)
+five made f g h i j ds = None
+
+-- L[a, b, c, d, e]
+abbrev pub l5 : {A B C D E Z : Type 0} → (A → B → C → D → E → Z) → Form A → Form B → Form C → Form D → Form E → Form Z
+l5 made f g h i j d = of_count 5 d >>= five made f g h i j
+
+-- L[text, any]: a name and its value
+abbrev pub named_value : Form (List ℕ × Data)
+named_value = l2 (λ name value. (name, value)) text any
+
 -- the values of some items, each of this form
 abbrev pub all_of : {A : Type 0} → Form A → DataList → Option (List A)
 all_of f no_items = Some []

@@ -1,6 +1,6 @@
 use Rattle.std.proofs.Common.{refl}
-use Rattle.msgs_gem.proofs.Texts.{text-met}
-use Rattle.msgs_gem.proofs.part.text.Goals as goal
+use Rattle.body_parts.proofs.Texts.{text-met}
+use Rattle.body_parts.proofs.reading.text.Goals as goal
 
 pub returns-in-Ok : goal.returns-in-Ok
 returns-in-Ok c =

@@ -7,10 +7,10 @@ use thiserror::Error;
 /// Why a message is not read. Of several faults the one that stands first here is told.
 #[derive(Clone, Copy, Debug, PartialEq, Eq, Error)]
 pub enum BodyFault {
-    /// No message of the tool has the stream.
+    /// None of the messages that are read has the stream.
     #[error("unknown stream")]
     UnknownStream,
-    /// No message of the stream has the function.
+    /// None of those of the stream has the function.
     #[error("unknown function")]
     UnknownFunction,
     /// The text is not one item of the printed body.

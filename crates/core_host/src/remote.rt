@@ -47,7 +47,7 @@ fn takes(command: RemoteCommand, name: &[u8]) -> bool
 fn is_alid(parameter: &Parameter) -> bool
     ensures { result ≡ bytes_eq parameter.now.0 (codes "ALID") }
 {
-    parameter.cpname().as_bytes() == b"ALID".as_slice()
+    parameter.name().as_bytes() == b"ALID".as_slice()
 }
 
 /// CPACK of a parameter, by whether an ALID was given before it: 1 for an unknown name, 3 for a wrong format, 2 for an
@@ -55,7 +55,7 @@ fn is_alid(parameter: &Parameter) -> bool
 fn cpack(plant: &Plant, command: RemoteCommand, alid_given: bool, parameter: &Parameter) -> u8
     ensures { (earlier : List Parameter) → alid_given ≡ was_given earlier (codes "ALID") → result ≡ cpack (remote_view command) plant.now.alarms earlier parameter.now }
 {
-    if !takes(command, parameter.cpname().as_bytes()) {
+    if !takes(command, parameter.name().as_bytes()) {
         return 1;
     }
     let Some(alid) = parameter.item().as_id() else {
@@ -83,7 +83,7 @@ fn faulty(
         let code = cpack(plant, command, alid_given, parameter);
         if code != 0 {
             faults.push(ParameterAcknowledge {
-                name: parameter.cpname(),
+                name: parameter.name(),
                 cpack: code,
             })?;
         }

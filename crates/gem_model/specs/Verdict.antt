@@ -10,8 +10,8 @@ use Rattle.hsms_frame.specs.declared.frame.Arrival.{Arrival}
 use Rattle.hsms_frame.specs.declared.frame.Arrival.TheVariants as arrival
 use Rattle.secs_items.specs.Data.{Data}
 use Rattle.secs_items.specs.One.{one_item}
-use Rattle.msgs_gem.specs.declared.fault.BodyFault.{BodyFault}
-use Rattle.msgs_gem.specs.declared.fault.BodyFault.TheVariants as fault
+use Rattle.body_parts.specs.declared.fault.BodyFault.{BodyFault}
+use Rattle.body_parts.specs.declared.fault.BodyFault.TheVariants as fault
 use Rattle.msgs_gem.specs.declared.primary.GemMsg.{GemMsg}
 use Rattle.msgs_gem.specs.declared.primary.GemMsg.TheVariants as msg
 use Rattle.msgs_gem.specs.declared.reply.GemReply.{GemReply}

@@ -6,7 +6,7 @@ use Rattle.secs_items.specs.Plain.{count_of}
 use Rattle.secs_items.specs.declared.item.Item.{Item}
 use Rattle.secs_items.specs.View.{view, items_of}
 use Rattle.msgs_gem.specs.Acknowledge.{accepting}
-use Rattle.msgs_gem.specs.Bodies.{◌>>=◌, byte, fixed}
+use Rattle.body_parts.specs.Bodies.{◌>>=◌, byte, fixed}
 
 kept : {A : Type 0} (o : Option A) → is_some (o >>= λ x. Some x) ≡ is_some o
 kept None = refl

@@ -1,18 +1,13 @@
 -- Bounds of the items of replies.
-use Rattle.std.proofs.Common.{◌≡◌, ◌≤◌, ◌^◌, ℕ, length, arith, Result, Ok, Err, IfOk, subst, sym}
+use Rattle.std.proofs.Common.{◌≡◌, ◌^◌, ℕ, arith, Result, Ok, Err, IfOk, subst, sym}
 use Rattle.std.specs.declared.alloc.AllocError.{AllocError}
 use Rattle.secs_items.specs.Data.{Data, DataList, list}
-use Rattle.secs_items.specs.Plain.{plain}
 use Rattle.secs_items.specs.Weight.{IsBounded}
 use Rattle.secs_items.specs.View.{view}
 use Rattle.secs_items.specs.declared.item.Item.{Item}
-use Rattle.secs_items.proofs.Weights.{plain-weight, bounded-list, bounded-more}
+use Rattle.secs_items.proofs.Weights.{bounded-list, bounded-more}
 use Rattle.msgs_gem.specs.Replies.{event}
 use Rattle.msgs_gem.specs.Sendable.{AreFew}
-
--- an item within the bounds of a frame is short
-pub short_text : (d : Data) → IsBounded 5 (2 ^ 31) d → length (plain d) ≤ 2 ^ 31
-short_text d is = omega (arith, plain-weight d, is.size)
 
 -- values
 pub values_bounded : (ds : DataList) → AreFew 1024 1 84 ds → IsBounded 5 (2 ^ 31) (list ds)

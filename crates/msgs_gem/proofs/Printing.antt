@@ -5,7 +5,7 @@ use Rattle.secs_items.specs.Data.{Data, DataList, list, item, added}
 use Rattle.secs_items.specs.Plain.{count_of}
 use Rattle.secs_items.specs.Weight.{IsBounded, AreBounded}
 use Rattle.secs_items.proofs.Weights.{bounded-list}
-use Rattle.msgs_gem.specs.Replies.{items}
+use Rattle.body_parts.specs.Printed.{items}
 
 printed-take : {X : Type 0} (body : X → Data) (xs : List X) (i : ℕ) (x : X) → i < length xs → items (map body (take (suc i) xs)) ≡ added (items (map body (take i xs))) (body (get_or xs i x))
 printed-take body [] i x within = absurd (omega arith)

@@ -12,11 +12,12 @@ use Rattle.secs_items.specs.Sendable.{IsLength, HasShortBodies, HaveShortBodies}
 use Rattle.secs_items.specs.Spelling.{Spells, SpellAll}
 use Rattle.secs_items.specs.Weight.{weight_all, IsBounded}
 use Rattle.secs_items.proofs.Sends.{sendable}
-use Rattle.msgs_gem.specs.Bodies.{Form, ◌>>=◌, all_of, each, l2, two, small_id}
+use Rattle.body_parts.specs.Bodies.{Form, ◌>>=◌, all_of, each, l2, two, small_id}
 use Rattle.msgs_gem.specs.Few.{HasShortText}
 use Rattle.msgs_gem.specs.Functions.{AreFewFunctions}
 use Rattle.msgs_gem.specs.Primaries.{spooled_stream}
-use Rattle.msgs_gem.specs.Replies.{items, U1, code, stream_refusal, spooling}
+use Rattle.body_parts.specs.Printed.{items, U1, code}
+use Rattle.msgs_gem.specs.Replies.{stream_refusal, spooling}
 use Rattle.msgs_gem.specs.declared.primary.SpooledStream.{SpooledStream}
 use Rattle.msgs_gem.specs.declared.reply.StreamRefusal.{StreamRefusal}
 use Rattle.msgs_gem.proofs.Parts.{count-all_of, few_parts}

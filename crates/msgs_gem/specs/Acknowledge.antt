@@ -1,7 +1,7 @@
 -- What the host answers to the tool's own primaries.
 use Rattle.std.specs.Prelude.{ℕ, Bool, Option, option_and_then, is_some}
 use Rattle.secs_items.specs.Data.{Data}
-use Rattle.msgs_gem.specs.Bodies.{Form, l2, fixed, byte, any}
+use Rattle.body_parts.specs.Bodies.{Form, l2, fixed, byte, any}
 
 -- the text of an S1F14 with COMMACK 0: L[B 0, any] (SEMI E5, S1F14; this tool's profile, messages)
 abbrev pub accepting : Form ℕ

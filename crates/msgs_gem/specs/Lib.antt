@@ -1,9 +1,10 @@
 pub mod Acknowledge
-pub mod Bodies
-pub mod Codes
-pub mod Given
 pub mod Primaries
 pub mod Replies
 pub mod Few
 pub mod Functions
 pub mod Sendable
+pub use Rattle.body_parts.specs.Bodies
+pub use Rattle.body_parts.specs.Given
+pub use Rattle.body_parts.specs.Lines
+pub use Rattle.body_parts.specs.Printed

@@ -1,49 +1,13 @@
 -- The bodies of the tool's replies and of its own primaries, as they are printed (SEMI E5; this tool's profile, messages).
-use Rattle.std.specs.Prelude.{ℕ, List, [], ◌∷◌, map, Option, Some, None}
-use Rattle.secs_items.specs.Data.{Data, DataList, list, binary, ascii, u1, u4, u8, no_items, item}
+use Rattle.std.specs.Prelude.{ℕ, List, [], ◌∷◌, Option, Some, None}
+use Rattle.secs_items.specs.Data.{Data, DataList, list}
+pub use Rattle.body_parts.specs.Printed.{items, L, each, A, B, U1, U4, U8, code}
 use Rattle.msgs_gem.specs.declared.reply.AlarmPart.{AlarmPart}
 use Rattle.msgs_gem.specs.declared.reply.GemReply.{GemReply}
 use Rattle.msgs_gem.specs.declared.reply.GemReply.TheVariants as reply
 use Rattle.msgs_gem.specs.declared.reply.ParameterAcknowledge.{ParameterAcknowledge}
 use Rattle.msgs_gem.specs.declared.reply.StreamRefusal.{StreamRefusal}
 use Rattle.msgs_gem.specs.declared.reply.VariableName.{VariableName}
-
--- these items, one after another
-abbrev pub items : List Data → DataList
-items [] = no_items
-items (d ∷ ds) = item d (items ds)
-
--- L[a, ..]
-abbrev pub L : List Data → Data
-L ds = list (items ds)
-
--- L[x*], each x being printed so
-abbrev pub each : {X : Type 0} → (X → Data) → List X → Data
-each body xs = L (map body xs)
-
--- A
-abbrev pub A : List ℕ → Data
-A text = ascii text
-
--- B
-abbrev pub B : List ℕ → Data
-B bytes = binary bytes
-
--- U1 of one element
-abbrev pub U1 : ℕ → Data
-U1 n = u1 (n ∷ [])
-
--- U4 of one element
-abbrev pub U4 : ℕ → Data
-U4 n = u4 (n ∷ [])
-
--- U8 of one element
-abbrev pub U8 : ℕ → Data
-U8 n = u8 (n ∷ [])
-
--- a code: B of one byte
-abbrev pub code : ℕ → Data
-code n = B (n ∷ [])
 
 -- what the tool tells of itself: L[A mdln, A softrev]
 abbrev pub identity : List ℕ → List ℕ → Data

@@ -4,7 +4,7 @@ ghost use Rattle.std.specs.Prelude.{◌≡◌, is_some, option_map};
 ghost use Rattle.secs_items.specs.Data.{list};
 ghost use Rattle.secs_items.specs.View.{view, items_of};
 ghost use Rattle.msgs_gem.specs.Acknowledge.{accepting, accepts};
-ghost use Rattle.msgs_gem.specs.Bodies.{byte, fixed};
+ghost use Rattle.body_parts.specs.Bodies.{byte, fixed};
 
 use secs_items::Item;
 

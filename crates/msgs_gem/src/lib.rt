@@ -6,15 +6,12 @@
 #![tactic(auto)]
 
 mod acknowledge;
-mod fault;
 mod laws;
-mod numbers;
-mod part;
 mod primary;
 mod reply;
 
 pub use acknowledge::accepts_communication;
-pub use fault::BodyFault;
+pub use body_parts::BodyFault;
 pub use laws::{an_ignored_text_makes_no_difference, what_refuses_few_functions_can_be_sent};
 pub use primary::{GemMsg, Parameter, Setting, SpooledStream, is_ignored, read_gem};
 pub use reply::{

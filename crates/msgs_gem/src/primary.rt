@@ -1,20 +1,19 @@
 //! The host's primaries.
 
 ghost use Rattle.std.specs.Prelude.{◌≡◌, IfOk, IfSome, option_map};
-ghost use Rattle.msgs_gem.specs.Bodies.{each, l2, of, text as text_form};
+ghost use Rattle.body_parts.specs.Bodies.{each, l2, named_value, of, text as text_form};
 ghost use Rattle.msgs_gem.specs.Few.{HasFewParts, HasShortText};
-ghost use Rattle.msgs_gem.specs.Given.{Gives};
+ghost use Rattle.body_parts.specs.Given.{Gives};
 ghost use Rattle.msgs_gem.specs.declared.primary.GemMsg.TheVariants.{S2F41, S2F43};
 ghost use Rattle.secs_items.specs.View.{view};
-ghost use Rattle.msgs_gem.specs.Given.{Answers};
-ghost use Rattle.msgs_gem.specs.Primaries.{ignores, parameter, reading, setting, spooled_stream};
+ghost use Rattle.body_parts.specs.Given.{Answers};
+ghost use Rattle.msgs_gem.specs.Primaries.{ignores, reading, setting, spooled_stream};
 
-use crate::fault::BodyFault;
-use crate::numbers::numbers_or_ids;
-use crate::part::{
+use body_parts::reading::{
     Part, byte, characters, copied, flag, id, id_or_empty, ids, list_of, one, parts, small_id,
     text, zero_or_one,
 };
+use body_parts::{BodyFault, NamedValue, numbers_or_ids};
 use gem_ids::{Ids, Listed, Text80};
 use secs_items::{Bytes, Item};
 use std::alloc::Global;
@@ -33,7 +32,7 @@ impl Model for Setting {
     ghost use Rattle.std.specs.Prelude.{ℕ};
     ghost use Rattle.secs_items.specs.Data.{Data};
     ghost use Rattle.secs_items.specs.View.{view as said};
-    ghost use Rattle.msgs_gem.specs.Codes.{number_code};
+    ghost use Rattle.body_parts.specs.Codes.{number_code};
 
     ghost Value = { ℕ × Data };
 
@@ -42,27 +41,8 @@ impl Model for Setting {
     ghost view = { λ s. (s.id, said s.value) };
 }
 
-/// A parameter of a remote command, as S2F41 gives it. Contracts see the text and what the item says.
-#[derive(Debug, Drop)]
-pub struct Parameter {
-    /// CPNAME, the name of the parameter.
-    pub name: Text80,
-    /// CPVAL, its value, which may be an item of any kind.
-    pub value: Item,
-}
-
-impl Model for Parameter {
-    ghost use Rattle.std.specs.Prelude.{ℕ, List};
-    ghost use Rattle.secs_items.specs.Data.{Data};
-    ghost use Rattle.secs_items.specs.View.{view as said};
-    ghost use Rattle.msgs_gem.specs.Codes.{text_code};
-
-    ghost Value = { List ℕ × Data };
-
-    ghost coded = { text_code };
-
-    ghost view = { λ p. (p.name, said p.value) };
-}
+/// A parameter of a remote command, as S2F41 gives it: CPNAME, and CPVAL, which may be an item of any kind.
+pub type Parameter = NamedValue;
 
 /// A stream, and its functions whose notes are to be spooled, as S2F43 gives them.
 #[derive(Debug, Drop)]
@@ -89,22 +69,6 @@ impl Setting {
     }
 }
 
-impl Parameter {
-    /// CPNAME, the name.
-    pub fn cpname(&self) -> Text80
-        ensures { result ≡ self.now.0 }
-    {
-        self.name
-    }
-
-    /// CPVAL, the item of its value.
-    pub fn item(&self) -> &Item
-        ensures { view result.now ≡ self.now.1 }
-    {
-        &self.value
-    }
-}
-
 impl Part for Setting {
     ghost form = { setting };
 
@@ -112,18 +76,6 @@ impl Part for Setting {
         let [ecid, value] = parts::<2>(item)?;
         Ok(Setting {
             id: id(ecid)?,
-            value: copied(value)?,
-        })
-    }
-}
-
-impl Part for Parameter {
-    ghost form = { parameter };
-
-    fn of_item(_alloc: Global, item: &Item) -> Result<Parameter, BodyFault> {
-        let [name, value] = parts::<2>(item)?;
-        Ok(Parameter {
-            name: text(name)?,
             value: copied(value)?,
         })
     }
@@ -263,7 +215,7 @@ fn read_stream_2(alloc: Global, function: u8, item: Option<&Item>) -> Result<Gem
 
 // A remote command and its parameters.
 fn remote_command(alloc: Global, item: &Item) -> Result<GemMsg, BodyFault>
-    ensures form { Gives (λ m. m) result (l2 S2F41 text_form (each parameter) (view item.now)) }
+    ensures form { Gives (λ m. m) result (l2 S2F41 text_form (each named_value) (view item.now)) }
     ensures few { HasShortText (view item.now) → IfOk result HasFewParts }
 {
     let [command, parameters] = parts::<2>(item)?;

@@ -1,18 +1,19 @@
 //! The tool's replies, and its own primaries.
 
 ghost use Rattle.std.specs.Prelude.{◌≡◌, ◌<◌, ◌≤◌, ◌^◌, List, length, map, IfOk};
-ghost use Rattle.gem_ids.specs.Texts.{IsText};
-ghost use Rattle.secs_items.specs.Data.{Data, list as list_data};
+ghost use Rattle.secs_items.specs.Data.{Data};
 ghost use Rattle.secs_items.specs.Plain.{plain};
 ghost use Rattle.secs_items.specs.Sendable.{IsSendable};
-ghost use Rattle.secs_items.specs.View.{view, items_of};
+ghost use Rattle.secs_items.specs.View.{view};
 ghost use Rattle.secs_items.specs.Weight.{IsBounded};
 ghost use Rattle.msgs_gem.specs.Functions.{AreFewFunctions};
-ghost use Rattle.msgs_gem.specs.Replies.{A, B, U1, U4, U8, alarm as alarm_data, alarm_code as alarm_code_data, alarm_part, code as code_data, each, event as event_data, identity, parameter_acknowledge, reply_body, spooling, stream_refusal as stream_refusal_data, variable_name};
+ghost use Rattle.body_parts.specs.Printed.{U1, each};
+ghost use Rattle.msgs_gem.specs.Replies.{alarm as alarm_data, alarm_code as alarm_code_data, alarm_part, event as event_data, identity, parameter_acknowledge, reply_body, spooling, stream_refusal as stream_refusal_data, variable_name};
 ghost use Rattle.msgs_gem.specs.Sendable.{AreFew, HasSendableParts};
 
+use body_parts::writing::{ascii, binary, code, elements, list, text, u1, u4, u8};
 use gem_ids::{Listed, Text80};
-use secs_items::{Bytes, Item, Items, NoMemory, U8s, U32s, U64s};
+use secs_items::{Bytes, Item, Items, NoMemory};
 use std::alloc::Global;
 
 /// What the tool tells of itself.
@@ -143,7 +144,7 @@ pub enum GemReply {
 /// bytes and 1 deep; of reports 16, of 5,392 bytes and 3 deep. Of names and alarms there are at most 1,024, and of
 /// parameters fewer than 16,777,216; so are streams that are refused, and the functions of each, which are at most
 /// 268,435,456 together.
-#[tactic(auto, using(crate::proofs::Bounds::short_text))]
+#[tactic(auto, using(body_parts::proofs::Bounds::short_text))]
 pub fn gem_item(alloc: Global, reply: &GemReply) -> Result<Item, NoMemory>
     ensures exact { IfOk result (λ item. view item ≡ reply_body reply.now) }
     ensures sendable { HasSendableParts reply.now → IfOk result (λ item. IsSendable (view item)) }
@@ -333,66 +334,8 @@ fn list_of<T: Printed>(alloc: Global, parts: &[T]) -> Result<Item, NoMemory>
     Ok(Item::List(items))
 }
 
-// A list of these items, which are copied.
-fn elements(items: &Items) -> Result<Item, NoMemory>
-    ensures { IfOk result (λ item. view item ≡ list_data items.now) }
-{
-    Ok(Item::List(items.clone()?))
-}
-
 fn model_and_revision(alloc: Global, mdln: &Bytes, softrev: &Bytes) -> Result<Item, NoMemory>
     ensures { IfOk result (λ item. view item ≡ identity mdln.now softrev.now) }
 {
     list(alloc, [ascii(mdln)?, ascii(softrev)?])
-}
-
-// A list of these items.
-fn list<const N: usize>(alloc: Global, items: [Item; N]) -> Result<Item, NoMemory>
-    ensures { IfOk result (λ item. view item ≡ list_data (items_of items.entry)) }
-{
-    Ok(Item::List(Items::from_vec(Vec::from_array(alloc, items)?)))
-}
-
-fn ascii(text: &Bytes) -> Result<Item, NoMemory>
-    ensures { IfOk result (λ item. view item ≡ A text.now) }
-{
-    Ok(Item::Ascii(text.clone()?))
-}
-
-fn binary(bytes: &Bytes) -> Result<Item, NoMemory>
-    ensures { IfOk result (λ item. view item ≡ B bytes.now) }
-{
-    Ok(Item::Binary(bytes.clone()?))
-}
-
-// A code, which is a B of one byte.
-fn code(alloc: Global, code: u8) -> Result<Item, NoMemory>
-    ensures { IfOk result (λ item. view item ≡ code_data code) }
-{
-    Ok(Item::Binary(Bytes::from_vec(vec![in alloc; code]?)))
-}
-
-fn text(alloc: Global, text: &Text80) -> Result<Item, NoMemory>
-    ensures exact { IfOk result (λ item. view item ≡ A text.now) }
-    ensures text { IsText text.now }
-{
-    Ok(Item::Ascii(Bytes::from_vec(Vec::from_slice(alloc, text.as_bytes())?)))
-}
-
-fn u1(alloc: Global, number: u8) -> Result<Item, NoMemory>
-    ensures { IfOk result (λ item. view item ≡ U1 number) }
-{
-    Ok(Item::U1(U8s::from_vec(vec![in alloc; number]?)))
-}
-
-fn u4(alloc: Global, number: u32) -> Result<Item, NoMemory>
-    ensures { IfOk result (λ item. view item ≡ U4 number) }
-{
-    Ok(Item::U4(U32s::from_vec(vec![in alloc; number]?)))
-}
-
-fn u8(alloc: Global, number: u64) -> Result<Item, NoMemory>
-    ensures { IfOk result (λ item. view item ≡ U8 number) }
-{
-    Ok(Item::U8(U64s::from_vec(vec![in alloc; number]?)))
 }

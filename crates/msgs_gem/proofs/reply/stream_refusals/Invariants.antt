@@ -1,5 +1,6 @@
 use Rattle.std.proofs.Common.{◌≡◌, map, take}
-use Rattle.msgs_gem.specs.Replies.{items, stream_refusal}
+use Rattle.body_parts.specs.Printed.{items}
+use Rattle.msgs_gem.specs.Replies.{stream_refusal}
 use Rattle.msgs_gem.proofs.reply.stream_refusals.Given as goal
 
 -- the items are those of the refusals so far

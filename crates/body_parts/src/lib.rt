@@ -1,0 +1,15 @@
+//! Parts of bodies of messages (SEMI E5, item formats; this tool's profile, messages), for the crates that have the
+//! bodies of some streams: the words that a body is printed with (`specs`), a reader and a writer of each part, and why a
+//! message is not read. Which message has which body is left to those crates, and so is what it means. Begin with the
+//! readers of `reading`, as `id` and `list_of`, and the writers of `writing`, as `code` and `list`.
+#![tactic(auto)]
+
+mod fault;
+mod named_value;
+mod numbers;
+pub mod reading;
+pub mod writing;
+
+pub use fault::BodyFault;
+pub use named_value::NamedValue;
+pub use numbers::numbers_or_ids;

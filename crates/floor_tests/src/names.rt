@@ -1,0 +1,19 @@
+//! Names of carriers.
+
+use gem_ids::{CarrierId, Text80};
+use std::test::Fail;
+
+// The name of a carrier of these bytes.
+pub(crate) fn id(name: &[u8]) -> Result<CarrierId, Fail> {
+    match CarrierId::read(Text80::read(name)?) {
+        Some(id) => Ok(id),
+        None => Err(Fail::new("no name of a carrier")),
+    }
+}
+
+// The name of a carrier of a number below 100.
+pub(crate) fn numbered(number: u8) -> Result<CarrierId, Fail> {
+    let tens = (number / 10).saturating_add(b'0');
+    let ones = (number % 10).saturating_add(b'0');
+    id(&[b'C', tens, ones])
+}

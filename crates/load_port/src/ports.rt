@@ -1,0 +1,248 @@
+//! The load ports of a tool.
+
+ghost use Rattle.std.specs.Prelude.{◌≡◌, ◌≤◌, length, map, slice_get, option_map, Some, None};
+ghost use Rattle.std.specs.List.{list_any};
+ghost use Rattle.gem_tables.specs.Table.{update_at};
+ghost use Rattle.load_port.specs.Ports.{first_ports, most_ports, fires_row, starts_row, view_of, is_no_port, port_numbered, reserve_code, cancel_code, access_code, port_caack};
+
+use crate::action::{PortAction, PortView};
+use crate::port::{Arrival, Port};
+use arrayvec::ArrayVec;
+use gem_ids::CarrierId;
+use std::marker::Model;
+
+/// The most ports of a tool (this tool's profile, variables).
+pub const MOST_PORTS: usize = 4;
+
+/// The load ports of a tool in the order of their numbers, which contracts see as the list of them. A port's place is
+/// counted from 0, its number from 1. No call takes memory.
+#[derive(Drop)]
+pub struct Ports {
+    ports: ArrayVec<Port, MOST_PORTS>,
+}
+
+impl Model for Ports {
+    ghost use Rattle.std.specs.Prelude.{List, length, ◌≤◌};
+    ghost use Rattle.load_port.specs.declared.port.Port.{Port};
+    ghost use Rattle.load_port.specs.Ports.{most_ports};
+
+    ghost Value = { List Port };
+
+    ghost view = { λ p. p.ports.items };
+
+    ghost invariant = { λ p. length p.ports.items ≤ most_ports };
+}
+
+impl Ports {
+    /// So many ports, 0 to 4, as they begin.
+    pub fn new(count: u8) -> Ports
+        requires { count ≤ most_ports }
+        ensures { result ≡ first_ports count }
+    {
+        let mut ports = ArrayVec::from([Port::new(); MOST_PORTS]);
+        ports.truncate(count as usize);
+        Ports { ports }
+    }
+
+    // ---- what they say
+
+    /// How many ports there are, 0 to 4.
+    pub fn len(&self) -> usize
+        ensures len { result ≡ length self.now }
+        ensures few { length self.now ≤ most_ports }
+    {
+        self.ports.len()
+    }
+
+    /// The port at a place, counted from 0. `None` exactly where there is none.
+    pub fn get(&self, place: usize) -> Option<Port>
+        ensures { result ≡ slice_get self.now place }
+    {
+        self.ports.as_slice().get(place).copied()
+    }
+
+    /// What carriers are told of the port at a place, counted from 0. `None` exactly where there is none.
+    pub fn view(&self, place: usize) -> Option<PortView>
+        ensures { result ≡ option_map view_of (slice_get self.now place) }
+    {
+        match self.get(place) {
+            Some(port) => Some(port.view()),
+            None => None,
+        }
+    }
+
+    /// What carriers are told of all ports, in their order.
+    pub fn views(&self) -> ArrayVec<PortView, MOST_PORTS>
+        ensures { result.items ≡ map view_of self.now }
+    {
+        let mut views = ArrayVec::new();
+        for port in self.ports.as_slice() {
+            views.push(port.view());
+        }
+        views
+    }
+
+    // ---- what is asked of them
+
+    /// What the host is answered of an action on ports by the states before it, CAACK (SEMI E87, S3F26 and S3F28; this
+    /// tool's profile): 0 where it can be done, 1 for an unknown action, 3 for a port that isn't there and for a mode other
+    /// than 0 and 1, 5 where the port's states forbid it. Changes nothing.
+    pub fn verdict(&self, a: &PortAction) -> u8
+        ensures { result ≡ port_caack self.now a.now }
+    {
+        match a {
+            PortAction::Reserve(port) => reserve_code(self.numbered(*port)),
+            PortAction::CancelReserve(port) => cancel_code(self.numbered(*port)),
+            PortAction::Access(mode, numbers) => self.access_code(*mode, numbers.as_slice()),
+            PortAction::Unknown => 1,
+        }
+    }
+
+    // The port of a number, counted from 1.
+    fn numbered(&self, number: u8) -> Option<Port>
+        ensures { result ≡ port_numbered number self.now }
+    {
+        if number == 0 {
+            None
+        } else {
+            self.get(number as usize - 1)
+        }
+    }
+
+    // What the host is answered that sets the access mode of these ports.
+    fn access_code(&self, mode: u8, numbers: &[u8]) -> u8
+        ensures { result ≡ access_code mode numbers.now self.now }
+    {
+        if mode > 1 || self.any_no_port(numbers) {
+            3
+        } else {
+            0
+        }
+    }
+
+    // Whether one of the numbers is that of no port.
+    fn any_no_port(&self, numbers: &[u8]) -> bool
+        ensures { result ≡ list_any (λ n. is_no_port n self.now) numbers.now }
+    {
+        for number in numbers {
+            if self.is_no_port(*number) {
+                return true;
+            }
+        }
+        false
+    }
+
+    // Whether the number is that of no port.
+    fn is_no_port(&self, number: u8) -> bool
+        ensures { result ≡ is_no_port number self.now }
+    {
+        number == 0 || self.len() < number as usize
+    }
+
+    // ---- what happens to them
+
+    // The port at a place is this one; where there is none, nothing changes.
+    fn put(&mut self, place: usize, port: Port)
+        ensures { self.new ≡ update_at place (λ _. port) self.old }
+    {
+        if place < self.ports.len() {
+            self.ports[place] = port;
+        }
+    }
+
+    /// Fires a row of table 4, 5, 6 or 7 at the port of a place, counted from 0: true exactly where there is a port of that
+    /// place at whose states the row starts. The port's state in the row's table is then the row's end, and all else stays;
+    /// false changes nothing. What a row wants besides the states, and what it does besides, is for the caller.
+    pub fn fire(&mut self, place: usize, table: u8, row: u8) -> bool
+        ensures fires { result ≡ starts_row table row (slice_get self.old place) }
+        ensures after { self.new ≡ update_at place (fires_row table row) self.old }
+    {
+        match self.get(place) {
+            None => false,
+            Some(port) => {
+                let mut changed = port;
+                let fires = changed.states.fire(table, row);
+                self.put(place, changed);
+                fires
+            }
+        }
+    }
+
+    /// This carrier, or none, belongs to the port of a place, counted from 0. Where there is no such port, nothing changes.
+    pub fn own(&mut self, place: usize, carrier: Option<CarrierId>)
+        ensures { self.new ≡ update_at place (λ p. record p { carrier = carrier }) self.old }
+    {
+        if let Some(port) = self.get(place) {
+            self.put(place, Port { carrier, ..port });
+        }
+    }
+
+    /// A carrier came to the port of a place, counted from 0, and isn't told of yet. Where there is no such port, nothing
+    /// changes.
+    pub fn come(&mut self, place: usize, arrival: Arrival)
+        ensures { self.new ≡ update_at place (λ p. record p { arrival = Some arrival }) self.old }
+    {
+        if let Some(port) = self.get(place) {
+            self.put(
+                place,
+                Port {
+                    arrival: Some(arrival),
+                    ..port
+                },
+            );
+        }
+    }
+
+    /// This carrier belongs to the port of a place, counted from 0, and what came there is told of. Where there is no such
+    /// port, nothing changes.
+    pub fn settle(&mut self, place: usize, name: CarrierId)
+        ensures { self.new ≡ update_at place (λ p. record p { carrier = Some name; arrival = None }) self.old }
+    {
+        if let Some(port) = self.get(place) {
+            self.put(
+                place,
+                Port {
+                    carrier: Some(name),
+                    arrival: None,
+                    ..port
+                },
+            );
+        }
+    }
+}
+
+// What the host is answered that reserves a port.
+fn reserve_code(port: Option<Port>) -> u8
+    ensures { result ≡ reserve_code port }
+{
+    match port {
+        None => 3,
+        Some(p) => {
+            let transfer = p.states.transfer;
+            if p.states.reservation.is_reserved()
+                || !transfer.is_in_service()
+                || transfer.is_occupied()
+            {
+                5
+            } else {
+                0
+            }
+        }
+    }
+}
+
+// What the host is answered that cancels the reservation of a port.
+fn cancel_code(port: Option<Port>) -> u8
+    ensures { result ≡ cancel_code port }
+{
+    match port {
+        None => 3,
+        Some(p) => {
+            if p.states.reservation.is_reserved() {
+                0
+            } else {
+                5
+            }
+        }
+    }
+}

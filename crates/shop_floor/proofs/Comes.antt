@@ -135,13 +135,3 @@ new-replaced row place f is starts e = subst (λ r. creates (firing 7 place r) f
   of (Some p) w e =
       let both = and_parts (port_starts 7 4 p.states) (may_associate 4 place p f.carriers) w in
       new_kept p.carrier p.arrival f.carriers (and_parts (is_some p.arrival) (not (is_own p.carrier p.arrival)) both.1).1 e
-
--- rows 3 and 5 create it
-pub new-arrived : (row place : ℕ) (f : Floor) → (row ≡ 3) ⊎ (row ≡ 5) → is_new (arrival_at (slice_get f.ports place)) f.carriers ≡ true → creates (firing 7 place row) f ≡ true
-new-arrived row place f either new = of either where
-  with : (n : ℕ) → is_arrival_row n ≡ true → row ≡ n → creates (firing 7 place row) f ≡ true
-  with n arrives is = subst (λ r. creates (firing 7 place r) f ≡ true) (sym is) (rw (arrives, new) refl)
-
-  of : (row ≡ 3) ⊎ (row ≡ 5) → creates (firing 7 place row) f ≡ true
-  of (inl is) = with 3 refl is
-  of (inr is) = with 5 refl is

@@ -1,5 +1,5 @@
 -- The port of a row that starts is there.
-use Rattle.std.proofs.Common.{◌≡◌, ℕ, ◌<◌, Bool, true, false, List, length, cond, Option, Some, None, slice_get, refl, arith}
+use Rattle.std.proofs.Common.{◌≡◌, ◌<◌, Bool, true, false, cond, Option, Some, None, slice_get, refl, arith}
 use Rattle.std.proofs.lemmas.Option.{slice_get_within}
 use Rattle.gem_tables.specs.Table.{Firing}
 use Rattle.load_port.specs.declared.port.Port.{Port}

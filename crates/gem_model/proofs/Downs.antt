@@ -14,7 +14,8 @@ use Rattle.gem_model.specs.Due.{all_done, dues_with, expired, timeouts, is_due}
 use Rattle.gem_model.specs.Settle.{settled}
 use Rattle.gem_model.specs.Step.{Outcome, acts, after, answered, operated, quits, settles, step, step_from, switched, ticked}
 use Rattle.gem_model.specs.Feed.{Given, input}
-use Rattle.gem_model.proofs.Same.{same_listed, same_settled, same_switched, same_then}
+use Rattle.gem_model.specs.Signals.{signalled}
+use Rattle.gem_model.proofs.Same.{same_listed, same_settled, same_signal, same_switched, same_then}
 use Rattle.gem_model.proofs.Steps.{due_up, ended_down, goes_all, goes_same, timeouts_end_none}
 use Rattle.gem_model.proofs.Taking.{take_down}
 use Rattle.gem_model.proofs.Tests.{went, none_some}
@@ -93,4 +94,4 @@ pub oper_down : (g : State) (at : ℕ) (command : OperCmd) → is_up g ≡ false
 oper_down g at command down = input_down g at (event.Oper command) (λ before g o down is. the_down (operated command g) o (operated_down g command down) is) down
 
 pub signal_down : (g : State) (at : ℕ) (signal : Signal) → is_up g ≡ false → is_up (input g at (event.Signal signal)).state ≡ false
-signal_down g at signal down = input_down g at (event.Signal signal) (λ before g o down is. the_down (answered answer.Done g) o down is) down
+signal_down g at signal down = input_down g at (event.Signal signal) (λ before g o down is. the_down (answered answer.Done (signalled signal g)) o ((goes_same g (signalled signal g) (same_signal g signal)).up ∙ down) is) down

@@ -1,5 +1,5 @@
 -- The rows of the line of notes that fire by themselves: which is ready, and what they do.
-use Rattle.std.proofs.Common.{◌≡◌, ℕ, ◌+◌, ◌≤◌, ◌==◌, Bool, true, false, if◌then◌else◌, List, [], ◌∷◌, Option, Some, None, option_map, refl, sym, subst, arith}
+use Rattle.std.proofs.Common.{◌≡◌, ℕ, ◌≤◌, List, [], ◌∷◌, Option, Some, None, option_map, refl, subst, arith}
 use Rattle.std.specs.List.{AllByRecursion}
 use Rattle.gem_tables.specs.Table.{Firing, firing}
 use Rattle.gem_rows.specs.Events.{ceid_of}
@@ -8,7 +8,7 @@ use Rattle.note_line.specs.declared.around.Around.{Around}
 use Rattle.note_line.specs.Line.{Line, open_oldest_of, with_head, sent}
 use Rattle.note_line.specs.Table3.{Row, line_table, least}
 use Rattle.note_line.specs.Left.{told_weight}
-use Rattle.note_line.proofs.Keeps.{IsLeast, least_is}
+use Rattle.note_line.proofs.Keeps.{least_is}
 use Rattle.gem_model.specs.State.{State, around}
 use Rattle.gem_model.specs.Ready.{ready_line}
 use Rattle.gem_model.proofs.Tests.{none_some}

@@ -1,5 +1,5 @@
 -- The line of notes goes on: it stays valid, and what became of a note stays.
-use Rattle.std.proofs.Common.{◌≡◌, ℕ, ◌+◌, ◌*◌, ◌==◌, Bool, true, false, if◌then◌else◌, List, [], ◌∷◌, ◌++◌, Option, Some, None, option_map, refl, subst, sym, is_some}
+use Rattle.std.proofs.Common.{◌≡◌, ℕ, ◌+◌, ◌*◌, ◌==◌, Bool, true, false, not, ◌&&◌, if◌then◌else◌, List, [], ◌∷◌, ◌++◌, Option, Some, None, option_map, refl, subst, sym, is_some}
 use Rattle.std.specs.Option.{option_or}
 use Rattle.hsms_frame.specs.declared.frame.Header.{Header}
 use Rattle.hsms_frame.specs.declared.frame.Arrival.{Arrival}
@@ -41,18 +41,27 @@ use Rattle.gem_model.specs.State.{State, is_up, is_session_up, is_online, around
 use Rattle.gem_model.specs.Sending.{asks, identity_text, sends_stream9, data_header}
 use Rattle.gem_model.specs.Values.{Occasion, object_name}
 use Rattle.gem_model.specs.Noting.{line_behind, line_with_event, is_event_reported, is_alarm_reported, clears_alarm}
-use Rattle.gem_model.specs.Fire.{fire, fires, fire_listed, fire_comm, fire_control, fire_line, takes_effect, row_starts, delay_end, forgets, of_comm, of_control, of_line}
+use Rattle.gem_model.specs.Fire.{fire, fires, fire_listed, fire_comm, fire_control, fire_line, fire_floor, takes_effect, row_starts, delay_end, forgets, of_comm, of_control, of_line}
 use Rattle.gem_model.specs.Remote.{RemoteCommand, GoLocal, ClearAlarm, Parameter, accepted, alarm_named}
 use Rattle.gem_model.specs.Spooling.{rspack, kinds_of, spools, unload_rows}
 use Rattle.gem_model.specs.Direct.{by_comm, by_control, note_fails, attempt_fails, all_fail, operator_rows, command_rows, message_rows, answer_rows, timeout_rows, session_end_rows, establish_answer, attempt_answer}
-use Rattle.gem_model.specs.Ready.{least, ready_comm, ready_control, ready_line}
-use Rattle.gem_model.specs.Verdict.{Verdict, Discarded, Stream9, Aborted, Answers, Taken, verdict, header_of, item_of, wants_reply, function_of, reply_to}
-use Rattle.gem_model.specs.Act.{written, clock_set, clears_named, command_written, note_answered, replied, taken, closed_by, data_act, session_ended}
+use Rattle.gem_model.specs.Ready.{least, ready_comm, ready_control, ready_line, ready_floor}
+use Rattle.gem_model.specs.Verdict.{Verdict, Discarded, Stream9, Aborted, Answers, Taken, ShopTaken, verdict, header_of, item_of, wants_reply, function_of, reply_to}
+use Rattle.gem_model.specs.Act.{written, clock_set, clears_named, command_written, note_answered, replied, taken, shop_replied, shop_taken, closed_by, data_act, session_ended}
 use Rattle.gem_model.specs.Due.{Due, EndOfSession, Linktest, Timeout, dues, is_due, all_done, timed_out}
 use Rattle.gem_model.specs.Settle.{settled}
 use Rattle.gem_model.specs.Step as steps
 use Rattle.gem_model.specs.Step.{Outcome, step, step_from, acts, linked, hosted, can_clear, operated, switched, quits, ticked, settles}
 use Rattle.gem_model.proofs.Tests.{went, either_way, or_went, none_some}
+use Rattle.shop_floor.specs.Rows.{floor_starts}
+use Rattle.tool_events.specs.declared.event.Signal.{Signal}
+use Rattle.event_reports.specs.Alarms.{is_alarm, set_alarm}
+use Rattle.gem_model.specs.Noting.{sets_alarm}
+use Rattle.msgs_300.specs.Primaries.{Message}
+use Rattle.msgs_300.specs.Replies.{shop_reply_body}
+use Rattle.gem_model.specs.Shop.{shop_reply_to}
+use Rattle.gem_model.specs.Signals.{signalled, is_ready_to_unload}
+use Rattle.gem_model.proofs.FloorRows.{LeftAlone, alone_fire, alone_listed, alone_asked, alone_signalled, ready_is, service_are, access_are, is_8}
 use Rattle.gem_model.proofs.Settling.{settled_keeps}
 
 pub keeps-same : (l : Line) → LineValid l → Keeps l l
@@ -117,16 +126,16 @@ lined_fire g f effect =
 abbrev IsListed : Firing → Type 0
 IsListed f = (f.table == 3) ≡ true → is_direct f.row ≡ true
 
-by_tables : (first second third : Bool) (row : ℕ) (g : State) → (third ≡ true → is_direct row ≡ true) →
-    (if first then starts communication_table row (comm_number g.comm) else (if second then starts control_table row (control_number g.control) else (if third then line_starts (around g) row g.line else false))) ≡ true →
-    Lined g (if first then fire_comm row g else (if second then fire_control row g else (if third then fire_line row g else g)))
-by_tables true second third row g listed is = lined_same g (fire_comm row g) (line_comm g row)
-by_tables false true third row g listed is = lined_same g (fire_control row g) (line_control g row)
-by_tables false false true row g listed is = direct-keeps (around g) g.line row (listed refl) is
-by_tables false false false row g listed is = lined_at g
+by_tables : (first second third : Bool) (f : Firing) (row : ℕ) (g : State) → (third ≡ true → is_direct row ≡ true) →
+    (if first then starts communication_table row (comm_number g.comm) else (if second then starts control_table row (control_number g.control) else (if third then line_starts (around g) row g.line else floor_starts f g.floor))) ≡ true →
+    Lined g (if first then fire_comm row g else (if second then fire_control row g else (if third then fire_line row g else fire_floor f g)))
+by_tables true second third f row g listed is = lined_same g (fire_comm row g) (line_comm g row)
+by_tables false true third f row g listed is = lined_same g (fire_control row g) (line_control g row)
+by_tables false false true f row g listed is = direct-keeps (around g) g.line row (listed refl) is
+by_tables false false false f row g listed is = lined_same g (fire_floor f g) refl
 
 lined_direct : (g : State) (f : Firing) → IsListed f → row_starts g f ≡ true → Lined g (fire g f)
-lined_direct g f listed is = lined_fire g f (by_tables (f.table == 1) (f.table == 2) (f.table == 3) f.row g listed is)
+lined_direct g f listed is = lined_fire g f (by_tables (f.table == 1) (f.table == 2) (f.table == 3) f f.row g listed is)
 
 -- each of these firings is of such a row
 abbrev AreListed : List Firing → Type 0
@@ -173,6 +182,23 @@ lined_comm t g = lined_listed (by_comm t) (listed_comm (comm_rows t)) g
 lined_control : (t : ControlTrigger) (g : State) → Lined g (fires (by_control t) g)
 lined_control t g = lined_listed (by_control t g) (listed_control (control_rows t g.switch_local)) g
 
+-- ---- the floor
+
+lined_alone : (g : State) → LeftAlone (Lined g)
+lined_alone g = record {
+  floor = λ h x lined. lined;
+  noted = λ h event o online lined. lined_then g h (record h { line = line_behind event o online h }) lined (lined_event event o online h);
+}
+
+lined_set : (g : State) (alid : ℕ) → Lined g (sets_alarm alid g)
+lined_set g alid valid =
+    either_way (λ (h : State). Keeps g.line h.line) (is_alarm alid g.alarms && not (is_set alid g.alarms)) _ g
+    (either_way (Keeps g.line) (is_alarm_reported alid (record g { alarms = set_alarm alid g.alarms })) _ g.line (noted-keeps _ _ _ g.line valid) (keeps-same g.line valid))
+    (keeps-same g.line valid)
+
+lined_signalled : (s : Signal) (g : State) → Lined g (signalled s g)
+lined_signalled s g = alone_signalled (Lined g) (lined_alone g) (λ h alid lined. lined_then g h (sets_alarm alid h) lined (lined_set h alid)) s g (lined_at g)
+
 -- ---- settling
 
 lined_line : (g : State) (row : ℕ) → table.least (around g) g.line ≡ Some row → Lined g (fire g (firing 3 0 row))
@@ -187,15 +213,18 @@ lined_firing g f one lined here = let same : one ≡ f = cc in subst (λ (x : Fi
 
 lined_automatic : (g : State) (f : Firing) → least g ≡ Some f → Lined g (fire g f)
 lined_automatic g f ready =
-    or_went (ready_comm g) (option_or (ready_control g) (ready_line g)) f
+    or_went (ready_comm g) (option_or (ready_control g) (option_or (ready_line g) (ready_floor g))) f
     (λ at. went _ _ _ _ (λ over e. lined_firing g f (firing 1 0 3) (lined_fire g (firing 1 0 3) (lined_same g (fire_comm 3 g) (line_comm g 3))) e) (λ _ e. none_some f e) at)
-    (λ _ behind. or_went (ready_control g) (ready_line g) f
+    (λ _ behind. or_went (ready_control g) (option_or (ready_line g) (ready_floor g)) f
     (λ at. went _ _ _ _ (λ can e. lined_firing g f (firing 2 0 2) (lined_fire g (firing 2 0 2) (lined_same g (fire_control 2 g) (line_control g 2))) e) (λ _ e. none_some f e) at)
-    (λ _ at. lined_ready g f _ refl at) behind)
+    (λ _ last. or_went (ready_line g) (ready_floor g) f (λ at. lined_ready g f _ refl at) (λ _ at. alone_fire (Lined g) (lined_alone g) g f (ready_is g f at) (lined_at g)) last) behind)
     ready
 
+lined_creation : (g : State) (n : ℕ) → Lined g (fire g (firing 8 n 1))
+lined_creation g n = alone_fire (Lined g) (lined_alone g) g (firing 8 n 1) (is_8 n 1) (lined_at g)
+
 lined_settled : (g : State) → Lined g (settled g)
-lined_settled g = settled_keeps (Lined g) (λ h f ready lined. lined_then g h (fire h f) lined (lined_automatic h f ready)) g (lined_at g)
+lined_settled g = settled_keeps (Lined g) (λ h f ready lined. lined_then g h (fire h f) lined (lined_automatic h f ready)) (λ h n lined. lined_then g h (fire h (firing 8 n 1)) lined (lined_creation h n)) g (lined_at g)
 
 -- ---- data messages
 
@@ -284,6 +313,10 @@ lined_taken g h m =
     lined_then g told (taken h m g) (lined_replied g h (function_of h + 1) text)
     (lined_then told (written m told) (taken h m g) (lined_written told m) (lined_message m (written m told)))
 
+lined_shop : (g : State) (h : Header) (m : Message) → Lined g (shop_taken h m g)
+lined_shop g h m =
+    alone_asked (Lined g) (lined_alone g) m (shop_replied h m g) (lined_replied g h (function_of h + 1) (plain (shop_reply_body (shop_reply_to g m))))
+
 lined_note : (g : State) (w : What) → Lined g (note_answered w g)
 lined_note g what.Establish valid = lined_at g valid
 lined_note g what.Attempt valid = lined_at g valid
@@ -307,6 +340,7 @@ lined_act g h item (Stream9 function) = lined_at g
 lined_act g h item Aborted = lined_replied g h 0 []
 lined_act g h item Answers = lined_closed g h item _
 lined_act g h item (Taken m) = lined_taken g h m
+lined_act g h item (ShopTaken m) = lined_shop g h m
 
 -- ---- the end of a session, and operators
 
@@ -322,8 +356,8 @@ lined_operator oper.Offline g = lined_control trigger.Offline g
 lined_operator oper.Local g = lined_control trigger.Local g
 lined_operator oper.Remote g = lined_control trigger.Remote g
 lined_operator oper.Quit g = lined_at g
-lined_operator (oper.Service p on) g = lined_at g
-lined_operator (oper.Access p on) g = lined_at g
+lined_operator (oper.Service p on) g = alone_listed (Lined g) (lined_alone g) (operator_rows (oper.Service p on) g) (service_are on g.floor p.0) g (lined_at g)
+lined_operator (oper.Access p on) g = alone_listed (Lined g) (lined_alone g) (operator_rows (oper.Access p on) g) (access_are on g.floor p.0) g (lined_at g)
 lined_operator (oper.Job j w) g = lined_at g
 lined_operator (oper.CtlJob j n) g = lined_at g
 lined_operator (oper.Up m) g = lined_at g
@@ -417,11 +451,11 @@ lined_acts before g (event.Host session arrival) o here =
     (λ _ e. the_lined g _ o (lined_at g) e) here
 lined_acts before g (event.Take session) o here = went (is_session_up g session) _ _ _ (λ _ e. lined_frame g g.waiting o e) (λ _ e. the_lined g _ o (lined_at g) e) here
 lined_acts before g (event.Oper command) o here = the_lined g (operated command g) o (lined_operated command g) here
-lined_acts before g (event.Signal signal) o here = the_lined g _ o (lined_at g) here
+lined_acts before g (event.Signal signal) o here = the_lined g _ o (lined_signalled signal g) here
 lined_acts before g (event.Fetch m) o here = none_some o here
 lined_acts before g event.Tick o here = went (is_due before g) _ _ _ (λ _ e. the_lined g _ o (lined_all (dues g) g) e) (λ _ e. none_some o e) here
 lined_acts before g event.Listen o here = none_some o here
-lined_acts before g (event.Watch port) o here = none_some o here
+lined_acts before g (event.Watch port) o here = went (is_ready_to_unload port.0 g) _ _ _ (λ _ e. the_lined g _ o (lined_at g) e) (λ _ e. none_some o e) here
 
 lined_mapped : (g : State) (x : Option Outcome) (o : Outcome) → ((p : Outcome) → x ≡ Some p → LinedTo g p) → option_map settles x ≡ Some o → LinedTo g o
 lined_mapped g None o lined here = none_some o here

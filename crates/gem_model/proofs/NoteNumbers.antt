@@ -1,5 +1,5 @@
 -- The open note is the one whose transaction is open: each step keeps it.
-use Rattle.std.proofs.Common.{◌≡◌, ℕ, zero, suc, ◌+◌, ◌*◌, ◌≤◌, ◌==◌, Bool, true, false, if◌then◌else◌, List, [], ◌∷◌, ◌++◌, length, map, find, Option, Some, None, option_map, is_some, refl, sym, ◌∙◌, ap, subst, arith, append_assoc}
+use Rattle.std.proofs.Common.{◌≡◌, ℕ, zero, suc, ◌+◌, ◌*◌, ◌≤◌, ◌==◌, Bool, true, false, not, ◌&&◌, if◌then◌else◌, List, [], ◌∷◌, ◌++◌, length, map, find, Option, Some, None, option_map, is_some, refl, sym, ◌∙◌, ap, subst, arith, append_assoc}
 use Rattle.std.proofs.lemmas.List.{append-nil}
 use Rattle.std.proofs.lemmas.Bool.Decides.{nat_tests}
 use Rattle.std.specs.Option.{option_or}
@@ -55,13 +55,13 @@ use Rattle.gem_model.specs.State.{State, opening, t3, with_frame, is_up, is_sess
 use Rattle.gem_model.specs.Sending.{asks, data_frame, identity_text}
 use Rattle.gem_model.specs.Values.{object_name}
 use Rattle.gem_model.specs.Noting.{line_with_alarm, is_alarm_reported, clears_alarm}
-use Rattle.gem_model.specs.Fire.{asks_first, stream_of_kind, function_of_kind, fire, fires, fire_listed, fire_comm, fire_control, fire_line, takes_effect, row_starts, delay_end, forgets, of_control, of_line}
+use Rattle.gem_model.specs.Fire.{asks_first, stream_of_kind, function_of_kind, fire, fires, fire_listed, fire_comm, fire_control, fire_line, fire_floor, takes_effect, row_starts, delay_end, forgets, of_control, of_line}
 use Rattle.gem_model.specs.Remote.{RemoteCommand, GoLocal, ClearAlarm, Parameter, accepted, alarm_named}
 use Rattle.gem_model.specs.Spooling.{rspack, kinds_of, spools, unload_rows}
 use Rattle.gem_model.specs.Direct.{command_rows, message_rows, answer_rows, timeout_rows, establish_answer, attempt_answer, by_comm, by_control, note_fails, operator_rows}
-use Rattle.gem_model.specs.Ready.{least, ready_comm, ready_control, ready_line}
-use Rattle.gem_model.specs.Verdict.{Verdict, Discarded, Stream9, Aborted, Answers, Taken, verdict, header_of, item_of, wants_reply, stream_of, function_of, reply_to}
-use Rattle.gem_model.specs.Act.{written, clock_set, clears_named, command_written, note_answered, replied, taken, closed_by, data_act, session_ended}
+use Rattle.gem_model.specs.Ready.{least, ready_comm, ready_control, ready_line, ready_floor}
+use Rattle.gem_model.specs.Verdict.{Verdict, Discarded, Stream9, Aborted, Answers, Taken, ShopTaken, verdict, header_of, item_of, wants_reply, stream_of, function_of, reply_to}
+use Rattle.gem_model.specs.Act.{written, clock_set, clears_named, command_written, note_answered, replied, taken, shop_replied, shop_taken, closed_by, data_act, session_ended}
 use Rattle.gem_model.specs.Due.{Timeout, dues_with, expired_from, link_times, is_due, all_done, asks_linktest, timed_out}
 use Rattle.gem_model.specs.Settle.{settled}
 use Rattle.gem_model.specs.Step as steps
@@ -71,9 +71,17 @@ use Rattle.gem_model.specs.Valid.{notes, count_of}
 use Rattle.gem_model.specs.OpenNotes.{note_number, note_numbers, number_of, open_number}
 use Rattle.gem_model.proofs.Tests.{went, either_way, or_went, none_some}
 use Rattle.gem_model.proofs.LineRows.{line_went, opened_by, oldest_opened, head_opened}
+use Rattle.tool_events.specs.declared.event.Signal.{Signal}
+use Rattle.event_reports.specs.Alarms.{is_alarm, set_alarm}
+use Rattle.gem_model.specs.Noting.{sets_alarm, line_behind}
+use Rattle.msgs_300.specs.Primaries.{Message}
+use Rattle.msgs_300.specs.Replies.{shop_reply_body}
+use Rattle.gem_model.specs.Shop.{shop_reply_to}
+use Rattle.gem_model.specs.Signals.{signalled, is_ready_to_unload}
+use Rattle.gem_model.proofs.FloorRows.{LeftAlone, alone_fire, alone_listed, alone_asked, alone_signalled, ready_is, service_are, access_are, is_8}
 use Rattle.gem_model.proofs.Settling.{settled_keeps}
 use Rattle.gem_model.proofs.Lined.{line_comm, line_control}
-use Rattle.gem_model.proofs.Room.{Few, same_open, no_talk, cannot_note, same_kinds, out_of, told_of, opened_timeout, few-automatic, few-room, few-acts, few-step}
+use Rattle.gem_model.proofs.Room.{Few, same_open, no_talk, cannot_note, same_kinds, out_of, told_of, opened_timeout, few-automatic, few_creation, few-room, few-acts, few-step}
 use Rattle.gem_model.proofs.Validity.{valid-few, opening_valid}
 
 -- ---- lists of open transactions
@@ -235,7 +243,7 @@ IsQuiet f = ((f.table == 3) ≡ false) × ((f.table == 1) ≡ true → (f.row ==
 
 with_fire : (ns : List ℕ) (g : State) (f : Firing) → IsQuiet f → With ns g.transactions.opened → With ns (fire g f).transactions.opened
 with_fire ns g f quiet is = of (f.table == 1) (f.table == 2) (f.table == 3) quiet.0 quiet.1 where
-  of : (first second third : Bool) → third ≡ false → (first ≡ true → (f.row == 2) ≡ false) → With ns (if first then fire_comm f.row g else (if second then fire_control f.row g else (if third then fire_line f.row g else g))).transactions.opened
+  of : (first second third : Bool) → third ≡ false → (first ≡ true → (f.row == 2) ≡ false) → With ns (if first then fire_comm f.row g else (if second then fire_control f.row g else (if third then fire_line f.row g else fire_floor f g))).transactions.opened
   of true second third none never = with_comm ns g f.row (never refl) is
   of false true third none never = with_control ns g f.row is
   of false false true none never = absurd (cc)
@@ -246,7 +254,7 @@ open_fire g f quiet =
     same_open (ceid_of f.table f.row) (record { object = object_name (takes_effect g f) f; row = 100 * f.table + f.row }) (is_online g.control) (takes_effect g f)
     ∙ of (f.table == 1) (f.table == 2) (f.table == 3) quiet.0
   where
-    of : (first second third : Bool) → third ≡ false → (if first then fire_comm f.row g else (if second then fire_control f.row g else (if third then fire_line f.row g else g))).line.opened ≡ g.line.opened
+    of : (first second third : Bool) → third ≡ false → (if first then fire_comm f.row g else (if second then fire_control f.row g else (if third then fire_line f.row g else fire_floor f g))).line.opened ≡ g.line.opened
     of true second third none = ap (λ (l : Line). l.opened) (line_comm g f.row)
     of false true third none = ap (λ (l : Line). l.opened) (line_control g f.row)
     of false false true none = absurd (cc)
@@ -298,6 +306,12 @@ own_fire g f own =
     own_open (takes_effect g f) (fire g f)
     (same_open (ceid_of f.table f.row) (record { object = object_name (takes_effect g f) f; row = 100 * f.table + f.row }) (is_online g.control) (takes_effect g f)) own
 
+own_alone : LeftAlone Own
+own_alone = record {
+  floor = λ g x own. own;
+  noted = λ g event o online own. own_open g (record g { line = line_behind event o online g }) (same_open event o online g) own;
+}
+
 own_either : (b : Bool) (x y : State) → Own x → Own y → Own (if b then x else y)
 own_either b x y at_x at_y = either_way Own b x y at_x at_y
 
@@ -348,6 +362,16 @@ own_cleared alid g own =
     (either_way (λ (l : Line). l.opened ≡ g.line.opened) (is_alarm_reported alid (record g { alarms = clear_alarm alid g.alarms })) _ g.line refl refl) own)
     own
 
+own_set : (alid : ℕ) (g : State) → Own g → Own (sets_alarm alid g)
+own_set alid g own =
+    own_either (is_alarm alid g.alarms && not (is_set alid g.alarms)) _ g
+    (own_line g (line_with_alarm alid (record g { alarms = set_alarm alid g.alarms }))
+    (either_way (λ (l : Line). l.opened ≡ g.line.opened) (is_alarm_reported alid (record g { alarms = set_alarm alid g.alarms })) _ g.line refl refl) own)
+    own
+
+own_signalled : (s : Signal) (g : State) → Own g → Own (signalled s g)
+own_signalled s g own = alone_signalled Own own_alone (λ h alid at. own_set alid h at) s g own
+
 own_switched : (command : OperCmd) (g : State) → Own g → Own (switched command g)
 own_switched (oper.Clear n) g own = own_either (can_clear n g) (clears_alarm n g) g (own_cleared n g own) own
 own_switched oper.Local g own = own
@@ -361,6 +385,8 @@ own_operator oper.Online g few own = own_control trigger.Online g own
 own_operator oper.Offline g few own = own_control trigger.Offline g own
 own_operator oper.Local g few own = own_control trigger.Local g own
 own_operator oper.Remote g few own = own_control trigger.Remote g own
+own_operator (oper.Service p on) g few own = alone_listed Own own_alone (operator_rows (oper.Service p on) g) (service_are on g.floor p.0) g own
+own_operator (oper.Access p on) g few own = alone_listed Own own_alone (operator_rows (oper.Access p on) g) (access_are on g.floor p.0) g own
 own_operator _ g few own = own
 
 -- ---- data messages
@@ -505,11 +531,13 @@ own_line_row g row ready room own = of (least-opens (around g) g.line row ready)
 
 own_automatic : (g : State) (f : Firing) → least g ≡ Some f → Few g → Own g → Own (fire g f)
 own_automatic g f ready few own =
-    or_went (ready_comm g) (option_or (ready_control g) (ready_line g)) f
+    or_went (ready_comm g) (option_or (ready_control g) (option_or (ready_line g) (ready_floor g))) f
     (λ at. went _ _ _ _ (λ _ e. own_some g f (firing 1 0 3) (own_fired g (firing 1 0 3) (refl, λ is. refl) own) e) (λ _ e. none_some f e) at)
-    (λ _ behind. or_went (ready_control g) (ready_line g) f
+    (λ _ behind. or_went (ready_control g) (option_or (ready_line g) (ready_floor g)) f
     (λ at. went _ _ _ _ (λ _ e. own_some g f (firing 2 0 2) (own_fired g (firing 2 0 2) (refl, λ is. absurd (cc)) own) e) (λ _ e. none_some f e) at)
-    (λ _ at. line_went g f (λ row is e. own_this g f (firing 3 0 row) (own_fire g (firing 3 0 row) (own_line_row g row is (few-room g few) own)) e) at) behind)
+    (λ _ last. or_went (ready_line g) (ready_floor g) f
+    (λ at. line_went g f (λ row is e. own_this g f (firing 3 0 row) (own_fire g (firing 3 0 row) (own_line_row g row is (few-room g few) own)) e) at)
+    (λ _ at. alone_fire Own own_alone g f (ready_is g f at) own) last) behind)
     ready
 
 -- few transactions are open, and those of notes are the open note's
@@ -519,12 +547,17 @@ record Both (g : State) : Type 0 where
 
 own_settled : (g : State) → Few g → Own g → Own (settled g)
 own_settled g few own =
-    (settled_keeps Both (λ h f ready both. record { few = few-automatic h f ready both.few; own = own_automatic h f ready both.few both.own }) g (record { few = few; own = own })).own
+    (settled_keeps Both (λ h f ready both. record { few = few-automatic h f ready both.few; own = own_automatic h f ready both.few both.own })
+    (λ h n both. record { few = few_creation h n both.few; own = alone_fire Own own_alone h (firing 8 n 1) (is_8 n 1) both.own }) g (record { few = few; own = own })).own
 
 -- ---- a step
 
 own_to : (x o : Outcome) → Own x.after → Some x ≡ Some o → Own o.after
 own_to x o own here = let same : x ≡ o = cc in subst (λ (y : Outcome). Own y.after) same own
+
+own_shop : (h : Header) (m : Message) (g : State) → Own g → Own (shop_taken h m g)
+own_shop h m g own =
+    alone_asked Own own_alone m (shop_replied h m g) (own_replied h (function_of h + 1) (plain (shop_reply_body (shop_reply_to g m))) g own)
 
 own_data : (h : Header) (item : Option Data) (v : Verdict) (g : State) → Own g → Own (data_act h item v g)
 own_data h item Discarded g own = own
@@ -533,6 +566,7 @@ own_data h item Aborted g own = own_replied h 0 [] g own
 own_data h item Answers g own =
     own_closed g h item (answers h.system (stream_of h) (function_of h)) (answered_one h.system (stream_of h) (function_of h) g.transactions.opened) refl own
 own_data h item (Taken m) g own = own_taken h m g own
+own_data h item (ShopTaken m) g own = own_shop h m g own
 
 own_hosted : (g : State) (arrival : Arrival) (act : LinkAct) → Own g → Own (hosted g arrival act).after
 own_hosted g arrival (link.Reply h) own = own
@@ -564,12 +598,12 @@ own_acts before g (event.Host session arrival) o few own here =
     (λ _ e. own_to _ o own e) here
 own_acts before g (event.Take session) o few own here = went (is_session_up g session) _ _ _ (λ _ e. own_frame g g.waiting o own e) (λ _ e. own_to _ o own e) here
 own_acts before g (event.Oper command) o few own here = own_to (operated command g) o (own_operated command g few own) here
-own_acts before g (event.Signal signal) o few own here = own_to _ o own here
+own_acts before g (event.Signal signal) o few own here = own_to _ o (own_signalled signal g own) here
 own_acts before g (event.Fetch m) o few own here = none_some o here
 own_acts before g event.Tick o few own here =
     went (is_due before g) _ _ _ (λ _ e. own_to _ o (own_due g (due_at (link_times g) g.link g.moment) own) e) (λ _ e. none_some o e) here
 own_acts before g event.Listen o few own here = none_some o here
-own_acts before g (event.Watch port) o few own here = none_some o here
+own_acts before g (event.Watch port) o few own here = went (is_ready_to_unload port.0 g) _ _ _ (λ _ e. own_to _ o own e) (λ _ e. none_some o e) here
 
 own_mapped : (x : Option Outcome) (o : Outcome) → ((p : Outcome) → x ≡ Some p → Both p.after) → option_map settles x ≡ Some o → Own o.after
 own_mapped None o both here = none_some o here

@@ -1,5 +1,5 @@
 -- The notes of the line tell of what is reported, in order.
-use Rattle.std.proofs.Common.{◌≡◌, ℕ, ◌+◌, ◌==◌, Bool, true, false, ◌&&◌, if◌then◌else◌, List, [], ◌∷◌, ◌++◌, map, Option, Some, None, option_map, refl, sym, ◌∙◌, ap, subst, append_assoc, ◌*◌}
+use Rattle.std.proofs.Common.{◌≡◌, ℕ, ◌+◌, ◌==◌, Bool, true, false, not, ◌&&◌, if◌then◌else◌, List, [], ◌∷◌, ◌++◌, map, Option, Some, None, option_map, refl, sym, ◌∙◌, ap, subst, append_assoc, ◌*◌}
 use Rattle.std.proofs.lemmas.List.{append-nil}
 use Rattle.hsms_frame.specs.declared.frame.Header.{Header}
 use Rattle.hsms_frame.specs.declared.frame.Arrival.{Arrival}
@@ -16,7 +16,15 @@ use Rattle.msgs_gem.specs.Replies.{reply_body}
 use Rattle.gem_ids.specs.Civil.{moment_in}
 use Rattle.gem_tables.specs.Table.{Firing}
 use Rattle.gem_rows.specs.Events.{ceid_of}
-use Rattle.event_reports.specs.Alarms.{is_set, clear_alarm}
+use Rattle.event_reports.specs.Alarms.{is_alarm, is_set, set_alarm, clear_alarm}
+use Rattle.shop_floor.specs.Requests.{at_port, removal}
+use Rattle.tool_events.specs.declared.event.Signal.{Signal}
+use Rattle.tool_events.specs.declared.event.Signal.TheVariants as equipment
+use Rattle.msgs_300.specs.Primaries.{Message, S3F17, S3F25, S3F27}
+use Rattle.msgs_300.specs.Replies.{shop_reply_body}
+use Rattle.shop_floor.specs.Requests.{carrier_written}
+use Rattle.gem_model.specs.Shop.{carrier_action, carrier_caack, shop_reply_to, shop_written, shop_rows}
+use Rattle.gem_model.specs.Signals.{lacks_port, port_row_starts, port_alarm, with_arrival, placed, removed, signalled, is_ready_to_unload}
 use Rattle.spool.specs.declared.note.Kind.TheVariants.{Event, Alarm}
 use Rattle.spool.specs.Spool.{has_note}
 use Rattle.note_line.specs.Line.{Line, with_kinds}
@@ -36,18 +44,18 @@ use Rattle.transactions.specs.Table.{taken_out}
 use Rattle.gem_model.specs.State.{State, opening, is_up, is_session_up, is_online, around, without_session, raised}
 use Rattle.gem_model.specs.Sending.{sends_stream9, data_header}
 use Rattle.gem_model.specs.Values.{Occasion, object_name}
-use Rattle.gem_model.specs.Noting.{line_behind, line_with_event, is_event_reported, is_alarm_reported, line_with_alarm, clears_alarm}
-use Rattle.gem_model.specs.Fire.{fire, fires, fire_listed, fire_comm, fire_control, fire_line, takes_effect, row_starts}
+use Rattle.gem_model.specs.Noting.{sets_alarm, line_behind, line_with_event, is_event_reported, is_alarm_reported, line_with_alarm, clears_alarm}
+use Rattle.gem_model.specs.Fire.{fire, fires, fire_listed, fire_comm, fire_control, fire_line, fire_floor, takes_effect, row_starts}
 use Rattle.gem_model.specs.Remote.{RemoteCommand, GoLocal, ClearAlarm, Parameter, accepted, alarm_named}
 use Rattle.gem_model.specs.Direct.{operator_rows, message_rows, answer_rows, timeout_rows, session_end_rows}
-use Rattle.gem_model.specs.Verdict.{Verdict, Discarded, Stream9, Aborted, Answers, Taken, verdict, header_of, item_of, wants_reply, function_of, reply_to}
-use Rattle.gem_model.specs.Act.{written, clock_set, clears_named, command_written, note_answered, replied, taken, closed_by, data_act, session_ended}
+use Rattle.gem_model.specs.Verdict.{Verdict, Discarded, Stream9, Aborted, Answers, Taken, ShopTaken, verdict, header_of, item_of, wants_reply, function_of, reply_to}
+use Rattle.gem_model.specs.Act.{written, clock_set, clears_named, command_written, note_answered, replied, taken, shop_replied, shop_taken, closed_by, data_act, session_ended}
 use Rattle.gem_model.specs.Due.{Due, EndOfSession, Linktest, Timeout, dues, is_due, done, all_done}
 use Rattle.gem_model.specs.Settle.{settling, settled, fire_all}
 use Rattle.gem_model.specs.Step as steps
 use Rattle.gem_model.specs.Step.{Outcome, answered, ends, ended_by, step, step_from, acts, linked, hosted, can_clear, operated, switched, quits, settles}
 use Rattle.gem_model.specs.Run.{Run, entry_after}
-use Rattle.gem_model.specs.Reported.{Reported, by_event, by_firing, by_firings, by_listed, by_rows, by_settling, by_clearing, by_clearing_named, by_command, by_written, by_answered, by_taken, by_closing, by_data, by_session_end, by_host, by_switched, by_operator, by_due, by_dues, by_act, by_settling_behind, by_step_from, by_step, reported_in}
+use Rattle.gem_model.specs.Reported.{Reported, by_event, by_firing, by_firings, by_listed, by_rows, by_settling, by_clearing, by_setting, by_placed, by_removed, by_signal, by_clearing_named, by_command, by_written, by_answered, by_taken, by_shop_taken, by_closing, by_data, by_session_end, by_host, by_switched, by_operator, by_due, by_dues, by_act, by_settling_behind, by_step_from, by_step, reported_in}
 use Rattle.gem_model.proofs.Tests.{went, either_way, none_some}
 use Rattle.gem_model.proofs.Lined.{SameLine, line_comm, line_control}
 use Rattle.gem_model.proofs.Runs.{after-step}
@@ -91,7 +99,7 @@ told_same g h same = subst (λ (l : Line). map tells l.told ≡ told_in g) (sym 
 
 told_effect : (g : State) (f : Firing) → told_in (takes_effect g f) ≡ told_in g
 told_effect g f = of (f.table == 1) (f.table == 2) (f.table == 3) where
-  of : (first second third : Bool) → told_in (if first then fire_comm f.row g else (if second then fire_control f.row g else (if third then fire_line f.row g else g))) ≡ told_in g
+  of : (first second third : Bool) → told_in (if first then fire_comm f.row g else (if second then fire_control f.row g else (if third then fire_line f.row g else fire_floor f g))) ≡ told_in g
   of true second third = told_same g (fire_comm f.row g) (line_comm g f.row)
   of false true third = told_same g (fire_control f.row g) (line_control g f.row)
   of false false true = row-tells (around g) f.row g.line
@@ -138,6 +146,35 @@ tells_cleared g alid = of (is_set alid g.alarms) (tells_where g (is_alarm_report
   of true told = told
   of false told = tells_at g
 
+-- the alarm is set
+abbrev with_set : ℕ → State → State
+with_set alid g = record g { alarms = set_alarm alid g.alarms }
+
+tells_set : (g : State) (alid : ℕ) → Tells g (by_setting alid g) (sets_alarm alid g)
+tells_set g alid =
+    both_ways g (is_alarm alid g.alarms && not (is_set alid g.alarms)) (record (with_set alid g) { line = line_with_alarm alid (with_set alid g) }) g
+    (if is_alarm_reported alid (with_set alid g) then (Alarm, alid) ∷ [] else []) []
+    (tells_where g (is_alarm_reported alid (with_set alid g)) _ ((Alarm, alid) ∷ []) (noted-tells Alarm alid g.line.told)) (tells_at g)
+
+-- ---- the equipment
+
+tells_placed : (g : State) (port : ℕ) (name : Option (List ℕ)) (slots : List ℕ) → Tells g (by_placed port name slots g) (placed port name slots g)
+tells_placed g port name slots =
+    both_ways g (port_row_starts 3 port g) (fire_listed (at_port 4 3 g.floor port) (with_arrival port name slots g)) (sets_alarm (port_alarm port) g)
+    (by_listed (at_port 4 3 g.floor port) (with_arrival port name slots g)) (by_setting (port_alarm port) g)
+    (tells_listed (at_port 4 3 g.floor port) (with_arrival port name slots g)) (tells_set g (port_alarm port))
+
+tells_removed : (g : State) (port : ℕ) → Tells g (by_removed port g) (removed port g)
+tells_removed g port =
+    both_ways g (port_row_starts 5 port g) (fire_listed (removal port g.floor) g) (sets_alarm (port_alarm port) g)
+    (by_listed (removal port g.floor) g) (by_setting (port_alarm port) g)
+    (tells_listed (removal port g.floor) g) (tells_set g (port_alarm port))
+
+tells_signalled : (s : Signal) (g : State) → Tells g (by_signal s g) (signalled s g)
+tells_signalled (equipment.Placed port name slots) g = both_ways g (lacks_port port.0 g) g (placed port.0 name slots g) [] (by_placed port.0 name slots g) (tells_at g) (tells_placed g port.0 name slots)
+tells_signalled (equipment.Removed port) g = both_ways g (lacks_port port.0 g) g (removed port.0 g) [] (by_removed port.0 g) (tells_at g) (tells_removed g port.0)
+tells_signalled _ g = tells_at g
+
 -- ---- data messages
 
 tells_clock : (g : State) (shown : Option ℕ) → Tells g [] (clock_set shown g)
@@ -178,6 +215,21 @@ tells_taken g h m =
     let told : State = replied h (function_of h + 1) text g in
     tells_then g told (taken h m g) [] (by_answered m told) (tells_replied g h (function_of h + 1) text) (tells_answered m told)
 
+-- what a message of carriers and ports writes makes no note
+tells_shop_written : (g : State) (m : Message) → Tells g [] (shop_written m g)
+tells_shop_written g (S3F17 dataid action carrier number attributes) =
+    let a = carrier_action action carrier number attributes in
+    either_way (Tells g []) (carrier_caack a g == 0) (record g { floor = carrier_written a g.floor }) g (tells_at g) (tells_at g)
+tells_shop_written g (S3F25 action number value) = tells_at g
+tells_shop_written g (S3F27 mode numbers) = tells_at g
+
+tells_shop : (g : State) (h : Header) (m : Message) → Tells g (by_shop_taken h m g) (shop_taken h m g)
+tells_shop g h m =
+    let told : State = shop_replied h m g in
+    let written : State = shop_written m told in
+    tells_then g told (shop_taken h m g) [] (by_shop_taken h m g) (tells_replied g h (function_of h + 1) (plain (shop_reply_body (shop_reply_to g m))))
+    (tells_then told written (shop_taken h m g) [] (by_shop_taken h m g) (tells_shop_written told m) (tells_listed (shop_rows m told) written))
+
 tells_note : (g : State) (w : What) → Tells g [] (note_answered w g)
 tells_note g what.Establish = tells_at g
 tells_note g what.Attempt = tells_at g
@@ -197,6 +249,7 @@ tells_data g h item (Stream9 function) = tells_at g
 tells_data g h item Aborted = tells_replied g h 0 []
 tells_data g h item Answers = tells_closed g h item _
 tells_data g h item (Taken m) = tells_taken g h m
+tells_data g h item (ShopTaken m) = tells_shop g h m
 
 -- ---- the end of a session, and operators
 
@@ -263,14 +316,14 @@ tells_acts before g (event.Host session arrival) o here =
     told_way g (is_session_up g session) (hosted h arrival act) (by_host h arrival act) o (tells_host h arrival act) here
 tells_acts before g (event.Take session) o here = went (is_session_up g session) _ _ _ (λ _ e. tells_frame g g.waiting o e) (λ _ e. the_told g [] _ o (tells_at g) e) here
 tells_acts before g (event.Oper command) o here = the_told g _ (operated command g) o (tells_operated command g) here
-tells_acts before g (event.Signal signal) o here = the_told g [] _ o (tells_at g) here
+tells_acts before g (event.Signal signal) o here = the_told g (by_signal signal g) _ o (tells_signalled signal g) here
 tells_acts before g (event.Fetch m) o here = none_some o here
 tells_acts before g event.Tick o here = of (is_due before g) here where
   of : (b : Bool) → (if b then Some (record { answer = answer.Done; ended = ended_by (dues g) g; after = all_done (dues g) g }) else None) ≡ Some o → TellsTo g (if b then by_dues (dues g) g else []) o
   of true here = the_told g (by_dues (dues g) g) _ o (tells_all (dues g) g) here
   of false here = none_some o here
 tells_acts before g event.Listen o here = none_some o here
-tells_acts before g (event.Watch port) o here = none_some o here
+tells_acts before g (event.Watch port) o here = went (is_ready_to_unload port.0 g) _ _ _ (λ _ e. the_told g [] _ o (tells_at g) e) (λ _ e. none_some o e) here
 
 tells_mapped : (g : State) (new : List Reported) (x : Option Outcome) (o : Outcome) → ((p : Outcome) → x ≡ Some p → TellsTo g new p) → option_map settles x ≡ Some o → TellsTo g (new ++ by_settling_behind x) o
 tells_mapped g new None o told here = none_some o here

@@ -63,18 +63,26 @@ use Rattle.gem_model.specs.Noting.{line_behind, line_with_event, line_with_alarm
 use Rattle.gem_model.specs.Remote.{RemoteCommand, GoLocal, ClearAlarm, Parameter, accepted, alarm_named}
 use Rattle.gem_model.specs.Spooling.{rspack, kinds_of, spools, unload_rows}
 use Rattle.gem_model.specs.Direct.{by_comm, by_control, note_fails, operator_rows, command_rows, message_rows, answer_rows, timeout_rows}
-use Rattle.gem_model.specs.Ready.{least, ready_comm, ready_control, ready_line, is_attempt}
-use Rattle.gem_model.specs.Measure.{one_if, is_wait_delay, left}
-use Rattle.gem_model.specs.Verdict.{Verdict, Discarded, Stream9, Aborted, Answers, Taken, verdict, header_of, item_of, wants_reply, stream_of, function_of, reply_to}
-use Rattle.gem_model.specs.Act.{written, clock_set, clears_named, command_written, note_answered, replied, taken, closed_by, data_act, session_ended}
+use Rattle.gem_model.specs.Ready.{least, ready_comm, ready_control, ready_line, ready_floor, is_attempt}
+use Rattle.gem_model.specs.Measure.{one_if, is_wait_delay}
+use Rattle.gem_model.specs.Verdict.{Verdict, Discarded, Stream9, Aborted, Answers, Taken, ShopTaken, verdict, header_of, item_of, wants_reply, stream_of, function_of, reply_to}
+use Rattle.gem_model.specs.Act.{written, clock_set, clears_named, command_written, note_answered, replied, taken, shop_replied, shop_taken, closed_by, data_act, session_ended}
 use Rattle.gem_model.specs.Due.{Timeout, dues_with, expired_from, link_times, is_due, all_done, asks_linktest, timed_out}
-use Rattle.gem_model.specs.Settle.{settled, settling, settling_by, Along}
+use Rattle.gem_model.specs.Settle.{settled, settling, Along}
 use Rattle.gem_model.specs.Step as steps
 use Rattle.gem_model.specs.Step.{Outcome, step_from, acts, linked, hosted, operated, can_clear, switched, quits, ticked, settles}
 use Rattle.gem_model.specs.Valid.{is_wait_cra, establishes, attempts, is_note, notes, count_of}
 use Rattle.gem_model.proofs.Tests.{went, either_way, or_went, and_parts_of, none_some}
 use Rattle.gem_model.proofs.LineRows.{line_went, opened_by, oldest_opened, head_opened}
-use Rattle.gem_model.proofs.Settling.{settled_keeps, waits, fired_3}
+use Rattle.tool_events.specs.declared.event.Signal.{Signal}
+use Rattle.event_reports.specs.Alarms.{is_alarm, set_alarm}
+use Rattle.gem_model.specs.Noting.{sets_alarm}
+use Rattle.msgs_300.specs.Primaries.{Message}
+use Rattle.msgs_300.specs.Replies.{shop_reply_body}
+use Rattle.gem_model.specs.Shop.{shop_reply_to}
+use Rattle.gem_model.specs.Signals.{signalled, is_ready_to_unload}
+use Rattle.gem_model.proofs.FloorRows.{LeftAlone, alone_fire, alone_listed, alone_asked, alone_signalled, ready_is, service_are, access_are, is_8}
+use Rattle.gem_model.proofs.Settling.{settled_keeps, settled_along, waits, fired_3}
 use Rattle.gem_model.proofs.Links.{link_after-keeps}
 use Rattle.gem_model.proofs.Counts.{count-found, count-push, count-forgotten, count-out, all-counted}
 
@@ -330,6 +338,24 @@ few-attempted g few = few-one (firing 2 0 1) g few (λ is. tries is)
             subst (λ (k : Control). Fits (count_of establishes h.transactions.opened + 0) (count_of attempts h.transactions.opened + 1) (count_of notes h.transactions.opened + 0) h.comm k (is_selected h) (has_open h.line)) (sym leads)
             (fits-less _ _ _ _ _ _ h.comm control.Attempt (is_selected h) (has_open h.line) (omega arith) (omega arith) (omega arith) f)
 
+-- ---- the floor
+
+few_alone : LeftAlone Few
+few_alone = record {
+  floor = λ g x few. few;
+  noted = λ g event o online few. few-line g (line_behind event o online g) (same_open event o online g) few;
+}
+
+few_set : (alid : ℕ) (g : State) → Few g → Few (sets_alarm alid g)
+few_set alid g few =
+    few_either (is_alarm alid g.alarms && not (is_set alid g.alarms)) _ g
+    (few-line g (line_with_alarm alid (record g { alarms = set_alarm alid g.alarms }))
+    (either_way (λ (l : Line). l.opened ≡ g.line.opened) (is_alarm_reported alid (record g { alarms = set_alarm alid g.alarms })) _ g.line refl refl) few)
+    few
+
+few_signalled : (s : Signal) (g : State) → Few g → Few (signalled s g)
+few_signalled s g few = alone_signalled Few few_alone (λ h alid at. few_set alid h at) s g few
+
 -- ---- settling
 
 few_firing : (g : State) (f one : Firing) → Few (fire g one) → Some one ≡ Some f → Few (fire g f)
@@ -402,15 +428,20 @@ few-line_row g row ready few = of (least-opens (around g) g.line row ready) wher
 
 pub few-automatic : (g : State) (f : Firing) → least g ≡ Some f → Few g → Few (fire g f)
 few-automatic g f ready few =
-    or_went (ready_comm g) (option_or (ready_control g) (ready_line g)) f
+    or_went (ready_comm g) (option_or (ready_control g) (option_or (ready_line g) (ready_floor g))) f
     (λ at. went _ _ _ _ (λ over e. few_firing g f (firing 1 0 3) (few_fire g (firing 1 0 3) (few-asking g (waits g.moment g.comm (and_parts_of _ _ over).0) few)) e) (λ _ e. none_some f e) at)
-    (λ _ behind. or_went (ready_control g) (ready_line g) f
+    (λ _ behind. or_went (ready_control g) (option_or (ready_line g) (ready_floor g)) f
     (λ at. went _ _ _ _ (λ can e. few_firing g f (firing 2 0 2) (few_fire g (firing 2 0 2) (few-given_up g (and_parts_of _ _ can).1 few)) e) (λ _ e. none_some f e) at)
-    (λ _ at. line_went g f (λ row is e. few_this g f (firing 3 0 row) (few_fire g (firing 3 0 row) (few-line_row g row is few)) e) at) behind)
+    (λ _ last. or_went (ready_line g) (ready_floor g) f
+    (λ at. line_went g f (λ row is e. few_this g f (firing 3 0 row) (few_fire g (firing 3 0 row) (few-line_row g row is few)) e) at)
+    (λ _ at. alone_fire Few few_alone g f (ready_is g f at) few) last) behind)
     ready
 
+pub few_creation : (g : State) (n : ℕ) → Few g → Few (fire g (firing 8 n 1))
+few_creation g n few = alone_fire Few few_alone g (firing 8 n 1) (is_8 n 1) few
+
 pub few-settled : (g : State) → Few g → Few (settled g)
-few-settled g few = settled_keeps Few few-automatic g few
+few-settled g few = settled_keeps Few few-automatic few_creation g few
 
 -- ---- answers and timeouts
 
@@ -567,8 +598,8 @@ few-operator oper.Offline g few = few-off_line g few
 few-operator oper.Local g few = few-elsewhere 11 (switched oper.Local g) refl refl refl few
 few-operator oper.Remote g few = few-elsewhere 10 (switched oper.Remote g) refl refl refl few
 few-operator oper.Quit g few = few
-few-operator (oper.Service p on) g few = few
-few-operator (oper.Access p on) g few = few
+few-operator (oper.Service p on) g few = alone_listed Few few_alone (operator_rows (oper.Service p on) g) (service_are on g.floor p.0) g few
+few-operator (oper.Access p on) g few = alone_listed Few few_alone (operator_rows (oper.Access p on) g) (access_are on g.floor p.0) g few
 few-operator (oper.Job j w) g few = few
 few-operator (oper.CtlJob j n) g few = few
 few-operator (oper.Up m) g few = few
@@ -587,8 +618,8 @@ few-operated oper.Online g few = few-operator oper.Online g few
 few-operated oper.Offline g few = few-operator oper.Offline g few
 few-operated oper.Local g few = few-operator oper.Local g few
 few-operated oper.Remote g few = few-operator oper.Remote g few
-few-operated (oper.Service p on) g few = few
-few-operated (oper.Access p on) g few = few
+few-operated (oper.Service p on) g few = few-operator (oper.Service p on) g few
+few-operated (oper.Access p on) g few = few-operator (oper.Access p on) g few
 few-operated (oper.Job j w) g few = few
 few-operated (oper.CtlJob j n) g few = few
 few-operated (oper.Up m) g few = few
@@ -690,6 +721,10 @@ few-taken h m g few =
     let told : State = replied h (function_of h + 1) (plain (reply_body (reply_to g m))) g in
     few-message m (written m told) (few-written m told (few-replied h (function_of h + 1) (plain (reply_body (reply_to g m))) g few))
 
+few-shop : (h : Header) (m : Message) (g : State) → Few g → Few (shop_taken h m g)
+few-shop h m g few =
+    alone_asked Few few_alone m (shop_replied h m g) (few-replied h (function_of h + 1) (plain (shop_reply_body (shop_reply_to g m))) g few)
+
 few-act : (h : Header) (item : Option Data) (v : Verdict) (g : State) → Few g → Few (data_act h item v g)
 few-act h item Discarded g few = few
 few-act h item (Stream9 function) g few = few
@@ -697,6 +732,7 @@ few-act h item Aborted g few = few-replied h 0 [] g few
 few-act h item Answers g few =
     few-closed g h item (answers h.system (stream_of h) (function_of h)) (answered h.system (stream_of h) (function_of h) g.transactions.opened) refl few
 few-act h item (Taken m) g few = few-taken h m g few
+few-act h item (ShopTaken m) g few = few-shop h m g few
 
 -- ---- the link
 
@@ -758,11 +794,11 @@ few-acts before g (event.Host session arrival) o few here =
     (λ _ e. few_some _ o few e) here
 few-acts before g (event.Take session) o few here = went (is_session_up g session) _ _ _ (λ _ e. few-frame g g.waiting o few e) (λ _ e. few_some _ o few e) here
 few-acts before g (event.Oper command) o few here = few_some (operated command g) o (few-operated command g few) here
-few-acts before g (event.Signal signal) o few here = few_some _ o few here
+few-acts before g (event.Signal signal) o few here = few_some _ o (few_signalled signal g few) here
 few-acts before g (event.Fetch m) o few here = none_some o here
 few-acts before g event.Tick o few here = few-ticked before g o few here
 few-acts before g event.Listen o few here = none_some o here
-few-acts before g (event.Watch port) o few here = none_some o here
+few-acts before g (event.Watch port) o few here = went (is_ready_to_unload port.0 g) _ _ _ (λ _ e. few_some _ o few e) (λ _ e. none_some o e) here
 
 few-mapped : (x : Option Outcome) (o : Outcome) → ((p : Outcome) → x ≡ Some p → Few p.after) → option_map settles x ≡ Some o → Few o.after
 few-mapped None o few here = none_some o here
@@ -793,10 +829,5 @@ pub few-room : (g : State) → Few g → is_full g.transactions ≡ false
 few-room g few = let two = few-open g few in grind (arith, nat_tests)
 
 -- nor is the table full on the way to the settled state
-along_by : (n : ℕ) (g : State) (f : Option Firing) → least g ≡ f → Few g → Along (λ (k : State). is_full k.transactions ≡ false) g (settling_by n g f)
-along_by n g None is few = few-room g few
-along_by zero g (Some f) is few = few-room g few
-along_by (suc n) g (Some f) is few = (few-room g few, along_by n (fire g f) (least (fire g f)) refl (few-automatic g f is few))
-
 pub few-along : (g : State) → Few g → Along (λ (k : State). is_full k.transactions ≡ false) g (settling g)
-few-along g few = along_by (left g) g (least g) refl few
+few-along g few = settled_along Few (λ (k : State). is_full k.transactions ≡ false) few-room few-automatic few_creation g few

@@ -1,5 +1,5 @@
 -- What a change of the state leaves alone: the configuration, the link, and whether the run was ended.
-use Rattle.std.proofs.Common.{◌≡◌, ℕ, ◌+◌, ◌==◌, Bool, true, if◌then◌else◌, List, [], ◌∷◌, Option, Some, None, refl, ◌∙◌}
+use Rattle.std.proofs.Common.{◌≡◌, ℕ, ◌+◌, ◌==◌, Bool, true, not, ◌&&◌, if◌then◌else◌, List, [], ◌∷◌, Option, Some, None, refl, ◌∙◌}
 use Rattle.hsms_frame.specs.declared.frame.Header.{Header}
 use Rattle.hsms_frame.specs.declared.frame.Arrival.{Arrival}
 use Rattle.secs_items.specs.Data.{Data}
@@ -11,7 +11,7 @@ use Rattle.transactions.specs.declared.transaction.What.{What}
 use Rattle.transactions.specs.declared.transaction.What.TheVariants as what
 use Rattle.gem_states.specs.Meaning.{comm_fired, control_fired}
 use Rattle.transactions.specs.declared.transaction.Open.{Open}
-use Rattle.gem_tables.specs.Table.{Firing}
+use Rattle.gem_tables.specs.Table.{Firing, firing}
 use Rattle.gem_model.specs.State.{State, none_asked, can_ask}
 use Rattle.gem_ids.specs.Civil.{moment_in}
 use Rattle.secs_items.specs.Plain.{plain}
@@ -22,16 +22,23 @@ use Rattle.gem_model.specs.Sending.{asks, identity_text, sends_stream9, data_hea
 use Rattle.spool.specs.declared.note.Note.{Note}
 use Rattle.note_line.specs.Line.{with_kinds}
 use Rattle.gem_model.specs.Spooling.{rspack, kinds_of}
-use Rattle.gem_model.specs.Fire.{fire, fire_listed, fire_comm, fire_control, fire_line, comm_effect, control_effect, line_effect, asks_first, takes_effect, stream_of_kind, function_of_kind, delay_end, forgets, row_starts}
-use Rattle.gem_model.specs.Noting.{clears_alarm}
+use Rattle.gem_model.specs.Fire.{fire, fire_listed, fire_comm, fire_control, fire_line, fire_floor, comm_effect, control_effect, line_effect, asks_first, takes_effect, stream_of_kind, function_of_kind, delay_end, forgets, row_starts}
+use Rattle.gem_model.specs.Noting.{clears_alarm, sets_alarm}
 use Rattle.gem_model.specs.Remote.{RemoteCommand, GoLocal, ClearAlarm, Parameter, accepted, alarm_named}
 use Rattle.event_reports.specs.Alarms.{is_set}
-use Rattle.gem_model.specs.Verdict.{Verdict, Discarded, Stream9, Aborted, Answers, Taken, verdict, header_of, item_of, wants_reply, function_of, reply_to}
-use Rattle.gem_model.specs.Act.{written, clock_set, clears_named, command_written, note_answered, replied, taken, closed_by, data_act, data_done}
+use Rattle.gem_model.specs.Verdict.{Verdict, Discarded, Stream9, Aborted, Answers, Taken, ShopTaken, verdict, header_of, item_of, wants_reply, function_of, reply_to}
+use Rattle.gem_model.specs.Act.{written, clock_set, clears_named, command_written, note_answered, replied, taken, shop_replied, shop_taken, closed_by, data_act, data_done}
 use Rattle.gem_model.specs.Due.{timed_out}
 use Rattle.gem_model.specs.Step.{switched, can_clear}
 use Rattle.gem_model.specs.Settle.{settled}
 use Rattle.gem_model.proofs.Tests.{either_way}
+use Rattle.tool_events.specs.declared.event.Signal.{Signal}
+use Rattle.event_reports.specs.Alarms.{is_alarm}
+use Rattle.msgs_300.specs.Primaries.{Message}
+use Rattle.msgs_300.specs.Replies.{shop_reply_body}
+use Rattle.gem_model.specs.Shop.{shop_reply_to}
+use Rattle.gem_model.specs.Signals.{signalled}
+use Rattle.gem_model.proofs.FloorRows.{LeftAlone, alone_asked, alone_signalled}
 use Rattle.gem_model.proofs.Settling.{settled_keeps}
 
 -- the configuration and the link are the same, and so is whether the run was ended
@@ -89,9 +96,9 @@ same_line g row =
 
 same_effect : (g : State) (f : Firing) → Same g (takes_effect g f)
 same_effect g f =
-    same_either g (f.table == 1) (fire_comm f.row g) (if f.table == 2 then fire_control f.row g else (if f.table == 3 then fire_line f.row g else g)) (same_comm g f.row)
-    (same_either g (f.table == 2) (fire_control f.row g) (if f.table == 3 then fire_line f.row g else g) (same_control g f.row)
-    (same_either g (f.table == 3) (fire_line f.row g) g (same_line g f.row) (same_at g)))
+    same_either g (f.table == 1) (fire_comm f.row g) (if f.table == 2 then fire_control f.row g else (if f.table == 3 then fire_line f.row g else fire_floor f g)) (same_comm g f.row)
+    (same_either g (f.table == 2) (fire_control f.row g) (if f.table == 3 then fire_line f.row g else fire_floor f g) (same_control g f.row)
+    (same_either g (f.table == 3) (fire_line f.row g) (fire_floor f g) (same_line g f.row) (record { config = refl; link = refl; quitting = refl })))
 
 pub same_fire : (g : State) (f : Firing) → Same g (fire g f)
 same_fire g f = let effect = same_effect g f in record { config = effect.config; link = effect.link; quitting = effect.quitting }
@@ -103,7 +110,7 @@ same_listed (f ∷ fs) g =
     same_then g _ _ one (same_listed fs (if row_starts g f then fire g f else g))
 
 pub same_settled : (g : State) → Same g (settled g)
-same_settled g = settled_keeps (Same g) (λ h f ready same. same_then g h _ same (same_fire h f)) g (same_at g)
+same_settled g = settled_keeps (Same g) (λ h f ready same. same_then g h _ same (same_fire h f)) (λ h n same. same_then g h (fire h (firing 8 n 1)) same (same_fire h (firing 8 n 1))) g (same_at g)
 
 -- ---- data messages
 
@@ -113,6 +120,18 @@ same_clock g (Some shown) = record { config = refl; link = refl; quitting = refl
 
 same_cleared : (g : State) (alid : ℕ) → Same g (clears_alarm alid g)
 same_cleared g alid = same_either g (is_set alid g.alarms) _ g (record { config = refl; link = refl; quitting = refl }) (same_at g)
+
+same_set : (g : State) (alid : ℕ) → Same g (sets_alarm alid g)
+same_set g alid = same_either g (is_alarm alid g.alarms && not (is_set alid g.alarms)) _ g (record { config = refl; link = refl; quitting = refl }) (same_at g)
+
+same_alone : (g : State) → LeftAlone (Same g)
+same_alone g = record {
+  floor = λ h x same. record { config = same.config; link = same.link; quitting = same.quitting };
+  noted = λ h event o online same. record { config = same.config; link = same.link; quitting = same.quitting };
+}
+
+pub same_signal : (g : State) (s : Signal) → Same g (signalled s g)
+same_signal g s = alone_signalled (Same g) (same_alone g) (λ h alid same. same_then g h _ same (same_set h alid)) s g (same_at g)
 
 same_named : (g : State) (alid : Option ℕ) → Same g (clears_named alid g)
 same_named g None = same_at g
@@ -157,6 +176,11 @@ same_taken g h m =
     same_then g told (taken h m g) (same_replied g h (function_of h + 1) text)
     (same_then told (written m told) (taken h m g) (same_written told m) (same_listed (message_rows m (written m told)) (written m told)))
 
+same_shop : (g : State) (h : Header) (m : Message) → Same g (shop_taken h m g)
+same_shop g h m =
+    let told : State = shop_replied h m g in
+    alone_asked (Same g) (same_alone g) m told (same_replied g h (function_of h + 1) (plain (shop_reply_body (shop_reply_to g m))))
+
 same_note : (g : State) (w : What) → Same g (note_answered w g)
 same_note g what.Establish = same_at g
 same_note g what.Attempt = same_at g
@@ -176,6 +200,7 @@ same_act g h item (Stream9 function) = record { config = refl; link = refl; quit
 same_act g h item Aborted = same_replied g h 0 []
 same_act g h item Answers = same_closed g h item _
 same_act g h item (Taken m) = same_taken g h m
+same_act g h item (ShopTaken m) = same_shop g h m
 
 pub same_data : (g : State) (arrival : Arrival) → Same g (data_done arrival g)
 same_data g arrival = same_act g (header_of arrival) (item_of arrival) (verdict g arrival)

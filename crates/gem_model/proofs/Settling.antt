@@ -1,5 +1,5 @@
 -- Settling ends, in one way.
-use Rattle.std.proofs.Common.{◌≡◌, ℕ, zero, suc, ◌<◌, ◌≤◌, ◌+◌, ◌*◌, ◌==◌, Bool, true, false, if◌then◌else◌, List, [], ◌∷◌, Option, Some, None, refl, sym, ◌∙◌, ap, subst, arith}
+use Rattle.std.proofs.Common.{◌≡◌, ℕ, zero, suc, ◌<◌, ◌≤◌, ◌+◌, ◌-◌, ◌*◌, ◌==◌, Bool, true, false, if◌then◌else◌, List, [], ◌∷◌, ◌++◌, length, length-append, Option, Some, None, refl, sym, ◌∙◌, ap, subst, arith}
 use Rattle.gem_states.specs.declared.communication.Comm.{Comm}
 use Rattle.gem_states.specs.declared.communication.Comm.TheVariants.{Disabled, WaitDelay, WaitCra, Communicating}
 use Rattle.gem_states.specs.declared.control.Control.{Control}
@@ -9,23 +9,28 @@ use Rattle.gem_tables.specs.Table.{Firing, firing}
 use Rattle.std.specs.Option.{option_or}
 use Rattle.gem_rows.specs.Events.{ceid_of}
 use Rattle.event_reports.specs.Reports.{report_items}
-use Rattle.spool.specs.declared.note.Kind.{Kind}
 use Rattle.spool.specs.declared.note.Kind.TheVariants.{Event}
 use Rattle.spool.specs.declared.note.Note.{Note}
 use Rattle.note_line.specs.Line.{Line}
 use Rattle.note_line.specs.Line as notes
-use Rattle.note_line.specs.Left.{left as left_line, told_weight}
+use Rattle.note_line.specs.Left.{left as left_line}
 use Rattle.note_line.specs.Table3 as table
 use Rattle.note_line.specs.Table3.{row_effect}
 use Rattle.note_line.proofs.Falls.{least-falls, noted-left}
 use Rattle.gem_model.specs.State.{State, is_online, around}
-use Rattle.gem_model.specs.Values.{Occasion, value_of}
+use Rattle.gem_model.specs.Values.{Occasion, value_of, object_name}
 use Rattle.gem_model.specs.Noting.{line_with_event, line_behind, is_event_reported, event_text}
-use Rattle.gem_model.specs.Fire.{fire, takes_effect, asks_first, line_effect}
-use Rattle.gem_model.specs.Ready.{least, ready_comm, ready_control, ready_line, delay_is_over, is_attempt}
+use Rattle.shop_floor.specs.Rows.{creates, floor_fired}
+use Rattle.shop_floor.specs.Ready.{floor_least}
+use Rattle.shop_floor.specs.Left.{floor_left}
+use Rattle.shop_floor.proofs.Falls.{least_falls as floor_falls}
+use Rattle.shop_floor.proofs.Creations.{creation_same}
+use Rattle.gem_model.specs.Fire.{fire, fire_floor, takes_effect, asks_first, line_effect, creations}
+use Rattle.gem_model.specs.Ready.{least, ready_comm, ready_control, ready_line, ready_floor, delay_is_over, is_attempt}
 use Rattle.gem_model.specs.Measure.{left, is_wait_delay, one_if}
-use Rattle.gem_model.specs.Settle.{Path, Settles, settling, settling_by, settled, fire_all}
+use Rattle.gem_model.specs.Settle.{Path, Settles, settling, settling_by, settled, fire_all, advanced, Along}
 use Rattle.gem_model.proofs.LineRows.{line_went, event_weight, told_enough}
+use Rattle.gem_model.proofs.FloorRows.{effect_is, ready_is, created_case}
 use Rattle.gem_model.proofs.Tests.{went, either_way, or_went, and_parts_of, none_some}
 
 -- ---- the measure falls
@@ -61,6 +66,10 @@ asks_line : (b : Bool) (g h : State) → g.line ≡ h.line → (if b then g else
 asks_line true g h same = refl
 asks_line false g h same = sym same
 
+asks_floor : (b : Bool) (g h : State) → g.floor ≡ h.floor → (if b then g else h).floor ≡ g.floor
+asks_floor true g h same = refl
+asks_floor false g h same = sym same
+
 falls_comm : (g : State) → is_wait_delay g.comm ≡ true → left (fire g (firing 1 0 3)) < left g
 falls_comm g here =
     let comm : (fire g (firing 1 0 3)).comm ≡ WaitCra = asks_comm _ _ _ refl ∙ fired_3 0 g.comm here in
@@ -70,6 +79,7 @@ falls_comm g here =
     let same : one_if (is_attempt (fire g (firing 1 0 3)).control) ≡ one_if (is_attempt g.control) = ap (λ c. one_if (is_attempt c)) control in
     let before : one_if (is_wait_delay g.comm) ≡ 1 = ap one_if here in
     let notes : left_line (fire g (firing 1 0 3)).line ≡ left_line g.line = ap left_line line in
+    let floor : floor_left (fire g (firing 1 0 3)).floor ≡ floor_left g.floor = ap floor_left (asks_floor _ _ _ refl) in
     omega arith
 
 -- an event adds what its note weighs to what is left
@@ -109,32 +119,115 @@ line_control row g =
     (sent_control g.line.spool.notes g)
     (either_way (λ (h : State). h.control ≡ g.control) (row == 13) (asks_first g.line.waiting g) g (sent_control g.line.waiting g) refl)
 
+sent_floor : (waiting : List Note) (g : State) → (asks_first waiting g).floor ≡ g.floor
+sent_floor [] g = refl
+sent_floor (note ∷ waiting) g = asks_floor _ _ _ refl
+
+line_floor : (row : ℕ) (g : State) → (line_effect row g).floor ≡ g.floor
+line_floor row g =
+    either_way (λ (h : State). h.floor ≡ g.floor) (row == 12) (asks_first g.line.spool.notes g) (if row == 13 then asks_first g.line.waiting g else g)
+    (sent_floor g.line.spool.notes g)
+    (either_way (λ (h : State). h.floor ≡ g.floor) (row == 13) (asks_first g.line.waiting g) g (sent_floor g.line.waiting g) refl)
+
 falls_line : (g : State) (row : ℕ) → table.least (around g) g.line ≡ Some row → left (fire g (firing 3 0 row)) < left g
 falls_line g row ready =
     let comm = ap (λ c. one_if (is_wait_delay c)) (line_comm row g) in
     let control = ap (λ c. one_if (is_attempt c)) (line_control row g) in
+    let floor = ap floor_left (line_floor row g) in
     let told = event_left (ceid_of 3 row) (record { object = []; row = 100 * 3 + row }) (is_online g.control) (takes_effect g (firing 3 0 row)) in
     let enough = told_enough (around g) g.line row ready in
     let falls = least-falls (around g) g.line row ready in
     omega arith
 
-the_firing : (g : State) (f one : Firing) → left (fire g one) < left g → Some one ≡ Some f → left (fire g f) < left g
-the_firing g f one falls is = let same : one ≡ f = cc in subst (λ (x : Firing). left (fire g x) < left g) same falls
+the_firing : (g : State) (f one : Firing) → left (advanced g one) < left g → Some one ≡ Some f → left (advanced g f) < left g
+the_firing g f one falls is = let same : one ≡ f = cc in subst (λ (x : Firing). left (advanced g x) < left g) same falls
 
-this_firing : (g : State) (f one : Firing) → left (fire g one) < left g → one ≡ f → left (fire g f) < left g
-this_firing g f one falls same = subst (λ (x : Firing). left (fire g x) < left g) same falls
+this_firing : (g : State) (f one : Firing) → left (advanced g one) < left g → one ≡ f → left (advanced g f) < left g
+this_firing g f one falls same = subst (λ (x : Firing). left (advanced g x) < left g) same falls
 
--- an automatic firing leaves less to fire
-pub left_falls : (g : State) (f : Firing) → least g ≡ Some f → left (fire g f) < left g
+-- a row of the floor leaves communication and control as they are, and makes one note at most
+record Moved (g h : State) : Type 0 where
+  pub comm : h.comm ≡ g.comm
+  pub control : h.control ≡ g.control
+  pub line : left_line h.line ≤ left_line g.line + 6
+
+moved_fire : (g : State) (f : Firing) → takes_effect g f ≡ fire_floor f g → Moved g (fire g f)
+moved_fire g f is =
+    let h : State = takes_effect g f in
+    let told = event_left (ceid_of f.table f.row) (record { object = object_name h f; row = 100 * f.table + f.row }) (is_online g.control) h in
+    let most = event_most (ceid_of f.table f.row) in
+    let same : left_line h.line ≡ left_line g.line = ap (λ (k : State). left_line k.line) is in
+    record { comm = ap (λ (k : State). k.comm) is; control = ap (λ (k : State). k.control) is; line = omega (arith, told, most, same) }
+  where
+    event_most : (event : Option ℕ) → event_weight event ≤ 6
+    event_most None = omega arith
+    event_most (Some ceid) = omega arith
+
+-- a row of the floor that creates nothing, and one that creates a carrier
+falls_alone : (g h : State) → Moved g h → floor_left h.floor + 1 ≤ floor_left g.floor → left h < left g
+falls_alone g h moved falls =
+    let comm = ap (λ (c : Comm). one_if (is_wait_delay c)) moved.comm in
+    let control = ap (λ (c : Control). one_if (is_attempt c)) moved.control in
+    omega (arith, moved.line, falls, comm, control)
+
+falls_created : (g h k : State) → Moved g h → Moved h k → k.floor ≡ h.floor → floor_left h.floor + 2 ≤ floor_left g.floor → left k < left g
+falls_created g h k first next same falls =
+    let comm = ap (λ (c : Comm). one_if (is_wait_delay c)) (next.comm ∙ first.comm) in
+    let control = ap (λ (c : Control). one_if (is_attempt c)) (next.control ∙ first.control) in
+    let floor = ap floor_left same in
+    omega (arith, first.line, next.line, falls, comm, control, floor)
+
+falls_floor : (g : State) (f : Firing) → floor_least g.floor ≡ Some f → left (advanced g f) < left g
+falls_floor g f ready = of (creates f g.floor) refl where
+  is : takes_effect g f ≡ fire_floor f g
+  is = effect_is g f (ready_is g f ready)
+
+  floor_is : (fire g f).floor ≡ floor_fired f g.floor
+  floor_is = ap (λ (k : State). k.floor) is
+
+  left_is : floor_left (fire g f).floor ≡ floor_left (floor_fired f g.floor)
+  left_is = ap floor_left floor_is
+
+  creation : Firing
+  creation = firing 8 (length (floor_fired f g.floor).carriers - 1) 1
+
+  none : creates f g.floor ≡ false → creations g f ≡ []
+  none nothing = ap (λ (b : Bool). if b then creation ∷ [] else []) nothing
+
+  one : creates f g.floor ≡ true → creations g f ≡ creation ∷ []
+  one made = ap (λ (b : Bool). if b then creation ∷ [] else []) made
+
+  of : (b : Bool) → creates f g.floor ≡ b → left (advanced g f) < left g
+  of false nothing =
+      let falls = floor_falls g.floor f ready in
+      let count : length (creations g f) ≡ 0 = ap length (none nothing) in
+      subst (λ (cs : List Firing). left (fire_all cs (fire g f)) < left g) (sym (none nothing))
+      (falls_alone g (fire g f) (moved_fire g f is) (omega (arith, falls, count, left_is)))
+  of true made =
+      let falls = floor_falls g.floor f ready in
+      let count : length (creations g f) ≡ 1 = ap length (one made) in
+      subst (λ (cs : List Firing). left (fire_all cs (fire g f)) < left g) (sym (one made))
+      (falls_created g (fire g f) (fire (fire g f) creation) (moved_fire g f is) (moved_fire (fire g f) creation refl)
+      (creation_same (fire g f).floor (length (floor_fired f g.floor).carriers - 1)) (omega (arith, falls, count, left_is)))
+
+-- an automatic firing, with what it creates, leaves less to fire
+pub left_falls : (g : State) (f : Firing) → least g ≡ Some f → left (advanced g f) < left g
 left_falls g f ready =
-    or_went (ready_comm g) (option_or (ready_control g) (ready_line g)) f
+    or_went (ready_comm g) (option_or (ready_control g) (option_or (ready_line g) (ready_floor g))) f
     (λ at. went _ _ _ _ (λ over e. the_firing g f (firing 1 0 3) (falls_comm g (waits g.moment g.comm (and_parts_of _ _ over).0)) e) (λ _ e. none_some f e) at)
-    (λ _ behind. or_went (ready_control g) (ready_line g) f
+    (λ _ behind. or_went (ready_control g) (option_or (ready_line g) (ready_floor g)) f
     (λ at. went _ _ _ _ (λ can e. the_firing g f (firing 2 0 2) (falls_control g (and_parts_of _ _ can).0) e) (λ _ e. none_some f e) at)
-    (λ _ at. line_went g f (λ row is e. this_firing g f (firing 3 0 row) (falls_line g row is) e) at) behind)
+    (λ _ last. or_went (ready_line g) (ready_floor g) f
+    (λ at. line_went g f (λ row is e. this_firing g f (firing 3 0 row) (falls_line g row is) e) at)
+    (λ _ at. falls_floor g f at) last) behind)
     ready
 
 -- ---- the settled state
+
+-- the state after firings and then others
+fire_both : (fs gs : List Firing) (g : State) → fire_all (fs ++ gs) g ≡ fire_all gs (fire_all fs g)
+fire_both [] gs g = refl
+fire_both (f ∷ fs) gs g = fire_both fs gs (fire g f)
 
 -- more firings than there are to fire are no more
 settling_more : (n m : ℕ) (g : State) (f : Option Firing) → least g ≡ f → left g ≤ n → n ≤ m → settling_by m g f ≡ settling_by n g f
@@ -142,36 +235,61 @@ settling_more n m g None is fits less = refl
 settling_more zero m g (Some f) is fits less = absurd (omega (arith, left_falls g f is))
 settling_more (suc n) zero g (Some f) is fits less = absurd (omega arith)
 settling_more (suc n) (suc m) g (Some f) is fits less =
-    ap (λ fs. f ∷ fs) (settling_more n m (fire g f) (least (fire g f)) refl (omega (arith, left_falls g f is)) (omega arith))
+    ap (λ fs. f ∷ (creations g f ++ fs)) (settling_more n m (advanced g f) (least (advanced g f)) refl (omega (arith, left_falls g f is)) (omega arith))
 
-settling_is : (g : State) (f : Firing) → least g ≡ Some f → settling g ≡ f ∷ settling (fire g f)
+settling_is : (g : State) (f : Firing) → least g ≡ Some f → settling g ≡ f ∷ (creations g f ++ settling (advanced g f))
 settling_is g f ready = by_left (left g) refl
   where
-    by_left : (n : ℕ) → left g ≡ n → settling g ≡ f ∷ settling (fire g f)
+    by_left : (n : ℕ) → left g ≡ n → settling g ≡ f ∷ (creations g f ++ settling (advanced g f))
     by_left zero is = absurd (omega (arith, left_falls g f ready))
     by_left (suc n) is =
         ap (λ (k : ℕ). settling_by k g (least g)) is
         ∙ ap (settling_by (suc n) g) ready
-        ∙ ap (λ fs. f ∷ fs) (settling_more (left (fire g f)) n (fire g f) (least (fire g f)) refl (omega arith) (omega (arith, left_falls g f ready)))
+        ∙ ap (λ fs. f ∷ (creations g f ++ fs)) (settling_more (left (advanced g f)) n (advanced g f) (least (advanced g f)) refl (omega arith) (omega (arith, left_falls g f ready)))
 
 -- where no row is ready the state is settled
 pub settled_none : (g : State) → least g ≡ None → settled g ≡ g
 settled_none g none = ap (λ fs. fire_all fs g) (ap (settling_by (left g) g) none)
 
--- where one is ready, it settles as behind its firing
-pub settled_some : (g : State) (f : Firing) → least g ≡ Some f → settled g ≡ settled (fire g f)
-settled_some g f ready = ap (λ fs. fire_all fs g) (settling_is g f ready)
+-- where one is ready, it settles as behind its firing and what that creates
+pub settled_some : (g : State) (f : Firing) → least g ≡ Some f → settled g ≡ settled (advanced g f)
+settled_some g f ready = ap (λ fs. fire_all fs g) (settling_is g f ready) ∙ fire_both (creations g f) (settling (advanced g f)) (fire g f)
 
-settled_within : (P : State → Type 0) → ((g : State) (f : Firing) → least g ≡ Some f → P g → P (fire g f)) → (n : ℕ) (g : State) (f : Option Firing) → least g ≡ f → left g ≤ n → P g → P (settled g)
+-- what holds of a state behind a firing holds behind what that creates
+pub advanced_keeps : (P : State → Type 0) → ((g : State) (n : ℕ) → P g → P (fire g (firing 8 n 1))) → (g : State) (f : Firing) → P (fire g f) → P (advanced g f)
+advanced_keeps P creates g f here = created_case (λ (cs : List Firing). P (fire_all cs (fire g f))) g f here (λ n. creates (fire g f) n here)
+
+settled_within : (P : State → Type 0) → ((g : State) (f : Firing) → least g ≡ Some f → P g → P (advanced g f)) → (n : ℕ) (g : State) (f : Option Firing) → least g ≡ f → left g ≤ n → P g → P (settled g)
 settled_within P keeps n g None is fits here = subst P (sym (settled_none g is)) here
 settled_within P keeps zero g (Some f) is fits here = absurd (omega (arith, left_falls g f is))
 settled_within P keeps (suc n) g (Some f) is fits here =
     subst P (sym (settled_some g f is))
-    (settled_within P keeps n (fire g f) (least (fire g f)) refl (omega (arith, left_falls g f is)) (keeps g f is here))
+    (settled_within P keeps n (advanced g f) (least (advanced g f)) refl (omega (arith, left_falls g f is)) (keeps g f is here))
 
--- what holds of a state and of each that an automatic firing leads to holds of the settled one
-pub settled_keeps : (P : State → Type 0) → ((g : State) (f : Firing) → least g ≡ Some f → P g → P (fire g f)) → (g : State) → P g → P (settled g)
-settled_keeps P keeps g here = settled_within P keeps (left g) g (least g) refl (omega arith) here
+-- what holds of a state, of each that an automatic firing leads to, and behind each creation, holds of the settled one
+pub settled_keeps : (P : State → Type 0) → ((g : State) (f : Firing) → least g ≡ Some f → P g → P (fire g f)) → ((g : State) (n : ℕ) → P g → P (fire g (firing 8 n 1))) → (g : State) → P g → P (settled g)
+settled_keeps P keeps creates g here =
+    settled_within P (λ h f ready at. advanced_keeps P creates h f (keeps h f ready at)) (left g) g (least g) refl (omega arith) here
+
+along_made : (P Q : State → Type 0) → ((h : State) → P h → Q h) → (g : State) (f : Firing) (fs : List Firing) → P (fire g f) → Along Q (advanced g f) fs → Along Q (fire g f) (creations g f ++ fs)
+along_made P Q says g f fs here =
+    created_case (λ (cs : List Firing). Along Q (fire_all cs (fire g f)) fs → Along Q (fire g f) (cs ++ fs)) g f (λ rest. rest) (λ n rest. (says (fire g f) here, rest))
+
+along_within : (P Q : State → Type 0) → ((h : State) → P h → Q h) → ((g : State) (f : Firing) → least g ≡ Some f → P g → P (fire g f)) → ((g : State) (n : ℕ) → P g → P (fire g (firing 8 n 1))) → (n : ℕ) (g : State) (f : Option Firing) → least g ≡ f → P g → Along Q g (settling_by n g f)
+along_within P Q says keeps creates n g None is here = says g here
+along_within P Q says keeps creates zero g (Some f) is here = says g here
+along_within P Q says keeps creates (suc n) g (Some f) is here =
+    let next = keeps g f is here in
+    (says g here, along_made P Q says g f (settling_by n (advanced g f) (least (advanced g f))) next (along_within P Q says keeps creates n (advanced g f) (least (advanced g f)) refl (advanced_keeps P creates g f next)))
+
+-- what each firing keeps holds on the way to the settled state
+pub settled_along : (P Q : State → Type 0) → ((h : State) → P h → Q h) → ((g : State) (f : Firing) → least g ≡ Some f → P g → P (fire g f)) → ((g : State) (n : ℕ) → P g → P (fire g (firing 8 n 1))) → (g : State) → P g → Along Q g (settling g)
+settled_along P Q says keeps creates g here = along_within P Q says keeps creates (left g) g (least g) refl here
+
+-- a path goes on behind what a firing creates
+path_created : (g : State) (f : Firing) (fs : List Firing) (h : State) → Path (advanced g f) [] fs h → Path (fire g f) (creations g f) (creations g f ++ fs) h
+path_created g f fs h =
+    created_case (λ (cs : List Firing). Path (fire_all cs (fire g f)) [] fs h → Path (fire g f) cs (cs ++ fs) h) g f (λ path. path) (λ n path. (refl, path))
 
 settles_within : (n : ℕ) (g : State) (f : Option Firing) → least g ≡ f → left g ≤ n → Settles g (settling g) (settled g)
 settles_within n g None is fits =
@@ -179,17 +297,40 @@ settles_within n g None is fits =
     subst (λ fs. Path g [] fs (fire_all fs g)) (sym none) (is, refl)
 settles_within zero g (Some f) is fits = absurd (omega (arith, left_falls g f is))
 settles_within (suc n) g (Some f) is fits =
-    subst (λ fs. Path g [] fs (fire_all fs g)) (sym (settling_is g f is))
-    (is, settles_within n (fire g f) (least (fire g f)) refl (omega (arith, left_falls g f is)))
+    let next : State = advanced g f in
+    let rest : Path next [] (settling next) (settled next) = settles_within n next (least next) refl (omega (arith, left_falls g f is)) in
+    rw (settling_is g f is)
+    (is, subst (Path (fire g f) (creations g f) (creations g f ++ settling next)) (sym (fire_both (creations g f) (settling next) (fire g f))) (path_created g f (settling next) (settled next) rest))
 
 -- it settles so
 pub settles_so : (g : State) → Settles g (settling g) (settled g)
 settles_so g = settles_within (left g) g (least g) refl (omega arith)
 
+-- what a path does behind what a firing creates
+record Behind (k : State) (cs fs : List Firing) (h : State) : Type 0 where
+  pub rest : List Firing
+  pub is : fs ≡ cs ++ rest
+  pub path : Path (fire_all cs k) [] rest h
+
+path_behind : (g : State) (f : Firing) (fs : List Firing) (h : State) → Path (fire g f) (creations g f) fs h → Behind (fire g f) (creations g f) fs h
+path_behind g f fs h =
+    created_case (λ (cs : List Firing). Path (fire g f) cs fs h → Behind (fire g f) cs fs h) g f (λ path. record { rest = fs; is = refl; path = path }) (λ n path. first n fs path)
+  where
+    first : (n : ℕ) (fs : List Firing) → Path (fire g f) (firing 8 n 1 ∷ []) fs h → Behind (fire g f) (firing 8 n 1 ∷ []) fs h
+    first n [] path = absurd path
+    first n (x ∷ rest) path = record { rest = rest; is = ap (λ (y : Firing). y ∷ rest) path.0; path = path.1 }
+
 -- and in no other way
-pub settles_only : (g : State) (fs : List Firing) (h : State) → Settles g fs h → (fs ≡ settling g) × (h ≡ settled g)
-settles_only g [] h path =
+settles_by : (n : ℕ) (g : State) (fs : List Firing) (h : State) → length fs ≤ n → Settles g fs h → (fs ≡ settling g) × (h ≡ settled g)
+settles_by n g [] h fits path =
     (sym (ap (settling_by (left g) g) path.0), path.1 ∙ sym (settled_none g path.0))
-settles_only g (f ∷ fs) h path =
-    let rest = settles_only (fire g f) fs h path.1 in
-    (ap (λ xs. f ∷ xs) rest.0 ∙ sym (settling_is g f path.0), rest.1 ∙ sym (settled_some g f path.0))
+settles_by zero g (f ∷ fs) h fits path = absurd (omega arith)
+settles_by (suc n) g (f ∷ fs) h fits path =
+    let b = path_behind g f fs h path.1 in
+    let count = ap length b.is in
+    let both = length-append (creations g f) b.rest in
+    let rest = settles_by n (advanced g f) b.rest h (omega (arith, fits, count, both)) b.path in
+    (ap (λ xs. f ∷ xs) (b.is ∙ ap (λ xs. creations g f ++ xs) rest.0) ∙ sym (settling_is g f path.0), rest.1 ∙ sym (settled_some g f path.0))
+
+pub settles_only : (g : State) (fs : List Firing) (h : State) → Settles g fs h → (fs ≡ settling g) × (h ≡ settled g)
+settles_only g fs h path = settles_by (length fs) g fs h (omega arith) path

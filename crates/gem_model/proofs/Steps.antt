@@ -34,7 +34,8 @@ use Rattle.gem_model.specs.Settle.{settled}
 use Rattle.gem_model.specs.Step.{Outcome, step, step_from, answered, end_now, hosted, linked, taken, operated, is_accepted, switched, quits, ticked, ended_by, acts, settles}
 use Rattle.gem_model.proofs.Links.{link_after-keeps, due-down}
 use Rattle.gem_model.proofs.Tests.{went, none_some}
-use Rattle.gem_model.proofs.Same.{Same, same_at, same_then, same_listed, same_settled, same_data, same_timeout, same_switched}
+use Rattle.gem_model.specs.Signals.{signalled, is_ready_to_unload}
+use Rattle.gem_model.proofs.Same.{Same, same_at, same_then, same_listed, same_settled, same_data, same_timeout, same_switched, same_signal}
 
 -- 1 for a session that is up
 abbrev pub up_count : State → ℕ
@@ -270,11 +271,11 @@ keeps_acts before g (event.LinkDown session cause) o here = went (is_session_up 
 keeps_acts before g (event.Host session arrival) o here = went (is_session_up g session) _ _ _ (λ up e. the_some g _ o (keeps_linked g (header_of arrival) _ (up_at g session up) (keeps_hosted (linked g (header_of arrival)) arrival (link_act (header_of arrival) g.link) ((link_after-keeps (header_of arrival) g.moment g.link).up (up_at g session up)))) e) (λ _ e. the_some g _ o (keeps_ended g) e) here
 keeps_acts before g (event.Take session) o here = went (is_session_up g session) _ _ _ (λ _ e. keeps_taken g g.waiting o e) (λ _ e. the_some g _ o (keeps_ended g) e) here
 keeps_acts before g (event.Oper command) o here = the_some g _ o (keeps_operated g command) here
-keeps_acts before g (event.Signal signal) o here = the_some g _ o (keeps_same g g _ (same_at g)) here
+keeps_acts before g (event.Signal signal) o here = the_some g _ o (keeps_same g (signalled signal g) _ (same_signal g signal)) here
 keeps_acts before g (event.Fetch m) o here = none_some o here
 keeps_acts before g event.Tick o here = keeps_ticked before g o here
 keeps_acts before g event.Listen o here = none_some o here
-keeps_acts before g (event.Watch port) o here = none_some o here
+keeps_acts before g (event.Watch port) o here = went (is_ready_to_unload port.0 g) _ _ _ (λ _ e. the_some g _ o (keeps_same g g _ (same_at g)) e) (λ _ e. none_some o e) here
 
 keeps_settles : (g : State) (o : Outcome) → Keeping g o → Keeping g (settles o)
 keeps_settles g o k =

@@ -24,12 +24,13 @@ use Rattle.note_line.proofs.Keeps.{Keeps, fates-same, fates-trans, opening-valid
 use Rattle.note_line.proofs.Sendings.{never-back}
 use Rattle.gem_model.specs.State.{State, opening, around, is_up, is_selected, raised, first_control, first_kinds}
 use Rattle.gem_model.specs.Fire.{fire, creations}
-use Rattle.gem_model.specs.Ready.{delay_is_over, least, ready_comm, ready_control, ready_line, is_attempt}
+use Rattle.gem_model.specs.Ready.{delay_is_over, least, ready_comm, ready_control, ready_line, ready_floor, is_attempt}
 use Rattle.gem_model.specs.Settle.{Path, settled, settling, Along}
 use Rattle.gem_model.specs.Step.{Outcome, step, step_from, acts, settles}
 use Rattle.gem_model.specs.OpenNotes.{NotBelow, NeverBack, open_behind}
-use Rattle.gem_model.specs.Run.{Run, entry_after}
+use Rattle.gem_model.specs.Run.{Run}
 use Rattle.gem_model.specs.Valid.{Valid}
+use Rattle.shop_floor.proofs.Quiet.{opening_quiet}
 use Rattle.gem_model.proofs.Tests.{went, none_some}
 use Rattle.gem_model.proofs.Settling.{settles_so}
 use Rattle.gem_model.proofs.Runs.{after-step}
@@ -65,8 +66,8 @@ behind_none (Some f) y h = absurd (cc)
 
 raised_quiet : (g : State) (at : ℕ) → is_up g ≡ false → least g ≡ None → least (raised g at) ≡ None
 raised_quiet g at down quiet =
-    ap (λ (x : Option Firing). option_or x (option_or (ready_control g) (ready_line g))) (never _ (is_selected g) _ (down_selected g.link.phase down))
-    ∙ behind_none (ready_comm g) (option_or (ready_control g) (ready_line g)) quiet
+    ap (λ (x : Option Firing). option_or x (option_or (ready_control g) (option_or (ready_line g) (ready_floor g)))) (never _ (is_selected g) _ (down_selected g.link.phase down))
+    ∙ behind_none (ready_comm g) (option_or (ready_control g) (option_or (ready_line g) (ready_floor g))) quiet
 
 -- ---- an earlier moment makes no row ready
 
@@ -93,10 +94,10 @@ first_none (Some f) y h = absurd (cc)
 -- what differs by an earlier moment and by the frames that wait has no row that is ready either
 pub earlier_quiet : (g : State) (moment : ℕ) (waiting : List (List ℕ)) → moment ≤ g.moment → least g ≡ None → least (record g { moment = moment; waiting = waiting }) ≡ None
 earlier_quiet g moment waiting less quiet =
-    let late = test_of _ _ (first_none (ready_comm g) (option_or (ready_control g) (ready_line g)) quiet) in
+    let late = test_of _ _ (first_none (ready_comm g) (option_or (ready_control g) (option_or (ready_line g) (ready_floor g))) quiet) in
     let early : (delay_is_over moment g.comm && is_selected g) ≡ false = not_both _ (delay_is_over g.moment g.comm) (is_selected g) (earlier_over moment g.moment g.comm less) late in
-    ap (λ (b : Bool). option_or (if b then Some (firing 1 0 3) else None) (option_or (ready_control g) (ready_line g))) early
-    ∙ behind_none (ready_comm g) (option_or (ready_control g) (ready_line g)) quiet
+    ap (λ (b : Bool). option_or (if b then Some (firing 1 0 3) else None) (option_or (ready_control g) (option_or (ready_line g) (ready_floor g)))) early
+    ∙ behind_none (ready_comm g) (option_or (ready_control g) (option_or (ready_line g) (ready_floor g))) quiet
 
 -- ---- a step
 
@@ -139,8 +140,9 @@ never_first false b f h = refl
 
 pub opening_valid : (c : Config) → Valid (opening c)
 opening_valid c = record {
-  settled = ap (λ (x : Option Firing). option_or x (option_or (ready_control (opening c)) None)) (never _ false _ refl)
-      ∙ ap (λ (x : Option Firing). option_or x None) (never_first (is_attempt (first_control c.control)) _ _ (no_attempt c.control));
+  settled = ap (λ (x : Option Firing). option_or x (option_or (ready_control (opening c)) (ready_floor (opening c)))) (never _ false _ refl)
+      ∙ ap (λ (x : Option Firing). option_or x (ready_floor (opening c))) (never_first (is_attempt (first_control c.control)) _ _ (no_attempt c.control))
+      ∙ opening_quiet c.ports;
   quit = λ _. refl;
   establish = omega arith;
   attempt = omega arith;
@@ -183,10 +185,10 @@ pub run-stays : (c : Config) (front behind : List Entry) (g h : State) → Run (
 run-stays c front behind g h before after = (run-fates g behind h (run-line c front g before) after).fates
 
 -- where no row is ready, none of the line is
-none_ready : (first second third : Option Firing) → option_or first (option_or second third) ≡ None → third ≡ None
-none_ready None None third e = e
-none_ready None (Some f) third e = absurd (cc)
-none_ready (Some f) second third e = absurd (cc)
+none_ready : (first second third last : Option Firing) → option_or first (option_or second (option_or third last)) ≡ None → third ≡ None
+none_ready None None third last e = first_none third last e
+none_ready None (Some f) third last e = absurd (cc)
+none_ready (Some f) second third last e = absurd (cc)
 
 no_row : (row : Option ℕ) → option_map (firing 3 0) row ≡ None → row ≡ None
 no_row None e = refl
@@ -200,7 +202,7 @@ inactive_empty false some e is = absurd (cc)
 pub run-empty : (c : Config) (entries : List Entry) (h : State) → Run (opening c) entries h → is_inactive h.line.spool.load ≡ true → has_note h.line.spool ≡ false
 run-empty c entries h run inactive =
     let valid = run_valid (opening c) entries h (opening_valid c) run in
-    let quiet = no_row (table.least (around h) h.line) (none_ready (ready_comm h) (ready_control h) (ready_line h) valid.settled) in
+    let quiet = no_row (table.least (around h) h.line) (none_ready (ready_comm h) (ready_control h) (ready_line h) (ready_floor h) valid.settled) in
     inactive_empty _ _ (quiet_first (around h) h.line quiet) inactive
 
 -- ---- sendings of one kind never go back

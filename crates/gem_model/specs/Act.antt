@@ -24,7 +24,10 @@ use Rattle.gem_model.specs.Sending.{replies, sends_stream9}
 use Rattle.gem_model.specs.Noting.{clears_alarm}
 use Rattle.gem_model.specs.Spooling.{spools}
 use Rattle.gem_model.specs.Remote.{RemoteCommand, GoLocal, ClearAlarm, Parameter, accepted, alarm_named}
-use Rattle.gem_model.specs.Verdict.{Verdict, Discarded, Stream9, Aborted, Answers, Taken, verdict, header_of, item_of, wants_reply, stream_of, function_of, settings_of, is_enabling, reply_to}
+use Rattle.msgs_300.specs.Primaries.{Message}
+use Rattle.msgs_300.specs.Replies.{shop_reply_body}
+use Rattle.gem_model.specs.Shop.{shop_reply_to, shop_written, shop_rows}
+use Rattle.gem_model.specs.Verdict.{Verdict, Discarded, Stream9, Aborted, Answers, Taken, ShopTaken, verdict, header_of, item_of, wants_reply, stream_of, function_of, settings_of, is_enabling, reply_to}
 
 -- the host's clock is set to this moment, where there is one
 abbrev pub clock_set : Option ℕ → State → State
@@ -65,6 +68,14 @@ abbrev pub taken : Header → GemMsg → State → State
 taken h m g =
     fires (message_rows m) (written m (replied h (function_of h + 1) (plain (reply_body (reply_to g m))) g))
 
+-- the reply to a message of carriers and ports
+abbrev pub shop_replied : Header → Message → State → State
+shop_replied h m g = replied h (function_of h + 1) (plain (shop_reply_body (shop_reply_to g m))) g
+
+-- such a message that is taken: its reply, what it writes, and then its direct rows, which are those of the state before it
+abbrev pub shop_taken : Header → Message → State → State
+shop_taken h m g = fire_listed (shop_rows m (shop_replied h m g)) (shop_written m (shop_replied h m g))
+
 -- the open note is answered, where the transaction was its own: by any message that closes it (this tool's profile, notes)
 abbrev pub note_answered : What → State → State
 note_answered (what.Note n) g = record g { line = notes.answered g.line }
@@ -84,6 +95,7 @@ data_act h item (Stream9 function) g = sends_stream9 function h g
 data_act h item Aborted g = replied h 0 [] g
 data_act h item Answers g = closed_by h item (answered h.system (stream_of h) (function_of h) g.transactions.opened) g
 data_act h item (Taken m) g = taken h m g
+data_act h item (ShopTaken m) g = shop_taken h m g
 
 -- a data message
 abbrev pub data_done : Arrival → State → State

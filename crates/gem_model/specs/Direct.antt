@@ -16,6 +16,7 @@ use Rattle.tool_events.specs.declared.event.OperCmd.TheVariants as oper
 use Rattle.transactions.specs.declared.transaction.What.{What}
 use Rattle.transactions.specs.declared.transaction.What.TheVariants as what
 use Rattle.transactions.specs.Endings.{first_of}
+use Rattle.shop_floor.specs.Requests.{at_port}
 use Rattle.gem_model.specs.State.{State}
 use Rattle.gem_model.specs.Fire.{of_comm, of_control, of_line}
 use Rattle.gem_model.specs.Remote.{RemoteCommand, GoLocal, ClearAlarm, accepted}
@@ -53,6 +54,8 @@ operator_rows oper.Online g = by_control control.Online g
 operator_rows oper.Offline g = by_control control.Offline g
 operator_rows oper.Local g = by_control control.Local g
 operator_rows oper.Remote g = by_control control.Remote g
+operator_rows (oper.Service port on) g = at_port 4 (if on then 1 else 2) g.floor port.0
+operator_rows (oper.Access port auto) g = at_port 5 (if auto then 1 else 2) g.floor port.0
 operator_rows _ g = []
 
 -- a remote command that is accepted: GOLOCAL is the operator's `local`, but that the switch stays

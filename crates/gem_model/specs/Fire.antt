@@ -1,6 +1,6 @@
 -- What a row does when it fires: its state and its effect, and then the note that it makes. Direct and automatic rows
 -- fire alike (this tool's profile, transition tables; the printed rows stand in gem_tables).
-use Rattle.std.specs.Prelude.{ℕ, ◌+◌, ◌==◌, Bool, false, if◌then◌else◌, List, [], ◌∷◌, map}
+use Rattle.std.specs.Prelude.{ℕ, ◌+◌, ◌==◌, Bool, if◌then◌else◌, List, [], ◌∷◌, map}
 use Rattle.gem_states.specs.Meaning.{comm_number, comm_fired, control_number, control_fired}
 use Rattle.spool.specs.declared.note.Kind.{Kind}
 use Rattle.spool.specs.declared.note.Kind.TheVariants.{Event, Alarm}
@@ -15,6 +15,7 @@ use Rattle.transactions.specs.Table.{taken_out}
 use Rattle.transactions.specs.Endings.{first_of}
 use Rattle.gem_model.specs.State.{State, establish_timeout, is_online, can_ask, none_asked, around}
 use Rattle.gem_model.specs.Sending.{asks, identity_text}
+use Rattle.shop_floor.specs.Rows.{floor_starts, floor_fired, creation_rows}
 use Rattle.gem_model.specs.Noting.{noted}
 
 -- the transaction of this kind is open no more
@@ -71,6 +72,11 @@ line_effect row g = if row == 12 then asks_first g.line.spool.notes g else (if r
 abbrev pub fire_line : ℕ → State → State
 fire_line row g = record (line_effect row g) { line = row_effect (around g) row g.line }
 
+-- ---- tables 4 to 10, the load ports and the carriers
+
+abbrev pub fire_floor : Firing → State → State
+fire_floor f g = record g { floor = floor_fired f g.floor }
+
 -- ---- all tables
 
 -- the row of a firing starts at the present state
@@ -78,21 +84,22 @@ abbrev pub row_starts : State → Firing → Bool
 row_starts g f =
     if f.table == 1 then starts communication_table f.row (comm_number g.comm)
     else (if f.table == 2 then starts control_table f.row (control_number g.control)
-    else (if f.table == 3 then line_starts (around g) f.row g.line else false))
+    else (if f.table == 3 then line_starts (around g) f.row g.line else floor_starts f g.floor))
 
 -- the row's state and effect; all else stays
 abbrev pub takes_effect : State → Firing → State
 takes_effect g f =
     if f.table == 1 then fire_comm f.row g
-    else (if f.table == 2 then fire_control f.row g else (if f.table == 3 then fire_line f.row g else g))
+    else (if f.table == 2 then fire_control f.row g else (if f.table == 3 then fire_line f.row g else fire_floor f g))
 
 -- a row fires: its effect, and the note that it makes behind it
 abbrev pub fire : State → Firing → State
 fire g f = noted (is_online g.control) f (takes_effect g f)
 
--- the rows of the objects that a firing created, which are fired straight after it: no row creates one yet
+-- the rows of the object that a firing creates, which are fired straight after it: only a carrier is created so (this tool's
+-- profile, settling)
 abbrev pub creations : State → Firing → List Firing
-creations g f = []
+creations g f = creation_rows f g.floor
 
 -- ---- direct rows
 

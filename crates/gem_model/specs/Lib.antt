@@ -7,10 +7,12 @@ pub mod Fire
 pub mod Remote
 pub mod Spooling
 pub mod Direct
+pub mod Signals
 pub mod Ready
 pub mod Measure
 pub mod Settle
 pub mod Valid
+pub mod Shop
 pub mod Verdict
 pub mod Act
 pub mod Due

@@ -7,6 +7,7 @@ use Rattle.gem_states.specs.declared.control.Control.{Control}
 use Rattle.gem_states.specs.declared.control.Control.TheVariants as control
 use Rattle.gem_tables.specs.Table.{Firing, firing}
 use Rattle.note_line.specs.Table3 as line
+use Rattle.shop_floor.specs.Ready.{floor_least}
 use Rattle.gem_model.specs.State.{State, is_selected, can_ask, around}
 
 -- WAIT DELAY, whose delay is over at a moment
@@ -31,6 +32,10 @@ ready_control g = if is_attempt g.control && not (can_ask g) then Some (firing 2
 abbrev pub ready_line : State → Option Firing
 ready_line g = option_map (firing 3 0) (line.least (around g) g.line)
 
+-- tables 4 to 9: the rows of the load ports and the carriers
+abbrev pub ready_floor : State → Option Firing
+ready_floor g = floor_least g.floor
+
 -- the least ready row, by table, object and row
 abbrev pub least : State → Option Firing
-least g = option_or (ready_comm g) (option_or (ready_control g) (ready_line g))
+least g = option_or (ready_comm g) (option_or (ready_control g) (option_or (ready_line g) (ready_floor g)))

@@ -2,7 +2,7 @@
 -- reported (SEMI E30, event reports and alarms; this tool's profile, notes). It is listed from the firings and the changes
 -- themselves, beside the line of notes. Each word is named by what happens, and passes the states of the word that says
 -- what that does.
-use Rattle.std.specs.Prelude.{ℕ, ◌+◌, Bool, true, ◌&&◌, if◌then◌else◌, List, [], ◌∷◌, ◌++◌, Option, Some, None}
+use Rattle.std.specs.Prelude.{ℕ, ◌+◌, Bool, true, not, ◌&&◌, if◌then◌else◌, List, [], ◌∷◌, ◌++◌, Option, Some, None}
 use Rattle.gem_tables.specs.Table.{Firing}
 use Rattle.gem_rows.specs.Events.{ceid_of}
 use Rattle.hsms_frame.specs.declared.frame.Header.{Header}
@@ -15,7 +15,11 @@ use Rattle.secs_items.specs.Plain.{plain}
 use Rattle.msgs_gem.specs.declared.primary.GemMsg.{GemMsg}
 use Rattle.msgs_gem.specs.declared.primary.GemMsg.TheVariants as msg
 use Rattle.msgs_gem.specs.Replies.{reply_body}
-use Rattle.event_reports.specs.Alarms.{is_set, clear_alarm}
+use Rattle.event_reports.specs.Alarms.{is_alarm, is_set, set_alarm, clear_alarm}
+use Rattle.shop_floor.specs.Requests.{at_port, removal}
+use Rattle.tool_events.specs.declared.event.Signal.{Signal}
+use Rattle.tool_events.specs.declared.event.Signal.TheVariants as equipment
+use Rattle.gem_model.specs.Signals.{lacks_port, port_row_starts, port_alarm, with_arrival}
 use Rattle.spool.specs.declared.note.Kind.{Kind}
 use Rattle.spool.specs.declared.note.Kind.TheVariants.{Event, Alarm}
 use Rattle.tool_events.specs.declared.event.Event.{Event as Posted}
@@ -33,8 +37,10 @@ use Rattle.gem_model.specs.Fire.{row_starts, takes_effect, fire}
 use Rattle.gem_model.specs.Direct.{message_rows, answer_rows, session_end_rows, timeout_rows, operator_rows}
 use Rattle.gem_model.specs.Remote.{RemoteCommand, ClearAlarm, Parameter, accepted, alarm_named}
 use Rattle.gem_model.specs.Settle.{settling}
-use Rattle.gem_model.specs.Verdict.{Verdict, Answers, Taken, verdict, header_of, item_of, stream_of, function_of, reply_to}
-use Rattle.gem_model.specs.Act.{written, replied, note_answered}
+use Rattle.msgs_300.specs.Primaries.{Message}
+use Rattle.gem_model.specs.Shop.{shop_written, shop_rows}
+use Rattle.gem_model.specs.Verdict.{Verdict, Answers, Taken, ShopTaken, verdict, header_of, item_of, stream_of, function_of, reply_to}
+use Rattle.gem_model.specs.Act.{written, replied, shop_replied, note_answered}
 use Rattle.gem_model.specs.Due.{Due, EndOfSession, Linktest, Timeout, dues, is_due, done}
 use Rattle.gem_model.specs.Step.{Outcome, linked, can_clear, switched, acts}
 use Rattle.gem_model.specs.Run.{entry_after}
@@ -79,6 +85,29 @@ abbrev pub by_clearing : ℕ → State → List Reported
 by_clearing alid g =
     if is_set alid g.alarms && is_alarm_reported alid (record g { alarms = clear_alarm alid g.alarms }) then (Alarm, alid) ∷ [] else []
 
+-- an alarm is set: where it was clear, and its change is then reported
+abbrev pub by_setting : ℕ → State → List Reported
+by_setting alid g =
+    if is_alarm alid g.alarms && not (is_set alid g.alarms)
+    then (if is_alarm_reported alid (record g { alarms = set_alarm alid g.alarms }) then (Alarm, alid) ∷ [] else [])
+    else []
+
+-- ---- the equipment
+
+-- a carrier is placed, or removed: the rows, or the alarm
+abbrev pub by_placed : ℕ → Option (List ℕ) → List ℕ → State → List Reported
+by_placed port name slots g =
+    if port_row_starts 3 port g then by_listed (at_port 4 3 g.floor port) (with_arrival port name slots g) else by_setting (port_alarm port) g
+
+abbrev pub by_removed : ℕ → State → List Reported
+by_removed port g = if port_row_starts 5 port g then by_listed (removal port g.floor) g else by_setting (port_alarm port) g
+
+-- the equipment tells of something
+abbrev pub by_signal : Signal → State → List Reported
+by_signal (equipment.Placed port name slots) g = if lacks_port port.0 g then [] else by_placed port.0 name slots g
+by_signal (equipment.Removed port) g = if lacks_port port.0 g then [] else by_removed port.0 g
+by_signal _ g = []
+
 -- ---- data messages
 
 abbrev pub by_clearing_named : Option ℕ → State → List Reported
@@ -103,6 +132,10 @@ by_answered m g = by_written m g ++ by_rows (message_rows m) (written m g)
 abbrev pub by_taken : Header → GemMsg → State → List Reported
 by_taken h m g = by_answered m (replied h (function_of h + 1) (plain (reply_body (reply_to g m))) g)
 
+-- a message of carriers and ports is taken
+abbrev pub by_shop_taken : Header → Message → State → List Reported
+by_shop_taken h m g = by_listed (shop_rows m (shop_replied h m g)) (shop_written m (shop_replied h m g))
+
 -- a message closes a transaction of the tool, if one is open
 abbrev pub by_closing : Header → Option Data → Option Open → State → List Reported
 by_closing h item None g = []
@@ -113,6 +146,7 @@ by_closing h item (Some one) g =
 abbrev pub by_data : Header → Option Data → Verdict → State → List Reported
 by_data h item Answers g = by_closing h item (answered h.system (stream_of h) (function_of h) g.transactions.opened) g
 by_data h item (Taken m) g = by_taken h m g
+by_data h item (ShopTaken m) g = by_shop_taken h m g
 by_data h item _ g = []
 
 -- ---- the rest
@@ -159,6 +193,7 @@ by_act before g (event.LinkDown session cause) = if is_session_up g session then
 by_act before g (event.Host session arrival) =
     if is_session_up g session then by_host (linked g (header_of arrival)) arrival (link_act (header_of arrival) g.link) else []
 by_act before g (event.Oper command) = by_operator command g
+by_act before g (event.Signal signal) = by_signal signal g
 by_act before g event.Tick = if is_due before g then by_dues (dues g) g else []
 by_act before g _ = []
 

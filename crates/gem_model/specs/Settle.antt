@@ -18,19 +18,23 @@ Path g (d ∷ due) (f ∷ fs) h = (f ≡ d) × Path (fire g d) (creations g d ++
 abbrev pub Settles : State → List Firing → State → Type 0
 Settles g fs h = Path g [] fs h
 
--- the firings of a settling, of so many at most
-abbrev pub settling_by : ℕ → State → Option Firing → List Firing
-settling_by n g None = []
-settling_by zero g (Some f) = []
-settling_by (suc n) g (Some f) = f ∷ settling_by n (fire g f) (least (fire g f))
-
-abbrev pub settling : State → List Firing
-settling g = settling_by (left g) g (least g)
-
 -- the state after these firings
 abbrev pub fire_all : List Firing → State → State
 fire_all [] g = g
 fire_all (f ∷ fs) g = fire_all fs (fire g f)
+
+-- a row fires, and then the rows of the object that it creates
+abbrev pub advanced : State → Firing → State
+advanced g f = fire_all (creations g f) (fire g f)
+
+-- the firings of a settling, with so many at most that create nothing or are followed by what they create
+abbrev pub settling_by : ℕ → State → Option Firing → List Firing
+settling_by n g None = []
+settling_by zero g (Some f) = []
+settling_by (suc n) g (Some f) = f ∷ (creations g f ++ settling_by n (advanced g f) (least (advanced g f)))
+
+abbrev pub settling : State → List Firing
+settling g = settling_by (left g) g (least g)
 
 -- The settled state. The law `laws::a_state_settles_in_one_way` says that g settles by `settling g` and in no other way.
 abbrev pub settled : State → State

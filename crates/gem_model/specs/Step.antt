@@ -23,6 +23,7 @@ use Rattle.event_reports.specs.Alarms.{is_set}
 use Rattle.gem_model.specs.Fire.{row_starts, fires}
 use Rattle.gem_model.specs.Noting.{clears_alarm}
 use Rattle.gem_model.specs.Direct.{operator_rows}
+use Rattle.gem_model.specs.Signals.{lacks_port, signalled, is_ready_to_unload}
 use Rattle.gem_model.specs.Verdict.{header_of}
 use Rattle.gem_model.specs.Act.{data_done, session_ended}
 use Rattle.gem_model.specs.Due.{Due, EndOfSession, dues, is_due, all_done}
@@ -81,11 +82,12 @@ is_module_alarm alid = nat_lt 10 alid && nat_le alid 20
 abbrev pub can_clear : ℕ → State → Bool
 can_clear alid g = is_set alid g.alarms && not (is_module_alarm alid)
 
--- a command is accepted where its row can fire, or its change be made; the switch can always be set (this tool's profile,
--- operators)
+-- a command is accepted where its row can fire, or its change be made; the switch can always be set, and so can the access
+-- mode of a port, also to the present one (this tool's profile, operators)
 abbrev pub is_accepted : OperCmd → State → Bool
 is_accepted oper.Local g = true
 is_accepted oper.Remote g = true
+is_accepted (oper.Access port auto) g = not (lacks_port port.0 g)
 is_accepted (oper.Clear alid) g = can_clear alid g
 is_accepted command g = can_fire g (operator_rows command g)
 
@@ -122,9 +124,9 @@ ticked before g =
 -- ---- all events
 
 -- What an event does before the tool settles, in a state whose moment is raised from the one before. There is none where
--- the event has to wait: a Take that finds no frame, a Tick that finds nothing due, a Listen; and a Fetch and a Watch,
--- since the tool has no modules and no ports yet. Until they are built, signals change nothing. (This tool's profile,
--- states of the link, what a header does, and time.)
+-- the event has to wait: a Take that finds no frame, a Tick that finds nothing due, a Listen, a Watch of a port that isn't
+-- READY TO UNLOAD; and a Fetch, since the tool has no modules yet. (This tool's profile, states of the link, what a header
+-- does, and time.)
 abbrev pub acts : ℕ → State → Event → Option Outcome
 acts before g event.LinkUp =
     if is_up g then Some (answered answer.Ended g)
@@ -138,11 +140,11 @@ acts before g (event.Host session arrival) =
 acts before g (event.Take session) =
     if is_session_up g session then taken g g.waiting else Some (answered answer.Ended g)
 acts before g (event.Oper command) = Some (operated command g)
-acts before g (event.Signal signal) = Some (answered answer.Done g)
+acts before g (event.Signal signal) = Some (answered answer.Done (signalled signal g))
 acts before g (event.Fetch m) = None
 acts before g event.Tick = ticked before g
 acts before g event.Listen = None
-acts before g (event.Watch port) = None
+acts before g (event.Watch port) = if is_ready_to_unload port.0 g then Some (answered answer.Done g) else None
 
 -- the tool settles
 abbrev pub settles : Outcome → Outcome

@@ -20,6 +20,8 @@ use Rattle.msgs_gem.specs.declared.reply.AlarmPart.{AlarmPart}
 use Rattle.msgs_gem.specs.declared.reply.VariableName.{VariableName}
 use Rattle.msgs_gem.specs.Primaries.{reading}
 use Rattle.msgs_gem.specs.Replies.{items}
+use Rattle.msgs_300.specs.Primaries.{Message, is_shop_stream}
+use Rattle.msgs_300.specs.Primaries as shop
 use Rattle.data_variables.specs.declared.val.Val.{Val}
 use Rattle.data_variables.specs.Setting.{eac}
 use Rattle.data_variables.specs.Table.{constant_ids}
@@ -73,13 +75,15 @@ is_message stream function h = (stream_of h == stream) && (function_of h == func
 -- ---- the verdict
 
 -- what a data message does: nothing; it is told by a message of stream 9 of this function; it is answered by function 0
--- of its stream; it answers a transaction of the tool, if that is open; or it is taken
+-- of its stream; it answers a transaction of the tool, if that is open; or it is taken, and what it asks is of carriers and
+-- ports or of the rest
 pub data Verdict : Type 0 where
   Discarded : Verdict
   Stream9 : ℕ → Verdict
   Aborted : Verdict
   Answers : Verdict
   Taken : GemMsg → Verdict
+  ShopTaken : Message → Verdict
 
 -- the transaction is the tool's S1F13
 abbrev pub is_establish : Option Open → Bool
@@ -91,12 +95,26 @@ abbrev pub may_establish : State → Header → Bool
 may_establish g h = is_message 1 13 h || is_establish (answered h.system (stream_of h) (function_of h) g.transactions.opened)
 
 -- an unknown stream is told by S9F3, an unknown function by S9F5, and a text that is no item of the body by S9F7
+abbrev pub told_by : BodyFault → Verdict
+told_by fault.UnknownStream = Stream9 3
+told_by fault.UnknownFunction = Stream9 5
+told_by fault.IllegalData = Stream9 7
+told_by fault.NoMemory = Discarded
+
+-- a message that is read is taken, and a fault of it is told
 abbrev pub read_as : Result GemMsg BodyFault → Verdict
 read_as (Ok m) = Taken m
-read_as (Err fault.UnknownStream) = Stream9 3
-read_as (Err fault.UnknownFunction) = Stream9 5
-read_as (Err fault.IllegalData) = Stream9 7
-read_as (Err fault.NoMemory) = Discarded
+read_as (Err f) = told_by f
+
+-- the same for a message of carriers and ports
+abbrev pub shop_read_as : Result Message BodyFault → Verdict
+shop_read_as (Ok m) = ShopTaken m
+shop_read_as (Err f) = told_by f
+
+-- a message of this stream and function, whose text is this item, is read by the table of its stream
+abbrev pub read_message : ℕ → ℕ → Option Data → Verdict
+read_message stream function item =
+    if is_shop_stream stream then shop_read_as (shop.reading stream function item) else read_as (reading stream function item)
 
 -- The rules that come before a message is read, of which the first that fits decides: communication is DISABLED; it is
 -- not COMMUNICATING, and the message cannot establish it; another device, S9F1; too long a text, S9F11; a message of
@@ -117,7 +135,7 @@ first_rules g h too_long =
 abbrev pub verdict : State → Arrival → Verdict
 verdict g arrival =
     unwrap_or (choose (first_rules g (header_of arrival) (is_too_long arrival)))
-    (read_as (reading (stream_of (header_of arrival)) (function_of (header_of arrival)) (item_of arrival)))
+    (read_message (stream_of (header_of arrival)) (function_of (header_of arrival)) (item_of arrival))
 
 -- ---- the reply
 
@@ -167,8 +185,8 @@ enabled_alids g = map (λ (a : AlarmLine). a.alid) (filter (λ (a : AlarmLine). 
 -- what a message is answered, by the state before it (SEMI E5; this tool's profile, messages)
 abbrev pub reply_to : State → GemMsg → GemReply
 reply_to g msg.S1F1 = reply.S1F2 g.config.mdln g.config.softrev
-reply_to g (msg.S1F3 ids) = reply.S1F4 (value_items (status_value g) (or_all svids ids))
-reply_to g (msg.S1F11 ids) = reply.S1F12 (map (status_name g) (or_all svids ids))
+reply_to g (msg.S1F3 ids) = reply.S1F4 (value_items (status_value g) (or_all (svids g) ids))
+reply_to g (msg.S1F11 ids) = reply.S1F12 (map (status_name g) (or_all (svids g) ids))
 reply_to g msg.S1F13 = reply.S1F14 (record { mdln = g.config.mdln; softrev = g.config.softrev })
 reply_to g msg.S1F15 = reply.S1F16
 reply_to g msg.S1F17 = reply.S1F18 (onlack g.control)

@@ -14,6 +14,9 @@ ghost use Rattle.gem_model.specs.Reported.{reported_in};
 ghost use Rattle.gem_model.specs.OpenNotes.{note_numbers, open_number, NeverBack};
 ghost use Rattle.spool.specs.Spool.{is_inactive, has_note};
 ghost use Rattle.note_line.specs.Fates.{LineValid, KeepsFates, tells};
+ghost use Rattle.load_port.specs.Ports.{most_ports};
+ghost use Rattle.carrier.specs.Carriers.{most_carriers};
+ghost use Rattle.shop_floor.specs.Valid.{IsFloor};
 
 /// A primary of the tool always finds room among the open transactions: where a history leads, at most two are open, of the
 /// sixteen that can be; and there is room in each state that the tool passes while it settles behind an event.
@@ -51,6 +54,18 @@ pub fn the_notes_are_what_was_reported()
 pub fn an_open_note_has_its_transaction()
     ensures { (c : Config) (entries : List Entry) (h : State)
         → Run (opening c) entries h → note_numbers h.transactions.opened ≡ open_number h.line }
+{}
+
+/// What holds of the load ports and the carriers at every moment holds where a history leads, and in each state that the tool
+/// passes while it settles behind an event. So at most sixteen carriers are known; and since each row that lets a carrier come
+/// starts in such a state, it finds room (law `there_is_room_for_each_carrier` of `shop_floor`).
+pub fn the_floor_stays_valid_in_a_history()
+    ensures valid { (c : Config) (entries : List Entry) (h : State) → c.ports ≤ most_ports → Run (opening c) entries h → IsFloor h.floor }
+    ensures few { (c : Config) (entries : List Entry) (h : State)
+        → c.ports ≤ most_ports → Run (opening c) entries h → length h.floor.carriers ≤ most_carriers }
+    ensures settling { (c : Config) (entries : List Entry) (h : State) (at : ℕ) (e : Event) (o : Outcome)
+        → c.ports ≤ most_ports → Run (opening c) entries h → acts h.moment (raised h at) e ≡ Some o
+        → Along (λ (g : State). IsFloor g.floor) o.after (settling o.after) }
 {}
 
 /// Where a history leads, an INACTIVE spool is empty. So the kinds of note that are spooled change wherever the host sets

@@ -1,0 +1,187 @@
+-- The rows of the load ports and the carriers: what they leave alone, whether an input fires them or they fire by themselves.
+use Rattle.std.proofs.Common.{◌≡◌, ℕ, ◌+◌, ◌*◌, ◌-◌, ◌==◌, Bool, false, if◌then◌else◌, List, [], ◌∷◌, ◌++◌, Option, Some, None, refl, sym, subst}
+use Rattle.gem_tables.specs.Table.{Firing, firing}
+use Rattle.gem_rows.specs.Events.{ceid_of}
+use Rattle.load_port.specs.Ports.{is_no_port}
+use Rattle.shop_floor.specs.Floor.{Floor}
+use Rattle.shop_floor.specs.Rows.{creates}
+use Rattle.shop_floor.specs.Ready.{floor_least}
+use Rattle.shop_floor.specs.Requests.{at_port, at_place, at_ports, creation_of, unbinding, proceeding, cancelling, port_number_of, word_rows, carrier_written, carrier_rows, port_rows, mode_row, or_all, removal}
+use Rattle.carrier.specs.declared.carrier.Carrier.{Carrier}
+use Rattle.carrier.specs.declared.action.CarrierAction.{CarrierAction}
+use Rattle.carrier.specs.declared.action.CarrierWord.{CarrierWord}
+use Rattle.carrier.specs.declared.action.CarrierWord.TheVariants as word
+use Rattle.carrier.specs.Record.{is_id_waiting, is_map_waiting}
+use Rattle.carrier.specs.Carriers.{is_known, carrier_named, place_of}
+use Rattle.load_port.specs.declared.action.PortAction.{PortAction}
+use Rattle.load_port.specs.declared.action.PortAction.TheVariants as ask
+use Rattle.msgs_300.specs.Primaries.{Message, S3F17, S3F25, S3F27}
+use Rattle.gem_model.specs.Shop.{carrier_action, port_word, carrier_caack, port_caack, carrier_done_rows, port_done_rows, shop_written, shop_rows}
+use Rattle.shop_floor.proofs.Shapes.{not_table_1, not_table_2, not_table_3}
+use Rattle.tool_events.specs.declared.event.Signal.{Signal}
+use Rattle.tool_events.specs.declared.event.Signal.TheVariants as signal
+use Rattle.gem_model.specs.State.{State, is_online}
+use Rattle.gem_model.specs.Values.{Occasion, object_name}
+use Rattle.gem_model.specs.Noting.{line_behind, sets_alarm}
+use Rattle.gem_model.specs.Fire.{fire, fire_listed, fire_floor, takes_effect, row_starts, creations}
+use Rattle.gem_model.specs.Signals.{lacks_port, port_row_starts, port_alarm, with_arrival, placed, removed, signalled}
+use Rattle.gem_model.proofs.Tests.{either_way}
+
+-- a row of tables 4 to 10
+pub record IsFloorRow (f : Firing) : Type 0 where
+  pub not_1 : (f.table == 1) ≡ false
+  pub not_2 : (f.table == 2) ≡ false
+  pub not_3 : (f.table == 3) ≡ false
+
+abbrev pub AreFloorRows : List Firing → Type 0
+AreFloorRows [] = Unit {0}
+AreFloorRows (f ∷ fs) = IsFloorRow f × AreFloorRows fs
+
+pub effect_is : (g : State) (f : Firing) → IsFloorRow f → takes_effect g f ≡ fire_floor f g
+effect_is g f is = rw (is.not_1, is.not_2, is.not_3) refl
+
+-- those that are ready by themselves are such rows
+pub ready_is : (g : State) (f : Firing) → floor_least g.floor ≡ Some f → IsFloorRow f
+ready_is g f ready = record { not_1 = not_table_1 g.floor f ready; not_2 = not_table_2 g.floor f ready; not_3 = not_table_3 g.floor f ready }
+
+pub at_port_are : (table row : ℕ) (f : Floor) (port : ℕ) → IsFloorRow (firing table (port - 1) row) → AreFloorRows (at_port table row f port)
+at_port_are table row f port is = either_way AreFloorRows (is_no_port port f.ports) [] (firing table (port - 1) row ∷ []) tt (is, tt)
+
+pub both_are : (fs gs : List Firing) → AreFloorRows fs → AreFloorRows gs → AreFloorRows (fs ++ gs)
+both_are [] gs first next = next
+both_are (f ∷ fs) gs first next = (first.0, both_are fs gs first.1 next)
+
+is_4 : (n row : ℕ) → IsFloorRow (firing 4 n row)
+is_4 n row = record { not_1 = refl; not_2 = refl; not_3 = refl }
+
+is_5 : (n row : ℕ) → IsFloorRow (firing 5 n row)
+is_5 n row = record { not_1 = refl; not_2 = refl; not_3 = refl }
+
+is_6 : (n row : ℕ) → IsFloorRow (firing 6 n row)
+is_6 n row = record { not_1 = refl; not_2 = refl; not_3 = refl }
+
+is_7 : (n row : ℕ) → IsFloorRow (firing 7 n row)
+is_7 n row = record { not_1 = refl; not_2 = refl; not_3 = refl }
+
+pub is_8 : (n row : ℕ) → IsFloorRow (firing 8 n row)
+is_8 n row = record { not_1 = refl; not_2 = refl; not_3 = refl }
+
+pub service_are : (on : Bool) (f : Floor) (port : ℕ) → AreFloorRows (at_port 4 (if on then 1 else 2) f port)
+service_are on f port = at_port_are 4 (if on then 1 else 2) f port (is_4 (port - 1) (if on then 1 else 2))
+
+pub access_are : (auto : Bool) (f : Floor) (port : ℕ) → AreFloorRows (at_port 5 (if auto then 1 else 2) f port)
+access_are auto f port = at_port_are 5 (if auto then 1 else 2) f port (is_5 (port - 1) (if auto then 1 else 2))
+
+pub placing_are : (f : Floor) (port : ℕ) → AreFloorRows (at_port 4 3 f port)
+placing_are f port = at_port_are 4 3 f port (is_4 (port - 1) 3)
+
+pub removal_are : (f : Floor) (port : ℕ) → AreFloorRows (removal port f)
+removal_are f port = both_are (at_port 4 5 f port) (at_port 7 6 f port) (at_port_are 4 5 f port (is_4 (port - 1) 5)) (at_port_are 7 6 f port (is_7 (port - 1) 6))
+
+creation_are : (name : List ℕ) (f : Floor) → AreFloorRows (creation_of name f)
+creation_are name f = either_way AreFloorRows (is_known name f.carriers) [] (firing 8 _ 1 ∷ []) tt (is_8 _ 1, tt)
+
+place_are : (table row : ℕ) (place : Option ℕ) → ((n : ℕ) → IsFloorRow (firing table n row)) → AreFloorRows (at_place table row place)
+place_are table row None is = tt
+place_are table row (Some n) is = (is n, tt)
+
+unbinding_are : (number : ℕ) (f : Floor) → AreFloorRows (unbinding number f)
+unbinding_are number f = both_are (at_port 6 2 f number) (at_port 7 2 f number) (at_port_are 6 2 f number (is_6 (number - 1) 2)) (at_port_are 7 2 f number (is_7 (number - 1) 2))
+
+proceeding_are : (c : Option Carrier) (place : Option ℕ) → AreFloorRows (proceeding c place)
+proceeding_are None place = tt
+proceeding_are (Some c) place =
+    either_way AreFloorRows (is_id_waiting c.states.id) (at_place 8 4 place) (at_place 9 3 place)
+    (place_are 8 4 place (λ n. is_8 n 4)) (place_are 9 3 place (λ n. record { not_1 = refl; not_2 = refl; not_3 = refl }))
+
+cancelling_are : (c : Option Carrier) (place : Option ℕ) → AreFloorRows (cancelling c place)
+cancelling_are None place = tt
+cancelling_are (Some c) place =
+    either_way AreFloorRows (is_id_waiting c.states.id) (at_place 8 5 place) (if is_map_waiting c.states.map then at_place 9 4 place else at_place 10 4 place)
+    (place_are 8 5 place (λ n. is_8 n 5))
+    (either_way AreFloorRows (is_map_waiting c.states.map) (at_place 9 4 place) (at_place 10 4 place)
+    (place_are 9 4 place (λ n. record { not_1 = refl; not_2 = refl; not_3 = refl })) (place_are 10 4 place (λ n. record { not_1 = refl; not_2 = refl; not_3 = refl })))
+
+pub word_are : (w : CarrierWord) (a : CarrierAction) (f : Floor) → AreFloorRows (word_rows w a f)
+word_are word.Bind a f =
+    both_are (creation_of a.id f) (at_port 6 1 f a.port ++ at_port 7 1 f a.port) (creation_are a.id f)
+    (both_are (at_port 6 1 f a.port) (at_port 7 1 f a.port) (at_port_are 6 1 f a.port (is_6 (a.port - 1) 1)) (at_port_are 7 1 f a.port (is_7 (a.port - 1) 1)))
+word_are word.CancelBind a f = unbinding_are (port_number_of (carrier_named a.id f.carriers)) f
+word_are word.Proceed a f = proceeding_are (carrier_named a.id f.carriers) (place_of a.id f.carriers)
+word_are word.Cancel a f = cancelling_are (carrier_named a.id f.carriers) (place_of a.id f.carriers)
+word_are word.Notify a f = creation_are a.id f
+word_are word.CancelNotify a f = tt
+word_are word.Unknown a f = tt
+
+ports_are : (row : ℕ) (f : Floor) (numbers : List ℕ) → AreFloorRows (at_ports 5 row f numbers)
+ports_are row f [] = tt
+ports_are row f (n ∷ ns) = both_are (at_port 5 row f n) (at_ports 5 row f ns) (at_port_are 5 row f n (is_5 (n - 1) row)) (ports_are row f ns)
+
+action_are : (a : PortAction) (f : Floor) → AreFloorRows (port_rows a f)
+action_are (ask.Reserve number) f = at_port_are 6 1 f number (is_6 (number - 1) 1)
+action_are (ask.CancelReserve number) f = at_port_are 6 2 f number (is_6 (number - 1) 2)
+action_are (ask.Access mode numbers) f = ports_are (mode_row mode) f (or_all numbers f)
+action_are ask.Unknown f = tt
+
+carrier_are : (a : CarrierAction) (g : State) → AreFloorRows (carrier_done_rows a g)
+carrier_are a g = either_way AreFloorRows (carrier_caack a g == 0) (carrier_rows a g.floor) [] (word_are a.word a g.floor) tt
+
+port_are : (a : PortAction) (g : State) → AreFloorRows (port_done_rows a g)
+port_are a g = either_way AreFloorRows (port_caack a g == 0) (port_rows a g.floor) [] (action_are a g.floor) tt
+
+pub shop_are : (m : Message) (g : State) → AreFloorRows (shop_rows m g)
+shop_are (S3F17 dataid action carrier number attributes) g = carrier_are (carrier_action action carrier number attributes) g
+shop_are (S3F25 action number value) g = port_are (port_word action number) g
+shop_are (S3F27 mode numbers) g = port_are (ask.Access mode numbers) g
+
+-- ---- what a firing creates
+
+-- a firing creates nothing, or one carrier, whose creation row follows
+pub created_case : (P : List Firing → Type 0) (g : State) (f : Firing) → P [] → ((n : ℕ) → P (firing 8 n 1 ∷ [])) → P (creations g f)
+created_case P g f none one = either_way P (creates f g.floor) (firing 8 _ 1 ∷ []) [] (one _) none
+
+-- ---- what the floor leaves alone
+
+-- a fact of states that no change of the floor touches, and no note of an event
+pub record LeftAlone (P : State → Type 0) : Type 1 where
+  pub floor : (g : State) (x : Floor) → P g → P (record g { floor = x })
+  pub noted : (g : State) (event : Option ℕ) (o : Occasion) (online : Bool) → P g → P (record g { line = line_behind event o online g })
+
+pub alone_fire : (P : State → Type 0) → LeftAlone P → (g : State) (f : Firing) → IsFloorRow f → P g → P (fire g f)
+alone_fire P alone g f is here =
+    let h : State = takes_effect g f in
+    alone.noted h (ceid_of f.table f.row) (record { object = object_name h f; row = 100 * f.table + f.row }) (is_online g.control)
+    (subst P (sym (effect_is g f is)) (alone.floor g _ here))
+
+pub alone_listed : (P : State → Type 0) → LeftAlone P → (fs : List Firing) → AreFloorRows fs → (g : State) → P g → P (fire_listed fs g)
+alone_listed P alone [] are g here = here
+alone_listed P alone (f ∷ fs) are g here =
+    alone_listed P alone fs are.1 (if row_starts g f then fire g f else g)
+    (either_way P (row_starts g f) (fire g f) g (alone_fire P alone g f are.0 here) here)
+
+-- ---- what the host asks of carriers and ports
+
+alone_written : (P : State → Type 0) → LeftAlone P → (m : Message) (g : State) → P g → P (shop_written m g)
+alone_written P alone (S3F17 dataid action carrier number attributes) g here =
+    let a = carrier_action action carrier number attributes in
+    either_way P (carrier_caack a g == 0) (record g { floor = carrier_written a g.floor }) g (alone.floor g _ here) here
+alone_written P alone (S3F25 action number value) g here = here
+alone_written P alone (S3F27 mode numbers) g here = here
+
+-- a message that is answered in this state
+pub alone_asked : (P : State → Type 0) → LeftAlone P → (m : Message) (g : State) → P g → P (fire_listed (shop_rows m g) (shop_written m g))
+alone_asked P alone m g here = alone_listed P alone (shop_rows m g) (shop_are m g) (shop_written m g) (alone_written P alone m g here)
+
+-- ---- signals
+
+pub alone_signalled : (P : State → Type 0) → LeftAlone P → ((g : State) (alid : ℕ) → P g → P (sets_alarm alid g)) → (s : Signal) (g : State) → P g → P (signalled s g)
+alone_signalled P alone alarm (signal.Placed port name slots) g here =
+    either_way P (lacks_port port.0 g) g (placed port.0 name slots g) here
+    (either_way P (port_row_starts 3 port.0 g) (fire_listed (at_port 4 3 g.floor port.0) (with_arrival port.0 name slots g)) (sets_alarm (port_alarm port.0) g)
+    (alone_listed P alone (at_port 4 3 g.floor port.0) (placing_are g.floor port.0) (with_arrival port.0 name slots g) (alone.floor g _ here))
+    (alarm g (port_alarm port.0) here))
+alone_signalled P alone alarm (signal.Removed port) g here =
+    either_way P (lacks_port port.0 g) g (removed port.0 g) here
+    (either_way P (port_row_starts 5 port.0 g) (fire_listed (removal port.0 g.floor) g) (sets_alarm (port_alarm port.0) g)
+    (alone_listed P alone (removal port.0 g.floor) (removal_are g.floor port.0) g here) (alarm g (port_alarm port.0) here))
+alone_signalled P alone alarm _ g here = here

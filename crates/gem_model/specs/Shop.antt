@@ -1,0 +1,111 @@
+-- What the host asks of carriers and load ports: the actions of S3F17, S3F25 and S3F27, their acknowledge codes, and what they
+-- do (SEMI E87, carrier action, port action and change access; this tool's profile, messages).
+use Rattle.std.specs.Prelude.{ℕ, ◌==◌, Bool, true, false, not, nat_le, if◌then◌else◌, List, [], ◌∷◌, codes, Option, None, is_some}
+use Rattle.std.specs.Str.{bytes_eq}
+use Rattle.gem_tables.specs.Table.{Firing}
+use Rattle.gem_states.specs.declared.control.Control.{Control}
+use Rattle.gem_states.specs.declared.control.Control.TheVariants as control
+use Rattle.secs_items.specs.Data.{Data}
+use Rattle.body_parts.specs.Bodies.{Form, meeting, of_count, all_of, small_id, ◌>>=◌}
+use Rattle.msgs_300.specs.Primaries.{Message, S3F17, S3F25, S3F27}
+use Rattle.msgs_300.specs.declared.reply.ShopReply.{ShopReply}
+use Rattle.msgs_300.specs.declared.reply.ShopReply.TheVariants as reply
+use Rattle.load_port.specs.declared.action.PortAction.{PortAction}
+use Rattle.load_port.specs.declared.action.PortAction.TheVariants as port
+use Rattle.carrier.specs.declared.action.CarrierAction.{CarrierAction}
+use Rattle.carrier.specs.declared.action.CarrierWord.{CarrierWord}
+use Rattle.carrier.specs.declared.action.CarrierWord.TheVariants as word
+use Rattle.carrier.specs.Verdict.{is_unknown}
+use Rattle.shop_floor.specs.Requests.{carrier_code, carrier_written, carrier_rows, port_code, port_rows}
+use Rattle.gem_model.specs.State.{State}
+
+-- ---- the actions
+
+-- the action on a carrier of a name (SEMI E87, CARRIERACTION; this tool's profile, S3F17)
+abbrev pub carrier_word : List ℕ → CarrierWord
+carrier_word name =
+    if bytes_eq name (codes "Bind") then word.Bind
+    else (if bytes_eq name (codes "CancelBind") then word.CancelBind
+    else (if bytes_eq name (codes "ProceedWithCarrier") then word.Proceed
+    else (if bytes_eq name (codes "CancelCarrier") then word.Cancel
+    else (if bytes_eq name (codes "CarrierNotification") then word.Notify
+    else (if bytes_eq name (codes "CancelCarrierNotification") then word.CancelNotify else word.Unknown)))))
+
+-- the action on a port of a name, at a port of this number (SEMI E87, PORTACTION; this tool's profile, S3F25)
+abbrev pub port_word : List ℕ → ℕ → PortAction
+port_word name number =
+    if bytes_eq name (codes "ReserveAtPort") then port.Reserve number
+    else (if bytes_eq name (codes "CancelReservationAtPort") then port.CancelReserve number else port.Unknown)
+
+-- the code of a slot: u1, at most 5 (SEMI E87, slot map; this tool's profile, S3F17)
+abbrev pub slot_code : Form ℕ
+slot_code d = small_id d >>= meeting (λ code. nat_le code 5)
+
+-- a slot map: L of the codes of 25 slots
+abbrev pub slot_map : Form (List ℕ)
+slot_map d = of_count 25 d >>= all_of slot_code
+
+-- the map of the one attribute that there is, SlotMap
+abbrev pub map_given : List (List ℕ × Data) → Option (List ℕ)
+map_given [] = None
+map_given (a ∷ []) = if bytes_eq a.0 (codes "SlotMap") then slot_map a.1 else None
+map_given (a ∷ (b ∷ others)) = None
+
+-- an attribute is faulty: another than SlotMap, one that is no slot map, or one that is given twice
+abbrev pub are_faulty : List (List ℕ × Data) → Bool
+are_faulty [] = false
+are_faulty (a ∷ others) = not (is_some (map_given (a ∷ others)))
+
+-- the action on a carrier that an S3F17 says
+abbrev pub carrier_action : List ℕ → List ℕ → ℕ → List (List ℕ × Data) → CarrierAction
+carrier_action action carrier number attributes =
+    record { word = carrier_word action; id = carrier; port = number; map = map_given attributes; bad_attr = are_faulty attributes }
+
+-- ---- the acknowledge codes
+
+-- the operator commands: ON-LINE LOCAL (SEMI E30)
+abbrev pub is_local : Control → Bool
+is_local control.Local = true
+is_local _ = false
+
+-- the action on ports isn't known
+abbrev pub is_unknown_action : PortAction → Bool
+is_unknown_action port.Unknown = true
+is_unknown_action _ = false
+
+-- CAACK: an unknown action is told first, and in ON-LINE LOCAL all others are not done now, 2 (this tool's profile, messages)
+abbrev pub carrier_caack : CarrierAction → State → ℕ
+carrier_caack a g = if is_unknown a.word then 1 else (if is_local g.control then 2 else carrier_code g.floor a)
+
+abbrev pub port_caack : PortAction → State → ℕ
+port_caack a g = if is_unknown_action a then 1 else (if is_local g.control then 2 else port_code g.floor a)
+
+-- what a message is answered, by the state before it (SEMI E87, S3F18, S3F26 and S3F28)
+abbrev pub shop_reply_to : State → Message → ShopReply
+shop_reply_to g (S3F17 dataid action carrier number attributes) = reply.S3F18 (carrier_caack (carrier_action action carrier number attributes) g)
+shop_reply_to g (S3F25 action number value) = reply.S3F26 (port_caack (port_word action number) g)
+shop_reply_to g (S3F27 mode numbers) = reply.S3F28 (port_caack (port.Access mode numbers) g)
+
+-- ---- what is done
+
+-- an action on a carrier that is done writes; one that is refused writes nothing
+abbrev pub carrier_done : CarrierAction → State → State
+carrier_done a g = if carrier_caack a g == 0 then record g { floor = carrier_written a g.floor } else g
+
+abbrev pub carrier_done_rows : CarrierAction → State → List Firing
+carrier_done_rows a g = if carrier_caack a g == 0 then carrier_rows a g.floor else []
+
+abbrev pub port_done_rows : PortAction → State → List Firing
+port_done_rows a g = if port_caack a g == 0 then port_rows a g.floor else []
+
+-- what a message writes
+abbrev pub shop_written : Message → State → State
+shop_written (S3F17 dataid action carrier number attributes) g = carrier_done (carrier_action action carrier number attributes) g
+shop_written (S3F25 action number value) g = g
+shop_written (S3F27 mode numbers) g = g
+
+-- the direct rows of a message, by the state before it is written (this tool's profile, direct rows)
+abbrev pub shop_rows : Message → State → List Firing
+shop_rows (S3F17 dataid action carrier number attributes) g = carrier_done_rows (carrier_action action carrier number attributes) g
+shop_rows (S3F25 action number value) g = port_done_rows (port_word action number) g
+shop_rows (S3F27 mode numbers) g = port_done_rows (port.Access mode numbers) g

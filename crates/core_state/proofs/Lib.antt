@@ -1,6 +1,8 @@
 pub mod Direct
-pub mod Firings
 pub mod MomentTexts
 pub mod Small
 pub mod Telling
 pub mod LineRows
+pub mod PortValues
+pub mod Floors
+pub mod FloorLoops

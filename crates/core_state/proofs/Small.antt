@@ -1,5 +1,5 @@
 -- The values of variables are small, and so are the texts of notes.
-use Rattle.std.proofs.Common.{◌≡◌, ℕ, suc, ◌+◌, ◌*◌, ◌^◌, ◌<◌, ◌≤◌, ◌==◌, Bool, true, false, if◌then◌else◌, List, [], ◌∷◌, length, map, filter, Option, Some, None, option_map, refl, sym, ◌∙◌, ap, subst, arith, length-append}
+use Rattle.std.proofs.Common.{◌≡◌, ℕ, suc, ◌+◌, ◌*◌, ◌^◌, ◌<◌, ◌≤◌, ◌==◌, Bool, true, false, if◌then◌else◌, List, [], ◌∷◌, ◌++◌, length, map, filter, slice_get, Option, Some, None, option_map, unwrap_or, refl, sym, ◌∙◌, ap, subst, arith, length-append}
 use Rattle.std.specs.List.{All}
 use Rattle.gem_ids.specs.Texts.{IsText}
 use Rattle.gem_ids.specs.Civil.{time_digits}
@@ -28,7 +28,11 @@ use Rattle.event_reports.specs.Alarms.{set_alids}
 use Rattle.gem_states.specs.Meaning.{comm_number, control_number}
 use Rattle.gem_model.specs.State.{State, clock_now}
 use Rattle.core_state.proofs.MomentTexts.{clock_text}
-use Rattle.gem_model.specs.Values.{Occasion, no_firing, svids, Valued, status_variables, event_variables, value_among, status_value, constant_value, or_else, value_of}
+use Rattle.gem_model.specs.Values.{Occasion, no_firing, svids, port_vids, Valued, tool_variables, port_values, transfers, accesses, port_carriers, event_variables, value_among, status_value, constant_value, or_else, value_of}
+use Rattle.load_port.specs.declared.port.Port.{Port}
+use Rattle.load_port.specs.Record.{transfer_number, access_number}
+use Rattle.load_port.specs.Ports.{most_ports}
+use Rattle.core_state.specs.Named.{AreNamed}
 
 -- a value within the bounds of a variable
 abbrev Small : Data → Type 0
@@ -74,9 +78,9 @@ among_small : (vs : List Valued) → AllSmall vs → AreSmallValues (value_among
 among_small [] small vid d is = absurd (cc)
 among_small (v ∷ vs) small vid d is = this_small (v.vid == vid) v.value d (value_among vs vid) small.0 (among_small vs small.1 vid d) is
 
-pub status_small : (g : State) → length g.alarms ≤ most_alarms → AreSmallValues (status_value g)
-status_small g few =
-    among_small (status_variables g) (
+tool_small : (g : State) → length g.alarms ≤ most_alarms → AreSmallValues (value_among (tool_variables g))
+tool_small g few =
+    among_small (tool_variables g) (
       text_small (time_digits (clock_now g)) (clock_text g),
       (
         number_small (comm_number g.comm),
@@ -99,6 +103,11 @@ status_small g few =
       ),
     )
 
+-- the variables of the ports
+ports_small : (base : ℕ) (value : Port → Data) (n : ℕ) (ports : List Port) → ((i : ℕ) (p : Port) → slice_get ports i ≡ Some p → Small (value p)) → AllSmall (port_values base value n ports)
+ports_small base value n [] each = tt
+ports_small base value n (p ∷ ps) each = (each 0 p refl, ports_small base value (n + 1) ps (λ i q is. each (suc i) q is))
+
 pub constants_small : (g : State) → AreSmallValues (constant_value g)
 constants_small g vid d is = by_value (constants.value_of vid g.constants) is
   where
@@ -110,11 +119,22 @@ either_small : (x y : Option Data) (d : Data) → (x ≡ Some d → Small d) →
 either_small None y d first next is = next is
 either_small (Some e) y d first next is = first is
 
+pub status_small : (g : State) → length g.alarms ≤ most_alarms → AreNamed g.floor.ports → AreSmallValues (status_value g)
+status_small g few named vid d is =
+    either_small (value_among (tool_variables g) vid) (or_else (value_among (transfers g) vid) (or_else (value_among (accesses g) vid) (value_among (port_carriers g) vid))) d
+    (tool_small g few vid d)
+    (either_small (value_among (transfers g) vid) (or_else (value_among (accesses g) vid) (value_among (port_carriers g) vid)) d
+    (among_small (transfers g) (ports_small 30 (λ p. u1 (transfer_number p.states.transfer ∷ [])) 1 g.floor.ports (λ i p there. number_small (transfer_number p.states.transfer))) vid d)
+    (either_small (value_among (accesses g) vid) (value_among (port_carriers g) vid) d
+    (among_small (accesses g) (ports_small 40 (λ p. u1 (access_number p.states.access ∷ [])) 1 g.floor.ports (λ i p there. number_small (access_number p.states.access))) vid d)
+    (among_small (port_carriers g) (ports_small 50 (λ p. ascii (unwrap_or p.carrier [])) 1 g.floor.ports (λ i p there. text_small (unwrap_or p.carrier []) (named i p there))) vid d)))
+    is
+
 -- each variable has a small value
-pub all_small : (o : Occasion) (g : State) → IsText o.object → length g.alarms ≤ most_alarms → AreSmallValues (value_of o g)
-all_small o g object few vid d is =
+pub all_small : (o : Occasion) (g : State) → IsText o.object → length g.alarms ≤ most_alarms → AreNamed g.floor.ports → AreSmallValues (value_of o g)
+all_small o g object few named vid d is =
     either_small (status_value g vid) (or_else (value_among (event_variables o) vid) (constant_value g vid)) d
-    (status_small g few vid d)
+    (status_small g few named vid d)
     (either_small (value_among (event_variables o) vid) (constant_value g vid) d
     (among_small (event_variables o) (text_small o.object object, (row_small o.row, tt)) vid d)
     (constants_small g vid d))
@@ -146,8 +166,27 @@ few_or_all all (id ∷ ids) few_all few = few
 few_values_of : (value : ℕ → Option Data) (ids : List ℕ) → AreSmallValues value → length ids ≤ 1024 → AreFew 1024 1 84 (value_items value ids)
 few_values_of value ids small few = (let count = count_values value ids in omega arith, small_values_of value small ids)
 
-pub few_status : (g : State) (ids : List ℕ) → length g.alarms ≤ most_alarms → length ids ≤ 1024 → AreFew 1024 1 84 (value_items (status_value g) (or_all svids ids))
-few_status g ids alarms few = few_values_of (status_value g) (or_all svids ids) (status_small g alarms) (few_or_all svids ids (omega arith) few)
+length-map : {A B : Type 0} (f : A → B) (xs : List A) → length (map f xs) ≡ length xs
+length-map f [] = refl
+length-map f (x ∷ xs) = ap suc (length-map f xs)
+
+port_vids_are : (base n : ℕ) (ports : List Port) → length (port_vids base n ports) ≡ length ports
+port_vids_are base n [] = refl
+port_vids_are base n (p ∷ ps) = ap suc (port_vids_are base (n + 1) ps)
+
+few_svids : (g : State) → length g.floor.ports ≤ most_ports → length (svids g) ≤ 1024
+few_svids g few =
+    let ps = g.floor.ports in
+    let all = length-append (map (λ (v : Valued). v.vid) (tool_variables g)) (port_vids 30 1 ps ++ (port_vids 40 1 ps ++ port_vids 50 1 ps)) in
+    let ports = length-append (port_vids 30 1 ps) (port_vids 40 1 ps ++ port_vids 50 1 ps) in
+    let rest = length-append (port_vids 40 1 ps) (port_vids 50 1 ps) in
+    let transfer = port_vids_are 30 1 ps in
+    let access = port_vids_are 40 1 ps in
+    let carrier = port_vids_are 50 1 ps in
+    omega (arith, all, ports, rest, transfer, access, carrier, few)
+
+pub few_status : (g : State) (ids : List ℕ) → length g.alarms ≤ most_alarms → length g.floor.ports ≤ most_ports → AreNamed g.floor.ports → length ids ≤ 1024 → AreFew 1024 1 84 (value_items (status_value g) (or_all (svids g) ids))
+few_status g ids alarms ports named few = few_values_of (status_value g) (or_all (svids g) ids) (status_small g alarms named) (few_or_all (svids g) ids (few_svids g ports) few)
 
 pub few_constants : (g : State) (ids : List ℕ) → length ids ≤ 1024 → AreFew 1024 1 84 (value_items (constant_value g) (or_all constant_ids ids))
 few_constants g ids few = few_values_of (constant_value g) (or_all constant_ids ids) (constants_small g) (few_or_all constant_ids ids (omega arith) few)
@@ -156,12 +195,8 @@ pub few_names : (ids : List ℕ) → length ids ≤ 1024 → AreFew 1024 1 210 (
 few_names ids few =
     (let count = names_counted (or_all constant_ids ids) in let less = few_or_all constant_ids ids (omega arith) few in omega arith, names_bounded (or_all constant_ids ids))
 
-length-map : {A B : Type 0} (f : A → B) (xs : List A) → length (map f xs) ≡ length xs
-length-map f [] = refl
-length-map f (x ∷ xs) = ap suc (length-map f xs)
-
-pub few_status_names : (g : State) (ids : List ℕ) → length ids ≤ 1024 → length (map (status_name g) (or_all svids ids)) ≤ 1024
-few_status_names g ids few = let same = length-map (status_name g) (or_all svids ids) in let less = few_or_all svids ids (omega arith) few in omega arith
+pub few_status_names : (g : State) (ids : List ℕ) → length g.floor.ports ≤ most_ports → length ids ≤ 1024 → length (map (status_name g) (or_all (svids g) ids)) ≤ 1024
+few_status_names g ids ports few = let same = length-map (status_name g) (or_all (svids g) ids) in let less = few_or_all (svids g) ids (few_svids g ports) few in omega arith
 
 pub few_alarm_parts : (g : State) (ids : List ℕ) → length g.alarms ≤ most_alarms → length ids ≤ 1024 → length (map (alarm_part g) (or_all (alids_of g) ids)) ≤ 1024
 few_alarm_parts g ids alarms few =
@@ -186,5 +221,5 @@ few_enabled_parts g alarms =
     omega arith
 
 -- outside a firing
-pub quiet_small : (g : State) → IsText [] → length g.alarms ≤ most_alarms → AreSmallValues (value_of no_firing g)
-quiet_small g none alarms = all_small no_firing g none alarms
+pub quiet_small : (g : State) → IsText [] → length g.alarms ≤ most_alarms → AreNamed g.floor.ports → AreSmallValues (value_of no_firing g)
+quiet_small g none alarms named = all_small no_firing g none alarms named

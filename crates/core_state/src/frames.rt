@@ -4,11 +4,13 @@ ghost use Rattle.secs_items.specs.View.{view};
 ghost use Rattle.hsms_frame.specs.Spelling.{message_bytes, header_bytes};
 ghost use Rattle.msgs_gem.specs.Replies.{reply_body, B};
 ghost use Rattle.msgs_gem.specs.Sendable.{HasSendableParts};
+ghost use Rattle.msgs_300.specs.Replies.{shop_reply_body};
 ghost use Rattle.gem_model.specs.Sending.{data_header, data_frame, identity_text, stream9_text};
 ghost use Rattle.secs_items.specs.Plain.{plain};
 ghost use Rattle.secs_items.specs.Sendable.{IsSendable};
 
 use hsms_frame::{Bytes, Frame, Header, write_frame, write_header};
+use msgs_300::{ShopReply, shop_item};
 use msgs_gem::{GemReply, gem_item};
 use secs_items::{Item, encode};
 use std::alloc::{AllocError, Global};
@@ -63,6 +65,15 @@ pub fn reply_text(alloc: Global, reply: &GemReply) -> Result<Bytes, AllocError>
     ensures short { IfOk result (λ text. length text ≤ 2 ^ 31) }
 {
     let item = gem_item(alloc, reply)?;
+    text_of(alloc, &item)
+}
+
+/// The text of a reply to a message of carriers and ports.
+pub fn shop_text(alloc: Global, reply: &ShopReply) -> Result<Bytes, AllocError>
+    ensures text { IfOk result (λ text. text ≡ plain (shop_reply_body reply.now)) }
+    ensures short { IfOk result (λ text. length text ≤ 2 ^ 31) }
+{
+    let item = shop_item(alloc, reply)?;
     text_of(alloc, &item)
 }
 

@@ -1,5 +1,5 @@
 //! What the host asks of the tool's data, and what it sets (SEMI E5, streams 1, 2, 5 and 6).
-ghost use Rattle.std.specs.Prelude.{◌≡◌, ◌≤◌, [], length, map, OnOk, IfOk};
+ghost use Rattle.std.specs.Prelude.{◌≡◌, ◌≤◌, ◌++◌, [], length, map, OnOk, IfOk};
 ghost use Rattle.data_variables.specs.Bodies.{name_item};
 ghost use Rattle.data_variables.specs.Table.{constant_ids};
 ghost use Rattle.data_variables.specs.Setting.{eac, set_all_after};
@@ -8,7 +8,7 @@ ghost use Rattle.event_reports.specs.Alarms.{is_alarm, is_set, ackc5, alarms_ena
 ghost use Rattle.event_reports.specs.Reports.{value_items, report_items, one_items, drack, defined, lrack, linked, erack, enabled};
 ghost use Rattle.msgs_gem.specs.Replies.{items as items_data};
 ghost use Rattle.msgs_gem.specs.Sendable.{AreFew};
-ghost use Rattle.gem_model.specs.Values.{no_firing, status_value, constant_value, value_of, svids};
+ghost use Rattle.gem_model.specs.Values.{no_firing, status_value, constant_value, value_of, port_vids, svids};
 ghost use Rattle.gem_model.specs.Verdict.{or_all, status_name, settings_of, alarm_part, alids_of, enabled_alids};
 
 use crate::noting::{alcd, text_of_alarm};
@@ -53,7 +53,7 @@ impl Values for Equipment<'_> {
     }
 }
 
-// The numbers of the status variables that are built.
+// The numbers of the status variables of the tool itself.
 const SVIDS: [u32; 8] = [1, 2, 3, 4, 5, 6, 7, 8];
 
 // These ids, or all where there are none.
@@ -64,15 +64,41 @@ fn or_all<'a>(all: &'a [u32], ids: &'a [u32]) -> &'a [u32]
 }
 
 impl Plant {
+    /// The numbers of the variables of the ports behind a base, behind these.
+    fn add_port_vids(&self, base: u32, vids: &mut Vec<u32>) -> Result<(), AllocError>
+        requires { base ≤ 50 }
+        ensures { OnOk result (vids.new.items ≡ vids.old.items ++ port_vids base 1 self.now.floor.ports) }
+    {
+        let count = self.floor.port_count();
+        for place in 0..count {
+            vids.push(base + 1 + place as u32)?;
+        }
+        Ok(())
+    }
+
+    /// The numbers of the status variables that are built, rising.
+    fn svids(&self, alloc: Global) -> Result<Vec<u32>, AllocError>
+        ensures { IfOk result (λ vids. vids.items ≡ svids self.now) }
+    {
+        let mut vids = Vec::from_slice(alloc, &SVIDS)?;
+        self.add_port_vids(30, &mut vids)?;
+        self.add_port_vids(40, &mut vids)?;
+        self.add_port_vids(50, &mut vids)?;
+        Ok(vids)
+    }
+
     /// The values of these status variables, or of all where none is named (SEMI E5, S1F4): an empty list for a number that
     /// is none of one that is built.
     #[tactic(auto, using(crate::proofs::Small::few_status))]
     pub fn status_values(&self, alloc: Global, ids: &[u32]) -> Result<Items, AllocError>
-        ensures values { IfOk result (λ values. values ≡ value_items (status_value self.now) (or_all svids ids.now)) }
-        ensures few { length ids.now ≤ 1024 → AreFew 1024 1 84 (value_items (status_value self.now) (or_all svids ids.now)) }
+        ensures values { IfOk result (λ values. values ≡ value_items (status_value self.now) (or_all (svids self.now) ids.now)) }
+        ensures few { length ids.now ≤ 1024 → AreFew 1024 1 84 (value_items (status_value self.now) (or_all (svids self.now) ids.now)) }
     {
         self.few_alarms();
-        values_of(alloc, &Status { plant: self }, or_all(&SVIDS, ids))
+        self.few_ports();
+        self.named_ports();
+        let svids = self.svids(alloc)?;
+        values_of(alloc, &Status { plant: self }, or_all(&svids, ids))
     }
 
     /// The values of these equipment constants, or of all where none is named (SEMI E5, S2F14): an empty list for a number
@@ -93,9 +119,10 @@ impl Plant {
     fn status_name(&self, vid: u32) -> VariableName
         ensures { result ≡ status_name self.now vid }
     {
-        let name = match vid {
-            1 | 2 | 3 | 4 | 5 | 6 | 7 | 8 => vid_name(vid).unwrap_or(Text80::empty()),
-            _ => Text80::empty(),
+        let name = if self.is_status(vid) {
+            vid_name(vid).unwrap_or(Text80::empty())
+        } else {
+            Text80::empty()
         };
         VariableName { svid: vid, name }
     }
@@ -117,10 +144,12 @@ impl Plant {
         alloc: Global,
         ids: &[u32],
     ) -> Result<Listed<VariableName>, AllocError>
-        ensures names { IfOk result (λ names. names ≡ map (status_name self.now) (or_all svids ids.now)) }
-        ensures few { length ids.now ≤ 1024 → length (map (status_name self.now) (or_all svids ids.now)) ≤ 1024 }
+        ensures names { IfOk result (λ names. names ≡ map (status_name self.now) (or_all (svids self.now) ids.now)) }
+        ensures few { length ids.now ≤ 1024 → length (map (status_name self.now) (or_all (svids self.now) ids.now)) ≤ 1024 }
     {
-        self.names_of(alloc, or_all(&SVIDS, ids))
+        self.few_ports();
+        let svids = self.svids(alloc)?;
+        self.names_of(alloc, or_all(&svids, ids))
     }
 
     /// What is told of these equipment constants, or of all where none is named (SEMI E5, S2F30).

@@ -1,7 +1,8 @@
 //! What the tool is at a moment, the rows that its tables fire, and the messages that it sends.
 //!
 //! It holds the link of the session with T6, T7 and the tool's linktest (SEMI E37), the states of communication and of
-//! control with the tool's transactions and T3 (SEMI E30), and the frames that wait for the writer. It takes no events
+//! control with the tool's transactions and T3 (SEMI E30), the load ports and the carriers (SEMI E87), and the frames that
+//! wait for the writer. It takes no events
 //! and keeps no history, which is for `tool_core`: each call here is one change that an event may make. It reads no
 //! clock, no file and no link. Contracts see a `Plant` as the `State` of the definitions in `gem_model`.
 //!
@@ -9,6 +10,7 @@
 //! the plant after that. Begin with `Plant::open`.
 #![tactic(auto)]
 
+mod floor;
 mod frames;
 mod host_data;
 mod link;
@@ -20,7 +22,7 @@ mod rows;
 mod sending;
 mod values;
 
-pub use frames::{data_header, header_frame, reply_text};
+pub use frames::{data_header, header_frame, reply_text, shop_text};
 pub use noting::{RowFiring, alcd, text_of_alarm};
 pub use plant::Plant;
 pub use rows::part;

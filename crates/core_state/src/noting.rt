@@ -71,6 +71,7 @@ impl Plant {
     {
         prints(&object);
         self.few_alarms();
+        self.named_ports();
         let mut reports = Items::new(alloc);
         let showing = self.showing(object, row);
         self.reports.report(alloc, ceid, &showing, &mut reports)?;
@@ -90,6 +91,7 @@ impl Plant {
     {
         prints(&object);
         self.few_alarms();
+        self.named_ports();
         let mut values = Items::new(alloc);
         let showing = self.showing(object, row);
         self.reports.one(alloc, rptid, &showing, &mut values)?;

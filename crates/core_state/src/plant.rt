@@ -13,6 +13,7 @@ use gem_states::{Comm, Control};
 use hsms_frame::Bytes;
 use hsms_link::{LinkState, Phase, Ping};
 use note_line::{Around, NoteLine, SpooledKinds};
+use shop_floor::ShopFloor;
 use std::alloc::{AllocError, Global};
 use std::collections::VecDeque;
 use std::marker::Model;
@@ -42,6 +43,7 @@ pub struct Plant {
     pub(crate) reports: Reports,
     pub(crate) alarms: Alarms,
     pub(crate) line: NoteLine,
+    pub(crate) floor: ShopFloor,
     pub(crate) waiting: VecDeque<Bytes>,
 }
 
@@ -67,6 +69,7 @@ impl Model for Plant {
       reports = p.reports;
       alarms = p.alarms;
       line = p.line;
+      floor = p.floor;
       waiting = p.waiting.items;
     } };
 
@@ -134,7 +137,8 @@ fn first_constants(alloc: Global, config: &Config) -> Result<Constants, AllocErr
 
 impl Plant {
     /// The first state under a configuration that keeps its bounds (docs/profile/configuration.md). `AllocError`: there
-    /// is no room for the transactions that can be open, for the spool, or for what the host may set.
+    /// is no room for the transactions that can be open, for the spool, for the carriers, or for what the host may
+    /// set.
     pub fn open(alloc: Global, config: &Config) -> Result<Plant, AllocError>
         requires { IsConfig config.now }
         ensures { IfOk result (λ plant. plant ≡ opening config.now) }
@@ -162,6 +166,7 @@ impl Plant {
                 config.spool_capacity,
                 first_kinds(config.spool_streams),
             )?,
+            floor: ShopFloor::new(alloc, config.ports)?,
             waiting: VecDeque::new(alloc),
         })
     }

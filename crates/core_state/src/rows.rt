@@ -8,9 +8,9 @@ ghost use Rattle.gem_model.specs.State.{State};
 ghost use Rattle.gem_model.specs.Sending.{identity_text};
 ghost use Rattle.gem_model.specs.Fire.{fire, fire_comm, comm_effect, fire_control, control_effect, fire_listed, fires};
 ghost use Rattle.gem_model.specs.Direct.{by_comm, by_control, note_fails, session_end_rows};
-ghost use Rattle.gem_model.specs.Ready.{delay_is_over, least};
+ghost use Rattle.std.specs.Option.{option_or};
+ghost use Rattle.gem_model.specs.Ready.{delay_is_over, ready_line, ready_floor, least};
 ghost use Rattle.gem_model.specs.Due.{delay_has_come};
-ghost use Rattle.gem_model.specs.Settle.{settled};
 ghost use Rattle.gem_model.specs.Act.{session_ended};
 ghost use Rattle.core_state.specs.Firing.{fire_first};
 
@@ -188,8 +188,22 @@ impl Plant {
         }
     }
 
-    /// Fires the least automatic row that is ready, and tells whether there was one.
-    fn fire_least(&mut self, alloc: Global) -> Result<bool, AllocError>
+    /// Fires the row of the line of notes that is ready, or else the least of the load ports and the carriers, and tells whether
+    /// there was one.
+    fn fire_line_or_floor(&mut self, alloc: Global) -> Result<bool, AllocError>
+        ensures fired { IfOk result (λ fired. fired ≡ is_some (option_or (ready_line self.old) (ready_floor self.old))) }
+        ensures after { OnOk result (self.new ≡ fire_first (option_or (ready_line self.old) (ready_floor self.old)) self.old) }
+    {
+        if self.line_row(alloc)? {
+            return Ok(true);
+        }
+        let fired = self.fire_least_of_floor(alloc)?;
+        Ok(fired)
+    }
+
+    /// Fires the least automatic row that is ready, with the row of the object that it creates, and tells whether there was
+    /// one.
+    pub fn fire_least(&mut self, alloc: Global) -> Result<bool, AllocError>
         ensures fired { IfOk result (λ fired. fired ≡ is_some (least self.old)) }
         ensures after { OnOk result (self.new ≡ fire_first (least self.old) self.old) }
     {
@@ -201,14 +215,6 @@ impl Plant {
             self.control_row(alloc, 2)?;
             return Ok(true);
         }
-        self.line_row(alloc)
-    }
-
-    /// Fires the least automatic row that is ready, again and again, until none is.
-    pub fn follow(&mut self, alloc: Global) -> Result<(), AllocError>
-        ensures { OnOk result (self.new ≡ settled self.old) }
-    {
-        while self.fire_least(alloc)? {}
-        Ok(())
+        self.fire_line_or_floor(alloc)
     }
 }

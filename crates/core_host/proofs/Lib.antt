@@ -3,3 +3,4 @@ pub mod Functions
 pub mod Refused
 pub mod Texts
 pub mod Writing
+pub mod SlotMaps

@@ -14,6 +14,7 @@ ghost use Rattle.core_host.specs.Short.{IsShort};
 use crate::arrival::{header_of, item_of, stream_of, wants_reply};
 use crate::remote::command_rows;
 use crate::replies::perform;
+use crate::shop::take_shop;
 use crate::spooling::unload;
 use crate::verdict::{Verdict, verdict_of};
 use core_state::{Plant, reply_text};
@@ -56,11 +57,12 @@ pub fn host(plant: &mut Plant, alloc: Global, arrival: &Arrival) -> Result<HostA
             Ok(HostAct::Silent)
         }
         Verdict::Taken(message) => take_message(plant, alloc, &header, &message),
+        Verdict::ShopTaken(message) => take_shop(plant, alloc, &header, message),
     }
 }
 
 /// A reply of this function waits for the writer, where one is wanted.
-fn answer(
+pub fn answer(
     plant: &mut Plant,
     alloc: Global,
     header: &Header,

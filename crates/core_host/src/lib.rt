@@ -12,6 +12,7 @@ mod arrival;
 mod data;
 mod remote;
 mod replies;
+mod shop;
 mod spooling;
 mod verdict;
 

@@ -1,4 +1,2 @@
 pub mod Notes
-pub mod Operating
-pub mod Timeouts
 pub mod Replaying

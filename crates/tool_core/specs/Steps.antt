@@ -1,17 +1,10 @@
 -- What an event did, as the step of the tables.
 use Rattle.std.specs.Prelude.{◌≡◌, ℕ, Some}
 use Rattle.tool_events.specs.declared.event.Event.{Event}
-use Rattle.tool_core.specs.declared.react.Reaction.{Reaction}
+use Rattle.core_shop.specs.declared.reaction.Reaction.{Reaction}
+use Rattle.core_shop.specs.Reactions.{outcome_of}
 use Rattle.gem_model.specs.State.{State}
-use Rattle.gem_model.specs.Step.{Outcome, acts, step, step_from}
-
--- what a reaction is, with the state that it leads to
-abbrev pub outcome_of : Reaction → State → Outcome
-outcome_of reaction new = record { answer = reaction.answer; ended = reaction.ended; after = new }
-
--- in a state whose moment was raised from this one, the event acts so, and leads to this state before the tool settles
-abbrev pub Acts : ℕ → State → Event → Reaction → State → Type 0
-Acts before old event reaction new = acts before old event ≡ Some (outcome_of reaction new)
+use Rattle.gem_model.specs.Step.{step, step_from}
 
 -- in a state whose moment was raised from this one, the event's step is this reaction, and leads to this state
 abbrev pub StepsFrom : ℕ → State → Event → Reaction → State → Type 0

@@ -149,12 +149,14 @@ impl Core {
     }
 
     /// The history, the oldest entry first. It is a run from the first state, and within the limits. Where it leads there is
-    /// room to start a transaction, and the notes are those of its firings and changes of alarms that are reported, in order,
-    /// each with one fate (docs/profile/notes.md).
+    /// room to start a transaction, and at most 16 carriers are known; the notes are those of its firings and changes of alarms
+    /// that are reported, in order, each with one fate; and of the notes that were open, none of a kind is below an earlier one
+    /// (docs/profile/notes.md).
     pub fn history(&self) -> &[Entry]
         ensures history { result.now ≡ self.now.history }
         ensures run { Run (opening self.now.config) self.now.history self.now.state }
         ensures room { transactions.is_full self.now.state.transactions ≡ false }
+        ensures carriers { length self.now.state.floor.carriers ≤ 16 }
         ensures notes { map tells self.now.state.line.told ≡ reported_in (opening self.now.config) self.now.history }
         ensures fates { LineValid self.now.state.line }
         ensures sendings { NeverBack (opening self.now.config) self.now.history }

@@ -4,8 +4,8 @@ use Rattle.gem_model.specs.Fire.{fires}
 use Rattle.gem_model.specs.Direct.{timeout_rows}
 use Rattle.gem_model.specs.Sending.{data_header, sends_stream9}
 use Rattle.gem_model.specs.Due.{timeouts, timed_out, all_done}
-use Rattle.tool_core.proofs.Timeouts.{timeouts_next, timeouts_fewer}
-use Rattle.tool_core.proofs.clock.time_out_all.Goals as goal
+use Rattle.core_shop.proofs.Timeouts.{timeouts_next, timeouts_fewer}
+use Rattle.core_shop.proofs.clock.time_out_all.Goals as goal
 
 pub loop-one-smaller : goal.loop-one-smaller
 loop-one-smaller c =

@@ -1,6 +1,6 @@
 use Rattle.std.proofs.Common.{◌≡◌, length}
 use Rattle.gem_model.specs.Due.{timeouts, all_done}
-use Rattle.tool_core.proofs.clock.time_out_all.Given as goal
+use Rattle.core_shop.proofs.clock.time_out_all.Given as goal
 
 -- what is left to do leads to the same state as all that was to do at first
 abbrev pub invariant-loop-one : goal.invariant-loop-one

@@ -1,0 +1,3 @@
+pub mod Firings
+pub mod Operating
+pub mod Timeouts

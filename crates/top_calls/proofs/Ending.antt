@@ -1,5 +1,5 @@
 -- What a run of feed did, from how its input ended.
-use Rattle.std.proofs.Common.{◌≡◌, ℕ, List, [], Option, inl, inr, refl, sym, subst, length, arith}
+use Rattle.std.proofs.Common.{◌≡◌, ◌≢◌, ℕ, List, [], Option, Err, inl, inr, refl, sym, subst, length, arith}
 use Rattle.tool_events.specs.declared.entry.Entry.{Entry}
 use Rattle.tool_events.specs.declared.config.Config.{Config}
 use Rattle.gem_model.specs.State.{State, opening}
@@ -35,6 +35,17 @@ FedBy-end (input.Halted halt.Quit) text count reader source source' size h = inr
 FedBy-end (input.Halted halt.Full) text count reader source source' size h = (inr h.told, refl, refl, sym size)
 FedBy-end (input.Halted halt.Write) text count reader source source' size h = h.given
 FedBy-end (input.Halted halt.NoMemory) text count reader source source' size h = h.given
+
+-- a run whose cause is not a failed write did not end at one
+pub not_write : (end : InputEnd) (count : ℕ) (history : List Entry) (number : ℕ) → cause_after end count history number ≢ cause.WriteFault → as_result end ≢ Err halt.Write
+not_write input.Whole count history number other is = absurd (cc)
+not_write input.Fault count history number other is = absurd (cc)
+not_write input.Bound count history number other is = absurd (cc)
+not_write (input.Halted (halt.Line place)) count history number other is = absurd (cc)
+not_write (input.Halted halt.Quit) count history number other is = absurd (cc)
+not_write (input.Halted halt.Full) count history number other is = absurd (cc)
+not_write (input.Halted halt.Write) count history number other is = other refl
+not_write (input.Halted halt.NoMemory) count history number other is = absurd (cc)
 
 -- the history is a run from the first state
 pub run_from : (c k : Config) (history : List Entry) (state : State) → c ≡ k → Run (opening c) history state → Run (opening k) history (after_all (opening k) history)

@@ -5,7 +5,7 @@ use Rattle.top_calls.specs.CauseOf.{cause_after}
 use Rattle.top_calls.specs.Fed.{looked, FedBy, ReadToEnd, Shown}
 use Rattle.top_calls.specs.Noted.{NotedBy}
 use Rattle.top_calls.specs.Stopping.{GivenBy}
-use Rattle.top_calls.proofs.Ending.{run_from, FedBy-end, NotedBy-end, Shown-end, Shown-memory}
+use Rattle.top_calls.proofs.Ending.{not_write, run_from, FedBy-end, NotedBy-end, Shown-end, Shown-memory}
 use Rattle.top_calls.proofs.NotesOf.{notes_of, fates_of, sendings_of}
 use Rattle.top_calls.proofs.feeding.feed_config.Goals as goal
 
@@ -96,3 +96,8 @@ pub returns-clause-sendings : goal.returns-clause-sendings
 returns-clause-sendings g c =
     rw (c.with_history-2.ensures, c.into_history.ensures.history)
     (sendings_of _ _ (run_from _ _ _ _ (c.read_lines-read.ensures.prints.config ∙ c.in-Ok.ensures.config) c.into_history.ensures.run))
+
+pub returns-clause-no_write_failed : goal.returns-clause-no_write_failed
+returns-clause-no_write_failed g c =
+    rw (c.with_history-2.ensures, c.cause_of-cause.ensures)
+    (λ other memory. c.read_lines-read.ensures.prints.unfailed (not_write c.read_lines-read.result.end c.read_lines-read.result.count _ _ other))

@@ -5,8 +5,12 @@
 #![tactic(auto)]
 
 #[cfg(test)]
-mod calls;
+mod begun;
 #[cfg(test)]
 mod fates;
 #[cfg(test)]
 mod histories;
+#[cfg(test)]
+mod posted;
+#[cfg(test)]
+mod spoken;

@@ -26,15 +26,25 @@ fn id_row(row: u8) -> [End; 4] {
 
 #[test]
 fn an_id_that_is_not_read_is_verified_or_waits(rt: HostRuntime) -> Result<(), Fail> {
-    assert_eq!(rt; id_row(2), [(true, 2), (false, 1), (false, 2), (false, 3)]);
-    assert_eq!(rt; id_row(3), [(true, 1), (false, 1), (false, 2), (false, 3)]);
+    assert_eq!(rt;
+        [id_row(2), id_row(3)],
+        [
+            [(true, 2), (false, 1), (false, 2), (false, 3)],
+            [(true, 1), (false, 1), (false, 2), (false, 3)],
+        ]
+    );
     Ok(())
 }
 
 #[test]
 fn an_id_that_waits_is_verified_or_fails(rt: HostRuntime) -> Result<(), Fail> {
-    assert_eq!(rt; id_row(4), [(false, 0), (true, 2), (false, 2), (false, 3)]);
-    assert_eq!(rt; id_row(5), [(false, 0), (true, 3), (false, 2), (false, 3)]);
+    assert_eq!(rt;
+        [id_row(4), id_row(5)],
+        [
+            [(false, 0), (true, 2), (false, 2), (false, 3)],
+            [(false, 0), (true, 3), (false, 2), (false, 3)],
+        ]
+    );
     Ok(())
 }
 
@@ -65,15 +75,25 @@ fn map_row(row: u8) -> [End; 4] {
 
 #[test]
 fn a_map_that_is_not_read_is_verified_or_waits(rt: HostRuntime) -> Result<(), Fail> {
-    assert_eq!(rt; map_row(1), [(true, 2), (false, 1), (false, 2), (false, 3)]);
-    assert_eq!(rt; map_row(2), [(true, 1), (false, 1), (false, 2), (false, 3)]);
+    assert_eq!(rt;
+        [map_row(1), map_row(2)],
+        [
+            [(true, 2), (false, 1), (false, 2), (false, 3)],
+            [(true, 1), (false, 1), (false, 2), (false, 3)],
+        ]
+    );
     Ok(())
 }
 
 #[test]
 fn a_map_that_waits_is_verified_or_fails(rt: HostRuntime) -> Result<(), Fail> {
-    assert_eq!(rt; map_row(3), [(false, 0), (true, 2), (false, 2), (false, 3)]);
-    assert_eq!(rt; map_row(4), [(false, 0), (true, 3), (false, 2), (false, 3)]);
+    assert_eq!(rt;
+        [map_row(3), map_row(4)],
+        [
+            [(false, 0), (true, 2), (false, 2), (false, 3)],
+            [(false, 0), (true, 3), (false, 2), (false, 3)],
+        ]
+    );
     Ok(())
 }
 
@@ -105,12 +125,11 @@ fn access_row(row: u8) -> [End; 4] {
 #[test]
 fn a_carrier_that_is_not_accessed_is_accessed_or_stopped(rt: HostRuntime) -> Result<(), Fail> {
     assert_eq!(rt;
-        access_row(1),
-        [(true, 1), (false, 1), (false, 2), (false, 3)]
-    );
-    assert_eq!(rt;
-        access_row(4),
-        [(true, 3), (false, 1), (false, 2), (false, 3)]
+        [access_row(1), access_row(4)],
+        [
+            [(true, 1), (false, 1), (false, 2), (false, 3)],
+            [(true, 3), (false, 1), (false, 2), (false, 3)],
+        ]
     );
     Ok(())
 }
@@ -118,12 +137,11 @@ fn a_carrier_that_is_not_accessed_is_accessed_or_stopped(rt: HostRuntime) -> Res
 #[test]
 fn a_carrier_in_access_is_complete_or_stopped(rt: HostRuntime) -> Result<(), Fail> {
     assert_eq!(rt;
-        access_row(2),
-        [(false, 0), (true, 2), (false, 2), (false, 3)]
-    );
-    assert_eq!(rt;
-        access_row(3),
-        [(false, 0), (true, 3), (false, 2), (false, 3)]
+        [access_row(2), access_row(3)],
+        [
+            [(false, 0), (true, 2), (false, 2), (false, 3)],
+            [(false, 0), (true, 3), (false, 2), (false, 3)],
+        ]
     );
     Ok(())
 }

@@ -97,9 +97,14 @@ fn access_row(row: u8) -> [End; 2] {
 
 #[test]
 fn the_access_mode_changes_to_the_other_alone(rt: HostRuntime) -> Result<(), Fail> {
-    assert_eq!(rt; access_row(1), [(true, 1), (false, 1)]);
-    assert_eq!(rt; access_row(2), [(false, 0), (true, 0)]);
-    assert_eq!(rt; access_row(3), [(false, 0), (false, 1)]);
+    assert_eq!(rt;
+        [access_row(1), access_row(2), access_row(3)],
+        [
+            [(true, 1), (false, 1)],
+            [(false, 0), (true, 0)],
+            [(false, 0), (false, 1)],
+        ]
+    );
     Ok(())
 }
 
@@ -121,10 +126,20 @@ fn reservation_row(row: u8) -> [End; 2] {
 
 #[test]
 fn a_port_is_reserved_once_and_let_go_by_two_rows(rt: HostRuntime) -> Result<(), Fail> {
-    assert_eq!(rt; reservation_row(1), [(true, 1), (false, 1)]);
-    assert_eq!(rt; reservation_row(2), [(false, 0), (true, 0)]);
-    assert_eq!(rt; reservation_row(3), [(false, 0), (true, 0)]);
-    assert_eq!(rt; reservation_row(4), [(false, 0), (false, 1)]);
+    assert_eq!(rt;
+        [
+            reservation_row(1),
+            reservation_row(2),
+            reservation_row(3),
+            reservation_row(4)
+        ],
+        [
+            [(true, 1), (false, 1)],
+            [(false, 0), (true, 0)],
+            [(false, 0), (true, 0)],
+            [(false, 0), (false, 1)],
+        ]
+    );
     Ok(())
 }
 
@@ -146,8 +161,10 @@ fn association_row(row: u8) -> [End; 2] {
 
 #[test]
 fn a_carrier_is_bound_or_comes_to_a_port_that_has_none(rt: HostRuntime) -> Result<(), Fail> {
-    assert_eq!(rt; association_row(1), [(true, 1), (false, 1)]);
-    assert_eq!(rt; association_row(3), [(true, 1), (false, 1)]);
+    assert_eq!(rt;
+        [association_row(1), association_row(3)],
+        [[(true, 1), (false, 1)], [(true, 1), (false, 1)],]
+    );
     Ok(())
 }
 
@@ -155,17 +172,29 @@ fn a_carrier_is_bound_or_comes_to_a_port_that_has_none(rt: HostRuntime) -> Resul
 fn a_carrier_that_comes_to_a_port_that_has_one_keeps_it_associated(
     rt: HostRuntime,
 ) -> Result<(), Fail> {
-    assert_eq!(rt; association_row(4), [(false, 0), (true, 1)]);
-    assert_eq!(rt; association_row(5), [(false, 0), (true, 1)]);
+    assert_eq!(rt;
+        [association_row(4), association_row(5)],
+        [[(false, 0), (true, 1)], [(false, 0), (true, 1)],]
+    );
     Ok(())
 }
 
 #[test]
 fn a_port_is_left_by_three_rows(rt: HostRuntime) -> Result<(), Fail> {
-    assert_eq!(rt; association_row(2), [(false, 0), (true, 0)]);
-    assert_eq!(rt; association_row(6), [(false, 0), (true, 0)]);
-    assert_eq!(rt; association_row(7), [(false, 0), (true, 0)]);
-    assert_eq!(rt; association_row(8), [(false, 0), (false, 1)]);
+    assert_eq!(rt;
+        [
+            association_row(2),
+            association_row(6),
+            association_row(7),
+            association_row(8)
+        ],
+        [
+            [(false, 0), (true, 0)],
+            [(false, 0), (true, 0)],
+            [(false, 0), (true, 0)],
+            [(false, 0), (false, 1)],
+        ]
+    );
     Ok(())
 }
 

@@ -1,37 +1,62 @@
-//! Rows that are fired at a shop floor until none is ready, and what the host and the equipment do to it.
+//! A shop floor, as lines of a text are said to it: what the host asks and what the equipment does, where rows then
+//! fire until none is ready, and the rows that fired.
 
-use crate::names::id;
-use carrier::{CarrierAction, CarrierWord};
+use crate::known_carriers::action;
+use crate::names::carrier;
+use carrier::CarrierAction;
 use gem_ids::{CarrierId, Listed, PortNo, Text80};
+use load_port::PortAction;
 use shop_floor::{FloorFiring, ShopFloor};
 use std::alloc::Global;
 use std::test::Fail;
+use test_lines::{Subject, answers, nothing, small, word, words};
 
-// A map whose slots are correctly occupied, and one with an undefined slot.
-pub(crate) const GOOD: [u8; 25] = [3; 25];
-
-pub(crate) const BAD: [u8; 25] = [
-    3, 3, 3, 3, 3, 3, 3, 0, 3, 3, 3, 3, 3, 3, 3, 3, 3, 3, 3, 3, 3, 3, 3, 3, 3,
-];
-
-// A shop floor, and the rows that fired at it since they were last looked at.
+// A shop floor, and the rows that fired at it since they were last told. A port stands as its number where the host
+// names it, and as its place, counted from 0, where a carrier comes to it or a row fires; a row stands as its table,
+// the place of its port or carrier, and its number.
 #[derive(Drop)]
-pub(crate) struct Shop {
-    pub(crate) floor: ShopFloor,
+struct Shop {
+    floor: ShopFloor,
     fired: Listed<FloorFiring>,
 }
 
-impl Shop {
-    // A shop floor of so many ports, 0 to 4.
-    pub(crate) fn new(alloc: Global, ports: u8) -> Result<Shop, Fail> {
-        if ports > 4 {
-            return Err(Fail::new("too many ports"));
-        }
-        Ok(Shop {
-            floor: ShopFloor::new(alloc, ports)?,
-            fired: Listed::new(alloc),
-        })
+// Says the lines of a text to a shop floor of two ports.
+pub(crate) fn shop_answers(alloc: Global, text: &str) -> Result<(), Fail> {
+    shop_of_ports_answers(alloc, 2, text)
+}
+
+// The same, of so many ports, 0 to 4.
+pub(crate) fn shop_of_ports_answers(alloc: Global, ports: u8, text: &str) -> Result<(), Fail> {
+    if ports > 4 {
+        return Err(Fail::new("too many ports"));
     }
+    let mut shop = Shop {
+        floor: ShopFloor::new(alloc, ports)?,
+        fired: Listed::new(alloc),
+    };
+    answers(alloc, &mut shop, text)
+}
+
+impl Subject for Shop {
+    fn answer(&mut self, alloc: Global, said: &str) -> Result<String, Fail> {
+        let words = words(alloc, said)?;
+        let words = words.as_slice();
+        match word(words, 0)? {
+            "ask" => Ok(format!(in alloc; "{}", self.ask(words)?)?),
+            "fired" => self.tell_fired(alloc),
+            "place" | "come" | "remove" | "fire" | "settle" => {
+                self.happens(words)?;
+                nothing(alloc)
+            }
+            "name" => self.name(alloc, words),
+            "reserve" => Ok(format!(in alloc; "{}", self.reserve(small(words, 1)?))?),
+            _ => Ok(format!(in alloc; "{}", self.told(words)?)?),
+        }
+    }
+}
+
+impl Shop {
+    // ---- rows
 
     // A row fires where it starts.
     fn fire(&mut self, x: FloorFiring) -> Result<(), Fail> {
@@ -53,7 +78,7 @@ impl Shop {
     }
 
     // Rows fire by themselves until none is ready.
-    pub(crate) fn settle(&mut self) -> Result<(), Fail> {
+    fn settle(&mut self) -> Result<(), Fail> {
         for _ in 0..50 {
             match self.floor.least() {
                 Some(x) => self.fire_all(x)?,
@@ -64,63 +89,72 @@ impl Shop {
     }
 
     // A row of a table fires at the port of this place, where it starts.
-    pub(crate) fn fire_at(&mut self, table: u8, object: usize, row: u8) -> Result<(), Fail> {
+    fn fire_at(&mut self, table: u8, object: u8, row: u8) -> Result<(), Fail> {
+        let object = object as usize;
         self.fire_all(FloorFiring { table, object, row })
     }
 
-    // A carrier is placed at the port of this place, with the name that was read and its map; nothing fires by itself yet.
-    pub(crate) fn come(
-        &mut self,
-        place: u8,
-        name: Option<CarrierId>,
-        map: [u8; 25],
-    ) -> Result<(), Fail> {
+    // The rows that fired, which are told no more.
+    fn tell_fired(&mut self, alloc: Global) -> Result<String, Fail> {
+        let text = rows_text(alloc, self.fired.as_slice())?;
+        self.fired = Listed::new(alloc);
+        Ok(text)
+    }
+
+    // ---- what the equipment does
+
+    // A carrier is placed at or removed from a port, and rows fire; it comes, and nothing fires by itself yet; a row
+    // fires at a port, or all do that are ready.
+    fn happens(&mut self, words: &[&str]) -> Result<(), Fail> {
+        match word(words, 0)? {
+            "place" => {
+                self.come(words)?;
+                self.settle()
+            }
+            "come" => self.come(words),
+            "remove" => self.remove(small(words, 1)?),
+            "fire" => self.fire_at(small(words, 1)?, small(words, 2)?, small(words, 3)?),
+            _ => self.settle(),
+        }
+    }
+
+    // A carrier is placed at a port, with the name that is read and its map.
+    fn come(&mut self, words: &[&str]) -> Result<(), Fail> {
+        let place = small(words, 1)?;
+        let name = name_read(words)?;
+        let map = map(word(words, 3)?)?;
         let port = PortNo(place.saturating_add(1));
         if !self.floor.has_port(port) {
             return Err(Fail::new("no such port"));
         }
         let arrival = self.floor.arrival(port, name, map);
         self.floor.come(port, arrival);
-        self.fire_at(4, place as usize, 3)
-    }
-
-    // A carrier is placed, and rows fire.
-    pub(crate) fn place(
-        &mut self,
-        place: u8,
-        name: Option<CarrierId>,
-        map: [u8; 25],
-    ) -> Result<(), Fail> {
-        self.come(place, name, map)?;
-        self.settle()
+        self.fire_at(4, place, 3)
     }
 
     // The carrier of a port is removed, and rows fire.
-    pub(crate) fn remove(&mut self, place: usize) -> Result<(), Fail> {
+    fn remove(&mut self, place: u8) -> Result<(), Fail> {
         self.fire_at(4, place, 5)?;
         self.fire_at(7, place, 6)?;
         self.settle()
     }
 
+    // ---- what the host asks
+
     // The host asks for this of a carrier; gives what it is answered.
-    pub(crate) fn ask(
-        &mut self,
-        word: CarrierWord,
-        name: &[u8],
-        port: u8,
-        map: Option<[u8; 25]>,
-    ) -> Result<u8, Fail> {
+    fn ask(&mut self, words: &[&str]) -> Result<u8, Fail> {
         let action = CarrierAction {
-            word,
-            id: Text80::read(name)?,
-            port,
-            map,
+            word: action(word(words, 1)?)?,
+            id: Text80::read(word(words, 2)?.as_bytes())?,
+            port: small(words, 3)?,
+            map: match words.get(4) {
+                Some(word) => Some(map(word)?),
+                None => None,
+            },
             bad_attr: false,
         };
         let code = self.floor.carrier_code(&action);
-        if code == 0 {
-            self.done(&action)?;
-        }
+        self.done(&action)?;
         Ok(code)
     }
 
@@ -137,43 +171,82 @@ impl Shop {
         self.settle()
     }
 
-    // Whether these are the rows that fired, each as its table, its object's place and its number.
-    pub(crate) fn fired(&self, rows: &[(u8, usize, u8)]) -> bool {
-        let fired = self.fired.as_slice();
-        if fired.len() != rows.len() {
-            return false;
-        }
-        for (place, row) in rows.iter().enumerate() {
-            if !is_row(fired.get(place), *row) {
-                return false;
-            }
-        }
-        true
+    // What a reservation of a port is answered.
+    fn reserve(&self, port: u8) -> u8 {
+        self.floor.port_code(&PortAction::Reserve(port))
     }
 
-    // The rows that fired are looked at no more.
-    pub(crate) fn forget_fired(&mut self, alloc: Global) {
-        self.fired = Listed::new(alloc);
+    // ---- what is told
+
+    // The name of the object at a place of a table.
+    fn name(&self, alloc: Global, words: &[&str]) -> Result<String, Fail> {
+        let table = small(words, 1)?;
+        let object = small(words, 2)? as usize;
+        if table < 8 && object >= 9 {
+            return Err(Fail::new("no such place"));
+        }
+        let row = 1;
+        let name = self.floor.object_name(FloorFiring { table, object, row });
+        Ok(String::from_utf8_lossy(alloc, name.as_bytes())?)
     }
 
-    // Whether a carrier of this name is known and present.
-    pub(crate) fn is_present(&self, name: &[u8]) -> Result<bool, Fail> {
-        match self.floor.carrier_named(id(name)?.text()) {
-            Some(carrier) => Ok(carrier.present),
-            None => Ok(false),
+    // Whether a carrier is present or known, a port is ready to unload, or a row starts.
+    fn told(&self, words: &[&str]) -> Result<bool, Fail> {
+        match word(words, 0)? {
+            "present" => Ok(self.is_present(carrier(words, 1)?)),
+            "known" => Ok(self.is_known(carrier(words, 1)?)),
+            "ready" => Ok(self.floor.is_ready_to_unload(PortNo(small(words, 1)?))),
+            "starts" => self.starts(words),
+            _ => Err(Fail::new("a line that says nothing")),
         }
     }
 
-    // Whether a carrier of this name is known.
-    pub(crate) fn is_known(&self, name: &[u8]) -> Result<bool, Fail> {
-        Ok(self.floor.carrier_named(id(name)?.text()).is_some())
+    fn is_present(&self, name: CarrierId) -> bool {
+        match self.floor.carrier_named(name.text()) {
+            Some(carrier) => carrier.present,
+            None => false,
+        }
+    }
+
+    fn is_known(&self, name: CarrierId) -> bool {
+        self.floor.carrier_named(name.text()).is_some()
+    }
+
+    fn starts(&self, words: &[&str]) -> Result<bool, Fail> {
+        let table = small(words, 1)?;
+        let object = small(words, 2)? as usize;
+        let row = small(words, 3)?;
+        Ok(self.floor.starts(FloorFiring { table, object, row }))
     }
 }
 
-// Whether it is this row.
-fn is_row(fired: Option<&FloorFiring>, row: (u8, usize, u8)) -> bool {
-    match fired {
-        Some(x) => x.table == row.0 && x.object == row.1 && x.row == row.2,
-        None => false,
+fn rows_text(alloc: Global, rows: &[FloorFiring]) -> Result<String, Fail> {
+    let mut text = String::new(alloc);
+    for row in rows {
+        if !text.is_empty() {
+            text.push_str(" ")?;
+        }
+        let row = format!(in alloc; "{}.{}.{}", row.table, row.object, row.row)?;
+        text.push_str(row.as_str())?;
+    }
+    Ok(text)
+}
+
+// The name of a carrier that comes: `unread` where none was read.
+fn name_read(words: &[&str]) -> Result<Option<CarrierId>, Fail> {
+    if word(words, 2)? == "unread" {
+        return Ok(None);
+    }
+    Ok(Some(carrier(words, 2)?))
+}
+
+// A map whose slots are correctly occupied, or one with an undefined slot.
+fn map(word: &str) -> Result<[u8; 25], Fail> {
+    match word {
+        "good" => Ok([3; 25]),
+        "bad" => Ok([
+            3, 3, 3, 3, 3, 3, 3, 0, 3, 3, 3, 3, 3, 3, 3, 3, 3, 3, 3, 3, 3, 3, 3, 3, 3,
+        ]),
+        _ => Err(Fail::new("no map")),
     }
 }

@@ -3,95 +3,67 @@
 ghost use Rattle.std.specs.Prelude.{◌≡◌, length, IfOk};
 ghost use Rattle.msgs_gem.specs.Sendable.{AreCharacters, HasSendableParts};
 
+use crate::bodies::{bytes, read, reads, reads_each};
+use crate::texts::{is_text, sent};
 use msgs_gem::{
-    BodyFault, GemMsg, GemReply, Identity, accepts_communication, gem_item, is_ignored, read_gem,
+    BodyFault, GemMsg, GemReply, Identity, accepts_communication, is_ignored, read_gem,
 };
-use secs_items::{Bytes, NoMemory, encode, read_one};
+use secs_items::{Bytes, NoMemory, read_one};
 use std::alloc::Global;
 use std::test::Fail;
-
-// The header of an S1F5 with W and system bytes 7.
-const HEADER: [u8; 10] = [0x00, 0x00, 0x81, 0x05, 0x00, 0x00, 0x00, 0x00, 0x00, 0x07];
-
-// Reads a message by the bytes of its text.
-fn read(alloc: Global, stream: u8, function: u8, text: &[u8]) -> Result<GemMsg, BodyFault> {
-    let item = read_one(alloc, text)?;
-    read_gem(alloc, stream, function, item.as_ref())
-}
 
 // The messages whose text is ignored, by stream and function.
 const IGNORED: [(u8, u8); 6] = [(1, 1), (1, 13), (1, 15), (1, 17), (2, 17), (5, 7)];
 
-// The stream and function of a message whose text is ignored.
-fn numbers(message: &GemMsg) -> (u8, u8) {
-    match message {
-        GemMsg::S1F1 => (1, 1),
-        GemMsg::S1F13 => (1, 13),
-        GemMsg::S1F15 => (1, 15),
-        GemMsg::S1F17 => (1, 17),
-        GemMsg::S2F17 => (2, 17),
-        GemMsg::S5F7 => (5, 7),
-        _ => (0, 0),
-    }
+#[test]
+fn an_ignored_text_may_be_anything(rt: HostRuntime) -> Result<(), Fail> {
+    reads_each(
+        rt.alloc(),
+        IGNORED.as_slice(),
+        "
+        # no text
+        - =
+        # an empty list
+        0100 =
+        # a list of ids
+        0101A50107 =
+        # bytes behind an item
+        010000 =
+        # no item at all
+        FF =
+        ",
+    )
 }
 
-#[test]
-fn an_ignored_text_may_be_anything(rt: HostRuntime) {
-    // no text, an empty list, a list of ids, bytes behind an item, and no item at all
-    let texts: [&[u8]; 5] = [
-        b"",
-        b"\x01\x00",
-        b"\x01\x01\xA5\x01\x07",
-        b"\x01\x00\x00",
-        b"\xFF",
-    ];
-    for text in texts {
-        for (stream, function) in IGNORED {
-            let read = read(rt.alloc(), stream, function, text);
-            assert!(rt;
-                matches!(&read, Ok(message) if numbers(message) == (stream, function)),
-                "S{stream}F{function} at {text:?}"
-            );
+// The first message below S8F255 that is ignored though it is none of these, or the other way round.
+fn false_ignored(ignored: &[(u8, u8)]) -> Option<(u8, u8)> {
+    for stream in 0..8 {
+        for function in 0..255 {
+            if is_ignored(stream, function) != ignored.contains(&(stream, function)) {
+                return Some((stream, function));
+            }
         }
     }
+    None
 }
 
 #[test]
 fn six_messages_have_an_ignored_text(rt: HostRuntime) {
-    for stream in 0..8 {
-        for function in 0..255 {
-            let ignored = IGNORED.contains(&(stream, function));
-            assert_eq!(rt;
-                is_ignored(stream, function),
-                ignored,
-                "at {stream}, {function}"
-            );
-        }
-    }
+    assert_eq!(rt; false_ignored(IGNORED.as_slice()), None);
 }
 
-// The characters of an S2F31, or why it has none.
-fn time(alloc: Global, text: &[u8]) -> Result<Vec<u8>, BodyFault> {
-    match read(alloc, 2, 31, text)? {
-        GemMsg::S2F31(text) => Ok(text.into_vec()),
-        _ => Err(BodyFault::UnknownFunction),
-    }
-}
-
+// The characters stand as hex digits.
 #[test]
-fn s2f31_has_the_characters_that_were_sent(rt: HostRuntime) {
-    let texts: [(&[u8], &[u8]); 3] = [
-        (b"\x41\x102026112711094700", b"2026112711094700"),
-        (b"\x41\x00", b""),
-        (b"\x41\x02\x00\x7F", b"\x00\x7F"),
-    ];
-    for (text, want) in texts {
-        let time = time(rt.alloc(), text);
-        assert!(rt;
-            matches!(&time, Ok(characters) if characters.as_slice() == want),
-            "at {text:?}"
-        );
-    }
+fn s2f31_has_the_characters_that_were_sent(rt: HostRuntime) -> Result<(), Fail> {
+    reads(
+        rt.alloc(),
+        (2, 31),
+        "
+        411032303236313132373131303934373030 = 32303236313132373131303934373030
+        4100 =
+        4102007F = 007f
+        ",
+    )
 }
 
 // An A of so many blanks, which is spelled with two length bytes.
@@ -104,90 +76,100 @@ fn blanks(alloc: Global, count: u16) -> Result<Vec<u8>, NoMemory> {
     Ok(text)
 }
 
+// Whether an S2F31 of so many blanks is read.
+fn are_blanks(alloc: Global, count: u16) -> Result<bool, Fail> {
+    let text = blanks(alloc, count)?;
+    match &read(alloc, (2, 31), text.as_slice()) {
+        Ok(GemMsg::S2F31(characters)) => {
+            let characters = characters.as_slice();
+            Ok(characters.len() == usize::from(count) && characters.iter().all(|c| *c == b' '))
+        }
+        _ => Ok(false),
+    }
+}
+
 #[test]
 fn s2f31_has_any_number_of_characters(rt: HostRuntime) -> Result<(), Fail> {
     for count in [0, 1, 16, 256, 65_535] {
-        let text = blanks(rt.alloc(), count)?;
-        let time = time(rt.alloc(), text.as_slice())?;
-        assert_eq!(rt; time.len(), usize::from(count));
-        assert!(rt; time.iter().all(|character| *character == b' '));
+        assert!(rt; are_blanks(rt.alloc(), count)?);
     }
     Ok(())
 }
 
 #[test]
-fn s2f31_that_is_no_a_is_illegal(rt: HostRuntime) {
-    // no text, B, a list of an A, an integer, and a byte behind the A
-    let texts: [&[u8]; 5] = [
-        b"",
-        b"\x21\x01\x30",
-        b"\x01\x01\x41\x01\x30",
-        b"\xA5\x01\x30",
-        b"\x41\x01\x30\x00",
-    ];
-    for text in texts {
-        let time = time(rt.alloc(), text);
-        assert!(rt; matches!(&time, Err(BodyFault::IllegalData)), "at {text:?}");
-    }
+fn s2f31_that_is_no_a_is_illegal(rt: HostRuntime) -> Result<(), Fail> {
+    reads(
+        rt.alloc(),
+        (2, 31),
+        "
+        # no text
+        -
+        # B
+        210130
+        # a list of an A
+        0101410130
+        # an integer
+        A50130
+        # a byte behind the A
+        41013000
+        ",
+    )
 }
 
-#[test]
-fn what_is_not_known_is_told_by_its_stream_or_function(rt: HostRuntime) {
+// The first stream whose function 9 has another fault than that the function is unknown, of a stream that some message
+// has, or else that the stream is.
+fn false_fault(alloc: Global) -> Option<u8> {
     for stream in 0..255 {
         let want = if [1, 2, 5, 6].contains(&stream) {
             BodyFault::UnknownFunction
         } else {
             BodyFault::UnknownStream
         };
-        let read = read_gem(rt.alloc(), stream, 9, None);
-        assert!(rt;
-            matches!(&read, Err(fault) if *fault == want),
-            "at {stream}"
-        );
+        if !matches!(&read_gem(alloc, stream, 9, None), Err(fault) if *fault == want) {
+            return Some(stream);
+        }
     }
+    None
 }
 
 #[test]
-fn a_fault_is_printed(rt: HostRuntime) {
-    for (fault, want) in [
-        (BodyFault::UnknownStream, "unknown stream"),
-        (BodyFault::UnknownFunction, "unknown function"),
-        (BodyFault::IllegalData, "illegal data"),
-        (BodyFault::NoMemory, "out of memory"),
-    ] {
-        let printed = format!(in rt.alloc(); "{fault}");
-        assert!(rt;
-            matches!(&printed, Ok(text) if text.as_str() == want),
-            "at {want}"
-        );
-    }
+fn what_is_not_known_is_told_by_its_stream_or_function(rt: HostRuntime) {
+    assert_eq!(rt; false_fault(rt.alloc()), None);
 }
 
-fn bytes(alloc: Global, bytes: &[u8]) -> Result<Bytes, NoMemory>
+fn printed(alloc: Global) -> Result<String, Fail> {
+    let stream = BodyFault::UnknownStream;
+    let function = BodyFault::UnknownFunction;
+    let data = BodyFault::IllegalData;
+    let memory = BodyFault::NoMemory;
+    Ok(format!(in alloc; "{stream}, {function}, {data}, {memory}")?)
+}
+
+#[test]
+fn a_fault_is_printed(rt: HostRuntime) -> Result<(), Fail> {
+    assert_eq!(rt;
+        printed(rt.alloc())?.as_str(),
+        "unknown stream, unknown function, illegal data, out of memory"
+    );
+    Ok(())
+}
+
+fn made(alloc: Global, bytes: &[u8]) -> Result<Bytes, NoMemory>
     ensures { IfOk result (λ b. b ≡ bytes.now) }
 {
     Ok(Bytes::from_vec(Vec::from_slice(alloc, bytes)?))
 }
 
-// The text of a reply.
-fn sent(alloc: Global, reply: &GemReply) -> Result<Vec<u8>, NoMemory>
-    requires { HasSendableParts reply.now }
-{
-    let mut text = Vec::new(alloc);
-    encode(&gem_item(alloc, reply)?, &mut text)?;
-    Ok(text)
-}
-
 fn model(alloc: Global) -> Result<Bytes, NoMemory>
     ensures { IfOk result AreCharacters }
 {
-    bytes(alloc, b"GEM300")
+    made(alloc, b"GEM300")
 }
 
 fn revision(alloc: Global) -> Result<Bytes, NoMemory>
     ensures { IfOk result AreCharacters }
 {
-    bytes(alloc, b"1.0.01")
+    made(alloc, b"1.0.01")
 }
 
 // What the tool tells of itself.
@@ -205,23 +187,20 @@ fn acknowledge(alloc: Global) -> Result<Vec<u8>, NoMemory> {
     sent(alloc, &GemReply::S1F14(Identity { mdln, softrev }))
 }
 
-// Whether these are the bytes that were made.
-fn is_text(made: Result<Vec<u8>, NoMemory>, want: &[u8]) -> bool {
-    match &made {
-        Ok(text) => text.as_slice() == want,
-        Err(_) => false,
-    }
-}
-
-const IDENTITY: &[u8] = b"\x01\x02\x41\x06GEM300\x41\x061.0.01";
-
-const ACCEPTED: &[u8] = b"\x01\x02\x21\x01\x00\x01\x02\x41\x06GEM300\x41\x061.0.01";
-
 #[test]
-fn the_tool_tells_its_model_and_then_its_revision(rt: HostRuntime) {
-    assert!(rt; is_text(data(rt.alloc()), IDENTITY));
-    assert!(rt; is_text(establish(rt.alloc()), IDENTITY));
-    assert!(rt; is_text(acknowledge(rt.alloc()), ACCEPTED));
+fn the_tool_tells_its_model_and_then_its_revision(rt: HostRuntime) -> Result<(), Fail> {
+    let alloc = rt.alloc();
+    is_text(alloc, data(alloc), "0102410647454D3330304106312E302E3031")?;
+    is_text(
+        alloc,
+        establish(alloc),
+        "0102410647454D3330304106312E302E3031",
+    )?;
+    is_text(
+        alloc,
+        acknowledge(alloc),
+        "01022101000102410647454D3330304106312E302E3031",
+    )
 }
 
 // The text of the time.
@@ -232,16 +211,20 @@ fn told_time(alloc: Global) -> Result<Vec<u8>, NoMemory> {
 fn characters(alloc: Global) -> Result<Bytes, NoMemory>
     ensures { IfOk result AreCharacters }
 {
-    bytes(alloc, b"2026112711094700")
+    made(alloc, b"2026112711094700")
 }
 
 #[test]
-fn a_code_is_one_binary_byte_and_the_time_is_ascii(rt: HostRuntime) {
+fn a_code_is_one_binary_byte_and_the_time_is_ascii(rt: HostRuntime) -> Result<(), Fail> {
     let alloc = rt.alloc();
-    assert!(rt; is_text(sent(alloc, &GemReply::S1F16), &[0x21, 1, 0]));
-    assert!(rt; is_text(sent(alloc, &GemReply::S1F18(2)), &[0x21, 1, 2]));
-    assert!(rt; is_text(sent(alloc, &GemReply::S2F32(1)), &[0x21, 1, 1]));
-    assert!(rt; is_text(told_time(alloc), b"\x41\x102026112711094700"));
+    is_text(alloc, sent(alloc, &GemReply::S1F16), "210100")?;
+    is_text(alloc, sent(alloc, &GemReply::S1F18(2)), "210102")?;
+    is_text(alloc, sent(alloc, &GemReply::S2F32(1)), "210101")?;
+    is_text(
+        alloc,
+        told_time(alloc),
+        "411032303236313132373131303934373030",
+    )
 }
 
 // A message of stream 9 by its function; S9F11 for any other number.
@@ -259,42 +242,62 @@ fn of_stream_9(function: u8, header: Bytes) -> GemReply
     }
 }
 
+// The header of an S1F5 with W and system bytes 7.
+const HEADER: [u8; 10] = [0x00, 0x00, 0x81, 0x05, 0x00, 0x00, 0x00, 0x00, 0x00, 0x07];
+
 // The text of such a message about the header.
 fn error(alloc: Global, function: u8) -> Result<Vec<u8>, NoMemory> {
-    sent(alloc, &of_stream_9(function, bytes(alloc, &HEADER)?))
+    sent(alloc, &of_stream_9(function, made(alloc, &HEADER)?))
 }
 
 #[test]
-fn stream_9_tells_the_header_as_binary(rt: HostRuntime) {
-    let want = b"\x21\x0A\x00\x00\x81\x05\x00\x00\x00\x00\x00\x07".as_slice();
+fn stream_9_tells_the_header_as_binary(rt: HostRuntime) -> Result<(), Fail> {
+    let alloc = rt.alloc();
     for function in [1, 3, 5, 7, 9, 11] {
-        assert!(rt; is_text(error(rt.alloc(), function), want), "S9F{function}");
+        is_text(alloc, error(alloc, function), "210A00008105000000000007")?;
     }
+    Ok(())
 }
 
-// Texts of S1F14, and whether they accept.
-const ACKNOWLEDGES: [(&[u8], bool); 11] = [
-    (b"\x01\x02\x21\x01\x00\x01\x00", true),
-    (b"\x02\x00\x02\x22\x00\x01\x00\x41\x01\x41", true),
-    (b"\x01\x02\x21\x01\x01\x01\x00", false),
-    (b"\x01\x01\x21\x01\x00", false),
-    (b"\x01\x03\x21\x01\x00\x01\x00\x01\x00", false),
-    (b"\x01\x02\xA5\x01\x00\x01\x00", false),
-    (b"\x01\x02\x21\x02\x00\x00\x01\x00", false),
-    (b"\x01\x02\x21\x00\x01\x00", false),
-    (b"\x21\x01\x00", false),
-    (b"\x01\x02\x21\x01\x00\x01\x00\x00", false),
-    (b"", false),
-];
+// Whether each of these texts of S1F14, one a line, accepts or does not.
+fn are_accepted(alloc: Global, wanted: bool, texts: &str) -> Result<(), Fail> {
+    for line in texts.lines() {
+        let digits = line.trim();
+        if !digits.is_empty() && accepts(alloc, digits)? != wanted {
+            return Err(Fail::new(format_args!("{digits}, wanted {wanted}")));
+        }
+    }
+    Ok(())
+}
 
-fn accepted(alloc: Global, text: &[u8]) -> Result<bool, NoMemory> {
-    let item = read_one(alloc, text)?;
+fn accepts(alloc: Global, digits: &str) -> Result<bool, Fail> {
+    let item = read_one(alloc, bytes(alloc, digits)?.as_slice())?;
     Ok(accepts_communication(item.as_ref()))
 }
 
 #[test]
-fn a_list_of_two_whose_first_is_b_0_accepts(rt: HostRuntime) {
-    for (text, want) in ACKNOWLEDGES {
-        assert_eq!(rt; accepted(rt.alloc(), text), Ok(want), "at {text:?}");
-    }
+fn a_list_of_two_whose_first_is_b_0_accepts(rt: HostRuntime) -> Result<(), Fail> {
+    are_accepted(
+        rt.alloc(),
+        true,
+        "
+        01022101000100
+        02000222000100410141
+        ",
+    )?;
+    are_accepted(
+        rt.alloc(),
+        false,
+        "
+        01022101010100
+        0101210100
+        010321010001000100
+        0102A501000100
+        0102210200000100
+        010221000100
+        210100
+        0102210100010000
+        -
+        ",
+    )
 }

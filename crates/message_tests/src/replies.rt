@@ -6,20 +6,13 @@ ghost use Rattle.secs_items.specs.Weight.{IsBounded};
 ghost use Rattle.msgs_gem.specs.Functions.{AreFewFunctions};
 ghost use Rattle.msgs_gem.specs.Sendable.{AreFew, HasSendableParts};
 
+use crate::bodies::{bytes, repeated};
+use crate::texts::{is_text, sent};
 use gem_ids::{Listed, Text80};
-use msgs_gem::{AlarmPart, GemReply, ParameterAcknowledge, StreamRefusal, VariableName, gem_item};
-use secs_items::{Bytes, Item, Items, NoMemory, U32s, encode};
+use msgs_gem::{AlarmPart, GemReply, ParameterAcknowledge, StreamRefusal, VariableName};
+use secs_items::{Bytes, Item, Items, NoMemory, U32s};
 use std::alloc::Global;
 use std::test::Fail;
-
-// The text of a reply.
-fn sent(alloc: Global, reply: &GemReply) -> Result<Vec<u8>, NoMemory>
-    requires { HasSendableParts reply.now }
-{
-    let mut text = Vec::new(alloc);
-    encode(&gem_item(alloc, reply)?, &mut text)?;
-    Ok(text)
-}
 
 // A text of these bytes, and the text of none where they are no text.
 fn text(bytes: &[u8]) -> Text80 {
@@ -62,49 +55,49 @@ fn report_data(alloc: Global, values: Items) -> Result<Vec<u8>, NoMemory>
     sent(alloc, &GemReply::S6F20(values))
 }
 
+#[test]
+fn values_are_a_list(rt: HostRuntime) -> Result<(), Fail> {
+    let alloc = rt.alloc();
+    are_two_values(alloc)?;
+    is_text(alloc, status_data(alloc, Items::new(alloc)), "0100")?;
+    is_text(alloc, constant_data(alloc, Items::new(alloc)), "0100")?;
+    is_text(alloc, report_data(alloc, Items::new(alloc)), "0100")
+}
+
 // Each of them with two values.
-fn with_values(alloc: Global) -> Result<[Vec<u8>; 3], NoMemory> {
-    let status = status_data(alloc, two_values(alloc)?)?;
-    let constants = constant_data(alloc, two_values(alloc)?)?;
-    let report = report_data(alloc, two_values(alloc)?)?;
-    Ok([status, constants, report])
+fn are_two_values(alloc: Global) -> Result<(), Fail> {
+    let two = "0102B104000000070100";
+    is_text(alloc, status_data(alloc, two_values(alloc)?), two)?;
+    is_text(alloc, constant_data(alloc, two_values(alloc)?), two)?;
+    is_text(alloc, report_data(alloc, two_values(alloc)?), two)
 }
 
-// And with none.
-fn without_values(alloc: Global) -> Result<[Vec<u8>; 3], NoMemory> {
-    let status = status_data(alloc, Items::new(alloc))?;
-    let constants = constant_data(alloc, Items::new(alloc))?;
-    let report = report_data(alloc, Items::new(alloc))?;
-    Ok([status, constants, report])
+// A constant, as L[U4].
+fn constant(alloc: Global, ecid: u32) -> Result<Item, NoMemory>
+    ensures { IfOk result (λ item. IsBounded 1 210 (view item)) }
+{
+    let mut parts = Items::new(alloc);
+    parts.push(number(alloc, ecid)?)?;
+    Ok(Item::List(parts))
 }
 
-#[test]
-fn values_are_a_list(rt: HostRuntime) {
-    let two = b"\x01\x02\xB1\x04\x00\x00\x00\x07\x01\x00".as_slice();
-    let sent = with_values(rt.alloc());
-    assert!(rt; matches!(&sent, Ok(texts) if texts.iter().all(|text| text.as_slice() == two)));
-    let none = b"\x01\x00".as_slice();
-    let sent = without_values(rt.alloc());
-    assert!(rt; matches!(&sent, Ok(texts) if texts.iter().all(|text| text.as_slice() == none)));
-}
-
-// Two constants, as L[U4 201] and L[U4 202].
-fn constants(alloc: Global) -> Result<Vec<u8>, NoMemory> {
-    let mut first = Items::new(alloc);
-    first.push(number(alloc, 201)?)?;
-    let mut second = Items::new(alloc);
-    second.push(number(alloc, 202)?)?;
+fn two_constants(alloc: Global) -> Result<Items, NoMemory>
+    ensures { IfOk result (λ constants. AreFew 1024 1 210 constants) }
+{
     let mut constants = Items::new(alloc);
-    constants.push(Item::List(first))?;
-    constants.push(Item::List(second))?;
-    sent(alloc, &GemReply::S2F30(constants))
+    constants.push(constant(alloc, 201)?)?;
+    constants.push(constant(alloc, 202)?)?;
+    Ok(constants)
+}
+
+fn constants(alloc: Global) -> Result<Vec<u8>, NoMemory> {
+    sent(alloc, &GemReply::S2F30(two_constants(alloc)?))
 }
 
 #[test]
-fn constants_are_printed_as_they_are_given(rt: HostRuntime) {
-    let want = b"\x01\x02\x01\x01\xB1\x04\x00\x00\x00\xC9\x01\x01\xB1\x04\x00\x00\x00\xCA";
-    let sent = constants(rt.alloc());
-    assert!(rt; matches!(&sent, Ok(text) if text.as_slice() == want.as_slice()));
+fn constants_are_printed_as_they_are_given(rt: HostRuntime) -> Result<(), Fail> {
+    let want = "01020101B104000000C90101B104000000CA";
+    is_text(rt.alloc(), constants(rt.alloc()), want)
 }
 
 // Two names, the second of an unknown variable.
@@ -124,41 +117,36 @@ fn two_names(alloc: Global) -> Result<Listed<VariableName>, NoMemory>
     Ok(Listed::from_vec(names))
 }
 
-// S1F12 without a name, and with two.
-fn names(alloc: Global) -> Result<[Vec<u8>; 2], NoMemory> {
-    let none = sent(alloc, &GemReply::S1F12(Listed::new(alloc)))?;
-    let two = sent(alloc, &GemReply::S1F12(two_names(alloc)?))?;
-    Ok([none, two])
+// S1F12 with two names.
+fn names(alloc: Global) -> Result<Vec<u8>, NoMemory> {
+    sent(alloc, &GemReply::S1F12(two_names(alloc)?))
+}
+
+fn no_names(alloc: Global) -> Result<Vec<u8>, NoMemory> {
+    sent(alloc, &GemReply::S1F12(Listed::new(alloc)))
 }
 
 #[test]
-fn a_name_has_its_variable_and_no_units(rt: HostRuntime) {
-    let want =
-        b"\x01\x02\x01\x03\xB1\x04\x00\x00\x00\x01\x41\x05Clock\x41\x00\x01\x03\xB1\x04\xFF\xFF\xFF\xFF\x41\x00\x41\x00";
-    let sent = names(rt.alloc());
-    assert!(rt;
-        matches!(&sent, Ok([none, two]) if none.as_slice() == b"\x01\x00".as_slice() && two.as_slice() == want.as_slice())
-    );
+fn a_name_has_its_variable_and_no_units(rt: HostRuntime) -> Result<(), Fail> {
+    let alloc = rt.alloc();
+    is_text(alloc, no_names(alloc), "0100")?;
+    is_text(
+        alloc,
+        names(alloc),
+        "01020103B104000000014105436C6F636B41000103B104FFFFFFFF41004100",
+    )
 }
 
 // The replies that are a code.
-fn codes(alloc: Global) -> Result<[Vec<u8>; 6], NoMemory> {
-    Ok([
-        sent(alloc, &GemReply::S2F16(3))?,
-        sent(alloc, &GemReply::S2F34(3))?,
-        sent(alloc, &GemReply::S2F36(3))?,
-        sent(alloc, &GemReply::S2F38(3))?,
-        sent(alloc, &GemReply::S5F4(3))?,
-        sent(alloc, &GemReply::S6F24(3))?,
-    ])
-}
-
 #[test]
-fn a_code_is_one_binary_byte(rt: HostRuntime) {
-    let sent = codes(rt.alloc());
-    assert!(rt;
-        matches!(&sent, Ok(texts) if texts.iter().all(|text| text.as_slice() == b"\x21\x01\x03".as_slice()))
-    );
+fn a_code_is_one_binary_byte(rt: HostRuntime) -> Result<(), Fail> {
+    let alloc = rt.alloc();
+    is_text(alloc, sent(alloc, &GemReply::S2F16(3)), "210103")?;
+    is_text(alloc, sent(alloc, &GemReply::S2F34(3)), "210103")?;
+    is_text(alloc, sent(alloc, &GemReply::S2F36(3)), "210103")?;
+    is_text(alloc, sent(alloc, &GemReply::S2F38(3)), "210103")?;
+    is_text(alloc, sent(alloc, &GemReply::S5F4(3)), "210103")?;
+    is_text(alloc, sent(alloc, &GemReply::S6F24(3)), "210103")
 }
 
 // Two parameters that are refused.
@@ -179,21 +167,23 @@ fn two_refused(alloc: Global) -> Result<Listed<ParameterAcknowledge>, NoMemory>
 }
 
 // HCACK without a parameter, and with two.
-fn commands(alloc: Global) -> Result<[Vec<u8>; 2], NoMemory> {
-    let accepted = sent(alloc, &GemReply::S2F42(0, Listed::new(alloc)))?;
-    let refused = sent(alloc, &GemReply::S2F42(3, two_refused(alloc)?))?;
-    Ok([accepted, refused])
+fn accepted_command(alloc: Global) -> Result<Vec<u8>, NoMemory> {
+    sent(alloc, &GemReply::S2F42(0, Listed::new(alloc)))
+}
+
+fn refused_command(alloc: Global) -> Result<Vec<u8>, NoMemory> {
+    sent(alloc, &GemReply::S2F42(3, two_refused(alloc)?))
 }
 
 #[test]
-fn a_command_is_answered_with_its_refused_parameters(rt: HostRuntime) {
-    let none = b"\x01\x02\x21\x01\x00\x01\x00".as_slice();
-    let two =
-        b"\x01\x02\x21\x01\x03\x01\x02\x01\x02\x41\x04ALID\x21\x01\x03\x01\x02\x41\x00\x21\x01\x01".as_slice();
-    let sent = commands(rt.alloc());
-    assert!(rt;
-        matches!(&sent, Ok([accepted, refused]) if accepted.as_slice() == none && refused.as_slice() == two)
-    );
+fn a_command_is_answered_with_its_refused_parameters(rt: HostRuntime) -> Result<(), Fail> {
+    let alloc = rt.alloc();
+    is_text(alloc, accepted_command(alloc), "01022101000100")?;
+    is_text(
+        alloc,
+        refused_command(alloc),
+        "0102210103010201024104414C494421010301024100210101",
+    )
 }
 
 // A stream that is refused with functions.
@@ -239,51 +229,42 @@ fn three_streams(alloc: Global) -> Result<Listed<StreamRefusal>, NoMemory>
     Ok(Listed::from_vec(refusals))
 }
 
-// S2F44 of an S2F43 that is done, of one that comes too late, and of three that have faults.
-fn spooled(alloc: Global) -> Result<[Vec<u8>; 5], NoMemory> {
-    Ok([
-        sent(alloc, &GemReply::S2F44(0, Listed::new(alloc)))?,
-        sent(alloc, &GemReply::S2F44(1, Listed::new(alloc)))?,
-        sent(alloc, &GemReply::S2F44(1, one_stream(alloc, 1, 1, &[])?))?,
-        sent(alloc, &GemReply::S2F44(1, one_stream(alloc, 6, 4, &[12])?))?,
-        sent(alloc, &GemReply::S2F44(1, three_streams(alloc)?))?,
-    ])
+// S2F44 of an S2F43 that is done, or that comes too late; of one that has one fault, and of one that has three.
+fn answered(alloc: Global, rspack: u8) -> Result<Vec<u8>, NoMemory> {
+    sent(alloc, &GemReply::S2F44(rspack, Listed::new(alloc)))
+}
+
+fn one_fault(alloc: Global, stream: u8, strack: u8, functions: &[u8]) -> Result<Vec<u8>, NoMemory>
+    requires { length functions.now ≤ 256 }
+{
+    let refusals = one_stream(alloc, stream, strack, functions)?;
+    sent(alloc, &GemReply::S2F44(1, refusals))
+}
+
+fn three_faults(alloc: Global) -> Result<Vec<u8>, NoMemory> {
+    sent(alloc, &GemReply::S2F44(1, three_streams(alloc)?))
 }
 
 #[test]
-fn a_choice_of_streams_is_answered_with_its_faults(rt: HostRuntime) {
-    let done = b"\x01\x02\x21\x01\x00\x01\x00".as_slice();
-    let late = b"\x01\x02\x21\x01\x01\x01\x00".as_slice();
-    let stream = b"\x01\x02\x21\x01\x01\x01\x01\x01\x03\xA5\x01\x01\x21\x01\x01\x01\x00".as_slice();
-    let function =
-        b"\x01\x02\x21\x01\x01\x01\x01\x01\x03\xA5\x01\x06\x21\x01\x04\x01\x01\xA5\x01\x0C".as_slice();
+fn a_choice_of_streams_is_answered_with_its_faults(rt: HostRuntime) -> Result<(), Fail> {
+    let alloc = rt.alloc();
+    is_text(alloc, answered(alloc, 0), "01022101000100")?;
+    is_text(alloc, answered(alloc, 1), "01022101010100")?;
+    let stream = "010221010101010103A501012101010100";
+    is_text(alloc, one_fault(alloc, 1, 1, &[]), stream)?;
+    let function = "010221010101010103A501062101040101A5010C";
+    is_text(alloc, one_fault(alloc, 6, 4, &[12]), function)?;
     let three =
-        b"\x01\x02\x21\x01\x01\x01\x03\x01\x03\xA5\x01\x01\x21\x01\x01\x01\x00\x01\x03\xA5\x01\x06\x21\x01\x03\x01\x02\xA5\x01\x09\xA5\x01\xFF\x01\x03\xA5\x01\x00\x21\x01\x02\x01\x00".as_slice();
-    let sent = spooled(rt.alloc());
-    assert!(rt;
-        matches!(&sent, Ok([none, active, one, other, several]) if none.as_slice() == done
-            && active.as_slice() == late
-            && one.as_slice() == stream
-            && other.as_slice() == function
-            && several.as_slice() == three)
-    );
-}
-
-// S2F44 of a stream with 256 functions.
-fn long_refusal(alloc: Global) -> Result<Vec<u8>, NoMemory> {
-    sent(
-        alloc,
-        &GemReply::S2F44(1, one_stream(alloc, 6, 4, &[12; 256])?),
-    )
+        "010221010101030103A5010121010101000103A501062101030102A50109A501FF0103A501002101020100";
+    is_text(alloc, three_faults(alloc), three)
 }
 
 #[test]
 fn a_refused_stream_lists_each_of_its_functions(rt: HostRuntime) -> Result<(), Fail> {
-    let head = b"\x01\x02\x21\x01\x01\x01\x01\x01\x03\xA5\x01\x06\x21\x01\x04\x02\x01\x00";
-    let want = repeated(rt.alloc(), head, b"\xA5\x01\x0C", 256)?;
-    let sent = long_refusal(rt.alloc())?;
-    assert_eq!(rt; sent.len(), 18 + 3 * 256);
-    assert!(rt; sent.as_slice() == want.as_slice());
+    let head = "010221010101010103A50106210104020100";
+    let want = repeated(rt.alloc(), head, "A5010C", 256)?;
+    let sent = one_fault(rt.alloc(), 6, 4, &[12; 256])?;
+    assert!(rt; sent.len() == 18 + 3 * 256 && sent.as_slice() == want.as_slice());
     Ok(())
 }
 
@@ -306,31 +287,42 @@ fn two_alarms(alloc: Global) -> Result<Listed<AlarmPart>, NoMemory>
     Ok(Listed::from_vec(alarms))
 }
 
-// S5F1, and the two lists of alarms with no alarm and with two.
-fn alarms(alloc: Global) -> Result<[Vec<u8>; 5], NoMemory> {
-    Ok([
-        sent(alloc, &GemReply::S5F1(0x84, 11, text(b"Module down")))?,
-        sent(alloc, &GemReply::S5F6(Listed::new(alloc)))?,
-        sent(alloc, &GemReply::S5F8(Listed::new(alloc)))?,
-        sent(alloc, &GemReply::S5F6(two_alarms(alloc)?))?,
-        sent(alloc, &GemReply::S5F8(two_alarms(alloc)?))?,
-    ])
+// The two lists of alarms, with no alarm and with two.
+fn no_fives(alloc: Global) -> Result<Vec<u8>, NoMemory> {
+    sent(alloc, &GemReply::S5F6(Listed::new(alloc)))
+}
+
+fn no_sevens(alloc: Global) -> Result<Vec<u8>, NoMemory> {
+    sent(alloc, &GemReply::S5F8(Listed::new(alloc)))
+}
+
+fn two_fives(alloc: Global) -> Result<Vec<u8>, NoMemory> {
+    sent(alloc, &GemReply::S5F6(two_alarms(alloc)?))
+}
+
+fn two_sevens(alloc: Global) -> Result<Vec<u8>, NoMemory> {
+    sent(alloc, &GemReply::S5F8(two_alarms(alloc)?))
+}
+
+fn one_alarm(alloc: Global) -> Result<Vec<u8>, NoMemory> {
+    sent(alloc, &GemReply::S5F1(0x84, 11, text(b"Module down")))
 }
 
 #[test]
-fn an_alarm_has_its_code_number_and_text_and_an_unknown_one_no_code(rt: HostRuntime) {
-    let one = b"\x01\x03\x21\x01\x84\xB1\x04\x00\x00\x00\x0B\x41\x0BModule down".as_slice();
-    let none = b"\x01\x00".as_slice();
-    let two =
-        b"\x01\x02\x01\x03\x21\x01\x84\xB1\x04\x00\x00\x00\x0B\x41\x0BModule down\x01\x03\x21\x00\xB1\x04\x00\x00\x00\x63\x41\x00".as_slice();
-    let sent = alarms(rt.alloc());
-    assert!(rt;
-        matches!(&sent, Ok([alarm, no_five, no_seven, five, seven]) if alarm.as_slice() == one
-            && no_five.as_slice() == none
-            && no_seven.as_slice() == none
-            && five.as_slice() == two
-            && seven.as_slice() == two)
-    );
+fn an_alarm_has_its_code_number_and_text_and_an_unknown_one_no_code(
+    rt: HostRuntime,
+) -> Result<(), Fail> {
+    let alloc = rt.alloc();
+    is_text(
+        alloc,
+        one_alarm(alloc),
+        "0103210184B1040000000B410B4D6F64756C6520646F776E",
+    )?;
+    is_text(alloc, no_fives(alloc), "0100")?;
+    is_text(alloc, no_sevens(alloc), "0100")?;
+    let two = "01020103210184B1040000000B410B4D6F64756C6520646F776E01032100B104000000634100";
+    is_text(alloc, two_fives(alloc), two)?;
+    is_text(alloc, two_sevens(alloc), two)
 }
 
 // No reports.
@@ -353,20 +345,12 @@ fn event_on_request(alloc: Global) -> Result<Vec<u8>, NoMemory> {
     sent(alloc, &GemReply::S6F16(1001, no_reports(alloc)))
 }
 
-fn events(alloc: Global) -> Result<[Vec<u8>; 2], NoMemory> {
-    Ok([event(alloc)?, event_on_request(alloc)?])
-}
-
 #[test]
-fn an_event_has_its_note_and_a_report_on_request_has_none(rt: HostRuntime) {
-    let note =
-        b"\x01\x03\xA1\x08\x01\x02\x03\x04\x05\x06\x07\x08\xB1\x04\x00\x00\x03\xE9\x01\x00".as_slice();
-    let none =
-        b"\x01\x03\xA1\x08\x00\x00\x00\x00\x00\x00\x00\x00\xB1\x04\x00\x00\x03\xE9\x01\x00".as_slice();
-    let sent = events(rt.alloc());
-    assert!(rt;
-        matches!(&sent, Ok([event, report]) if event.as_slice() == note && report.as_slice() == none)
-    );
+fn an_event_has_its_note_and_a_report_on_request_has_none(rt: HostRuntime) -> Result<(), Fail> {
+    let note = "0103A1080102030405060708B104000003E90100";
+    is_text(rt.alloc(), event(rt.alloc()), note)?;
+    let none = "0103A1080000000000000000B104000003E90100";
+    is_text(rt.alloc(), event_on_request(rt.alloc()), none)
 }
 
 // A B of 80 bytes.
@@ -423,28 +407,27 @@ fn longest(alloc: Global) -> Result<Vec<u8>, NoMemory> {
     )
 }
 
-// A head, and so many times one item behind it.
-fn repeated(alloc: Global, head: &[u8], one: &[u8], count: usize) -> Result<Vec<u8>, NoMemory> {
-    let mut text = Vec::from_slice(alloc, head)?;
+// A head as hex digits, and so many times these bytes behind it.
+fn behind(alloc: Global, head: &str, one: &[u8], count: usize) -> Result<Vec<u8>, Fail> {
+    let mut text = bytes(alloc, head)?;
     for _ in 0..count {
         text.extend_from_slice(one)?;
     }
     Ok(text)
 }
 
+// Its text: 16 reports of 64 values, each 80 times `x`.
+fn longest_text(alloc: Global) -> Result<Vec<u8>, Fail> {
+    let value = repeated(alloc, "2150", "78", 80)?;
+    let report = behind(alloc, "0102B104FFFFFFFF0140", value.as_slice(), 64)?;
+    let head = "0103A108FFFFFFFFFFFFFFFFB104FFFFFFFF0110";
+    behind(alloc, head, report.as_slice(), 16)
+}
+
 #[test]
 fn an_event_has_16_reports_of_64_values(rt: HostRuntime) -> Result<(), Fail> {
-    let value = repeated(rt.alloc(), b"\x21\x50", b"x", 80)?;
-    let report = repeated(
-        rt.alloc(),
-        b"\x01\x02\xB1\x04\xFF\xFF\xFF\xFF\x01\x40",
-        value.as_slice(),
-        64,
-    )?;
-    let head = b"\x01\x03\xA1\x08\xFF\xFF\xFF\xFF\xFF\xFF\xFF\xFF\xB1\x04\xFF\xFF\xFF\xFF\x01\x10";
-    let want = repeated(rt.alloc(), head, report.as_slice(), 16)?;
+    let want = longest_text(rt.alloc())?;
     let sent = longest(rt.alloc())?;
-    assert_eq!(rt; sent.len(), 20 + 16 * (10 + 64 * 82));
-    assert!(rt; sent.as_slice() == want.as_slice());
+    assert!(rt; sent.len() == 20 + 16 * (10 + 64 * 82) && sent.as_slice() == want.as_slice());
     Ok(())
 }

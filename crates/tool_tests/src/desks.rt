@@ -2,6 +2,7 @@
 
 use gem_ids::{Moment, PortNo};
 use hsms_frame::{Arrival, Bytes, Frame, Header};
+use std::alloc::Global;
 use std::test::Fail;
 use tool_events::{Answer, Desk, Event, MemDesk, PostFault};
 
@@ -25,59 +26,110 @@ fn host_message(text: Vec<u8>) -> Event {
     }
 }
 
+fn answer_text(alloc: Global, answer: &Answer) -> Result<String, Fail> {
+    match answer {
+        Answer::Frame(frame) => Ok(String::from_utf8_lossy(alloc, frame.as_slice())?),
+        other => Ok(format!(in alloc; "{other:?}")?),
+    }
+}
+
+// What a post is answered, as its own line.
+fn posted(alloc: Global, desk: &mut MemDesk, event: Event) -> Result<String, Fail> {
+    match desk.post(AT, event) {
+        Ok(answer) => Ok(format!(in alloc; "{}\n", answer_text(alloc, &answer)?)?),
+        Err(fault) => Ok(format!(in alloc; "{fault:?}\n")?),
+    }
+}
+
+// What each of these posts is answered.
+fn all_posted(alloc: Global, desk: &mut MemDesk, events: Vec<Event>) -> Result<String, Fail> {
+    let mut text = String::new(alloc);
+    for event in events {
+        text.push_str(posted(alloc, desk, event)?.as_str())?;
+    }
+    Ok(text)
+}
+
+// The posts that are recorded, each with its answer.
+fn recorded(alloc: Global, desk: &MemDesk) -> Result<String, Fail> {
+    let mut text = String::new(alloc);
+    for post in desk.posts() {
+        let answer = answer_text(alloc, &post.answer)?;
+        text.push_str(format!(in alloc; "{:?}: {answer}\n", post.event)?.as_str())?;
+    }
+    Ok(text)
+}
+
+// How many posts found the history full or no memory, and the text of the last that found it full.
+fn counts(desk: &MemDesk) -> (u64, u64, u64) {
+    (desk.fulls(), desk.wants(), desk.full_bytes())
+}
+
+// What each of these posts is answered, the posts that are recorded then, and the counts.
+fn told(alloc: Global, mut desk: MemDesk, events: Vec<Event>) -> Result<String, Fail> {
+    let answers = all_posted(alloc, &mut desk, events)?;
+    let recorded = recorded(alloc, &desk)?;
+    let counts = counts(&desk);
+    Ok(format!(in alloc; "{answers}{recorded}{counts:?}")?)
+}
+
+// A desk that gives a session, has to be asked again, and gives a frame.
+fn of_a_frame(alloc: Global) -> Result<MemDesk, Fail> {
+    let frame = Bytes::from_vec(Vec::from_slice(alloc, b"frame")?);
+    let outcomes = vec![in alloc;
+        Ok(Answer::Session(3)),
+        Err(PostFault::Again),
+        Ok(Answer::Frame(frame)),
+    ]?;
+    Ok(MemDesk::new(alloc, outcomes))
+}
+
+// A link comes up, and a frame is wanted twice.
+fn takes(alloc: Global) -> Result<Vec<Event>, Fail> {
+    let take = Event::Take { session: 3 };
+    Ok(vec![in alloc; Event::LinkUp, take, Event::Take { session: 3 }]?)
+}
+
 #[test]
 fn posts_are_answered_from_the_list_and_recorded(rt: HostRuntime) -> Result<(), Fail> {
-    let bytes = Bytes::from_vec(Vec::from_slice(rt.alloc(), b"frame")?);
-    let mut outcomes = Vec::new(rt.alloc());
-    outcomes.push(Ok(Answer::Session(3)))?;
-    outcomes.push(Err(PostFault::Again))?;
-    outcomes.push(Ok(Answer::Frame(bytes)))?;
-    let mut desk = MemDesk::new(rt.alloc(), outcomes);
-    let up = desk.post(AT, Event::LinkUp);
-    assert!(rt; matches!(&up, Ok(Answer::Session(3))));
-    let nothing = desk.post(AT, Event::Take { session: 3 });
-    assert!(rt; matches!(&nothing, Err(PostFault::Again)));
-    let taken = desk.post(AT, Event::Take { session: 3 });
-    assert!(rt;
-        matches!(&taken, Ok(Answer::Frame(frame)) if frame.as_slice() == b"frame".as_slice())
+    let alloc = rt.alloc();
+    assert_eq!(rt;
+        told(alloc, of_a_frame(alloc)?, takes(alloc)?)?.as_str(),
+        "Session(3)\nAgain\nframe\nLinkUp: Session(3)\nTake { session: 3 }: frame\n(0, 0, 0)"
     );
-    let posts = desk.posts();
-    assert_eq!(rt; posts.len(), 2);
-    assert!(rt; matches!(&posts[0].event, Event::LinkUp));
-    assert!(rt;
-        matches!(&posts[1].answer, Answer::Frame(frame) if frame.as_slice() == b"frame".as_slice())
-    );
-    assert_eq!(rt; (desk.fulls(), desk.wants()), (0, 0));
     Ok(())
+}
+
+// A desk that has nothing but this.
+fn of_two(
+    alloc: Global,
+    first: Result<Answer, PostFault>,
+    second: PostFault,
+) -> Result<MemDesk, Fail> {
+    Ok(MemDesk::new(alloc, vec![in alloc; first, Err(second)]?))
 }
 
 #[test]
 fn what_an_event_may_not_have_is_ended(rt: HostRuntime) -> Result<(), Fail> {
-    let mut outcomes = Vec::new(rt.alloc());
-    outcomes.push(Ok(Answer::Done))?;
-    outcomes.push(Err(PostFault::Again))?;
-    let mut desk = MemDesk::new(rt.alloc(), outcomes);
-    let listened = desk.post(AT, Event::Listen);
-    assert!(rt; matches!(&listened, Ok(Answer::Ended)));
-    let up = desk.post(AT, Event::LinkUp);
-    assert!(rt; matches!(&up, Ok(Answer::Ended)));
-    let past_the_list = desk.post(AT, Event::Watch(PortNo(1)));
-    assert!(rt; matches!(&past_the_list, Ok(Answer::Ended)));
+    let alloc = rt.alloc();
+    let mut desk = of_two(alloc, Ok(Answer::Done), PostFault::Again)?;
+    let events = vec![in alloc; Event::Listen, Event::LinkUp, Event::Watch(PortNo(1))]?;
+    let answers = all_posted(alloc, &mut desk, events)?;
+    assert_eq!(rt; answers.as_str(), "Ended\nEnded\nEnded\n");
     Ok(())
+}
+
+// A message of the host comes, and the clock is looked at.
+fn message_and_tick(alloc: Global) -> Result<Vec<Event>, Fail> {
+    let text = Vec::from_slice(alloc, b"abcde")?;
+    Ok(vec![in alloc; host_message(text), Event::Tick]?)
 }
 
 #[test]
 fn the_text_of_the_last_full_post_is_told(rt: HostRuntime) -> Result<(), Fail> {
-    let mut outcomes = Vec::new(rt.alloc());
-    outcomes.push(Err(PostFault::Full(9)))?;
-    outcomes.push(Err(PostFault::NoMemory))?;
-    let mut desk = MemDesk::new(rt.alloc(), outcomes);
-    let text = Vec::from_slice(rt.alloc(), b"abcde")?;
-    let full = desk.post(AT, host_message(text));
-    assert!(rt; matches!(&full, Err(PostFault::Full(9))));
-    let want = desk.post(AT, Event::Tick);
-    assert!(rt; matches!(&want, Err(PostFault::NoMemory)));
-    assert_eq!(rt; (desk.fulls(), desk.wants(), desk.full_bytes()), (1, 1, 5));
-    assert!(rt; desk.posts().is_empty());
+    let alloc = rt.alloc();
+    let desk = of_two(alloc, Err(PostFault::Full(9)), PostFault::NoMemory)?;
+    let told = told(alloc, desk, message_and_tick(alloc)?)?;
+    assert_eq!(rt; told.as_str(), "Full(9)\nNoMemory\n(1, 1, 5)");
     Ok(())
 }

@@ -87,79 +87,122 @@ fn written(alloc: Global, out: &[Arrival]) -> Result<Vec<u8>, Fail> {
     Ok(bytes)
 }
 
-#[test]
-fn frames_arrive_once_and_are_written_again_byte_for_byte(rt: HostRuntime) -> Result<(), Fail> {
-    let alloc = rt.alloc();
+// Whether these are the frames of a select request, of S1F1 with this long text and with its own, and of a select
+// request.
+fn are_four(out: &[Arrival], text: &[u8]) -> bool {
+    out.len() == 4
+        && is_frame(out, 0, select(), &[])
+        && is_frame(out, 1, data(), text)
+        && is_frame(out, 2, data(), &[0xA5, 1, 7])
+        && is_frame(out, 3, select(), &[])
+}
+
+// Whether they arrive so in pieces of so many bytes, where 0 is all, and are written again.
+fn four_arrive(alloc: Global, piece: usize) -> Result<bool, Fail> {
     let text = long_text(alloc)?;
     let stream = joined(alloc, &[&SELECT, &LONG_FRONT, &text, &DATA, &SELECT])?;
-    for piece in [stream.len(), 1, 7, 14] {
-        let out = arrivals(alloc, GREATEST, &stream, piece)?;
-        assert_eq!(rt; out.len(), 4, "in pieces of {piece}");
-        assert!(rt; is_frame(&out, 0, select(), &[]));
-        assert!(rt; is_frame(&out, 1, data(), &text));
-        assert!(rt; is_frame(&out, 2, data(), &[0xA5, 1, 7]));
-        assert!(rt; is_frame(&out, 3, select(), &[]));
-        assert_eq!(rt; written(alloc, &out)?.as_slice(), stream.as_slice());
+    let piece = if piece == 0 { stream.len() } else { piece };
+    let out = arrivals(alloc, GREATEST, &stream, piece)?;
+    Ok(are_four(&out, &text) && written(alloc, &out)?.as_slice() == stream.as_slice())
+}
+
+#[test]
+fn frames_arrive_once_and_are_written_again_byte_for_byte(rt: HostRuntime) -> Result<(), Fail> {
+    for piece in [0, 1, 7, 14] {
+        assert!(rt; four_arrive(rt.alloc(), piece)?, "in pieces of {piece}");
     }
     Ok(())
 }
 
+// Whether these are the frames of a select request and of so many S1F1.
+fn are_select_and_data(out: &[Arrival], count: usize) -> bool {
+    for place in 1..=count {
+        if !is_frame(out, place, data(), &[0xA5, 1, 7]) {
+            return false;
+        }
+    }
+    out.len() == count.saturating_add(1) && is_frame(out, 0, select(), &[])
+}
+
+// Whether two frames arrive with a half of one behind them, and the third with the other half.
+fn half_arrives(alloc: Global) -> Result<[bool; 2], Fail> {
+    let piece = joined(alloc, &[&SELECT, &DATA, &DATA[..8]])?;
+    let mut cutter = Cutter::new(alloc, GREATEST)?;
+    let mut out = Vec::new(alloc);
+    cutter.feed(alloc, &piece, &mut out)?;
+    let are_two = are_select_and_data(&out, 1);
+    cutter.feed(alloc, &DATA[8..], &mut out)?;
+    Ok([are_two, are_select_and_data(&out, 2)])
+}
+
 #[test]
 fn two_frames_and_a_half_in_one_piece(rt: HostRuntime) -> Result<(), Fail> {
-    let piece = joined(rt.alloc(), &[&SELECT, &DATA, &DATA[..8]])?;
-    let mut cutter = Cutter::new(rt.alloc(), GREATEST)?;
-    let mut out = Vec::new(rt.alloc());
-    cutter.feed(rt.alloc(), &piece, &mut out)?;
-    assert_eq!(rt; out.len(), 2);
-    assert!(rt; is_frame(&out, 0, select(), &[]));
-    assert!(rt; is_frame(&out, 1, data(), &[0xA5, 1, 7]));
-    cutter.feed(rt.alloc(), &DATA[8..], &mut out)?;
-    assert_eq!(rt; out.len(), 3);
-    assert!(rt; is_frame(&out, 2, data(), &[0xA5, 1, 7]));
+    assert_eq!(rt; half_arrives(rt.alloc())?, [true, true]);
     Ok(())
+}
+
+// Whether a frame with this header and this length arrives first, whose text is too long.
+fn is_too_long(out: &[Arrival], want: Header, length: u32) -> bool {
+    match out.first() {
+        Some(Arrival::TooLong(header, field)) => *header == want && *field == length,
+        _ => false,
+    }
+}
+
+// Whether a text of five bytes is skipped where four are the most, in pieces of so many bytes, and the next frame
+// arrives.
+fn five_are_skipped(alloc: Global, piece: usize) -> Result<bool, Fail> {
+    let front = [0, 0, 0, 0x0F];
+    let stream = joined(alloc, &[&front, &SELECT[4..], &[9, 9, 9, 9, 9], &DATA])?;
+    let out = arrivals(alloc, 4, &stream, piece)?;
+    let is_next = is_frame(&out, 1, data(), &[0xA5, 1, 7]);
+    Ok(out.len() == 2 && is_too_long(&out, select(), 15) && is_next)
 }
 
 #[test]
 fn a_text_over_the_greatest_is_skipped_and_the_next_frame_arrives(
     rt: HostRuntime,
 ) -> Result<(), Fail> {
-    // A text of five bytes, where four are the most.
-    let front = [0, 0, 0, 0x0F];
-    let stream = joined(rt.alloc(), &[&front, &SELECT[4..], &[9, 9, 9, 9, 9], &DATA])?;
-    for piece in [32, 1] {
-        let out = arrivals(rt.alloc(), 4, &stream, piece)?;
-        assert_eq!(rt; out.len(), 2);
-        let Some(Arrival::TooLong(header, field)) = out.first() else {
-            return Err("no frame that is too long".into());
-        };
-        assert!(rt; *header == select());
-        assert_eq!(rt; *field, 15);
-        assert!(rt; is_frame(&out, 1, data(), &[0xA5, 1, 7]));
-    }
+    let skipped = [
+        five_are_skipped(rt.alloc(), 32)?,
+        five_are_skipped(rt.alloc(), 1)?,
+    ];
+    assert_eq!(rt; skipped, [true, true]);
     Ok(())
+}
+
+// A stream with a length of 9 is told, and so is all that comes behind it; whether only the frame before it arrived.
+fn short_length(alloc: Global) -> Result<([Result<(), CutFault>; 3], bool), Fail> {
+    let piece = joined(alloc, &[&SELECT, &[0, 0, 0, 9, 1, 2]])?;
+    let mut cutter = Cutter::new(alloc, GREATEST)?;
+    let mut out = Vec::new(alloc);
+    let answers = [
+        cutter.feed(alloc, &piece, &mut out),
+        cutter.feed(alloc, &SELECT, &mut out),
+        cutter.feed(alloc, &[], &mut out),
+    ];
+    Ok((answers, are_select_and_data(&out, 0)))
 }
 
 #[test]
 fn a_short_length_is_told_for_good(rt: HostRuntime) -> Result<(), Fail> {
-    let piece = joined(rt.alloc(), &[&SELECT, &[0, 0, 0, 9, 1, 2]])?;
-    let mut cutter = Cutter::new(rt.alloc(), GREATEST)?;
-    let mut out = Vec::new(rt.alloc());
-    for piece in [piece.as_slice(), &SELECT, &[]] {
-        let answer = cutter.feed(rt.alloc(), piece, &mut out);
-        assert_eq!(rt; answer, Err(CutFault::ShortLength(9)));
-        assert_eq!(rt; out.len(), 1);
-    }
-    assert!(rt; is_frame(&out, 0, select(), &[]));
+    let short = Err(CutFault::ShortLength(9));
+    assert_eq!(rt; short_length(rt.alloc())?, ([short; 3], true));
     Ok(())
+}
+
+// S1F1 with its text, written.
+fn data_written(alloc: Global) -> Result<Vec<u8>, Fail> {
+    let text = Bytes::from_vec(Vec::from_slice(alloc, &[0xA5, 1, 7])?);
+    let header = data();
+    let mut out = Vec::new(alloc);
+    write_frame(&Frame { header, text }, &mut out)?;
+    Ok(out)
 }
 
 #[test]
 fn frames_are_written_with_the_most_significant_byte_first(rt: HostRuntime) -> Result<(), Fail> {
     assert_eq!(rt; write_header(select()), SELECT);
-    let text = Bytes::from_vec(Vec::from_slice(rt.alloc(), &[0xA5, 1, 7])?);
-    let header = data();
-    let mut out = Vec::new(rt.alloc());
-    write_frame(&Frame { header, text }, &mut out)?;
-    assert_eq!(rt; out.as_slice(), DATA.as_slice());
+    assert_eq!(rt; data_written(rt.alloc())?.as_slice(), DATA.as_slice());
     Ok(())
 }

@@ -8,138 +8,98 @@ ghost use Rattle.secs_items.specs.View.{view};
 use gem_ids::Text80;
 use secs_items::{Bytes, Item, ItemFault, Items, NoMemory, U16s, decode, encode, read_one};
 use std::alloc::Global;
+use std::test::Fail;
+use test_lines::{Subject, answers, bytes, word, words};
+
+// What the bytes of a line are asked for, which stand as hex digits.
+#[derive(Clone, Copy)]
+enum Telling {
+    // The spelling that the tool sends of an item.
+    Plain,
+    // The fault that is told.
+    Fault,
+    // The id that an item is.
+    Id,
+    // The text that an item is.
+    Text,
+    // The elements of an I2 or U4 of six bytes.
+    Elements,
+    // The item that a text is from its first byte to its last.
+    Whole,
+}
+
+impl Subject for Telling {
+    fn answer(&mut self, alloc: Global, said: &str) -> Result<String, Fail> {
+        let spelled = bytes(alloc, said)?;
+        match self {
+            Telling::Plain => plain(alloc, spelled.as_slice()),
+            Telling::Fault => fault(alloc, spelled.as_slice()),
+            Telling::Id => id(alloc, spelled.as_slice()),
+            Telling::Text => text(alloc, spelled.as_slice()),
+            Telling::Elements => elements(alloc, spelled.as_slice()),
+            Telling::Whole => whole(alloc, spelled.as_slice()),
+        }
+    }
+}
 
 // Spellings, after the item header and the item formats of SEMI E5, and the spelling that the tool sends of each item.
-const SPELLINGS: [(&[u8], &[u8]); 37] = [
-    (b"\x01\x00", b"\x01\x00"),
-    (b"\x02\x00\x00", b"\x01\x00"),
-    (b"\x03\x00\x00\x00", b"\x01\x00"),
-    (
-        b"\x01\x02\x41\x01\x41\xA5\x01\x05",
-        b"\x01\x02\x41\x01\x41\xA5\x01\x05",
-    ),
-    (b"\x01\x01\x01\x01\x01\x00", b"\x01\x01\x01\x01\x01\x00"),
-    (b"\x02\x00\x01\x01\x00", b"\x01\x01\x01\x00"),
-    (
-        b"\x01\x01\x01\x01\x01\x01\x01\x01\x01\x01\x01\x01\x01\x01\x01\x01\x01\x01\x01\x01\x01\x01\x01\x01\x01\x01\x01\x01\x01\x01\x01\x00",
-        b"\x01\x01\x01\x01\x01\x01\x01\x01\x01\x01\x01\x01\x01\x01\x01\x01\x01\x01\x01\x01\x01\x01\x01\x01\x01\x01\x01\x01\x01\x01\x01\x00",
-    ),
-    (b"\x21\x00", b"\x21\x00"),
-    (b"\x21\x03\x00\x80\xFF", b"\x21\x03\x00\x80\xFF"),
-    (b"\x22\x00\x01\x7F", b"\x21\x01\x7F"),
-    (b"\x25\x00", b"\x25\x00"),
-    (b"\x25\x02\x01\x00", b"\x25\x02\x01\x00"),
-    (b"\x25\x03\x02\x00\xFF", b"\x25\x03\x01\x00\x01"),
-    (b"\x41\x00", b"\x41\x00"),
-    (b"\x41\x01\x41", b"\x41\x01\x41"),
-    (b"\x42\x00\x01\x41", b"\x41\x01\x41"),
-    (b"\x43\x00\x00\x01\x41", b"\x41\x01\x41"),
-    (b"\x41\x02\x00\x7F", b"\x41\x02\x00\x7F"),
-    (b"\x65\x00", b"\x65\x00"),
-    (b"\x65\x03\x80\x7F\xFF", b"\x65\x03\x80\x7F\xFF"),
-    (b"\x69\x02\xFF\xFE", b"\x69\x02\xFF\xFE"),
-    (b"\x69\x04\x7F\xFF\x80\x00", b"\x69\x04\x7F\xFF\x80\x00"),
-    (b"\x6A\x00\x02\x00\x01", b"\x69\x02\x00\x01"),
-    (b"\x71\x04\xFF\xFF\xFF\xFD", b"\x71\x04\xFF\xFF\xFF\xFD"),
-    (b"\x71\x04\x80\x00\x00\x00", b"\x71\x04\x80\x00\x00\x00"),
-    (
-        b"\x61\x08\xFF\xFF\xFF\xFF\xFF\xFF\xFF\xFC",
-        b"\x61\x08\xFF\xFF\xFF\xFF\xFF\xFF\xFF\xFC",
-    ),
-    (
-        b"\x61\x08\x7F\xFF\xFF\xFF\xFF\xFF\xFF\xFF",
-        b"\x61\x08\x7F\xFF\xFF\xFF\xFF\xFF\xFF\xFF",
-    ),
-    (b"\xA5\x02\x00\xFF", b"\xA5\x02\x00\xFF"),
-    (b"\xA9\x02\x01\x02", b"\xA9\x02\x01\x02"),
-    (b"\xA9\x04\xFF\xFF\x00\x00", b"\xA9\x04\xFF\xFF\x00\x00"),
-    (b"\xB1\x04\x00\x00\x00\x07", b"\xB1\x04\x00\x00\x00\x07"),
-    (b"\xB1\x04\xFF\xFF\xFF\xFF", b"\xB1\x04\xFF\xFF\xFF\xFF"),
-    (
-        b"\xB3\x00\x00\x04\x00\x00\x01\x00",
-        b"\xB1\x04\x00\x00\x01\x00",
-    ),
-    (
-        b"\xA1\x08\x00\x00\x00\x00\x00\x00\x00\x09",
-        b"\xA1\x08\x00\x00\x00\x00\x00\x00\x00\x09",
-    ),
-    (
-        b"\xA1\x08\xFF\xFF\xFF\xFF\xFF\xFF\xFF\xFF",
-        b"\xA1\x08\xFF\xFF\xFF\xFF\xFF\xFF\xFF\xFF",
-    ),
-    (b"\xA3\x00\x00\x00", b"\xA1\x00"),
-    (
-        b"\x01\x02\x41\x06\x47\x45\x4D\x33\x30\x30\x41\x06\x31\x2E\x30\x2E\x30\x30",
-        b"\x01\x02\x41\x06\x47\x45\x4D\x33\x30\x30\x41\x06\x31\x2E\x30\x2E\x30\x30",
-    ),
-];
+#[test]
+fn each_spelling_is_read_and_sent_in_the_plain_one(rt: HostRuntime) -> Result<(), Fail> {
+    answers(
+        rt.alloc(),
+        &mut Telling::Plain,
+        "
+        0100 = 0100
+        020000 = 0100
+        03000000 = 0100
+        0102410141A50105 = 0102410141A50105
+        010101010100 = 010101010100
+        0200010100 = 01010100
+        0101010101010101010101010101010101010101010101010101010101010100 = \
+            0101010101010101010101010101010101010101010101010101010101010100
+        2100 = 2100
+        21030080FF = 21030080FF
+        2200017F = 21017F
+        2500 = 2500
+        25020100 = 25020100
+        25030200FF = 2503010001
+        4100 = 4100
+        410141 = 410141
+        42000141 = 410141
+        4300000141 = 410141
+        4102007F = 4102007F
+        6500 = 6500
+        6503807FFF = 6503807FFF
+        6902FFFE = 6902FFFE
+        69047FFF8000 = 69047FFF8000
+        6A00020001 = 69020001
+        7104FFFFFFFD = 7104FFFFFFFD
+        710480000000 = 710480000000
+        6108FFFFFFFFFFFFFFFC = 6108FFFFFFFFFFFFFFFC
+        61087FFFFFFFFFFFFFFF = 61087FFFFFFFFFFFFFFF
+        A50200FF = A50200FF
+        A9020102 = A9020102
+        A904FFFF0000 = A904FFFF0000
+        B10400000007 = B10400000007
+        B104FFFFFFFF = B104FFFFFFFF
+        B300000400000100 = B10400000100
+        A1080000000000000009 = A1080000000000000009
+        A108FFFFFFFFFFFFFFFF = A108FFFFFFFFFFFFFFFF
+        A3000000 = A100
+        0102410647454D3330304106312E302E3030 = 0102410647454D3330304106312E302E3030
+        ",
+    )
+}
 
-// Bytes that begin with no item, and the fault that is told.
-const FAULTS: [(&[u8], ItemFault); 22] = [
-    (b"", ItemFault::Truncated(0)),
-    (b"\x41", ItemFault::Truncated(1)),
-    (b"\x42\x00", ItemFault::Truncated(2)),
-    (b"\x41\x02\x41", ItemFault::Truncated(3)),
-    (b"\x01\x02\x41\x01\x41", ItemFault::Truncated(5)),
-    (b"\x43\xFF\xFF\xFF\x41\x41\x41\x41", ItemFault::Truncated(8)),
-    (b"\x03\xFF\xFF\xFF\x41\x00", ItemFault::Truncated(6)),
-    (b"\x40", ItemFault::BadLengthBytes(0)),
-    (b"\x80", ItemFault::BadLengthBytes(0)),
-    (b"\x01\x02\x41\x00\x40", ItemFault::BadLengthBytes(4)),
-    (
-        b"\x01\x01\x01\x01\x01\x01\x01\x01\x01\x01\x01\x01\x01\x01\x01\x01\x01\x01\x01\x01\x01\x01\x01\x01\x01\x01\x01\x01\x01\x01\x01\x01\x00",
-        ItemFault::BadLengthBytes(32),
-    ),
-    (b"\x81\x00", ItemFault::BadCode(0, 32)),
-    (b"\x01\x02\xA5\x01\x07\x45", ItemFault::BadCode(5, 17)),
-    (b"\xA9\x01\x01", ItemFault::BadWidth(0)),
-    (b"\xA9\x01", ItemFault::BadWidth(0)),
-    (b"\x71\x02\x00\x00", ItemFault::BadWidth(0)),
-    (
-        b"\x01\x02\xA5\x01\x07\x61\x04\x00\x00\x00\x00",
-        ItemFault::BadWidth(5),
-    ),
-    (b"\x41\x01\x80", ItemFault::BadAscii(2)),
-    (b"\x41\x03\x41\x80\x81", ItemFault::BadAscii(3)),
-    (b"\x41\x05\xFF", ItemFault::BadAscii(2)),
-    (
-        b"\x01\x01\x01\x01\x01\x01\x01\x01\x01\x01\x01\x01\x01\x01\x01\x01\x01\x01\x01\x01\x01\x01\x01\x01\x01\x01\x01\x01\x01\x01\x01\x01\x01\x00",
-        ItemFault::TooDeep(32),
-    ),
-    (
-        b"\x01\x01\x01\x01\x01\x01\x01\x01\x01\x01\x01\x01\x01\x01\x01\x01\x01\x01\x01\x01\x01\x01\x01\x01\x01\x01\x01\x01\x01\x01\x01\x01\x01",
-        ItemFault::TooDeep(32),
-    ),
-];
-
-// Items, and the ids that they are.
-const IDS: [(&[u8], Option<u32>); 12] = [
-    (b"\xA5\x01\xFF", Some(255)),
-    (b"\xB1\x04\xFF\xFF\xFF\xFF", Some(4_294_967_295)),
-    (b"\xA1\x08\x00\x00\x00\x01\x00\x00\x00\x00", None),
-    (b"\x65\x01\x7F", Some(127)),
-    (b"\x65\x01\xFF", None),
-    (b"\x69\x02\x01\x00", Some(256)),
-    (b"\x71\x04\x00\x01\x00\x00", Some(65_536)),
-    (b"\x61\x08\x00\x00\x00\x00\x00\x00\x00\x05", Some(5)),
-    (b"\xA9\x02\x00\x07", Some(7)),
-    (b"\xA5\x02\x01\x02", None),
-    (b"\xA5\x00", None),
-    (b"\x41\x01\x31", None),
-];
-
-// Items, and the texts that they are.
-const TEXTS: [(&[u8], Option<&[u8]>); 6] = [
-    (b"\x41\x02\x20\x7E", Some(b" ~")),
-    (b"\x41\x00", Some(b"")),
-    (b"\x41\x01\x1F", None),
-    (b"\x41\x01\x7F", None),
-    (b"\x21\x01\x41", None),
-    (
-        b"\x41\x51\x41\x41\x41\x41\x41\x41\x41\x41\x41\x41\x41\x41\x41\x41\x41\x41\x41\x41\x41\x41\x41\x41\x41\x41\x41\x41\x41\x41\x41\x41\x41\x41\x41\x41\x41\x41\x41\x41\x41\x41\x41\x41\x41\x41\x41\x41\x41\x41\x41\x41\x41\x41\x41\x41\x41\x41\x41\x41\x41\x41\x41\x41\x41\x41\x41\x41\x41\x41\x41\x41\x41\x41\x41\x41\x41\x41\x41\x41\x41\x41\x41",
-        None,
-    ),
-];
+// The spelling that is sent of a copy of the item, which one more byte follows.
+fn plain(alloc: Global, spelled: &[u8]) -> Result<String, Fail> {
+    let followed = followed(alloc, spelled)?;
+    let (item, used) = decode(alloc, followed.as_slice())?;
+    if used != spelled.len() {
+        return Err(Fail::new(format_args!("an item of {used} bytes")));
+    }
+    Ok(hex::encode_upper(alloc, copied(alloc, &item)?.as_slice())?)
+}
 
 // These bytes, and one more.
 fn followed(alloc: Global, spelled: &[u8]) -> Result<Vec<u8>, NoMemory> {
@@ -158,27 +118,26 @@ fn copied(alloc: Global, item: &Item) -> Result<Vec<u8>, NoMemory>
     Ok(out)
 }
 
-// Whether an item that one more byte follows is read whole, and its copy is written so.
-fn is_sent_as(alloc: Global, spelled: &[u8], plain: &[u8]) -> Result<bool, ItemFault> {
-    let bytes = followed(alloc, spelled)?;
-    let (item, used) = decode(alloc, bytes.as_slice())?;
-    let out = copied(alloc, &item)?;
-    Ok(used == spelled.len() && out.as_slice() == plain)
+// A line is the head of a B or of a list, and how many bytes or elements are behind it.
+#[derive(Drop)]
+enum Long {
+    Binary,
+    List,
 }
 
-// The place of the first spelling of which that is not so.
-fn false_spelling(alloc: Global, spellings: &[(&[u8], &[u8])]) -> Option<usize> {
-    for (place, (spelled, plain)) in spellings.iter().enumerate() {
-        if is_sent_as(alloc, spelled, plain) != Ok(true) {
-            return Some(place);
-        }
+impl Subject for Long {
+    // Whether it is read, and written again.
+    fn answer(&mut self, alloc: Global, said: &str) -> Result<String, Fail> {
+        let words = words(alloc, said)?;
+        let head = bytes(alloc, word(&words, 0)?)?;
+        let count = word(&words, 1)?.parse::<usize>()?;
+        let spelled = match self {
+            Long::Binary => binary(alloc, head.as_slice(), count)?,
+            Long::List => numbers(alloc, head.as_slice(), count)?,
+        };
+        let is_there_and_back = is_there_and_back(alloc, spelled.as_slice(), count)?;
+        Ok(format!(in alloc; "{is_there_and_back}")?)
     }
-    None
-}
-
-#[test]
-fn each_spelling_is_read_and_sent_in_the_plain_one(rt: HostRuntime) {
-    assert_eq!(rt; false_spelling(rt.alloc(), &SPELLINGS), None);
 }
 
 // A B of so many bytes, behind this head.
@@ -216,47 +175,28 @@ fn is_there_and_back(alloc: Global, spelled: &[u8], count: usize) -> Result<bool
     Ok(used == spelled.len() && size(&item) == Some(count) && written.as_slice() == spelled)
 }
 
-// Heads of a B, and of a list, and so many bytes or elements.
-const BINARIES: [(&[u8], usize); 4] = [
-    (b"\x21\xFF", 255),
-    (b"\x22\x01\x00", 256),
-    (b"\x22\xFF\xFF", 65_535),
-    (b"\x23\x01\x00\x00", 65_536),
-];
-
-const LISTS: [(&[u8], usize); 4] = [
-    (b"\x01\xFF", 255),
-    (b"\x02\x01\x00", 256),
-    (b"\x02\x02\x58", 600),
-    (b"\x03\x01\x00\x00", 65_536),
-];
-
-// The first count at which a B is not read and written.
-fn false_binary(alloc: Global, heads: &[(&[u8], usize)]) -> Result<Option<usize>, NoMemory> {
-    for (head, count) in heads {
-        let spelled = binary(alloc, head, *count)?;
-        if is_there_and_back(alloc, spelled.as_slice(), *count) != Ok(true) {
-            return Ok(Some(*count));
-        }
-    }
-    Ok(None)
-}
-
-// The same, of a list.
-fn false_list(alloc: Global, heads: &[(&[u8], usize)]) -> Result<Option<usize>, NoMemory> {
-    for (head, count) in heads {
-        let spelled = numbers(alloc, head, *count)?;
-        if is_there_and_back(alloc, spelled.as_slice(), *count) != Ok(true) {
-            return Ok(Some(*count));
-        }
-    }
-    Ok(None)
-}
-
 #[test]
-fn long_items_are_read_and_written(rt: HostRuntime) {
-    assert_eq!(rt; false_binary(rt.alloc(), &BINARIES), Ok(None));
-    assert_eq!(rt; false_list(rt.alloc(), &LISTS), Ok(None));
+fn long_items_are_read_and_written(rt: HostRuntime) -> Result<(), Fail> {
+    answers(
+        rt.alloc(),
+        &mut Long::Binary,
+        "
+        21FF 255 = true
+        220100 256 = true
+        22FFFF 65535 = true
+        23010000 65536 = true
+        ",
+    )?;
+    answers(
+        rt.alloc(),
+        &mut Long::List,
+        "
+        01FF 255 = true
+        020100 256 = true
+        020258 600 = true
+        03010000 65536 = true
+        ",
+    )
 }
 
 fn ascii(alloc: Global, text: &[u8]) -> Result<Item, NoMemory>
@@ -275,11 +215,56 @@ fn model_and_revision(alloc: Global) -> Result<Vec<u8>, NoMemory> {
     Ok(out)
 }
 
+// The same, as hex digits.
+fn told(alloc: Global) -> Result<String, Fail> {
+    Ok(hex::encode_upper(alloc, model_and_revision(alloc)?.as_slice())?)
+}
+
 #[test]
-fn a_list_of_two_texts_is_appended(rt: HostRuntime) {
-    let want = b"\xEE\x01\x02\x41\x06GEM300\x41\x061.0.00";
-    let written = model_and_revision(rt.alloc());
-    assert!(rt; matches!(&written, Ok(bytes) if bytes.as_slice() == want.as_slice()));
+fn a_list_of_two_texts_is_appended(rt: HostRuntime) -> Result<(), Fail> {
+    let want = "EE0102410647454D3330304106312E302E3030";
+    assert_eq!(rt; told(rt.alloc())?.as_str(), want);
+    Ok(())
+}
+
+// Bytes that begin with no item, and the fault that is told.
+#[test]
+fn the_fault_of_the_least_place_is_told(rt: HostRuntime) -> Result<(), Fail> {
+    answers(
+        rt.alloc(),
+        &mut Telling::Fault,
+        "
+        - = Truncated(0)
+        41 = Truncated(1)
+        4200 = Truncated(2)
+        410241 = Truncated(3)
+        0102410141 = Truncated(5)
+        43FFFFFF41414141 = Truncated(8)
+        03FFFFFF4100 = Truncated(6)
+        40 = BadLengthBytes(0)
+        80 = BadLengthBytes(0)
+        0102410040 = BadLengthBytes(4)
+        010101010101010101010101010101010101010101010101010101010101010100 = BadLengthBytes(32)
+        8100 = BadCode(0, 32)
+        0102A5010745 = BadCode(5, 17)
+        A90101 = BadWidth(0)
+        A901 = BadWidth(0)
+        71020000 = BadWidth(0)
+        0102A50107610400000000 = BadWidth(5)
+        410180 = BadAscii(2)
+        4103418081 = BadAscii(3)
+        4105FF = BadAscii(2)
+        01010101010101010101010101010101010101010101010101010101010101010100 = TooDeep(32)
+        010101010101010101010101010101010101010101010101010101010101010101 = TooDeep(32)
+        ",
+    )
+}
+
+fn fault(alloc: Global, bytes: &[u8]) -> Result<String, Fail> {
+    match fault_of(alloc, bytes) {
+        Some(fault) => Ok(format!(in alloc; "{fault:?}")?),
+        None => Ok(format!(in alloc; "none")?),
+    }
 }
 
 // The fault of bytes; none where an item is read.
@@ -290,44 +275,36 @@ fn fault_of(alloc: Global, bytes: &[u8]) -> Option<ItemFault> {
     }
 }
 
-// The place of the first bytes that have another fault.
-fn false_fault(alloc: Global, faults: &[(&[u8], ItemFault)]) -> Option<usize> {
-    for (place, (bytes, want)) in faults.iter().enumerate() {
-        if fault_of(alloc, bytes) != Some(*want) {
-            return Some(place);
-        }
-    }
-    None
-}
-
-#[test]
-fn the_fault_of_the_least_place_is_told(rt: HostRuntime) {
-    assert_eq!(rt; false_fault(rt.alloc(), &FAULTS), None);
-}
-
-#[test]
-fn a_fault_is_printed_with_its_place(rt: HostRuntime) {
-    for (fault, want) in [
-        (
-            ItemFault::Truncated(3),
-            "the bytes end at 3, within the item",
-        ),
-        (ItemFault::BadLengthBytes(4), "no length bytes at 4"),
-        (ItemFault::BadCode(5, 32), "format code 32 at 5"),
-        (
-            ItemFault::BadWidth(6),
-            "a length that does not fit the elements at 6",
-        ),
-        (ItemFault::BadAscii(7), "a byte over 127 at 7"),
-        (ItemFault::TooDeep(32), "a list inside 16 lists at 32"),
-        (ItemFault::NoMemory, "out of memory"),
+// Faults as they are printed, each in its line.
+fn printed(alloc: Global) -> Result<String, Fail> {
+    let mut text = String::new(alloc);
+    for fault in [
+        ItemFault::Truncated(3),
+        ItemFault::BadLengthBytes(4),
+        ItemFault::BadCode(5, 32),
+        ItemFault::BadWidth(6),
+        ItemFault::BadAscii(7),
+        ItemFault::TooDeep(32),
+        ItemFault::NoMemory,
     ] {
-        let printed = format!(in rt.alloc(); "{fault}");
-        assert!(rt;
-            matches!(&printed, Ok(text) if text.as_str() == want),
-            "at {want}"
-        );
+        text.push_str(format!(in alloc; "{fault}\n")?.as_str())?;
     }
+    Ok(text)
+}
+
+const PRINTED: &str = "the bytes end at 3, within the item
+no length bytes at 4
+format code 32 at 5
+a length that does not fit the elements at 6
+a byte over 127 at 7
+a list inside 16 lists at 32
+out of memory
+";
+
+#[test]
+fn a_fault_is_printed_with_its_place(rt: HostRuntime) -> Result<(), Fail> {
+    assert_eq!(rt; printed(rt.alloc())?.as_str(), PRINTED);
+    Ok(())
 }
 
 // Codes that are formats.
@@ -357,110 +334,123 @@ fn a_code_that_is_no_format_is_told(rt: HostRuntime) {
     assert_eq!(rt; false_code(rt.alloc(), &FORMATS), None);
 }
 
-// Whether bytes begin with an item that is this id, or none.
-fn is_id(alloc: Global, bytes: &[u8], want: Option<u32>) -> bool {
-    match &decode(alloc, bytes) {
-        Ok((item, _)) => item.as_id() == want,
-        Err(_) => false,
+#[test]
+fn an_id_is_an_integer_of_one_element_that_fits_32_bits(rt: HostRuntime) -> Result<(), Fail> {
+    answers(
+        rt.alloc(),
+        &mut Telling::Id,
+        "
+        A501FF = Some(255)
+        B104FFFFFFFF = Some(4294967295)
+        A1080000000100000000 = None
+        65017F = Some(127)
+        6501FF = None
+        69020100 = Some(256)
+        710400010000 = Some(65536)
+        61080000000000000005 = Some(5)
+        A9020007 = Some(7)
+        A5020102 = None
+        A500 = None
+        410131 = None
+        ",
+    )
+}
+
+fn id(alloc: Global, bytes: &[u8]) -> Result<String, Fail> {
+    let (item, _) = decode(alloc, bytes)?;
+    Ok(format!(in alloc; "{:?}", item.as_id())?)
+}
+
+#[test]
+fn a_text_is_ascii_that_prints(rt: HostRuntime) -> Result<(), Fail> {
+    answers(
+        rt.alloc(),
+        &mut Telling::Text,
+        "
+        4102207E = ' ~'
+        4100 = ''
+        41011F = none
+        41017F = none
+        210141 = none
+        415141414141414141414141414141414141414141414141414141414141414141414141414141414141414141414141414141\
+            4141414141414141414141414141414141414141414141414141414141414141 = none
+        ",
+    )
+}
+
+fn text(alloc: Global, bytes: &[u8]) -> Result<String, Fail> {
+    let (item, _) = decode(alloc, bytes)?;
+    quoted(alloc, item.as_text())
+}
+
+fn quoted(alloc: Global, text: Option<Text80>) -> Result<String, Fail> {
+    let Some(text) = text else {
+        return Ok(format!(in alloc; "none")?);
+    };
+    let text = String::from_utf8_lossy(alloc, text.as_bytes())?;
+    Ok(format!(in alloc; "'{text}'")?)
+}
+
+#[test]
+fn numbers_are_twos_complement_and_the_most_significant_byte_comes_first(
+    rt: HostRuntime,
+) -> Result<(), Fail> {
+    answers(
+        rt.alloc(),
+        &mut Telling::Elements,
+        "
+        6904FFFE0102 = I2 [-2, 258]
+        B10480000001 = U4 [2147483649]
+        ",
+    )
+}
+
+fn elements(alloc: Global, bytes: &[u8]) -> Result<String, Fail> {
+    let (item, used) = decode(alloc, bytes)?;
+    if used != 6 {
+        return Err(Fail::new(format_args!("an item of {used} bytes")));
+    }
+    numbers_text(alloc, &item)
+}
+
+fn numbers_text(alloc: Global, item: &Item) -> Result<String, Fail> {
+    match item {
+        Item::I2(numbers) => Ok(format!(in alloc; "I2 {:?}", numbers.as_slice())?),
+        Item::U4(numbers) => Ok(format!(in alloc; "U4 {:?}", numbers.as_slice())?),
+        _ => Err(Fail::new("no I2 or U4")),
     }
 }
 
-// The place of the first item that is another id.
-fn false_id(alloc: Global, items: &[(&[u8], Option<u32>)]) -> Option<usize> {
-    for (place, (bytes, want)) in items.iter().enumerate() {
-        if !is_id(alloc, bytes, *want) {
-            return Some(place);
+#[test]
+fn a_text_is_one_item_from_its_first_byte_to_its_last(rt: HostRuntime) -> Result<(), Fail> {
+    answers(
+        rt.alloc(),
+        &mut Telling::Whole,
+        "
+        0101A50107 = a list of 1
+        # no bytes, a byte behind an item, a second item, an item that is cut off, and a fault
+        - = none
+        21010000 = none
+        01000100 = none
+        010121 = none
+        410180 = none
+        ",
+    )
+}
+
+fn whole(alloc: Global, text: &[u8]) -> Result<String, Fail> {
+    let item = read_one(alloc, text)?;
+    item_text(alloc, item.as_ref())
+}
+
+fn item_text(alloc: Global, item: Option<&Item>) -> Result<String, Fail> {
+    match item {
+        Some(Item::List(items)) => {
+            Ok(format!(in alloc; "a list of {}", items.as_slice().len())?)
         }
+        Some(_) => Ok(format!(in alloc; "an item")?),
+        None => Ok(format!(in alloc; "none")?),
     }
-    None
-}
-
-#[test]
-fn an_id_is_an_integer_of_one_element_that_fits_32_bits(rt: HostRuntime) {
-    assert_eq!(rt; false_id(rt.alloc(), &IDS), None);
-}
-
-// Whether a text is the one that is wanted, or is none where none is.
-fn is_same(text: Option<Text80>, want: Option<&[u8]>) -> bool {
-    match (&text, want) {
-        (Some(text), Some(want)) => text.as_bytes() == want,
-        (None, None) => true,
-        _ => false,
-    }
-}
-
-// Whether bytes begin with an item that is this text, or none.
-fn is_text(alloc: Global, bytes: &[u8], want: Option<&[u8]>) -> bool {
-    match &decode(alloc, bytes) {
-        Ok((item, _)) => is_same(item.as_text(), want),
-        Err(_) => false,
-    }
-}
-
-// The place of the first item that is another text.
-fn false_text(alloc: Global, items: &[(&[u8], Option<&[u8]>)]) -> Option<usize> {
-    for (place, (bytes, want)) in items.iter().enumerate() {
-        if !is_text(alloc, bytes, *want) {
-            return Some(place);
-        }
-    }
-    None
-}
-
-#[test]
-fn a_text_is_ascii_that_prints(rt: HostRuntime) {
-    assert_eq!(rt; false_text(rt.alloc(), &TEXTS), None);
-}
-
-// Whether six bytes are an I2 of these numbers.
-fn is_signed(alloc: Global, bytes: &[u8], want: &[i16]) -> bool {
-    match &decode(alloc, bytes) {
-        Ok((Item::I2(numbers), 6)) => numbers.as_slice() == want,
-        _ => false,
-    }
-}
-
-// Whether six bytes are a U4 of these numbers.
-fn is_unsigned(alloc: Global, bytes: &[u8], want: &[u32]) -> bool {
-    match &decode(alloc, bytes) {
-        Ok((Item::U4(numbers), 6)) => numbers.as_slice() == want,
-        _ => false,
-    }
-}
-
-#[test]
-fn numbers_are_twos_complement_and_the_most_significant_byte_comes_first(rt: HostRuntime) {
-    let alloc = rt.alloc();
-    assert!(rt; is_signed(alloc, b"\x69\x04\xFF\xFE\x01\x02", &[-2, 258]));
-    assert!(rt; is_unsigned(alloc, b"\xB1\x04\x80\x00\x00\x01", &[2_147_483_649]));
-}
-
-// Whether a text is one list of one item.
-fn is_list_of_one(alloc: Global, text: &[u8]) -> bool {
-    match &read_one(alloc, text) {
-        Ok(Some(Item::List(items))) => items.as_slice().len() == 1,
-        _ => false,
-    }
-}
-
-// Whether a text is no item, and not for want of memory.
-fn is_no_item(alloc: Global, text: &[u8]) -> bool {
-    match &read_one(alloc, text) {
-        Ok(None) => true,
-        _ => false,
-    }
-}
-
-#[test]
-fn a_text_is_one_item_from_its_first_byte_to_its_last(rt: HostRuntime) {
-    let alloc = rt.alloc();
-    assert!(rt; is_list_of_one(alloc, b"\x01\x01\xA5\x01\x07"));
-    // no bytes, a byte behind an item, a second item, an item that is cut off, and a fault
-    assert!(rt; is_no_item(alloc, b""));
-    assert!(rt; is_no_item(alloc, b"\x21\x01\x00\x00"));
-    assert!(rt; is_no_item(alloc, b"\x01\x00\x01\x00"));
-    assert!(rt; is_no_item(alloc, b"\x01\x01\x21"));
-    assert!(rt; is_no_item(alloc, b"\x41\x01\x80"));
 }
 
 // Lists and elements made of vectors, and the vectors taken out of them.

@@ -2,37 +2,83 @@
 
 use outside::{Failed, FileSource, MemSink, MemSource, Sink, Source, StdinSource, StdoutSink};
 use std::alloc::Global;
-use std::fs;
+use std::fs::{self, Files};
 use std::test::Fail;
+use test_lines::{Subject, answers, small, word, words};
 
+// A source, and a buffer of four bytes that it is read to.
+#[derive(Drop)]
+struct Reads {
+    source: MemSource,
+    buffer: [u8; 4],
+}
+
+// Says the lines of a text to a source of these bytes, whose reads of these numbers fail.
+fn source_answers(alloc: Global, source: MemSource, text: &str) -> Result<(), Fail> {
+    let buffer = [0; 4];
+    answers(alloc, &mut Reads { source, buffer }, text)
+}
+
+impl Subject for Reads {
+    // So many bytes are read, which are answered, and the whole buffer behind them; what is left; the faults and ends.
+    fn answer(&mut self, alloc: Global, said: &str) -> Result<String, Fail> {
+        let words = words(alloc, said)?;
+        match word(&words, 0)? {
+            "read" => self.read(alloc, small(&words, 1)? as usize),
+            "left" => Ok(String::from_utf8_lossy(alloc, self.source.left())?),
+            _ => {
+                let (faults, ends) = (self.source.faults(), self.source.ends());
+                Ok(format!(in alloc; "{faults} {ends}")?)
+            }
+        }
+    }
+}
+
+impl Reads {
+    fn read(&mut self, alloc: Global, most: usize) -> Result<String, Fail> {
+        let Some(front) = self.buffer.get_mut(..most) else {
+            return Err(Fail::new("a buffer of four bytes"));
+        };
+        let count = self.source.read(front);
+        let buffer = hex::encode_upper(alloc, self.buffer.as_slice())?;
+        Ok(format!(in alloc; "{count:?} {buffer}")?)
+    }
+}
+
+// The buffer's bytes are those of `abc` and a 0, and then those of `dec` and a 0.
 #[test]
 fn bytes_come_in_pieces_and_then_the_end_is_counted(rt: HostRuntime) -> Result<(), Fail> {
     let bytes = Vec::from_slice(rt.alloc(), b"abcde")?;
-    let mut source = MemSource::new(bytes, Vec::new(rt.alloc())).with_piece(3);
-    let mut buf = [0; 4];
-    assert_eq!(rt; source.read(&mut buf), Ok(3));
-    assert_eq!(rt; buf.as_slice(), b"abc\0".as_slice());
-    assert_eq!(rt; source.left(), b"de".as_slice());
-    assert_eq!(rt; source.read(&mut buf), Ok(2));
-    assert_eq!(rt; buf.as_slice(), b"dec\0".as_slice());
-    assert_eq!(rt; source.read(&mut []), Ok(0));
-    assert_eq!(rt; (source.faults(), source.ends()), (0, 0));
-    assert_eq!(rt; source.read(&mut buf), Ok(0));
-    assert_eq!(rt; (source.faults(), source.ends()), (0, 1));
-    Ok(())
+    source_answers(
+        rt.alloc(),
+        MemSource::new(bytes, Vec::new(rt.alloc())).with_piece(3),
+        "
+        read 4 = Ok(3) 61626300
+        left = de
+        read 4 = Ok(2) 64656300
+        read 0 = Ok(0) 64656300
+        counts = 0 0
+        read 4 = Ok(0) 64656300
+        counts = 0 1
+        ",
+    )
 }
 
 #[test]
 fn the_second_read_fails_and_takes_nothing(rt: HostRuntime) -> Result<(), Fail> {
     let bytes = Vec::from_slice(rt.alloc(), b"abc")?;
-    let mut source = MemSource::new(bytes, Vec::from_slice(rt.alloc(), &[2])?);
-    let mut buf = [0; 2];
-    assert_eq!(rt; source.read(&mut buf), Ok(2));
-    assert_eq!(rt; source.read(&mut buf), Err(Failed));
-    assert_eq!(rt; (source.faults(), source.ends()), (1, 0));
-    assert_eq!(rt; source.left(), b"c".as_slice());
-    assert_eq!(rt; source.read(&mut buf), Ok(1));
-    Ok(())
+    let fails = Vec::from_slice(rt.alloc(), &[2])?;
+    source_answers(
+        rt.alloc(),
+        MemSource::new(bytes, fails),
+        "
+        read 2 = Ok(2) 61620000
+        read 2 = Err(Failed) 61620000
+        counts = 1 0
+        left = c
+        read 2 = Ok(1) 63620000
+        ",
+    )
 }
 
 // What a sink counts.
@@ -93,12 +139,18 @@ fn a_full_sink_takes_a_front_and_then_nothing(rt: HostRuntime) {
     assert_eq!(rt; narrow_writes(rt.alloc()), ([Ok(3), Ok(0), Ok(0)], true));
 }
 
+// What a source of a file counts.
+fn file_counts<R: Files>(file: &FileSource<R>) -> (u64, u64) {
+    (file.faults(), file.ends())
+}
+
 #[test]
 fn a_missing_file_fails_at_its_first_read(rt: HostRuntime) {
     let mut file = FileSource::new(&rt, "no-such-file");
-    assert_eq!(rt; file.faults(), 0);
-    assert_eq!(rt; file.read(&mut [0; 4]), Err(Failed));
-    assert_eq!(rt; (file.faults(), file.ends()), (1, 0));
+    let before = file.faults();
+    let read = file.read(&mut [0; 4]);
+    let counts = file_counts(&file);
+    assert_eq!(rt; (before, read, counts), (0, Err(Failed), (1, 0)));
 }
 
 #[test]
@@ -106,10 +158,9 @@ fn a_file_is_read_to_its_end(rt: HostRuntime) -> Result<(), Fail> {
     fs::write(&rt, "three-bytes", "abc")?;
     let mut file = FileSource::new(&rt, "three-bytes");
     let mut buf = [0; 4];
-    assert_eq!(rt; file.read(&mut buf), Ok(3));
-    assert_eq!(rt; buf.as_slice(), b"abc\0".as_slice());
-    assert_eq!(rt; file.read(&mut buf), Ok(0));
-    assert_eq!(rt; (file.faults(), file.ends()), (0, 1));
+    let counts = [file.read(&mut buf), file.read(&mut buf)];
+    let read = (counts, buf, file_counts(&file));
+    assert_eq!(rt; read, ([Ok(3), Ok(0)], *b"abc\0", (0, 1)));
     fs::remove_file(&rt, "three-bytes")?;
     Ok(())
 }
@@ -145,9 +196,11 @@ fn a_file_comes_in_pieces_with_all_bytes_in_their_order(rt: HostRuntime) -> Resu
     fs::write(&rt, "eleven-thousand-bytes", text.as_str())?;
     let mut file = FileSource::new(&rt, "eleven-thousand-bytes");
     let all = all_of(rt.alloc(), &mut file)?;
-    assert_eq!(rt; all.len(), 11_000);
-    assert!(rt; all.as_slice() == text.as_bytes());
-    assert_eq!(rt; (file.faults(), file.ends()), (0, 1));
+    let is_all = all.as_slice() == text.as_bytes();
+    assert_eq!(rt;
+        (all.len(), is_all, file_counts(&file)),
+        (11_000, true, (0, 1))
+    );
     fs::remove_file(&rt, "eleven-thousand-bytes")?;
     Ok(())
 }
@@ -156,8 +209,7 @@ fn a_file_comes_in_pieces_with_all_bytes_in_their_order(rt: HostRuntime) -> Resu
 fn an_empty_buffer_meets_no_end_and_no_refusal(rt: HostRuntime) {
     let mut input = StdinSource::new(&rt);
     let mut out = StdoutSink::new(&rt);
-    assert_eq!(rt; input.read(&mut []), Ok(0));
-    assert_eq!(rt; out.write(&[]), Ok(0));
-    assert_eq!(rt; (input.faults(), input.ends()), (0, 0));
-    assert_eq!(rt; (out.faults(), out.refusals()), (0, 0));
+    let took = [input.read(&mut []), out.write(&[])];
+    let counts = [input.faults(), input.ends(), out.faults(), out.refusals()];
+    assert_eq!(rt; (took, counts), ([Ok(0); 2], [0; 4]));
 }

@@ -1,51 +1,137 @@
 //! The states of communication and control (`gem_states`).
 
 use gem_states::{Comm, CommTrigger, Control, ControlTrigger};
+use std::alloc::Global;
+use std::test::Fail;
+use test_lines::{Subject, answers, number, small, word, words};
 
-#[test]
-fn the_tool_establishes_communication(rt: HostRuntime) {
-    let mut comm = Comm::Disabled;
-    assert_eq!(rt; comm.row_for(CommTrigger::Enable), Some(1));
-    assert!(rt; comm.fire(1, 70));
-    assert_eq!(rt; comm, Comm::WaitDelay { until: 70 });
-    assert!(rt; comm.fire(3, 90));
-    assert_eq!(rt; comm.row_for(CommTrigger::Refused), Some(5));
-    assert!(rt; comm.fire(5, 1070));
-    assert_eq!(rt; comm, Comm::WaitDelay { until: 1070 });
-    assert!(rt; comm.fire(3, 0));
-    assert_eq!(rt; comm.row_for(CommTrigger::Accepted), Some(4));
-    assert!(rt; comm.fire(4, 0));
-    assert_eq!(rt; comm.number(), 3);
+// Communication, as lines of a text are said to it.
+#[derive(Drop)]
+struct Communicates(Comm);
+
+impl Subject for Communicates {
+    // The row of a trigger; whether a row fires, with the moment at which its delay is over; the state, or its number.
+    fn answer(&mut self, alloc: Global, said: &str) -> Result<String, Fail> {
+        let words = words(alloc, said)?;
+        match word(&words, 0)? {
+            "fire" => {
+                let fires = self.0.fire(small(&words, 1)?, number(&words, 2)?);
+                Ok(format!(in alloc; "{fires}")?)
+            }
+            "state" => Ok(format!(in alloc; "{:?}", self.0)?),
+            "number" => Ok(format!(in alloc; "{}", self.0.number())?),
+            trigger => Ok(format!(in alloc; "{:?}", self.0.row_for(comm_trigger(trigger)?))?),
+        }
+    }
+}
+
+fn comm_trigger(word: &str) -> Result<CommTrigger, Fail> {
+    match word {
+        "Enable" => Ok(CommTrigger::Enable),
+        "Accepted" => Ok(CommTrigger::Accepted),
+        "Refused" => Ok(CommTrigger::Refused),
+        "SessionEnd" => Ok(CommTrigger::SessionEnd),
+        _ => Err(Fail::new("no trigger of communication")),
+    }
+}
+
+// Control, as lines of a text are said to it.
+#[derive(Drop)]
+struct Controls(Control);
+
+impl Subject for Controls {
+    // The row of a trigger, with the switch at local or remote; whether a row fires; the state, or its number.
+    fn answer(&mut self, alloc: Global, said: &str) -> Result<String, Fail> {
+        let words = words(alloc, said)?;
+        match word(&words, 0)? {
+            "fire" => Ok(format!(in alloc; "{}", self.0.fire(small(&words, 1)?))?),
+            "state" => Ok(format!(in alloc; "{:?}", self.0)?),
+            "number" => Ok(format!(in alloc; "{}", self.0.number())?),
+            trigger => {
+                let is_local = word(&words, 1)? == "local";
+                let row = self.0.row_for(control_trigger(trigger)?, is_local);
+                Ok(format!(in alloc; "{row:?}")?)
+            }
+        }
+    }
+}
+
+fn control_trigger(word: &str) -> Result<ControlTrigger, Fail> {
+    match word {
+        "HostS1F2" => Ok(ControlTrigger::HostS1F2),
+        "HostS1F15" => Ok(ControlTrigger::HostS1F15),
+        "HostS1F17" => Ok(ControlTrigger::HostS1F17),
+        "Offline" => Ok(ControlTrigger::Offline),
+        "Remote" => Ok(ControlTrigger::Remote),
+        "Local" => Ok(ControlTrigger::Local),
+        _ => Err(Fail::new("no trigger of control")),
+    }
 }
 
 #[test]
-fn a_row_that_does_not_start_changes_nothing(rt: HostRuntime) {
-    let mut comm = Comm::WaitDelay { until: 70 };
-    assert_eq!(rt; comm.row_for(CommTrigger::SessionEnd), None);
-    assert!(rt; !comm.fire(7, 90));
-    assert!(rt; !comm.fire(0, 90));
-    assert!(rt; !comm.fire(8, 90));
-    assert_eq!(rt; comm, Comm::WaitDelay { until: 70 });
-    let mut control = Control::EquipmentOffline;
-    assert_eq!(rt; control.row_for(ControlTrigger::Offline, true), None);
-    assert!(rt; !control.fire(6));
-    assert!(rt; !control.fire(12));
-    assert_eq!(rt; control, Control::EquipmentOffline);
+fn the_tool_establishes_communication(rt: HostRuntime) -> Result<(), Fail> {
+    answers(
+        rt.alloc(),
+        &mut Communicates(Comm::Disabled),
+        "
+        Enable = Some(1)
+        fire 1 70 = true
+        state = WaitDelay { until: 70 }
+        fire 3 90 = true
+        Refused = Some(5)
+        fire 5 1070 = true
+        state = WaitDelay { until: 1070 }
+        fire 3 0 = true
+        Accepted = Some(4)
+        fire 4 0 = true
+        number = 3
+        ",
+    )
 }
 
 #[test]
-fn the_switch_decides_between_local_and_remote(rt: HostRuntime) {
-    let mut control = Control::EquipmentOffline;
-    assert!(rt; control.fire(1));
-    assert_eq!(rt; control.row_for(ControlTrigger::HostS1F2, true), Some(4));
-    assert_eq!(rt; control.row_for(ControlTrigger::HostS1F2, false), Some(5));
-    assert!(rt; control.fire(5));
-    assert_eq!(rt; control.row_for(ControlTrigger::HostS1F15, true), Some(9));
-    assert!(rt; control.fire(9));
-    assert_eq!(rt; control.row_for(ControlTrigger::HostS1F17, true), Some(7));
-    assert_eq!(rt; control.row_for(ControlTrigger::HostS1F17, false), Some(8));
-    assert!(rt; control.fire(7));
-    assert_eq!(rt; control.number(), 4);
-    assert_eq!(rt; control.row_for(ControlTrigger::Remote, true), Some(10));
-    assert_eq!(rt; control.row_for(ControlTrigger::Local, true), None);
+fn a_row_that_does_not_start_changes_nothing(rt: HostRuntime) -> Result<(), Fail> {
+    answers(
+        rt.alloc(),
+        &mut Communicates(Comm::WaitDelay { until: 70 }),
+        "
+        SessionEnd = None
+        fire 7 90 = false
+        fire 0 90 = false
+        fire 8 90 = false
+        state = WaitDelay { until: 70 }
+        ",
+    )?;
+    answers(
+        rt.alloc(),
+        &mut Controls(Control::EquipmentOffline),
+        "
+        Offline local = None
+        fire 6 = false
+        fire 12 = false
+        state = EquipmentOffline
+        ",
+    )
+}
+
+#[test]
+fn the_switch_decides_between_local_and_remote(rt: HostRuntime) -> Result<(), Fail> {
+    answers(
+        rt.alloc(),
+        &mut Controls(Control::EquipmentOffline),
+        "
+        fire 1 = true
+        HostS1F2 local = Some(4)
+        HostS1F2 remote = Some(5)
+        fire 5 = true
+        HostS1F15 local = Some(9)
+        fire 9 = true
+        HostS1F17 local = Some(7)
+        HostS1F17 remote = Some(8)
+        fire 7 = true
+        number = 4
+        Remote local = Some(10)
+        Local local = None
+        ",
+    )
 }

@@ -1,0 +1,32 @@
+//! Texts of the tool's replies.
+
+ghost use Rattle.msgs_gem.specs.Sendable.{HasSendableParts};
+
+use crate::bodies::bytes;
+use msgs_gem::{GemReply, gem_item};
+use secs_items::{NoMemory, encode};
+use std::alloc::Global;
+use std::test::Fail;
+
+// The text of a reply.
+pub(crate) fn sent(alloc: Global, reply: &GemReply) -> Result<Vec<u8>, NoMemory>
+    requires { HasSendableParts reply.now }
+{
+    let mut text = Vec::new(alloc);
+    encode(&gem_item(alloc, reply)?, &mut text)?;
+    Ok(text)
+}
+
+// A text that was made has these bytes, as hex digits. The error tells the bytes that it has.
+pub(crate) fn is_text(
+    alloc: Global,
+    made: Result<Vec<u8>, NoMemory>,
+    wanted: &str,
+) -> Result<(), Fail> {
+    let made = made?;
+    if made.as_slice() == bytes(alloc, wanted)?.as_slice() {
+        Ok(())
+    } else {
+        Err(Fail::new(format_args!("{made:?}, wanted {wanted}")))
+    }
+}

@@ -95,31 +95,28 @@ fn name_item(alloc: Global, ecid: u32) -> Result<Item, NoMemory>
 fn known_item(alloc: Global, ecid: u32, constant: &Constant) -> Result<Item, NoMemory>
     ensures { IfOk result (λ item. view item ≡ known_name ecid constant.now) }
 {
-    let parts = [
-        u4(alloc, ecid)?,
-        ascii(alloc, constant.name)?,
-        item_of(alloc, constant.least)?,
-        item_of(alloc, constant.most)?,
-        item_of(alloc, constant.default)?,
-        ascii(alloc, constant.units)?,
-    ];
-    Ok(Item::List(Items::from_vec(Vec::from_array(alloc, parts)?)))
+    let mut parts = Items::new(alloc);
+    parts.push(u4(alloc, ecid)?)?;
+    parts.push(ascii(alloc, constant.name)?)?;
+    parts.push(item_of(alloc, constant.least)?)?;
+    parts.push(item_of(alloc, constant.most)?)?;
+    parts.push(item_of(alloc, constant.default)?)?;
+    parts.push(ascii(alloc, constant.units)?)?;
+    Ok(Item::List(parts))
 }
 
 // What is told of an ECID that no constant has.
 fn unknown_item(alloc: Global, ecid: u32) -> Result<Item, NoMemory>
     ensures { IfOk result (λ item. view item ≡ unknown_name ecid) }
 {
-    let none = Text80::empty();
-    let parts = [
-        u4(alloc, ecid)?,
-        ascii(alloc, none)?,
-        ascii(alloc, none)?,
-        ascii(alloc, none)?,
-        ascii(alloc, none)?,
-        ascii(alloc, none)?,
-    ];
-    Ok(Item::List(Items::from_vec(Vec::from_array(alloc, parts)?)))
+    let mut parts = Items::new(alloc);
+    parts.push(u4(alloc, ecid)?)?;
+    parts.push(ascii(alloc, Text80::empty())?)?;
+    parts.push(ascii(alloc, Text80::empty())?)?;
+    parts.push(ascii(alloc, Text80::empty())?)?;
+    parts.push(ascii(alloc, Text80::empty())?)?;
+    parts.push(ascii(alloc, Text80::empty())?)?;
+    Ok(Item::List(parts))
 }
 
 // U4 of one element.

@@ -1,10 +1,7 @@
 -- Bounds of the items of replies.
-use Rattle.std.proofs.Common.{◌≡◌, ◌^◌, ℕ, arith, Result, Ok, Err, IfOk, subst, sym}
-use Rattle.std.specs.declared.alloc.AllocError.{AllocError}
-use Rattle.secs_items.specs.Data.{Data, DataList, list}
+use Rattle.std.proofs.Common.{◌^◌, ℕ, arith}
+use Rattle.secs_items.specs.Data.{DataList, list}
 use Rattle.secs_items.specs.Weight.{IsBounded}
-use Rattle.secs_items.specs.View.{view}
-use Rattle.secs_items.specs.declared.item.Item.{Item}
 use Rattle.secs_items.proofs.Weights.{bounded-list, bounded-more}
 use Rattle.msgs_gem.specs.Replies.{event}
 use Rattle.msgs_gem.specs.Sendable.{AreFew}
@@ -26,8 +23,3 @@ event_bounded note ceid ds few =
       size = omega (arith, reports.size);
       bodies = (omega arith, (omega arith, (omega arith, (reports.bodies, tt))));
     }
-
--- an item that says what is bounded is bounded
-pub same_bounded : (r : Result Item AllocError) (d : Data) → IfOk r (λ item. view item ≡ d) → IsBounded 5 (2 ^ 31) d → IfOk r (λ item. IsBounded 5 (2 ^ 31) (view item))
-same_bounded (Ok item) d is bounds = subst (λ (e : Data). IsBounded 5 (2 ^ 31) e) (sym is) bounds
-same_bounded (Err e) d is bounds = tt

@@ -1,17 +1,17 @@
 //! The tool's replies, and its own primaries.
 
-ghost use Rattle.std.specs.Prelude.{◌≡◌, ◌<◌, ◌≤◌, ◌^◌, List, length, map, IfOk};
+ghost use Rattle.std.specs.Prelude.{◌≡◌, ◌<◌, ◌≤◌, ◌^◌, ◌∷◌, [], List, length, map, IfOk};
 ghost use Rattle.secs_items.specs.Data.{Data};
 ghost use Rattle.secs_items.specs.Plain.{plain};
 ghost use Rattle.secs_items.specs.Sendable.{IsSendable};
 ghost use Rattle.secs_items.specs.View.{view};
 ghost use Rattle.secs_items.specs.Weight.{IsBounded};
 ghost use Rattle.msgs_gem.specs.Functions.{AreFewFunctions};
-ghost use Rattle.body_parts.specs.Printed.{U1, each};
+ghost use Rattle.body_parts.specs.Printed.{L, U1, code as code_data, each};
 ghost use Rattle.msgs_gem.specs.Replies.{alarm as alarm_data, alarm_code as alarm_code_data, alarm_part, event as event_data, identity, parameter_acknowledge, reply_body, spooling, stream_refusal as stream_refusal_data, variable_name};
 ghost use Rattle.msgs_gem.specs.Sendable.{AreFew, HasSendableParts};
 
-use body_parts::writing::{ascii, binary, code, elements, list, text, u1, u4, u8};
+use body_parts::writing::{ascii, binary, code, elements, text, u1, u4, u8};
 use gem_ids::{Listed, Text80};
 use secs_items::{Bytes, Item, Items, NoMemory};
 use std::alloc::Global;
@@ -164,13 +164,7 @@ fn item_of(alloc: Global, reply: &GemReply) -> Result<Item, NoMemory>
         GemReply::S1F4(values) => elements(values),
         GemReply::S1F12(names) => list_of(alloc, names.as_slice()),
         GemReply::S1F13(mdln, softrev) => model_and_revision(alloc, mdln, softrev),
-        GemReply::S1F14(tool) => list(
-            alloc,
-            [
-                code(alloc, 0)?,
-                model_and_revision(alloc, &tool.mdln, &tool.softrev)?,
-            ],
-        ),
+        GemReply::S1F14(tool) => established(alloc, tool),
         GemReply::S1F16 => code(alloc, 0),
         GemReply::S1F18(onlack) => code(alloc, *onlack),
         GemReply::S2F14(values) => elements(values),
@@ -181,10 +175,7 @@ fn item_of(alloc: Global, reply: &GemReply) -> Result<Item, NoMemory>
         GemReply::S2F34(drack) => code(alloc, *drack),
         GemReply::S2F36(lrack) => code(alloc, *lrack),
         GemReply::S2F38(erack) => code(alloc, *erack),
-        GemReply::S2F42(hcack, parameters) => list(
-            alloc,
-            [code(alloc, *hcack)?, list_of(alloc, parameters.as_slice())?],
-        ),
+        GemReply::S2F42(hcack, parameters) => commanded(alloc, *hcack, parameters.as_slice()),
         GemReply::S2F44(rspack, refusals) => spooled(alloc, *rspack, refusals.as_slice()),
         GemReply::S5F1(alcd, alid, text) => alarm(alloc, Some(*alcd), *alid, text),
         GemReply::S5F4(ackc5) => code(alloc, *ackc5),
@@ -217,14 +208,11 @@ impl Printed for VariableName {
     ghost body = { variable_name };
 
     fn item(&self, alloc: Global) -> Result<Item, NoMemory> {
-        list(
-            alloc,
-            [
-                u4(alloc, self.svid)?,
-                text(alloc, &self.name)?,
-                text(alloc, &Text80::empty())?,
-            ],
-        )
+        let mut parts = Items::new(alloc);
+        parts.push(u4(alloc, self.svid)?)?;
+        parts.push(text(alloc, &self.name)?)?;
+        parts.push(text(alloc, &Text80::empty())?)?;
+        Ok(Item::List(parts))
     }
 }
 
@@ -232,7 +220,10 @@ impl Printed for ParameterAcknowledge {
     ghost body = { parameter_acknowledge };
 
     fn item(&self, alloc: Global) -> Result<Item, NoMemory> {
-        list(alloc, [text(alloc, &self.name)?, code(alloc, self.cpack)?])
+        let mut parts = Items::new(alloc);
+        parts.push(text(alloc, &self.name)?)?;
+        parts.push(code(alloc, self.cpack)?)?;
+        Ok(Item::List(parts))
     }
 }
 
@@ -257,14 +248,11 @@ fn alarm(alloc: Global, alcd: Option<u8>, alid: u32, altx: &Text80) -> Result<It
     ensures exact { IfOk result (λ item. view item ≡ alarm_data alcd alid altx.now) }
     ensures bounded { IfOk result (λ item. IsBounded 1 110 (view item)) }
 {
-    list(
-        alloc,
-        [
-            alarm_code(alloc, alcd)?,
-            u4(alloc, alid)?,
-            text(alloc, altx)?,
-        ],
-    )
+    let mut parts = Items::new(alloc);
+    parts.push(alarm_code(alloc, alcd)?)?;
+    parts.push(u4(alloc, alid)?)?;
+    parts.push(text(alloc, altx)?)?;
+    Ok(Item::List(parts))
 }
 
 fn alarm_code(alloc: Global, alcd: Option<u8>) -> Result<Item, NoMemory>
@@ -281,10 +269,11 @@ fn event(alloc: Global, note: u64, ceid: u32, reports: &Items) -> Result<Item, N
     ensures exact { IfOk result (λ item. view item ≡ event_data note ceid reports.now) }
     ensures bounded { AreFew 16 3 5392 reports.now → IfOk result (λ item. IsBounded 5 (2 ^ 31) (view item)) }
 {
-    list(
-        alloc,
-        [u8(alloc, note)?, u4(alloc, ceid)?, elements(reports)?],
-    )
+    let mut parts = Items::new(alloc);
+    parts.push(u8(alloc, note)?)?;
+    parts.push(u4(alloc, ceid)?)?;
+    parts.push(elements(reports)?)?;
+    Ok(Item::List(parts))
 }
 
 // What the host's choice of streams is answered.
@@ -292,10 +281,10 @@ fn spooled(alloc: Global, rspack: u8, refusals: &[StreamRefusal]) -> Result<Item
     ensures exact { IfOk result (λ item. view item ≡ spooling rspack refusals.now) }
     ensures bounded { AreFewFunctions (map (λ r. r.functions) refusals.now) → IfOk result (λ item. IsBounded 5 (2 ^ 31) (view item)) }
 {
-    list(
-        alloc,
-        [code(alloc, rspack)?, stream_refusals(alloc, refusals)?],
-    )
+    let mut parts = Items::new(alloc);
+    parts.push(code(alloc, rspack)?)?;
+    parts.push(stream_refusals(alloc, refusals)?)?;
+    Ok(Item::List(parts))
 }
 
 // A list of an item for each stream that is refused. How long one is depends on its functions, so it is no `Printed`.
@@ -312,14 +301,11 @@ fn stream_refusals(alloc: Global, refusals: &[StreamRefusal]) -> Result<Item, No
 fn stream_refusal(alloc: Global, refusal: &StreamRefusal) -> Result<Item, NoMemory>
     ensures { IfOk result (λ item. view item ≡ stream_refusal_data refusal.now) }
 {
-    list(
-        alloc,
-        [
-            u1(alloc, refusal.stream)?,
-            code(alloc, refusal.strack)?,
-            list_of(alloc, refusal.functions.as_slice())?,
-        ],
-    )
+    let mut parts = Items::new(alloc);
+    parts.push(u1(alloc, refusal.stream)?)?;
+    parts.push(code(alloc, refusal.strack)?)?;
+    parts.push(list_of(alloc, refusal.functions.as_slice())?)?;
+    Ok(Item::List(parts))
 }
 
 // A list of an item for each part.
@@ -337,5 +323,33 @@ fn list_of<T: Printed>(alloc: Global, parts: &[T]) -> Result<Item, NoMemory>
 fn model_and_revision(alloc: Global, mdln: &Bytes, softrev: &Bytes) -> Result<Item, NoMemory>
     ensures { IfOk result (λ item. view item ≡ identity mdln.now softrev.now) }
 {
-    list(alloc, [ascii(mdln)?, ascii(softrev)?])
+    let mut parts = Items::new(alloc);
+    parts.push(ascii(mdln)?)?;
+    parts.push(ascii(softrev)?)?;
+    Ok(Item::List(parts))
+}
+
+// That communication is established, and what the tool tells of itself.
+fn established(alloc: Global, tool: &Identity) -> Result<Item, NoMemory>
+    ensures { IfOk result (λ item. view item ≡ L (code_data 0 ∷ (identity tool.now.mdln tool.now.softrev ∷ []))) }
+{
+    let mut parts = Items::new(alloc);
+    parts.push(code(alloc, 0)?)?;
+    parts.push(model_and_revision(alloc, &tool.mdln, &tool.softrev)?)?;
+    Ok(Item::List(parts))
+}
+
+// What a remote command is answered.
+fn commanded(
+    alloc: Global,
+    hcack: u8,
+    parameters: &[ParameterAcknowledge],
+) -> Result<Item, NoMemory>
+    ensures exact { IfOk result (λ item. view item ≡ L (code_data hcack ∷ (each parameter_acknowledge parameters.now ∷ []))) }
+    ensures bounded { length parameters.now < 2 ^ 24 → IfOk result (λ item. IsBounded 5 (2 ^ 31) (view item)) }
+{
+    let mut parts = Items::new(alloc);
+    parts.push(code(alloc, hcack)?)?;
+    parts.push(list_of(alloc, parameters)?)?;
+    Ok(Item::List(parts))
 }

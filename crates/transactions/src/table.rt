@@ -14,9 +14,6 @@ use slab::Slab;
 use std::alloc::{AllocError, Global};
 use std::marker::Model;
 
-#[cfg(test)]
-mod tests;
-
 /// Memory ran out.
 pub type NoMemory = AllocError;
 
@@ -154,6 +151,13 @@ impl Transactions {
         let system = self.next_free();
         self.next = system.wrapping_add(1);
         system
+    }
+
+    /// The counter stands at this number, as where that of an earlier run goes on. Open transactions stay as they are.
+    pub fn count_from(&mut self, next: u32)
+        ensures { self.new ≡ record self.old { next = next } }
+    {
+        self.next = next;
     }
 
     // Adds a transaction, which was started last.

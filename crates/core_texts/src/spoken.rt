@@ -1,7 +1,7 @@
 //! What a core is told and asked, and its answers.
 //!
-//! `at 5 up` posts an event at a moment, and `waits 5 up` asks whether it has to wait. Without a moment stand `session`,
-//! which is up; `sessions`, how many came; `end 1` and `bytes 1`, why a session ended and how many bytes went out in it;
+//! `at 5 up` posts an event at a moment, and `waits 5 up` asks whether it has to wait. Without a moment stand `up`, which
+//! session is up; `sessions`, how many came; `end 1` and `bytes 1`, why a session ended and how many bytes went out in it;
 //! `entries` and `entry 0`, how many the history has, and one of them; and `fate 1`, what became of a note. `close` takes
 //! the core apart, and tells how many entries it hands out; nothing can be asked of it then.
 //!
@@ -113,7 +113,7 @@ fn entry(alloc: Global, core: &Core, place: usize) -> Result<String> {
 
 fn counted(alloc: Global, core: &Core, what: &str) -> Result<String> {
     match what {
-        "session" => {
+        "up" => {
             let session = core.session_up();
             Ok(format!(in alloc; "{session:?}")?)
         }

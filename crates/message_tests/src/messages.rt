@@ -3,37 +3,14 @@
 ghost use Rattle.std.specs.Prelude.{◌≡◌, length, IfOk};
 ghost use Rattle.msgs_gem.specs.Sendable.{AreCharacters, HasSendableParts};
 
-use crate::bodies::{bytes, read, reads, reads_each};
 use crate::texts::{is_text, sent};
-use msgs_gem::{
-    BodyFault, GemMsg, GemReply, Identity, accepts_communication, is_ignored, read_gem,
-};
-use secs_items::{Bytes, NoMemory, read_one};
+use msgs_gem::{BodyFault, GemReply, Identity, is_ignored, read_gem};
+use secs_items::{Bytes, NoMemory};
 use std::alloc::Global;
 use std::test::Fail;
 
 // The messages whose text is ignored, by stream and function.
 const IGNORED: [(u8, u8); 6] = [(1, 1), (1, 13), (1, 15), (1, 17), (2, 17), (5, 7)];
-
-#[test]
-fn an_ignored_text_may_be_anything(rt: HostRuntime) -> Result<(), Fail> {
-    reads_each(
-        rt.alloc(),
-        IGNORED.as_slice(),
-        "
-        # no text
-        - =
-        # an empty list
-        0100 =
-        # a list of ids
-        0101A50107 =
-        # bytes behind an item
-        010000 =
-        # no item at all
-        FF =
-        ",
-    )
-}
 
 // The first message below S8F255 that is ignored though it is none of these, or the other way round.
 fn false_ignored(ignored: &[(u8, u8)]) -> Option<(u8, u8)> {
@@ -50,70 +27,6 @@ fn false_ignored(ignored: &[(u8, u8)]) -> Option<(u8, u8)> {
 #[test]
 fn six_messages_have_an_ignored_text(rt: HostRuntime) {
     assert_eq!(rt; false_ignored(IGNORED.as_slice()), None);
-}
-
-// The characters stand as hex digits.
-#[test]
-fn s2f31_has_the_characters_that_were_sent(rt: HostRuntime) -> Result<(), Fail> {
-    reads(
-        rt.alloc(),
-        (2, 31),
-        "
-        411032303236313132373131303934373030 = 32303236313132373131303934373030
-        4100 =
-        4102007F = 007f
-        ",
-    )
-}
-
-// An A of so many blanks, which is spelled with two length bytes.
-fn blanks(alloc: Global, count: u16) -> Result<Vec<u8>, NoMemory> {
-    let mut text = vec![in alloc; 0x42]?;
-    text.extend_from_slice(&count.to_be_bytes())?;
-    for _ in 0..count {
-        text.push(b' ')?;
-    }
-    Ok(text)
-}
-
-// Whether an S2F31 of so many blanks is read.
-fn are_blanks(alloc: Global, count: u16) -> Result<bool, Fail> {
-    let text = blanks(alloc, count)?;
-    match &read(alloc, (2, 31), text.as_slice()) {
-        Ok(GemMsg::S2F31(characters)) => {
-            let characters = characters.as_slice();
-            Ok(characters.len() == usize::from(count) && characters.iter().all(|c| *c == b' '))
-        }
-        _ => Ok(false),
-    }
-}
-
-#[test]
-fn s2f31_has_any_number_of_characters(rt: HostRuntime) -> Result<(), Fail> {
-    for count in [0, 1, 16, 256, 65_535] {
-        assert!(rt; are_blanks(rt.alloc(), count)?);
-    }
-    Ok(())
-}
-
-#[test]
-fn s2f31_that_is_no_a_is_illegal(rt: HostRuntime) -> Result<(), Fail> {
-    reads(
-        rt.alloc(),
-        (2, 31),
-        "
-        # no text
-        -
-        # B
-        210130
-        # a list of an A
-        0101410130
-        # an integer
-        A50130
-        # a byte behind the A
-        41013000
-        ",
-    )
 }
 
 // The first stream whose function 9 has another fault than that the function is unknown, of a stream that some message
@@ -257,47 +170,4 @@ fn stream_9_tells_the_header_as_binary(rt: HostRuntime) -> Result<(), Fail> {
         is_text(alloc, error(alloc, function), "210A00008105000000000007")?;
     }
     Ok(())
-}
-
-// Whether each of these texts of S1F14, one a line, accepts or does not.
-fn are_accepted(alloc: Global, wanted: bool, texts: &str) -> Result<(), Fail> {
-    for line in texts.lines() {
-        let digits = line.trim();
-        if !digits.is_empty() && accepts(alloc, digits)? != wanted {
-            return Err(Fail::new(format_args!("{digits}, wanted {wanted}")));
-        }
-    }
-    Ok(())
-}
-
-fn accepts(alloc: Global, digits: &str) -> Result<bool, Fail> {
-    let item = read_one(alloc, bytes(alloc, digits)?.as_slice())?;
-    Ok(accepts_communication(item.as_ref()))
-}
-
-#[test]
-fn a_list_of_two_whose_first_is_b_0_accepts(rt: HostRuntime) -> Result<(), Fail> {
-    are_accepted(
-        rt.alloc(),
-        true,
-        "
-        01022101000100
-        02000222000100410141
-        ",
-    )?;
-    are_accepted(
-        rt.alloc(),
-        false,
-        "
-        01022101010100
-        0101210100
-        010321010001000100
-        0102A501000100
-        0102210200000100
-        010221000100
-        210100
-        0102210100010000
-        -
-        ",
-    )
 }

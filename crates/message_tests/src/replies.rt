@@ -6,8 +6,7 @@ ghost use Rattle.secs_items.specs.Weight.{IsBounded};
 ghost use Rattle.msgs_gem.specs.Functions.{AreFewFunctions};
 ghost use Rattle.msgs_gem.specs.Sendable.{AreFew, HasSendableParts};
 
-use crate::bodies::{bytes, repeated};
-use crate::texts::{is_text, sent};
+use crate::texts::{bytes, is_text, repeated, sent};
 use gem_ids::{Listed, Text80};
 use msgs_gem::{AlarmPart, GemReply, ParameterAcknowledge, StreamRefusal, VariableName};
 use secs_items::{Bytes, Item, Items, NoMemory, U32s};

@@ -2,7 +2,6 @@
 
 ghost use Rattle.msgs_gem.specs.Sendable.{HasSendableParts};
 
-use crate::bodies::bytes;
 use msgs_gem::{GemReply, gem_item};
 use secs_items::{NoMemory, encode};
 use std::alloc::Global;
@@ -29,4 +28,27 @@ pub(crate) fn is_text(
     } else {
         Err(Fail::new(format_args!("{made:?}, wanted {wanted}")))
     }
+}
+
+// A head, and so many times one item behind it, each as hex digits.
+pub(crate) fn repeated(
+    alloc: Global,
+    head: &str,
+    one: &str,
+    count: usize,
+) -> Result<Vec<u8>, Fail> {
+    let mut text = bytes(alloc, head)?;
+    let one = bytes(alloc, one)?;
+    for _ in 0..count {
+        text.extend_from_slice(one.as_slice())?;
+    }
+    Ok(text)
+}
+
+// The bytes of hex digits, and none of `-`.
+pub(crate) fn bytes(alloc: Global, digits: &str) -> Result<Vec<u8>, Fail> {
+    if digits == "-" {
+        return Ok(Vec::new(alloc));
+    }
+    Ok(hex::decode(alloc, digits)?)
 }

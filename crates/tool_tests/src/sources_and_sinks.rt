@@ -1,85 +1,9 @@
 //! Sources and sinks (`outside`). What standard input and output pass on, the program's run shows.
 
-use outside::{Failed, FileSource, MemSink, MemSource, Sink, Source, StdinSource, StdoutSink};
+use outside::{Failed, FileSource, MemSink, Sink, Source, StdinSource, StdoutSink};
 use std::alloc::Global;
 use std::fs::{self, Files};
 use std::test::Fail;
-use test_lines::{Subject, answers, small, word, words};
-
-// A source, and a buffer of four bytes that it is read to.
-#[derive(Drop)]
-struct Reads {
-    source: MemSource,
-    buffer: [u8; 4],
-}
-
-// Says the lines of a text to a source of these bytes, whose reads of these numbers fail.
-fn source_answers(alloc: Global, source: MemSource, text: &str) -> Result<(), Fail> {
-    let buffer = [0; 4];
-    answers(alloc, &mut Reads { source, buffer }, text)
-}
-
-impl Subject for Reads {
-    // So many bytes are read, which are answered, and the whole buffer behind them; what is left; the faults and ends.
-    fn answer(&mut self, alloc: Global, said: &str) -> Result<String, Fail> {
-        let words = words(alloc, said)?;
-        match word(&words, 0)? {
-            "read" => self.read(alloc, small(&words, 1)? as usize),
-            "left" => Ok(String::from_utf8_lossy(alloc, self.source.left())?),
-            _ => {
-                let (faults, ends) = (self.source.faults(), self.source.ends());
-                Ok(format!(in alloc; "{faults} {ends}")?)
-            }
-        }
-    }
-}
-
-impl Reads {
-    fn read(&mut self, alloc: Global, most: usize) -> Result<String, Fail> {
-        let Some(front) = self.buffer.get_mut(..most) else {
-            return Err(Fail::new("a buffer of four bytes"));
-        };
-        let count = self.source.read(front);
-        let buffer = hex::encode_upper(alloc, self.buffer.as_slice())?;
-        Ok(format!(in alloc; "{count:?} {buffer}")?)
-    }
-}
-
-// The buffer's bytes are those of `abc` and a 0, and then those of `dec` and a 0.
-#[test]
-fn bytes_come_in_pieces_and_then_the_end_is_counted(rt: HostRuntime) -> Result<(), Fail> {
-    let bytes = Vec::from_slice(rt.alloc(), b"abcde")?;
-    source_answers(
-        rt.alloc(),
-        MemSource::new(bytes, Vec::new(rt.alloc())).with_piece(3),
-        "
-        read 4 = Ok(3) 61626300
-        left = de
-        read 4 = Ok(2) 64656300
-        read 0 = Ok(0) 64656300
-        counts = 0 0
-        read 4 = Ok(0) 64656300
-        counts = 0 1
-        ",
-    )
-}
-
-#[test]
-fn the_second_read_fails_and_takes_nothing(rt: HostRuntime) -> Result<(), Fail> {
-    let bytes = Vec::from_slice(rt.alloc(), b"abc")?;
-    let fails = Vec::from_slice(rt.alloc(), &[2])?;
-    source_answers(
-        rt.alloc(),
-        MemSource::new(bytes, fails),
-        "
-        read 2 = Ok(2) 61620000
-        read 2 = Err(Failed) 61620000
-        counts = 1 0
-        left = c
-        read 2 = Ok(1) 63620000
-        ",
-    )
-}
 
 // What a sink counts.
 fn counts(sink: &MemSink) -> (u64, u64) {

@@ -1,0 +1,32 @@
+//! Says the texts that stand in files to the core, and compares what it answers with what stands there. It is a program of
+//! tests, and no part of the tool; docs/ARCHITECTURE.md says how such a text is written.
+//!
+//! It takes each file of the folder in which it is run, in the order of their names, and prints a line for each: its name,
+//! and how many conversations it has. Where a file cannot be read, or one of them goes otherwise, it says on standard error
+//! which and where, and ends with status 1.
+#![tactic(auto)]
+
+mod begun;
+mod posted;
+mod spoken;
+
+use anyhow::Result;
+use begun::opened;
+use conversation_files::Line;
+use spoken::Spoken;
+use std::alloc::Global;
+use std::process::ExitCode;
+use test_lines::{Texts, answers, play_folder};
+
+/// Cores, each as it begins.
+struct Cores;
+
+impl Texts for Cores {
+    fn play(&self, alloc: Global, begins: &str, lines: &[Line<'_>]) -> Result<Option<String>> {
+        answers(alloc, &mut Spoken::new(opened(alloc, begins)?), lines)
+    }
+}
+
+fn main(rt: HostRuntime) -> ExitCode {
+    play_folder(&rt, &Cores)
+}

@@ -1,0 +1,246 @@
+//! A shop floor (`shop_floor`): what the host asks and what the equipment does, where rows then fire until none is ready,
+//! and the rows that fired.
+//!
+//! A port stands as its number where the host names it, and as its place, counted from 0, where a carrier comes to it or
+//! a row fires; a row stands as its table, the place of its port or carrier, and its number.
+
+use crate::names::{action, carrier};
+use anyhow::{Result, bail, ensure};
+use carrier::CarrierAction;
+use gem_ids::{CarrierId, Listed, PortNo, Text80};
+use load_port::PortAction;
+use shop_floor::{FloorFiring, ShopFloor};
+use std::alloc::Global;
+use test_lines::{Subject, nothing, small, word, words};
+
+/// A shop floor, and the rows that fired at it since they were last told.
+#[derive(Drop)]
+pub struct Floor {
+    floor: ShopFloor,
+    fired: Listed<FloorFiring>,
+}
+
+impl Floor {
+    /// A floor of so many ports. The error: there are more than four.
+    pub fn new(alloc: Global, ports: u8) -> Result<Floor> {
+        ensure!(ports <= 4, "a floor has at most four ports");
+        Ok(Floor {
+            floor: ShopFloor::new(alloc, ports)?,
+            fired: Listed::new(alloc),
+        })
+    }
+}
+
+impl Subject for Floor {
+    fn answer(&mut self, alloc: Global, said: &str) -> Result<String> {
+        let words = words(alloc, said)?;
+        let words = words.as_slice();
+        match word(words, 0)? {
+            "ask" => Ok(format!(in alloc; "{}", self.ask(words)?)?),
+            "fired" => self.tell_fired(alloc),
+            "place" | "come" | "remove" | "fire" | "settle" => {
+                self.happens(words)?;
+                nothing(alloc)
+            }
+            "name" => self.name(alloc, words),
+            "reserve" => Ok(format!(in alloc; "{}", self.reserve(small(words, 1)?))?),
+            _ => Ok(format!(in alloc; "{}", self.told(words)?)?),
+        }
+    }
+}
+
+impl Floor {
+    // ---- rows
+
+    // A row fires where it starts.
+    fn fire(&mut self, x: FloorFiring) -> Result<()> {
+        if self.floor.starts(x) {
+            self.floor.fire(x)?;
+            self.fired.push(x)?;
+        }
+        Ok(())
+    }
+
+    // A row fires where it starts, and then that of the carrier that it creates.
+    fn fire_all(&mut self, x: FloorFiring) -> Result<()> {
+        let creation = self.floor.creation(x);
+        self.fire(x)?;
+        match creation {
+            Some(first) => self.fire(first),
+            None => Ok(()),
+        }
+    }
+
+    // Rows fire by themselves until none is ready.
+    fn settle(&mut self) -> Result<()> {
+        for _ in 0..50 {
+            match self.floor.least() {
+                Some(x) => self.fire_all(x)?,
+                None => return Ok(()),
+            }
+        }
+        bail!("the floor doesn't come to rest")
+    }
+
+    // A row of a table fires at the port of this place, where it starts.
+    fn fire_at(&mut self, table: u8, object: u8, row: u8) -> Result<()> {
+        let object = object as usize;
+        self.fire_all(FloorFiring { table, object, row })
+    }
+
+    // The rows that fired, which are told no more.
+    fn tell_fired(&mut self, alloc: Global) -> Result<String> {
+        let text = rows_text(alloc, self.fired.as_slice())?;
+        self.fired = Listed::new(alloc);
+        Ok(text)
+    }
+
+    // ---- what the equipment does
+
+    // A carrier is placed at or removed from a port, and rows fire; it comes, and nothing fires by itself yet; a row
+    // fires at a port, or all do that are ready.
+    fn happens(&mut self, words: &[&str]) -> Result<()> {
+        match word(words, 0)? {
+            "place" => {
+                self.come(words)?;
+                self.settle()
+            }
+            "come" => self.come(words),
+            "remove" => self.remove(small(words, 1)?),
+            "fire" => self.fire_at(small(words, 1)?, small(words, 2)?, small(words, 3)?),
+            _ => self.settle(),
+        }
+    }
+
+    // A carrier is placed at a port, with the name that is read and its map.
+    fn come(&mut self, words: &[&str]) -> Result<()> {
+        let place = small(words, 1)?;
+        let name = name_read(words)?;
+        let map = map(word(words, 3)?)?;
+        let port = PortNo(place.saturating_add(1));
+        if !self.floor.has_port(port) {
+            bail!("there is no such port");
+        }
+        let arrival = self.floor.arrival(port, name, map);
+        self.floor.come(port, arrival);
+        self.fire_at(4, place, 3)
+    }
+
+    // The carrier of a port is removed, and rows fire.
+    fn remove(&mut self, place: u8) -> Result<()> {
+        self.fire_at(4, place, 5)?;
+        self.fire_at(7, place, 6)?;
+        self.settle()
+    }
+
+    // ---- what the host asks
+
+    // The host asks for this of a carrier; gives what it is answered.
+    fn ask(&mut self, words: &[&str]) -> Result<u8> {
+        let action = CarrierAction {
+            word: action(word(words, 1)?)?,
+            id: Text80::read(word(words, 2)?.as_bytes())?,
+            port: small(words, 3)?,
+            map: match words.get(4) {
+                Some(word) => Some(map(word)?),
+                None => None,
+            },
+            bad_attr: false,
+        };
+        let code = self.floor.carrier_code(&action);
+        self.done(&action)?;
+        Ok(code)
+    }
+
+    // What the host asks for is done, where it can be.
+    fn done(&mut self, action: &CarrierAction) -> Result<()> {
+        if self.floor.carrier_code(action) != 0 {
+            return Ok(());
+        }
+        let rows = self.floor.carrier_rows(action);
+        self.floor.write(action)?;
+        for row in rows.as_slice() {
+            self.fire_all(*row)?;
+        }
+        self.settle()
+    }
+
+    // What a reservation of a port is answered.
+    fn reserve(&self, port: u8) -> u8 {
+        self.floor.port_code(&PortAction::Reserve(port))
+    }
+
+    // ---- what is told
+
+    // The name of the object at a place of a table.
+    fn name(&self, alloc: Global, words: &[&str]) -> Result<String> {
+        let table = small(words, 1)?;
+        let object = small(words, 2)? as usize;
+        if table < 8 && object >= 9 {
+            bail!("there is no such place");
+        }
+        let row = 1;
+        let name = self.floor.object_name(FloorFiring { table, object, row });
+        Ok(String::from_utf8_lossy(alloc, name.as_bytes())?)
+    }
+
+    // Whether a carrier is present or known, a port is ready to unload, or a row starts.
+    fn told(&self, words: &[&str]) -> Result<bool> {
+        match word(words, 0)? {
+            "present" => Ok(self.is_present(carrier(words, 1)?)),
+            "known" => Ok(self.is_known(carrier(words, 1)?)),
+            "ready" => Ok(self.floor.is_ready_to_unload(PortNo(small(words, 1)?))),
+            "starts" => self.starts(words),
+            _ => bail!("it says nothing"),
+        }
+    }
+
+    fn is_present(&self, name: CarrierId) -> bool {
+        match self.floor.carrier_named(name.text()) {
+            Some(carrier) => carrier.present,
+            None => false,
+        }
+    }
+
+    fn is_known(&self, name: CarrierId) -> bool {
+        self.floor.carrier_named(name.text()).is_some()
+    }
+
+    fn starts(&self, words: &[&str]) -> Result<bool> {
+        let table = small(words, 1)?;
+        let object = small(words, 2)? as usize;
+        let row = small(words, 3)?;
+        Ok(self.floor.starts(FloorFiring { table, object, row }))
+    }
+}
+
+fn rows_text(alloc: Global, rows: &[FloorFiring]) -> Result<String> {
+    let mut text = String::new(alloc);
+    for row in rows {
+        if !text.is_empty() {
+            text.push_str(" ")?;
+        }
+        let row = format!(in alloc; "{}.{}.{}", row.table, row.object, row.row)?;
+        text.push_str(row.as_str())?;
+    }
+    Ok(text)
+}
+
+// The name of a carrier that comes: `unread` where none was read.
+fn name_read(words: &[&str]) -> Result<Option<CarrierId>> {
+    if word(words, 2)? == "unread" {
+        return Ok(None);
+    }
+    Ok(Some(carrier(words, 2)?))
+}
+
+// A map whose slots are correctly occupied, or one with an undefined slot.
+fn map(word: &str) -> Result<[u8; 25]> {
+    match word {
+        "good" => Ok([3; 25]),
+        "bad" => Ok([
+            3, 3, 3, 3, 3, 3, 3, 0, 3, 3, 3, 3, 3, 3, 3, 3, 3, 3, 3, 3, 3, 3, 3, 3, 3,
+        ]),
+        _ => bail!("there is no such map"),
+    }
+}

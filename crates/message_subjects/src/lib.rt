@@ -1,0 +1,9 @@
+//! What files of texts say to the readers of the host's messages. It is a library of the program `part_texts`, and no part
+//! of the tool. Begin with `Messages`.
+#![tactic(auto)]
+
+mod bodies;
+mod message_words;
+mod parts;
+
+pub use bodies::{Acknowledge, Messages};

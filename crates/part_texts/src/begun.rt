@@ -1,0 +1,61 @@
+//! The subjects of the texts, and how they begin.
+
+use anyhow::{Result, bail};
+use conversation_files::Line;
+use floor_subjects::{CarrierStates, Floor, KnownCarriers, PortStates, ToolPorts};
+use line_subjects::{Calendar, ItemTexts, LineTexts};
+use link_subjects::{Communicates, Controls, Linked, Reads, Table};
+use message_subjects::{Acknowledge, Messages};
+use std::alloc::Global;
+use test_lines::{Texts, answers};
+
+/// The parts of the tool below its core.
+pub struct Parts;
+
+impl Texts for Parts {
+    fn play(&self, alloc: Global, begins: &str, lines: &[Line<'_>]) -> Result<Option<String>> {
+        match begins {
+            "to items" => answers(alloc, &mut ItemTexts, lines),
+            "to lines" => answers(alloc, &mut LineTexts, lines),
+            "to the calendar" => answers(alloc, &mut Calendar, lines),
+            "to S1F14 of the host" => answers(alloc, &mut Acknowledge, lines),
+            "to a source of abcde, in pieces of 3" => {
+                answers(alloc, &mut Reads::new(alloc, "abcde", &[], 3)?, lines)
+            }
+            "to a source of abc, whose second read fails" => {
+                answers(alloc, &mut Reads::new(alloc, "abc", &[2], 4)?, lines)
+            }
+            _ => match begins.strip_prefix("to the messages ") {
+                Some(names) => answers(alloc, &mut Messages::new(alloc, names)?, lines),
+                None => play_records(alloc, begins, lines),
+            },
+        }
+    }
+}
+
+// Links, communication, control and open transactions.
+fn play_records(alloc: Global, begins: &str, lines: &[Line<'_>]) -> Result<Option<String>> {
+    match begins {
+        "to a link" => answers(alloc, &mut Linked::new(), lines),
+        "to communication, disabled" => answers(alloc, &mut Communicates::disabled(), lines),
+        "to communication, delayed until 70" => {
+            answers(alloc, &mut Communicates::delayed(70), lines)
+        }
+        "to control, off-line" => answers(alloc, &mut Controls::offline(), lines),
+        "to open transactions" => answers(alloc, &mut Table::new(alloc)?, lines),
+        _ => play_floor(alloc, begins, lines),
+    }
+}
+
+// Carriers, load ports, and both together.
+fn play_floor(alloc: Global, begins: &str, lines: &[Line<'_>]) -> Result<Option<String>> {
+    match begins {
+        "to carriers" => answers(alloc, &mut KnownCarriers::new(alloc)?, lines),
+        "to the states of a carrier" => answers(alloc, &mut CarrierStates, lines),
+        "to the states of a port" => answers(alloc, &mut PortStates, lines),
+        "to two ports" => answers(alloc, &mut ToolPorts::new(), lines),
+        "to a floor of 2 ports" => answers(alloc, &mut Floor::new(alloc, 2)?, lines),
+        "to a floor of 4 ports" => answers(alloc, &mut Floor::new(alloc, 4)?, lines),
+        _ => bail!("there is no such subject"),
+    }
+}

@@ -7,7 +7,7 @@ use Rattle.std.proofs.lemmas.List.Folds.{list_any_more}
 use Rattle.std.proofs.lemmas.Slice.Eq.{bytes_eq-Decides}
 use Rattle.secs_items.specs.Ids.{id_of}
 use Rattle.event_reports.specs.declared.alarms.AlarmLine.{AlarmLine}
-use Rattle.msgs_gem.specs.declared.reply.ParameterAcknowledge.{ParameterAcknowledge}
+use Rattle.gem_replies.specs.declared.reply.ParameterAcknowledge.{ParameterAcknowledge}
 use Rattle.gem_model.specs.State.{State}
 use Rattle.gem_model.specs.Remote.{RemoteCommand, GoLocal, ClearAlarm, Parameter, takes, was_given, cpack, faulty, command_named, hcack, listed, listed_by, alarm_named}
 

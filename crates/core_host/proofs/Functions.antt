@@ -3,9 +3,9 @@ use Rattle.std.proofs.Common.{◌≡◌, ℕ, ◌<◌, ◌==◌, ◌&&◌, nat_l
 use Rattle.std.specs.List.{find, list_all}
 use Rattle.std.proofs.lemmas.Bool.{and_parts, eqb-true, ltb-true}
 use Rattle.secs_items.specs.Data.{Data}
-use Rattle.msgs_gem.specs.declared.primary.GemMsg.{GemMsg}
+use Rattle.gem_primaries.specs.declared.primary.GemMsg.{GemMsg}
 use Rattle.body_parts.specs.Lines.{Line, line_of, has_stream, by_found}
-use Rattle.msgs_gem.specs.Primaries.{lines, reading}
+use Rattle.gem_primaries.specs.Primaries.{lines, reading}
 use Rattle.msgs_300.specs.Primaries.{Message, lines as shop_lines, reading as shop_reading}
 
 -- its function has one behind it

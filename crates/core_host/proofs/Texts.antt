@@ -5,7 +5,7 @@ use Rattle.secs_items.specs.Spelling.{AreBelow}
 use Rattle.secs_items.specs.View.{view}
 use Rattle.secs_items.specs.declared.item.Item.{Item}
 use Rattle.secs_items.proofs.OneItem.{one_spelled}
-use Rattle.msgs_gem.specs.Few.{HasShortText}
+use Rattle.gem_primaries.specs.Few.{HasShortText}
 
 short_found : (found : Option Item) (text : List ℕ) → AreBelow 256 text → length text ≤ 2 ^ 29 → option_map view found ≡ one_item text → IfSome found (λ i. HasShortText (view i))
 short_found None text below short is = tt

@@ -3,12 +3,12 @@ use Rattle.std.proofs.Common.{◌≡◌, ℕ, ◌+◌, ◌==◌, Bool, true, fal
 use Rattle.gem_tables.specs.Table.{Firing}
 use Rattle.hsms_frame.specs.declared.frame.Header.{Header}
 use Rattle.secs_items.specs.Plain.{plain}
-use Rattle.msgs_gem.specs.Replies.{reply_body}
+use Rattle.gem_replies.specs.Replies.{reply_body}
 use Rattle.gem_ids.specs.Civil.{moment_in}
 use Rattle.event_reports.specs.Alarms.{is_set, clear_alarm}
-use Rattle.msgs_gem.specs.declared.primary.GemMsg.{GemMsg}
-use Rattle.msgs_gem.specs.declared.primary.GemMsg.TheVariants as msg
-use Rattle.msgs_gem.specs.declared.primary.SpooledStream.{SpooledStream}
+use Rattle.gem_primaries.specs.declared.primary.GemMsg.{GemMsg}
+use Rattle.gem_primaries.specs.declared.primary.GemMsg.TheVariants as msg
+use Rattle.gem_primaries.specs.declared.primary.SpooledStream.{SpooledStream}
 use Rattle.note_line.specs.Line.{with_kinds}
 use Rattle.gem_model.specs.State.{State, with_frame}
 use Rattle.gem_model.specs.Sending.{data_frame}

@@ -1,9 +1,9 @@
 -- The direct rows of a message, by what it was answered.
 use Rattle.std.specs.Prelude.{List}
 use Rattle.gem_tables.specs.Table.{Firing}
-use Rattle.msgs_gem.specs.declared.primary.GemMsg.{GemMsg}
-use Rattle.msgs_gem.specs.declared.primary.GemMsg.TheVariants as msg
-use Rattle.msgs_gem.specs.declared.reply.GemReply.{GemReply}
+use Rattle.gem_primaries.specs.declared.primary.GemMsg.{GemMsg}
+use Rattle.gem_primaries.specs.declared.primary.GemMsg.TheVariants as msg
+use Rattle.gem_replies.specs.declared.reply.GemReply.{GemReply}
 use Rattle.gem_model.specs.State.{State}
 use Rattle.gem_model.specs.Direct.{message_rows, command_rows}
 use Rattle.core_host.specs.Remotes.{accepted_by}

@@ -1,7 +1,7 @@
 -- Remote commands of the code, and which command a reply accepts.
 use Rattle.std.specs.Prelude.{ℕ, ◌==◌, Bool, false, if◌then◌else◌, List, Option, None}
-use Rattle.msgs_gem.specs.declared.reply.GemReply.{GemReply}
-use Rattle.msgs_gem.specs.declared.reply.GemReply.TheVariants as reply
+use Rattle.gem_replies.specs.declared.reply.GemReply.{GemReply}
+use Rattle.gem_replies.specs.declared.reply.GemReply.TheVariants as reply
 use Rattle.gem_model.specs.Remote as model
 use Rattle.core_host.specs.declared.remote.RemoteCommand.{RemoteCommand}
 use Rattle.core_host.specs.declared.remote.RemoteCommand.TheVariants as code

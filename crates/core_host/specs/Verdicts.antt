@@ -1,7 +1,7 @@
 -- What the code's verdicts on data messages stand for.
 use Rattle.std.specs.Prelude.{◌<◌}
 use Rattle.hsms_frame.specs.declared.frame.Header.{Header}
-use Rattle.msgs_gem.specs.Few.{HasFewParts}
+use Rattle.gem_primaries.specs.Few.{HasFewParts}
 use Rattle.msgs_300.specs.Primaries.{said}
 use Rattle.gem_model.specs.Verdict as model
 use Rattle.core_host.specs.declared.verdict.Verdict.{Verdict}

@@ -2,7 +2,7 @@
 ghost use Rattle.std.specs.Prelude.{◌≡◌, ◌≤◌, ◌^◌, length, IfOk, IfSome, option_map};
 ghost use Rattle.secs_items.specs.One.{one_item};
 ghost use Rattle.secs_items.specs.View.{view};
-ghost use Rattle.msgs_gem.specs.Few.{HasShortText};
+ghost use Rattle.gem_primaries.specs.Few.{HasShortText};
 ghost use Rattle.gem_model.specs.Verdict.{header_of, is_too_long, item_of, wants_reply, stream_of, is_message};
 ghost use Rattle.core_host.specs.Short.{IsShort};
 

@@ -1,8 +1,8 @@
 //! A data message of the host: what it is answered, and what it does.
 ghost use Rattle.std.specs.Prelude.{◌≡◌, ◌+◌, ◌≤◌, ◌<◌, ◌^◌, length, OnOk, IfOk};
 ghost use Rattle.transactions.specs.Endings.{answered};
-ghost use Rattle.msgs_gem.specs.Acknowledge.{accepts};
-ghost use Rattle.msgs_gem.specs.Few.{HasFewParts};
+ghost use Rattle.gem_replies.specs.Acknowledge.{accepts};
+ghost use Rattle.gem_primaries.specs.Few.{HasFewParts};
 ghost use Rattle.gem_model.specs.Fire.{fires, fire_listed};
 ghost use Rattle.gem_model.specs.Direct.{by_comm, establish_answer};
 ghost use Rattle.gem_model.specs.Verdict.{item_of, stream_of, function_of};

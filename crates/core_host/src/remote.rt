@@ -2,8 +2,8 @@
 ghost use Rattle.std.specs.Str.{bytes_eq};
 ghost use Rattle.std.specs.Prelude.{◌≡◌, List, [], codes, length, OnOk, IfOk, option_map};
 ghost use Rattle.secs_items.specs.Sendable.{IsLength};
-ghost use Rattle.msgs_gem.specs.declared.reply.GemReply.TheVariants as reply;
-ghost use Rattle.msgs_gem.specs.Sendable.{HasSendableParts};
+ghost use Rattle.gem_replies.specs.declared.reply.GemReply.TheVariants as reply;
+ghost use Rattle.gem_replies.specs.Sendable.{HasSendableParts};
 ghost use Rattle.gem_model.specs.Fire.{fires};
 ghost use Rattle.gem_model.specs.Direct.{command_rows};
 ghost use Rattle.gem_model.specs.Act.{clears_named, command_written};

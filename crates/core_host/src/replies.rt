@@ -2,10 +2,10 @@
 ghost use Rattle.std.specs.Prelude.{◌≡◌, OnOk, IfOk, option_map};
 ghost use Rattle.gem_ids.specs.Texts.{IsText};
 ghost use Rattle.gem_ids.specs.Civil.{moment_in, time_digits};
-ghost use Rattle.msgs_gem.specs.declared.reply.GemReply.TheVariants as reply;
+ghost use Rattle.gem_replies.specs.declared.reply.GemReply.TheVariants as reply;
 ghost use Rattle.gem_model.specs.State.{clock_now};
-ghost use Rattle.msgs_gem.specs.Few.{HasFewParts};
-ghost use Rattle.msgs_gem.specs.Sendable.{HasSendableParts};
+ghost use Rattle.gem_primaries.specs.Few.{HasFewParts};
+ghost use Rattle.gem_replies.specs.Sendable.{HasSendableParts};
 ghost use Rattle.gem_model.specs.Verdict.{onlack, tiack, is_enabling, reply_to};
 ghost use Rattle.gem_model.specs.Act.{written, clock_set};
 

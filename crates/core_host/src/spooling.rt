@@ -1,10 +1,10 @@
 //! Which notes the host has spooled, and how it asks for them (SEMI E5, S2F43 and S6F23; SEMI E30, spooling).
 ghost use Rattle.std.specs.Prelude.{◌≡◌, ◌==◌, length, map, filter_map, OnOk, IfOk};
 ghost use Rattle.std.specs.List.{list_any};
-ghost use Rattle.msgs_gem.specs.declared.primary.SpooledStream.{SpooledStream};
-ghost use Rattle.msgs_gem.specs.declared.reply.GemReply.TheVariants as reply;
-ghost use Rattle.msgs_gem.specs.Functions.{AreFewFunctions};
-ghost use Rattle.msgs_gem.specs.Sendable.{HasSendableParts};
+ghost use Rattle.gem_primaries.specs.declared.primary.SpooledStream.{SpooledStream};
+ghost use Rattle.gem_replies.specs.declared.reply.GemReply.TheVariants as reply;
+ghost use Rattle.body_parts.specs.Functions.{AreFewFunctions};
+ghost use Rattle.gem_replies.specs.Sendable.{HasSendableParts};
 ghost use Rattle.gem_model.specs.Fire.{fire_listed};
 ghost use Rattle.gem_model.specs.Spooling.{is_spoolable, faulty_functions, function_strack, refused, refusal_for, refusal, refusals, rspack, kinds_of, spools, unload_rows};
 

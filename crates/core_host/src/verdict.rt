@@ -3,8 +3,8 @@
 ghost use Rattle.std.specs.Prelude.{◌≡◌, ◌<◌, IfOk, IfSome, option_map};
 ghost use Rattle.gem_tables.specs.Table.{choose};
 ghost use Rattle.secs_items.specs.View.{view};
-ghost use Rattle.msgs_gem.specs.Few.{HasShortText};
-ghost use Rattle.msgs_gem.specs.Primaries.{reading};
+ghost use Rattle.gem_primaries.specs.Few.{HasShortText};
+ghost use Rattle.gem_primaries.specs.Primaries.{reading};
 ghost use Rattle.gem_model.specs.Verdict.{Stream9, header_of, item_of, stream_of, function_of, may_establish, is_establish, first_rules, verdict, told_by, read_as, shop_read_as, read_message};
 ghost use Rattle.msgs_300.specs.Primaries.{reading as shop_reading};
 ghost use Rattle.transactions.specs.Endings.{answered};

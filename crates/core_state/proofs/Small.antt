@@ -7,8 +7,8 @@ use Rattle.secs_items.specs.Data.{Data, DataList, ascii, u1, u2, u4, boolean}
 use Rattle.secs_items.specs.Plain.{plain, count_of}
 use Rattle.secs_items.specs.Weight.{weight, IsBounded, AreBounded}
 use Rattle.secs_items.proofs.Weights.{plain-weight, bounded-list, bounded-text}
-use Rattle.msgs_gem.specs.declared.reply.GemReply.TheVariants as reply
-use Rattle.msgs_gem.specs.Replies.{reply_body}
+use Rattle.gem_replies.specs.declared.reply.GemReply.TheVariants as reply
+use Rattle.gem_replies.specs.Replies.{reply_body}
 use Rattle.data_variables.specs.declared.val.Val.{Val}
 use Rattle.data_variables.specs.declared.val.Val.TheVariants.{Number, Truth}
 use Rattle.data_variables.specs.Bodies.{value_item}
@@ -19,7 +19,7 @@ use Rattle.event_reports.proofs.Small.{count_values, small_values_of}
 use Rattle.data_variables.specs.Bodies.{name_item, items}
 use Rattle.data_variables.specs.Table.{constant_ids}
 use Rattle.data_variables.proofs.Sending.{names_bounded, names_counted}
-use Rattle.msgs_gem.specs.Sendable.{AreFew}
+use Rattle.gem_replies.specs.Sendable.{AreFew}
 use Rattle.gem_model.specs.Verdict.{or_all, status_name, alarm_part, alids_of, enabled_alids}
 use Rattle.event_reports.specs.Limits.{most_alarms}
 use Rattle.spool.specs.Spool.{load_number, unload_number}

@@ -3,8 +3,8 @@ use Rattle.std.proofs.Common.{◌≡◌, ℕ, ◌+◌, ◌*◌, List, Option, Bo
 use Rattle.gem_rows.specs.Events.{ceid_of}
 use Rattle.secs_items.specs.Data.{DataList}
 use Rattle.secs_items.specs.Plain.{plain}
-use Rattle.msgs_gem.specs.declared.reply.GemReply.TheVariants as reply
-use Rattle.msgs_gem.specs.Replies.{reply_body}
+use Rattle.gem_replies.specs.declared.reply.GemReply.TheVariants as reply
+use Rattle.gem_replies.specs.Replies.{reply_body}
 use Rattle.event_reports.specs.Alarms.{is_alarm, is_set, set_alarm, clear_alarm}
 use Rattle.gem_model.specs.State.{State}
 use Rattle.gem_model.specs.Values.{Occasion}

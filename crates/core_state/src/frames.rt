@@ -2,8 +2,8 @@
 ghost use Rattle.std.specs.Prelude.{◌≡◌, ◌≤◌, ◌^◌, length, [], IfOk};
 ghost use Rattle.secs_items.specs.View.{view};
 ghost use Rattle.hsms_frame.specs.Spelling.{message_bytes, header_bytes};
-ghost use Rattle.msgs_gem.specs.Replies.{reply_body, B};
-ghost use Rattle.msgs_gem.specs.Sendable.{HasSendableParts};
+ghost use Rattle.gem_replies.specs.Replies.{reply_body, B};
+ghost use Rattle.gem_replies.specs.Sendable.{HasSendableParts};
 ghost use Rattle.msgs_300.specs.Replies.{shop_reply_body};
 ghost use Rattle.gem_model.specs.Sending.{data_header, data_frame, identity_text, stream9_text};
 ghost use Rattle.secs_items.specs.Plain.{plain};

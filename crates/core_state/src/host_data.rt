@@ -6,8 +6,8 @@ ghost use Rattle.data_variables.specs.Setting.{eac, set_all_after};
 ghost use Rattle.event_reports.specs.Limits.{most_alarms};
 ghost use Rattle.event_reports.specs.Alarms.{is_alarm, is_set, ackc5, alarms_enabled};
 ghost use Rattle.event_reports.specs.Reports.{value_items, report_items, one_items, drack, defined, lrack, linked, erack, enabled};
-ghost use Rattle.msgs_gem.specs.Replies.{items as items_data};
-ghost use Rattle.msgs_gem.specs.Sendable.{AreFew};
+ghost use Rattle.gem_replies.specs.Replies.{items as items_data};
+ghost use Rattle.gem_replies.specs.Sendable.{AreFew};
 ghost use Rattle.gem_model.specs.Values.{no_firing, status_value, constant_value, value_of, port_vids, svids};
 ghost use Rattle.gem_model.specs.Verdict.{or_all, status_name, settings_of, alarm_part, alids_of, enabled_alids};
 

@@ -2,9 +2,9 @@
 ghost use Rattle.std.specs.Prelude.{◌≡◌, ◌≤◌, ◌+◌, ◌*◌, [], length, OnOk, IfOk, Some, unwrap_or};
 ghost use Rattle.gem_ids.specs.Texts.{IsText};
 ghost use Rattle.secs_items.specs.Plain.{plain};
-ghost use Rattle.msgs_gem.specs.declared.reply.GemReply.TheVariants as reply;
-ghost use Rattle.msgs_gem.specs.Replies.{reply_body};
-ghost use Rattle.msgs_gem.specs.Sendable.{AreFew};
+ghost use Rattle.gem_replies.specs.declared.reply.GemReply.TheVariants as reply;
+ghost use Rattle.gem_replies.specs.Replies.{reply_body};
+ghost use Rattle.gem_replies.specs.Sendable.{AreFew};
 ghost use Rattle.event_reports.specs.Reports.{report_items, one_items};
 ghost use Rattle.event_reports.specs.Alarms.{is_set};
 ghost use Rattle.note_line.specs.Limits.{most_text};

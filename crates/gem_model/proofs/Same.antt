@@ -3,8 +3,8 @@ use Rattle.std.proofs.Common.{◌≡◌, ℕ, ◌+◌, ◌==◌, Bool, true, not
 use Rattle.hsms_frame.specs.declared.frame.Header.{Header}
 use Rattle.hsms_frame.specs.declared.frame.Arrival.{Arrival}
 use Rattle.secs_items.specs.Data.{Data}
-use Rattle.msgs_gem.specs.declared.primary.GemMsg.{GemMsg}
-use Rattle.msgs_gem.specs.declared.primary.GemMsg.TheVariants as msg
+use Rattle.gem_primaries.specs.declared.primary.GemMsg.{GemMsg}
+use Rattle.gem_primaries.specs.declared.primary.GemMsg.TheVariants as msg
 use Rattle.tool_events.specs.declared.event.OperCmd.{OperCmd}
 use Rattle.tool_events.specs.declared.event.OperCmd.TheVariants as oper
 use Rattle.transactions.specs.declared.transaction.What.{What}
@@ -15,7 +15,7 @@ use Rattle.gem_tables.specs.Table.{Firing, firing}
 use Rattle.gem_model.specs.State.{State, none_asked, can_ask}
 use Rattle.gem_ids.specs.Civil.{moment_in}
 use Rattle.secs_items.specs.Plain.{plain}
-use Rattle.msgs_gem.specs.Replies.{reply_body}
+use Rattle.gem_replies.specs.Replies.{reply_body}
 use Rattle.transactions.specs.Table.{taken_out}
 use Rattle.gem_model.specs.Direct.{message_rows, answer_rows, timeout_rows}
 use Rattle.gem_model.specs.Sending.{asks, identity_text, sends_stream9, data_header}

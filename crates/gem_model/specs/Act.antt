@@ -5,9 +5,9 @@ use Rattle.hsms_frame.specs.declared.frame.Header.{Header}
 use Rattle.hsms_frame.specs.declared.frame.Arrival.{Arrival}
 use Rattle.secs_items.specs.Data.{Data}
 use Rattle.secs_items.specs.Plain.{plain}
-use Rattle.msgs_gem.specs.declared.primary.GemMsg.{GemMsg}
-use Rattle.msgs_gem.specs.declared.primary.GemMsg.TheVariants as msg
-use Rattle.msgs_gem.specs.Replies.{reply_body}
+use Rattle.gem_primaries.specs.declared.primary.GemMsg.{GemMsg}
+use Rattle.gem_primaries.specs.declared.primary.GemMsg.TheVariants as msg
+use Rattle.gem_replies.specs.Replies.{reply_body}
 use Rattle.data_variables.specs.Setting.{set_all_after}
 use Rattle.event_reports.specs.Reports.{defined, linked, enabled}
 use Rattle.event_reports.specs.Alarms.{alarms_enabled}

@@ -8,9 +8,9 @@ use Rattle.gem_states.specs.declared.control.ControlTrigger.{ControlTrigger}
 use Rattle.gem_states.specs.declared.control.ControlTrigger.TheVariants as control
 use Rattle.gem_states.specs.Meaning.{comm_rows, control_rows}
 use Rattle.gem_tables.specs.Table.{Firing}
-use Rattle.msgs_gem.specs.declared.primary.GemMsg.{GemMsg}
-use Rattle.msgs_gem.specs.declared.primary.GemMsg.TheVariants as msg
-use Rattle.msgs_gem.specs.Acknowledge.{accepts}
+use Rattle.gem_primaries.specs.declared.primary.GemMsg.{GemMsg}
+use Rattle.gem_primaries.specs.declared.primary.GemMsg.TheVariants as msg
+use Rattle.gem_replies.specs.Acknowledge.{accepts}
 use Rattle.tool_events.specs.declared.event.OperCmd.{OperCmd}
 use Rattle.tool_events.specs.declared.event.OperCmd.TheVariants as oper
 use Rattle.transactions.specs.declared.transaction.What.{What}

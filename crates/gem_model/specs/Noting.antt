@@ -5,8 +5,8 @@ use Rattle.gem_rows.specs.Events.{ceid_of}
 use Rattle.gem_rows.specs.Alarms.{alarm_text}
 use Rattle.secs_items.specs.Data.{DataList}
 use Rattle.secs_items.specs.Plain.{plain}
-use Rattle.msgs_gem.specs.declared.reply.GemReply.TheVariants as reply
-use Rattle.msgs_gem.specs.Replies.{reply_body}
+use Rattle.gem_replies.specs.declared.reply.GemReply.TheVariants as reply
+use Rattle.gem_replies.specs.Replies.{reply_body}
 use Rattle.event_reports.specs.Reports.{is_enabled, report_items}
 use Rattle.event_reports.specs.Alarms.{is_set, is_alarm_enabled, set_alarm, clear_alarm, is_alarm}
 use Rattle.spool.specs.declared.note.Kind.TheVariants.{Event, Alarm}

@@ -8,7 +8,7 @@ use Rattle.secs_items.specs.Data.{Data}
 use Rattle.secs_items.specs.Ids.{id_of}
 use Rattle.event_reports.specs.declared.alarms.AlarmLine.{AlarmLine}
 use Rattle.event_reports.specs.Alarms.{is_alarm, is_set}
-use Rattle.msgs_gem.specs.declared.reply.ParameterAcknowledge.{ParameterAcknowledge}
+use Rattle.gem_replies.specs.declared.reply.ParameterAcknowledge.{ParameterAcknowledge}
 use Rattle.gem_model.specs.State.{State}
 
 -- the commands that are built: GOLOCAL, which takes no parameter, and CLEARALARM, which takes the ALID of an alarm

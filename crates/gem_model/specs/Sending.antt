@@ -3,7 +3,7 @@ use Rattle.std.specs.Prelude.{ℕ, ◌+◌, ◌%◌, Bool, true, false, if◌the
 use Rattle.hsms_frame.specs.declared.frame.Header.{Header}
 use Rattle.hsms_frame.specs.Spelling.{header_bytes, message_bytes}
 use Rattle.secs_items.specs.Plain.{plain}
-use Rattle.msgs_gem.specs.Replies.{B, identity}
+use Rattle.gem_replies.specs.Replies.{B, identity}
 use Rattle.tool_events.specs.declared.config.Config.{Config}
 use Rattle.transactions.specs.declared.transaction.What.{What}
 use Rattle.transactions.specs.Table.{is_full}

@@ -12,14 +12,14 @@ use Rattle.secs_items.specs.Data.{Data}
 use Rattle.secs_items.specs.One.{one_item}
 use Rattle.body_parts.specs.declared.fault.BodyFault.{BodyFault}
 use Rattle.body_parts.specs.declared.fault.BodyFault.TheVariants as fault
-use Rattle.msgs_gem.specs.declared.primary.GemMsg.{GemMsg}
-use Rattle.msgs_gem.specs.declared.primary.GemMsg.TheVariants as msg
-use Rattle.msgs_gem.specs.declared.reply.GemReply.{GemReply}
-use Rattle.msgs_gem.specs.declared.reply.GemReply.TheVariants as reply
-use Rattle.msgs_gem.specs.declared.reply.AlarmPart.{AlarmPart}
-use Rattle.msgs_gem.specs.declared.reply.VariableName.{VariableName}
-use Rattle.msgs_gem.specs.Primaries.{reading}
-use Rattle.msgs_gem.specs.Replies.{items}
+use Rattle.gem_primaries.specs.declared.primary.GemMsg.{GemMsg}
+use Rattle.gem_primaries.specs.declared.primary.GemMsg.TheVariants as msg
+use Rattle.gem_replies.specs.declared.reply.GemReply.{GemReply}
+use Rattle.gem_replies.specs.declared.reply.GemReply.TheVariants as reply
+use Rattle.gem_replies.specs.declared.reply.AlarmPart.{AlarmPart}
+use Rattle.gem_replies.specs.declared.reply.VariableName.{VariableName}
+use Rattle.gem_primaries.specs.Primaries.{reading}
+use Rattle.gem_replies.specs.Replies.{items}
 use Rattle.msgs_300.specs.Primaries.{Message, is_shop_stream}
 use Rattle.msgs_300.specs.Primaries as shop
 use Rattle.data_variables.specs.declared.val.Val.{Val}

@@ -4,7 +4,7 @@ use Rattle.secs_items.specs.Data.{Data, DataList, list, no_items, item, added}
 use Rattle.secs_items.specs.Plain.{count_of}
 use Rattle.secs_items.specs.Weight.{IsBounded, AreBounded}
 use Rattle.secs_items.proofs.Weights.{bounded-list, bounded-added, count-added}
-use Rattle.msgs_gem.specs.Sendable.{AreFew}
+use Rattle.gem_replies.specs.Sendable.{AreFew}
 
 -- one more item within bounds
 pub one_more : (deep most : ℕ) (ds new : DataList) (d : Data) (n : ℕ) → new ≡ added ds d → count_of ds ≡ n → AreBounded deep most ds → IsBounded deep most d → (count_of new ≡ n + 1) × AreBounded deep most new

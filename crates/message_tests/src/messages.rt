@@ -1,7 +1,7 @@
 //! Bodies of messages (`msgs_gem`).
 
 ghost use Rattle.std.specs.Prelude.{◌≡◌, length, IfOk};
-ghost use Rattle.msgs_gem.specs.Sendable.{AreCharacters, HasSendableParts};
+ghost use Rattle.gem_replies.specs.Sendable.{AreCharacters, HasSendableParts};
 
 use crate::texts::{is_text, sent};
 use msgs_gem::{BodyFault, GemReply, Identity, is_ignored, read_gem};

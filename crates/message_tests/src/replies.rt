@@ -3,8 +3,8 @@
 ghost use Rattle.std.specs.Prelude.{◌≡◌, ◌≤◌, length, map, IfOk};
 ghost use Rattle.secs_items.specs.View.{view};
 ghost use Rattle.secs_items.specs.Weight.{IsBounded};
-ghost use Rattle.msgs_gem.specs.Functions.{AreFewFunctions};
-ghost use Rattle.msgs_gem.specs.Sendable.{AreFew, HasSendableParts};
+ghost use Rattle.body_parts.specs.Functions.{AreFewFunctions};
+ghost use Rattle.gem_replies.specs.Sendable.{AreFew, HasSendableParts};
 
 use crate::texts::{bytes, is_text, repeated, sent};
 use gem_ids::{Listed, Text80};

@@ -1,6 +1,6 @@
 //! Texts of the tool's replies.
 
-ghost use Rattle.msgs_gem.specs.Sendable.{HasSendableParts};
+ghost use Rattle.gem_replies.specs.Sendable.{HasSendableParts};
 
 use msgs_gem::{GemReply, gem_item};
 use secs_items::{NoMemory, encode};

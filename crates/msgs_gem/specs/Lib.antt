@@ -1,10 +1,10 @@
-pub mod Acknowledge
-pub mod Primaries
-pub mod Replies
-pub mod Few
-pub mod Functions
-pub mod Sendable
 pub use Rattle.body_parts.specs.Bodies
+pub use Rattle.body_parts.specs.Functions
 pub use Rattle.body_parts.specs.Given
 pub use Rattle.body_parts.specs.Lines
 pub use Rattle.body_parts.specs.Printed
+pub use Rattle.gem_primaries.specs.Few
+pub use Rattle.gem_primaries.specs.Primaries
+pub use Rattle.gem_replies.specs.Acknowledge
+pub use Rattle.gem_replies.specs.Replies
+pub use Rattle.gem_replies.specs.Sendable

@@ -3,17 +3,20 @@
 //! message does is left to the crates above, and so are headers, the W-bit and texts that are not one item; values,
 //! constants and reports come to a reply as items that those crates made. Begin with `read_gem`, which reads a primary,
 //! and `gem_item`, which gives the item of a reply.
+//!
+//! What is read stands in `gem_primaries` and what is written in `gem_replies`; this crate names both, and says what holds of
+//! the two together.
 #![tactic(auto)]
 
-mod acknowledge;
 mod laws;
-mod primary;
-mod reply;
 
-pub use acknowledge::accepts_communication;
 pub use body_parts::BodyFault;
-pub use laws::{an_ignored_text_makes_no_difference, what_refuses_few_functions_can_be_sent};
-pub use primary::{GemMsg, Parameter, Setting, SpooledStream, is_ignored, read_gem};
-pub use reply::{
-    AlarmPart, GemReply, Identity, ParameterAcknowledge, StreamRefusal, VariableName, gem_item,
+pub use gem_primaries::{
+    GemMsg, Parameter, Setting, SpooledStream, an_ignored_text_makes_no_difference, is_ignored,
+    read_gem,
 };
+pub use gem_replies::{
+    AlarmPart, GemReply, Identity, ParameterAcknowledge, StreamRefusal, VariableName,
+    accepts_communication, gem_item,
+};
+pub use laws::what_refuses_few_functions_can_be_sent;

@@ -1,7 +1,7 @@
 use Rattle.std.proofs.Common.{ap, ◌∙◌, ◌+◌}
 use Rattle.secs_items.specs.Plain.{plain}
-use Rattle.msgs_gem.specs.declared.reply.GemReply.{GemReply}
-use Rattle.msgs_gem.specs.Replies.{reply_body}
+use Rattle.gem_replies.specs.declared.reply.GemReply.{GemReply}
+use Rattle.gem_replies.specs.Replies.{reply_body}
 use Rattle.gem_model.specs.State.{State}
 use Rattle.gem_model.specs.Fire.{fires}
 use Rattle.gem_model.specs.Verdict.{function_of}

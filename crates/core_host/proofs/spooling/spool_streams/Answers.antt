@@ -1,6 +1,6 @@
 use Rattle.std.proofs.Common.{List, map, sym, subst}
-use Rattle.msgs_gem.specs.Functions.{AreFewFunctions}
-use Rattle.msgs_gem.specs.declared.reply.StreamRefusal.{StreamRefusal}
+use Rattle.body_parts.specs.Functions.{AreFewFunctions}
+use Rattle.gem_replies.specs.declared.reply.StreamRefusal.{StreamRefusal}
 use Rattle.msgs_gem.proofs.Spooling.{few_refused}
 use Rattle.gem_model.specs.Spooling.{refusal}
 use Rattle.core_host.proofs.Refused.{refuses_fewer}

@@ -1,0 +1,3 @@
+pub mod Ignoring
+pub mod Parts
+pub mod Spooling

@@ -1,0 +1,4 @@
+pub mod Accepting
+pub mod Bounds
+pub mod Printing
+pub mod Spooling

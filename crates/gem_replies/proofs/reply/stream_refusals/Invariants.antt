@@ -1,0 +1,8 @@
+use Rattle.std.proofs.Common.{◌≡◌, map, take}
+use Rattle.body_parts.specs.Printed.{items}
+use Rattle.gem_replies.specs.Replies.{stream_refusal}
+use Rattle.gem_replies.proofs.reply.stream_refusals.Given as goal
+
+-- the items are those of the refusals so far
+abbrev pub invariant-loop-refusal : goal.invariant-loop-refusal
+invariant-loop-refusal l = l.items ≡ items (map stream_refusal (take l.refusal-index l.refusals))

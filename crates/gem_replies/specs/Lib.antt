@@ -1,0 +1,3 @@
+pub mod Acknowledge
+pub mod Replies
+pub mod Sendable

@@ -1,0 +1,355 @@
+//! The tool's replies, and its own primaries.
+
+ghost use Rattle.std.specs.Prelude.{◌≡◌, ◌<◌, ◌≤◌, ◌^◌, ◌∷◌, [], List, length, map, IfOk};
+ghost use Rattle.secs_items.specs.Data.{Data};
+ghost use Rattle.secs_items.specs.Plain.{plain};
+ghost use Rattle.secs_items.specs.Sendable.{IsSendable};
+ghost use Rattle.secs_items.specs.View.{view};
+ghost use Rattle.secs_items.specs.Weight.{IsBounded};
+ghost use Rattle.body_parts.specs.Functions.{AreFewFunctions};
+ghost use Rattle.body_parts.specs.Printed.{L, U1, code as code_data, each};
+ghost use Rattle.gem_replies.specs.Replies.{alarm as alarm_data, alarm_code as alarm_code_data, alarm_part, event as event_data, identity, parameter_acknowledge, reply_body, spooling, stream_refusal as stream_refusal_data, variable_name};
+ghost use Rattle.gem_replies.specs.Sendable.{AreFew, HasSendableParts};
+
+use body_parts::writing::{ascii, binary, code, elements, text, u1, u4, u8};
+use gem_ids::{Listed, Text80};
+use secs_items::{Bytes, Item, Items, NoMemory};
+use std::alloc::Global;
+
+/// What the tool tells of itself.
+#[derive(Debug, Drop)]
+pub struct Identity {
+    /// MDLN, the model of the tool.
+    pub mdln: Bytes,
+    /// SOFTREV, the revision of its software.
+    pub softrev: Bytes,
+}
+
+/// A status variable and its name.
+#[derive(Debug, Drop)]
+pub struct VariableName {
+    /// SVID, the variable.
+    pub svid: u32,
+    /// SVNAME, its name: the text of no bytes where the variable is unknown.
+    pub name: Text80,
+}
+
+/// A parameter of a remote command that is refused, and why.
+#[derive(Debug, Drop)]
+pub struct ParameterAcknowledge {
+    /// CPNAME, the name of the parameter as it was sent.
+    pub name: Text80,
+    /// CPACK, why it is refused.
+    pub cpack: u8,
+}
+
+/// A stream that is refused where the host sets what is spooled, and why.
+#[derive(Debug, Drop)]
+pub struct StreamRefusal {
+    /// STRID, the stream as it was sent.
+    pub stream: u8,
+    /// STRACK, why it is refused.
+    pub strack: u8,
+    /// FCNID, the functions that are refused.
+    pub functions: Listed<u8>,
+}
+
+/// An alarm in a list of alarms.
+#[derive(Debug, Drop)]
+pub struct AlarmPart {
+    /// ALCD, the byte of the alarm's code. None where the alarm is unknown, which is printed as a B without elements.
+    pub alcd: Option<u8>,
+    /// ALID, the alarm.
+    pub alid: u32,
+    /// ALTX, the text of the alarm: of no bytes where the alarm is unknown.
+    pub text: Text80,
+}
+
+/// A reply of the tool, or a primary of its own, with the parts of its body in the printed order (SEMI E5; this tool's
+/// profile, messages). A part with a fixed value is no field. S1F1 of the tool and each message of function 0 have no
+/// text, and no variant.
+#[derive(Debug, Drop)]
+pub enum GemReply {
+    /// On line data: MDLN and SOFTREV.
+    S1F2(Bytes, Bytes),
+    /// Selected equipment status data: the values, in the order of the request.
+    S1F4(Items),
+    /// Status variable namelist reply.
+    S1F12(Listed<VariableName>),
+    /// Establish communications, the tool's primary: MDLN and SOFTREV.
+    S1F13(Bytes, Bytes),
+    /// Establish communications acknowledge, with COMMACK 0.
+    S1F14(Identity),
+    /// OFF-LINE acknowledge, with OFLACK 0.
+    S1F16,
+    /// ON-LINE acknowledge: ONLACK.
+    S1F18(u8),
+    /// Equipment constant data: the values, in the order of the request.
+    S2F14(Items),
+    /// New equipment constant acknowledge: EAC.
+    S2F16(u8),
+    /// Date and time data: 16 digits, YYYYMMDDhhmmsscc.
+    S2F18(Bytes),
+    /// Equipment constant namelist: the constants, each the whole list of ECID, name, least, greatest and default value,
+    /// and units.
+    S2F30(Items),
+    /// Date and time set acknowledge: TIACK.
+    S2F32(u8),
+    /// Define report acknowledge: DRACK.
+    S2F34(u8),
+    /// Link event report acknowledge: LRACK.
+    S2F36(u8),
+    /// Enable or disable event report acknowledge: ERACK.
+    S2F38(u8),
+    /// Host command acknowledge: HCACK, and the parameters that are refused.
+    S2F42(u8, Listed<ParameterAcknowledge>),
+    /// Reset spooling acknowledge: RSPACK, and the streams that are refused.
+    S2F44(u8, Listed<StreamRefusal>),
+    /// Alarm report send, the tool's primary: ALCD, ALID and ALTX.
+    S5F1(u8, u32, Text80),
+    /// Enable or disable alarm acknowledge: ACKC5.
+    S5F4(u8),
+    /// List alarm data.
+    S5F6(Listed<AlarmPart>),
+    /// List enabled alarm data.
+    S5F8(Listed<AlarmPart>),
+    /// Event report send, the tool's primary: the number of its note as DATAID, CEID, and the reports, each the whole
+    /// list of RPTID and values.
+    S6F11(u64, u32, Items),
+    /// Event report data: CEID, and the reports, each the whole list of RPTID and values. DATAID is 0.
+    S6F16(u32, Items),
+    /// Individual report data: the values.
+    S6F20(Items),
+    /// Request spooled data acknowledge: RSDA.
+    S6F24(u8),
+    /// Unrecognized device id: the header that was received.
+    S9F1(Bytes),
+    /// Unrecognized stream: the header that was received.
+    S9F3(Bytes),
+    /// Unrecognized function: the header that was received.
+    S9F5(Bytes),
+    /// Illegal data: the header that was received.
+    S9F7(Bytes),
+    /// Transaction timer timeout: the header that was sent.
+    S9F9(Bytes),
+    /// Data too long: the header that was received.
+    S9F11(Bytes),
+}
+
+/// The item that is the text of the reply, as it is printed (this tool's profile, messages).
+///
+/// It can be encoded, and takes at most 1,073,741,824 bytes, where the parts of the reply are within their bounds. The
+/// characters of MDLN, SOFTREV and the time are at most 127; these and a header have fewer than 16,777,216 bytes. Of
+/// values there are at most 1,024, each of at most 84 bytes with lists at most 1 deep; of constants 1,024, of 210
+/// bytes and 1 deep; of reports 16, of 5,392 bytes and 3 deep. Of names and alarms there are at most 1,024, and of
+/// parameters fewer than 16,777,216; so are streams that are refused, and the functions of each, which are at most
+/// 268,435,456 together.
+#[tactic(auto, using(body_parts::proofs::Bounds::short_text))]
+pub fn gem_item(alloc: Global, reply: &GemReply) -> Result<Item, NoMemory>
+    ensures exact { IfOk result (λ item. view item ≡ reply_body reply.now) }
+    ensures sendable { HasSendableParts reply.now → IfOk result (λ item. IsSendable (view item)) }
+    ensures short { HasSendableParts reply.now → IfOk result (λ item. length (plain (view item)) ≤ 2 ^ 31) }
+{
+    item_of(alloc, reply)
+}
+
+// The same, within bounds.
+#[tactic(auto, using(crate::proofs::Bounds::values_bounded, crate::proofs::Bounds::constants_bounded))]
+fn item_of(alloc: Global, reply: &GemReply) -> Result<Item, NoMemory>
+    ensures exact { IfOk result (λ item. view item ≡ reply_body reply.now) }
+    ensures bounded { HasSendableParts reply.now → IfOk result (λ item. IsBounded 5 (2 ^ 31) (view item)) }
+{
+    match reply {
+        GemReply::S1F2(mdln, softrev) => model_and_revision(alloc, mdln, softrev),
+        GemReply::S1F4(values) => elements(values),
+        GemReply::S1F12(names) => list_of(alloc, names.as_slice()),
+        GemReply::S1F13(mdln, softrev) => model_and_revision(alloc, mdln, softrev),
+        GemReply::S1F14(tool) => established(alloc, tool),
+        GemReply::S1F16 => code(alloc, 0),
+        GemReply::S1F18(onlack) => code(alloc, *onlack),
+        GemReply::S2F14(values) => elements(values),
+        GemReply::S2F16(eac) => code(alloc, *eac),
+        GemReply::S2F18(time) => ascii(time),
+        GemReply::S2F30(constants) => elements(constants),
+        GemReply::S2F32(tiack) => code(alloc, *tiack),
+        GemReply::S2F34(drack) => code(alloc, *drack),
+        GemReply::S2F36(lrack) => code(alloc, *lrack),
+        GemReply::S2F38(erack) => code(alloc, *erack),
+        GemReply::S2F42(hcack, parameters) => commanded(alloc, *hcack, parameters.as_slice()),
+        GemReply::S2F44(rspack, refusals) => spooled(alloc, *rspack, refusals.as_slice()),
+        GemReply::S5F1(alcd, alid, text) => alarm(alloc, Some(*alcd), *alid, text),
+        GemReply::S5F4(ackc5) => code(alloc, *ackc5),
+        GemReply::S5F6(alarms) => list_of(alloc, alarms.as_slice()),
+        GemReply::S5F8(alarms) => list_of(alloc, alarms.as_slice()),
+        GemReply::S6F11(note, ceid, reports) => event(alloc, *note, *ceid, reports),
+        GemReply::S6F16(ceid, reports) => event(alloc, 0, *ceid, reports),
+        GemReply::S6F20(values) => elements(values),
+        GemReply::S6F24(rsda) => code(alloc, *rsda),
+        GemReply::S9F1(header) => binary(header),
+        GemReply::S9F3(header) => binary(header),
+        GemReply::S9F5(header) => binary(header),
+        GemReply::S9F7(header) => binary(header),
+        GemReply::S9F9(header) => binary(header),
+        GemReply::S9F11(header) => binary(header),
+    }
+}
+
+// A part of a reply that is an element of a list. Its texts are texts by their type, so it is within bounds.
+trait Printed {
+    // As what it is printed.
+    ghost body: { Self → Data };
+
+    fn item(&self, alloc: Global) -> Result<Item, NoMemory>
+        ensures exact { IfOk result (λ item. view item ≡ body self.now) }
+        ensures bounded { IfOk result (λ item. IsBounded 1 110 (view item)) };
+}
+
+impl Printed for VariableName {
+    ghost body = { variable_name };
+
+    fn item(&self, alloc: Global) -> Result<Item, NoMemory> {
+        let mut parts = Items::new(alloc);
+        parts.push(u4(alloc, self.svid)?)?;
+        parts.push(text(alloc, &self.name)?)?;
+        parts.push(text(alloc, &Text80::empty())?)?;
+        Ok(Item::List(parts))
+    }
+}
+
+impl Printed for ParameterAcknowledge {
+    ghost body = { parameter_acknowledge };
+
+    fn item(&self, alloc: Global) -> Result<Item, NoMemory> {
+        let mut parts = Items::new(alloc);
+        parts.push(text(alloc, &self.name)?)?;
+        parts.push(code(alloc, self.cpack)?)?;
+        Ok(Item::List(parts))
+    }
+}
+
+impl Printed for u8 {
+    ghost body = { U1 };
+
+    fn item(&self, alloc: Global) -> Result<Item, NoMemory> {
+        u1(alloc, *self)
+    }
+}
+
+impl Printed for AlarmPart {
+    ghost body = { alarm_part };
+
+    fn item(&self, alloc: Global) -> Result<Item, NoMemory> {
+        alarm(alloc, self.alcd, self.alid, &self.text)
+    }
+}
+
+// An alarm. An unknown one has no ALCD.
+fn alarm(alloc: Global, alcd: Option<u8>, alid: u32, altx: &Text80) -> Result<Item, NoMemory>
+    ensures exact { IfOk result (λ item. view item ≡ alarm_data alcd alid altx.now) }
+    ensures bounded { IfOk result (λ item. IsBounded 1 110 (view item)) }
+{
+    let mut parts = Items::new(alloc);
+    parts.push(alarm_code(alloc, alcd)?)?;
+    parts.push(u4(alloc, alid)?)?;
+    parts.push(text(alloc, altx)?)?;
+    Ok(Item::List(parts))
+}
+
+fn alarm_code(alloc: Global, alcd: Option<u8>) -> Result<Item, NoMemory>
+    ensures exact { IfOk result (λ item. view item ≡ alarm_code_data alcd) }
+{
+    match alcd {
+        Some(alcd) => code(alloc, alcd),
+        None => Ok(Item::Binary(Bytes::new(alloc))),
+    }
+}
+
+// An event and its reports.
+fn event(alloc: Global, note: u64, ceid: u32, reports: &Items) -> Result<Item, NoMemory>
+    ensures exact { IfOk result (λ item. view item ≡ event_data note ceid reports.now) }
+    ensures bounded { AreFew 16 3 5392 reports.now → IfOk result (λ item. IsBounded 5 (2 ^ 31) (view item)) }
+{
+    let mut parts = Items::new(alloc);
+    parts.push(u8(alloc, note)?)?;
+    parts.push(u4(alloc, ceid)?)?;
+    parts.push(elements(reports)?)?;
+    Ok(Item::List(parts))
+}
+
+// What the host's choice of streams is answered.
+fn spooled(alloc: Global, rspack: u8, refusals: &[StreamRefusal]) -> Result<Item, NoMemory>
+    ensures exact { IfOk result (λ item. view item ≡ spooling rspack refusals.now) }
+    ensures bounded { AreFewFunctions (map (λ r. r.functions) refusals.now) → IfOk result (λ item. IsBounded 5 (2 ^ 31) (view item)) }
+{
+    let mut parts = Items::new(alloc);
+    parts.push(code(alloc, rspack)?)?;
+    parts.push(stream_refusals(alloc, refusals)?)?;
+    Ok(Item::List(parts))
+}
+
+// A list of an item for each stream that is refused. How long one is depends on its functions, so it is no `Printed`.
+fn stream_refusals(alloc: Global, refusals: &[StreamRefusal]) -> Result<Item, NoMemory>
+    ensures { IfOk result (λ item. view item ≡ each stream_refusal_data refusals.now) }
+{
+    let mut items = Items::new(alloc);
+    for refusal in refusals {
+        items.push(stream_refusal(alloc, refusal)?)?;
+    }
+    Ok(Item::List(items))
+}
+
+fn stream_refusal(alloc: Global, refusal: &StreamRefusal) -> Result<Item, NoMemory>
+    ensures { IfOk result (λ item. view item ≡ stream_refusal_data refusal.now) }
+{
+    let mut parts = Items::new(alloc);
+    parts.push(u1(alloc, refusal.stream)?)?;
+    parts.push(code(alloc, refusal.strack)?)?;
+    parts.push(list_of(alloc, refusal.functions.as_slice())?)?;
+    Ok(Item::List(parts))
+}
+
+// A list of an item for each part.
+fn list_of<T: Printed>(alloc: Global, parts: &[T]) -> Result<Item, NoMemory>
+    ensures exact { IfOk result (λ item. view item ≡ each T.body parts.now) }
+    ensures bounded { length parts.now < 2 ^ 24 → IfOk result (λ item. IsBounded 2 1845493654 (view item)) }
+{
+    let mut items = Items::new(alloc);
+    for part in parts {
+        items.push(part.item(alloc)?)?;
+    }
+    Ok(Item::List(items))
+}
+
+fn model_and_revision(alloc: Global, mdln: &Bytes, softrev: &Bytes) -> Result<Item, NoMemory>
+    ensures { IfOk result (λ item. view item ≡ identity mdln.now softrev.now) }
+{
+    let mut parts = Items::new(alloc);
+    parts.push(ascii(mdln)?)?;
+    parts.push(ascii(softrev)?)?;
+    Ok(Item::List(parts))
+}
+
+// That communication is established, and what the tool tells of itself.
+fn established(alloc: Global, tool: &Identity) -> Result<Item, NoMemory>
+    ensures { IfOk result (λ item. view item ≡ L (code_data 0 ∷ (identity tool.now.mdln tool.now.softrev ∷ []))) }
+{
+    let mut parts = Items::new(alloc);
+    parts.push(code(alloc, 0)?)?;
+    parts.push(model_and_revision(alloc, &tool.mdln, &tool.softrev)?)?;
+    Ok(Item::List(parts))
+}
+
+// What a remote command is answered.
+fn commanded(
+    alloc: Global,
+    hcack: u8,
+    parameters: &[ParameterAcknowledge],
+) -> Result<Item, NoMemory>
+    ensures exact { IfOk result (λ item. view item ≡ L (code_data hcack ∷ (each parameter_acknowledge parameters.now ∷ []))) }
+    ensures bounded { length parameters.now < 2 ^ 24 → IfOk result (λ item. IsBounded 5 (2 ^ 31) (view item)) }
+{
+    let mut parts = Items::new(alloc);
+    parts.push(code(alloc, hcack)?)?;
+    parts.push(list_of(alloc, parameters)?)?;
+    Ok(Item::List(parts))
+}

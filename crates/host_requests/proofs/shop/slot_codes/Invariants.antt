@@ -2,7 +2,7 @@ use Rattle.std.proofs.Common.{◌≡◌, ◌++◌, drop, length, option_map}
 use Rattle.secs_items.specs.View.{items_of}
 use Rattle.body_parts.specs.Bodies.{all_of}
 use Rattle.gem_model.specs.Shop.{slot_code}
-use Rattle.core_host.proofs.shop.slot_codes.Given as goal
+use Rattle.host_requests.proofs.shop.slot_codes.Given as goal
 
 -- the codes that were read stand before those of the slots that are left
 abbrev pub invariant-loop-slot : goal.invariant-loop-slot

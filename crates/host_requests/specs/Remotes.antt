@@ -3,8 +3,8 @@ use Rattle.std.specs.Prelude.{ℕ, ◌==◌, Bool, false, if◌then◌else◌, L
 use Rattle.msgs_gem.specs.declared.reply.GemReply.{GemReply}
 use Rattle.msgs_gem.specs.declared.reply.GemReply.TheVariants as reply
 use Rattle.gem_model.specs.Remote as model
-use Rattle.core_host.specs.declared.remote.RemoteCommand.{RemoteCommand}
-use Rattle.core_host.specs.declared.remote.RemoteCommand.TheVariants as code
+use Rattle.host_requests.specs.declared.remote.RemoteCommand.{RemoteCommand}
+use Rattle.host_requests.specs.declared.remote.RemoteCommand.TheVariants as code
 
 -- the command of the definitions that a command of the code stands for
 abbrev pub remote_view : RemoteCommand → model.RemoteCommand

@@ -1,8 +1,8 @@
 use Rattle.std.proofs.Common.{sym, ◌∙◌, ap, ◌≡◌, Bool, List, ℕ, codes}
 use Rattle.std.specs.Str.{bytes_eq}
 use Rattle.secs_items.specs.Ids.{id_of}
-use Rattle.core_host.proofs.Faults.{named_here, named_later, named_nowhere}
-use Rattle.core_host.proofs.remote.alarm_named.Goals as goal
+use Rattle.host_requests.proofs.Faults.{named_here, named_later, named_nowhere}
+use Rattle.host_requests.proofs.remote.alarm_named.Goals as goal
 
 -- what the comparison found, of the name as it is spelled
 spelled : {name name' : List ℕ} {b found : Bool} → name ≡ name' → found ≡ bytes_eq name (codes "ALID") → found ≡ b → bytes_eq name' (codes "ALID") ≡ b

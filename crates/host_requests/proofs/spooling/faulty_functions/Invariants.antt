@@ -1,6 +1,6 @@
 use Rattle.std.proofs.Common.{◌≡◌, ◌++◌, drop, filter, not}
 use Rattle.gem_model.specs.Spooling.{faulty_functions, is_spoolable}
-use Rattle.core_host.proofs.spooling.faulty_functions.Given as goal
+use Rattle.host_requests.proofs.spooling.faulty_functions.Given as goal
 
 -- what was found stands before what the others give
 abbrev pub invariant-loop-function : goal.invariant-loop-function

@@ -1,6 +1,6 @@
 use Rattle.std.proofs.Common.{◌≡◌, ◌++◌, drop, filter_map}
 use Rattle.gem_model.specs.Spooling.{refusal}
-use Rattle.core_host.proofs.spooling.refusals.Given as goal
+use Rattle.host_requests.proofs.spooling.refusals.Given as goal
 
 -- what was found stands before what the others give
 abbrev pub invariant-loop-entry : goal.invariant-loop-entry

@@ -4,7 +4,7 @@ ghost use Rattle.secs_items.specs.One.{one_item};
 ghost use Rattle.secs_items.specs.View.{view};
 ghost use Rattle.msgs_gem.specs.Few.{HasShortText};
 ghost use Rattle.gem_model.specs.Verdict.{header_of, is_too_long, item_of, wants_reply, stream_of, is_message};
-ghost use Rattle.core_host.specs.Short.{IsShort};
+ghost use Rattle.host_requests.specs.Short.{IsShort};
 
 use hsms_frame::{Arrival, Header};
 use secs_items::{Item, read_one};

@@ -1,6 +1,6 @@
 use Rattle.std.proofs.Common.{◌≡◌, drop}
 use Rattle.gem_model.specs.Remote.{alarm_named}
-use Rattle.core_host.proofs.remote.alarm_named.Given as goal
+use Rattle.host_requests.proofs.remote.alarm_named.Given as goal
 
 -- no parameter before this place names it
 abbrev pub invariant-loop-parameter : goal.invariant-loop-parameter

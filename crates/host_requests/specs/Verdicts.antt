@@ -4,8 +4,8 @@ use Rattle.hsms_frame.specs.declared.frame.Header.{Header}
 use Rattle.msgs_gem.specs.Few.{HasFewParts}
 use Rattle.msgs_300.specs.Primaries.{said}
 use Rattle.gem_model.specs.Verdict as model
-use Rattle.core_host.specs.declared.verdict.Verdict.{Verdict}
-use Rattle.core_host.specs.declared.verdict.Verdict.TheVariants as code
+use Rattle.host_requests.specs.declared.reading.Verdict.{Verdict}
+use Rattle.host_requests.specs.declared.reading.Verdict.TheVariants as code
 
 -- the verdict of the tables that a verdict of the code stands for
 abbrev pub verdict_view : Verdict → model.Verdict

@@ -1,6 +1,1 @@
-pub mod Faults
-pub mod Functions
-pub mod Refused
-pub mod Texts
 pub mod Writing
-pub mod SlotMaps

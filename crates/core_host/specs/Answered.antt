@@ -6,7 +6,7 @@ use Rattle.gem_primaries.specs.declared.primary.GemMsg.TheVariants as msg
 use Rattle.gem_replies.specs.declared.reply.GemReply.{GemReply}
 use Rattle.gem_model.specs.State.{State}
 use Rattle.gem_model.specs.Direct.{message_rows, command_rows}
-use Rattle.core_host.specs.Remotes.{accepted_by}
+use Rattle.host_requests.specs.Remotes.{accepted_by}
 
 -- those of a remote command are the rows of the command that the reply accepts; no others depend on the reply (this tool's
 -- profile, direct rows)

@@ -1,5 +1,2 @@
-pub mod Short
-pub mod Verdicts
-pub mod Remotes
 pub mod Answered
 pub mod HostActs

@@ -1,14 +1,13 @@
 //! Data messages of the host: what each is answered, what it writes, and which direct rows it fires (SEMI E5, streams 1,
 //! 2, 5, 6 and 9; SEMI E30, communication, control, event reports, alarms, remote control and spooling).
 //!
-//! Each is one change of the `Plant` of `core_state`, by its header and its body, which `msgs_gem` reads. What the link
+//! Each is one change of the `Plant` of `core_state`, by its header and its body, which `host_requests` reads. What the link
 //! table says of the header, the settling behind the message and the history are for `tool_core`. The verdict on a message
 //! is chosen in one place, `verdict.rt`, and each message that is taken has one arm in `replies.rt`.
 //!
 //! Memory may run out; nothing is said of the plant after that. Begin with `host`.
 #![tactic(auto)]
 
-mod arrival;
 mod data;
 mod remote;
 mod replies;
@@ -16,5 +15,5 @@ mod shop;
 mod spooling;
 mod verdict;
 
-pub use arrival::header_of;
 pub use data::{HostAct, host};
+pub use host_requests::header_of;

@@ -1,5 +1,5 @@
 //! What a data message of the host is answered, and what it writes.
-ghost use Rattle.std.specs.Prelude.{◌≡◌, OnOk, IfOk, option_map};
+ghost use Rattle.std.specs.Prelude.{◌≡◌, OnOk, IfOk};
 ghost use Rattle.gem_ids.specs.Texts.{IsText};
 ghost use Rattle.gem_ids.specs.Civil.{moment_in, time_digits};
 ghost use Rattle.gem_replies.specs.declared.reply.GemReply.TheVariants as reply;
@@ -12,8 +12,8 @@ ghost use Rattle.gem_model.specs.Act.{written, clock_set};
 use crate::remote::command;
 use crate::spooling::spool_streams;
 use core_state::{Plant, part};
-use gem_ids::{Moment, moment_of};
 use gem_states::Control;
+use host_requests::{moment_in, tiack};
 use msgs_gem::{GemMsg, GemReply, Identity};
 use std::alloc::{AllocError, Global};
 
@@ -25,23 +25,6 @@ fn onlack(control: Control) -> u8
         Control::HostOffline => 0,
         Control::EquipmentOffline | Control::Attempt => 1,
         Control::Local | Control::Remote => 2,
-    }
-}
-
-/// TIACK: 0 where the text is a moment, else 1.
-fn tiack(text: &[u8]) -> u8
-    ensures { result ≡ tiack text.now }
-{
-    if moment_in(text).is_some() { 0 } else { 1 }
-}
-
-/// The moment that a text of any length says, if it says one.
-fn moment_in(text: &[u8]) -> Option<Moment>
-    ensures { option_map (λ m. m.0) result ≡ moment_in text.now }
-{
-    match <&[u8; 16]>::try_from(text) {
-        Ok(digits) => moment_of(digits),
-        Err(_) => None,
     }
 }
 

@@ -4,7 +4,7 @@ ghost use Rattle.data_variables.specs.Bodies.{name_item};
 ghost use Rattle.data_variables.specs.Table.{constant_ids};
 ghost use Rattle.data_variables.specs.Setting.{eac, set_all_after};
 ghost use Rattle.event_reports.specs.Limits.{most_alarms};
-ghost use Rattle.event_reports.specs.Alarms.{is_alarm, is_set, ackc5, alarms_enabled};
+ghost use Rattle.event_reports.specs.Alarms.{is_set, ackc5, alarms_enabled};
 ghost use Rattle.event_reports.specs.Reports.{value_items, report_items, one_items, drack, defined, lrack, linked, erack, enabled};
 ghost use Rattle.gem_replies.specs.Replies.{items as items_data};
 ghost use Rattle.gem_replies.specs.Sendable.{AreFew};
@@ -254,13 +254,6 @@ impl Plant {
         self.few_alarms();
         let ids = self.enabled_alids(alloc)?;
         self.parts_of(alloc, ids.as_slice())
-    }
-
-    /// Whether an alarm is one of the tool.
-    pub fn is_alarm(&self, alid: u32) -> bool
-        ensures { result ≡ is_alarm alid self.now.alarms }
-    {
-        self.alarms.is_known(alid)
     }
 
     /// Whether an alarm of the tool is set.

@@ -290,6 +290,13 @@ impl Plant {
         matches!(self.control, Control::Local | Control::Remote)
     }
 
+    /// The alarms of the tool.
+    pub fn alarms(&self) -> &Alarms
+        ensures { result.now ≡ self.now.alarms }
+    {
+        &self.alarms
+    }
+
     /// Whether a frame waits for the writer.
     pub fn has_waiting(&self) -> bool
         ensures { IsTrue result ↔ (0 < length self.now.waiting) }

@@ -1,4 +1,2 @@
-pub mod Counts
 pub mod Steps
-pub mod CoreView
 pub mod CoreInside

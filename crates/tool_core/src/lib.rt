@@ -10,11 +10,7 @@
 //! ports and carriers (SEMI E87).
 #![tactic(auto)]
 
-mod counts;
-mod entries;
 mod react;
 mod tool;
 
-pub use counts::SessionCounts;
-pub use entries::Entries;
 pub use tool::Core;

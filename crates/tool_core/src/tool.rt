@@ -17,12 +17,11 @@ ghost use Rattle.gem_model.specs.Valid.{Valid};
 ghost use Rattle.gem_model.specs.Run.{Run};
 ghost use Rattle.gem_model.specs.Sessions.{session_count, session_end, session_out, frame_taken};
 ghost use Rattle.gem_model.specs.Sizes.{bytes_of, counted, is_full};
-ghost use Rattle.tool_core.specs.Counts.{count_of, taker};
+ghost use Rattle.core_view.specs.Counts.{count_of, taker};
 
-use crate::counts::SessionCounts;
-use crate::entries::Entries;
 use crate::react::{must_wait, react};
 use core_state::Plant;
+use core_view::{Entries, SessionCounts};
 use event_reports::{NoMemory, Values};
 use gem_ids::{Moment, Text80};
 use hsms_frame::Arrival;
@@ -104,7 +103,7 @@ pub struct Core {
 }
 
 impl Model for Core {
-    ghost use Rattle.tool_core.specs.CoreView.{CoreView};
+    ghost use Rattle.core_view.specs.CoreView.{CoreView};
 
     ghost Value = { CoreView };
 

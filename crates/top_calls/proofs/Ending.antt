@@ -5,26 +5,26 @@ use Rattle.tool_events.specs.declared.config.Config.{Config}
 use Rattle.gem_model.specs.State.{State, opening}
 use Rattle.gem_model.specs.Run.{Run, after_all}
 use Rattle.gem_model.proofs.Runs.{after_all-run}
-use Rattle.tool_core.specs.CoreView.{CoreView}
-use Rattle.top_calls.specs.declared.halt.Halt.TheVariants as halt
-use Rattle.top_calls.specs.declared.ended.Cause.{Cause}
-use Rattle.top_calls.specs.declared.ended.Cause.TheVariants as cause
-use Rattle.top_calls.specs.declared.ended.SessionNote.{SessionNote}
+use Rattle.core_view.specs.CoreView.{CoreView}
+use Rattle.line_feeding.specs.declared.halt.Halt.TheVariants as halt
+use Rattle.line_feeding.specs.declared.ended.Cause.{Cause}
+use Rattle.line_feeding.specs.declared.ended.Cause.TheVariants as cause
+use Rattle.line_feeding.specs.declared.ended.SessionNote.{SessionNote}
 use Rattle.top_calls.specs.declared.reader.Reader.{Reader}
-use Rattle.top_calls.specs.declared.input.InputEnd.{InputEnd}
-use Rattle.top_calls.specs.declared.input.InputEnd.TheVariants as input
-use Rattle.top_calls.specs.CauseOf.{cause_after, Refuses}
-use Rattle.top_calls.specs.Fed.{SourceView, FedBy, Fed, Shown, ReadToEnd}
-use Rattle.top_calls.specs.Going.{SinkView, Shows}
-use Rattle.top_calls.specs.Stopping.{GivenBy}
+use Rattle.line_feeding.specs.declared.halt.InputEnd.{InputEnd}
+use Rattle.line_feeding.specs.declared.halt.InputEnd.TheVariants as input
+use Rattle.line_feeding.specs.CauseOf.{cause_after, Refuses}
+use Rattle.line_feeding.specs.Fed.{SourceView, FedBy, Fed, Shown, ReadToEnd}
+use Rattle.line_feeding.specs.Going.{SinkView, Shows}
+use Rattle.line_feeding.specs.Stopping.{GivenBy}
 use Rattle.top_calls.specs.InputEnds.{InputEnds, as_result}
 use Rattle.top_calls.specs.Standing.{Prints}
 use Rattle.gem_model.specs.SessionBytes.{session_in}
-use Rattle.top_calls.specs.Reads.{AreCounts}
-use Rattle.top_calls.specs.Notes.{AreNotes}
-use Rattle.top_calls.specs.Noted.{NotedBy}
-use Rattle.top_calls.proofs.Reading.{Taken-nothing}
-use Rattle.top_calls.proofs.Writing.{Written-nothing, WrittenFront-all}
+use Rattle.line_feeding.specs.Reads.{AreCounts}
+use Rattle.line_feeding.specs.Notes.{AreNotes}
+use Rattle.line_feeding.specs.Noted.{NotedBy}
+use Rattle.line_feeding.proofs.Reading.{Taken-nothing}
+use Rattle.line_feeding.proofs.Writing.{Written-nothing, WrittenFront-all}
 
 pub FedBy-end : (end : InputEnd) (text : List ℕ) (count : ℕ) (reader : Reader) (source source' : SourceView) → length text ≡ count → InputEnds end text reader source source' → FedBy reader.feeder.core.config (cause_after end count reader.feeder.core.history reader.number) (ReadToEnd source source') text reader.feeder.core.history
 FedBy-end input.Whole text count reader source source' size h = inl (h.0.told, h.1)

@@ -1,14 +1,6 @@
-pub mod Writing
-pub mod Going
-pub mod Parts
-pub mod Cutting
-pub mod Counting
 pub mod LineParts
 pub mod AtText
 pub mod Stopping
 pub mod Standing
-pub mod Reading
-pub mod NotesOf
-pub mod Noting
 pub mod Progress
 pub mod Ending

@@ -14,17 +14,18 @@ use Rattle.gem_model.specs.Step.{Outcome, step}
 use Rattle.line_grammar.specs.declared.line.Line.{Line}
 use Rattle.line_grammar.specs.declared.line.Line.TheVariants as line
 use Rattle.gem_model.specs.Feed.{Given, Reading, input, messages, nothing, bytes_given, line_given, reading_after, text_bytes, is_quit}
-use Rattle.tool_core.specs.CoreView.{CoreView}
-use Rattle.top_calls.specs.declared.halt.Halt.{Halt}
-use Rattle.top_calls.specs.declared.halt.Halt.TheVariants as halt
+use Rattle.core_view.specs.CoreView.{CoreView}
+use Rattle.line_feeding.specs.declared.halt.Halt.{Halt}
+use Rattle.line_feeding.specs.declared.halt.Halt.TheVariants as halt
 use Rattle.top_calls.specs.declared.feeder.Feeder.{Feeder}
-use Rattle.top_calls.specs.Cuts.{Cuts}
-use Rattle.top_calls.specs.Going.{SinkView, Goes, WentOn}
-use Rattle.top_calls.specs.Reading.{IsReading, TakesLine, TreatsLine, quit_behind}
-use Rattle.top_calls.specs.Reads.{AddsLine}
+use Rattle.line_feeding.specs.Cuts.{Cuts}
+use Rattle.line_feeding.specs.Going.{SinkView, Goes, WentOn}
+use Rattle.top_calls.specs.Reading.{IsReading, TakesLine, TreatsLine}
+use Rattle.line_feeding.specs.Quitting.{quit_behind}
+use Rattle.line_feeding.specs.Reads.{AddsLine}
 use Rattle.gem_model.proofs.Downs.{tick_down, oper_down, signal_down}
-use Rattle.top_calls.proofs.Going.{Goes-nothing, Goes-unmoved}
-use Rattle.top_calls.proofs.Counting.{counts_any, counts_skip, counts_up, counts_time, counts_oper, counts_signal, counts_watch}
+use Rattle.line_feeding.proofs.Going.{Goes-nothing, Goes-unmoved}
+use Rattle.line_feeding.proofs.Counting.{counts_any, counts_skip, counts_up, counts_time, counts_oper, counts_signal, counts_watch}
 
 abbrev pub failed : Halt → Result (Unit {0}) Halt
 failed why = Err why

@@ -4,19 +4,19 @@ use Rattle.std.specs.Prelude.{⊤}
 use Rattle.std.proofs.lemmas.List.{append-nil}
 use Rattle.outside.specs.Counts.{Rose}
 use Rattle.outside.specs.Told.{Taken, NothingLeft}
-use Rattle.top_calls.specs.declared.halt.Halt.{Halt}
-use Rattle.top_calls.specs.declared.input.InputEnd.{InputEnd}
-use Rattle.top_calls.specs.declared.input.InputEnd.TheVariants as input
+use Rattle.line_feeding.specs.declared.halt.Halt.{Halt}
+use Rattle.line_feeding.specs.declared.halt.InputEnd.{InputEnd}
+use Rattle.line_feeding.specs.declared.halt.InputEnd.TheVariants as input
 use Rattle.top_calls.specs.declared.reader.Reader.{Reader}
-use Rattle.top_calls.specs.Going.{SinkView}
-use Rattle.top_calls.specs.Fed.{SourceView, ReadToEnd}
-use Rattle.top_calls.specs.Limits.{input_bytes}
+use Rattle.line_feeding.specs.Going.{SinkView}
+use Rattle.line_feeding.specs.Fed.{SourceView, ReadToEnd}
+use Rattle.line_feeding.specs.Limits.{input_bytes}
 use Rattle.top_calls.specs.InputEnds.{InputEnds, as_result}
-use Rattle.top_calls.specs.Stopping.{GivenBy}
+use Rattle.line_feeding.specs.Stopping.{GivenBy}
 use Rattle.top_calls.specs.Standing.{Stands, StopsAt, AllTaken, Prints, Takes, Finishes}
-use Rattle.top_calls.proofs.Going.{IsFront-same}
-use Rattle.top_calls.proofs.Writing.{Rose-wider}
-use Rattle.top_calls.proofs.Reading.{Taken-more, Taken-same, Whole-taken, whole_any}
+use Rattle.line_feeding.proofs.Going.{IsFront-same}
+use Rattle.line_feeding.proofs.Writing.{Rose-wider}
+use Rattle.line_feeding.proofs.Reading.{Taken-more, Taken-same, Whole-taken, whole_any}
 use Rattle.top_calls.proofs.Stopping.{StopsAt-known}
 use Rattle.top_calls.proofs.Standing.{Stands-whole, Stands-given, Prints-then}
 

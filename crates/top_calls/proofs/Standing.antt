@@ -13,20 +13,21 @@ use Rattle.gem_model.specs.Feed.{Given, Reading, Told, AllRead, OutsideGrammar, 
 use Rattle.gem_model.specs.Sizes.{counted}
 use Rattle.gem_model.specs.SessionBytes.{line_and_more, line_bytes_in, lines_bytes_in, session_in}
 use Rattle.gem_model.proofs.Texts.{IsOneLine-more, lines-line, whole-feed, whole-none, first-long}
-use Rattle.tool_core.specs.Counts.{count_of}
-use Rattle.tool_core.specs.CoreView.{CoreView}
-use Rattle.top_calls.specs.declared.halt.Halt.{Halt}
-use Rattle.top_calls.specs.declared.halt.Halt.TheVariants as halt
+use Rattle.core_view.specs.Counts.{count_of}
+use Rattle.core_view.specs.CoreView.{CoreView}
+use Rattle.line_feeding.specs.declared.halt.Halt.{Halt}
+use Rattle.line_feeding.specs.declared.halt.Halt.TheVariants as halt
 use Rattle.top_calls.specs.declared.feeder.Feeder.{Feeder}
 use Rattle.top_calls.specs.declared.reader.Reader.{Reader}
-use Rattle.top_calls.specs.Limits.{IsFullAt}
-use Rattle.top_calls.specs.Going.{SinkView, WentOn, Shows, ShowsAtEnd, Goes}
-use Rattle.top_calls.specs.Reads.{AreCounts, HaveRead}
-use Rattle.top_calls.specs.Reading.{IsReading, TakesLine, TreatsLine, quit_behind}
-use Rattle.top_calls.specs.Stopping.{IsLong, GivenBy, CountsTo}
+use Rattle.line_feeding.specs.Limits.{IsFullAt}
+use Rattle.line_feeding.specs.Going.{SinkView, WentOn, Shows, ShowsAtEnd, Goes}
+use Rattle.line_feeding.specs.Reads.{AreCounts, HaveRead}
+use Rattle.top_calls.specs.Reading.{IsReading, TakesLine, TreatsLine}
+use Rattle.line_feeding.specs.Quitting.{quit_behind}
+use Rattle.line_feeding.specs.Stopping.{IsLong, GivenBy, CountsTo}
 use Rattle.top_calls.specs.Standing.{IsOneLine, Stands, StoppedAs, StopsAt, AllTaken, Prints, StandsOrStopped, Takes, AllOrStopped}
-use Rattle.top_calls.proofs.Going.{IsFront-append, Failed-wider, stay_then}
-use Rattle.top_calls.proofs.Writing.{WrittenFront-all}
+use Rattle.line_feeding.proofs.Going.{IsFront-append, Failed-wider, stay_then}
+use Rattle.line_feeding.proofs.Writing.{WrittenFront-all}
 use Rattle.top_calls.proofs.AtText.{text_goes, at_end, last_line, text_in}
 use Rattle.top_calls.proofs.Stopping.{stopped_before, given_before, stopped_outside, line_at, line_gives, line_counts, stopped_cases}
 

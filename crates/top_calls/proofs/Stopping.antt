@@ -11,18 +11,19 @@ use Rattle.line_grammar.specs.Reading.{feed_line_of}
 use Rattle.gem_model.specs.Feed.{Given, line_given, reading_after, feed_entries, is_quit}
 use Rattle.gem_model.specs.Sizes.{counted}
 use Rattle.gem_model.specs.SessionBytes.{line_and_more, line_bytes_in, lines_bytes_in, session_in}
-use Rattle.tool_core.specs.Counts.{count_of}
-use Rattle.tool_core.specs.CoreView.{CoreView}
-use Rattle.top_calls.specs.declared.halt.Halt.{Halt}
-use Rattle.top_calls.specs.declared.halt.Halt.TheVariants as halt
+use Rattle.core_view.specs.Counts.{count_of}
+use Rattle.core_view.specs.CoreView.{CoreView}
+use Rattle.line_feeding.specs.declared.halt.Halt.{Halt}
+use Rattle.line_feeding.specs.declared.halt.Halt.TheVariants as halt
 use Rattle.top_calls.specs.declared.feeder.Feeder.{Feeder}
 use Rattle.top_calls.specs.declared.reader.Reader.{Reader}
-use Rattle.top_calls.specs.Going.{SinkView, WentOn}
-use Rattle.top_calls.specs.Reads.{HaveRead, AddsLine}
-use Rattle.top_calls.specs.Reading.{TakesLine, TreatsLine, quit_behind}
-use Rattle.top_calls.specs.Stopping.{LineEnded, EndedLines, GivenBy, StoppedIn, TakenTo, CountsTo, AtLine}
+use Rattle.line_feeding.specs.Going.{SinkView, WentOn}
+use Rattle.line_feeding.specs.Reads.{HaveRead, AddsLine}
+use Rattle.top_calls.specs.Reading.{TakesLine, TreatsLine}
+use Rattle.line_feeding.specs.Quitting.{quit_behind}
+use Rattle.line_feeding.specs.Stopping.{LineEnded, EndedLines, GivenBy, StoppedIn, TakenTo, CountsTo, AtLine}
 use Rattle.top_calls.specs.Standing.{Stands, StopsAt}
-use Rattle.top_calls.proofs.Going.{IsFront-same, IsFront-then}
+use Rattle.line_feeding.proofs.Going.{IsFront-same, IsFront-then}
 use Rattle.top_calls.proofs.AtText.{last_line, whole_told, text_entries, text_bytes_in, empty_line, said_so}
 
 -- the whole lines before the part of a line

@@ -2,12 +2,12 @@
 use Rattle.std.specs.Prelude.{◌≡◌, ℕ, List, length, Result, Ok, Err}
 use Rattle.outside.specs.Counts.{Rose}
 use Rattle.gem_model.specs.Lines.{whole_lines}
-use Rattle.top_calls.specs.declared.halt.Halt.{Halt}
-use Rattle.top_calls.specs.declared.input.InputEnd.{InputEnd}
-use Rattle.top_calls.specs.declared.input.InputEnd.TheVariants as input
+use Rattle.line_feeding.specs.declared.halt.Halt.{Halt}
+use Rattle.line_feeding.specs.declared.halt.InputEnd.{InputEnd}
+use Rattle.line_feeding.specs.declared.halt.InputEnd.TheVariants as input
 use Rattle.top_calls.specs.declared.reader.Reader.{Reader}
-use Rattle.top_calls.specs.Fed.{SourceView, ReadToEnd}
-use Rattle.top_calls.specs.Limits.{input_bytes}
+use Rattle.line_feeding.specs.Fed.{SourceView, ReadToEnd}
+use Rattle.line_feeding.specs.Limits.{input_bytes}
 use Rattle.top_calls.specs.Standing.{AllTaken, StopsAt}
 
 -- What a text was that was read, by how its reading ended: all of it was taken; its whole lines were; or the reader

@@ -1,17 +1,3 @@
-pub mod Words
-pub mod Printing
-pub mod Counts
-pub mod Limits
-pub mod Going
-pub mod Reads
 pub mod Reading
-pub mod Cuts
-pub mod Stopping
 pub mod Standing
-pub mod Input
-pub mod Status
-pub mod Notes
-pub mod Noted
-pub mod Fed
 pub mod InputEnds
-pub mod CauseOf

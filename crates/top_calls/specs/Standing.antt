@@ -7,16 +7,16 @@ use Rattle.gem_model.specs.Front.{IsFront}
 use Rattle.gem_model.specs.Lines.{lines_of, whole_lines}
 use Rattle.gem_model.specs.SessionBytes.{lines_bytes_in, session_in}
 use Rattle.gem_model.specs.Feed.{Reading, Told, AllRead, OutsideGrammar, QuitAt, feed_lines, feed_entries, told_behind}
-use Rattle.tool_core.specs.CoreView.{CoreView}
-use Rattle.top_calls.specs.declared.halt.Halt.{Halt}
-use Rattle.top_calls.specs.declared.halt.Halt.TheVariants as halt
+use Rattle.core_view.specs.CoreView.{CoreView}
+use Rattle.line_feeding.specs.declared.halt.Halt.{Halt}
+use Rattle.line_feeding.specs.declared.halt.Halt.TheVariants as halt
 use Rattle.top_calls.specs.declared.reader.Reader.{Reader}
-use Rattle.top_calls.specs.Limits.{IsFullAt}
-use Rattle.top_calls.specs.Counts.{Failed}
-use Rattle.top_calls.specs.Going.{SinkView, Shows, ShowsAtEnd}
-use Rattle.top_calls.specs.Reads.{HaveRead}
+use Rattle.line_feeding.specs.Limits.{IsFullAt}
+use Rattle.line_feeding.specs.Counts.{Failed}
+use Rattle.line_feeding.specs.Going.{SinkView, Shows, ShowsAtEnd}
+use Rattle.line_feeding.specs.Reads.{HaveRead}
 use Rattle.top_calls.specs.Reading.{IsReading}
-use Rattle.top_calls.specs.Stopping.{GivenBy, CountsTo, AtLine}
+use Rattle.line_feeding.specs.Stopping.{GivenBy, CountsTo, AtLine}
 
 -- no line feed is among the bytes
 abbrev pub IsOneLine : List ℕ → Type 0

@@ -1,44 +1,21 @@
 //! One input after another: events are posted to the core, and the lines of their answers are written.
-ghost use Rattle.std.specs.Prelude.{◌≡◌, ◌≢◌, [], ◌∷◌, ◌++◌, Some, None, true, IfOk, OnOk, option_map, option_and_then};
+ghost use Rattle.std.specs.Prelude.{◌≡◌, ◌≢◌, [], ◌∷◌, Some, None, true, OnOk, option_map, option_and_then};
 ghost use Rattle.gem_model.specs.State.{opening, is_session_up};
 ghost use Rattle.gem_model.specs.Sessions.{session_end};
-ghost use Rattle.gem_model.specs.Printed.{answer_line, end_line, line_bytes};
 ghost use Rattle.gem_model.specs.Step.{step, after};
-ghost use Rattle.gem_model.specs.Run.{after_all};
 ghost use Rattle.gem_model.specs.Feed.{entry_of, taken_all, input, message, messages};
-ghost use Rattle.top_calls.specs.Going.{Goes, seen};
+ghost use Rattle.line_feeding.specs.Going.{Goes, seen};
 
-use crate::halt::Halt;
-use crate::print::{answer_line, end_line};
-use crate::write::write_all;
 use gem_ids::Moment;
 use hsms_frame::Arrival;
+use line_feeding::{Halt, outcome_text, write_all};
 use outside::Sink;
-use std::alloc::{AllocError, Global};
+use std::alloc::Global;
 use tool_core::Core;
-use tool_events::{Answer, Event, PostFault, SessionCause, SessionEnd};
-use tool_texts::print_out_line;
+use tool_events::{Event, PostFault, SessionCause, SessionEnd};
 
 /// The moment of what isn't a look at the clock: it raises no moment.
 pub const AT_ONCE: Moment = Moment(0);
-
-/// The lines of an answer, and of the session that ended with it, if one did.
-fn outcome_text(
-    alloc: Global,
-    answer: Answer,
-    ended: Option<SessionEnd>,
-) -> Result<Vec<u8>, AllocError>
-    ensures { IfOk result (λ text. text.items ≡ line_bytes (answer_line answer) ++ line_bytes (end_line ended)) }
-{
-    let mut text = Vec::new(alloc);
-    if let Some(line) = answer_line(answer) {
-        print_out_line(alloc, &line, &mut text)?;
-    }
-    if let Some(line) = end_line(ended) {
-        print_out_line(alloc, &line, &mut text)?;
-    }
-    Ok(text)
-}
 
 /// Posts an event at a moment, and writes its lines.
 fn post<K: Sink>(

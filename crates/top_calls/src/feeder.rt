@@ -1,25 +1,23 @@
 //! One line after another: what each says is put in, in the session that is up.
-ghost use Rattle.std.specs.Prelude.{◌≡◌, ◌<◌, ◌≤◌, ℕ, List, [], length, true, Ok, IfOk, OnOk, OnErr};
+ghost use Rattle.std.specs.Prelude.{◌≡◌, ◌<◌, ◌≤◌, [], length, true, Ok, IfOk, OnOk, OnErr};
 ghost use Rattle.tool_events.specs.Configs.{IsConfig};
 ghost use Rattle.gem_model.specs.State.{opening, is_session_up};
 ghost use Rattle.gem_model.specs.Run.{Run};
 ghost use Rattle.gem_model.specs.Sizes.{bytes_of};
 ghost use Rattle.line_grammar.specs.declared.line.Line.TheVariants as line;
 ghost use Rattle.line_grammar.specs.Reading.{feed_line_of};
-ghost use Rattle.gem_model.specs.Feed.{Reading, first_reading, is_quit, text_bytes};
-ghost use Rattle.hsms_frame.specs.Cut.{IsCutOf, arrivals_of};
-ghost use Rattle.top_calls.specs.Going.{seen};
-ghost use Rattle.top_calls.specs.Cuts.{Cuts};
-ghost use Rattle.top_calls.specs.Reads.{AddsLine};
-ghost use Rattle.top_calls.specs.Reading.{quit_behind};
+ghost use Rattle.gem_model.specs.Feed.{Reading, first_reading};
+ghost use Rattle.line_feeding.specs.Going.{seen};
+ghost use Rattle.line_feeding.specs.Reads.{AddsLine};
 
 use crate::engine::{AT_ONCE, input, take_messages};
-use crate::halt::Halt;
+use core_view::{Entries, SessionCounts};
 use gem_ids::Moment;
-use hsms_frame::{Arrival, CutFault, Cutter};
+use hsms_frame::Cutter;
+use line_feeding::{Halt, cut_bytes, ends_run, quit_behind};
 use outside::Sink;
 use std::alloc::{AllocError, Global};
-use tool_core::{Core, Entries, SessionCounts};
+use tool_core::Core;
 use tool_events::{Config, Event, OperCmd, SessionCause, Signal};
 use tool_texts::{Line, LineFault, read_feed_line};
 
@@ -32,43 +30,6 @@ pub struct Feeder {
     pub core: Core,
     pub cutter: Cutter,
     pub reads: SessionCounts,
-}
-
-/// Cuts the next bytes of a session, and tells whether a length below 10 follows what arrived.
-fn cut_bytes(
-    alloc: Global,
-    cutter: &mut Cutter,
-    bytes: &[u8],
-    arrivals: &mut Vec<Arrival>,
-) -> Result<bool, AllocError>
-    requires { arrivals.old.items ≡ [] }
-    ensures cuts { IfOk result (λ short. (stream : List ℕ) → cutter.old.max ≡ text_bytes
-        → IsCutOf stream (arrivals_of text_bytes stream) cutter.old
-        → Cuts bytes.now cutter.old cutter.new arrivals.new.items short stream) }
-    ensures max { cutter.new.max ≡ cutter.old.max }
-{
-    match cutter.feed(alloc, bytes, arrivals) {
-        Ok(()) => Ok(false),
-        Err(CutFault::ShortLength(_)) => Ok(true),
-        Err(CutFault::NoMemory) => Err(AllocError),
-    }
-}
-
-/// Whether an operator's command ends the run.
-fn ends_run(command: &OperCmd) -> bool
-    ensures { result ≡ is_quit (line.Oper command.now) }
-{
-    matches!(command, OperCmd::Quit)
-}
-
-/// What was done in full ends the run.
-fn quit_behind(taken: Result<(), Halt>) -> Result<(), Halt>
-    ensures { result ≡ quit_behind taken }
-{
-    match taken {
-        Ok(()) => Err(Halt::Quit),
-        Err(halt) => Err(halt),
-    }
 }
 
 impl Feeder {

@@ -1,15 +1,14 @@
 //! The input, from its first byte to its end.
 ghost use Rattle.std.specs.Prelude.{◌≡◌, ◌≢◌, ◌≤◌, ℕ, List, [], length, true};
 ghost use Rattle.outside.specs.Told.{Taken};
-ghost use Rattle.top_calls.specs.Going.{seen};
-ghost use Rattle.top_calls.specs.Fed.{looked, ReadToEnd};
+ghost use Rattle.line_feeding.specs.Going.{seen};
+ghost use Rattle.line_feeding.specs.Fed.{looked, ReadToEnd};
 ghost use Rattle.top_calls.specs.InputEnds.{InputEnds, as_result};
-ghost use Rattle.top_calls.specs.Stopping.{GivenBy};
+ghost use Rattle.line_feeding.specs.Stopping.{GivenBy};
 ghost use Rattle.top_calls.specs.Standing.{Stands, Prints};
 
-use crate::halt::Halt;
-use crate::read::{front, read_front};
 use crate::reader::Reader;
+use line_feeding::{InputEnd, InputRead, front, read_front};
 use outside::{Sink, Source};
 use std::alloc::Global;
 
@@ -18,26 +17,6 @@ pub const INPUT_BYTES: u64 = 4_294_967_296;
 
 /// So many bytes are read at once at most.
 const PIECE: usize = 4096;
-
-/// How the reading of an input ended.
-#[derive(Clone, Copy, Debug, PartialEq, Eq)]
-pub enum InputEnd {
-    /// It was read to its end.
-    Whole,
-    /// A read failed.
-    Fault,
-    /// 4,294,967,296 bytes were read.
-    Bound,
-    /// A line stopped it.
-    Halted(Halt),
-}
-
-/// What was read of an input: how the reading ended, and how many bytes were read.
-#[derive(Clone, Copy, Debug, PartialEq, Eq)]
-pub struct InputRead {
-    pub end: InputEnd,
-    pub count: u64,
-}
 
 /// Reads an input to its end, and takes each line.
 pub fn read_lines<S: Source, K: Sink>(

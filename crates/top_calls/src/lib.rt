@@ -5,18 +5,12 @@
 //! is at hand. Both return how the run ended: `Ended`, with its status and cause, the history, and a note of each session.
 #![tactic(auto)]
 
-mod ended;
 mod engine;
 mod feeder;
 mod feeding;
-mod halt;
 mod input;
 mod notes;
-mod print;
-mod read;
 mod reader;
-mod words;
-mod write;
 
-pub use ended::{Cause, Ended, Notes, Panels, SessionNote};
-pub use feeding::{feed, feed_config, known_config};
+pub use feeding::{feed, feed_config};
+pub use line_feeding::{Cause, Ended, Notes, Panels, SessionNote, known_config};

@@ -1,11 +1,12 @@
 //! The notes of the sessions of a run.
 ghost use Rattle.std.specs.Prelude.{◌≡◌, ℕ, IfOk};
-ghost use Rattle.top_calls.specs.Reads.{AreCounts};
-ghost use Rattle.top_calls.specs.Notes.{note_of, AreNotes};
+ghost use Rattle.line_feeding.specs.Reads.{AreCounts};
+ghost use Rattle.line_feeding.specs.Notes.{note_of, AreNotes};
 
-use crate::ended::{Notes, SessionNote};
+use core_view::SessionCounts;
+use line_feeding::{Notes, SessionNote};
 use std::alloc::{AllocError, Global};
-use tool_core::{Core, SessionCounts};
+use tool_core::Core;
 use tool_events::SessionCause;
 
 /// The note of a session of this core, in which so many bytes came.

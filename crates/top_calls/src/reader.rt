@@ -1,10 +1,10 @@
 //! The input as lines: bytes are gathered to lines, and each line is taken at its line feed.
 ghost use Rattle.std.specs.Prelude.{◌≡◌, ◌+◌, ◌<◌, ◌≤◌, ◌≢◌, ◌^◌, ℕ, List, [], ◌∷◌, ◌++◌, length, true, Err, IfOk, OnOk};
 ghost use Rattle.tool_events.specs.Configs.{IsConfig};
-ghost use Rattle.top_calls.specs.Going.{seen};
+ghost use Rattle.line_feeding.specs.Going.{seen};
 
 use crate::feeder::Feeder;
-use crate::halt::Halt;
+use line_feeding::Halt;
 use outside::Sink;
 use std::alloc::{AllocError, Global};
 use tool_events::Config;

@@ -1,5 +1,5 @@
 use Rattle.std.proofs.Common.{arith}
-use Rattle.core_host.proofs.Faults.{few_listed}
+use Rattle.host_requests.proofs.Faults.{few_listed}
 use Rattle.core_host.proofs.remote.command.Goals as goal
 
 pub returns-clause-sendable : goal.returns-clause-sendable

@@ -3,7 +3,7 @@ use Rattle.body_parts.specs.Functions.{AreFewFunctions}
 use Rattle.gem_replies.specs.declared.reply.StreamRefusal.{StreamRefusal}
 use Rattle.msgs_gem.proofs.Spooling.{few_refused}
 use Rattle.gem_model.specs.Spooling.{refusal}
-use Rattle.core_host.proofs.Refused.{refuses_fewer}
+use Rattle.host_requests.proofs.Refused.{refuses_fewer}
 use Rattle.core_host.proofs.spooling.spool_streams.Goals as goal
 
 pub returns-then-not-is_empty-clause-sendable : goal.returns-then-not-is_empty-clause-sendable

@@ -1,4 +1,4 @@
-use Rattle.top_calls.proofs.Parts.{Goes-input-halts}
+use Rattle.line_feeding.proofs.Parts.{Goes-input-halts}
 use Rattle.top_calls.proofs.engine.input.Goals as goal
 
 pub returns-in-Err-clause-goes : goal.returns-in-Err-clause-goes

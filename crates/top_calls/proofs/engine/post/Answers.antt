@@ -2,8 +2,8 @@ use Rattle.std.proofs.Common.{[], Err, ◌∙◌, ap, refl, sym}
 use Rattle.tool_events.specs.declared.answer.PostFault.{PostFault}
 use Rattle.tool_events.specs.Posts as posts
 use Rattle.gem_model.specs.Feed.{entry_of}
-use Rattle.tool_core.specs.CoreView.{CoreView}
-use Rattle.top_calls.proofs.Going.{Added, Goes-unmoved, Goes-full, Goes-added, Goes-added-write, Goes-added-memory, outcome_shown}
+use Rattle.core_view.specs.CoreView.{CoreView}
+use Rattle.line_feeding.proofs.Going.{Added, Goes-unmoved, Goes-full, Goes-added, Goes-added-write, Goes-added-memory, outcome_shown}
 use Rattle.top_calls.proofs.engine.post.Goals as goal
 
 pub returns-in_default-clause-goes : goal.returns-in_default-clause-goes

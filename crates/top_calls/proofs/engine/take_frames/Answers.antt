@@ -3,7 +3,7 @@ use Rattle.tool_events.specs.declared.event.Event.TheVariants.{Take}
 use Rattle.gem_model.specs.State.{State, is_session_up}
 use Rattle.gem_model.specs.Step.{step}
 use Rattle.gem_model.proofs.Taking.{take_one, take_none}
-use Rattle.top_calls.proofs.Parts.{Goes-take, Goes-take-halts, Goes-take-none}
+use Rattle.line_feeding.proofs.Parts.{Goes-take, Goes-take-halts, Goes-take-none}
 use Rattle.top_calls.proofs.engine.take_frames.Goals as goal
 
 pub loop-core-preserved : goal.loop-core-preserved

@@ -1,9 +1,9 @@
 use Rattle.std.proofs.Common.{◌≡◌, true, Result, length}
-use Rattle.tool_core.specs.CoreView.{CoreView}
+use Rattle.core_view.specs.CoreView.{CoreView}
 use Rattle.gem_model.specs.State.{is_session_up}
 use Rattle.gem_model.specs.Feed.{taken_all}
-use Rattle.top_calls.specs.declared.halt.Halt.{Halt}
-use Rattle.top_calls.specs.Going.{Goes, SinkView, seen}
+use Rattle.line_feeding.specs.declared.halt.Halt.{Halt}
+use Rattle.line_feeding.specs.Going.{Goes, SinkView, seen}
 use Rattle.top_calls.proofs.engine.take_frames.Given as goal
 
 -- the core is whole, and the session up; and whatever the rest does, with what was taken it does all

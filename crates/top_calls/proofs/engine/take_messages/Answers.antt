@@ -4,8 +4,8 @@ use Rattle.std.specs.Vec.Iter.{into_iter_items}
 use Rattle.hsms_frame.specs.declared.frame.Arrival.{Arrival}
 use Rattle.gem_model.specs.State.{is_session_up}
 use Rattle.gem_model.specs.Feed.{messages}
-use Rattle.top_calls.specs.Going.{Goes, seen}
-use Rattle.top_calls.proofs.Parts.{Goes-messages-over, Goes-messages-next, Goes-messages-halts}
+use Rattle.line_feeding.specs.Going.{Goes, seen}
+use Rattle.line_feeding.proofs.Parts.{Goes-messages-over, Goes-messages-next, Goes-messages-halts}
 use Rattle.top_calls.proofs.engine.take_messages.Goals as goal
 
 pub returns-then-not-is_session_up-clause-goes : goal.returns-then-not-is_session_up-clause-goes

@@ -1,9 +1,9 @@
 use Rattle.std.proofs.Common.{◌≡◌, true, Result}
 use Rattle.std.specs.Vec.Iter.{into_iter_items}
-use Rattle.tool_core.specs.CoreView.{CoreView}
+use Rattle.core_view.specs.CoreView.{CoreView}
 use Rattle.gem_model.specs.Feed.{messages}
-use Rattle.top_calls.specs.declared.halt.Halt.{Halt}
-use Rattle.top_calls.specs.Going.{Goes, SinkView, seen}
+use Rattle.line_feeding.specs.declared.halt.Halt.{Halt}
+use Rattle.line_feeding.specs.Going.{Goes, SinkView, seen}
 use Rattle.top_calls.proofs.engine.take_messages.Given as goal
 
 -- the core is whole; and whatever the messages that are left do, with those before them it is what all do

@@ -5,7 +5,7 @@ use Rattle.gem_model.specs.State.{opening}
 use Rattle.gem_model.specs.OpenNotes.{NeverBack}
 use Rattle.gem_model.specs.Run.{after_all}
 use Rattle.gem_model.specs.Command.{known_config}
-use Rattle.top_calls.specs.Fed.{looked}
+use Rattle.line_feeding.specs.Fed.{looked}
 use Rattle.top_calls.proofs.Ending.{Fed-refused, Shown-refused}
 use Rattle.top_calls.proofs.feeding.feed.Goals as goal
 

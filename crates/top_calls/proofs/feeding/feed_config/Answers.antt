@@ -1,12 +1,12 @@
 use Rattle.std.proofs.Common.{◌≡◌, ◌∙◌, inl, refl, subst}
 use Rattle.tool_events.specs.declared.config.Config.{Config}
-use Rattle.top_calls.specs.declared.ended.Cause.TheVariants as cause
-use Rattle.top_calls.specs.CauseOf.{cause_after}
-use Rattle.top_calls.specs.Fed.{looked, FedBy, ReadToEnd, Shown}
-use Rattle.top_calls.specs.Noted.{NotedBy}
-use Rattle.top_calls.specs.Stopping.{GivenBy}
+use Rattle.line_feeding.specs.declared.ended.Cause.TheVariants as cause
+use Rattle.line_feeding.specs.CauseOf.{cause_after}
+use Rattle.line_feeding.specs.Fed.{looked, FedBy, ReadToEnd, Shown}
+use Rattle.line_feeding.specs.Noted.{NotedBy}
+use Rattle.line_feeding.specs.Stopping.{GivenBy}
 use Rattle.top_calls.proofs.Ending.{not_write, run_from, FedBy-end, NotedBy-end, Shown-end, Shown-memory}
-use Rattle.top_calls.proofs.NotesOf.{notes_of, fates_of, sendings_of}
+use Rattle.line_feeding.proofs.NotesOf.{notes_of, fates_of, sendings_of}
 use Rattle.top_calls.proofs.feeding.feed_config.Goals as goal
 
 pub returns-in_default-session_notes-clause-run : goal.returns-in_default-session_notes-clause-run

@@ -1,6 +1,6 @@
 use Rattle.std.proofs.Common.{◌≡◌, ℕ, List, take, length, arith, ap}
 use Rattle.std.proofs.lemmas.List.{length-take-le}
-use Rattle.top_calls.specs.Fed.{looked}
+use Rattle.line_feeding.specs.Fed.{looked}
 use Rattle.top_calls.proofs.Progress.{ends-fault, ends-bound, ends-whole, ends-last, ends-halted, Progress-more}
 use Rattle.top_calls.proofs.input.read_lines.Goals as goal
 

@@ -1,7 +1,7 @@
 use Rattle.std.proofs.Common.{◌≡◌, true, ◌-◌, ◌≤◌, length}
-use Rattle.top_calls.specs.Fed.{looked}
-use Rattle.top_calls.specs.Limits.{input_bytes}
-use Rattle.top_calls.specs.Going.{seen}
+use Rattle.line_feeding.specs.Fed.{looked}
+use Rattle.line_feeding.specs.Limits.{input_bytes}
+use Rattle.line_feeding.specs.Going.{seen}
 use Rattle.top_calls.proofs.Progress.{Progress}
 use Rattle.top_calls.proofs.input.read_lines.Given as goal
 

@@ -1,7 +1,7 @@
 use Rattle.std.proofs.Common.{◌≡◌, ◌+◌, suc, List, [], ◌∷◌, length, length-append, arith}
-use Rattle.top_calls.specs.declared.ended.SessionNote.{SessionNote}
-use Rattle.top_calls.specs.Notes.{note_of}
-use Rattle.top_calls.proofs.Noting.{all_known}
+use Rattle.line_feeding.specs.declared.ended.SessionNote.{SessionNote}
+use Rattle.line_feeding.specs.Notes.{note_of}
+use Rattle.line_feeding.proofs.Noting.{all_known}
 use Rattle.top_calls.proofs.notes.session_notes.Goals as goal
 
 pub loop-session-preserved : goal.loop-session-preserved

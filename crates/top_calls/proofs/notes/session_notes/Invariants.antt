@@ -1,6 +1,6 @@
 use Rattle.std.proofs.Common.{◌≡◌, ℕ, suc, ◌<◌, length, Some, slice_get}
-use Rattle.top_calls.specs.Reads.{AreCounts}
-use Rattle.top_calls.specs.Notes.{note_of}
+use Rattle.line_feeding.specs.Reads.{AreCounts}
+use Rattle.line_feeding.specs.Notes.{note_of}
 use Rattle.top_calls.proofs.notes.session_notes.Given as goal
 
 -- the sessions before this one have their notes

@@ -3,7 +3,7 @@ use Rattle.tool_events.specs.declared.entry.Entry.{Entry}
 use Rattle.gem_model.specs.State.{State, is_up}
 use Rattle.gem_model.specs.Step.{Outcome, step}
 use Rattle.tool_core.specs.CoreInside.{state_of}
-use Rattle.tool_core.specs.CoreView.{CoreView}
+use Rattle.core_view.specs.CoreView.{CoreView}
 use Rattle.tool_core.proofs.Replaying.{GoesOn, goes-snoc, state-snoc}
 use Rattle.tool_core.proofs.tool.Core.record.Goals as goal
 

@@ -2,7 +2,7 @@ use Rattle.std.proofs.Common.{◌≡◌, ℕ, Ok, sym, subst, ◌∙◌, ap, Res
 use Rattle.line_grammar.specs.declared.line.Line.{Line}
 use Rattle.line_grammar.specs.declared.line.Line.TheVariants as line
 use Rattle.line_grammar.specs.Reading.{feed_line_of}
-use Rattle.top_calls.specs.Going.{seen}
+use Rattle.line_feeding.specs.Going.{seen}
 use Rattle.top_calls.specs.Reading.{TreatsLine}
 use Rattle.top_calls.proofs.LineParts.{TreatsLine-no_memory, TreatsLine-skip, TreatsLine-watch}
 use Rattle.top_calls.proofs.feeder.Feeder.take_line.Goals as goal

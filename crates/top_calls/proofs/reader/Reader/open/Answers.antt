@@ -1,5 +1,5 @@
 use Rattle.std.proofs.Common.{refl, ap}
-use Rattle.tool_core.specs.CoreView.{CoreView}
+use Rattle.core_view.specs.CoreView.{CoreView}
 use Rattle.top_calls.proofs.Standing.{Stands-open}
 use Rattle.top_calls.proofs.reader.Reader.open.Goals as goal
 

@@ -1,6 +1,6 @@
 use Rattle.std.proofs.Common.{ℕ, ◌+◌, List, ◌++◌, take, drop, arith, sym, ◌∙◌, ap, subst, Err, Ok}
 use Rattle.std.proofs.lemmas.List.{take_more, take-append-drop, take_all}
-use Rattle.top_calls.specs.Going.{seen}
+use Rattle.line_feeding.specs.Going.{seen}
 use Rattle.top_calls.specs.Standing.{Takes}
 use Rattle.top_calls.proofs.Standing.{Takes-then, Takes-stopped}
 use Rattle.top_calls.proofs.reader.Reader.take_piece.Goals as goal

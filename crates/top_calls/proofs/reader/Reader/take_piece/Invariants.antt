@@ -1,5 +1,5 @@
 use Rattle.std.proofs.Common.{◌≡◌, true, ℕ, ◌+◌, ◌≤◌, List, take, Ok}
-use Rattle.top_calls.specs.Going.{seen}
+use Rattle.line_feeding.specs.Going.{seen}
 use Rattle.top_calls.specs.Standing.{Stands, Takes}
 use Rattle.top_calls.proofs.reader.Reader.take_piece.Given as goal
 

@@ -1,0 +1,8 @@
+pub mod Writing
+pub mod Going
+pub mod Parts
+pub mod Cutting
+pub mod Counting
+pub mod Reading
+pub mod NotesOf
+pub mod Noting

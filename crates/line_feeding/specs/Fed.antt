@@ -1,0 +1,99 @@
+-- What a run of feed did, by how it ended.
+use Rattle.std.specs.Prelude.{◌≡◌, ◌≢◌, ◌⊎◌, ℕ, ◌<◌, ◌≤◌, List, [], length, Option}
+use Rattle.outside.specs.Counts.{Rose}
+use Rattle.outside.specs.Told.{Taken, Written}
+use Rattle.tool_events.specs.declared.entry.Entry.{Entry}
+use Rattle.tool_events.specs.declared.config.Config.{Config}
+use Rattle.gem_model.specs.State.{opening}
+use Rattle.gem_model.specs.Sizes.{bytes_of}
+use Rattle.gem_model.specs.Command.{known_configuration, configuration_bytes}
+use Rattle.gem_model.specs.Lines.{whole_lines}
+use Rattle.gem_model.specs.Feed.{AllRead, OutsideGrammar, QuitAt, feed_entries}
+use Rattle.gem_model.specs.Printed.{printed}
+use Rattle.line_feeding.specs.declared.ended.Cause.{Cause}
+use Rattle.line_feeding.specs.declared.ended.Cause.TheVariants as cause
+use Rattle.line_feeding.specs.declared.ended.SessionNote.{SessionNote}
+use Rattle.line_feeding.specs.Limits.{IsFullAt, MeetsBound}
+use Rattle.line_feeding.specs.Input.{Whole}
+use Rattle.line_feeding.specs.Stopping.{NumberEnded, GivenBy}
+use Rattle.line_feeding.specs.Noted.{NotedBy}
+use Rattle.line_feeding.specs.Printing.{WrittenFront}
+
+-- what a source tells: the bytes that it has left, where it tells them, how often it failed, and how often it ended
+pub record SourceView : Type 0 where
+  pub left : Option (List ℕ)
+  pub faults : ℕ
+  pub ends : ℕ
+
+abbrev pub looked : {S : Type 0} → (S → Option (List ℕ)) → (S → ℕ) → (S → ℕ) → S → SourceView
+looked left faults ends source = record { left = left source; faults = faults source; ends = ends source }
+
+-- The history is what the text gave that was read: all of it, where no more follows; up to the line that ended the run,
+-- which has ended; of its whole lines, where the reading broke off; up to a
+-- line that stopped it, which has ended; up to an entry that doesn't fit the limits; or, after want of memory or a write
+-- fault, a front of what lines give that have ended. Over says of the text that no more follows.
+abbrev pub FedBy : Config → Cause → Type 0 → List ℕ → List Entry → Type 0
+FedBy c cause.Done Over text history =
+    ((feed_entries c text ≡ record { entries = history; stop = AllRead }) × Over)
+    ⊎ ((number : ℕ) × (feed_entries c text ≡ record { entries = history; stop = QuitAt number }) × NumberEnded Over text number)
+FedBy c cause.ReadFault Over text history = feed_entries c (whole_lines text) ≡ record { entries = history; stop = AllRead }
+FedBy c (cause.Full entries bytes input) Over text history =
+    (MeetsBound c text history ⊎ IsFullAt c history (feed_entries c text).entries)
+    × (entries ≡ length history) × (bytes ≡ bytes_of history) × (input ≡ length text)
+FedBy c (cause.Line number place) Over text history =
+    (feed_entries c text ≡ record { entries = history; stop = OutsideGrammar number place })
+    × NumberEnded Over text number
+FedBy c cause.WriteFault Over text history = GivenBy Over c text history
+FedBy c cause.NoMemory Over text history = GivenBy Over c text history
+FedBy c (cause.Words place) Over text history = (text ≡ []) × (history ≡ [])
+FedBy c (cause.Config rule key) Over text history = (text ≡ []) × (history ≡ [])
+
+-- the input was read to its end: what was taken off it is all that it had
+abbrev pub ReadToEnd : SourceView → SourceView → Type 0
+ReadToEnd input input' = Rose input.ends input'.ends × ((text : List ℕ) → Taken input.left input'.left text → Whole input.left text)
+
+-- this text was read of the input, gave the history, and the notes are of it; no more follows where the input was read to
+-- its end
+abbrev pub Fed : Config → Cause → SourceView → SourceView → List Entry → List SessionNote → Type 0
+Fed c cause input input' history notes =
+    (text : List ℕ) × Taken input.left input'.left text × FedBy c cause (ReadToEnd input input') text history
+    × NotedBy c cause (ReadToEnd input input') text history notes
+
+-- behind what was held the lines of the history are out, all of them, or, after want of memory or a write fault, a front
+abbrev pub Shown : Config → Cause → Option (List ℕ) → Option (List ℕ) → List Entry → Type 0
+Shown c cause.WriteFault held held' history = WrittenFront held held' (printed (opening c) history)
+Shown c cause.NoMemory held held' history = WrittenFront held held' (printed (opening c) history)
+Shown c cause.Done held held' history = Written held held' (printed (opening c) history)
+Shown c cause.ReadFault held held' history = Written held held' (printed (opening c) history)
+Shown c (cause.Full entries bytes input) held held' history = Written held held' (printed (opening c) history)
+Shown c (cause.Line number place) held held' history = Written held held' (printed (opening c) history)
+Shown c (cause.Words place) held held' history = Written held held' (printed (opening c) history)
+Shown c (cause.Config rule key) held held' history = Written held held' (printed (opening c) history)
+
+-- the configuration was read to its end, and is the one that is known
+pub record IsKnown (config config' : SourceView) : Type 0 where
+  pub text : Taken config.left config'.left known_configuration
+  pub whole : Whole config.left known_configuration
+  pub end : Rose config.ends config'.ends
+
+-- another text was read, to its end or to as many bytes as are read of one at most; it breaks rule 0, which has no key
+pub record IsRefused (config config' : SourceView) (rule : ℕ) (key : List ℕ) : Type 0 where
+  pub rule_is : rule ≡ 0
+  pub key_is : key ≡ []
+  pub text : List ℕ
+  pub taken : Taken config.left config'.left text
+  pub other : text ≢ known_configuration
+  pub whole : length text < configuration_bytes → Whole config.left text
+  pub most : length text ≤ configuration_bytes
+
+-- What was read of the configuration: nothing where the words are refused; where it wasn't read to its end the history
+-- is empty.
+abbrev pub Configured : Cause → SourceView → SourceView → List Entry → Type 0
+Configured (cause.Words place) config config' history = config' ≡ config
+Configured (cause.Config rule key) config config' history = IsRefused config config' rule key
+Configured cause.ReadFault config config' history = IsKnown config config' ⊎ (history ≡ [])
+Configured cause.NoMemory config config' history = IsKnown config config' ⊎ (history ≡ [])
+Configured cause.WriteFault config config' history = IsKnown config config'
+Configured cause.Done config config' history = IsKnown config config'
+Configured (cause.Full entries bytes input) config config' history = IsKnown config config'
+Configured (cause.Line number place) config config' history = IsKnown config config'

@@ -1,0 +1,15 @@
+pub mod Words
+pub mod Printing
+pub mod Counts
+pub mod Limits
+pub mod Going
+pub mod Reads
+pub mod Quitting
+pub mod Cuts
+pub mod Stopping
+pub mod Input
+pub mod Status
+pub mod Notes
+pub mod Noted
+pub mod Fed
+pub mod CauseOf

@@ -1,0 +1,15 @@
+-- The numbers with which the program ends (this tool's profile, statuses).
+use Rattle.std.specs.Prelude.{ℕ}
+use Rattle.line_feeding.specs.declared.ended.Cause.{Cause}
+use Rattle.line_feeding.specs.declared.ended.Cause.TheVariants as cause
+
+-- the status of a cause
+abbrev pub status_of : Cause → ℕ
+status_of cause.Done = 0
+status_of (cause.Words place) = 1
+status_of (cause.Config rule key) = 2
+status_of cause.ReadFault = 3
+status_of cause.WriteFault = 4
+status_of (cause.Full entries bytes input) = 5
+status_of (cause.Line number place) = 6
+status_of cause.NoMemory = 7

@@ -1,0 +1,127 @@
+//! How a run ended.
+use core_view::Entries;
+use gem_ids::{Listed, Text80};
+use std::alloc::{AllocError, Global};
+use tool_events::SessionCause;
+
+/// Why a run ended. Each cause has a status, with which the program ends.
+#[derive(Clone, Copy, Debug, PartialEq, Eq)]
+pub enum Cause {
+    /// Status 0: the input was read to its end, and all was written.
+    Done,
+    /// Status 1: the words are no command of this call; the first that fits none, counted from 0.
+    Words(u64),
+    /// Status 2: the configuration breaks this rule, at this key.
+    Config(u8, Text80),
+    /// Status 3: a read failed.
+    ReadFault,
+    /// Status 4: a write failed, or took nothing of a piece.
+    WriteFault,
+    /// Status 5: the next entry would not fit the limits of the history, or 4,294,967,296 input bytes were read; the
+    /// entries of the history, the bytes of text in it, and the bytes that were read of the input.
+    Full(u64, u64, u64),
+    /// Status 6: this line, counted from 1, is outside the grammar from this byte on.
+    Line(u64, u64),
+    /// Status 7: there was no memory.
+    NoMemory,
+}
+
+impl Cause {
+    ghost use Rattle.std.specs.Prelude.{◌≡◌, ◌↔◌, IfOk, IsNone};
+    ghost use Rattle.line_feeding.specs.declared.ended.Cause.TheVariants as cause;
+    ghost use Rattle.line_feeding.specs.Status.{status_of};
+
+    /// The number with which the program ends.
+    pub fn status(&self) -> u8
+        ensures { result ≡ status_of self.now }
+    {
+        match self {
+            Cause::Done => 0,
+            Cause::Words(_) => 1,
+            Cause::Config(_, _) => 2,
+            Cause::ReadFault => 3,
+            Cause::WriteFault => 4,
+            Cause::Full(_, _, _) => 5,
+            Cause::Line(_, _) => 6,
+            Cause::NoMemory => 7,
+        }
+    }
+
+    /// What the program says of it on standard error. None: nothing is said of a run that is done.
+    pub fn text(&self, alloc: Global) -> Result<Option<String>, AllocError>
+        ensures { IfOk result (λ text. IsNone text ↔ (self.now ≡ cause.Done)) }
+    {
+        let text = match self {
+            Cause::Done => return Ok(None),
+            Cause::Words(place) => format!(in alloc; "words at {place}")?,
+            Cause::Config(rule, key) => {
+                let mut text = format!(in alloc; "config rule {rule} key ")?;
+                for byte in key.as_bytes() {
+                    text.push(char::from(*byte))?;
+                }
+                text
+            }
+            Cause::ReadFault => format!(in alloc; "read fault")?,
+            Cause::WriteFault => format!(in alloc; "write fault")?,
+            Cause::Full(entries, bytes, input) => format!(in alloc;
+                "full {entries} {bytes} {input}"
+            )?,
+            Cause::Line(number, place) => format!(in alloc; "line {number} at {place}")?,
+            Cause::NoMemory => format!(in alloc; "no memory")?,
+        };
+        Ok(Some(text))
+    }
+}
+
+/// A session: its number, the bytes that the lines gave to it, the bytes of its frames that went out, and why it ended;
+/// `Stopped` where it was up at the end of the run. A count stands still at the greatest number of 64 bits.
+#[derive(Clone, Copy, Debug, PartialEq, Eq)]
+pub struct SessionNote {
+    pub session: u64,
+    pub read: u64,
+    pub written: u64,
+    pub cause: SessionCause,
+}
+
+/// A list of session notes.
+pub type Notes = Listed<SessionNote>;
+
+/// A list of panels, seven numbers each.
+pub type Panels = Listed<[u64; 7]>;
+
+/// How a run ended: its status and cause, the history, a note for each session, and, once they are built, the panels that
+/// were read. Until then that list is empty.
+#[derive(Debug, Drop)]
+pub struct Ended {
+    pub status: u8,
+    pub cause: Cause,
+    pub history: Entries,
+    pub sessions: Notes,
+    pub panels: Panels,
+}
+
+impl Ended {
+    ghost use Rattle.std.specs.Prelude.{◌≡◌, []};
+    ghost use Rattle.line_feeding.specs.Status.{status_of};
+
+    /// How a run with this history and these sessions ended.
+    pub fn with_history(alloc: Global, cause: Cause, history: Entries, sessions: Notes) -> Ended
+        ensures { result ≡ record { status = status_of cause; cause = cause; history = history; sessions = sessions; panels = [] } }
+    {
+        Ended {
+            status: cause.status(),
+            cause,
+            history,
+            sessions,
+            panels: Panels::none(alloc),
+        }
+    }
+
+    /// How a run without a history ended.
+    pub fn without_history(alloc: Global, cause: Cause) -> Ended
+        ensures { result ≡ record { status = status_of cause; cause = cause; history = []; sessions = []; panels = [] } }
+    {
+        let history = Entries::from_vec(Vec::new(alloc));
+        Ended::with_history(alloc, cause, history, Notes::none(alloc))
+    }
+}

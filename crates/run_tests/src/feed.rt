@@ -1,114 +1,42 @@
-//! Whole runs: lines in, lines out (`top_calls`).
+//! Runs of `feed` (`top_calls`) that no file of conversations can say: lines without their line feed, sources and sinks that
+//! fail, words and configurations that are refused, long lines, and what a run leaves behind.
 
 ghost use Rattle.std.specs.Prelude.{◌<◌};
 
-use crate::runs::{SELECTED, SELECTED_OUT, joined, run};
 use gem_ids::Text80;
 use outside::{Failed, MemSink, MemSource, Sink, Source};
 use std::alloc::Global;
 use std::test::Fail;
 use tool_events::SessionCause;
-use top_calls::{Cause, Ended, SessionNote, feed, known_config};
+use top_calls::{Cause, Ended, SessionNote, feed};
 
 const KNOWN: &[u8] = b"communication = \"communicating\"\n";
 
-// What each shows, lines, and all that they print. The end of a session ends communication, and the tool asks for it by
-// S1F13 when the next link is selected.
-const CONVERSATIONS: [(&str, &[u8], &[u8]); 11] = [
+// A link that is up and selected, and the lines that it prints.
+const SELECTED: &[u8] = b"L+\nH 0000000AFFFF0000000100000001\n";
+
+const SELECTED_OUT: &[u8] = b"+ 1\n> 0000000AFFFF0000000200000001\n";
+
+// What each shows, lines, and all that they print.
+const CONVERSATIONS: [(&str, &[u8], &[u8]); 3] = [
     ("a select request is answered", SELECTED, SELECTED_OUT),
-    (
-        "a frame may come byte by byte",
-        b"L+\nH 00\nH 00\nH 00\nH 0A\nH FF\nH FF\nH 00\nH 00\nH 00\nH 01\nH 00\nH 00\nH 00\nH 01\n",
-        SELECTED_OUT,
-    ),
     (
         "the last line may lack its line feed",
         b"L+\nH 0000000AFFFF0000000100000001",
         SELECTED_OUT,
-    ),
-    ("nothing comes of nothing", b"", b""),
-    (
-        "comments and a loss without a session print nothing",
-        b"\n# a comment\n\nL-\n",
-        b"",
-    ),
-    ("a link comes up while one is up", b"L+\nL+\n", b"+ 1\n"),
-    (
-        "a short length ends the session, and later bytes wait for the next link",
-        b"L+\nH 00000009\nH 0000000AFFFF0000000100000001\nL+\nH 0000000AFFFF0000000100000001\n",
-        b"+ 1\n- 1 ShortLength\n+ 2\n> 0000000AFFFF0000000200000001\n> 0000001C0000810D0000000000010102410647454D3330304106312E302E3030\n",
-    ),
-    (
-        "data before select is rejected",
-        b"L+\nH 0000000A00008101000000000001\n",
-        b"+ 1\n> 0000000A00000004000700000001\n",
-    ),
-    (
-        "a link that is not selected in time ends",
-        b"L+\nT 999\nT 1000\n",
-        b"+ 1\n- 1 T7\n",
     ),
     (
         "the last look at the clock may lack its line feed",
         b"L+\nT 999\nT 1000",
         b"+ 1\n- 1 T7\n",
     ),
-    (
-        "a link that is lost in time does not end by T7",
-        b"L+\nT 999\nL-\nL+\nH 0000000AFFFF0000000100000001\n",
-        b"+ 1\n- 1 PeerEnd\n+ 2\n> 0000000AFFFF0000000200000001\n> 0000001C0000810D0000000000010102410647454D3330304106312E302E3030\n",
-    ),
 ];
 
-// The same, of lines behind those of a link that is selected.
-const SELECTED_CONVERSATIONS: [(&str, &[u8], &[u8]); 10] = [
-    (
-        "a second select request has status one",
-        b"H 0000000AFFFF0000000100000002\n",
-        b"> 0000000AFFFF0001000200000002\n",
-    ),
-    (
-        "a linktest request is answered",
-        b"H 0000000AFFFF0000000500000007\n",
-        b"> 0000000AFFFF0000000600000007\n",
-    ),
-    (
-        "S1F1 is answered by model and revision where a reply is wanted",
-        b"H 0000000A00008101000000000002\nH 0000000A00000101000000000003\n",
-        b"> 0000001C000001020000000000020102410647454D3330304106312E302E3030\n",
-    ),
-    (
-        "a separate message ends the session and drops what is behind it",
-        b"H 0000000AFFFF00000009000000050000000AFFFF0000000500000006\nL-\n",
-        b"- 1 Separated\n",
-    ),
-    ("a link comes up while one is selected", b"L+\n", b""),
-    (
-        "a linktest response to nothing is rejected",
-        b"H 0000000AFFFF0000000600000003\n",
-        b"> 0000000AFFFF0603000700000003\n",
-    ),
-    (
-        "SType 11 is rejected",
-        b"H 0000000AFFFF0000000B00000004\n",
-        b"> 0000000AFFFF0B01000700000004\n",
-    ),
-    (
-        "PType 1 is rejected",
-        b"H 0000000AFFFF0000010100000005\n",
-        b"> 0000000AFFFF0102000700000005\n",
-    ),
-    (
-        "another device, an unknown stream and an unknown function are told, and S1F2 is not",
-        b"H 0000000A00018101000000000002\nH 0000000A00008701000000000003\nH 0000000A00008113000000000004\nH 0000000A00000102000000000005\n",
-        b"> 0000001600000901000000000001210A00018101000000000002\n> 0000001600000903000000000002210A00008701000000000003\n> 0000001600000905000000000003210A00008113000000000004\n",
-    ),
-    (
-        "a selected link does not end by T7",
-        b"T 25245561599999\n",
-        b"",
-    ),
-];
+fn joined(alloc: Global, front: &[u8], back: &[u8]) -> Result<Vec<u8>, Fail> {
+    let mut all = Vec::from_slice(alloc, front)?;
+    all.extend_from_slice(back)?;
+    Ok(all)
+}
 
 // A source of these bytes, whose reads of these numbers fail.
 fn source(alloc: Global, bytes: &[u8], fails: &[u64]) -> Result<MemSource, Fail> {
@@ -126,11 +54,23 @@ fn words(alloc: Global, words: &[&str]) -> Result<Vec<Text80>, Fail> {
     Ok(all)
 }
 
+// Runs these words. It tells nothing of the contract of `feed`, which is long, so that tests are proved without it; and it
+// alone calls `feed`, since each call takes a minute to prove.
+fn run<S: Source, K: Sink>(
+    alloc: Global,
+    typed: &[&str],
+    config: &mut MemSource,
+    input: &mut S,
+    out: &mut K,
+) -> Result<Ended, Fail> {
+    let words = words(alloc, typed)?;
+    Ok(feed(alloc, &words, config, input, out))
+}
+
 // Runs `feed c` on these lines under the known configuration.
 fn run_lines<S: Source, K: Sink>(alloc: Global, input: &mut S, out: &mut K) -> Result<Ended, Fail> {
     let mut config = source(alloc, KNOWN, &[])?;
-    let words = words(alloc, &["feed", "c"])?;
-    Ok(feed(alloc, &words, &mut config, input, out))
+    run(alloc, &["feed", "c"], &mut config, input, out)
 }
 
 // How a run of `feed c` ends, and what it writes: it reads these lines in pieces of so many bytes, and reads and writes of
@@ -182,41 +122,11 @@ fn false_one(
     Ok(None)
 }
 
-// The same, behind the lines of a link that is selected.
-fn false_selected(
-    alloc: Global,
-    all: &[(&str, &[u8], &[u8])],
-    piece: usize,
-) -> Result<Option<usize>, Fail>
-    requires { 0 < piece }
-{
-    for (place, (_, lines, want)) in all.iter().enumerate() {
-        let lines = joined(alloc, SELECTED, lines)?;
-        let want = joined(alloc, SELECTED_OUT, want)?;
-        if !prints(alloc, &lines, piece, &want)? {
-            return Ok(Some(place));
-        }
-    }
-    Ok(None)
-}
-
 #[test]
 fn lines_print_the_same_however_the_input_is_cut(rt: HostRuntime) -> Result<(), Fail> {
     for piece in [4096, 1, 2, 3, 4, 5, 6, 7, 8] {
         assert_eq!(rt;
             false_one(rt.alloc(), &CONVERSATIONS, piece)?,
-            None,
-            "in pieces of {piece}"
-        );
-    }
-    Ok(())
-}
-
-#[test]
-fn a_selected_link_prints_the_same_however_the_input_is_cut(rt: HostRuntime) -> Result<(), Fail> {
-    for piece in [4096, 1, 3, 7] {
-        assert_eq!(rt;
-            false_selected(rt.alloc(), &SELECTED_CONVERSATIONS, piece)?,
             None,
             "in pieces of {piece}"
         );
@@ -254,7 +164,7 @@ fn answers(alloc: Global, last: u32, piece: usize) -> Result<(u8, bool, usize), 
 {
     let lines = asked(alloc, last)?;
     let want = answered(alloc, last)?;
-    let (ended, out) = run(alloc, &known_config(), lines.as_bytes(), piece)?;
+    let (ended, out) = fed(alloc, lines.as_bytes(), piece, &[], &[])?;
     let is_answered = out.as_slice() == want.as_bytes();
     Ok((ended.status, is_answered, ended.history.as_slice().len()))
 }
@@ -293,48 +203,23 @@ fn a_text_that_is_too_long_is_told_and_the_next_message_is_answered(
     Ok(())
 }
 
-// How a run on these lines ends, and what it writes, where a history takes so many entries with so many bytes of texts.
-fn fed_within(
-    alloc: Global,
-    lines: &[u8],
-    max_entries: u64,
-    max_bytes: u64,
-) -> Result<(Ended, Vec<u8>), Fail> {
-    if max_entries < 1 || max_entries > 4_000_000 || max_bytes > 536_870_912 {
-        return Err("limits of a history".into());
-    }
-    let mut config = known_config();
-    config.max_entries = max_entries;
-    config.max_bytes = max_bytes;
-    run(alloc, &config, lines, 4096)
+// A command that ends the run, in pieces of so many bytes: why it ends, the entries, and the notes.
+fn quit(alloc: Global, piece: usize) -> Result<(Cause, usize, bool), Fail>
+    requires { 0 < piece }
+{
+    let lines = joined(alloc, SELECTED, b"O quit\nL+\n")?;
+    let (ended, _) = fed(alloc, &lines, piece, &[], &[])?;
+    let notes = [note(1, 14, 14, SessionCause::Quit)];
+    let is_noted = ended.sessions.as_slice() == notes.as_slice();
+    Ok((ended.cause, ended.history.as_slice().len(), is_noted))
 }
 
 #[test]
-fn a_history_that_is_full_ends_the_run(rt: HostRuntime) -> Result<(), Fail> {
-    let max_bytes = known_config().max_bytes;
-    let (ended, out) = fed_within(rt.alloc(), b"L+\nL+\nL+\nL+\n", 3, max_bytes)?;
-    assert_eq!(rt; ended.cause, Cause::Full(3, 0, 12));
-    assert_eq!(rt; ended.status, 5);
-    assert_eq!(rt; ended.history.as_slice().len(), 3);
-    assert_eq!(rt; out.as_slice(), b"+ 1\n".as_slice());
-    Ok(())
-}
-
-// A selected link, a text of five bytes, and one of one byte.
-fn six_bytes(alloc: Global) -> Result<Vec<u8>, Fail> {
-    let five = b"H 0000000F000001010000000000090102030405\n".as_slice();
-    let one = b"H 0000000B0000010100000000000901\n".as_slice();
-    joined(alloc, &joined(alloc, SELECTED, five)?, one)
-}
-
-#[test]
-fn a_history_takes_so_much_text(rt: HostRuntime) -> Result<(), Fail> {
-    let lines = six_bytes(rt.alloc())?;
-    let count = lines.len() as u64;
-    let max_entries = known_config().max_entries;
-    let (ended, out) = fed_within(rt.alloc(), &lines, max_entries, 5)?;
-    assert_eq!(rt; ended.cause, Cause::Full(4, 5, count));
-    assert_eq!(rt; out.as_slice(), SELECTED_OUT);
+fn a_run_that_the_operator_ends_is_done(rt: HostRuntime) -> Result<(), Fail> {
+    // The link, the select request, its response, and the command.
+    let want = (Cause::Done, 4, true);
+    assert_eq!(rt; quit(rt.alloc(), 4096)?, want);
+    assert_eq!(rt; quit(rt.alloc(), 1)?, want);
     Ok(())
 }
 
@@ -348,22 +233,6 @@ fn note(session: u64, read: u64, written: u64, cause: SessionCause) -> SessionNo
     }
 }
 
-// A frame without text has 14 bytes, and so has its select response.
-#[test]
-fn each_session_has_its_note(rt: HostRuntime) -> Result<(), Fail> {
-    let more = b"H 00\nL-\nH 0000\nL+\nL+\nH 00000009\nL+\nH 000000\nH 0A\n".as_slice();
-    let lines = joined(rt.alloc(), SELECTED, more)?;
-    let (ended, _) = fed(rt.alloc(), &lines, 4096, &[], &[])?;
-    assert_eq!(rt; ended.status, 0);
-    let notes = [
-        note(1, 15, 14, SessionCause::PeerEnd),
-        note(2, 4, 0, SessionCause::ShortLength),
-        note(3, 4, 0, SessionCause::Stopped),
-    ];
-    assert_eq!(rt; ended.sessions.as_slice(), notes.as_slice());
-    Ok(())
-}
-
 // Whether the session is up and selected where the run stops with this status, and these bytes came in it.
 fn stops_in_session_1(ended: &Ended, status: u8, read: u64, written: u64) -> bool {
     let notes = [note(1, read, written, SessionCause::Stopped)];
@@ -375,16 +244,10 @@ fn cut_short(alloc: Global) -> Result<Vec<u8>, Fail> {
     joined(alloc, SELECTED, b"H 0000\nH 00000\nH 00\n")
 }
 
-// Whether it counts so at that line, at a history of two entries, at a write that fails, and at a read that fails.
+// Whether it counts so at that line, at a write that fails, and at a read that fails. A frame has 14 bytes.
 fn at_a_line(alloc: Global) -> Result<bool, Fail> {
     let (refused, _) = fed(alloc, &cut_short(alloc)?, 4096, &[], &[])?;
     Ok(stops_in_session_1(&refused, 6, 16, 14))
-}
-
-fn at_a_full_history(alloc: Global) -> Result<bool, Fail> {
-    let max_bytes = known_config().max_bytes;
-    let (full, _) = fed_within(alloc, &cut_short(alloc)?, 2, max_bytes)?;
-    Ok(stops_in_session_1(&full, 5, 14, 0))
 }
 
 fn at_a_write(alloc: Global) -> Result<bool, Fail> {
@@ -400,7 +263,6 @@ fn at_a_read(alloc: Global) -> Result<bool, Fail> {
 #[test]
 fn the_notes_count_up_to_the_line_in_which_the_run_stops(rt: HostRuntime) -> Result<(), Fail> {
     assert!(rt; at_a_line(rt.alloc())?, "at a line outside the grammar");
-    assert!(rt; at_a_full_history(rt.alloc())?, "at a history that is full");
     assert!(rt; at_a_write(rt.alloc())?, "at a write that fails");
     assert!(rt; at_a_read(rt.alloc())?, "at a read that fails");
     Ok(())
@@ -475,11 +337,10 @@ fn run_words(
     text: &[u8],
     fails: &[u64],
 ) -> Result<(Ended, Vec<u8>), Fail> {
-    let typed = words(alloc, typed)?;
     let mut config = source(alloc, text, fails)?;
     let mut input = source(alloc, SELECTED, &[])?;
     let mut out = MemSink::new(alloc, Vec::new(alloc));
-    let ended = feed(alloc, &typed, &mut config, &mut input, &mut out);
+    let ended = run(alloc, typed, &mut config, &mut input, &mut out)?;
     Ok((ended, out.into_bytes()))
 }
 

@@ -3,8 +3,8 @@
 //! `new 2` makes them two ports anew. The host names a port by its number; a row fires, and a carrier comes, at the place of
 //! a port, counted from 0. `ask Access 1 1*10000 2` asks for access mode 1 of port 1, ten thousand times, and of port 2.
 
-use crate::names::carrier;
 use anyhow::{Result, bail, ensure};
+use carrier_subjects::carrier;
 use gem_ids::{CarrierId, Listed};
 use load_port::{Arrival, Port, PortAction, Ports};
 use std::alloc::Global;

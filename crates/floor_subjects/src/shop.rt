@@ -4,9 +4,9 @@
 //! A port stands as its number where the host names it, and as its place, counted from 0, where a carrier comes to it or
 //! a row fires; a row stands as its table, the place of its port or carrier, and its number.
 
-use crate::names::{action, carrier};
 use anyhow::{Result, bail, ensure};
 use carrier::CarrierAction;
+use carrier_subjects::{action, carrier};
 use gem_ids::{CarrierId, Listed, PortNo, Text80};
 use load_port::PortAction;
 use shop_floor::{FloorFiring, ShopFloor};

@@ -1,8 +1,9 @@
 //! The subjects of the texts, and how they begin.
 
 use anyhow::{Result, bail};
+use carrier_subjects::{CarrierStates, KnownCarriers};
 use conversation_files::Line;
-use floor_subjects::{CarrierStates, Floor, KnownCarriers, PortStates, ToolPorts};
+use floor_subjects::{Floor, PortStates, ToolPorts};
 use line_subjects::{Calendar, ItemTexts, LineTexts};
 use link_subjects::{Communicates, Controls, Linked, Reads, Table};
 use message_subjects::{Acknowledge, Messages};

@@ -20,13 +20,13 @@ pub(crate) fn numbered(number: u8) -> Result<CarrierId> {
     id(&[b'C', tens, ones])
 }
 
-// The name of a carrier at a place of a line.
-pub(crate) fn carrier(words: &[&str], place: usize) -> Result<CarrierId> {
+/// The name of a carrier at a place of a line.
+pub fn carrier(words: &[&str], place: usize) -> Result<CarrierId> {
     id(word(words, place)?.as_bytes())
 }
 
-// The action of a word.
-pub(crate) fn action(word: &str) -> Result<CarrierWord> {
+/// The action that the host asks for by a word.
+pub fn action(word: &str) -> Result<CarrierWord> {
     match word {
         "Bind" => Ok(CarrierWord::Bind),
         "CancelBind" => Ok(CarrierWord::CancelBind),

@@ -6,7 +6,7 @@ use Rattle.load_port.specs.Ports.{is_no_port}
 use Rattle.shop_floor.specs.Floor.{Floor}
 use Rattle.shop_floor.specs.Rows.{creates}
 use Rattle.shop_floor.specs.Ready.{floor_least}
-use Rattle.shop_floor.specs.Requests.{at_port, at_place, at_ports, creation_of, unbinding, proceeding, cancelling, port_number_of, word_rows, carrier_written, carrier_rows, port_rows, mode_row, or_all, removal}
+use Rattle.shop_floor.specs.Requests.{at_port, at_place, at_ports, creation_of, unbinding, proceeding, cancelling, port_number_of, word_rows, carrier_rows, port_rows, mode_row, or_all, removal}
 use Rattle.carrier.specs.declared.carrier.Carrier.{Carrier}
 use Rattle.carrier.specs.declared.action.CarrierAction.{CarrierAction}
 use Rattle.carrier.specs.declared.action.CarrierWord.{CarrierWord}
@@ -16,15 +16,12 @@ use Rattle.carrier.specs.Carriers.{is_known, carrier_named, place_of}
 use Rattle.load_port.specs.declared.action.PortAction.{PortAction}
 use Rattle.load_port.specs.declared.action.PortAction.TheVariants as ask
 use Rattle.msgs_300.specs.Primaries.{Message, S3F17, S3F25, S3F27}
-use Rattle.gem_model.specs.Shop.{carrier_action, port_word, carrier_caack, port_caack, carrier_done_rows, port_done_rows, shop_written, shop_rows}
+use Rattle.gem_model.specs.Shop.{carrier_action, port_word, carrier_caack, port_caack, carrier_done_rows, port_done_rows, shop_rows}
 use Rattle.shop_floor.proofs.Shapes.{not_table_1, not_table_2, not_table_3}
-use Rattle.tool_events.specs.declared.event.Signal.{Signal}
-use Rattle.tool_events.specs.declared.event.Signal.TheVariants as signal
 use Rattle.gem_model.specs.State.{State, is_online}
 use Rattle.gem_model.specs.Values.{Occasion, object_name}
-use Rattle.gem_model.specs.Noting.{line_behind, sets_alarm}
-use Rattle.gem_model.specs.Fire.{fire, fire_listed, fire_floor, takes_effect, row_starts, creations}
-use Rattle.gem_model.specs.Signals.{lacks_port, port_row_starts, port_alarm, with_arrival, placed, removed, signalled}
+use Rattle.gem_model.specs.Noting.{line_behind}
+use Rattle.gem_model.specs.Fire.{fire, fire_floor, takes_effect, creations}
 use Rattle.gem_model.proofs.Tests.{either_way}
 
 -- a row of tables 4 to 10
@@ -152,36 +149,3 @@ alone_fire P alone g f is here =
     let h : State = takes_effect g f in
     alone.noted h (ceid_of f.table f.row) (record { object = object_name h f; row = 100 * f.table + f.row }) (is_online g.control)
     (subst P (sym (effect_is g f is)) (alone.floor g _ here))
-
-pub alone_listed : (P : State → Type 0) → LeftAlone P → (fs : List Firing) → AreFloorRows fs → (g : State) → P g → P (fire_listed fs g)
-alone_listed P alone [] are g here = here
-alone_listed P alone (f ∷ fs) are g here =
-    alone_listed P alone fs are.1 (if row_starts g f then fire g f else g)
-    (either_way P (row_starts g f) (fire g f) g (alone_fire P alone g f are.0 here) here)
-
--- ---- what the host asks of carriers and ports
-
-alone_written : (P : State → Type 0) → LeftAlone P → (m : Message) (g : State) → P g → P (shop_written m g)
-alone_written P alone (S3F17 dataid action carrier number attributes) g here =
-    let a = carrier_action action carrier number attributes in
-    either_way P (carrier_caack a g == 0) (record g { floor = carrier_written a g.floor }) g (alone.floor g _ here) here
-alone_written P alone (S3F25 action number value) g here = here
-alone_written P alone (S3F27 mode numbers) g here = here
-
--- a message that is answered in this state
-pub alone_asked : (P : State → Type 0) → LeftAlone P → (m : Message) (g : State) → P g → P (fire_listed (shop_rows m g) (shop_written m g))
-alone_asked P alone m g here = alone_listed P alone (shop_rows m g) (shop_are m g) (shop_written m g) (alone_written P alone m g here)
-
--- ---- signals
-
-pub alone_signalled : (P : State → Type 0) → LeftAlone P → ((g : State) (alid : ℕ) → P g → P (sets_alarm alid g)) → (s : Signal) (g : State) → P g → P (signalled s g)
-alone_signalled P alone alarm (signal.Placed port name slots) g here =
-    either_way P (lacks_port port.0 g) g (placed port.0 name slots g) here
-    (either_way P (port_row_starts 3 port.0 g) (fire_listed (at_port 4 3 g.floor port.0) (with_arrival port.0 name slots g)) (sets_alarm (port_alarm port.0) g)
-    (alone_listed P alone (at_port 4 3 g.floor port.0) (placing_are g.floor port.0) (with_arrival port.0 name slots g) (alone.floor g _ here))
-    (alarm g (port_alarm port.0) here))
-alone_signalled P alone alarm (signal.Removed port) g here =
-    either_way P (lacks_port port.0 g) g (removed port.0 g) here
-    (either_way P (port_row_starts 5 port.0 g) (fire_listed (removal port.0 g.floor) g) (sets_alarm (port_alarm port.0) g)
-    (alone_listed P alone (removal port.0 g.floor) (removal_are g.floor port.0) g here) (alarm g (port_alarm port.0) here))
-alone_signalled P alone alarm _ g here = here

@@ -1,25 +1,12 @@
 -- The open note is the one whose transaction is open: each step keeps it.
-use Rattle.std.proofs.Common.{◌≡◌, ℕ, zero, suc, ◌+◌, ◌*◌, ◌≤◌, ◌==◌, Bool, true, false, not, ◌&&◌, if◌then◌else◌, List, [], ◌∷◌, ◌++◌, length, map, find, Option, Some, None, option_map, is_some, refl, sym, ◌∙◌, ap, subst, arith, append_assoc}
+use Rattle.std.proofs.Common.{◌≡◌, ℕ, ◌+◌, ◌*◌, ◌≤◌, ◌==◌, Bool, true, false, if◌then◌else◌, List, [], ◌∷◌, ◌++◌, length, find, Option, Some, None, is_some, refl, sym, ◌∙◌, ap, subst, arith, append_assoc}
 use Rattle.std.proofs.lemmas.List.{append-nil}
 use Rattle.std.proofs.lemmas.Bool.Decides.{nat_tests}
 use Rattle.std.specs.Option.{option_or}
 use Rattle.std.proofs.lemmas.Bool.{true≢false}
 use Rattle.hsms_frame.specs.declared.frame.Header.{Header}
-use Rattle.hsms_frame.specs.declared.frame.Arrival.{Arrival}
-use Rattle.hsms_link.specs.declared.table.LinkAct.{LinkAct}
-use Rattle.hsms_link.specs.declared.table.LinkAct.TheVariants as link
-use Rattle.hsms_link.specs.declared.deadlines.LinkDue.{LinkDue}
-use Rattle.hsms_link.specs.declared.deadlines.LinkDue.TheVariants as due
-use Rattle.hsms_link.specs.LinkTable.{link_act}
-use Rattle.hsms_link.specs.Deadlines.{due_at}
 use Rattle.secs_items.specs.Data.{Data}
-use Rattle.secs_items.specs.Plain.{plain}
-use Rattle.gem_primaries.specs.declared.primary.GemMsg.{GemMsg}
-use Rattle.gem_primaries.specs.declared.primary.SpooledStream.{SpooledStream}
-use Rattle.gem_primaries.specs.declared.primary.GemMsg.TheVariants as msg
 use Rattle.gem_replies.specs.Acknowledge.{accepts}
-use Rattle.gem_replies.specs.Replies.{reply_body}
-use Rattle.gem_ids.specs.Civil.{moment_in}
 use Rattle.gem_tables.specs.Table.{Firing, firing}
 use Rattle.gem_states.specs.declared.communication.CommTrigger.TheVariants as comm
 use Rattle.gem_states.specs.declared.control.ControlTrigger.{ControlTrigger}
@@ -27,13 +14,9 @@ use Rattle.gem_states.specs.declared.control.ControlTrigger.TheVariants as trigg
 use Rattle.gem_states.specs.Meaning.{comm_fired, control_fired, control_rows}
 use Rattle.gem_states.specs.declared.communication.CommTrigger.{CommTrigger}
 use Rattle.gem_rows.specs.Events.{ceid_of}
-use Rattle.event_reports.specs.Alarms.{is_set, clear_alarm}
-use Rattle.tool_events.specs.declared.event.OperCmd.{OperCmd}
 use Rattle.tool_events.specs.declared.event.OperCmd.TheVariants as oper
 use Rattle.tool_events.specs.declared.config.Config.{Config}
 use Rattle.tool_events.specs.declared.entry.Entry.{Entry}
-use Rattle.tool_events.specs.declared.event.Event.{Event}
-use Rattle.tool_events.specs.declared.event.Event.TheVariants as event
 use Rattle.spool.specs.declared.note.Note.{Note}
 use Rattle.note_line.specs.Line.{Line, open_oldest_of, fail_open, with_open, fated, with_head, sent, with_kinds}
 use Rattle.note_line.specs.declared.fate.Fate.TheVariants.{Answered}
@@ -46,42 +29,31 @@ use Rattle.transactions.specs.declared.transaction.What.{What}
 use Rattle.transactions.specs.declared.transaction.What.TheVariants as what
 use Rattle.transactions.specs.Table.{Table, IsTable, AreDifferent, is_full, without, taken_out, limit}
 use Rattle.transactions.specs.SystemBytes.{drawn, with_started}
-use Rattle.transactions.specs.Endings.{same_kind, first_of, answers, first_expired, is_first_expired}
+use Rattle.transactions.specs.Endings.{same_kind, first_of}
 use Rattle.transactions.proofs.Finding.{found-passes}
 use Rattle.transactions.proofs.Systems.{without-none}
 use Rattle.transactions.proofs.Laws.{table-taken_out, table-started, found-there}
-use Rattle.transactions.specs.Endings.{answered as answered_one}
-use Rattle.gem_model.specs.State.{State, opening, t3, with_frame, is_up, is_session_up, is_communicating, is_online, around, can_ask, none_asked, without_session, raised}
+use Rattle.gem_model.specs.State.{State, opening, t3, with_frame, is_communicating, is_online, around, can_ask, none_asked, without_session, raised}
 use Rattle.gem_model.specs.Sending.{asks, data_frame, identity_text}
 use Rattle.gem_model.specs.Values.{object_name}
-use Rattle.gem_model.specs.Noting.{line_with_alarm, is_alarm_reported, clears_alarm}
-use Rattle.gem_model.specs.Fire.{asks_first, stream_of_kind, function_of_kind, fire, fires, fire_listed, fire_comm, fire_control, fire_line, fire_floor, takes_effect, row_starts, delay_end, forgets, of_control, of_line}
-use Rattle.gem_model.specs.Remote.{RemoteCommand, GoLocal, ClearAlarm, Parameter, accepted, alarm_named}
-use Rattle.gem_model.specs.Spooling.{rspack, kinds_of, spools, unload_rows}
-use Rattle.gem_model.specs.Direct.{command_rows, message_rows, answer_rows, timeout_rows, establish_answer, attempt_answer, by_comm, by_control, note_fails, operator_rows}
+use Rattle.gem_model.specs.Noting.{line_with_alarm}
+use Rattle.gem_model.specs.Fire.{asks_first, stream_of_kind, function_of_kind, fire, fires, fire_listed, fire_comm, fire_control, fire_line, fire_floor, takes_effect, row_starts, delay_end, forgets, of_control}
+use Rattle.gem_model.specs.Direct.{answer_rows, timeout_rows, establish_answer, attempt_answer, by_comm, by_control, note_fails, operator_rows}
 use Rattle.gem_model.specs.Ready.{least, ready_comm, ready_control, ready_line, ready_floor}
-use Rattle.gem_model.specs.Verdict.{Verdict, Discarded, Stream9, Aborted, Answers, Taken, ShopTaken, verdict, header_of, item_of, wants_reply, stream_of, function_of, reply_to}
-use Rattle.gem_model.specs.Act.{written, clock_set, clears_named, command_written, note_answered, replied, taken, shop_replied, shop_taken, closed_by, data_act, session_ended}
-use Rattle.gem_model.specs.Due.{Timeout, dues_with, expired_from, link_times, is_due, all_done, asks_linktest, timed_out}
-use Rattle.gem_model.specs.Settle.{settled}
-use Rattle.gem_model.specs.Step as steps
-use Rattle.gem_model.specs.Step.{Outcome, step_from, acts, linked, hosted, operated, quits, settles, switched, can_clear}
+use Rattle.gem_model.specs.Verdict.{function_of}
+use Rattle.gem_model.specs.Act.{note_answered, closed_by, session_ended}
+use Rattle.gem_model.specs.Due.{timed_out}
 use Rattle.gem_model.specs.Run.{Run}
 use Rattle.gem_model.specs.Valid.{notes, count_of}
 use Rattle.gem_model.specs.OpenNotes.{note_number, note_numbers, number_of, open_number}
 use Rattle.gem_model.proofs.Tests.{went, either_way, or_went, none_some}
 use Rattle.gem_model.proofs.LineRows.{line_went, opened_by, oldest_opened, head_opened}
-use Rattle.tool_events.specs.declared.event.Signal.{Signal}
-use Rattle.event_reports.specs.Alarms.{is_alarm, set_alarm}
-use Rattle.gem_model.specs.Noting.{sets_alarm, line_behind}
-use Rattle.msgs_300.specs.Primaries.{Message}
-use Rattle.msgs_300.specs.Replies.{shop_reply_body}
-use Rattle.gem_model.specs.Shop.{shop_reply_to}
-use Rattle.gem_model.specs.Signals.{signalled, is_ready_to_unload}
-use Rattle.gem_model.proofs.FloorRows.{LeftAlone, alone_fire, alone_listed, alone_asked, alone_signalled, ready_is, service_are, access_are, is_8}
-use Rattle.gem_model.proofs.Settling.{settled_keeps}
+use Rattle.gem_model.specs.Noting.{line_behind}
+use Rattle.gem_model.proofs.FloorRows.{LeftAlone, alone_fire, effect_is, ready_is, is_8}
 use Rattle.gem_model.proofs.Lined.{line_comm, line_control}
-use Rattle.gem_model.proofs.Room.{Few, same_open, no_talk, cannot_note, same_kinds, out_of, told_of, opened_timeout, few-automatic, few_creation, few-room, few-acts, few-step}
+use Rattle.gem_model.proofs.Room.{Few, same_open, same_alarm, same_kinds, no_talk, cannot_note, few-room, few_kept}
+use Rattle.gem_model.proofs.Listed.{IsFree, free_enabled, free_met, free_attempted, free_off_line, free_elsewhere, free_unload, free_purge, free_floor}
+use Rattle.gem_model.proofs.Walk.{Kept, out_of, told_of, kept_step_from}
 use Rattle.gem_model.proofs.Validity.{valid-few, opening_valid}
 
 -- ---- lists of open transactions
@@ -249,16 +221,18 @@ with_fire ns g f quiet is = of (f.table == 1) (f.table == 2) (f.table == 3) quie
   of false false true none never = absurd (cc)
   of false false false none never = is
 
+open_effect : (g : State) (f : Firing) → IsQuiet f → (takes_effect g f).line.opened ≡ g.line.opened
+open_effect g f quiet = of (f.table == 1) (f.table == 2) (f.table == 3) quiet.0 where
+  of : (first second third : Bool) → third ≡ false → (if first then fire_comm f.row g else (if second then fire_control f.row g else (if third then fire_line f.row g else fire_floor f g))).line.opened ≡ g.line.opened
+  of true second third none = ap (λ (l : Line). l.opened) (line_comm g f.row)
+  of false true third none = ap (λ (l : Line). l.opened) (line_control g f.row)
+  of false false true none = absurd (cc)
+  of false false false none = refl
+
 open_fire : (g : State) (f : Firing) → IsQuiet f → (fire g f).line.opened ≡ g.line.opened
 open_fire g f quiet =
     same_open (ceid_of f.table f.row) (record { object = object_name (takes_effect g f) f; row = 100 * f.table + f.row }) (is_online g.control) (takes_effect g f)
-    ∙ of (f.table == 1) (f.table == 2) (f.table == 3) quiet.0
-  where
-    of : (first second third : Bool) → third ≡ false → (if first then fire_comm f.row g else (if second then fire_control f.row g else (if third then fire_line f.row g else fire_floor f g))).line.opened ≡ g.line.opened
-    of true second third none = ap (λ (l : Line). l.opened) (line_comm g f.row)
-    of false true third none = ap (λ (l : Line). l.opened) (line_control g f.row)
-    of false false true none = absurd (cc)
-    of false false false none = refl
+    ∙ open_effect g f quiet
 
 abbrev AreQuiet : List Firing → Type 0
 AreQuiet [] = Unit {0}
@@ -355,93 +329,6 @@ own_disabling false attempted g is few own =
 own_line : (g : State) (l : Line) → l.opened ≡ g.line.opened → Own g → Own (record g { line = l })
 own_line g l same own = own_open g (record g { line = l }) same own
 
-own_cleared : (alid : ℕ) (g : State) → Own g → Own (clears_alarm alid g)
-own_cleared alid g own =
-    own_either (is_set alid g.alarms) _ g
-    (own_line g (line_with_alarm alid (record g { alarms = clear_alarm alid g.alarms }))
-    (either_way (λ (l : Line). l.opened ≡ g.line.opened) (is_alarm_reported alid (record g { alarms = clear_alarm alid g.alarms })) _ g.line refl refl) own)
-    own
-
-own_set : (alid : ℕ) (g : State) → Own g → Own (sets_alarm alid g)
-own_set alid g own =
-    own_either (is_alarm alid g.alarms && not (is_set alid g.alarms)) _ g
-    (own_line g (line_with_alarm alid (record g { alarms = set_alarm alid g.alarms }))
-    (either_way (λ (l : Line). l.opened ≡ g.line.opened) (is_alarm_reported alid (record g { alarms = set_alarm alid g.alarms })) _ g.line refl refl) own)
-    own
-
-own_signalled : (s : Signal) (g : State) → Own g → Own (signalled s g)
-own_signalled s g own = alone_signalled Own own_alone (λ h alid at. own_set alid h at) s g own
-
-own_switched : (command : OperCmd) (g : State) → Own g → Own (switched command g)
-own_switched (oper.Clear n) g own = own_either (can_clear n g) (clears_alarm n g) g (own_cleared n g own) own
-own_switched oper.Local g own = own
-own_switched oper.Remote g own = own
-own_switched _ g own = own
-
-own_operator : (command : OperCmd) (g : State) → Few g → Own g → Own (fires (operator_rows command) g)
-own_operator oper.Enable g few own = own_listed (by_comm comm.Enable) ((refl, λ is. refl), tt) g own
-own_operator oper.Disable g few own = own_disabling (row_starts g (firing 1 0 2)) (is_some (first_of what.Attempt g.transactions.opened)) g refl few own
-own_operator oper.Online g few own = own_control trigger.Online g own
-own_operator oper.Offline g few own = own_control trigger.Offline g own
-own_operator oper.Local g few own = own_control trigger.Local g own
-own_operator oper.Remote g few own = own_control trigger.Remote g own
-own_operator (oper.Service p on) g few own = alone_listed Own own_alone (operator_rows (oper.Service p on) g) (service_are on g.floor p.0) g own
-own_operator (oper.Access p on) g few own = alone_listed Own own_alone (operator_rows (oper.Access p on) g) (access_are on g.floor p.0) g own
-own_operator _ g few own = own
-
--- ---- data messages
-
-own_clock : (shown : Option ℕ) (g : State) → Own g → Own (clock_set shown g)
-own_clock None g own = own
-own_clock (Some shown) g own = own
-
-own_named : (alid : Option ℕ) (g : State) → Own g → Own (clears_named alid g)
-own_named None g own = own
-own_named (Some alid) g own = own_cleared alid g own
-
-own_command : (command : Option RemoteCommand) (parameters : List Parameter) (g : State) → Own g → Own (command_written command parameters g)
-own_command None parameters g own = own
-own_command (Some GoLocal) parameters g own = own
-own_command (Some ClearAlarm) parameters g own = own_named (alarm_named parameters) g own
-
-own_spools : (entries : List SpooledStream) (g : State) → Own g → Own (spools entries g)
-own_spools entries g own =
-    own_either (rspack g entries == 0) (record g { line = with_kinds (kinds_of entries) g.line }) g
-    (own_line g (with_kinds (kinds_of entries) g.line) (same_kinds (kinds_of entries) g.line) own) own
-
-own_written : (m : GemMsg) (g : State) → Own g → Own (written m g)
-own_written (msg.S2F31 text) g own = own_clock (moment_in text) g own
-own_written (msg.S2F41 name parameters) g own = own_command (accepted g name parameters) parameters g own
-own_written (msg.S2F43 entries) g own = own_spools entries g own
-own_written _ g own = own
-
-own_commanded : (command : Option RemoteCommand) (g : State) → Own g → Own (fires (command_rows command) g)
-own_commanded None g own = own
-own_commanded (Some GoLocal) g own = own_control trigger.Local g own
-own_commanded (Some ClearAlarm) g own = own
-
-own_unload : (rsdc : ℕ) (g : State) → Own g → Own (fire_listed (unload_rows rsdc) g)
-own_unload rsdc g own =
-    either_way (λ (rows : List ℕ). Own (fire_listed (of_line rows) g)) (rsdc == 0) (4 ∷ []) (5 ∷ [])
-    (own_either (row_starts g (firing 3 0 4)) (fire g (firing 3 0 4)) g (own_fire g (firing 3 0 4) (own_line g (row_effect (around g) 4 g.line) refl own)) own)
-    (own_either (row_starts g (firing 3 0 5)) (fire g (firing 3 0 5)) g (own_fire g (firing 3 0 5) (own_line g (row_effect (around g) 5 g.line) refl own)) own)
-
-own_message : (m : GemMsg) (g : State) → Own g → Own (fires (message_rows m) g)
-own_message msg.S1F13 g own = own_listed (by_comm comm.HostS1F13) ((refl, λ is. refl), tt) g own
-own_message msg.S1F15 g own = own_control trigger.HostS1F15 g own
-own_message msg.S1F17 g own = own_control trigger.HostS1F17 g own
-own_message (msg.S2F41 name parameters) g own = own_commanded (accepted g name parameters) g own
-own_message (msg.S6F23 rsdc) g own = own_unload rsdc g own
-own_message _ g own = own
-
-own_replied : (h : Header) (function : ℕ) (text : List ℕ) (g : State) → Own g → Own (replied h function text g)
-own_replied h function text g own = own_either (wants_reply h) _ g own own
-
-own_taken : (h : Header) (m : GemMsg) (g : State) → Own g → Own (taken h m g)
-own_taken h m g own =
-    let told : State = replied h (function_of h + 1) (plain (reply_body (reply_to g m))) g in
-    own_message m (written m told) (own_written m told (own_replied h (function_of h + 1) (plain (reply_body (reply_to g m))) g own))
-
 -- ---- answers and timeouts
 
 own_out : (g : State) (test : Open → Bool) (one : Open) → find test g.transactions.opened ≡ Some one → note_number one.what ≡ [] → Own g → Own (out_of one g)
@@ -476,22 +363,6 @@ own_timed_out g test one is own = of one.what refl where
   of what.Establish kind = own_listed (by_comm comm.Refused) ((refl, λ is. refl), tt) (told_of one g) (own_out g test one is (ap note_number kind) own)
   of what.Attempt kind = own_control trigger.Failed (told_of one g) (own_out g test one is (ap note_number kind) own)
   of (what.Note n) kind = own_failed (told_of one g) (bare_out g test one n is kind own)
-
-own_timeouts : (n at : ℕ) (opened : List Open) (first : Option Open) (g : State) → g.transactions.opened ≡ opened → first_expired at opened ≡ first → Own g → Own (all_done (map (λ one. Timeout one) (expired_from n at opened first)) g)
-own_timeouts zero at opened first g is found own = own
-own_timeouts (suc n) at opened None g is found own = own
-own_timeouts (suc n) at opened (Some one) g is found own =
-    own_timeouts n at (without one.system opened) (first_expired at (without one.system opened)) (timed_out one g)
-    (opened_timeout one.what (told_of one g) ∙ ap (without one.system) is) refl
-    (own_timed_out g (is_first_expired at opened) one (ap (find (is_first_expired at opened)) is ∙ found) own)
-
-own_due : (g : State) (d : Option LinkDue) → Own g → Own (all_done (dues_with g d) g)
-own_due g (Some due.T7) own = own_ended g
-own_due g (Some due.T6) own = own_ended g
-own_due g (Some due.AskLinktest) own =
-    own_timeouts (length g.transactions.opened) g.moment g.transactions.opened (first_expired g.moment g.transactions.opened) (asks_linktest g) refl refl own
-own_due g None own =
-    own_timeouts (length g.transactions.opened) g.moment g.transactions.opened (first_expired g.moment g.transactions.opened) g refl refl own
 
 -- ---- settling
 
@@ -540,88 +411,74 @@ own_automatic g f ready few own =
     (λ _ at. alone_fire Own own_alone g f (ready_is g f at) own) last) behind)
     ready
 
--- few transactions are open, and those of notes are the open note's
-record Both (g : State) : Type 0 where
-  pub few : Few g
-  pub own : Own g
-
-own_settled : (g : State) → Few g → Own g → Own (settled g)
-own_settled g few own =
-    (settled_keeps Both (λ h f ready both. record { few = few-automatic h f ready both.few; own = own_automatic h f ready both.few both.own })
-    (λ h n both. record { few = few_creation h n both.few; own = alone_fire Own own_alone h (firing 8 n 1) (is_8 n 1) both.own }) g (record { few = few; own = own })).own
-
 -- ---- a step
 
-own_to : (x o : Outcome) → Own x.after → Some x ≡ Some o → Own o.after
-own_to x o own here = let same : x ≡ o = cc in subst (λ (y : Outcome). Own y.after) same own
+-- few transactions are open, and those of notes are the open note's
+abbrev Both : State → Type 0
+Both g = Few g × Own g
 
-own_shop : (h : Header) (m : Message) (g : State) → Own g → Own (shop_taken h m g)
-own_shop h m g own =
-    alone_asked Own own_alone m (shop_replied h m g) (own_replied h (function_of h + 1) (plain (shop_reply_body (shop_reply_to g m))) g own)
+own_quiet : (g : State) (f : Firing) → IsQuiet f → Own g → Own (takes_effect g f)
+own_quiet g f quiet own = own_open g (takes_effect g f) (open_effect g f quiet) (with_fire (open_number g.line) g f quiet own)
 
-own_data : (h : Header) (item : Option Data) (v : Verdict) (g : State) → Own g → Own (data_act h item v g)
-own_data h item Discarded g own = own
-own_data h item (Stream9 function) g own = own
-own_data h item Aborted g own = own_replied h 0 [] g own
-own_data h item Answers g own =
-    own_closed g h item (answers h.system (stream_of h) (function_of h)) (answered_one h.system (stream_of h) (function_of h) g.transactions.opened) refl own
-own_data h item (Taken m) g own = own_taken h m g own
-own_data h item (ShopTaken m) g own = own_shop h m g own
+-- a row that an input fires by itself
+own_row : (g : State) (f : Firing) → IsFree f → Own g → Own (takes_effect g f)
+own_row g f free own = of free where
+  this : (one : Firing) → f ≡ one → Own (takes_effect g one) → Own (takes_effect g f)
+  this one same at = subst (λ (x : Firing). Own (takes_effect g x)) (sym same) at
 
-own_hosted : (g : State) (arrival : Arrival) (act : LinkAct) → Own g → Own (hosted g arrival act).after
-own_hosted g arrival (link.Reply h) own = own
-own_hosted g arrival link.Data own = own_data (header_of arrival) (item_of arrival) (verdict g arrival) g own
-own_hosted g arrival link.Ended own = own_ended g
-own_hosted g arrival link.Nothing own = own
+  of : IsFree f → Own (takes_effect g f)
+  of (free_enabled same) = this (firing 1 0 1) same (own_quiet g (firing 1 0 1) (refl, λ is. refl) own)
+  of (free_met same) = this (firing 1 0 6) same (own_quiet g (firing 1 0 6) (refl, λ is. refl) own)
+  of (free_attempted same) = this (firing 2 0 1) same (own_quiet g (firing 2 0 1) (refl, λ is. absurd (cc)) own)
+  of (free_off_line same) = this (firing 2 0 6) same (own_quiet g (firing 2 0 6) (refl, λ is. absurd (cc)) own)
+  of (free_elsewhere row never sends forgets same) = this (firing 2 0 row) same (own_quiet g (firing 2 0 row) (refl, λ is. absurd (cc)) own)
+  of (free_unload same) = this (firing 3 0 4) same (own_line g (row_effect (around g) 4 g.line) refl own)
+  of (free_purge same) = this (firing 3 0 5) same (own_line g (row_effect (around g) 5 g.line) refl own)
+  of (free_floor floor) = subst Own (sym (effect_is g f floor)) own
 
-own_frame : (g : State) (frames : List (List ℕ)) (o : Outcome) → Own g → steps.taken g frames ≡ Some o → Own o.after
-own_frame g [] o own here = none_some o here
-own_frame g (frame ∷ frames) o own here = own_to _ o own here
+own_disabled : (g : State) → Few g → Own g → Own (fires (operator_rows oper.Disable) g)
+own_disabled g few own = own_disabling (row_starts g (firing 1 0 2)) (is_some (first_of what.Attempt g.transactions.opened)) g refl few own
 
-own_quit : (up : Bool) (g : State) → Own g → Own (quits up g).after
-own_quit true g own = own_ended g
-own_quit false g own = own
+own_drawn : (g : State) (t : Table) → t.opened ≡ g.transactions.opened → Own g → Own (record g { transactions = t })
+own_drawn g t same own = subst (λ (opened : List Open). With (open_number g.line) opened) (sym same) own
 
-own_operated : (command : OperCmd) (g : State) → Few g → Own g → Own (operated command g).after
-own_operated oper.Quit g few own = own_quit (is_up g) g own
-own_operated oper.Local g few own = own_operator oper.Local (switched oper.Local g) few own
-own_operated oper.Remote g few own = own_operator oper.Remote (switched oper.Remote g) few own
-own_operated (oper.Clear n) g few own = own_switched (oper.Clear n) g own
-own_operated command g few own = own_operator command g few own
-
-own_acts : (before : ℕ) (g : State) (e : Event) (o : Outcome) → Few g → Own g → acts before g e ≡ Some o → Own o.after
-own_acts before g event.LinkUp o few own here = went (is_up g) _ _ _ (λ _ e. own_to _ o own e) (λ _ e. own_to _ o own e) here
-own_acts before g (event.LinkDown session cause) o few own here = went (is_session_up g session) _ _ _ (λ _ e. own_to _ o (own_ended g) e) (λ _ e. own_to _ o own e) here
-own_acts before g (event.Host session arrival) o few own here =
-    went (is_session_up g session) _ _ _
-    (λ _ e. own_to _ o (own_hosted (linked g (header_of arrival)) arrival (link_act (header_of arrival) g.link) own) e)
-    (λ _ e. own_to _ o own e) here
-own_acts before g (event.Take session) o few own here = went (is_session_up g session) _ _ _ (λ _ e. own_frame g g.waiting o own e) (λ _ e. own_to _ o own e) here
-own_acts before g (event.Oper command) o few own here = own_to (operated command g) o (own_operated command g few own) here
-own_acts before g (event.Signal signal) o few own here = own_to _ o (own_signalled signal g own) here
-own_acts before g (event.Fetch m) o few own here = none_some o here
-own_acts before g event.Tick o few own here =
-    went (is_due before g) _ _ _ (λ _ e. own_to _ o (own_due g (due_at (link_times g) g.link g.moment) own) e) (λ _ e. none_some o e) here
-own_acts before g event.Listen o few own here = none_some o here
-own_acts before g (event.Watch port) o few own here = went (is_ready_to_unload port.0 g) _ _ _ (λ _ e. own_to _ o own e) (λ _ e. none_some o e) here
-
-own_mapped : (x : Option Outcome) (o : Outcome) → ((p : Outcome) → x ≡ Some p → Both p.after) → option_map settles x ≡ Some o → Own o.after
-own_mapped None o both here = none_some o here
-own_mapped (Some p) o both here = let at = both p refl in own_to (settles p) o (own_settled p.after at.few at.own) here
-
-own_step : (before : ℕ) (g : State) (e : Event) (o : Outcome) → Few g → Own g → step_from before g e ≡ Some o → Own o.after
-own_step before g e o few own here =
-    went g.quitting _ _ _ (λ _ at. own_to _ o own at)
-    (λ _ at. own_mapped (acts before g e) o (λ p is. record { few = few-acts before g e p few is; own = own_acts before g e p few own is }) at) here
+-- each change of a step keeps both
+both_kept : Kept Both
+both_kept = record {
+  inner = record {
+    clock = λ g c both. both;
+    switch = λ g b both. both;
+    drawn = λ g t same both. (few_kept.inner.drawn g t same both.0, own_drawn g t same both.1);
+    constants = λ g c both. both;
+    reports = λ g r both. both;
+    alarms = λ g a both. both;
+    waiting = λ g w both. both;
+    event = λ g e o online both. (few_kept.inner.event g e o online both.0, own_line g (line_behind e o online g) (same_open e o online g) both.1);
+    alarm = λ g alid both. (few_kept.inner.alarm g alid both.0, own_line g (line_with_alarm alid g) (same_alarm alid g) both.1);
+    kinds = λ g k both. (few_kept.inner.kinds g k both.0, own_line g (with_kinds k g.line) (same_kinds k g.line) both.1);
+    came = λ g port name slots both. both;
+    written = λ g a is both. both;
+    row = λ g f free is both. (few_kept.inner.row g f free is both.0, own_row g f free both.1);
+    ready = λ g f ready both. (few_kept.inner.ready g f ready both.0, own_automatic g f ready both.0 both.1);
+    created = λ g n both. (few_kept.inner.created g n both.0, alone_fire Own own_alone g (firing 8 n 1) (is_8 n 1) both.1);
+    answered = λ g h item test one found both. (few_kept.inner.answered g h item test one found both.0, own_closed g h item test (Some one) found both.1);
+    failed = λ g test one found both. (few_kept.inner.failed g test one found both.0, own_timed_out g test one found both.1);
+    disabled = λ g both. (few_kept.inner.disabled g both.0, own_disabled g both.0 both.1);
+  };
+  moment = λ g m both. both;
+  quitting = λ g both. both;
+  link = λ g l selected both. (few_kept.link g l selected both.0, both.1);
+  ended = λ g both. (few_kept.ended g both.0, own_ended g);
+}
 
 -- ---- a history
 
-own_run : (g : State) (entries : List Entry) (h : State) → Few g → Own g → Run g entries h → Own h
-own_run g [] h few own run = subst Own (sym run) own
-own_run g (e ∷ entries) h few own run =
-    own_run run.0.after entries h (few-step g.moment (raised g e.at.0) e.event run.0 few run.1) (own_step g.moment (raised g e.at.0) e.event run.0 few own run.1) run.2
+both_run : (g : State) (entries : List Entry) (h : State) → Both g → Run g entries h → Both h
+both_run g [] h both run = subst Both (sym run) both
+both_run g (e ∷ entries) h both run =
+    both_run run.0.after entries h (kept_step_from Both both_kept g.moment (raised g e.at.0) e.event run.0 both run.1) run.2
 
 -- where a history leads, the transactions of notes that are open are those of the open note
 pub run-own : (c : Config) (entries : List Entry) (h : State) → Run (opening c) entries h → note_numbers h.transactions.opened ≡ open_number h.line
 run-own c entries h run =
-    (own_run (opening c) entries h (valid-few (opening c) (opening_valid c)) (record { within = omega arith; different = tt; numbers = refl }) run).numbers
+    (both_run (opening c) entries h (valid-few (opening c) (opening_valid c), record { within = omega arith; different = tt; numbers = refl }) run).1.numbers

@@ -1,28 +1,12 @@
 -- Few transactions are open: each step keeps it.
-use Rattle.std.proofs.Common.{◌≡◌, ℕ, zero, suc, ◌+◌, ◌*◌, ◌≤◌, ◌==◌, ◌&&◌, not, Bool, true, false, if◌then◌else◌, List, [], ◌∷◌, length, map, find, Option, Some, None, option_map, is_some, ◌++◌, refl, sym, ◌∙◌, ap, subst, arith}
+use Rattle.std.proofs.Common.{◌≡◌, ℕ, ◌+◌, ◌*◌, ◌≤◌, ◌==◌, ◌&&◌, not, Bool, true, false, if◌then◌else◌, List, [], ◌∷◌, length, find, Option, Some, None, is_some, ◌++◌, refl, sym, ◌∙◌, ap, subst, arith}
 use Rattle.std.specs.Option.{option_or}
 use Rattle.std.proofs.lemmas.Bool.{true≢false}
 use Rattle.std.proofs.lemmas.Bool.Decides.{nat_tests}
 use Rattle.hsms_frame.specs.declared.frame.Header.{Header}
-use Rattle.hsms_frame.specs.declared.frame.Arrival.{Arrival}
 use Rattle.hsms_link.specs.Links as links
-use Rattle.hsms_link.specs.declared.state.Phase.{Phase}
-use Rattle.hsms_link.specs.declared.state.Phase.TheVariants.{Down, NotSelected, Selected}
-use Rattle.hsms_link.specs.declared.state.Ping.TheVariants.{Off}
-use Rattle.hsms_link.specs.declared.table.LinkAct.{LinkAct}
-use Rattle.hsms_link.specs.declared.table.LinkAct.TheVariants as link
-use Rattle.hsms_link.specs.declared.deadlines.LinkDue.{LinkDue}
-use Rattle.hsms_link.specs.declared.deadlines.LinkDue.TheVariants as due
-use Rattle.hsms_link.specs.LinkTable.{link_act}
-use Rattle.hsms_link.specs.Deadlines.{due_at}
 use Rattle.secs_items.specs.Data.{Data}
-use Rattle.secs_items.specs.Plain.{plain}
-use Rattle.gem_primaries.specs.declared.primary.GemMsg.{GemMsg}
-use Rattle.gem_primaries.specs.declared.primary.SpooledStream.{SpooledStream}
-use Rattle.gem_primaries.specs.declared.primary.GemMsg.TheVariants as msg
 use Rattle.gem_replies.specs.Acknowledge.{accepts}
-use Rattle.gem_replies.specs.Replies.{reply_body}
-use Rattle.gem_ids.specs.Civil.{moment_in}
 use Rattle.gem_tables.specs.Table.{Firing, firing, starts}
 use Rattle.gem_tables.specs.Communication.{communication_table, communicating}
 use Rattle.gem_tables.specs.Control.{control_table, attempt_online}
@@ -36,11 +20,8 @@ use Rattle.gem_states.specs.declared.control.ControlTrigger.{ControlTrigger}
 use Rattle.gem_states.specs.declared.control.ControlTrigger.TheVariants as trigger
 use Rattle.gem_states.specs.Meaning.{comm_number, comm_fired, control_number, control_fired}
 use Rattle.tool_events.specs.declared.event.Event.{Event}
-use Rattle.tool_events.specs.declared.event.Event.TheVariants as event
-use Rattle.tool_events.specs.declared.event.OperCmd.{OperCmd}
 use Rattle.tool_events.specs.declared.event.OperCmd.TheVariants as oper
 use Rattle.gem_rows.specs.Events.{ceid_of}
-use Rattle.event_reports.specs.Alarms.{is_set, clear_alarm}
 use Rattle.spool.specs.declared.note.Note.{Note}
 use Rattle.spool.specs.Spool.{has_note}
 use Rattle.note_line.specs.declared.around.SpooledKinds.{SpooledKinds}
@@ -52,38 +33,30 @@ use Rattle.note_line.proofs.Opens.{Opens, opens_none, opens_oldest, opens_head, 
 use Rattle.transactions.specs.declared.transaction.Open.{Open}
 use Rattle.transactions.specs.declared.transaction.What.{What}
 use Rattle.transactions.specs.declared.transaction.What.TheVariants as what
-use Rattle.transactions.specs.Table.{Table, is_full, without, taken_out}
+use Rattle.transactions.specs.Table.{Table, is_full, taken_out}
 use Rattle.transactions.specs.SystemBytes.{drawn, with_started}
-use Rattle.transactions.specs.Endings.{same_kind, answers, answered, first_of, first_expired, is_first_expired}
-use Rattle.gem_model.specs.State.{State, t3, is_up, is_selected, is_session_up, is_communicating, is_online, around, can_ask, without_session, with_frame}
-use Rattle.gem_model.specs.Sending.{asks, identity_text, sends_stream9, data_header, data_frame}
-use Rattle.gem_model.specs.Fire.{fire, fires, fire_listed, row_starts, takes_effect, asks_first, stream_of_kind, function_of_kind, delay_end, of_control, of_line}
+use Rattle.transactions.specs.Endings.{same_kind, first_of}
+use Rattle.gem_model.specs.State.{State, t3, is_selected, is_communicating, is_online, around, can_ask, without_session, with_frame}
+use Rattle.gem_model.specs.Sending.{asks, identity_text, data_frame}
+use Rattle.gem_model.specs.Fire.{fire, fires, fire_listed, row_starts, takes_effect, asks_first, stream_of_kind, function_of_kind, delay_end, of_control}
 use Rattle.gem_model.specs.Values.{Occasion, object_name}
-use Rattle.gem_model.specs.Noting.{line_behind, line_with_event, line_with_alarm, is_event_reported, is_alarm_reported, clears_alarm}
-use Rattle.gem_model.specs.Remote.{RemoteCommand, GoLocal, ClearAlarm, Parameter, accepted, alarm_named}
-use Rattle.gem_model.specs.Spooling.{rspack, kinds_of, spools, unload_rows}
-use Rattle.gem_model.specs.Direct.{by_comm, by_control, note_fails, operator_rows, command_rows, message_rows, answer_rows, timeout_rows}
+use Rattle.gem_model.specs.Noting.{line_behind, line_with_event, line_with_alarm, is_event_reported, is_alarm_reported}
+use Rattle.gem_model.specs.Direct.{by_comm, by_control, note_fails, operator_rows, answer_rows, timeout_rows}
 use Rattle.gem_model.specs.Ready.{least, ready_comm, ready_control, ready_line, ready_floor, is_attempt}
 use Rattle.gem_model.specs.Measure.{one_if, is_wait_delay}
-use Rattle.gem_model.specs.Verdict.{Verdict, Discarded, Stream9, Aborted, Answers, Taken, ShopTaken, verdict, header_of, item_of, wants_reply, stream_of, function_of, reply_to}
-use Rattle.gem_model.specs.Act.{written, clock_set, clears_named, command_written, note_answered, replied, taken, shop_replied, shop_taken, closed_by, data_act, session_ended}
-use Rattle.gem_model.specs.Due.{Timeout, dues_with, expired_from, link_times, is_due, all_done, asks_linktest, timed_out}
-use Rattle.gem_model.specs.Settle.{settled, settling, Along}
-use Rattle.gem_model.specs.Step as steps
-use Rattle.gem_model.specs.Step.{Outcome, step_from, acts, linked, hosted, operated, can_clear, switched, quits, ticked, settles}
+use Rattle.gem_model.specs.Verdict.{function_of}
+use Rattle.gem_model.specs.Act.{note_answered, closed_by, session_ended}
+use Rattle.gem_model.specs.Due.{timed_out}
+use Rattle.gem_model.specs.Settle.{settling, Along}
+use Rattle.gem_model.specs.Step.{Outcome, step_from, acts}
 use Rattle.gem_model.specs.Valid.{is_wait_cra, establishes, attempts, is_note, notes, count_of}
 use Rattle.gem_model.proofs.Tests.{went, either_way, or_went, and_parts_of, none_some}
 use Rattle.gem_model.proofs.LineRows.{line_went, opened_by, oldest_opened, head_opened}
-use Rattle.tool_events.specs.declared.event.Signal.{Signal}
-use Rattle.event_reports.specs.Alarms.{is_alarm, set_alarm}
-use Rattle.gem_model.specs.Noting.{sets_alarm}
-use Rattle.msgs_300.specs.Primaries.{Message}
-use Rattle.msgs_300.specs.Replies.{shop_reply_body}
-use Rattle.gem_model.specs.Shop.{shop_reply_to}
-use Rattle.gem_model.specs.Signals.{signalled, is_ready_to_unload}
-use Rattle.gem_model.proofs.FloorRows.{LeftAlone, alone_fire, alone_listed, alone_asked, alone_signalled, ready_is, service_are, access_are, is_8}
-use Rattle.gem_model.proofs.Settling.{settled_keeps, settled_along, waits, fired_3}
-use Rattle.gem_model.proofs.Links.{link_after-keeps}
+use Rattle.gem_model.proofs.FloorRows.{LeftAlone, alone_fire, effect_is, ready_is, is_8}
+use Rattle.gem_model.proofs.Settling.{settled_along, waits, fired_3}
+use Rattle.gem_model.proofs.Listed.{IsFree, free_enabled, free_met, free_attempted, free_off_line, free_elsewhere, free_unload, free_purge, free_floor}
+use Rattle.gem_model.proofs.Walk.{Kept, out_of, told_of, kept_acts, kept_step_from}
+use Rattle.hsms_link.specs.declared.state.LinkState.{LinkState}
 use Rattle.gem_model.proofs.Counts.{count-found, count-push, count-forgotten, count-out, all-counted}
 
 -- ---- by numbers
@@ -288,16 +261,11 @@ most_attempt : (g : State) → Few g → count_of attempts g.transactions.opened
 most_attempt g few = let most = one_if-most (can_ask g && is_attempt g.control) in omega (arith, few.attempt, most)
 
 -- row 6 of table 1: the tool's S1F13 is forgotten
-few-met : (g : State) → Few g → Few (fire_listed (firing 1 0 6 ∷ []) g)
-few-met g few =
+few_met : (g : State) → Few g → Few (takes_effect g (firing 1 0 6))
+few_met g few =
     let none = count-forgotten establishes g.transactions (first_of what.Establish g.transactions.opened) refl (most_establish g few) in
-    few-one (firing 1 0 6) g few
-    (λ _. fits-comm _ _ _ g.comm (comm_fired 6 (delay_end 6 g) g.comm) g.control (is_selected g) (has_open g.line) none (talks_on 6 (delay_end 6 g) g.comm refl)
-    (few-out g (first_of what.Establish g.transactions.opened) few))
-
-few-enabled : (g : State) → Few g → Few (fire_listed (firing 1 0 1 ∷ []) g)
-few-enabled g few =
-    few-one (firing 1 0 1) g few (λ _. fits-enabled _ _ _ (delay_end 1 g) g.comm g.control (is_selected g) (has_open g.line) few)
+    fits-comm _ _ _ g.comm (comm_fired 6 (delay_end 6 g) g.comm) g.control (is_selected g) (has_open g.line) none (talks_on 6 (delay_end 6 g) g.comm refl)
+    (few-out g (first_of what.Establish g.transactions.opened) few)
 
 -- a row of table 2 that ends the attempt, where no S1F1 is open
 few-failed : (g : State) → Few g → count_of attempts g.transactions.opened ≡ 0 → Few (fire_listed (firing 2 0 3 ∷ []) g)
@@ -308,35 +276,46 @@ few-on_line true g few none = few-one (firing 2 0 4) g few (λ _. fits-control _
 few-on_line false g few none = few-one (firing 2 0 5) g few (λ _. fits-control _ _ _ g.comm g.control (control_fired 5 g.control) (is_selected g) (has_open g.line) none few)
 
 -- row 6 of table 2: the tool's S1F1 is forgotten
-few-off_line : (g : State) → Few g → Few (fire_listed (firing 2 0 6 ∷ []) g)
-few-off_line g few =
+few_off_line : (g : State) → Few g → Few (takes_effect g (firing 2 0 6))
+few_off_line g few =
     let none = count-forgotten attempts g.transactions (first_of what.Attempt g.transactions.opened) refl (most_attempt g few) in
-    few-one (firing 2 0 6) g few
-    (λ _. fits-control _ _ _ g.comm g.control (control_fired 6 g.control) (is_selected g) (has_open g.line) none (few-out g (first_of what.Attempt g.transactions.opened) few))
+    fits-control _ _ _ g.comm g.control (control_fired 6 g.control) (is_selected g) (has_open g.line) none (few-out g (first_of what.Attempt g.transactions.opened) few)
 
 -- the other rows of table 2 do not start in ATTEMPT ON-LINE, and have no effect
-few-elsewhere : (row : ℕ) (g : State) → starts control_table row attempt_online ≡ false → (row == 1) ≡ false → (row == 6) ≡ false → Few g → Few (fire_listed (firing 2 0 row ∷ []) g)
-few-elsewhere row g never sends_none forgets_none few =
-    few-one (firing 2 0 row) g few
-    (λ _. rw (sends_none, forgets_none) (fits-elsewhere row _ _ _ g.comm g.control (is_selected g) (has_open g.line) never few))
+few_elsewhere : (row : ℕ) (g : State) → starts control_table row attempt_online ≡ false → (row == 1) ≡ false → (row == 6) ≡ false → Few g → Few (takes_effect g (firing 2 0 row))
+few_elsewhere row g never sends_none forgets_none few =
+    rw (sends_none, forgets_none) (fits-elsewhere row _ _ _ g.comm g.control (is_selected g) (has_open g.line) never few)
 
 -- row 1 of table 2: S1F1 is sent where the tool can ask
-few-attempted : (g : State) → Few g → Few (fire_listed (firing 2 0 1 ∷ []) g)
-few-attempted g few = few-one (firing 2 0 1) g few (λ is. tries is)
+few_attempted : (g : State) → starts control_table 1 (control_number g.control) ≡ true → Few g → Few (takes_effect g (firing 2 0 1))
+few_attempted g is few =
+    let from = from_offline _ _ _ g.comm g.control (is_selected g) (has_open g.line) is few in
+    let h : State = record g { control = control_fired 1 g.control } in
+    let quiet : Few h = fits-control _ _ _ g.comm g.control (control_fired 1 g.control) (is_selected g) (has_open g.line) from.none few in
+    few_where (can_ask h) (asks 1 1 what.Attempt [] h) h
+    (λ can. few-asks h 1 1 what.Attempt [] quiet (asked h from.leads can from.none quiet)) (λ _. quiet)
   where
-    tries : starts control_table 1 (control_number g.control) ≡ true → Few (takes_effect g (firing 2 0 1))
-    tries is =
-        let from = from_offline _ _ _ g.comm g.control (is_selected g) (has_open g.line) is few in
-        let h : State = record g { control = control_fired 1 g.control } in
-        let quiet : Few h = fits-control _ _ _ g.comm g.control (control_fired 1 g.control) (is_selected g) (has_open g.line) from.none few in
-        few_where (can_ask h) (asks 1 1 what.Attempt [] h) h
-        (λ can. few-asks h 1 1 what.Attempt [] quiet (asked h from.leads can from.none quiet)) (λ _. quiet)
-      where
-        asked : (h : State) → h.control ≡ control.Attempt → can_ask h ≡ true → count_of attempts h.transactions.opened ≡ 0 → Few h → FewWith what.Attempt h
-        asked h leads can none quiet =
-            let f = fits-attempted _ _ _ h.comm h.control (is_selected h) (has_open h.line) none can quiet in
-            subst (λ (k : Control). Fits (count_of establishes h.transactions.opened + 0) (count_of attempts h.transactions.opened + 1) (count_of notes h.transactions.opened + 0) h.comm k (is_selected h) (has_open h.line)) (sym leads)
-            (fits-less _ _ _ _ _ _ h.comm control.Attempt (is_selected h) (has_open h.line) (omega arith) (omega arith) (omega arith) f)
+    asked : (h : State) → h.control ≡ control.Attempt → can_ask h ≡ true → count_of attempts h.transactions.opened ≡ 0 → Few h → FewWith what.Attempt h
+    asked h leads can none quiet =
+        let f = fits-attempted _ _ _ h.comm h.control (is_selected h) (has_open h.line) none can quiet in
+        subst (λ (k : Control). Fits (count_of establishes h.transactions.opened + 0) (count_of attempts h.transactions.opened + 1) (count_of notes h.transactions.opened + 0) h.comm k (is_selected h) (has_open h.line)) (sym leads)
+        (fits-less _ _ _ _ _ _ h.comm control.Attempt (is_selected h) (has_open h.line) (omega arith) (omega arith) (omega arith) f)
+
+-- a row that an input fires by itself
+few_row : (g : State) (f : Firing) → IsFree f → row_starts g f ≡ true → Few g → Few (takes_effect g f)
+few_row g f free is few = of free where
+  this : (one : Firing) → f ≡ one → Few (takes_effect g one) → Few (takes_effect g f)
+  this one same at = subst (λ (x : Firing). Few (takes_effect g x)) (sym same) at
+
+  of : IsFree f → Few (takes_effect g f)
+  of (free_enabled same) = this (firing 1 0 1) same (fits-enabled _ _ _ (delay_end 1 g) g.comm g.control (is_selected g) (has_open g.line) few)
+  of (free_met same) = this (firing 1 0 6) same (few_met g few)
+  of (free_attempted same) = this (firing 2 0 1) same (few_attempted g (subst (λ (x : Firing). row_starts g x ≡ true) same is) few)
+  of (free_off_line same) = this (firing 2 0 6) same (few_off_line g few)
+  of (free_elsewhere row never sends forgets same) = this (firing 2 0 row) same (few_elsewhere row g never sends forgets few)
+  of (free_unload same) = this (firing 3 0 4) same (few-line g (row_effect (around g) 4 g.line) refl few)
+  of (free_purge same) = this (firing 3 0 5) same (few-line g (row_effect (around g) 5 g.line) refl few)
+  of (free_floor floor) = subst Few (sym (effect_is g f floor)) few
 
 -- ---- the floor
 
@@ -345,16 +324,6 @@ few_alone = record {
   floor = λ g x few. few;
   noted = λ g event o online few. few-line g (line_behind event o online g) (same_open event o online g) few;
 }
-
-few_set : (alid : ℕ) (g : State) → Few g → Few (sets_alarm alid g)
-few_set alid g few =
-    few_either (is_alarm alid g.alarms && not (is_set alid g.alarms)) _ g
-    (few-line g (line_with_alarm alid (record g { alarms = set_alarm alid g.alarms }))
-    (either_way (λ (l : Line). l.opened ≡ g.line.opened) (is_alarm_reported alid (record g { alarms = set_alarm alid g.alarms })) _ g.line refl refl) few)
-    few
-
-few_signalled : (s : Signal) (g : State) → Few g → Few (signalled s g)
-few_signalled s g few = alone_signalled Few few_alone (λ h alid at. few_set alid h at) s g few
 
 -- ---- settling
 
@@ -440,9 +409,6 @@ few-automatic g f ready few =
 pub few_creation : (g : State) (n : ℕ) → Few g → Few (fire g (firing 8 n 1))
 few_creation g n few = alone_fire Few few_alone g (firing 8 n 1) (is_8 n 1) few
 
-pub few-settled : (g : State) → Few g → Few (settled g)
-few-settled g few = settled_keeps Few few-automatic few_creation g few
-
 -- ---- answers and timeouts
 
 -- no transaction of this kind is open
@@ -450,10 +416,6 @@ abbrev Gone : What → State → Type 0
 Gone what.Establish g = count_of establishes g.transactions.opened ≡ 0
 Gone what.Attempt g = count_of attempts g.transactions.opened ≡ 0
 Gone (what.Note n) g = count_of notes g.transactions.opened ≡ 0
-
--- a state in which one that was found is open no more
-abbrev pub out_of : Open → State → State
-out_of one g = record g { transactions = taken_out (Some one) g.transactions }
 
 gone-out : (w : What) (g : State) (searched : Open → Bool) (one : Open) → find searched g.transactions.opened ≡ Some one → one.what ≡ w → Few g → Gone w (out_of one g)
 gone-out what.Establish g searched one found is few =
@@ -489,10 +451,6 @@ few-closed g h item searched None is few = few
 few-closed g h item searched (Some one) is few =
     few-answer one.what (function_of h) item (out_of one g) (few-out g (Some one) few) (gone-out one.what g searched one is refl few)
 
--- the state in which a timeout is told
-abbrev pub told_of : Open → State → State
-told_of one g = sends_stream9 9 (data_header g.config.device true one.stream one.function one.system) (out_of one g)
-
 few-timed_out : (g : State) (searched : Open → Bool) (one : Open) → find searched g.transactions.opened ≡ Some one → Few g → Few (timed_out one g)
 few-timed_out g searched one found few =
     few-timeout one.what (told_of one g) (few-out g (Some one) few) (told_gone one.what refl)
@@ -501,19 +459,6 @@ few-timed_out g searched one found few =
     told_gone what.Establish is = gone-out what.Establish g searched one found is few
     told_gone what.Attempt is = gone-out what.Attempt g searched one found is few
     told_gone (what.Note n) is = gone-out (what.Note n) g searched one found is few
-
-pub opened_timeout : (w : What) (g : State) → (fire_listed (timeout_rows w g) g).transactions.opened ≡ g.transactions.opened
-opened_timeout what.Establish g = either_way (λ (h : State). h.transactions.opened ≡ g.transactions.opened) (row_starts g (firing 1 0 5)) (fire g (firing 1 0 5)) g refl refl
-opened_timeout what.Attempt g = either_way (λ (h : State). h.transactions.opened ≡ g.transactions.opened) (row_starts g (firing 2 0 3)) (fire g (firing 2 0 3)) g refl refl
-opened_timeout (what.Note n) g = either_way (λ (h : State). h.transactions.opened ≡ g.transactions.opened) (row_starts g (firing 3 0 14)) (fire g (firing 3 0 14)) g refl refl
-
-few-timeouts : (n at : ℕ) (opened : List Open) (first : Option Open) (g : State) → g.transactions.opened ≡ opened → first_expired at opened ≡ first → Few g → Few (all_done (map (λ one. Timeout one) (expired_from n at opened first)) g)
-few-timeouts zero at opened first g is found few = few
-few-timeouts (suc n) at opened None g is found few = few
-few-timeouts (suc n) at opened (Some one) g is found few =
-    few-timeouts n at (without one.system opened) (first_expired at (without one.system opened)) (timed_out one g)
-    (opened_timeout one.what (told_of one g) ∙ ap (without one.system) is) refl
-    (few-timed_out g (is_first_expired at opened) one (ap (find (is_first_expired at opened)) is ∙ found) few)
 
 -- ---- the end of a session
 
@@ -579,235 +524,61 @@ few-disabling false attempted g is few =
 few-disabled : (g : State) → Few g → Few (fires (operator_rows oper.Disable) g)
 few-disabled g few = few-disabling (row_starts g (firing 1 0 2)) (is_some (first_of what.Attempt g.transactions.opened)) g refl few
 
--- an alarm is cleared
-few-cleared : (alid : ℕ) (g : State) → Few g → Few (clears_alarm alid g)
-few-cleared alid g few =
-    few_either (is_set alid g.alarms) _ g
-    (few-line g (line_with_alarm alid (record g { alarms = clear_alarm alid g.alarms }))
-    (either_way (λ (l : Line). l.opened ≡ g.line.opened) (is_alarm_reported alid (record g { alarms = clear_alarm alid g.alarms })) _ g.line refl refl) few)
-    few
+-- ---- a step
 
-few-clear : (alid : ℕ) (g : State) → Few g → Few (switched (oper.Clear alid) g)
-few-clear alid g few = few_either (can_clear alid g) (clears_alarm alid g) g (few-cleared alid g few) few
-
-few-operator : (command : OperCmd) (g : State) → Few g → Few (fires (operator_rows command) (switched command g))
-few-operator oper.Enable g few = few-enabled g few
-few-operator oper.Disable g few = few-disabled g few
-few-operator oper.Online g few = few-attempted g few
-few-operator oper.Offline g few = few-off_line g few
-few-operator oper.Local g few = few-elsewhere 11 (switched oper.Local g) refl refl refl few
-few-operator oper.Remote g few = few-elsewhere 10 (switched oper.Remote g) refl refl refl few
-few-operator oper.Quit g few = few
-few-operator (oper.Service p on) g few = alone_listed Few few_alone (operator_rows (oper.Service p on) g) (service_are on g.floor p.0) g few
-few-operator (oper.Access p on) g few = alone_listed Few few_alone (operator_rows (oper.Access p on) g) (access_are on g.floor p.0) g few
-few-operator (oper.Job j w) g few = few
-few-operator (oper.CtlJob j n) g few = few
-few-operator (oper.Up m) g few = few
-few-operator (oper.Clear n) g few = few-clear n g few
-few-operator (oper.Lost s) g few = few
-
-few-quit : (up : Bool) (g : State) → Few g → Few (quits up g).after
-few-quit true g few = few-ended g
-few-quit false g few = few
-
-few-operated : (command : OperCmd) (g : State) → Few g → Few (operated command g).after
-few-operated oper.Quit g few = few-quit (is_up g) g few
-few-operated oper.Enable g few = few-operator oper.Enable g few
-few-operated oper.Disable g few = few-operator oper.Disable g few
-few-operated oper.Online g few = few-operator oper.Online g few
-few-operated oper.Offline g few = few-operator oper.Offline g few
-few-operated oper.Local g few = few-operator oper.Local g few
-few-operated oper.Remote g few = few-operator oper.Remote g few
-few-operated (oper.Service p on) g few = few-operator (oper.Service p on) g few
-few-operated (oper.Access p on) g few = few-operator (oper.Access p on) g few
-few-operated (oper.Job j w) g few = few
-few-operated (oper.CtlJob j n) g few = few
-few-operated (oper.Up m) g few = few
-few-operated (oper.Clear n) g few = few-clear n g few
-few-operated (oper.Lost s) g few = few
-
--- ---- data messages
-
-few-clock : (shown : Option ℕ) (g : State) → Few g → Few (clock_set shown g)
-few-clock None g few = few
-few-clock (Some shown) g few = few
-
-few-named : (alid : Option ℕ) (g : State) → Few g → Few (clears_named alid g)
-few-named None g few = few
-few-named (Some alid) g few = few-cleared alid g few
-
-few-command : (command : Option RemoteCommand) (parameters : List Parameter) (g : State) → Few g → Few (command_written command parameters g)
-few-command None parameters g few = few
-few-command (Some GoLocal) parameters g few = few
-few-command (Some ClearAlarm) parameters g few = few-named (alarm_named parameters) g few
+-- the note of an alarm opens none
+pub same_alarm : (alid : ℕ) (g : State) → (line_with_alarm alid g).opened ≡ g.line.opened
+same_alarm alid g = either_way (λ (l : Line). l.opened ≡ g.line.opened) (is_alarm_reported alid g) _ g.line refl refl
 
 -- the kinds that are spooled open no note
 pub same_kinds : (kinds : SpooledKinds) (l : Line) → (with_kinds kinds l).opened ≡ l.opened
 same_kinds kinds l = either_way (λ (h : Line). h.opened ≡ l.opened) (has_note l.spool) l (record l { kinds = kinds }) refl refl
 
-few-spools : (entries : List SpooledStream) (g : State) → Few g → Few (spools entries g)
-few-spools entries g few =
-    few_either (rspack g entries == 0) (record g { line = with_kinds (kinds_of entries) g.line }) g
-    (few-line g (with_kinds (kinds_of entries) g.line) (same_kinds (kinds_of entries) g.line) few) few
-
-few-written : (m : GemMsg) (g : State) → Few g → Few (written m g)
-few-written msg.S1F1 g few = few
-few-written (msg.S1F3 ids) g few = few
-few-written (msg.S1F11 ids) g few = few
-few-written msg.S1F13 g few = few
-few-written msg.S1F15 g few = few
-few-written msg.S1F17 g few = few
-few-written (msg.S2F13 ids) g few = few
-few-written (msg.S2F15 settings) g few = few
-few-written msg.S2F17 g few = few
-few-written (msg.S2F29 ids) g few = few
-few-written (msg.S2F31 text) g few = few-clock (moment_in text) g few
-few-written (msg.S2F33 id reports) g few = few
-few-written (msg.S2F35 id events) g few = few
-few-written (msg.S2F37 on ceids) g few = few
-few-written (msg.S2F41 name parameters) g few = few-command (accepted g name parameters) parameters g few
-few-written (msg.S2F43 entries) g few = few-spools entries g few
-few-written (msg.S5F3 aled alid) g few = few
-few-written (msg.S5F5 ids) g few = few
-few-written msg.S5F7 g few = few
-few-written (msg.S6F15 ceid) g few = few
-few-written (msg.S6F19 rptid) g few = few
-few-written (msg.S6F23 rsdc) g few = few
-
-few-replied : (h : Header) (function : ℕ) (text : List ℕ) (g : State) → Few g → Few (replied h function text g)
-few-replied h function text g few = few_either (wants_reply h) _ g few few
-
-few-on_either : (local : Bool) (g : State) → Few g → Few (fire_listed (of_control (if local then 7 ∷ [] else 8 ∷ [])) g)
-few-on_either true g few = few-elsewhere 7 g refl refl refl few
-few-on_either false g few = few-elsewhere 8 g refl refl refl few
-
-few-commanded : (command : Option RemoteCommand) (g : State) → Few g → Few (fires (command_rows command) g)
-few-commanded None g few = few
-few-commanded (Some GoLocal) g few = few-elsewhere 11 g refl refl refl few
-few-commanded (Some ClearAlarm) g few = few
-
-few-unload : (rsdc : ℕ) (g : State) → Few g → Few (fire_listed (unload_rows rsdc) g)
-few-unload rsdc g few =
-    either_way (λ (rows : List ℕ). Few (fire_listed (of_line rows) g)) (rsdc == 0) (4 ∷ []) (5 ∷ [])
-    (few-one (firing 3 0 4) g few (λ _. few-line g (row_effect (around g) 4 g.line) refl few))
-    (few-one (firing 3 0 5) g few (λ _. few-line g (row_effect (around g) 5 g.line) refl few))
-
-few-message : (m : GemMsg) (g : State) → Few g → Few (fires (message_rows m) g)
-few-message msg.S1F1 g few = few
-few-message (msg.S1F3 ids) g few = few
-few-message (msg.S1F11 ids) g few = few
-few-message msg.S1F13 g few = few-met g few
-few-message msg.S1F15 g few = few-elsewhere 9 g refl refl refl few
-few-message msg.S1F17 g few = few-on_either g.switch_local g few
-few-message (msg.S2F13 ids) g few = few
-few-message (msg.S2F15 settings) g few = few
-few-message msg.S2F17 g few = few
-few-message (msg.S2F29 ids) g few = few
-few-message (msg.S2F31 text) g few = few
-few-message (msg.S2F33 id reports) g few = few
-few-message (msg.S2F35 id events) g few = few
-few-message (msg.S2F37 on ceids) g few = few
-few-message (msg.S2F41 name parameters) g few = few-commanded (accepted g name parameters) g few
-few-message (msg.S2F43 entries) g few = few
-few-message (msg.S5F3 aled alid) g few = few
-few-message (msg.S5F5 ids) g few = few
-few-message msg.S5F7 g few = few
-few-message (msg.S6F15 ceid) g few = few
-few-message (msg.S6F19 rptid) g few = few
-few-message (msg.S6F23 rsdc) g few = few-unload rsdc g few
-
-few-taken : (h : Header) (m : GemMsg) (g : State) → Few g → Few (taken h m g)
-few-taken h m g few =
-    let told : State = replied h (function_of h + 1) (plain (reply_body (reply_to g m))) g in
-    few-message m (written m told) (few-written m told (few-replied h (function_of h + 1) (plain (reply_body (reply_to g m))) g few))
-
-few-shop : (h : Header) (m : Message) (g : State) → Few g → Few (shop_taken h m g)
-few-shop h m g few =
-    alone_asked Few few_alone m (shop_replied h m g) (few-replied h (function_of h + 1) (plain (shop_reply_body (shop_reply_to g m))) g few)
-
-few-act : (h : Header) (item : Option Data) (v : Verdict) (g : State) → Few g → Few (data_act h item v g)
-few-act h item Discarded g few = few
-few-act h item (Stream9 function) g few = few
-few-act h item Aborted g few = few-replied h 0 [] g few
-few-act h item Answers g few =
-    few-closed g h item (answers h.system (stream_of h) (function_of h)) (answered h.system (stream_of h) (function_of h) g.transactions.opened) refl few
-few-act h item (Taken m) g few = few-taken h m g few
-few-act h item (ShopTaken m) g few = few-shop h m g few
-
--- ---- the link
-
-few-linked : (g : State) (h : Header) → Few g → Few (linked g h)
-few-linked g h few = record {
+few_link : (g : State) (l : LinkState) → (links.is_selected g.link.phase ≡ true → links.is_selected l.phase ≡ true) → Few g → Few (record g { link = l })
+few_link g l selected few = record {
   establish = few.establish;
-  attempt = fits_ask _ (is_communicating g.comm) (is_selected g) (is_communicating g.comm) (is_selected (linked g h)) (is_attempt g.control) (λ is. is) (link_after-keeps h g.moment g.link).selected few.attempt;
+  attempt = fits_ask _ (is_communicating g.comm) (is_selected g) (is_communicating g.comm) (links.is_selected l.phase) (is_attempt g.control) (λ is. is) selected few.attempt;
   note = few.note;
 }
 
-few-hosted : (g : State) (arrival : Arrival) (act : LinkAct) → Few g → Few (hosted g arrival act).after
-few-hosted g arrival (link.Reply h) few = few
-few-hosted g arrival link.Data few = few-act (header_of arrival) (item_of arrival) (verdict g arrival) g few
-few-hosted g arrival link.Ended few = few-ended g
-few-hosted g arrival link.Nothing few = few
+few_drawn : (g : State) (t : Table) → t.opened ≡ g.transactions.opened → Few g → Few (record g { transactions = t })
+few_drawn g t same few =
+    subst (λ (opened : List Open). Fits (count_of establishes opened) (count_of attempts opened) (count_of notes opened) g.comm g.control (is_selected g) (has_open g.line)) (sym same) few
 
--- ---- the clock
-
-few-due : (g : State) (d : Option LinkDue) → Few g → Few (all_done (dues_with g d) g)
-few-due g (Some due.T7) few = few-ended g
-few-due g (Some due.T6) few = few-ended g
-few-due g (Some due.AskLinktest) few =
-    few-timeouts (length g.transactions.opened) g.moment g.transactions.opened (first_expired g.moment g.transactions.opened) (asks_linktest g) refl refl few
-few-due g None few =
-    few-timeouts (length g.transactions.opened) g.moment g.transactions.opened (first_expired g.moment g.transactions.opened) g refl refl few
-
--- ---- a step
-
-few_some : (p o : Outcome) → Few p.after → Some p ≡ Some o → Few o.after
-few_some p o few here = let is : p ≡ o = cc in subst (λ (q : Outcome). Few q.after) is few
-
-few-ticked : (before : ℕ) (g : State) (o : Outcome) → Few g → ticked before g ≡ Some o → Few o.after
-few-ticked before g o few here =
-    went (is_due before g) _ _ _
-    (λ _ e. few_some _ o (few-due g (due_at (link_times g) g.link g.moment) few) e)
-    (λ _ e. none_some o e) here
-
-few-frame : (g : State) (frames : List (List ℕ)) (o : Outcome) → Few g → steps.taken g frames ≡ Some o → Few o.after
-few-frame g [] o few here = none_some o here
-few-frame g (frame ∷ frames) o few here = few_some _ o few here
-
-not_selected : (phase : Phase) → links.is_up phase ≡ false → links.is_selected phase ≡ false
-not_selected Down down = refl
-not_selected (NotSelected since) down = refl
-not_selected Selected down = absurd (cc)
-
--- a new session is not selected, and neither was the link before
-few-up : (g : State) → is_up g ≡ false → Few g → Few (record g { link = record { session = suc g.link.session; phase = NotSelected (record { 0 = g.moment }); ping = Off } })
-few-up g down few =
-    subst (λ (s : Bool). Fits (count_of establishes g.transactions.opened) (count_of attempts g.transactions.opened) (count_of notes g.transactions.opened) g.comm g.control s (has_open g.line))
-    (not_selected g.link.phase down) few
+-- each change of a step keeps few transactions open
+pub few_kept : Kept Few
+few_kept = record {
+  inner = record {
+    clock = λ g c few. few;
+    switch = λ g b few. few;
+    drawn = few_drawn;
+    constants = λ g c few. few;
+    reports = λ g r few. few;
+    alarms = λ g a few. few;
+    waiting = λ g w few. few;
+    event = λ g e o online few. few-line g (line_behind e o online g) (same_open e o online g) few;
+    alarm = λ g alid few. few-line g (line_with_alarm alid g) (same_alarm alid g) few;
+    kinds = λ g k few. few-line g (with_kinds k g.line) (same_kinds k g.line) few;
+    came = λ g port name slots few. few;
+    written = λ g a is few. few;
+    row = few_row;
+    ready = few-automatic;
+    created = few_creation;
+    answered = λ g h item test one found few. few-closed g h item test (Some one) found few;
+    failed = λ g test one found few. few-timed_out g test one found few;
+    disabled = few-disabled;
+  };
+  moment = λ g m few. few;
+  quitting = λ g few. few;
+  link = few_link;
+  ended = λ g few. few-ended g;
+}
 
 pub few-acts : (before : ℕ) (g : State) (e : Event) (o : Outcome) → Few g → acts before g e ≡ Some o → Few o.after
-few-acts before g event.LinkUp o few here = went (is_up g) _ _ _ (λ _ e. few_some _ o few e) (λ down e. few_some _ o (few-up g down few) e) here
-few-acts before g (event.LinkDown session cause) o few here = went (is_session_up g session) _ _ _ (λ _ e. few_some _ o (few-ended g) e) (λ _ e. few_some _ o few e) here
-few-acts before g (event.Host session arrival) o few here =
-    went (is_session_up g session) _ _ _
-    (λ _ e. few_some _ o (few-hosted (linked g (header_of arrival)) arrival (link_act (header_of arrival) g.link) (few-linked g (header_of arrival) few)) e)
-    (λ _ e. few_some _ o few e) here
-few-acts before g (event.Take session) o few here = went (is_session_up g session) _ _ _ (λ _ e. few-frame g g.waiting o few e) (λ _ e. few_some _ o few e) here
-few-acts before g (event.Oper command) o few here = few_some (operated command g) o (few-operated command g few) here
-few-acts before g (event.Signal signal) o few here = few_some _ o (few_signalled signal g few) here
-few-acts before g (event.Fetch m) o few here = none_some o here
-few-acts before g event.Tick o few here = few-ticked before g o few here
-few-acts before g event.Listen o few here = none_some o here
-few-acts before g (event.Watch port) o few here = went (is_ready_to_unload port.0 g) _ _ _ (λ _ e. few_some _ o few e) (λ _ e. none_some o e) here
+few-acts before g e o few here = kept_acts Few few_kept before g e o few here
 
-few-mapped : (x : Option Outcome) (o : Outcome) → ((p : Outcome) → x ≡ Some p → Few p.after) → option_map settles x ≡ Some o → Few o.after
-few-mapped None o few here = none_some o here
-few-mapped (Some p) o few here = few_some (settles p) o (few-settled p.after (few p refl)) here
-
--- each step keeps few transactions open
 pub few-step : (before : ℕ) (g : State) (e : Event) (o : Outcome) → Few g → step_from before g e ≡ Some o → Few o.after
-few-step before g e o few here =
-    went g.quitting _ _ _ (λ _ at. few_some _ o few at) (λ _ at. few-mapped (acts before g e) o (λ p is. few-acts before g e p few is) at) here
+few-step before g e o few here = kept_step_from Few few_kept before g e o few here
 
 -- ---- room
 

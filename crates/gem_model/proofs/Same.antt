@@ -1,45 +1,27 @@
 -- What a change of the state leaves alone: the configuration, the link, and whether the run was ended.
-use Rattle.std.proofs.Common.{◌≡◌, ℕ, ◌+◌, ◌==◌, Bool, true, not, ◌&&◌, if◌then◌else◌, List, [], ◌∷◌, Option, Some, None, refl, ◌∙◌}
-use Rattle.hsms_frame.specs.declared.frame.Header.{Header}
+use Rattle.std.proofs.Common.{◌≡◌, ℕ, ◌==◌, Bool, if◌then◌else◌, List, [], ◌∷◌, refl, ◌∙◌}
 use Rattle.hsms_frame.specs.declared.frame.Arrival.{Arrival}
-use Rattle.secs_items.specs.Data.{Data}
-use Rattle.gem_primaries.specs.declared.primary.GemMsg.{GemMsg}
-use Rattle.gem_primaries.specs.declared.primary.GemMsg.TheVariants as msg
 use Rattle.tool_events.specs.declared.event.OperCmd.{OperCmd}
-use Rattle.tool_events.specs.declared.event.OperCmd.TheVariants as oper
 use Rattle.transactions.specs.declared.transaction.What.{What}
 use Rattle.transactions.specs.declared.transaction.What.TheVariants as what
 use Rattle.gem_states.specs.Meaning.{comm_fired, control_fired}
 use Rattle.transactions.specs.declared.transaction.Open.{Open}
 use Rattle.gem_tables.specs.Table.{Firing, firing}
 use Rattle.gem_model.specs.State.{State, none_asked, can_ask}
-use Rattle.gem_ids.specs.Civil.{moment_in}
-use Rattle.secs_items.specs.Plain.{plain}
-use Rattle.gem_replies.specs.Replies.{reply_body}
-use Rattle.transactions.specs.Table.{taken_out}
-use Rattle.gem_model.specs.Direct.{message_rows, answer_rows, timeout_rows}
-use Rattle.gem_model.specs.Sending.{asks, identity_text, sends_stream9, data_header}
+use Rattle.gem_model.specs.Sending.{asks, identity_text}
 use Rattle.spool.specs.declared.note.Note.{Note}
-use Rattle.note_line.specs.Line.{with_kinds}
-use Rattle.gem_model.specs.Spooling.{rspack, kinds_of}
 use Rattle.gem_model.specs.Fire.{fire, fire_listed, fire_comm, fire_control, fire_line, fire_floor, comm_effect, control_effect, line_effect, asks_first, takes_effect, stream_of_kind, function_of_kind, delay_end, forgets, row_starts}
-use Rattle.gem_model.specs.Noting.{clears_alarm, sets_alarm}
-use Rattle.gem_model.specs.Remote.{RemoteCommand, GoLocal, ClearAlarm, Parameter, accepted, alarm_named}
-use Rattle.event_reports.specs.Alarms.{is_set}
-use Rattle.gem_model.specs.Verdict.{Verdict, Discarded, Stream9, Aborted, Answers, Taken, ShopTaken, verdict, header_of, item_of, wants_reply, function_of, reply_to}
-use Rattle.gem_model.specs.Act.{written, clock_set, clears_named, command_written, note_answered, replied, taken, shop_replied, shop_taken, closed_by, data_act, data_done}
+use Rattle.gem_model.specs.Verdict.{verdict, header_of, item_of}
+use Rattle.gem_model.specs.Act.{data_done}
 use Rattle.gem_model.specs.Due.{timed_out}
-use Rattle.gem_model.specs.Step.{switched, can_clear}
+use Rattle.gem_model.specs.Step.{switched}
 use Rattle.gem_model.specs.Settle.{settled}
 use Rattle.gem_model.proofs.Tests.{either_way}
 use Rattle.tool_events.specs.declared.event.Signal.{Signal}
-use Rattle.event_reports.specs.Alarms.{is_alarm}
-use Rattle.msgs_300.specs.Primaries.{Message}
-use Rattle.msgs_300.specs.Replies.{shop_reply_body}
-use Rattle.gem_model.specs.Shop.{shop_reply_to}
 use Rattle.gem_model.specs.Signals.{signalled}
-use Rattle.gem_model.proofs.FloorRows.{LeftAlone, alone_asked, alone_signalled}
 use Rattle.gem_model.proofs.Settling.{settled_keeps}
+use Rattle.gem_model.proofs.Each.{EachInner, each_inner, each_timed_out}
+use Rattle.gem_model.proofs.Walk.{Inner, kept_act, kept_signalled, kept_switched}
 
 -- the configuration and the link are the same, and so is whether the run was ended
 pub record Same (g h : State) : Type 0 where
@@ -112,108 +94,40 @@ same_listed (f ∷ fs) g =
 pub same_settled : (g : State) → Same g (settled g)
 same_settled g = settled_keeps (Same g) (λ h f ready same. same_then g h _ same (same_fire h f)) (λ h n same. same_then g h (fire h (firing 8 n 1)) same (same_fire h (firing 8 n 1))) g (same_at g)
 
--- ---- data messages
+-- ---- what a step does
 
-same_clock : (g : State) (shown : Option ℕ) → Same g (clock_set shown g)
-same_clock g None = same_at g
-same_clock g (Some shown) = record { config = refl; link = refl; quitting = refl }
-
-same_cleared : (g : State) (alid : ℕ) → Same g (clears_alarm alid g)
-same_cleared g alid = same_either g (is_set alid g.alarms) _ g (record { config = refl; link = refl; quitting = refl }) (same_at g)
-
-same_set : (g : State) (alid : ℕ) → Same g (sets_alarm alid g)
-same_set g alid = same_either g (is_alarm alid g.alarms && not (is_set alid g.alarms)) _ g (record { config = refl; link = refl; quitting = refl }) (same_at g)
-
-same_alone : (g : State) → LeftAlone (Same g)
-same_alone g = record {
-  floor = λ h x same. record { config = same.config; link = same.link; quitting = same.quitting };
-  noted = λ h event o online same. record { config = same.config; link = same.link; quitting = same.quitting };
+-- each change but those of the link, the moment and the end of the run
+same_each : (g : State) → EachInner (Same g)
+same_each g = record {
+  clock = λ h c same. record { config = same.config; link = same.link; quitting = same.quitting };
+  switch = λ h b same. record { config = same.config; link = same.link; quitting = same.quitting };
+  transactions = λ h t same. record { config = same.config; link = same.link; quitting = same.quitting };
+  constants = λ h c same. record { config = same.config; link = same.link; quitting = same.quitting };
+  reports = λ h r same. record { config = same.config; link = same.link; quitting = same.quitting };
+  alarms = λ h a same. record { config = same.config; link = same.link; quitting = same.quitting };
+  waiting = λ h w same. record { config = same.config; link = same.link; quitting = same.quitting };
+  event = λ h e o online same. record { config = same.config; link = same.link; quitting = same.quitting };
+  alarm = λ h alid same. record { config = same.config; link = same.link; quitting = same.quitting };
+  kinds = λ h k same. record { config = same.config; link = same.link; quitting = same.quitting };
+  answer = λ h same. record { config = same.config; link = same.link; quitting = same.quitting };
+  came = λ h port name slots same. record { config = same.config; link = same.link; quitting = same.quitting };
+  written = λ h a is same. record { config = same.config; link = same.link; quitting = same.quitting };
+  row = λ h f listed is same. same_then g h (takes_effect h f) same (same_effect h f);
+  ready = λ h f ready same. same_then g h (fire h f) same (same_fire h f);
+  created = λ h n same. same_then g h (fire h (firing 8 n 1)) same (same_fire h (firing 8 n 1));
 }
 
+same_inner : (g : State) → Inner (Same g)
+same_inner g = each_inner (Same g) (same_each g)
+
 pub same_signal : (g : State) (s : Signal) → Same g (signalled s g)
-same_signal g s = alone_signalled (Same g) (same_alone g) (λ h alid same. same_then g h _ same (same_set h alid)) s g (same_at g)
-
-same_named : (g : State) (alid : Option ℕ) → Same g (clears_named alid g)
-same_named g None = same_at g
-same_named g (Some alid) = same_cleared g alid
-
-same_command : (g : State) (command : Option RemoteCommand) (parameters : List Parameter) → Same g (command_written command parameters g)
-same_command g None parameters = same_at g
-same_command g (Some GoLocal) parameters = same_at g
-same_command g (Some ClearAlarm) parameters = same_named g (alarm_named parameters)
-
-pub same_written : (g : State) (m : GemMsg) → Same g (written m g)
-same_written g msg.S1F1 = same_at g
-same_written g (msg.S1F3 ids) = same_at g
-same_written g (msg.S1F11 ids) = same_at g
-same_written g msg.S1F13 = same_at g
-same_written g msg.S1F15 = same_at g
-same_written g msg.S1F17 = same_at g
-same_written g (msg.S2F13 ids) = same_at g
-same_written g (msg.S2F15 settings) = record { config = refl; link = refl; quitting = refl }
-same_written g msg.S2F17 = same_at g
-same_written g (msg.S2F29 ids) = same_at g
-same_written g (msg.S2F31 text) = same_clock g (moment_in text)
-same_written g (msg.S2F33 id reports) = record { config = refl; link = refl; quitting = refl }
-same_written g (msg.S2F35 id events) = record { config = refl; link = refl; quitting = refl }
-same_written g (msg.S2F37 on ceids) = record { config = refl; link = refl; quitting = refl }
-same_written g (msg.S2F41 name parameters) = same_command g (accepted g name parameters) parameters
-same_written g (msg.S2F43 entries) = same_either g (rspack g entries == 0) (record g { line = with_kinds (kinds_of entries) g.line }) g (record { config = refl; link = refl; quitting = refl }) (same_at g)
-same_written g (msg.S5F3 aled alid) = record { config = refl; link = refl; quitting = refl }
-same_written g (msg.S5F5 ids) = same_at g
-same_written g msg.S5F7 = same_at g
-same_written g (msg.S6F15 ceid) = same_at g
-same_written g (msg.S6F19 rptid) = same_at g
-same_written g (msg.S6F23 rsdc) = same_at g
-
-same_replied : (g : State) (h : Header) (function : ℕ) (text : List ℕ) → Same g (replied h function text g)
-same_replied g h function text = same_either g (wants_reply h) _ _ (record { config = refl; link = refl; quitting = refl }) (same_at g)
-
-same_taken : (g : State) (h : Header) (m : GemMsg) → Same g (taken h m g)
-same_taken g h m =
-    let text = plain (reply_body (reply_to g m)) in
-    let told : State = replied h (function_of h + 1) text g in
-    same_then g told (taken h m g) (same_replied g h (function_of h + 1) text)
-    (same_then told (written m told) (taken h m g) (same_written told m) (same_listed (message_rows m (written m told)) (written m told)))
-
-same_shop : (g : State) (h : Header) (m : Message) → Same g (shop_taken h m g)
-same_shop g h m =
-    let told : State = shop_replied h m g in
-    alone_asked (Same g) (same_alone g) m told (same_replied g h (function_of h + 1) (plain (shop_reply_body (shop_reply_to g m))))
-
-same_note : (g : State) (w : What) → Same g (note_answered w g)
-same_note g what.Establish = same_at g
-same_note g what.Attempt = same_at g
-same_note g (what.Note n) = record { config = refl; link = refl; quitting = refl }
-
-same_closed : (g : State) (h : Header) (item : Option Data) (one : Option Open) → Same g (closed_by h item one g)
-same_closed g h item None = same_at g
-same_closed g h item (Some one) =
-    let out : State = record g { transactions = taken_out (Some one) g.transactions } in
-    let told : State = note_answered one.what out in
-    same_then g out _ (record { config = refl; link = refl; quitting = refl })
-    (same_then out told _ (same_note out one.what) (same_listed (answer_rows one.what (function_of h) item told) told))
-
-same_act : (g : State) (h : Header) (item : Option Data) (v : Verdict) → Same g (data_act h item v g)
-same_act g h item Discarded = same_at g
-same_act g h item (Stream9 function) = record { config = refl; link = refl; quitting = refl }
-same_act g h item Aborted = same_replied g h 0 []
-same_act g h item Answers = same_closed g h item _
-same_act g h item (Taken m) = same_taken g h m
-same_act g h item (ShopTaken m) = same_shop g h m
+same_signal g s = kept_signalled (Same g) (same_inner g) s g (same_at g)
 
 pub same_data : (g : State) (arrival : Arrival) → Same g (data_done arrival g)
-same_data g arrival = same_act g (header_of arrival) (item_of arrival) (verdict g arrival)
-
--- ---- the clock and operators
+same_data g arrival = kept_act (Same g) (same_inner g) g (header_of arrival) (item_of arrival) (verdict g arrival) (same_at g)
 
 pub same_timeout : (g : State) (one : Open) → Same g (timed_out one g)
-same_timeout g one =
-    let told : State = sends_stream9 9 (data_header g.config.device true one.stream one.function one.system) (record g { transactions = taken_out (Some one) g.transactions }) in
-    same_then g told (timed_out one g) (record { config = refl; link = refl; quitting = refl }) (same_listed (timeout_rows one.what told) told)
+same_timeout g one = each_timed_out (Same g) (same_each g) g one (same_at g)
 
 pub same_switched : (g : State) (command : OperCmd) → Same g (switched command g)
-same_switched g oper.Local = record { config = refl; link = refl; quitting = refl }
-same_switched g oper.Remote = record { config = refl; link = refl; quitting = refl }
-same_switched g (oper.Clear alid) = same_either g (can_clear alid g) (clears_alarm alid g) g (same_cleared g alid) (same_at g)
-same_switched g _ = same_at g
+same_switched g command = kept_switched (Same g) (same_inner g) command g (same_at g)

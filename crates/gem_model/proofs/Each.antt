@@ -1,0 +1,116 @@
+-- What each single change keeps, the ends of transactions and sessions keep: for facts that look at no transaction.
+use Rattle.std.proofs.Common.{◌≡◌, ℕ, Bool, true, List, [], Option, Some}
+use Rattle.hsms_frame.specs.declared.frame.Header.{Header}
+use Rattle.hsms_link.specs.declared.state.LinkState.{LinkState}
+use Rattle.secs_items.specs.Data.{Data}
+use Rattle.gem_tables.specs.Table.{Firing, firing}
+use Rattle.event_reports.specs.Reports.{Reports}
+use Rattle.event_reports.specs.declared.alarms.AlarmLine.{AlarmLine}
+use Rattle.data_variables.specs.declared.val.Val.{Val}
+use Rattle.carrier.specs.declared.action.CarrierAction.{CarrierAction}
+use Rattle.shop_floor.specs.Requests.{carrier_code, carrier_written}
+use Rattle.note_line.specs.Line.{with_kinds, answered as answered_line}
+use Rattle.note_line.specs.declared.around.SpooledKinds.{SpooledKinds}
+use Rattle.tool_events.specs.declared.event.OperCmd.TheVariants as oper
+use Rattle.transactions.specs.declared.transaction.Open.{Open}
+use Rattle.transactions.specs.declared.transaction.What.{What}
+use Rattle.transactions.specs.declared.transaction.What.TheVariants as what
+use Rattle.transactions.specs.Table.{Table}
+use Rattle.gem_model.specs.State.{State, Clock, none_asked, without_session}
+use Rattle.gem_model.specs.Values.{Occasion}
+use Rattle.gem_model.specs.Noting.{line_behind, line_with_alarm}
+use Rattle.gem_model.specs.Fire.{fire, fires, fire_listed, row_starts, takes_effect}
+use Rattle.gem_model.specs.Signals.{with_arrival}
+use Rattle.gem_model.specs.Direct.{operator_rows, answer_rows, timeout_rows, session_end_rows}
+use Rattle.gem_model.specs.Ready.{least}
+use Rattle.gem_model.specs.Verdict.{function_of}
+use Rattle.gem_model.specs.Act.{note_answered, closed_by, session_ended}
+use Rattle.gem_model.specs.Due.{timed_out}
+use Rattle.gem_model.proofs.Listed.{Are, IsListed, listed_keeps, free_listed, listed_answer, listed_timeout, listed_ended, listed_disable}
+use Rattle.gem_model.proofs.Walk.{Inner, Kept, out_of, told_of}
+
+-- what keeps a fact of states that looks at no transaction, while link, moment and the end of the run stay: each change by
+-- itself, by the field that it writes, and each row
+pub record EachInner (P : State → Type 0) : Type 1 where
+  pub clock : (g : State) (c : Clock) → P g → P (record g { clock = c })
+  pub switch : (g : State) (b : Bool) → P g → P (record g { switch_local = b })
+  pub transactions : (g : State) (t : Table) → P g → P (record g { transactions = t })
+  pub constants : (g : State) (c : List (ℕ × Val)) → P g → P (record g { constants = c })
+  pub reports : (g : State) (r : Reports) → P g → P (record g { reports = r })
+  pub alarms : (g : State) (a : List AlarmLine) → P g → P (record g { alarms = a })
+  pub waiting : (g : State) (w : List (List ℕ)) → P g → P (record g { waiting = w })
+  pub event : (g : State) (e : Option ℕ) (o : Occasion) (online : Bool) → P g → P (record g { line = line_behind e o online g })
+  pub alarm : (g : State) (alid : ℕ) → P g → P (record g { line = line_with_alarm alid g })
+  pub kinds : (g : State) (k : SpooledKinds) → P g → P (record g { line = with_kinds k g.line })
+  pub answer : (g : State) → P g → P (record g { line = answered_line g.line })
+  pub came : (g : State) (port : ℕ) (name : Option (List ℕ)) (slots : List ℕ) → P g → P (with_arrival port name slots g)
+  pub written : (g : State) (a : CarrierAction) → carrier_code g.floor a ≡ 0 → P g → P (record g { floor = carrier_written a g.floor })
+  pub row : (g : State) (f : Firing) → IsListed f → row_starts g f ≡ true → P g → P (takes_effect g f)
+  pub ready : (g : State) (f : Firing) → least g ≡ Some f → P g → P (fire g f)
+  pub created : (g : State) (n : ℕ) → P g → P (fire g (firing 8 n 1))
+
+-- the same of all that a step changes
+pub record Each (P : State → Type 0) : Type 1 where
+  pub inner : EachInner P
+  pub moment : (g : State) (m : ℕ) → P g → P (record g { moment = m })
+  pub quitting : (g : State) → P g → P (record g { quitting = true })
+  pub link : (g : State) (l : LinkState) → P g → P (record g { link = l })
+
+module _ (P : State → Type 0) (each : EachInner P) where
+  each_listed : (fs : List Firing) → Are IsListed fs → (g : State) → P g → P (fire_listed fs g)
+  each_listed fs listed g at = listed_keeps P IsListed each.event each.row fs listed g at
+
+  each_note : (g : State) (w : What) → P g → P (note_answered w g)
+  each_note g what.Establish at = at
+  each_note g what.Attempt at = at
+  each_note g (what.Note n) at = each.answer g at
+
+  each_closed : (g : State) (h : Header) (item : Option Data) (one : Open) → P g → P (closed_by h item (Some one) g)
+  each_closed g h item one at =
+      let told : State = note_answered one.what (out_of one g) in
+      each_listed (answer_rows one.what (function_of h) item told) (listed_answer one.what (function_of h) item told) told (each_note (out_of one g) one.what (each.transactions g _ at))
+
+  pub each_timed_out : (g : State) (one : Open) → P g → P (timed_out one g)
+  each_timed_out g one at =
+      each_listed (timeout_rows one.what (told_of one g)) (listed_timeout one.what (told_of one g)) (told_of one g)
+      (each.waiting (record (out_of one g) { transactions = _ }) _ (each.transactions (out_of one g) _ (each.transactions g _ at)))
+
+  each_disabled : (g : State) → P g → P (fires (operator_rows oper.Disable) g)
+  each_disabled g at = each_listed (operator_rows oper.Disable g) (listed_disable g) g at
+
+  pub each_inner : Inner P
+  each_inner = record {
+    switch = each.switch;
+    drawn = λ g t same at. each.transactions g t at;
+    clock = each.clock;
+    constants = each.constants;
+    reports = each.reports;
+    alarms = each.alarms;
+    waiting = each.waiting;
+    event = each.event;
+    alarm = each.alarm;
+    kinds = each.kinds;
+    came = each.came;
+    written = each.written;
+    row = λ g f free starts at. each.row g f (free_listed f free) starts at;
+    ready = each.ready;
+    created = each.created;
+    answered = λ g h item test one found at. each_closed g h item one at;
+    failed = λ g test one found at. each_timed_out g one at;
+    disabled = each_disabled;
+  }
+
+module _ (P : State → Type 0) (each : Each P) where
+  each_ended : (g : State) → P g → P (session_ended g)
+  each_ended g at =
+      each_listed P each.inner (session_end_rows g) (listed_ended g) (without_session g)
+      (each.inner.waiting (record (none_asked g) { link = _ }) [] (each.link (none_asked g) _ (each.inner.transactions g _ at)))
+
+  pub each_kept : Kept P
+  each_kept = record {
+    inner = each_inner P each.inner;
+    moment = each.moment;
+    quitting = each.quitting;
+    link = λ g l selected at. each.link g l at;
+    ended = each_ended;
+  }

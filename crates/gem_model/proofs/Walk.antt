@@ -1,0 +1,312 @@
+-- One walk over a step: what each change keeps, each step keeps.
+use Rattle.std.proofs.Common.{◌≡◌, ℕ, ◌+◌, ◌==◌, Bool, true, false, not, ◌&&◌, if◌then◌else◌, List, [], ◌∷◌, zero, suc, length, map, find, Option, Some, None, option_map, refl, sym, ◌∙◌, ap, subst}
+use Rattle.std.proofs.lemmas.Bool.{eqb-true}
+use Rattle.hsms_frame.specs.declared.frame.Header.{Header}
+use Rattle.hsms_frame.specs.declared.frame.Arrival.{Arrival}
+use Rattle.hsms_link.specs.declared.table.LinkAct.{LinkAct}
+use Rattle.hsms_link.specs.declared.table.LinkAct.TheVariants as link
+use Rattle.hsms_link.specs.LinkTable.{link_act}
+use Rattle.hsms_link.specs.Links as links
+use Rattle.hsms_link.specs.Deadlines.{due_at}
+use Rattle.hsms_link.specs.declared.state.Phase.{Phase}
+use Rattle.hsms_link.specs.declared.state.Phase.TheVariants.{Down, NotSelected, Selected}
+use Rattle.hsms_link.specs.declared.deadlines.LinkDue.{LinkDue}
+use Rattle.hsms_link.specs.declared.deadlines.LinkDue.TheVariants as due
+use Rattle.std.proofs.lemmas.Bool.{true≢false}
+use Rattle.transactions.specs.Endings.{answers, first_expired, is_first_expired}
+use Rattle.gem_model.proofs.Links.{link_after-keeps}
+use Rattle.secs_items.specs.Data.{Data}
+use Rattle.secs_items.specs.Plain.{plain}
+use Rattle.gem_primaries.specs.declared.primary.GemMsg.{GemMsg}
+use Rattle.gem_primaries.specs.declared.primary.GemMsg.TheVariants as msg
+use Rattle.gem_replies.specs.Replies.{reply_body}
+use Rattle.msgs_300.specs.Primaries.{Message, S3F17, S3F25, S3F27}
+use Rattle.gem_ids.specs.Civil.{moment_in}
+use Rattle.gem_tables.specs.Table.{Firing, firing}
+use Rattle.event_reports.specs.Alarms.{is_alarm, is_set}
+use Rattle.carrier.specs.declared.action.CarrierAction.{CarrierAction}
+use Rattle.carrier.specs.Verdict.{is_unknown}
+use Rattle.shop_floor.specs.Requests.{carrier_code, carrier_written, at_port, removal}
+use Rattle.tool_events.specs.declared.event.Event.{Event}
+use Rattle.tool_events.specs.declared.event.Event.TheVariants as event
+use Rattle.tool_events.specs.declared.event.OperCmd.{OperCmd}
+use Rattle.tool_events.specs.declared.event.OperCmd.TheVariants as oper
+use Rattle.tool_events.specs.declared.event.Signal.{Signal}
+use Rattle.tool_events.specs.declared.event.Signal.TheVariants as signal
+use Rattle.transactions.specs.declared.transaction.Open.{Open}
+use Rattle.transactions.specs.declared.transaction.What.{What}
+use Rattle.transactions.specs.declared.transaction.What.TheVariants as what
+use Rattle.transactions.specs.Table.{taken_out, without}
+use Rattle.gem_model.specs.State.{State, is_up, is_session_up, raised}
+use Rattle.gem_model.specs.Sending.{sends_stream9, data_header}
+use Rattle.gem_model.specs.Noting.{sets_alarm, clears_alarm}
+use Rattle.gem_model.specs.Fire.{fire, fires, fire_listed, row_starts}
+use Rattle.gem_model.specs.Remote.{RemoteCommand, GoLocal, ClearAlarm, Parameter, accepted, alarm_named}
+use Rattle.gem_model.specs.Spooling.{rspack}
+use Rattle.gem_model.specs.Shop.{is_local, carrier_caack, carrier_action, carrier_done, shop_rows, shop_written}
+use Rattle.gem_model.specs.Signals.{lacks_port, port_row_starts, port_alarm, with_arrival, placed, removed, signalled, is_ready_to_unload}
+use Rattle.gem_model.specs.Direct.{operator_rows, message_rows, timeout_rows}
+use Rattle.gem_model.specs.Ready.{least}
+use Rattle.gem_model.specs.Verdict.{Verdict, Discarded, Stream9, Aborted, Answers, Taken, ShopTaken, verdict, header_of, item_of, wants_reply, stream_of, function_of, reply_to}
+use Rattle.gem_model.specs.Act.{written, clock_set, clears_named, command_written, replied, taken, shop_replied, shop_taken, closed_by, data_act, session_ended}
+use Rattle.gem_model.specs.Due.{Timeout, dues_with, timeouts, expired_from, link_times, is_due, all_done, asks_linktest, timed_out}
+use Rattle.gem_model.specs.Settle.{settled}
+use Rattle.gem_model.specs.Step as steps
+use Rattle.gem_model.specs.Step.{Outcome, step, step_from, acts, linked, hosted, can_clear, operated, switched, quits, settles}
+use Rattle.gem_model.proofs.Tests.{went, either_way, none_some}
+use Rattle.gem_model.proofs.Listed.{Are, IsFree, listed_keeps, free_message, free_shop, free_enable, free_online, free_offline, free_local, free_remote, free_service, free_access, free_placing, free_removal}
+use Rattle.gem_model.proofs.Settling.{settled_keeps}
+use Rattle.hsms_link.specs.declared.state.LinkState.{LinkState}
+use Rattle.event_reports.specs.Reports.{Reports}
+use Rattle.event_reports.specs.declared.alarms.AlarmLine.{AlarmLine}
+use Rattle.event_reports.specs.Alarms.{set_alarm, clear_alarm}
+use Rattle.data_variables.specs.declared.val.Val.{Val}
+use Rattle.transactions.specs.Table.{Table}
+use Rattle.note_line.specs.Line.{with_kinds}
+use Rattle.note_line.specs.declared.around.SpooledKinds.{SpooledKinds}
+use Rattle.gem_model.specs.State.{Clock}
+use Rattle.gem_model.specs.Values.{Occasion}
+use Rattle.gem_model.specs.Noting.{line_behind, line_with_alarm}
+use Rattle.gem_model.specs.Fire.{takes_effect}
+
+-- what keeps a fact of states while link, moment and the end of the run stay: each change that a step is made of, by the field
+-- that it writes, each row, and the moves by which a transaction ends together with what its end does
+pub record Inner (P : State → Type 0) : Type 1 where
+  pub clock : (g : State) (c : Clock) → P g → P (record g { clock = c })
+  pub switch : (g : State) (b : Bool) → P g → P (record g { switch_local = b })
+  pub drawn : (g : State) (t : Table) → t.opened ≡ g.transactions.opened → P g → P (record g { transactions = t })
+  pub constants : (g : State) (c : List (ℕ × Val)) → P g → P (record g { constants = c })
+  pub reports : (g : State) (r : Reports) → P g → P (record g { reports = r })
+  pub alarms : (g : State) (a : List AlarmLine) → P g → P (record g { alarms = a })
+  pub waiting : (g : State) (w : List (List ℕ)) → P g → P (record g { waiting = w })
+  pub event : (g : State) (e : Option ℕ) (o : Occasion) (online : Bool) → P g → P (record g { line = line_behind e o online g })
+  pub alarm : (g : State) (alid : ℕ) → P g → P (record g { line = line_with_alarm alid g })
+  pub kinds : (g : State) (k : SpooledKinds) → P g → P (record g { line = with_kinds k g.line })
+  pub came : (g : State) (port : ℕ) (name : Option (List ℕ)) (slots : List ℕ) → P g → P (with_arrival port name slots g)
+  pub written : (g : State) (a : CarrierAction) → carrier_code g.floor a ≡ 0 → P g → P (record g { floor = carrier_written a g.floor })
+  pub row : (g : State) (f : Firing) → IsFree f → row_starts g f ≡ true → P g → P (takes_effect g f)
+  pub ready : (g : State) (f : Firing) → least g ≡ Some f → P g → P (fire g f)
+  pub created : (g : State) (n : ℕ) → P g → P (fire g (firing 8 n 1))
+  pub answered : (g : State) (h : Header) (item : Option Data) (test : Open → Bool) (one : Open) → find test g.transactions.opened ≡ Some one → P g → P (closed_by h item (Some one) g)
+  pub failed : (g : State) (test : Open → Bool) (one : Open) → find test g.transactions.opened ≡ Some one → P g → P (timed_out one g)
+  pub disabled : (g : State) → P g → P (fires (operator_rows oper.Disable) g)
+
+-- the same of all that a step changes
+pub record Kept (P : State → Type 0) : Type 1 where
+  pub inner : Inner P
+  pub moment : (g : State) (m : ℕ) → P g → P (record g { moment = m })
+  pub quitting : (g : State) → P g → P (record g { quitting = true })
+  pub link : (g : State) (l : LinkState) → (links.is_selected g.link.phase ≡ true → links.is_selected l.phase ≡ true) → P g → P (record g { link = l })
+  pub ended : (g : State) → P g → P (session_ended g)
+
+-- a link that is down is not selected
+not_selected : (phase : Phase) → links.is_up phase ≡ false → links.is_selected phase ≡ false
+not_selected Down down = refl
+not_selected (NotSelected since) down = refl
+not_selected Selected down = absurd (cc)
+
+-- a state in which one that was found is open no more
+abbrev pub out_of : Open → State → State
+out_of one g = record g { transactions = taken_out (Some one) g.transactions }
+
+-- the state in which a timeout is told
+abbrev pub told_of : Open → State → State
+told_of one g = sends_stream9 9 (data_header g.config.device true one.stream one.function one.system) (out_of one g)
+
+-- the rows of a timeout open no transaction and close none
+pub opened_timeout : (w : What) (g : State) → (fire_listed (timeout_rows w g) g).transactions.opened ≡ g.transactions.opened
+opened_timeout what.Establish g = either_way (λ (h : State). h.transactions.opened ≡ g.transactions.opened) (row_starts g (firing 1 0 5)) (fire g (firing 1 0 5)) g refl refl
+opened_timeout what.Attempt g = either_way (λ (h : State). h.transactions.opened ≡ g.transactions.opened) (row_starts g (firing 2 0 3)) (fire g (firing 2 0 3)) g refl refl
+opened_timeout (what.Note n) g = either_way (λ (h : State). h.transactions.opened ≡ g.transactions.opened) (row_starts g (firing 3 0 14)) (fire g (firing 3 0 14)) g refl refl
+
+where_true : {A : Type 0} (Q : A → Type 0) (b : Bool) (x y : A) → (b ≡ true → Q x) → Q y → Q (if b then x else y)
+where_true Q true x y at_x at_y = at_x refl
+where_true Q false x y at_x at_y = at_y
+
+done_code : (unknown local : Bool) (code : ℕ) → ((if unknown then 1 else (if local then 2 else code)) == 0) ≡ true → code ≡ 0
+done_code true local code is = absurd (cc)
+done_code false true code is = absurd (cc)
+done_code false false code is = eqb-true code 0 is
+
+module _ (P : State → Type 0) (inner : Inner P) where
+  pub kept_listed : (fs : List Firing) → Are IsFree fs → (g : State) → P g → P (fire_listed fs g)
+  kept_listed fs free g at = listed_keeps P IsFree inner.event inner.row fs free g at
+
+  pub kept_settled : (g : State) → P g → P (settled g)
+  kept_settled g at = settled_keeps P inner.ready inner.created g at
+
+  kept_set : (g : State) (alid : ℕ) → P g → P (sets_alarm alid g)
+  kept_set g alid at = either_way P (is_alarm alid g.alarms && not (is_set alid g.alarms)) _ g (inner.alarm (record g { alarms = set_alarm alid g.alarms }) alid (inner.alarms g _ at)) at
+
+  kept_cleared : (g : State) (alid : ℕ) → P g → P (clears_alarm alid g)
+  kept_cleared g alid at = either_way P (is_set alid g.alarms) _ g (inner.alarm (record g { alarms = clear_alarm alid g.alarms }) alid (inner.alarms g _ at)) at
+
+  kept_clock : (g : State) (shown : Option ℕ) → P g → P (clock_set shown g)
+  kept_clock g None at = at
+  kept_clock g (Some shown) at = inner.clock g _ at
+
+  kept_named : (g : State) (alid : Option ℕ) → P g → P (clears_named alid g)
+  kept_named g None at = at
+  kept_named g (Some alid) at = kept_cleared g alid at
+
+  kept_command : (g : State) (command : Option RemoteCommand) (parameters : List Parameter) → P g → P (command_written command parameters g)
+  kept_command g None parameters at = at
+  kept_command g (Some GoLocal) parameters at = at
+  kept_command g (Some ClearAlarm) parameters at = kept_named g (alarm_named parameters) at
+
+  kept_written : (g : State) (m : GemMsg) → P g → P (written m g)
+  kept_written g (msg.S2F15 settings) at = inner.constants g _ at
+  kept_written g (msg.S2F31 text) at = kept_clock g (moment_in text) at
+  kept_written g (msg.S2F33 id reports) at = inner.reports g _ at
+  kept_written g (msg.S2F35 id events) at = inner.reports g _ at
+  kept_written g (msg.S2F37 on ceids) at = inner.reports g _ at
+  kept_written g (msg.S2F41 name parameters) at = kept_command g (accepted g name parameters) parameters at
+  kept_written g (msg.S2F43 entries) at = either_way P (rspack g entries == 0) _ g (inner.kinds g _ at) at
+  kept_written g (msg.S5F3 aled alid) at = inner.alarms g _ at
+  kept_written g _ at = at
+
+  kept_replied : (g : State) (h : Header) (function : ℕ) (text : List ℕ) → P g → P (replied h function text g)
+  kept_replied g h function text at = either_way P (wants_reply h) _ g (inner.waiting g _ at) at
+
+  kept_taken : (g : State) (h : Header) (m : GemMsg) → P g → P (taken h m g)
+  kept_taken g h m at =
+      let told : State = replied h (function_of h + 1) (plain (reply_body (reply_to g m))) g in
+      kept_listed (message_rows m (written m told)) (free_message m (written m told)) (written m told) (kept_written told m (kept_replied g h (function_of h + 1) (plain (reply_body (reply_to g m))) at))
+
+  kept_action : (a : CarrierAction) (g : State) → P g → P (carrier_done a g)
+  kept_action a g at =
+      where_true P (carrier_caack a g == 0) (record g { floor = carrier_written a g.floor }) g
+      (λ is. inner.written g a (done_code (is_unknown a.word) (is_local g.control) (carrier_code g.floor a) is) at) at
+
+  kept_asked : (m : Message) (g : State) → P g → P (shop_written m g)
+  kept_asked (S3F17 dataid action carrier number attributes) g at = kept_action (carrier_action action carrier number attributes) g at
+  kept_asked (S3F25 action number value) g at = at
+  kept_asked (S3F27 mode numbers) g at = at
+
+  kept_shop : (g : State) (h : Header) (m : Message) → P g → P (shop_taken h m g)
+  kept_shop g h m at =
+      let told : State = shop_replied h m g in
+      kept_listed (shop_rows m told) (free_shop m told) (shop_written m told) (kept_asked m told (kept_replied g h (function_of h + 1) _ at))
+
+  kept_closed : (g : State) (h : Header) (item : Option Data) (test : Open → Bool) (one : Option Open) → find test g.transactions.opened ≡ one → P g → P (closed_by h item one g)
+  kept_closed g h item test None found at = at
+  kept_closed g h item test (Some one) found at = inner.answered g h item test one found at
+
+  kept_stream9 : (g : State) (function : ℕ) (h : Header) → P g → P (sends_stream9 function h g)
+  kept_stream9 g function h at = inner.waiting (record g { transactions = _ }) _ (inner.drawn g _ refl at)
+
+  pub kept_act : (g : State) (h : Header) (item : Option Data) (v : Verdict) → P g → P (data_act h item v g)
+  kept_act g h item Discarded at = at
+  kept_act g h item (Stream9 function) at = kept_stream9 g function h at
+  kept_act g h item Aborted at = kept_replied g h 0 [] at
+  kept_act g h item Answers at = kept_closed g h item (answers h.system (stream_of h) (function_of h)) _ refl at
+  kept_act g h item (Taken m) at = kept_taken g h m at
+  kept_act g h item (ShopTaken m) at = kept_shop g h m at
+
+  pub kept_switched : (command : OperCmd) (g : State) → P g → P (switched command g)
+  kept_switched oper.Local g at = inner.switch g true at
+  kept_switched oper.Remote g at = inner.switch g false at
+  kept_switched (oper.Clear n) g at = either_way P (can_clear n g) (clears_alarm n g) g (kept_cleared g n at) at
+  kept_switched _ g at = at
+
+  pub kept_by_rows : (command : OperCmd) (g : State) → Are IsFree (operator_rows command (switched command g)) → P g → P (fires (operator_rows command) (switched command g))
+  kept_by_rows command g free at = kept_listed (operator_rows command (switched command g)) free (switched command g) (kept_switched command g at)
+
+  kept_placed : (port : ℕ) (name : Option (List ℕ)) (slots : List ℕ) (g : State) → P g → P (placed port name slots g)
+  kept_placed port name slots g at =
+      either_way P (port_row_starts 3 port g) (fire_listed (at_port 4 3 g.floor port) (with_arrival port name slots g)) (sets_alarm (port_alarm port) g)
+      (kept_listed (at_port 4 3 g.floor port) (free_placing port g) (with_arrival port name slots g) (inner.came g port name slots at))
+      (kept_set g (port_alarm port) at)
+
+  kept_removed : (port : ℕ) (g : State) → P g → P (removed port g)
+  kept_removed port g at =
+      either_way P (port_row_starts 5 port g) (fire_listed (removal port g.floor) g) (sets_alarm (port_alarm port) g)
+      (kept_listed (removal port g.floor) (free_removal port g) g at) (kept_set g (port_alarm port) at)
+
+  pub kept_signalled : (s : Signal) (g : State) → P g → P (signalled s g)
+  kept_signalled (signal.Placed port name slots) g at = either_way P (lacks_port port.0 g) g (placed port.0 name slots g) at (kept_placed port.0 name slots g at)
+  kept_signalled (signal.Removed port) g at = either_way P (lacks_port port.0 g) g (removed port.0 g) at (kept_removed port.0 g at)
+  kept_signalled _ g at = at
+
+  -- the transactions whose T3 is over, one after the other
+  kept_timeouts : (n moment : ℕ) (opened : List Open) (first : Option Open) (g : State) → g.transactions.opened ≡ opened → first_expired moment opened ≡ first → P g → P (all_done (map (λ one. Timeout one) (expired_from n moment opened first)) g)
+  kept_timeouts zero moment opened first g is found at = at
+  kept_timeouts (suc n) moment opened None g is found at = at
+  kept_timeouts (suc n) moment opened (Some one) g is found at =
+      kept_timeouts n moment (without one.system opened) (first_expired moment (without one.system opened)) (timed_out one g)
+      (opened_timeout one.what (told_of one g) ∙ ap (without one.system) is) refl
+      (inner.failed g (is_first_expired moment opened) one (ap (find (is_first_expired moment opened)) is ∙ found) at)
+
+  pub kept_expired : (g h : State) → h.transactions.opened ≡ g.transactions.opened → P h → P (all_done (timeouts g) h)
+  kept_expired g h same at = kept_timeouts (length g.transactions.opened) g.moment g.transactions.opened (first_expired g.moment g.transactions.opened) h same refl at
+
+module _ (P : State → Type 0) (kept : Kept P) where
+  abbrev KeptTo : Outcome → Type 0
+  KeptTo o = P o.after
+
+  kept_quit : (up : Bool) (g : State) → P g → KeptTo (quits up g)
+  kept_quit true g at = kept.quitting (session_ended g) (kept.ended g at)
+  kept_quit false g at = kept.quitting g at
+
+  kept_operated : (command : OperCmd) (g : State) → P g → KeptTo (operated command g)
+  kept_operated oper.Quit g at = kept_quit (is_up g) g at
+  kept_operated oper.Disable g at = kept.inner.disabled g at
+  kept_operated oper.Enable g at = kept_by_rows P kept.inner oper.Enable g free_enable at
+  kept_operated oper.Online g at = kept_by_rows P kept.inner oper.Online g (free_online g) at
+  kept_operated oper.Offline g at = kept_by_rows P kept.inner oper.Offline g (free_offline g) at
+  kept_operated oper.Local g at = kept_by_rows P kept.inner oper.Local g (free_local (switched oper.Local g)) at
+  kept_operated oper.Remote g at = kept_by_rows P kept.inner oper.Remote g (free_remote (switched oper.Remote g)) at
+  kept_operated (oper.Service p on) g at = kept_by_rows P kept.inner (oper.Service p on) g (free_service p.0 on g) at
+  kept_operated (oper.Access p on) g at = kept_by_rows P kept.inner (oper.Access p on) g (free_access p.0 on g) at
+  kept_operated (oper.Clear n) g at = kept_switched P kept.inner (oper.Clear n) g at
+  kept_operated _ g at = at
+
+  kept_linktest : (g : State) → P g → P (asks_linktest g)
+  kept_linktest g at = kept.inner.waiting (record (record g { transactions = _ }) { link = _ }) _ (kept.link (record g { transactions = _ }) _ (λ is. is) (kept.inner.drawn g _ refl at))
+
+  kept_due : (g : State) (d : Option LinkDue) → P g → P (all_done (dues_with g d) g)
+  kept_due g (Some due.T7) at = kept.ended g at
+  kept_due g (Some due.T6) at = kept.ended g at
+  kept_due g (Some due.AskLinktest) at = kept_expired P kept.inner g (asks_linktest g) refl (kept_linktest g at)
+  kept_due g None at = kept_expired P kept.inner g g refl at
+
+  the_kept : (x o : Outcome) → KeptTo x → Some x ≡ Some o → KeptTo o
+  the_kept x o at here = let same : x ≡ o = cc in subst KeptTo same at
+
+  kept_hosted : (g : State) (arrival : Arrival) (act : LinkAct) → P g → KeptTo (hosted g arrival act)
+  kept_hosted g arrival (link.Reply h) at = kept.inner.waiting g _ at
+  kept_hosted g arrival link.Data at = kept_act P kept.inner g (header_of arrival) (item_of arrival) (verdict g arrival) at
+  kept_hosted g arrival link.Ended at = kept.ended g at
+  kept_hosted g arrival link.Nothing at = at
+
+  kept_frame : (g : State) (frames : List (List ℕ)) (o : Outcome) → P g → steps.taken g frames ≡ Some o → KeptTo o
+  kept_frame g [] o at here = none_some o here
+  kept_frame g (frame ∷ frames) o at here = the_kept _ o (kept.inner.waiting g frames at) here
+
+  pub kept_acts : (before : ℕ) (g : State) (e : Event) (o : Outcome) → P g → acts before g e ≡ Some o → KeptTo o
+  kept_acts before g event.LinkUp o at here = went (is_up g) _ _ _ (λ _ e. the_kept _ o at e) (λ down e. the_kept _ o (kept.link g _ (λ is. absurd (true≢false (sym is ∙ not_selected g.link.phase down))) at) e) here
+  kept_acts before g (event.LinkDown session cause) o at here = went (is_session_up g session) _ _ _ (λ _ e. the_kept _ o (kept.ended g at) e) (λ _ e. the_kept _ o at e) here
+  kept_acts before g (event.Host session arrival) o at here =
+      went (is_session_up g session) _ _ _
+      (λ _ e. the_kept _ o (kept_hosted (linked g (header_of arrival)) arrival (link_act (header_of arrival) g.link) (kept.link g _ (link_after-keeps (header_of arrival) g.moment g.link).selected at)) e)
+      (λ _ e. the_kept _ o at e) here
+  kept_acts before g (event.Take session) o at here = went (is_session_up g session) _ _ _ (λ _ e. kept_frame g g.waiting o at e) (λ _ e. the_kept _ o at e) here
+  kept_acts before g (event.Oper command) o at here = the_kept (operated command g) o (kept_operated command g at) here
+  kept_acts before g (event.Signal signal) o at here = the_kept _ o (kept_signalled P kept.inner signal g at) here
+  kept_acts before g (event.Fetch m) o at here = none_some o here
+  kept_acts before g event.Tick o at here = went (is_due before g) _ _ _ (λ _ e. the_kept _ o (kept_due g (due_at (link_times g) g.link g.moment) at) e) (λ _ e. none_some o e) here
+  kept_acts before g event.Listen o at here = none_some o here
+  kept_acts before g (event.Watch port) o at here = went (is_ready_to_unload port.0 g) _ _ _ (λ _ e. the_kept _ o at e) (λ _ e. none_some o e) here
+
+  kept_mapped : (x : Option Outcome) (o : Outcome) → ((p : Outcome) → x ≡ Some p → KeptTo p) → option_map settles x ≡ Some o → KeptTo o
+  kept_mapped None o at here = none_some o here
+  kept_mapped (Some p) o at here = the_kept (settles p) o (kept_settled P kept.inner p.after (at p refl)) here
+
+  -- what each change keeps, a step keeps
+  pub kept_step_from : (before : ℕ) (g : State) (e : Event) (o : Outcome) → P g → step_from before g e ≡ Some o → KeptTo o
+  kept_step_from before g e o there here =
+      went g.quitting _ _ _ (λ _ is. the_kept _ o there is)
+      (λ _ is. kept_mapped (acts before g e) o (λ p acted. kept_acts before g e p there acted) is) here
+
+  pub kept_step : (g : State) (at : ℕ) (e : Event) (o : Outcome) → P g → step g at e ≡ Some o → KeptTo o
+  kept_step g at e o there here = kept_step_from g.moment (raised g at) e o (kept.moment g _ there) here

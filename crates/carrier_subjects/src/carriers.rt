@@ -45,10 +45,10 @@ impl Subject for KnownCarriers {
                 nothing(alloc)
             }
             "port" => {
-                self.port = port(word(words, 1)?)?;
+                set_port(&mut self.port, word(words, 1)?)?;
                 nothing(alloc)
             }
-            "ask" => Ok(format!(in alloc; "{}", asked(&self.carriers, self.port, words)?)?),
+            "ask" => asked(alloc, &self.carriers, &self.port, words),
             "compare" | "usable" => Ok(format!(in alloc; "{}", compared(words)?)?),
             "create" | "fire" | "map" => changed(alloc, &mut self.carriers, words),
             "len" | "place" | "name" | "finished" => told(alloc, &self.carriers, words),
@@ -70,7 +70,12 @@ fn filled(alloc: Global, count: u8) -> Result<Carriers> {
     Ok(carriers)
 }
 
-fn port(word: &str) -> Result<PortView> {
+fn set_port(port: &mut PortView, word: &str) -> Result<()> {
+    *port = port_of(word)?;
+    Ok(())
+}
+
+fn port_of(word: &str) -> Result<PortView> {
     match word {
         "free" => Ok(FREE),
         "out" => Ok(PortView {
@@ -114,7 +119,7 @@ fn codes(word: &str) -> Result<[u8; 25]> {
 
 // What the host is answered: an action, a carrier, a port, and whether an attribute is faulty or a job names the
 // carrier.
-fn asked(carriers: &Carriers, port: PortView, words: &[&str]) -> Result<u8> {
+fn asked(alloc: Global, carriers: &Carriers, port: &PortView, words: &[&str]) -> Result<String> {
     let action = CarrierAction {
         word: action(word(words, 1)?)?,
         id: name(word(words, 2)?)?,
@@ -122,7 +127,9 @@ fn asked(carriers: &Carriers, port: PortView, words: &[&str]) -> Result<u8> {
         map: None,
         bad_attr: words.get(4) == Some(&"faulty"),
     };
-    Ok(carriers.verdict(&[port, FREE], &action, words.get(4) == Some(&"job")))
+    let is_job = words.get(4) == Some(&"job");
+    let code = carriers.verdict(&[*port, FREE], &action, is_job);
+    Ok(format!(in alloc; "{code}")?)
 }
 
 // The name that a word is; two quotes stand for that of no bytes.

@@ -81,7 +81,7 @@ fn data(alloc: Global, name: &str, words: &str) -> Result<String> {
 /// The frame that these words say, in hex digits. The error tells what of them cannot be read.
 pub fn spelled(alloc: Global, words: &str) -> Result<String> {
     let Some((name, words)) = words.split_once(' ') else {
-        bail!("a message has system bytes");
+        bail!("it is neither whole bytes in hex digits nor a message with its system bytes");
     };
     if let Some(stype) = stype(name) {
         ensure!(!words.contains(' '), "a control message has no item");

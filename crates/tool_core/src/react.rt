@@ -6,7 +6,7 @@ ghost use Rattle.hsms_link.specs.LinkTable.{link_act};
 ghost use Rattle.gem_model.specs.State.{is_up};
 ghost use Rattle.gem_model.specs.Verdict.{header_of};
 ghost use Rattle.gem_model.specs.Step.{acts, step, step_from, hosted, linked};
-ghost use Rattle.core_host.specs.Short.{IsShort};
+ghost use Rattle.host_requests.specs.Short.{IsShort};
 ghost use Rattle.core_shop.specs.Reactions.{Acts, outcome_of};
 ghost use Rattle.tool_core.specs.Steps.{StepsFrom, Steps};
 

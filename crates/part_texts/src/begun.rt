@@ -4,9 +4,10 @@ use anyhow::{Result, bail};
 use carrier_subjects::{CarrierStates, KnownCarriers};
 use conversation_files::Line;
 use floor_subjects::{Floor, PortStates, ToolPorts};
-use line_subjects::{Calendar, ItemTexts, LineTexts};
+use line_subjects::{ItemTexts, LineTexts};
 use link_subjects::{Communicates, Controls, Linked, Reads, Table};
 use message_subjects::{Acknowledge, Messages};
+use name_subjects::{Calendar, IdList, Names};
 use std::alloc::Global;
 use test_lines::{Texts, answers};
 
@@ -18,6 +19,8 @@ impl Texts for Parts {
         match begins {
             "to items" => answers(alloc, &mut ItemTexts, lines),
             "to lines" => answers(alloc, &mut LineTexts, lines),
+            "to names" => answers(alloc, &mut Names, lines),
+            "to a list of ids" => answers(alloc, &mut IdList::new(alloc), lines),
             "to the calendar" => answers(alloc, &mut Calendar, lines),
             "to S1F14 of the host" => answers(alloc, &mut Acknowledge, lines),
             "to a source of abcde, in pieces of 3" => {

@@ -18,11 +18,20 @@ const FREE: PortView = PortView {
     carrier: None,
 };
 
+/// What the first port is like.
+#[derive(Clone, Copy)]
+enum FirstPort {
+    Free,
+    OutOfService,
+    Owned,
+    Occupied,
+}
+
 /// The carriers that the tool knows, and the first port.
 #[derive(Drop)]
 pub struct KnownCarriers {
     carriers: Carriers,
-    port: PortView,
+    port: FirstPort,
 }
 
 impl KnownCarriers {
@@ -30,7 +39,7 @@ impl KnownCarriers {
     pub fn new(alloc: Global) -> Result<KnownCarriers> {
         Ok(KnownCarriers {
             carriers: Carriers::new(alloc)?,
-            port: FREE,
+            port: FirstPort::Free,
         })
     }
 }
@@ -45,10 +54,10 @@ impl Subject for KnownCarriers {
                 nothing(alloc)
             }
             "port" => {
-                self.port = port(word(words, 1)?)?;
+                self.port = first_port(word(words, 1)?)?;
                 nothing(alloc)
             }
-            "ask" => Ok(format!(in alloc; "{}", asked(&self.carriers, self.port, words)?)?),
+            "ask" => asked(alloc, &self.carriers, self.port, words),
             "compare" | "usable" => Ok(format!(in alloc; "{}", compared(words)?)?),
             "create" | "fire" | "map" => changed(alloc, &mut self.carriers, words),
             "len" | "place" | "name" | "finished" => told(alloc, &self.carriers, words),
@@ -70,22 +79,32 @@ fn filled(alloc: Global, count: u8) -> Result<Carriers> {
     Ok(carriers)
 }
 
-fn port(word: &str) -> Result<PortView> {
+fn first_port(word: &str) -> Result<FirstPort> {
     match word {
-        "free" => Ok(FREE),
-        "out" => Ok(PortView {
+        "free" => Ok(FirstPort::Free),
+        "out" => Ok(FirstPort::OutOfService),
+        "owned" => Ok(FirstPort::Owned),
+        "occupied" => Ok(FirstPort::Occupied),
+        _ => bail!("there is no such port"),
+    }
+}
+
+// What carriers are told of the first port.
+fn view_of(port: FirstPort) -> Result<PortView> {
+    match port {
+        FirstPort::Free => Ok(FREE),
+        FirstPort::OutOfService => Ok(PortView {
             in_service: false,
             ..FREE
         }),
-        "owned" => Ok(PortView {
+        FirstPort::Owned => Ok(PortView {
             carrier: Some(numbered(1)?),
             ..FREE
         }),
-        "occupied" => Ok(PortView {
+        FirstPort::Occupied => Ok(PortView {
             present: true,
             ..FREE
         }),
-        _ => bail!("there is no such port"),
     }
 }
 
@@ -114,7 +133,7 @@ fn codes(word: &str) -> Result<[u8; 25]> {
 
 // What the host is answered: an action, a carrier, a port, and whether an attribute is faulty or a job names the
 // carrier.
-fn asked(carriers: &Carriers, port: PortView, words: &[&str]) -> Result<u8> {
+fn asked(alloc: Global, carriers: &Carriers, port: FirstPort, words: &[&str]) -> Result<String> {
     let action = CarrierAction {
         word: action(word(words, 1)?)?,
         id: name(word(words, 2)?)?,
@@ -122,7 +141,9 @@ fn asked(carriers: &Carriers, port: PortView, words: &[&str]) -> Result<u8> {
         map: None,
         bad_attr: words.get(4) == Some(&"faulty"),
     };
-    Ok(carriers.verdict(&[port, FREE], &action, words.get(4) == Some(&"job")))
+    let is_job = words.get(4) == Some(&"job");
+    let code = carriers.verdict(&[view_of(port)?, FREE], &action, is_job);
+    Ok(format!(in alloc; "{code}")?)
 }
 
 // The name that a word is; two quotes stand for that of no bytes.

@@ -1,5 +1,7 @@
 //! An item as SECS-II spells it (SEMI E5, data items), from words. Begin with `item`.
 //!
+//! It follows the standard alone, and takes nothing of the tool: a fault of the tool's writers is not to be shared.
+//!
 //! Words are `L[..]` with items between commas, `A text`, `B 00 0A` with bytes in hex, `BOOL true false`, and `U1`, `U2`,
 //! `U4`, `U8`, `I1`, `I2`, `I4` or `I8` with decimal numbers; an item with nothing behind its name has no element. A text
 //! that has a comma, a bracket, a quote or a space at an end stands in quotes, and a quote in it is written twice. In a
@@ -125,8 +127,8 @@ fn push_booleans(out: &mut Vec<u8>, words: &str) -> Result<()> {
     Ok(())
 }
 
-/// Adds a number of this format, the most significant byte first. None: the word is no number of it.
-fn number_bytes(format: Format, word: &str, out: &mut Vec<u8>) -> Result<()> {
+/// Adds a number of this format, the most significant byte first. The error comes where the word is no number of it.
+fn push_number(out: &mut Vec<u8>, format: Format, word: &str) -> Result<()> {
     match format {
         Format::U1 => out.extend_from_slice(&word.parse::<u8>()?.to_be_bytes())?,
         Format::U2 => out.extend_from_slice(&word.parse::<u16>()?.to_be_bytes())?,
@@ -145,7 +147,7 @@ fn number_bytes(format: Format, word: &str, out: &mut Vec<u8>) -> Result<()> {
 
 fn push_numbers(out: &mut Vec<u8>, format: Format, words: &str) -> Result<()> {
     for word in words.split_whitespace() {
-        if number_bytes(format, word, out).is_err() {
+        if push_number(out, format, word).is_err() {
             bail!("{word} is no number of its item");
         }
     }

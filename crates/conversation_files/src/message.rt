@@ -2,7 +2,7 @@
 //!
 //! `S3F17 W 2 L[U4 1]` is a data message to or from device 0: its stream and function, `W` where a reply is wanted, the
 //! system bytes as a decimal number, and its item, where it has one. `Select.req 1` is a control message with its system
-//! bytes. Neither its text nor its name is taken from the tool, whose writers are what is tested.
+//! bytes. It follows the standard alone, and takes nothing of the tool: a fault of the tool's writers is not to be shared.
 
 use crate::item::item;
 use anyhow::{Result, bail, ensure};
@@ -81,7 +81,7 @@ fn data(alloc: Global, name: &str, words: &str) -> Result<String> {
 /// The frame that these words say, in hex digits. The error tells what of them cannot be read.
 pub fn spelled(alloc: Global, words: &str) -> Result<String> {
     let Some((name, words)) = words.split_once(' ') else {
-        bail!("a message has system bytes");
+        bail!("it is neither whole bytes in hex digits nor a message with its system bytes");
     };
     if let Some(stype) = stype(name) {
         ensure!(!words.contains(' '), "a control message has no item");

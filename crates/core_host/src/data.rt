@@ -1,8 +1,11 @@
 //! A data message of the host: what it is answered, and what it does.
 ghost use Rattle.std.specs.Prelude.{◌≡◌, ◌+◌, ◌≤◌, ◌<◌, ◌^◌, length, OnOk, IfOk};
+ghost use Rattle.secs_items.specs.Plain.{plain};
 ghost use Rattle.transactions.specs.Endings.{answered};
 ghost use Rattle.gem_replies.specs.Acknowledge.{accepts};
 ghost use Rattle.gem_primaries.specs.Few.{HasFewParts};
+ghost use Rattle.gem_replies.specs.Replies.{reply_body};
+ghost use Rattle.gem_replies.specs.Sendable.{HasSendableParts};
 ghost use Rattle.gem_model.specs.Fire.{fires, fire_listed};
 ghost use Rattle.gem_model.specs.Direct.{by_comm, establish_answer};
 ghost use Rattle.gem_model.specs.Verdict.{item_of, stream_of, function_of};
@@ -94,9 +97,26 @@ fn take_message(
     ensures after { OnOk result (plant.new ≡ taken header.now message.now plant.old) }
 {
     let reply = perform(plant, alloc, message)?;
-    let text = reply_text(alloc, &reply)?;
+    let act = reply_taken(plant, alloc, header, message, &reply)?;
+    Ok(act)
+}
+
+/// A message that wrote what it writes is answered by this reply, and then its direct rows fire.
+fn reply_taken(
+    plant: &mut Plant,
+    alloc: Global,
+    header: &Header,
+    message: &GemMsg,
+    reply: &GemReply,
+) -> Result<HostAct, AllocError>
+    requires next { function_of header.now < 255 }
+    requires sendable { HasSendableParts reply.now }
+    ensures act { IfOk result (λ act. act ≡ reply_act header.now (function_of header.now + 1)) }
+    ensures after { OnOk result (plant.new ≡ fires (answered_rows message.now reply.now) (replied header.now (function_of header.now + 1) (plain (reply_body reply.now)) plant.old)) }
+{
+    let text = reply_text(alloc, reply)?;
     let act = answer(plant, alloc, header, header.byte3 + 1, text)?;
-    message_rows(plant, alloc, message, &reply)?;
+    message_rows(plant, alloc, message, reply)?;
     Ok(act)
 }
 

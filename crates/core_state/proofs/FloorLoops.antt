@@ -14,7 +14,7 @@ use Rattle.shop_floor.specs.Requests.{at_port, at_ports, numbers_from, or_all}
 use Rattle.gem_model.specs.State.{State}
 use Rattle.gem_model.specs.Fire.{fire, fire_listed, row_starts}
 use Rattle.gem_model.proofs.Tests.{either_way}
-use Rattle.gem_model.proofs.FloorRows.{IsFloorRow, AreFloorRows, LeftAlone, alone_listed, effect_is}
+use Rattle.gem_model.proofs.FloorRows.{IsFloorRow, AreFloorRows, effect_is}
 
 -- ---- lists of rows
 

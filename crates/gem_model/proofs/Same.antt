@@ -6,13 +6,14 @@ use Rattle.transactions.specs.declared.transaction.What.{What}
 use Rattle.transactions.specs.declared.transaction.What.TheVariants as what
 use Rattle.gem_states.specs.Meaning.{comm_fired, control_fired}
 use Rattle.transactions.specs.declared.transaction.Open.{Open}
+use Rattle.gem_primaries.specs.declared.primary.GemMsg.{GemMsg}
 use Rattle.gem_tables.specs.Table.{Firing, firing}
 use Rattle.gem_model.specs.State.{State, none_asked, can_ask}
 use Rattle.gem_model.specs.Sending.{asks, identity_text}
 use Rattle.spool.specs.declared.note.Note.{Note}
 use Rattle.gem_model.specs.Fire.{fire, fire_listed, fire_comm, fire_control, fire_line, fire_floor, comm_effect, control_effect, line_effect, asks_first, takes_effect, stream_of_kind, function_of_kind, delay_end, forgets, row_starts}
 use Rattle.gem_model.specs.Verdict.{verdict, header_of, item_of}
-use Rattle.gem_model.specs.Act.{data_done}
+use Rattle.gem_model.specs.Act.{written, data_done}
 use Rattle.gem_model.specs.Due.{timed_out}
 use Rattle.gem_model.specs.Step.{switched}
 use Rattle.gem_model.specs.Settle.{settled}
@@ -21,7 +22,7 @@ use Rattle.tool_events.specs.declared.event.Signal.{Signal}
 use Rattle.gem_model.specs.Signals.{signalled}
 use Rattle.gem_model.proofs.Settling.{settled_keeps}
 use Rattle.gem_model.proofs.Each.{EachInner, each_inner, each_timed_out}
-use Rattle.gem_model.proofs.Walk.{Inner, kept_act, kept_signalled, kept_switched}
+use Rattle.gem_model.proofs.Walk.{Inner, kept_act, kept_signalled, kept_switched, kept_written}
 
 -- the configuration and the link are the same, and so is whether the run was ended
 pub record Same (g h : State) : Type 0 where
@@ -122,6 +123,9 @@ same_inner g = each_inner (Same g) (same_each g)
 
 pub same_signal : (g : State) (s : Signal) → Same g (signalled s g)
 same_signal g s = kept_signalled (Same g) (same_inner g) s g (same_at g)
+
+pub same_written : (g : State) (m : GemMsg) → Same g (written m g)
+same_written g m = kept_written (Same g) (same_inner g) g m (same_at g)
 
 pub same_data : (g : State) (arrival : Arrival) → Same g (data_done arrival g)
 same_data g arrival = kept_act (Same g) (same_inner g) g (header_of arrival) (item_of arrival) (verdict g arrival) (same_at g)

@@ -154,7 +154,7 @@ module _ (P : State → Type 0) (inner : Inner P) where
   kept_command g (Some GoLocal) parameters at = at
   kept_command g (Some ClearAlarm) parameters at = kept_named g (alarm_named parameters) at
 
-  kept_written : (g : State) (m : GemMsg) → P g → P (written m g)
+  pub kept_written : (g : State) (m : GemMsg) → P g → P (written m g)
   kept_written g (msg.S2F15 settings) at = inner.constants g _ at
   kept_written g (msg.S2F31 text) at = kept_clock g (moment_in text) at
   kept_written g (msg.S2F33 id reports) at = inner.reports g _ at

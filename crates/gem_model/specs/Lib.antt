@@ -28,3 +28,4 @@ pub mod Feed
 pub mod SessionBytes
 pub mod Printed
 pub mod Conversation
+pub mod Recorded

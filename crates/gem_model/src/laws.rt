@@ -10,6 +10,8 @@ ghost use Rattle.gem_model.specs.State.{State, opening, raised};
 ghost use Rattle.gem_model.specs.Settle.{Settles, settling, settled, Along};
 ghost use Rattle.gem_model.specs.Step.{Outcome, acts};
 ghost use Rattle.gem_model.specs.Run.{Run};
+ghost use Rattle.gem_model.specs.Recorded.{Recorded};
+ghost use Rattle.tool_events.specs.Configs.{IsConfig};
 ghost use Rattle.gem_model.specs.Reported.{reported_in};
 ghost use Rattle.gem_model.specs.OpenNotes.{note_numbers, open_number, NeverBack};
 ghost use Rattle.spool.specs.Spool.{is_inactive, has_note};
@@ -79,4 +81,9 @@ pub fn an_inactive_spool_is_empty()
 /// below an earlier one of its kind. It has the same number where a note was sent again.
 pub fn sendings_never_go_back()
     ensures { (c : Config) (entries : List Entry) (h : State) → Run (opening c) entries h → NeverBack (opening c) entries }
+{}
+
+/// What each public call says of a history that it hands out holds of every run under a configuration that keeps its bounds.
+pub fn what_is_recorded_holds()
+    ensures { (c : Config) (history : List Entry) (g : State) → IsConfig c → Run (opening c) history g → Recorded c history g }
 {}

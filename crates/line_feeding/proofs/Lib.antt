@@ -4,5 +4,4 @@ pub mod Parts
 pub mod Cutting
 pub mod Counting
 pub mod Reading
-pub mod NotesOf
 pub mod Noting

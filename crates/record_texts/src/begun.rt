@@ -1,11 +1,10 @@
 //! The subjects of the texts, and how they begin.
 
 use crate::set_constants::SetConstants;
-use crate::shop_messages::ShopMessages;
-use crate::tool_alarms::ToolAlarms;
-use crate::tool_reports::ToolReports;
 use anyhow::{Result, bail};
 use conversation_files::Line;
+use report_subjects::{ToolAlarms, ToolReports};
+use shop_subjects::ShopMessages;
 use std::alloc::Global;
 use test_lines::{Texts, answers, small, word, words};
 

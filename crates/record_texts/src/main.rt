@@ -8,11 +8,7 @@
 #![tactic(auto)]
 
 mod begun;
-mod ids;
 mod set_constants;
-mod shop_messages;
-mod tool_alarms;
-mod tool_reports;
 
 use begun::Records;
 use std::process::ExitCode;

@@ -8,9 +8,9 @@
 ghost use Rattle.std.specs.Prelude.{◌<◌, length};
 ghost use Rattle.data_variables.specs.Values.{AreConstants};
 
-use crate::ids::{ids, listed};
 use anyhow::{Result, bail};
-use data_variables::{Constants, Val, ids as all_ids, item_of, set_of};
+use data_variables::{Constants, Val, ids, item_of, set_of};
+use report_subjects::{listed, numbers_in};
 use secs_items::{encode, read_one};
 use std::alloc::Global;
 use test_lines::{Subject, bytes};
@@ -49,7 +49,7 @@ impl Subject for SetConstants {
             "value" => value(alloc, self.constants.get(rest.parse::<u32>()?)),
             "number" => number(alloc, &self.constants, rest.parse::<u32>()?),
             "truth" => truth(alloc, &self.constants, rest.parse::<u32>()?),
-            "ids" => listed(alloc, &all_ids()),
+            "ids" => listed(alloc, &ids()),
             "names" => names(alloc, &self.constants, rest),
             "item" => item(alloc, rest),
             "bytes" => value_bytes(alloc, rest),
@@ -97,7 +97,7 @@ fn value(alloc: Global, value: Option<Val>) -> Result<String> {
 // The values of all constants in their order.
 fn values(alloc: Global, constants: &Constants) -> Result<String> {
     let mut text = String::new(alloc);
-    for (place, ecid) in all_ids().iter().enumerate() {
+    for (place, ecid) in ids().iter().enumerate() {
         if place > 0 {
             text.push(' ')?;
         }
@@ -115,7 +115,7 @@ fn truth(alloc: Global, constants: &Constants, ecid: u32) -> Result<String> {
 }
 
 fn names(alloc: Global, constants: &Constants, list: &str) -> Result<String> {
-    let asked = ids(alloc, list)?;
+    let asked = numbers_in(alloc, list)?;
     if asked.len() >= 1024 {
         bail!("no message asks for so many");
     }

@@ -6,15 +6,11 @@ ghost use Rattle.tool_events.specs.declared.event.SessionEnd.{SessionEnd};
 ghost use Rattle.tool_events.specs.Configs.{IsConfig};
 ghost use Rattle.tool_events.specs.Posts as posts;
 ghost use Rattle.tool_events.specs.Sizes.{event_bytes};
-ghost use Rattle.transactions.specs.Table as transactions;
-ghost use Rattle.note_line.specs.Fates.{LineValid, tells};
 ghost use Rattle.note_line.specs.Line.{fate_of};
-ghost use Rattle.gem_model.specs.OpenNotes.{NeverBack};
-ghost use Rattle.gem_model.specs.Reported.{reported_in};
 ghost use Rattle.gem_model.specs.State.{opening, is_up, is_session_up};
 ghost use Rattle.gem_model.specs.Step.{Outcome, step};
 ghost use Rattle.gem_model.specs.Valid.{Valid};
-ghost use Rattle.gem_model.specs.Run.{Run};
+ghost use Rattle.gem_model.specs.Recorded.{Recorded};
 ghost use Rattle.gem_model.specs.Sessions.{session_count, session_end, session_out, frame_taken};
 ghost use Rattle.gem_model.specs.Sizes.{bytes_of, counted, is_full};
 ghost use Rattle.core_view.specs.Counts.{count_of, taker};
@@ -147,28 +143,21 @@ impl Core {
         })
     }
 
-    /// The history, the oldest entry first. It is a run from the first state, and within the limits. Where it leads there is
-    /// room to start a transaction, and at most 16 carriers are known; the notes are those of its firings and changes of alarms
-    /// that are reported, in order, each with one fate; and of the notes that were open, none of a kind is below an earlier one
-    /// (docs/profile/notes.md).
+    /// The history, the oldest entry first. All holds of it that `Recorded` lists (`gem_model`): it is a run from the first
+    /// state, its notes are those that were reported, each with one fate and sent in order, and so on. It is within the limits.
     pub fn history(&self) -> &[Entry]
         ensures history { result.now ≡ self.now.history }
-        ensures run { Run (opening self.now.config) self.now.history self.now.state }
-        ensures room { transactions.is_full self.now.state.transactions ≡ false }
-        ensures carriers { length self.now.state.floor.carriers ≤ 16 }
-        ensures notes { map tells self.now.state.line.told ≡ reported_in (opening self.now.config) self.now.history }
-        ensures fates { LineValid self.now.state.line }
-        ensures sendings { NeverBack (opening self.now.config) self.now.history }
+        ensures recorded { Recorded self.now.config self.now.history self.now.state }
         ensures entries_fit { length self.now.history ≤ self.now.config.max_entries }
         ensures bytes_fit { bytes_of self.now.history ≤ self.now.config.max_bytes }
     {
         self.entries.as_slice()
     }
 
-    /// Hands out the history. It is a run from the first state, and within the limits.
+    /// Hands out the history, of which the same holds as of `history`.
     pub fn close(self) -> Entries
         ensures history { result ≡ self.history }
-        ensures run { Run (opening self.config) self.history self.state }
+        ensures recorded { Recorded self.config self.history self.state }
         ensures entries_fit { length self.history ≤ self.config.max_entries }
         ensures bytes_fit { bytes_of self.history ≤ self.config.max_bytes }
     {
@@ -315,7 +304,6 @@ impl Core {
     /// Takes an event that this seat posts at this moment, answers it, and adds it to the history. `Full`: the history
     /// takes no more entries, or not so much text. `Again`: the event has to wait, which takes no memory. After want of
     /// memory the history is as before, and every later event that is not answered `Full` is answered `NoMemory`.
-    #[tactic(auto, using(crate::proofs::Notes::line_valid, crate::proofs::Notes::line_told))]
     pub fn apply(
         &mut self,
         alloc: Global,
@@ -335,13 +323,9 @@ impl Core {
         ensures config { self.new.config ≡ self.old.config }
         ensures whole { self.new.is_whole ≡ (self.old.is_whole && not (posts.is_want result)) }
         ensures unchanged { OnErr result (self.new ≡ record self.old { is_whole = self.new.is_whole }) }
-        // The history is a run from the first state, before the call and after it.
-        ensures ran { Run (opening self.old.config) self.old.history self.old.state }
-        ensures run { Run (opening self.new.config) self.new.history self.new.state }
-        // Where it leads, the notes are those of its firings and changes of alarms that are reported, in order, and each has
-        // one fate.
-        ensures notes { map tells self.new.state.line.told ≡ reported_in (opening self.new.config) self.new.history }
-        ensures fates { LineValid self.new.state.line }
+        // Before the call and after it, all that is recorded holds of the history.
+        ensures before { Recorded self.old.config self.old.history self.old.state }
+        ensures recorded { Recorded self.new.config self.new.history self.new.state }
     {
         if self.is_full(event_bytes(&event)) {
             return Err(PostFault::Full(self.entries.len() as u64));

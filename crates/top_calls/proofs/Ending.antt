@@ -47,12 +47,6 @@ not_write (input.Halted halt.Full) count history number other is = absurd (cc)
 not_write (input.Halted halt.Write) count history number other is = other refl
 not_write (input.Halted halt.NoMemory) count history number other is = absurd (cc)
 
--- the history is a run from the first state
-pub run_from : (c k : Config) (history : List Entry) (state : State) → c ≡ k → Run (opening c) history state → Run (opening k) history (after_all (opening k) history)
-run_from c k history state same run =
-    subst (λ (k : Config). Run (opening k) history (after_all (opening k) history)) same
-    (subst (λ (s : State). Run (opening c) history s) (sym (after_all-run (opening c) history state run)) run)
-
 -- these are the notes, whatever bytes the counts are of
 abbrev pub NotesFrom : Reader → List SessionNote → Type 0
 NotesFrom reader notes = (read : ℕ → ℕ) → AreCounts reader.feeder.reads read → AreNotes reader.feeder.core.config reader.feeder.core.history read notes

@@ -2,7 +2,7 @@
 ghost use Rattle.std.specs.Prelude.{◌≡◌, ◌<◌, ◌≤◌, [], length, true, Ok, IfOk, OnOk, OnErr};
 ghost use Rattle.tool_events.specs.Configs.{IsConfig};
 ghost use Rattle.gem_model.specs.State.{opening, is_session_up};
-ghost use Rattle.gem_model.specs.Run.{Run};
+ghost use Rattle.gem_model.specs.Recorded.{Recorded};
 ghost use Rattle.gem_model.specs.Sizes.{bytes_of};
 ghost use Rattle.line_grammar.specs.declared.line.Line.TheVariants as line;
 ghost use Rattle.line_grammar.specs.Reading.{feed_line_of};
@@ -53,7 +53,7 @@ impl Feeder {
     /// Hands out the history.
     pub fn into_history(self) -> Entries
         ensures history { result ≡ self.core.history }
-        ensures run { Run (opening self.core.config) self.core.history self.core.state }
+        ensures recorded { Recorded self.core.config self.core.history self.core.state }
         ensures entries_fit { length self.core.history ≤ self.core.config.max_entries }
         ensures bytes_fit { bytes_of self.core.history ≤ self.core.config.max_bytes }
     {

@@ -2,11 +2,9 @@
 ghost use Rattle.std.specs.Prelude.{◌≡◌, ◌≢◌, ◌≤◌, ◌↔◌, ◌⊎◌, ℕ, Some, [], List, length, map, Err};
 ghost use Rattle.outside.specs.Counts.{Rose};
 ghost use Rattle.tool_events.specs.Configs.{IsConfig};
-ghost use Rattle.note_line.specs.Fates.{LineValid, tells};
 ghost use Rattle.gem_model.specs.State.{opening};
-ghost use Rattle.gem_model.specs.Reported.{reported_in};
-ghost use Rattle.gem_model.specs.OpenNotes.{NeverBack};
-ghost use Rattle.gem_model.specs.Run.{Run, after_all};
+ghost use Rattle.gem_model.specs.Run.{after_all};
+ghost use Rattle.gem_model.specs.Recorded.{Recorded};
 ghost use Rattle.gem_model.specs.Sizes.{bytes_of};
 ghost use Rattle.gem_model.specs.Command.{misfit, known_config};
 ghost use Rattle.line_feeding.specs.declared.ended.Cause.TheVariants as cause;
@@ -48,7 +46,6 @@ fn cause_of(read: InputRead, core: &Core, number: u64) -> Cause
 ///
 /// The configuration keeps its bounds (this tool's profile, docs/profile/configuration.md). The returned value has the
 /// history and a note of each session, and says by its status and cause why the run ended (docs/profile/lines.md).
-#[tactic(auto, using(crate::proofs::NotesOf::notes_of_none, crate::proofs::NotesOf::fates_of_none, crate::proofs::NotesOf::sendings_of_none))]
 pub fn feed_config<S: Source, K: Sink>(
     alloc: Global,
     config: &Config,
@@ -56,13 +53,9 @@ pub fn feed_config<S: Source, K: Sink>(
     out: &mut K,
 ) -> Ended
     requires { IsConfig config.now }
-    // The history is a run from the first state.
-    ensures run { Run (opening config.now) result.history (after_all (opening config.now) result.history) }
-    // Where it leads, the notes are those of its firings and changes of alarms that are reported, in order, each with one fate.
-    ensures notes { map tells (after_all (opening config.now) result.history).line.told ≡ reported_in (opening config.now) result.history }
-    ensures fates { LineValid (after_all (opening config.now) result.history).line }
-    // The notes of one kind were sent in the order of their numbers, a failed one again.
-    ensures sendings { NeverBack (opening config.now) result.history }
+    // All that is recorded holds of the history: it is a run of the tables from the first state, its notes are those that were
+    // reported, each with one fate and sent in order, and so on.
+    ensures recorded { Recorded config.now result.history (after_all (opening config.now) result.history) }
     // It is within the limits.
     ensures entries_fit { length result.history ≤ config.now.max_entries }
     ensures bytes_fit { bytes_of result.history ≤ config.now.max_bytes }
@@ -104,7 +97,6 @@ pub fn feed_config<S: Source, K: Sink>(
 /// The words are checked first, then the configuration is read and checked, then the input is read. The returned value
 /// has the history and a note of each session, and says by its status and cause why the run ended (this tool's profile,
 /// docs/profile/lines.md).
-#[tactic(auto, using(crate::proofs::NotesOf::notes_of_none, crate::proofs::NotesOf::fates_of_none, crate::proofs::NotesOf::sendings_of_none))]
 pub fn feed<C: Source, S: Source, K: Sink>(
     alloc: Global,
     words: &[Text80],
@@ -112,13 +104,9 @@ pub fn feed<C: Source, S: Source, K: Sink>(
     input: &mut S,
     out: &mut K,
 ) -> Ended
-    // The history is a run from the first state.
-    ensures run { Run (opening known_config) result.history (after_all (opening known_config) result.history) }
-    // Where it leads, the notes are those of its firings and changes of alarms that are reported, in order, each with one fate.
-    ensures notes { map tells (after_all (opening known_config) result.history).line.told ≡ reported_in (opening known_config) result.history }
-    ensures fates { LineValid (after_all (opening known_config) result.history).line }
-    // The notes of one kind were sent in the order of their numbers, a failed one again.
-    ensures sendings { NeverBack (opening known_config) result.history }
+    // All that is recorded holds of the history: it is a run of the tables from the first state, its notes are those that were
+    // reported, each with one fate and sent in order, and so on.
+    ensures recorded { Recorded known_config result.history (after_all (opening known_config) result.history) }
     // It is within the limits.
     ensures entries_fit { length result.history ≤ known_config.max_entries }
     ensures bytes_fit { bytes_of result.history ≤ known_config.max_bytes }

@@ -1,8 +1,7 @@
 use Rattle.std.proofs.Common.{subst}
 use Rattle.tool_events.specs.declared.config.Config.{Config}
-use Rattle.note_line.specs.Fates.{LineValid}
 use Rattle.gem_model.specs.State.{opening}
-use Rattle.gem_model.specs.OpenNotes.{NeverBack}
+use Rattle.gem_model.specs.Recorded.{Recorded}
 use Rattle.gem_model.specs.Run.{after_all}
 use Rattle.gem_model.specs.Command.{known_config}
 use Rattle.line_feeding.specs.Fed.{looked}
@@ -15,8 +14,5 @@ returns-in-Err-clause-fed g c = rw c.without_history-in-Err.ensures (Fed-refused
 pub returns-in-Err-clause-printed : goal.returns-in-Err-clause-printed
 returns-in-Err-clause-printed g c = rw c.without_history-in-Err.ensures (Shown-refused known_config c.in-Err.cause _ _ (g.K.Sink.held c.args.out.now) c.in-Err.ensures.refused)
 
-pub returns-in-Ok-clause-fates : goal.returns-in-Ok-clause-fates
-returns-in-Ok-clause-fates g c = subst (λ (k : Config). LineValid (after_all (opening k) c.feed_config.result.history).line) c.known_config.ensures.config c.feed_config.ensures.fates
-
-pub returns-in-Ok-clause-sendings : goal.returns-in-Ok-clause-sendings
-returns-in-Ok-clause-sendings g c = subst (λ (k : Config). NeverBack (opening k) c.feed_config.result.history) c.known_config.ensures.config c.feed_config.ensures.sendings
+pub returns-in-Ok-clause-recorded : goal.returns-in-Ok-clause-recorded
+returns-in-Ok-clause-recorded g c = subst (λ (k : Config). Recorded k c.feed_config.result.history (after_all (opening k) c.feed_config.result.history)) c.known_config.ensures.config c.feed_config.ensures.recorded

@@ -5,14 +5,9 @@ use Rattle.line_feeding.specs.CauseOf.{cause_after}
 use Rattle.line_feeding.specs.Fed.{looked, FedBy, ReadToEnd, Shown}
 use Rattle.line_feeding.specs.Noted.{NotedBy}
 use Rattle.line_feeding.specs.Stopping.{GivenBy}
-use Rattle.top_calls.proofs.Ending.{not_write, run_from, FedBy-end, NotedBy-end, Shown-end, Shown-memory}
-use Rattle.line_feeding.proofs.NotesOf.{notes_of, fates_of, sendings_of}
+use Rattle.top_calls.proofs.Ending.{not_write, FedBy-end, NotedBy-end, Shown-end, Shown-memory}
+use Rattle.gem_model.proofs.Recording.{recorded-after, recorded-none}
 use Rattle.top_calls.proofs.feeding.feed_config.Goals as goal
-
-pub returns-in_default-session_notes-clause-run : goal.returns-in_default-session_notes-clause-run
-returns-in_default-session_notes-clause-run g c =
-    rw (c.with_history.ensures, c.into_history-history.ensures.history)
-    (run_from _ _ _ _ (c.read_lines-read.ensures.prints.config ∙ c.in-Ok.ensures.config) c.into_history-history.ensures.run)
 
 pub returns-in_default-session_notes-clause-printed : goal.returns-in_default-session_notes-clause-printed
 returns-in_default-session_notes-clause-printed g c =
@@ -21,11 +16,6 @@ returns-in_default-session_notes-clause-printed g c =
     rw (c.with_history.ensures, c.into_history-history.ensures.history)
     (subst (λ (k : Config). Shown k cause.NoMemory (g.K.Sink.held c.args.out.now) (g.K.Sink.held c.read_lines-read.new.out) core.history) same
     (Shown-memory c.read_lines-read.result.end _ core _ _ c.in-Ok.ensures.history c.read_lines-read.ensures.prints))
-
-pub returns-clause-run : goal.returns-clause-run
-returns-clause-run g c =
-    rw (c.with_history-2.ensures, c.into_history.ensures.history)
-    (run_from _ _ _ _ (c.read_lines-read.ensures.prints.config ∙ c.in-Ok.ensures.config) c.into_history.ensures.run)
 
 pub returns-clause-fed : goal.returns-clause-fed
 returns-clause-fed g c =
@@ -67,37 +57,17 @@ returns-in_default-session_notes-clause-fed g c =
       inl refl,
     )
 
-pub returns-in_default-session_notes-clause-notes : goal.returns-in_default-session_notes-clause-notes
-returns-in_default-session_notes-clause-notes g c =
-    rw (c.with_history.ensures, c.into_history-history.ensures.history)
-    (notes_of _ _ (run_from _ _ _ _ (c.read_lines-read.ensures.prints.config ∙ c.in-Ok.ensures.config) c.into_history-history.ensures.run))
-
-pub returns-in_default-session_notes-clause-fates : goal.returns-in_default-session_notes-clause-fates
-returns-in_default-session_notes-clause-fates g c =
-    rw (c.with_history.ensures, c.into_history-history.ensures.history)
-    (fates_of _ _ (run_from _ _ _ _ (c.read_lines-read.ensures.prints.config ∙ c.in-Ok.ensures.config) c.into_history-history.ensures.run))
-
-pub returns-clause-notes : goal.returns-clause-notes
-returns-clause-notes g c =
-    rw (c.with_history-2.ensures, c.into_history.ensures.history)
-    (notes_of _ _ (run_from _ _ _ _ (c.read_lines-read.ensures.prints.config ∙ c.in-Ok.ensures.config) c.into_history.ensures.run))
-
-pub returns-clause-fates : goal.returns-clause-fates
-returns-clause-fates g c =
-    rw (c.with_history-2.ensures, c.into_history.ensures.history)
-    (fates_of _ _ (run_from _ _ _ _ (c.read_lines-read.ensures.prints.config ∙ c.in-Ok.ensures.config) c.into_history.ensures.run))
-
-pub returns-in_default-session_notes-clause-sendings : goal.returns-in_default-session_notes-clause-sendings
-returns-in_default-session_notes-clause-sendings g c =
-    rw (c.with_history.ensures, c.into_history-history.ensures.history)
-    (sendings_of _ _ (run_from _ _ _ _ (c.read_lines-read.ensures.prints.config ∙ c.in-Ok.ensures.config) c.into_history-history.ensures.run))
-
-pub returns-clause-sendings : goal.returns-clause-sendings
-returns-clause-sendings g c =
-    rw (c.with_history-2.ensures, c.into_history.ensures.history)
-    (sendings_of _ _ (run_from _ _ _ _ (c.read_lines-read.ensures.prints.config ∙ c.in-Ok.ensures.config) c.into_history.ensures.run))
-
 pub returns-clause-no_write_failed : goal.returns-clause-no_write_failed
 returns-clause-no_write_failed g c =
     rw (c.with_history-2.ensures, c.cause_of-cause.ensures)
     (λ other memory. c.read_lines-read.ensures.prints.unfailed (not_write c.read_lines-read.result.end c.read_lines-read.result.count _ _ other))
+
+pub returns-in_default-session_notes-clause-recorded : goal.returns-in_default-session_notes-clause-recorded
+returns-in_default-session_notes-clause-recorded g c =
+    rw (c.with_history.ensures, c.into_history-history.ensures.history)
+    (recorded-after _ _ _ _ (c.read_lines-read.ensures.prints.config ∙ c.in-Ok.ensures.config) c.into_history-history.ensures.recorded)
+
+pub returns-clause-recorded : goal.returns-clause-recorded
+returns-clause-recorded g c =
+    rw (c.with_history-2.ensures, c.into_history.ensures.history)
+    (recorded-after _ _ _ _ (c.read_lines-read.ensures.prints.config ∙ c.in-Ok.ensures.config) c.into_history.ensures.recorded)

@@ -19,7 +19,7 @@ fn times(alloc: Global, count: u32, id: u32) -> Result<Vec<u32>> {
 }
 
 /// The numbers that a text tells.
-pub fn ids(alloc: Global, text: &str) -> Result<Ids> {
+pub fn numbers_in(alloc: Global, text: &str) -> Result<Ids> {
     let words = words(alloc, text)?;
     let words = words.as_slice();
     if words.len() == 3 && word(words, 1)? == "times" {

@@ -10,7 +10,7 @@
 ghost use Rattle.std.specs.Prelude.{◌≡◌, ◌==◌, ◌≤◌, ℕ, ◌∷◌, [], Some, None, if◌then◌else◌, IfOk};
 ghost use Rattle.secs_items.specs.Data.{u4};
 
-use crate::ids::{ids, listed};
+use crate::ids::{listed, numbers_in};
 use anyhow::{Result, bail};
 use event_reports::{Reports, Values};
 use gem_ids::Ids;
@@ -79,7 +79,7 @@ fn entry(alloc: Global, text: &str) -> Result<(u32, Ids)> {
     let Some((number, list)) = text.split_once(':') else {
         bail!("an entry is a number, a colon and a list");
     };
-    Ok((number.trim().parse::<u32>()?, ids(alloc, list)?))
+    Ok((number.trim().parse::<u32>()?, numbers_in(alloc, list)?))
 }
 
 fn entries(alloc: Global, text: &str) -> Result<Vec<(u32, Ids)>> {
@@ -97,7 +97,7 @@ fn many(alloc: Global, count: &str) -> Result<Vec<(u32, Ids)>> {
     let count = count.parse::<u16>()?;
     let mut entries = Vec::new(alloc);
     for place in 0..count {
-        entries.push((1_001 + u32::from(place), ids(alloc, "1")?))?;
+        entries.push((1_001 + u32::from(place), numbers_in(alloc, "1")?))?;
     }
     Ok(entries)
 }
@@ -111,14 +111,14 @@ fn link(alloc: Global, reports: &mut Reports, entries: &[(u32, Ids)]) -> Result<
 }
 
 fn enable(alloc: Global, reports: &mut Reports, on: bool, list: &str) -> Result<String> {
-    let ceids = ids(alloc, list)?;
+    let ceids = numbers_in(alloc, list)?;
     Ok(format!(in alloc; "{}", reports.enable(on, ceids.as_slice()))?)
 }
 
 // The enabled events among these.
 fn enabled(alloc: Global, reports: &Reports, list: &str) -> Result<String> {
     let mut enabled = Vec::new(alloc);
-    for ceid in ids(alloc, list)?.as_slice() {
+    for ceid in numbers_in(alloc, list)?.as_slice() {
         if reports.is_enabled(*ceid) {
             enabled.push(*ceid)?;
         }

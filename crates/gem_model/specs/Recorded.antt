@@ -1,0 +1,34 @@
+-- What holds of each history that is recorded, and of the state to which it leads.
+use Rattle.std.proofs.Common.{◌≡◌, ◌≤◌, true, false, List, length, map}
+use Rattle.transactions.specs.Table.{is_full}
+use Rattle.tool_events.specs.declared.config.Config.{Config}
+use Rattle.tool_events.specs.declared.entry.Entry.{Entry}
+use Rattle.spool.specs.Spool.{is_inactive, has_note}
+use Rattle.note_line.specs.Fates.{LineValid, tells}
+use Rattle.shop_floor.specs.Valid.{IsFloor}
+use Rattle.gem_model.specs.State.{State, opening}
+use Rattle.gem_model.specs.Run.{Run}
+use Rattle.gem_model.specs.Reported.{reported_in}
+use Rattle.gem_model.specs.OpenNotes.{NeverBack, note_numbers, open_number}
+
+-- Facts of a history that began under this configuration and led to this state. Each public call that hands out a history has
+-- them; a further one is a field more.
+pub record Recorded (c : Config) (history : List Entry) (g : State) : Type 0 where
+  -- the history is a run of the tables from the first state
+  pub run : Run (opening c) history g
+  -- the notes are those of its firings and changes of alarms that are reported, one for one and in order
+  pub notes : map tells g.line.told ≡ reported_in (opening c) history
+  -- each note has one fate, and of each kind those that have not ended stand in the order of their numbers
+  pub fates : LineValid g.line
+  -- sendings of one kind never go back to a lower number
+  pub sendings : NeverBack (opening c) history
+  -- the open note is the one whose transaction is open
+  pub open_note : note_numbers g.transactions.opened ≡ open_number g.line
+  -- an INACTIVE spool is empty
+  pub spool : is_inactive g.line.spool.load ≡ true → has_note g.line.spool ≡ false
+  -- each carrier has a name of its own, and one that is present or bound belongs to the port where it is
+  pub floor : IsFloor g.floor
+  -- at most 16 carriers are known
+  pub carriers : length g.floor.carriers ≤ 16
+  -- there is room to start a transaction
+  pub room : is_full g.transactions ≡ false

@@ -3,8 +3,8 @@
 ghost use Rattle.std.specs.Prelude.{◌≡◌, length, IfOk};
 ghost use Rattle.gem_replies.specs.Sendable.{AreCharacters, HasSendableParts};
 
-use crate::texts::{is_text, sent};
 use msgs_gem::{BodyFault, GemReply, Identity, is_ignored, read_gem};
+use reply_texts::{is_text, sent};
 use secs_items::{Bytes, NoMemory};
 use std::alloc::Global;
 use std::test::Fail;

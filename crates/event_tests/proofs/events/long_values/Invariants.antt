@@ -1,7 +1,7 @@
 use Rattle.std.proofs.Common.{◌≡◌}
 use Rattle.secs_items.specs.Plain.{count_of}
 use Rattle.secs_items.specs.Weight.{AreBounded}
-use Rattle.message_tests.proofs.replies.long_values.Given as goal
+use Rattle.event_tests.proofs.events.long_values.Given as goal
 
 -- as many values as turns, each within its bounds
 abbrev pub invariant-loop : goal.invariant-loop

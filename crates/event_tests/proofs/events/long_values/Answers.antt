@@ -1,6 +1,6 @@
 use Rattle.secs_items.specs.View.{view}
-use Rattle.message_tests.proofs.Bounds.{one_more}
-use Rattle.message_tests.proofs.replies.long_values.Goals as goal
+use Rattle.event_tests.proofs.Bounds.{one_more}
+use Rattle.event_tests.proofs.events.long_values.Goals as goal
 
 pub loop-preserved : goal.loop-preserved
 loop-preserved c =

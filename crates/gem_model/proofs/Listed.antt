@@ -66,15 +66,15 @@ module _ (P : State → Type 0) (Is : Firing → Type 0)
     (noted : (g : State) (e : Option ℕ) (o : Occasion) (online : Bool) → P g → P (record g { line = line_behind e o online g }))
     (row : (g : State) (f : Firing) → Is f → row_starts g f ≡ true → P g → P (takes_effect g f))
   where
-  fired_keeps : (g : State) (f : Firing) → Is f → row_starts g f ≡ true → P g → P (fire g f)
-  fired_keeps g f is starts at =
-      noted (takes_effect g f) (ceid_of f.table f.row) (record { object = object_name (takes_effect g f) f; row = 100 * f.table + f.row }) (is_online g.control) (row g f is starts at)
+    fired_keeps : (g : State) (f : Firing) → Is f → row_starts g f ≡ true → P g → P (fire g f)
+    fired_keeps g f is starts at =
+        noted (takes_effect g f) (ceid_of f.table f.row) (record { object = object_name (takes_effect g f) f; row = 100 * f.table + f.row }) (is_online g.control) (row g f is starts at)
 
-  pub listed_keeps : (fs : List Firing) → Are Is fs → (g : State) → P g → P (fire_listed fs g)
-  listed_keeps [] are g at = at
-  listed_keeps (f ∷ fs) are g at =
-      listed_keeps fs are.1 (if row_starts g f then fire g f else g)
-      (where_starts P (row_starts g f) (fire g f) g (λ starts. fired_keeps g f are.0 starts at) at)
+    pub listed_keeps : (fs : List Firing) → Are Is fs → (g : State) → P g → P (fire_listed fs g)
+    listed_keeps [] are g at = at
+    listed_keeps (f ∷ fs) are g at =
+        listed_keeps fs are.1 (if row_starts g f then fire g f else g)
+        (where_starts P (row_starts g f) (fire g f) g (λ starts. fired_keeps g f are.0 starts at) at)
 
 -- ---- the ends of transactions, and of a session
 

@@ -18,3 +18,9 @@ returns-else-matches-clause-before c = rw (← c.self.view_is) (recorded-of _ _ 
 
 pub returns-else-matches-clause-recorded : goal.returns-else-matches-clause-recorded
 returns-else-matches-clause-recorded c = rw (← c.self-2.view_is) (recorded-of _ _ _ c.self-2.invariant.config c.self-2.invariant.run)
+
+pub returns-then-matches-clause-before : goal.returns-then-matches-clause-before
+returns-then-matches-clause-before c = rw (← c.self.view_is) (recorded-of _ _ _ c.self.invariant.config c.self.invariant.run)
+
+pub returns-then-matches-clause-recorded : goal.returns-then-matches-clause-recorded
+returns-then-matches-clause-recorded c = recorded-of _ _ _ c.self-2.invariant.config c.self-2.invariant.run

@@ -4,3 +4,4 @@ pub mod Stopping
 pub mod Standing
 pub mod Progress
 pub mod Ending
+pub mod NothingHappened

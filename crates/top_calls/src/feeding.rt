@@ -46,6 +46,7 @@ fn cause_of(read: InputRead, core: &Core, number: u64) -> Cause
 ///
 /// The configuration keeps its bounds (this tool's profile, docs/profile/configuration.md). The returned value has the
 /// history and a note of each session, and says by its status and cause why the run ended (docs/profile/lines.md).
+#[tactic(auto, using(crate::proofs::NothingHappened::recorded_none))]
 pub fn feed_config<S: Source, K: Sink>(
     alloc: Global,
     config: &Config,
@@ -97,6 +98,7 @@ pub fn feed_config<S: Source, K: Sink>(
 /// The words are checked first, then the configuration is read and checked, then the input is read. The returned value
 /// has the history and a note of each session, and says by its status and cause why the run ended (this tool's profile,
 /// docs/profile/lines.md).
+#[tactic(auto, using(crate::proofs::NothingHappened::recorded_known))]
 pub fn feed<C: Source, S: Source, K: Sink>(
     alloc: Global,
     words: &[Text80],

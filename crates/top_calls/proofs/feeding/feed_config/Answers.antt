@@ -1,4 +1,4 @@
-use Rattle.std.proofs.Common.{◌≡◌, ◌∙◌, inl, refl, subst}
+use Rattle.std.proofs.Common.{[], ◌≡◌, ◌∙◌, inl, refl, subst}
 use Rattle.tool_events.specs.declared.config.Config.{Config}
 use Rattle.line_feeding.specs.declared.ended.Cause.TheVariants as cause
 use Rattle.line_feeding.specs.CauseOf.{cause_after}
@@ -6,7 +6,8 @@ use Rattle.line_feeding.specs.Fed.{looked, FedBy, ReadToEnd, Shown}
 use Rattle.line_feeding.specs.Noted.{NotedBy}
 use Rattle.line_feeding.specs.Stopping.{GivenBy}
 use Rattle.top_calls.proofs.Ending.{not_write, FedBy-end, NotedBy-end, Shown-end, Shown-memory}
-use Rattle.gem_model.proofs.Recording.{recorded-after, recorded-none}
+use Rattle.gem_model.proofs.Recording.{recorded-after}
+use Rattle.top_calls.proofs.NothingHappened.{recorded_none}
 use Rattle.top_calls.proofs.feeding.feed_config.Goals as goal
 
 pub returns-in_default-session_notes-clause-printed : goal.returns-in_default-session_notes-clause-printed
@@ -71,3 +72,6 @@ pub returns-clause-recorded : goal.returns-clause-recorded
 returns-clause-recorded g c =
     rw (c.with_history-2.ensures, c.into_history.ensures.history)
     (recorded-after _ _ _ _ (c.read_lines-read.ensures.prints.config ∙ c.in-Ok.ensures.config) c.into_history.ensures.recorded)
+
+pub returns-in_default-clause-recorded : goal.returns-in_default-clause-recorded
+returns-in_default-clause-recorded g c = rw c.without_history.ensures (recorded_none c.args.config.now [] c.requires refl)

@@ -7,10 +7,8 @@
 //! proved with nothing in view but its own words.
 #![tactic(auto)]
 
-mod folder;
 mod line_words;
 mod said;
 
-pub use folder::play_folder;
 pub use line_words::{bytes, header, nothing, number, small, word, words};
-pub use said::{Subject, Texts, answers};
+pub use said::{Subject, Texts, answers, play_folder};

@@ -1,8 +1,9 @@
 //! What lines are said to, and how they are compared with what is answered.
 
 use anyhow::Result;
-use conversation_files::{Line, Section};
+use conversation_files::{Line, Player, Section};
 use std::alloc::Global;
+use std::process::ExitCode;
 
 /// What lines are said to.
 pub trait Subject {
@@ -70,25 +71,34 @@ fn is_answered(lines: &[Line<'_>]) -> bool {
     false
 }
 
-/// Says the lines of a conversation to the subject that its first line names, and tells the first line that is answered
-/// otherwise, or why nothing can be said.
-pub(crate) fn play<T: Texts>(
-    alloc: Global,
-    texts: &T,
-    section: &Section<'_>,
-) -> Result<Option<String>> {
-    let Some((first, lines)) = section.lines.as_slice().split_first() else {
-        return Ok(Some(format!(in alloc; "no line")?));
-    };
-    if !is_answered(lines) {
-        return Ok(Some(format!(in alloc; "no line says what is to be answered")?));
-    }
-    match texts.play(alloc, first.text, lines) {
-        Ok(told) => Ok(told),
-        Err(why) => {
-            let number = first.number;
-            let text = first.text;
-            Ok(Some(format!(in alloc; "line {number}: {text}: {why}")?))
+/// What plays conversations by saying their lines to these texts' subjects.
+struct Said<'t, T> {
+    texts: &'t T,
+}
+
+impl<T: Texts> Player for Said<'_, T> {
+    /// Says the lines of a conversation to the subject that its first line names, and tells the first line that is answered
+    /// otherwise, or why nothing can be said.
+    fn play(&self, alloc: Global, section: &Section<'_>) -> Result<Option<String>> {
+        let Some((first, lines)) = section.lines.as_slice().split_first() else {
+            return Ok(Some(format!(in alloc; "no line")?));
+        };
+        if !is_answered(lines) {
+            return Ok(Some(format!(in alloc; "no line says what is to be answered")?));
+        }
+        match self.texts.play(alloc, first.text, lines) {
+            Ok(told) => Ok(told),
+            Err(why) => {
+                let number = first.number;
+                let text = first.text;
+                Ok(Some(format!(in alloc; "line {number}: {text}: {why}")?))
+            }
         }
     }
+}
+
+/// Says each file of the folder in which a program is run to the subjects of these texts, as `conversation_files::play_folder`
+/// plays it.
+pub fn play_folder<T: Texts>(rt: &HostRuntime, texts: &T) -> ExitCode {
+    conversation_files::play_folder(rt, &Said { texts })
 }

@@ -72,6 +72,7 @@ fn is_answered(lines: &[Line<'_>]) -> bool {
 }
 
 /// What plays conversations by saying their lines to these texts' subjects.
+#[derive(Drop)]
 struct Said<'t, T> {
     texts: &'t T,
 }

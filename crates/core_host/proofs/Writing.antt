@@ -1,6 +1,6 @@
 -- A message writes the same before its reply waits for the writer and behind it, and the reply tells its direct rows.
 use Rattle.std.proofs.Common.{◌≡◌, ℕ, ◌+◌, ◌==◌, Bool, true, false, if◌then◌else◌, List, ◌∷◌, [], ◌++◌, Option, Some, None, refl, sym, ◌∙◌, ap}
-use Rattle.gem_tables.specs.Table.{Firing}
+use Rattle.gem_tables.specs.declared.firing.Firing.{Firing}
 use Rattle.hsms_frame.specs.declared.frame.Header.{Header}
 use Rattle.secs_items.specs.Plain.{plain}
 use Rattle.gem_replies.specs.Replies.{reply_body}

@@ -1,6 +1,6 @@
 -- The direct rows of a message, by what it was answered.
 use Rattle.std.specs.Prelude.{List}
-use Rattle.gem_tables.specs.Table.{Firing}
+use Rattle.gem_tables.specs.declared.firing.Firing.{Firing}
 use Rattle.gem_primaries.specs.declared.primary.GemMsg.{GemMsg}
 use Rattle.gem_primaries.specs.declared.primary.GemMsg.TheVariants as msg
 use Rattle.gem_replies.specs.declared.reply.GemReply.{GemReply}

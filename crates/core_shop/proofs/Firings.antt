@@ -1,6 +1,6 @@
 -- Settling by automatic firings.
 use Rattle.std.proofs.Common.{◌≡◌, ◌<◌, true, false, Option, Some, None, is_some, refl, sym}
-use Rattle.gem_tables.specs.Table.{Firing}
+use Rattle.gem_tables.specs.declared.firing.Firing.{Firing}
 use Rattle.gem_model.specs.State.{State}
 use Rattle.gem_model.specs.Ready.{least}
 use Rattle.gem_model.specs.Measure.{left}

@@ -1,6 +1,7 @@
 -- The rows of the load ports and the carriers: what they leave alone, whether an input fires them or they fire by themselves.
 use Rattle.std.proofs.Common.{◌≡◌, ℕ, ◌+◌, ◌*◌, ◌-◌, ◌==◌, Bool, false, if◌then◌else◌, List, [], ◌∷◌, ◌++◌, Option, Some, None, refl, sym, subst}
-use Rattle.gem_tables.specs.Table.{Firing, firing}
+use Rattle.gem_tables.specs.Table.{firing}
+use Rattle.gem_tables.specs.declared.firing.Firing.{Firing}
 use Rattle.gem_rows.specs.Events.{ceid_of}
 use Rattle.load_port.specs.Ports.{is_no_port}
 use Rattle.shop_floor.specs.Floor.{Floor}
@@ -26,9 +27,9 @@ use Rattle.gem_model.proofs.Tests.{either_way}
 
 -- a row of tables 4 to 10
 pub record IsFloorRow (f : Firing) : Type 0 where
-  pub not_1 : (f.table == 1) ≡ false
-  pub not_2 : (f.table == 2) ≡ false
-  pub not_3 : (f.table == 3) ≡ false
+  pub not_1 : (f.row.table == 1) ≡ false
+  pub not_2 : (f.row.table == 2) ≡ false
+  pub not_3 : (f.row.table == 3) ≡ false
 
 abbrev pub AreFloorRows : List Firing → Type 0
 AreFloorRows [] = Unit {0}
@@ -147,5 +148,5 @@ pub record LeftAlone (P : State → Type 0) : Type 1 where
 pub alone_fire : (P : State → Type 0) → LeftAlone P → (g : State) (f : Firing) → IsFloorRow f → P g → P (fire g f)
 alone_fire P alone g f is here =
     let h : State = takes_effect g f in
-    alone.noted h (ceid_of f.table f.row) (record { object = object_name h f; row = 100 * f.table + f.row }) (is_online g.control)
+    alone.noted h (ceid_of f.row.table f.row.row) (record { object = object_name h f; row = 100 * f.row.table + f.row.row }) (is_online g.control)
     (subst P (sym (effect_is g f is)) (alone.floor g _ here))

@@ -1,7 +1,8 @@
 -- The load ports and the carriers stay valid, whatever comes: so at most sixteen carriers are known.
 use Rattle.std.proofs.Common.{◌≡◌, ℕ, ◌==◌, ◌≤◌, Bool, true, false, if◌then◌else◌, List, [], ◌∷◌, length, Option, Some, None, option_map, refl, sym, subst}
 use Rattle.std.specs.Option.{option_or}
-use Rattle.gem_tables.specs.Table.{Firing, firing, starts}
+use Rattle.gem_tables.specs.Table.{firing, starts}
+use Rattle.gem_tables.specs.declared.firing.Firing.{Firing}
 use Rattle.gem_tables.specs.Communication.{communication_table}
 use Rattle.gem_tables.specs.Control.{control_table}
 use Rattle.gem_states.specs.Meaning.{comm_number, comm_fired, control_number, control_fired}
@@ -90,7 +91,7 @@ by_tables false false false f row g is valid = row-keeps f g.floor is valid
 
 -- a row that starts keeps it
 sound_fire : (g : State) (f : Firing) → row_starts g f ≡ true → Sound g → Sound (fire g f)
-sound_fire g f is valid = by_tables (f.table == 1) (f.table == 2) (f.table == 3) f f.row g is valid
+sound_fire g f is valid = by_tables (f.row.table == 1) (f.row.table == 2) (f.row.table == 3) f f.row.row g is valid
 
 sound_listed : (fs : List Firing) (g : State) → Sound g → Sound (fire_listed fs g)
 sound_listed [] g valid = valid
@@ -147,7 +148,7 @@ sound_each = record {
     answer = λ g valid. valid;
     came = λ g port name slots valid. came-keeps port (arrival_of port name slots g.floor.carriers) g.floor valid;
     written = λ g a is valid. written-keeps a g.floor is valid;
-    row = λ g f listed is valid. by_tables (f.table == 1) (f.table == 2) (f.table == 3) f f.row g is valid;
+    row = λ g f listed is valid. by_tables (f.row.table == 1) (f.row.table == 2) (f.row.table == 3) f f.row.row g is valid;
     ready = λ g f ready valid. sound_automatic g f ready valid;
     created = λ g n valid. sound_creation g n valid;
   };

@@ -1,7 +1,8 @@
 -- The line of notes goes on: it stays valid, and what became of a note stays.
 use Rattle.std.proofs.Common.{◌≡◌, ℕ, ◌+◌, ◌*◌, ◌==◌, Bool, true, false, if◌then◌else◌, [], Option, Some, None, option_map, refl, subst, sym}
 use Rattle.std.specs.Option.{option_or}
-use Rattle.gem_tables.specs.Table.{Firing, firing, starts}
+use Rattle.gem_tables.specs.Table.{firing, starts}
+use Rattle.gem_tables.specs.declared.firing.Firing.{Firing}
 use Rattle.gem_tables.specs.Communication.{communication_table}
 use Rattle.gem_tables.specs.Control.{control_table}
 use Rattle.gem_states.specs.Meaning.{comm_number, comm_fired, control_number, control_fired}
@@ -82,7 +83,7 @@ lined_event (Some ceid) o online g valid =
 lined_fire : (g : State) (f : Firing) → Lined g (takes_effect g f) → Lined g (fire g f)
 lined_fire g f effect =
     lined_then g (takes_effect g f) (fire g f) effect
-    (lined_event (ceid_of f.table f.row) (record { object = object_name (takes_effect g f) f; row = 100 * f.table + f.row }) (is_online g.control) (takes_effect g f))
+    (lined_event (ceid_of f.row.table f.row.row) (record { object = object_name (takes_effect g f) f; row = 100 * f.row.table + f.row.row }) (is_online g.control) (takes_effect g f))
 
 by_tables : (first second third : Bool) (f : Firing) (row : ℕ) (g : State) → (third ≡ true → is_direct row ≡ true) →
     (if first then starts communication_table row (comm_number g.comm) else (if second then starts control_table row (control_number g.control) else (if third then line_starts (around g) row g.line else floor_starts f g.floor))) ≡ true →
@@ -145,7 +146,7 @@ lined_each g = record {
     answer = λ h lined. lined_then g h (record h { line = answered h.line }) lined (answered-keeps h.line);
     came = λ h port name slots lined. lined;
     written = λ h a is lined. lined;
-    row = λ h f listed is lined. lined_then g h (takes_effect h f) lined (by_tables (f.table == 1) (f.table == 2) (f.table == 3) f f.row h listed is);
+    row = λ h f listed is lined. lined_then g h (takes_effect h f) lined (by_tables (f.row.table == 1) (f.row.table == 2) (f.row.table == 3) f f.row.row h listed is);
     ready = λ h f ready lined. lined_then g h (fire h f) lined (lined_automatic h f ready);
     created = λ h n lined. lined_then g h (fire h (firing 8 n 1)) lined (lined_creation h n);
   };

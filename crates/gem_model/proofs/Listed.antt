@@ -3,7 +3,8 @@ use Rattle.std.proofs.Common.{◌≡◌, ℕ, ◌+◌, ◌*◌, ◌==◌, Bool, 
 use Rattle.secs_items.specs.Data.{Data}
 use Rattle.gem_primaries.specs.declared.primary.GemMsg.{GemMsg}
 use Rattle.gem_primaries.specs.declared.primary.GemMsg.TheVariants as msg
-use Rattle.gem_tables.specs.Table.{Firing, firing, starts}
+use Rattle.gem_tables.specs.Table.{firing, starts}
+use Rattle.gem_tables.specs.declared.firing.Firing.{Firing}
 use Rattle.gem_tables.specs.Control.{control_table, attempt_online}
 use Rattle.gem_states.specs.declared.communication.CommTrigger.TheVariants as comm
 use Rattle.gem_states.specs.declared.control.ControlTrigger.TheVariants as trigger
@@ -39,7 +40,7 @@ are_both Is (f ∷ fs) gs first next = (first.0, are_both Is fs gs first.1 next)
 
 -- a firing of table 3 is of a row that an input fires
 abbrev pub IsListed : Firing → Type 0
-IsListed f = (f.table == 3) ≡ true → is_direct f.row ≡ true
+IsListed f = (f.row.table == 3) ≡ true → is_direct f.row.row ≡ true
 
 -- a firing of a row that an input fires by itself, not the end of a transaction
 pub data IsFree (f : Firing) : Type 0 where
@@ -68,7 +69,7 @@ module _ (P : State → Type 0) (Is : Firing → Type 0)
   where
     fired_keeps : (g : State) (f : Firing) → Is f → row_starts g f ≡ true → P g → P (fire g f)
     fired_keeps g f is starts at =
-        noted (takes_effect g f) (ceid_of f.table f.row) (record { object = object_name (takes_effect g f) f; row = 100 * f.table + f.row }) (is_online g.control) (row g f is starts at)
+        noted (takes_effect g f) (ceid_of f.row.table f.row.row) (record { object = object_name (takes_effect g f) f; row = 100 * f.row.table + f.row.row }) (is_online g.control) (row g f is starts at)
 
     pub listed_keeps : (fs : List Firing) → Are Is fs → (g : State) → P g → P (fire_listed fs g)
     listed_keeps [] are g at = at
@@ -115,11 +116,11 @@ listed_disable g = are_both IsListed (by_comm comm.Disable) (all_fail g) (listed
 
 -- a free row of table 3 is one that inputs fire
 pub free_listed : (f : Firing) → IsFree f → IsListed f
-free_listed f (free_enabled same) is = absurd (let no : (f.table == 3) ≡ false = rw same refl in true≢false (sym is ∙ no))
-free_listed f (free_met same) is = absurd (let no : (f.table == 3) ≡ false = rw same refl in true≢false (sym is ∙ no))
-free_listed f (free_attempted same) is = absurd (let no : (f.table == 3) ≡ false = rw same refl in true≢false (sym is ∙ no))
-free_listed f (free_off_line same) is = absurd (let no : (f.table == 3) ≡ false = rw same refl in true≢false (sym is ∙ no))
-free_listed f (free_elsewhere row never sends forgets same) is = absurd (let no : (f.table == 3) ≡ false = rw same refl in true≢false (sym is ∙ no))
+free_listed f (free_enabled same) is = absurd (let no : (f.row.table == 3) ≡ false = rw same refl in true≢false (sym is ∙ no))
+free_listed f (free_met same) is = absurd (let no : (f.row.table == 3) ≡ false = rw same refl in true≢false (sym is ∙ no))
+free_listed f (free_attempted same) is = absurd (let no : (f.row.table == 3) ≡ false = rw same refl in true≢false (sym is ∙ no))
+free_listed f (free_off_line same) is = absurd (let no : (f.row.table == 3) ≡ false = rw same refl in true≢false (sym is ∙ no))
+free_listed f (free_elsewhere row never sends forgets same) is = absurd (let no : (f.row.table == 3) ≡ false = rw same refl in true≢false (sym is ∙ no))
 free_listed f (free_unload same) is = rw same refl
 free_listed f (free_purge same) is = rw same refl
 free_listed f (free_floor floor) is = absurd (true≢false (sym is ∙ floor.not_3))

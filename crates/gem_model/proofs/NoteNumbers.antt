@@ -7,7 +7,8 @@ use Rattle.std.proofs.lemmas.Bool.{true≢false}
 use Rattle.hsms_frame.specs.declared.frame.Header.{Header}
 use Rattle.secs_items.specs.Data.{Data}
 use Rattle.gem_replies.specs.Acknowledge.{accepts}
-use Rattle.gem_tables.specs.Table.{Firing, firing}
+use Rattle.gem_tables.specs.Table.{firing}
+use Rattle.gem_tables.specs.declared.firing.Firing.{Firing}
 use Rattle.gem_states.specs.declared.communication.CommTrigger.TheVariants as comm
 use Rattle.gem_states.specs.declared.control.ControlTrigger.{ControlTrigger}
 use Rattle.gem_states.specs.declared.control.ControlTrigger.TheVariants as trigger
@@ -211,27 +212,27 @@ with_control ns g row is = of (row == 1) (row == 6) (can_ask (record g { control
 
 -- a firing leaves the notes alone: it is of table 1 or 2, and not the row that disables communication
 abbrev IsQuiet : Firing → Type 0
-IsQuiet f = ((f.table == 3) ≡ false) × ((f.table == 1) ≡ true → (f.row == 2) ≡ false)
+IsQuiet f = ((f.row.table == 3) ≡ false) × ((f.row.table == 1) ≡ true → (f.row.row == 2) ≡ false)
 
 with_fire : (ns : List ℕ) (g : State) (f : Firing) → IsQuiet f → With ns g.transactions.opened → With ns (fire g f).transactions.opened
-with_fire ns g f quiet is = of (f.table == 1) (f.table == 2) (f.table == 3) quiet.0 quiet.1 where
-  of : (first second third : Bool) → third ≡ false → (first ≡ true → (f.row == 2) ≡ false) → With ns (if first then fire_comm f.row g else (if second then fire_control f.row g else (if third then fire_line f.row g else fire_floor f g))).transactions.opened
-  of true second third none never = with_comm ns g f.row (never refl) is
-  of false true third none never = with_control ns g f.row is
+with_fire ns g f quiet is = of (f.row.table == 1) (f.row.table == 2) (f.row.table == 3) quiet.0 quiet.1 where
+  of : (first second third : Bool) → third ≡ false → (first ≡ true → (f.row.row == 2) ≡ false) → With ns (if first then fire_comm f.row.row g else (if second then fire_control f.row.row g else (if third then fire_line f.row.row g else fire_floor f g))).transactions.opened
+  of true second third none never = with_comm ns g f.row.row (never refl) is
+  of false true third none never = with_control ns g f.row.row is
   of false false true none never = absurd (cc)
   of false false false none never = is
 
 open_effect : (g : State) (f : Firing) → IsQuiet f → (takes_effect g f).line.opened ≡ g.line.opened
-open_effect g f quiet = of (f.table == 1) (f.table == 2) (f.table == 3) quiet.0 where
-  of : (first second third : Bool) → third ≡ false → (if first then fire_comm f.row g else (if second then fire_control f.row g else (if third then fire_line f.row g else fire_floor f g))).line.opened ≡ g.line.opened
-  of true second third none = ap (λ (l : Line). l.opened) (line_comm g f.row)
-  of false true third none = ap (λ (l : Line). l.opened) (line_control g f.row)
+open_effect g f quiet = of (f.row.table == 1) (f.row.table == 2) (f.row.table == 3) quiet.0 where
+  of : (first second third : Bool) → third ≡ false → (if first then fire_comm f.row.row g else (if second then fire_control f.row.row g else (if third then fire_line f.row.row g else fire_floor f g))).line.opened ≡ g.line.opened
+  of true second third none = ap (λ (l : Line). l.opened) (line_comm g f.row.row)
+  of false true third none = ap (λ (l : Line). l.opened) (line_control g f.row.row)
   of false false true none = absurd (cc)
   of false false false none = refl
 
 open_fire : (g : State) (f : Firing) → IsQuiet f → (fire g f).line.opened ≡ g.line.opened
 open_fire g f quiet =
-    same_open (ceid_of f.table f.row) (record { object = object_name (takes_effect g f) f; row = 100 * f.table + f.row }) (is_online g.control) (takes_effect g f)
+    same_open (ceid_of f.row.table f.row.row) (record { object = object_name (takes_effect g f) f; row = 100 * f.row.table + f.row.row }) (is_online g.control) (takes_effect g f)
     ∙ open_effect g f quiet
 
 abbrev AreQuiet : List Firing → Type 0
@@ -278,7 +279,7 @@ own_control t g own = own_listed (by_control t g) (quiet_control (control_rows t
 own_fire : (g : State) (f : Firing) → Own (takes_effect g f) → Own (fire g f)
 own_fire g f own =
     own_open (takes_effect g f) (fire g f)
-    (same_open (ceid_of f.table f.row) (record { object = object_name (takes_effect g f) f; row = 100 * f.table + f.row }) (is_online g.control) (takes_effect g f)) own
+    (same_open (ceid_of f.row.table f.row.row) (record { object = object_name (takes_effect g f) f; row = 100 * f.row.table + f.row.row }) (is_online g.control) (takes_effect g f)) own
 
 own_alone : LeftAlone Own
 own_alone = record {

@@ -14,7 +14,7 @@ use Rattle.gem_model.specs.Spooling.{rspack, kinds_of, spools}
 use Rattle.gem_primaries.specs.declared.primary.GemMsg.TheVariants as msg
 use Rattle.gem_replies.specs.Replies.{reply_body}
 use Rattle.gem_ids.specs.Civil.{moment_in}
-use Rattle.gem_tables.specs.Table.{Firing}
+use Rattle.gem_tables.specs.declared.firing.Firing.{Firing}
 use Rattle.gem_rows.specs.Events.{ceid_of}
 use Rattle.event_reports.specs.Alarms.{is_alarm, is_set, set_alarm, clear_alarm}
 use Rattle.shop_floor.specs.Requests.{at_port, removal}
@@ -98,11 +98,11 @@ told_same : (g h : State) → SameLine g h → told_in h ≡ told_in g
 told_same g h same = subst (λ (l : Line). map tells l.told ≡ told_in g) (sym same) refl
 
 told_effect : (g : State) (f : Firing) → told_in (takes_effect g f) ≡ told_in g
-told_effect g f = of (f.table == 1) (f.table == 2) (f.table == 3) where
-  of : (first second third : Bool) → told_in (if first then fire_comm f.row g else (if second then fire_control f.row g else (if third then fire_line f.row g else fire_floor f g))) ≡ told_in g
-  of true second third = told_same g (fire_comm f.row g) (line_comm g f.row)
-  of false true third = told_same g (fire_control f.row g) (line_control g f.row)
-  of false false true = row-tells (around g) f.row g.line
+told_effect g f = of (f.row.table == 1) (f.row.table == 2) (f.row.table == 3) where
+  of : (first second third : Bool) → told_in (if first then fire_comm f.row.row g else (if second then fire_control f.row.row g else (if third then fire_line f.row.row g else fire_floor f g))) ≡ told_in g
+  of true second third = told_same g (fire_comm f.row.row g) (line_comm g f.row.row)
+  of false true third = told_same g (fire_control f.row.row g) (line_control g f.row.row)
+  of false false true = row-tells (around g) f.row.row g.line
   of false false false = refl
 
 -- a note is made exactly where the event is reported
@@ -112,9 +112,9 @@ tells_event (Some ceid) o online g = tells_where g (is_event_reported ceid onlin
 
 tells_fire : (g : State) (f : Firing) → Tells g (by_firing g f) (fire g f)
 tells_fire g f =
-    let event = ceid_of f.table f.row in
+    let event = ceid_of f.row.table f.row.row in
     let h : State = takes_effect g f in
-    let told : told_in (fire g f) ≡ told_in h ++ by_firing g f = tells_event event (record { object = object_name h f; row = 100 * f.table + f.row }) (is_online g.control) h in
+    let told : told_in (fire g f) ≡ told_in h ++ by_firing g f = tells_event event (record { object = object_name h f; row = 100 * f.row.table + f.row.row }) (is_online g.control) h in
     told ∙ ap (λ (xs : List Reported). xs ++ by_firing g f) (told_effect g f)
 
 tells_firings : (fs : List Firing) (g : State) → Tells g (by_firings fs g) (fire_all fs g)

@@ -7,7 +7,8 @@ use Rattle.hsms_frame.specs.declared.frame.Header.{Header}
 use Rattle.hsms_link.specs.Links as links
 use Rattle.secs_items.specs.Data.{Data}
 use Rattle.gem_replies.specs.Acknowledge.{accepts}
-use Rattle.gem_tables.specs.Table.{Firing, firing, starts}
+use Rattle.gem_tables.specs.Table.{firing, starts}
+use Rattle.gem_tables.specs.declared.firing.Firing.{Firing}
 use Rattle.gem_tables.specs.Communication.{communication_table, communicating}
 use Rattle.gem_tables.specs.Control.{control_table, attempt_online}
 use Rattle.gem_states.specs.declared.communication.Comm.{Comm}
@@ -234,8 +235,8 @@ same_open (Some ceid) o online g = either_way (λ (l : Line). l.opened ≡ g.lin
 
 few_fire : (g : State) (f : Firing) → Few (takes_effect g f) → Few (fire g f)
 few_fire g f few =
-    let o : Occasion = record { object = object_name (takes_effect g f) f; row = 100 * f.table + f.row } in
-    few-line (takes_effect g f) (line_behind (ceid_of f.table f.row) o (is_online g.control) (takes_effect g f)) (same_open (ceid_of f.table f.row) o (is_online g.control) (takes_effect g f)) few
+    let o : Occasion = record { object = object_name (takes_effect g f) f; row = 100 * f.row.table + f.row.row } in
+    few-line (takes_effect g f) (line_behind (ceid_of f.row.table f.row.row) o (is_online g.control) (takes_effect g f)) (same_open (ceid_of f.row.table f.row.row) o (is_online g.control) (takes_effect g f)) few
 
 few-one : (f : Firing) (g : State) → Few g → (row_starts g f ≡ true → Few (takes_effect g f)) → Few (fire_listed (f ∷ []) g)
 few-one f g few fired = few_where (row_starts g f) (fire g f) g (λ is. few_fire g f (fired is)) (λ _. few)

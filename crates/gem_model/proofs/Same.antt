@@ -7,7 +7,8 @@ use Rattle.transactions.specs.declared.transaction.What.TheVariants as what
 use Rattle.gem_states.specs.Meaning.{comm_fired, control_fired}
 use Rattle.transactions.specs.declared.transaction.Open.{Open}
 use Rattle.gem_primaries.specs.declared.primary.GemMsg.{GemMsg}
-use Rattle.gem_tables.specs.Table.{Firing, firing}
+use Rattle.gem_tables.specs.Table.{firing}
+use Rattle.gem_tables.specs.declared.firing.Firing.{Firing}
 use Rattle.gem_model.specs.State.{State, none_asked, can_ask}
 use Rattle.gem_model.specs.Sending.{asks, identity_text}
 use Rattle.spool.specs.declared.note.Note.{Note}
@@ -79,9 +80,9 @@ same_line g row =
 
 same_effect : (g : State) (f : Firing) → Same g (takes_effect g f)
 same_effect g f =
-    same_either g (f.table == 1) (fire_comm f.row g) (if f.table == 2 then fire_control f.row g else (if f.table == 3 then fire_line f.row g else fire_floor f g)) (same_comm g f.row)
-    (same_either g (f.table == 2) (fire_control f.row g) (if f.table == 3 then fire_line f.row g else fire_floor f g) (same_control g f.row)
-    (same_either g (f.table == 3) (fire_line f.row g) (fire_floor f g) (same_line g f.row) (record { config = refl; link = refl; quitting = refl })))
+    same_either g (f.row.table == 1) (fire_comm f.row.row g) (if f.row.table == 2 then fire_control f.row.row g else (if f.row.table == 3 then fire_line f.row.row g else fire_floor f g)) (same_comm g f.row.row)
+    (same_either g (f.row.table == 2) (fire_control f.row.row g) (if f.row.table == 3 then fire_line f.row.row g else fire_floor f g) (same_control g f.row.row)
+    (same_either g (f.row.table == 3) (fire_line f.row.row g) (fire_floor f g) (same_line g f.row.row) (record { config = refl; link = refl; quitting = refl })))
 
 pub same_fire : (g : State) (f : Firing) → Same g (fire g f)
 same_fire g f = let effect = same_effect g f in record { config = effect.config; link = effect.link; quitting = effect.quitting }

@@ -5,7 +5,8 @@ use Rattle.gem_states.specs.declared.communication.Comm.TheVariants.{Disabled, W
 use Rattle.gem_states.specs.declared.control.Control.{Control}
 use Rattle.gem_states.specs.declared.control.Control.TheVariants as control
 use Rattle.gem_states.specs.Meaning.{comm_fired, control_fired}
-use Rattle.gem_tables.specs.Table.{Firing, firing}
+use Rattle.gem_tables.specs.Table.{firing}
+use Rattle.gem_tables.specs.declared.firing.Firing.{Firing}
 use Rattle.std.specs.Option.{option_or}
 use Rattle.gem_rows.specs.Events.{ceid_of}
 use Rattle.event_reports.specs.Reports.{report_items}
@@ -154,8 +155,8 @@ record Moved (g h : State) : Type 0 where
 moved_fire : (g : State) (f : Firing) → takes_effect g f ≡ fire_floor f g → Moved g (fire g f)
 moved_fire g f is =
     let h : State = takes_effect g f in
-    let told = event_left (ceid_of f.table f.row) (record { object = object_name h f; row = 100 * f.table + f.row }) (is_online g.control) h in
-    let most = event_most (ceid_of f.table f.row) in
+    let told = event_left (ceid_of f.row.table f.row.row) (record { object = object_name h f; row = 100 * f.row.table + f.row.row }) (is_online g.control) h in
+    let most = event_most (ceid_of f.row.table f.row.row) in
     let same : left_line h.line ≡ left_line g.line = ap (λ (k : State). left_line k.line) is in
     record { comm = ap (λ (k : State). k.comm) is; control = ap (λ (k : State). k.control) is; line = omega (arith, told, most, same) }
   where

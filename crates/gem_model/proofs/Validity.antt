@@ -5,7 +5,8 @@ use Rattle.std.specs.Option.{option_or, option_to_list}
 use Rattle.hsms_link.specs.declared.state.Phase.{Phase}
 use Rattle.hsms_link.specs.declared.state.Phase.TheVariants.{Down, NotSelected, Selected}
 use Rattle.hsms_link.specs.Links as links
-use Rattle.gem_tables.specs.Table.{Firing, firing}
+use Rattle.gem_tables.specs.Table.{firing}
+use Rattle.gem_tables.specs.declared.firing.Firing.{Firing}
 use Rattle.gem_states.specs.declared.communication.Comm.{Comm}
 use Rattle.gem_states.specs.declared.communication.Comm.TheVariants as comm
 use Rattle.transactions.specs.Table.{is_full}

@@ -7,7 +7,7 @@ use Rattle.gem_states.specs.declared.communication.CommTrigger.TheVariants as co
 use Rattle.gem_states.specs.declared.control.ControlTrigger.{ControlTrigger}
 use Rattle.gem_states.specs.declared.control.ControlTrigger.TheVariants as control
 use Rattle.gem_states.specs.Meaning.{comm_rows, control_rows}
-use Rattle.gem_tables.specs.Table.{Firing}
+use Rattle.gem_tables.specs.declared.firing.Firing.{Firing}
 use Rattle.gem_primaries.specs.declared.primary.GemMsg.{GemMsg}
 use Rattle.gem_primaries.specs.declared.primary.GemMsg.TheVariants as msg
 use Rattle.gem_replies.specs.Acknowledge.{accepts}

@@ -6,7 +6,8 @@ use Rattle.spool.specs.declared.note.Kind.{Kind}
 use Rattle.spool.specs.declared.note.Kind.TheVariants.{Event, Alarm}
 use Rattle.spool.specs.declared.note.Note.{Note}
 use Rattle.note_line.specs.Table3.{line_starts, row_effect}
-use Rattle.gem_tables.specs.Table.{Firing, firing, starts}
+use Rattle.gem_tables.specs.Table.{firing, starts}
+use Rattle.gem_tables.specs.declared.firing.Firing.{Firing}
 use Rattle.gem_tables.specs.Communication.{communication_table}
 use Rattle.gem_tables.specs.Control.{control_table}
 use Rattle.transactions.specs.declared.transaction.What.{What}
@@ -82,15 +83,15 @@ fire_floor f g = record g { floor = floor_fired f g.floor }
 -- the row of a firing starts at the present state
 abbrev pub row_starts : State → Firing → Bool
 row_starts g f =
-    if f.table == 1 then starts communication_table f.row (comm_number g.comm)
-    else (if f.table == 2 then starts control_table f.row (control_number g.control)
-    else (if f.table == 3 then line_starts (around g) f.row g.line else floor_starts f g.floor))
+    if f.row.table == 1 then starts communication_table f.row.row (comm_number g.comm)
+    else (if f.row.table == 2 then starts control_table f.row.row (control_number g.control)
+    else (if f.row.table == 3 then line_starts (around g) f.row.row g.line else floor_starts f g.floor))
 
 -- the row's state and effect; all else stays
 abbrev pub takes_effect : State → Firing → State
 takes_effect g f =
-    if f.table == 1 then fire_comm f.row g
-    else (if f.table == 2 then fire_control f.row g else (if f.table == 3 then fire_line f.row g else fire_floor f g))
+    if f.row.table == 1 then fire_comm f.row.row g
+    else (if f.row.table == 2 then fire_control f.row.row g else (if f.row.table == 3 then fire_line f.row.row g else fire_floor f g))
 
 -- a row fires: its effect, and the note that it makes behind it
 abbrev pub fire : State → Firing → State

@@ -1,6 +1,6 @@
 -- The notes that firings and changes of alarms make (SEMI E30, event reports and alarms; this tool's profile, notes).
 use Rattle.std.specs.Prelude.{ℕ, ◌+◌, ◌*◌, Bool, not, ◌&&◌, ◌||◌, if◌then◌else◌, List, [], Option, Some, None, unwrap_or}
-use Rattle.gem_tables.specs.Table.{Firing}
+use Rattle.gem_tables.specs.declared.firing.Firing.{Firing}
 use Rattle.gem_rows.specs.Events.{ceid_of}
 use Rattle.gem_rows.specs.Alarms.{alarm_text}
 use Rattle.secs_items.specs.Data.{DataList}
@@ -44,7 +44,7 @@ noted_as table row object online_before g =
 
 -- the note that a firing makes
 abbrev pub noted : Bool → Firing → State → State
-noted online_before f g = noted_as f.table f.row (object_name g f) online_before g
+noted online_before f g = noted_as f.row.table f.row.row (object_name g f) online_before g
 
 -- ---- alarms
 

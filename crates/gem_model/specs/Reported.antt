@@ -3,7 +3,7 @@
 -- themselves, beside the line of notes. Each word is named by what happens, and passes the states of the word that says
 -- what that does.
 use Rattle.std.specs.Prelude.{ℕ, ◌+◌, Bool, true, not, ◌&&◌, if◌then◌else◌, List, [], ◌∷◌, ◌++◌, Option, Some, None}
-use Rattle.gem_tables.specs.Table.{Firing}
+use Rattle.gem_tables.specs.declared.firing.Firing.{Firing}
 use Rattle.gem_rows.specs.Events.{ceid_of}
 use Rattle.hsms_frame.specs.declared.frame.Header.{Header}
 use Rattle.hsms_frame.specs.declared.frame.Arrival.{Arrival}
@@ -58,7 +58,7 @@ by_event (Some ceid) online_before g = if is_event_reported ceid online_before g
 
 -- a row fires
 abbrev pub by_firing : State → Firing → List Reported
-by_firing g f = by_event (ceid_of f.table f.row) (is_online g.control) (takes_effect g f)
+by_firing g f = by_event (ceid_of f.row.table f.row.row) (is_online g.control) (takes_effect g f)
 
 -- these rows fire, one after another
 abbrev pub by_firings : List Firing → State → List Reported

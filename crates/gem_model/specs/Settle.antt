@@ -1,6 +1,6 @@
 -- Settling: the least ready row fires, again and again, until none is ready (this tool's profile, settling).
 use Rattle.std.specs.Prelude.{◌≡◌, ℕ, zero, suc, List, [], ◌∷◌, ◌++◌, Option, Some, None}
-use Rattle.gem_tables.specs.Table.{Firing}
+use Rattle.gem_tables.specs.declared.firing.Firing.{Firing}
 use Rattle.gem_model.specs.State.{State}
 use Rattle.gem_model.specs.Ready.{least}
 use Rattle.gem_model.specs.Fire.{fire, creations}

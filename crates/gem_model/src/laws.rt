@@ -5,7 +5,7 @@ ghost use Rattle.transactions.specs.Table.{is_full};
 ghost use Rattle.tool_events.specs.declared.config.Config.{Config};
 ghost use Rattle.tool_events.specs.declared.entry.Entry.{Entry};
 ghost use Rattle.tool_events.specs.declared.event.Event.{Event};
-ghost use Rattle.gem_tables.specs.Table.{Firing};
+ghost use Rattle.gem_tables.specs.declared.firing.Firing.{Firing};
 ghost use Rattle.gem_model.specs.State.{State, opening, raised};
 ghost use Rattle.gem_model.specs.Settle.{Settles, settling, settled, Along};
 ghost use Rattle.gem_model.specs.Step.{Outcome, acts};

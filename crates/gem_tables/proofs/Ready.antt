@@ -1,7 +1,8 @@
 -- Where the least ready row of a table comes from.
 use Rattle.std.proofs.Common.{◌≡◌, ℕ, zero, suc, ◌+◌, List, [], ◌∷◌, Option, Some, None, option_map, slice_get, refl, sym, ◌∙◌, ap, arith}
 use Rattle.std.specs.Option.{option_or}
-use Rattle.gem_tables.specs.Table.{Firing, firing, first_ready}
+use Rattle.gem_tables.specs.Table.{firing, first_ready}
+use Rattle.gem_tables.specs.declared.firing.Firing.{Firing}
 
 module _ {O : Type 0} (table : ℕ) (row_at : O → Option ℕ) where
   -- a firing of an object of the list: the object's place, the object, and a row that is ready at it
@@ -9,8 +10,8 @@ module _ {O : Type 0} (table : ℕ) (row_at : O → Option ℕ) where
     pub place : ℕ
     pub object : O
     pub stands : slice_get objects place ≡ Some object
-    pub ready : row_at object ≡ Some fired.row
-    pub is : fired ≡ firing table (n + place) fired.row
+    pub ready : row_at object ≡ Some fired.row.row
+    pub is : fired ≡ firing table (n + place) fired.row.row
 
   -- the least ready row is that of one of the objects
   pub ready_cases : (n : ℕ) (objects : List O) (fired : Firing) → first_ready table row_at n objects ≡ Some fired → FiresOf n objects fired
@@ -22,20 +23,20 @@ module _ {O : Type 0} (table : ℕ) (row_at : O → Option ℕ) where
       object = rest.object;
       stands = rest.stands;
       ready = rest.ready;
-      is = rest.is ∙ ap (λ (k : ℕ). firing table k fired.row) (omega arith);
+      is = rest.is ∙ ap (λ (k : ℕ). firing table k fired.row.row) (omega arith);
     }
 
     by_row : (r : Option ℕ) → row_at x ≡ r → option_or (option_map (firing table n) r) (first_ready table row_at (n + 1) xs) ≡ Some fired → (first_ready table row_at (n + 1) xs ≡ Some fired → FiresOf (n + 1) xs fired) → FiresOf n (x ∷ xs) fired
     by_row None q f rest = later (rest f)
     by_row (Some row) q f rest =
         let same : firing table n row ≡ fired = cc in
-        let rows : row ≡ fired.row = ap (λ (g : Firing). g.row) same in
+        let rows : row ≡ fired.row.row = ap (λ (g : Firing). g.row.row) same in
         record {
           place = 0;
           object = x;
           stands = refl;
           ready = q ∙ ap (λ (r : ℕ). Some r) rows;
-          is = sym same ∙ ap (λ (r : ℕ). firing table n r) rows ∙ ap (λ (k : ℕ). firing table k fired.row) (omega arith);
+          is = sym same ∙ ap (λ (r : ℕ). firing table n r) rows ∙ ap (λ (k : ℕ). firing table k fired.row.row) (omega arith);
         }
 
   -- where no row of the table is ready, none is ready at any of the objects

@@ -1,6 +1,7 @@
 -- The words that all transition tables share (this tool's profile, transition tables).
 use Rattle.std.specs.Prelude.{ℕ, zero, suc, ◌+◌, ◌==◌, Bool, false, ◌&&◌, ◌||◌, if◌then◌else◌, List, [], ◌∷◌, Option, Some, None, option_map}
 use Rattle.std.specs.Option.{option_or}
+use Rattle.gem_tables.specs.declared.firing.Firing.{Firing}
 
 -- ---- a table
 
@@ -47,15 +48,9 @@ choose (one ∷ others) = if one.0 then Some one.1 else choose others
 
 -- ---- rows of objects
 
--- a firing: the table, the place of the object among those of the table, and the row
-pub record Firing : Type 0 where
-  pub table : ℕ
-  pub object : ℕ
-  pub row : ℕ
-
--- a firing of a table at an object
+-- a row of a table, fired at an object
 abbrev pub firing : ℕ → ℕ → ℕ → Firing
-firing table object row = record { table = table; object = object; row = row }
+firing table object row = record { row = record { table = table; row = row }; object = object }
 
 -- The least ready row of a table over its objects in their order, where the first given one has the place n: that of the
 -- first object at which a row is ready. The least row that is ready at an object is given.

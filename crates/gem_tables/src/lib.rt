@@ -20,3 +20,7 @@
 //! | 2 | control, `specs/Control.antt` |
 //! | 3 | the line of notes and the spool, which moves notes and not a state alone: it stands in `note_line` and `spool` |
 #![tactic(auto)]
+
+mod firing;
+
+pub use firing::{Firing, RowId};

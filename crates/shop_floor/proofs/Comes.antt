@@ -2,7 +2,8 @@
 use Rattle.std.proofs.Common.{◌≡◌, ℕ, suc, ◌==◌, ◌≤◌, Bool, true, false, not, cond, ◌&&◌, ◌||◌, List, [], ◌∷◌, length, Option, Some, None, is_some, slice_get, refl, sym, ap, subst, arith, ◌∙◌, ◌⊎◌, inl, inr}
 use Rattle.std.proofs.lemmas.Bool.{and_parts, or_parts, or_from, or_cases, both_ways, not-true}
 use Rattle.std.proofs.lemmas.Bool.Decides.{nat_tests}
-use Rattle.gem_tables.specs.Table.{Firing, firing}
+use Rattle.gem_tables.specs.Table.{firing}
+use Rattle.gem_tables.specs.declared.firing.Firing.{Firing}
 use Rattle.load_port.specs.declared.port.Port.{Port}
 use Rattle.load_port.specs.Record.{port_starts}
 use Rattle.load_port.specs.declared.port.Arrival.{Arrival}
@@ -28,24 +29,24 @@ record Comes (row place : ℕ) (f : Floor) : Type 0 where
   new : is_new port.arrival f.carriers ≡ true
   told : IsTold port
 
-comes_so : (x : Firing) (f : Floor) → floor_starts x f ≡ true → creates x f ≡ true → IsFloor f → Comes x.row x.object f
+comes_so : (x : Firing) (f : Floor) → floor_starts x f ≡ true → creates x f ≡ true → IsFloor f → Comes x.row.row x.object f
 comes_so x f starts makes valid = of (slice_get f.ports x.object) refl at_7 parts.1 where
-  parts : (((x.table == 7) && is_arrival_row x.row) ≡ true) × (is_new (arrival_at (slice_get f.ports x.object)) f.carriers ≡ true)
+  parts : (((x.row.table == 7) && is_arrival_row x.row.row) ≡ true) × (is_new (arrival_at (slice_get f.ports x.object)) f.carriers ≡ true)
   parts = and_parts _ _ makes
 
-  rows : ((x.table == 7) ≡ true) × (is_arrival_row x.row ≡ true)
+  rows : ((x.row.table == 7) ≡ true) × (is_arrival_row x.row.row ≡ true)
   rows = and_parts _ _ parts.0
 
-  seven : x.table ≡ 7
+  seven : x.row.table ≡ 7
   seven = let t = rows.0 in grind (arith, nat_tests)
 
-  at_7 : port_starts_at 7 x.row x.object (slice_get f.ports x.object) f.carriers ≡ true
-  at_7 = subst (λ t. floor_starts (firing t x.object x.row) f ≡ true) seven starts
+  at_7 : port_starts_at 7 x.row.row x.object (slice_get f.ports x.object) f.carriers ≡ true
+  at_7 = subst (λ t. floor_starts (firing t x.object x.row.row) f ≡ true) seven starts
 
-  of : (o : Option Port) → slice_get f.ports x.object ≡ o → port_starts_at 7 x.row x.object o f.carriers ≡ true → is_new (arrival_at o) f.carriers ≡ true → Comes x.row x.object f
+  of : (o : Option Port) → slice_get f.ports x.object ≡ o → port_starts_at 7 x.row.row x.object o f.carriers ≡ true → is_new (arrival_at o) f.carriers ≡ true → Comes x.row.row x.object f
   of None s w new = absurd (cc)
   of (Some p) s w new =
-      let both = and_parts (port_starts 7 x.row p.states) (may_associate x.row x.object p f.carriers) w in
+      let both = and_parts (port_starts 7 x.row.row p.states) (may_associate x.row.row x.object p f.carriers) w in
       record { port = p; stands = s; starts = both.0; may = both.1; arrives = rows.1; new = new; told = all_at IsTold x.object f.ports p s valid.told }
 
 -- row 3
@@ -69,22 +70,22 @@ at_4 place f c valid =
 
 -- ---- by the firing
 
-pub room-comes : (x : Firing) (f : Floor) → floor_starts x f ≡ true → creates x f ≡ true → (x.row == 4) ≡ false → IsFloor f → suc (length f.carriers) ≤ most_carriers
+pub room-comes : (x : Firing) (f : Floor) → floor_starts x f ≡ true → creates x f ≡ true → (x.row.row == 4) ≡ false → IsFloor f → suc (length f.carriers) ≤ most_carriers
 room-comes x f starts makes other valid = by_row (or_cases _ _ comes.arrives) where
-  comes : Comes x.row x.object f
+  comes : Comes x.row.row x.object f
   comes = comes_so x f starts makes valid
 
-  later : ((x.row == 4) ≡ true) ⊎ ((x.row == 5) ≡ true) → suc (length f.carriers) ≤ most_carriers
+  later : ((x.row.row == 4) ≡ true) ⊎ ((x.row.row == 5) ≡ true) → suc (length f.carriers) ≤ most_carriers
   later (inl t) = absurd (both_ways _ other t)
-  later (inr t) = let is : x.row ≡ 5 = grind (arith, nat_tests) in at_5 x.object f (subst (λ r. Comes r x.object f) is comes) valid
+  later (inr t) = let is : x.row.row ≡ 5 = grind (arith, nat_tests) in at_5 x.object f (subst (λ r. Comes r x.object f) is comes) valid
 
-  by_row : ((x.row == 3) ≡ true) ⊎ (((x.row == 4) || (x.row == 5)) ≡ true) → suc (length f.carriers) ≤ most_carriers
-  by_row (inl t) = let is : x.row ≡ 3 = grind (arith, nat_tests) in at_3 x.object f (subst (λ r. Comes r x.object f) is comes) valid
+  by_row : ((x.row.row == 3) ≡ true) ⊎ (((x.row.row == 4) || (x.row.row == 5)) ≡ true) → suc (length f.carriers) ≤ most_carriers
+  by_row (inl t) = let is : x.row.row ≡ 3 = grind (arith, nat_tests) in at_3 x.object f (subst (λ r. Comes r x.object f) is comes) valid
   by_row (inr t) = later (or_cases _ _ t)
 
-pub room-replaces : (x : Firing) (f : Floor) → floor_starts x f ≡ true → creates x f ≡ true → (x.row == 4) ≡ true → IsFloor f → suc (length (forgets (owner (slice_get f.ports x.object)) f.carriers)) ≤ most_carriers
+pub room-replaces : (x : Firing) (f : Floor) → floor_starts x f ≡ true → creates x f ≡ true → (x.row.row == 4) ≡ true → IsFloor f → suc (length (forgets (owner (slice_get f.ports x.object)) f.carriers)) ≤ most_carriers
 room-replaces x f starts makes t valid =
-    let is : x.row ≡ 4 = grind (arith, nat_tests) in
+    let is : x.row.row ≡ 4 = grind (arith, nat_tests) in
     at_4 x.object f (subst (λ r. Comes r x.object f) is (comes_so x f starts makes valid)) valid
 
 -- ---- by the row

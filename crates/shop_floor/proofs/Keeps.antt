@@ -4,7 +4,8 @@ use Rattle.std.specs.List.{AllByRecursion}
 use Rattle.std.proofs.lemmas.Bool.{and_parts, or_cases, or_parts, or_from, both_ways, not-true, cond_both}
 use Rattle.std.proofs.lemmas.Bool.Decides.{nat_tests}
 use Rattle.std.proofs.lemmas.Slice.Eq.{bytes_eq-Decides}
-use Rattle.gem_tables.specs.Table.{Firing, firing, starts, update_at}
+use Rattle.gem_tables.specs.Table.{firing, starts, update_at}
+use Rattle.gem_tables.specs.declared.firing.Firing.{Firing}
 use Rattle.gem_tables.proofs.Falling.{length_update}
 use Rattle.load_port.specs.declared.record.PortRecord.{PortRecord}
 use Rattle.load_port.specs.declared.port.Port.{Port}
@@ -284,10 +285,10 @@ port_row-keeps table row place f valid starts = of (slice_get f.ports place) ref
   of (Some p) s w = cond_both (table == 7) _ _ (λ (g : Floor). IsFloor (with_port place (ports.fires_row table row) g)) (λ t. at_7 p s w (grind (arith, nat_tests))) (λ t. other-keeps table row place f t valid)
 
 pub row-keeps : (x : Firing) (f : Floor) → floor_starts x f ≡ true → IsFloor f → IsFloor (floor_fired x f)
-row-keeps x f starts valid = of (is_port_table x.table) refl starts where
-  of : (b : Bool) → is_port_table x.table ≡ b → cond b (port_starts_at x.table x.row x.object (slice_get f.ports x.object) f.carriers) (cond (is_carrier_table x.table) (carrier_starts_at x.table x.row (slice_get f.carriers x.object)) false) ≡ true → IsFloor (cond b (with_port x.object (ports.fires_row x.table x.row) (effect x f)) (cond (is_carrier_table x.table) (with_carrier x.object (carriers.fires_row x.table x.row) f) f))
-  of true q w = port_row-keeps x.table x.row x.object f valid w
-  of false q w = cond_both (is_carrier_table x.table) _ _ IsFloor (λ t. carrier-keeps x.object (carriers.fires_row x.table x.row) f (states_left x.table x.row) valid) (λ t. valid)
+row-keeps x f starts valid = of (is_port_table x.row.table) refl starts where
+  of : (b : Bool) → is_port_table x.row.table ≡ b → cond b (port_starts_at x.row.table x.row.row x.object (slice_get f.ports x.object) f.carriers) (cond (is_carrier_table x.row.table) (carrier_starts_at x.row.table x.row.row (slice_get f.carriers x.object)) false) ≡ true → IsFloor (cond b (with_port x.object (ports.fires_row x.row.table x.row.row) (effect x f)) (cond (is_carrier_table x.row.table) (with_carrier x.object (carriers.fires_row x.row.table x.row.row) f) f))
+  of true q w = port_row-keeps x.row.table x.row.row x.object f valid w
+  of false q w = cond_both (is_carrier_table x.row.table) _ _ IsFloor (λ t. carrier-keeps x.object (carriers.fires_row x.row.table x.row.row) f (states_left x.row.table x.row.row) valid) (λ t. valid)
 
 -- ---- what came to a port
 

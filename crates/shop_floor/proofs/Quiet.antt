@@ -1,7 +1,8 @@
 -- No row is ready where the tool begins.
 use Rattle.std.proofs.Common.{◌≡◌, ℕ, zero, suc, ◌+◌, [], Option, None, refl, ◌∙◌, ap}
 use Rattle.std.specs.Option.{option_or}
-use Rattle.gem_tables.specs.Table.{Firing, first_ready}
+use Rattle.gem_tables.specs.Table.{first_ready}
+use Rattle.gem_tables.specs.declared.firing.Firing.{Firing}
 use Rattle.load_port.specs.Ports.{first_ports}
 use Rattle.shop_floor.specs.Floor.{opening}
 use Rattle.shop_floor.specs.Ready.{numbered, transfer_row, reservation_row, association_row, ready_reservation, ready_association, floor_least}

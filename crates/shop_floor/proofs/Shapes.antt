@@ -3,7 +3,8 @@ use Rattle.std.proofs.Common.{◌≡◌, ℕ, ◌+◌, ◌==◌, Bool, true, fal
 use Rattle.std.specs.Prelude.{if◌then◌else◌}
 use Rattle.std.specs.Option.{option_or}
 use Rattle.std.proofs.lemmas.Bool.{true≢false}
-use Rattle.gem_tables.specs.Table.{Firing, firing, is_one_of, first_ready}
+use Rattle.gem_tables.specs.Table.{firing, is_one_of, first_ready}
+use Rattle.gem_tables.specs.declared.firing.Firing.{Firing}
 use Rattle.gem_tables.proofs.Ready.{ready_cases}
 use Rattle.load_port.specs.declared.port.Port.{Port}
 use Rattle.load_port.specs.Record.{is_blocked, is_reserved, is_associated}
@@ -87,9 +88,9 @@ of_port P table row_at ports x cases e =
     let fires = ready_cases table row_at 0 (numbered 1 ports) x e in
     let stands = numbered_port 1 ports fires.place fires.object fires.stands in
     let number : fires.object.0 ≡ fires.place + 1 = numbered_number 1 ports fires.place fires.object fires.stands ∙ omega arith in
-    let ready : row_at (fires.place + 1, fires.object.1) ≡ Some x.row = subst (λ (n : ℕ). row_at (n, fires.object.1) ≡ Some x.row) number fires.ready in
-    let is : x ≡ firing table fires.place x.row = fires.is ∙ ap (λ (n : ℕ). firing table n x.row) (omega arith) in
-    subst P (sym is) (cases fires.place fires.object.1 x.row stands ready)
+    let ready : row_at (fires.place + 1, fires.object.1) ≡ Some x.row.row = subst (λ (n : ℕ). row_at (n, fires.object.1) ≡ Some x.row.row) number fires.ready in
+    let is : x ≡ firing table fires.place x.row.row = fires.is ∙ ap (λ (n : ℕ). firing table n x.row.row) (omega arith) in
+    subst P (sym is) (cases fires.place fires.object.1 x.row.row stands ready)
 
 -- and one of a table of carriers that of a carrier
 of_carrier : (P : Firing → Type 0) (table : ℕ) (row_at : Carrier → Option ℕ) (carriers : List Carrier) (x : Firing)
@@ -97,8 +98,8 @@ of_carrier : (P : Firing → Type 0) (table : ℕ) (row_at : Carrier → Option 
     → first_ready table row_at 0 carriers ≡ Some x → P x
 of_carrier P table row_at carriers x cases e =
     let fires = ready_cases table row_at 0 carriers x e in
-    let is : x ≡ firing table fires.place x.row = fires.is ∙ ap (λ (n : ℕ). firing table n x.row) (omega arith) in
-    subst P (sym is) (cases fires.place fires.object x.row fires.stands fires.ready)
+    let is : x ≡ firing table fires.place x.row.row = fires.is ∙ ap (λ (n : ℕ). firing table n x.row.row) (omega arith) in
+    subst P (sym is) (cases fires.place fires.object x.row.row fires.stands fires.ready)
 
 either : {P A : Type 0} (first second : Option A) (x : A) → (first ≡ Some x → P) → (second ≡ Some x → P) → option_or first second ≡ Some x → P
 either (Some y) second x at_first at_second e = at_first e
@@ -121,23 +122,23 @@ least_cases P f x transfers reservations associations ids maps =
 -- ---- its table
 
 -- it is one of these
-pub least_table : (f : Floor) (x : Firing) → floor_least f ≡ Some x → is_one_of (4 ∷ 6 ∷ 7 ∷ 8 ∷ 9 ∷ []) x.table ≡ true
+pub least_table : (f : Floor) (x : Firing) → floor_least f ≡ Some x → is_one_of (4 ∷ 6 ∷ 7 ∷ 8 ∷ 9 ∷ []) x.row.table ≡ true
 least_table f x =
-    least_cases (λ (y : Firing). is_one_of (4 ∷ 6 ∷ 7 ∷ 8 ∷ 9 ∷ []) y.table ≡ true) f x (λ place p row s e. refl) (λ place p row s e. refl)
+    least_cases (λ (y : Firing). is_one_of (4 ∷ 6 ∷ 7 ∷ 8 ∷ 9 ∷ []) y.row.table ≡ true) f x (λ place p row s e. refl) (λ place p row s e. refl)
     (λ place p row s e. refl) (λ place c row s e. refl) (λ place c row s e. refl)
 
 -- and so none of the tables of communication, control and notes
-pub not_table_1 : (f : Floor) (x : Firing) → floor_least f ≡ Some x → (x.table == 1) ≡ false
+pub not_table_1 : (f : Floor) (x : Firing) → floor_least f ≡ Some x → (x.row.table == 1) ≡ false
 not_table_1 f x =
-    least_cases (λ (y : Firing). (y.table == 1) ≡ false) f x (λ place p row s e. refl) (λ place p row s e. refl) (λ place p row s e. refl)
+    least_cases (λ (y : Firing). (y.row.table == 1) ≡ false) f x (λ place p row s e. refl) (λ place p row s e. refl) (λ place p row s e. refl)
     (λ place c row s e. refl) (λ place c row s e. refl)
 
-pub not_table_2 : (f : Floor) (x : Firing) → floor_least f ≡ Some x → (x.table == 2) ≡ false
+pub not_table_2 : (f : Floor) (x : Firing) → floor_least f ≡ Some x → (x.row.table == 2) ≡ false
 not_table_2 f x =
-    least_cases (λ (y : Firing). (y.table == 2) ≡ false) f x (λ place p row s e. refl) (λ place p row s e. refl) (λ place p row s e. refl)
+    least_cases (λ (y : Firing). (y.row.table == 2) ≡ false) f x (λ place p row s e. refl) (λ place p row s e. refl) (λ place p row s e. refl)
     (λ place c row s e. refl) (λ place c row s e. refl)
 
-pub not_table_3 : (f : Floor) (x : Firing) → floor_least f ≡ Some x → (x.table == 3) ≡ false
+pub not_table_3 : (f : Floor) (x : Firing) → floor_least f ≡ Some x → (x.row.table == 3) ≡ false
 not_table_3 f x =
-    least_cases (λ (y : Firing). (y.table == 3) ≡ false) f x (λ place p row s e. refl) (λ place p row s e. refl) (λ place p row s e. refl)
+    least_cases (λ (y : Firing). (y.row.table == 3) ≡ false) f x (λ place p row s e. refl) (λ place p row s e. refl) (λ place p row s e. refl)
     (λ place c row s e. refl) (λ place c row s e. refl)

@@ -2,7 +2,7 @@
 use Rattle.std.proofs.Common.{◌≡◌, ℕ, ◌==◌, true, List, Option, Some, None, slice_get, sym, subst}
 use Rattle.std.specs.Prelude.{Result, Ok, Err, IfOk, IfErr}
 use Rattle.std.proofs.lemmas.Bool.{cond_both}
-use Rattle.gem_tables.specs.Table.{Firing}
+use Rattle.gem_tables.specs.declared.firing.Firing.{Firing}
 use Rattle.carrier.specs.declared.carrier.Carrier.{Carrier}
 use Rattle.carrier.specs.declared.action.CarrierAction.{CarrierAction}
 use Rattle.shop_floor.specs.Floor.{Floor}
@@ -19,8 +19,8 @@ forgets-valid (Some name) f valid = forgotten-valid f name valid
 
 without-keeps : (x : Firing) (f : Floor) → IsFloor f → IsFloor (without_memory x f)
 without-keeps x f valid =
-    cond_both (x.table == 7) _ _ IsFloor
-    (λ t. cond_both (x.row == 4) _ _ (λ cs. IsFloor (record f { carriers = cs })) (λ u. forgets-valid (owner (slice_get f.ports x.object)) f valid) (λ u. valid))
+    cond_both (x.row.table == 7) _ _ IsFloor
+    (λ t. cond_both (x.row.row == 4) _ _ (λ cs. IsFloor (record f { carriers = cs })) (λ u. forgets-valid (owner (slice_get f.ports x.object)) f valid) (λ u. valid))
     (λ t. valid)
 
 pub fired-valid : {A E : Type 0} (r : Result A E) (x : Firing) (f after : Floor) → floor_starts x f ≡ true → IsFloor f → IfOk r (λ _. after ≡ floor_fired x f) → IfErr r (λ _. after ≡ without_memory x f) → IsFloor after

@@ -1,6 +1,7 @@
 -- The rows of tables 4 to 10 as callers hand them in, and words for the parts of the calls.
 use Rattle.std.specs.Prelude.{ℕ, ◌==◌, Bool, false, if◌then◌else◌, List, Option, Some, None, slice_get}
-use Rattle.gem_tables.specs.Table.{Firing, firing}
+use Rattle.gem_tables.specs.Table.{firing}
+use Rattle.gem_tables.specs.declared.firing.Firing.{Firing}
 use Rattle.load_port.specs.declared.port.Port.{Port}
 use Rattle.load_port.specs.Ports.{port_numbered}
 use Rattle.load_port.specs.Record.{is_unloadable}
@@ -42,4 +43,4 @@ kept_by row place f = if row == 4 then forgets (owner (slice_get f.ports place))
 -- what is left of a row that found no memory for the carrier that it creates: row 7.4 has forgotten the port's carrier, and
 -- nothing else has changed
 abbrev pub without_memory : Firing → Floor → Floor
-without_memory x f = if x.table == 7 then record f { carriers = kept_by x.row x.object f } else f
+without_memory x f = if x.row.table == 7 then record f { carriers = kept_by x.row.row x.object f } else f

@@ -1,7 +1,8 @@
 -- What the host and the equipment do to ports and carriers before rows fire by themselves: what is written, and which rows
 -- fire directly (SEMI E87, S3F17, S3F25 and S3F27; this tool's profile, direct rows).
 use Rattle.std.specs.Prelude.{ℕ, ◌+◌, ◌-◌, ◌==◌, false, if◌then◌else◌, List, [], ◌∷◌, ◌++◌, length, map, Option, Some, None}
-use Rattle.gem_tables.specs.Table.{Firing, firing}
+use Rattle.gem_tables.specs.Table.{firing}
+use Rattle.gem_tables.specs.declared.firing.Firing.{Firing}
 use Rattle.gem_ids.specs.declared.numbers.PortNo.{PortNo}
 use Rattle.load_port.specs.declared.port.Port.{Port}
 use Rattle.load_port.specs.declared.port.Arrival.{Arrival}

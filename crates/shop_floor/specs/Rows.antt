@@ -3,7 +3,8 @@
 use Rattle.std.specs.Prelude.{ℕ, ◌+◌, ◌-◌, ◌==◌, Bool, true, false, not, ◌&&◌, ◌||◌, nat_le, if◌then◌else◌, List, [], ◌∷◌, length, find, Option, Some, None, is_some, slice_get}
 use Rattle.std.specs.List.{list_any}
 use Rattle.std.specs.Str.{bytes_eq}
-use Rattle.gem_tables.specs.Table.{Firing, firing}
+use Rattle.gem_tables.specs.Table.{firing}
+use Rattle.gem_tables.specs.declared.firing.Firing.{Firing}
 use Rattle.load_port.specs.declared.port.Port.{Port}
 use Rattle.load_port.specs.declared.port.Arrival.{Arrival}
 use Rattle.load_port.specs.Record.{port_starts}
@@ -129,18 +130,18 @@ carrier_starts_at table row (Some c) = ((table == 8) && (row == 1)) || carrier_s
 -- the row of a firing starts
 abbrev pub floor_starts : Firing → Floor → Bool
 floor_starts x f =
-    if is_port_table x.table then port_starts_at x.table x.row x.object (slice_get f.ports x.object) f.carriers
-    else (if is_carrier_table x.table then carrier_starts_at x.table x.row (slice_get f.carriers x.object) else false)
+    if is_port_table x.row.table then port_starts_at x.row.table x.row.row x.object (slice_get f.ports x.object) f.carriers
+    else (if is_carrier_table x.row.table then carrier_starts_at x.row.table x.row.row (slice_get f.carriers x.object) else false)
 
 -- the effect of a row besides the states of its object
 abbrev pub effect : Firing → Floor → Floor
-effect x f = if x.table == 7 then association_effect x.row x.object f else f
+effect x f = if x.row.table == 7 then association_effect x.row.row x.object f else f
 
 -- a row fires: the states of its object, and its effect
 abbrev pub floor_fired : Firing → Floor → Floor
 floor_fired x f =
-    if is_port_table x.table then with_port x.object (ports.fires_row x.table x.row) (effect x f)
-    else (if is_carrier_table x.table then with_carrier x.object (carriers.fires_row x.table x.row) f else f)
+    if is_port_table x.row.table then with_port x.object (ports.fires_row x.row.table x.row.row) (effect x f)
+    else (if is_carrier_table x.row.table then with_carrier x.object (carriers.fires_row x.row.table x.row.row) f else f)
 
 -- ---- creation
 
@@ -155,7 +156,7 @@ is_arrival_row row = (row == 3) || ((row == 4) || (row == 5))
 
 -- the firing creates a carrier
 abbrev pub creates : Firing → Floor → Bool
-creates x f = ((x.table == 7) && is_arrival_row x.row) && is_new (arrival_at (slice_get f.ports x.object)) f.carriers
+creates x f = ((x.row.table == 7) && is_arrival_row x.row.row) && is_new (arrival_at (slice_get f.ports x.object)) f.carriers
 
 -- the rows of the carrier that a firing creates, which is the last (this tool's profile, settling)
 abbrev pub creation_rows : Firing → Floor → List Firing
@@ -170,5 +171,5 @@ name_of (Some c) = c.name
 -- the name of the object of a firing: a port's, or a carrier's (this tool's profile, object names)
 abbrev pub object_name : Firing → Floor → List ℕ
 object_name x f =
-    if is_port_table x.table then port_name (x.object + 1)
-    else (if is_carrier_table x.table then name_of (slice_get f.carriers x.object) else [])
+    if is_port_table x.row.table then port_name (x.object + 1)
+    else (if is_carrier_table x.row.table then name_of (slice_get f.carriers x.object) else [])

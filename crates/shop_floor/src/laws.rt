@@ -2,7 +2,8 @@
 
 ghost use Rattle.std.specs.Prelude.{◌≡◌, ℕ, suc, ◌+◌, ◌==◌, ◌<◌, ◌≤◌, true, false, List, [], ◌∷◌, length, slice_get, Some};
 ghost use Rattle.std.specs.List.{AllByRecursion};
-ghost use Rattle.gem_tables.specs.Table.{Firing, firing, is_one_of};
+ghost use Rattle.gem_tables.specs.Table.{firing, is_one_of};
+ghost use Rattle.gem_tables.specs.declared.firing.Firing.{Firing};
 ghost use Rattle.load_port.specs.declared.port.Arrival.{Arrival};
 ghost use Rattle.load_port.specs.Ports.{most_ports};
 ghost use Rattle.carrier.specs.declared.action.CarrierAction.{CarrierAction};
@@ -32,13 +33,13 @@ pub fn a_ready_row_starts()
     ensures follow { (f : Floor) (x : Firing) → floor_least f ≡ Some x
         → AllByRecursion (λ (d : Firing). floor_starts d (floor_fired x f) ≡ true) (creation_rows x f) }
     ensures table { (f : Floor) (x : Firing)
-        → floor_least f ≡ Some x → is_one_of (4 ∷ 6 ∷ 7 ∷ 8 ∷ 9 ∷ []) x.table ≡ true }
+        → floor_least f ≡ Some x → is_one_of (4 ∷ 6 ∷ 7 ∷ 8 ∷ 9 ∷ []) x.row.table ≡ true }
 {}
 
 /// The port of a row that starts is there, so its place is below four.
 pub fn a_row_of_a_port_that_starts_has_its_port()
     ensures { (x : Firing) (f : Floor)
-        → floor_starts x f ≡ true → is_port_table x.table ≡ true → IsFloor f → x.object < most_ports }
+        → floor_starts x f ≡ true → is_port_table x.row.table ≡ true → IsFloor f → x.object < most_ports }
 {}
 
 /// What holds of the ports and the carriers holds at every moment: without a carrier at the beginning, behind each row that
@@ -55,9 +56,9 @@ pub fn the_floor_stays_valid()
 /// behind the port's carrier that is forgotten, and by Bind and CarrierNotification of one that isn't known.
 pub fn there_is_room_for_each_carrier()
     ensures few { (f : Floor) → IsFloor f → length f.carriers ≤ most_carriers }
-    ensures comes { (x : Firing) (f : Floor) → floor_starts x f ≡ true → creates x f ≡ true → (x.row == 4) ≡ false
+    ensures comes { (x : Firing) (f : Floor) → floor_starts x f ≡ true → creates x f ≡ true → (x.row.row == 4) ≡ false
         → IsFloor f → suc (length f.carriers) ≤ most_carriers }
-    ensures replaces { (x : Firing) (f : Floor) → floor_starts x f ≡ true → creates x f ≡ true → (x.row == 4) ≡ true
+    ensures replaces { (x : Firing) (f : Floor) → floor_starts x f ≡ true → creates x f ≡ true → (x.row.row == 4) ≡ true
         → IsFloor f → suc (length (forgets (owner (slice_get f.ports x.object)) f.carriers)) ≤ most_carriers }
     ensures bind { (a : CarrierAction) (f : Floor) → a.word ≡ Bind → carrier_code f a ≡ 0
         → is_known a.id f.carriers ≡ false → IsFloor f → suc (length f.carriers) ≤ most_carriers }

@@ -1,6 +1,6 @@
 -- What the states of a carrier are in its tables, and what a row does to them (after SEMI E87; this tool's profile).
 use Rattle.std.specs.Prelude.{ℕ, ◌==◌, Bool, true, false, if◌then◌else◌}
-use Rattle.gem_tables.specs.Table.{starts, after}
+use Rattle.gem_tables.specs.Old.{starts, after}
 use Rattle.carrier.specs.Tables.{id_table, id_not_read, id_waiting, id_verified, id_failed, map_table, map_not_read, map_waiting, map_verified, map_failed, accessing_table, not_accessed, in_access, carrier_complete, carrier_stopped}
 use Rattle.carrier.specs.declared.record.IdState.{IdState}
 use Rattle.carrier.specs.declared.record.IdState.TheVariants as id

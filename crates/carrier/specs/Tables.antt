@@ -1,6 +1,6 @@
 -- The tables of a carrier (after SEMI E87, carrier states; this tool's profile, tables 8 to 10).
 use Rattle.std.specs.Prelude.{ℕ, List, [], ◌∷◌}
-use Rattle.gem_tables.specs.Table.{Line, line}
+use Rattle.gem_tables.specs.Old.{Line, line}
 
 -- ---- carrier id
 --

@@ -1,7 +1,7 @@
 //! The states of a carrier (after SEMI E87, carrier states; tables 8 to 10).
 
 ghost use Rattle.std.specs.Prelude.{◌≡◌, false};
-ghost use Rattle.gem_tables.specs.Table.{starts};
+ghost use Rattle.gem_tables.specs.Old.{starts};
 ghost use Rattle.carrier.specs.Tables.{id_table, map_table, accessing_table};
 ghost use Rattle.carrier.specs.Carriers.{is_finished};
 ghost use Rattle.carrier.specs.Record.{id_number, map_number, access_number, id_fired, map_fired, access_fired, first_record, carrier_starts, carrier_fired, is_id_waiting, is_id_failed, is_map_waiting, is_map_verified, is_map_failed, is_not_accessed, is_done};

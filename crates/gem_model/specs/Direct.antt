@@ -6,10 +6,8 @@ use Rattle.gem_states.specs.declared.communication.CommTrigger.{CommTrigger}
 use Rattle.gem_states.specs.declared.communication.CommTrigger.TheVariants as comm
 use Rattle.gem_states.specs.declared.control.ControlTrigger.{ControlTrigger}
 use Rattle.gem_states.specs.declared.control.ControlTrigger.TheVariants as control
-use Rattle.gem_states.specs.Meaning.{comm_rows, control_rows}
+use Rattle.gem_states.specs.Triggers.{comm_rows, control_rows}
 use Rattle.gem_tables.specs.declared.firing.Firing.{Firing}
-use Rattle.gem_primaries.specs.declared.primary.GemMsg.{GemMsg}
-use Rattle.gem_primaries.specs.declared.primary.GemMsg.TheVariants as msg
 use Rattle.gem_replies.specs.Acknowledge.{accepts}
 use Rattle.tool_events.specs.declared.event.OperCmd.{OperCmd}
 use Rattle.tool_events.specs.declared.event.OperCmd.TheVariants as oper
@@ -19,8 +17,6 @@ use Rattle.transactions.specs.Endings.{first_of}
 use Rattle.shop_floor.specs.Requests.{at_port}
 use Rattle.gem_model.specs.State.{State}
 use Rattle.gem_model.specs.Fire.{of_comm, of_control, of_line}
-use Rattle.gem_model.specs.Remote.{RemoteCommand, GoLocal, ClearAlarm, accepted}
-use Rattle.gem_model.specs.Spooling.{unload_rows}
 
 -- the rows of table 1 that a trigger fires
 abbrev pub by_comm : CommTrigger → List Firing
@@ -57,21 +53,6 @@ operator_rows oper.Remote g = by_control control.Remote g
 operator_rows (oper.Service port on) g = at_port 4 (if on then 1 else 2) g.floor port.0
 operator_rows (oper.Access port auto) g = at_port 5 (if auto then 1 else 2) g.floor port.0
 operator_rows _ g = []
-
--- a remote command that is accepted: GOLOCAL is the operator's `local`, but that the switch stays
-abbrev pub command_rows : Option RemoteCommand → State → List Firing
-command_rows None g = []
-command_rows (Some GoLocal) g = by_control control.Local g
-command_rows (Some ClearAlarm) g = []
-
--- a primary of the host that is accepted
-abbrev pub message_rows : GemMsg → State → List Firing
-message_rows msg.S1F13 g = by_comm comm.HostS1F13
-message_rows msg.S1F15 g = by_control control.HostS1F15 g
-message_rows msg.S1F17 g = by_control control.HostS1F17 g
-message_rows (msg.S2F41 name parameters) g = command_rows (accepted g name parameters) g
-message_rows (msg.S6F23 rsdc) g = unload_rows rsdc
-message_rows _ g = []
 
 -- what the answer to the tool's S1F13 does: S1F14 with COMMACK 0 accepts, another S1F14 and S1F0 refuse
 abbrev pub establish_answer : ℕ → Option Data → CommTrigger

@@ -1,21 +1,25 @@
 -- What a row does when it fires: its state and its effect, and then the note that it makes. Direct and automatic rows
 -- fire alike (this tool's profile, transition tables; the printed rows stand in gem_tables).
-use Rattle.std.specs.Prelude.{ℕ, ◌+◌, ◌==◌, Bool, if◌then◌else◌, List, [], ◌∷◌, map}
-use Rattle.gem_states.specs.Meaning.{comm_number, comm_fired, control_number, control_fired}
+use Rattle.std.specs.Prelude.{ℕ, ◌+◌, ◌==◌, Bool, if◌then◌else◌, List, [], ◌∷◌, map, Option, Some, None}
+use Rattle.gem_tables.specs.Table.{Row, row_of, firing}
+use Rattle.gem_tables.specs.declared.firing.Firing.{Firing}
+use Rattle.gem_states.specs.declared.communication.Comm.{Comm}
+use Rattle.gem_states.specs.declared.control.Control.{Control}
+use Rattle.gem_states.specs.Communication.{CommWant, CommEffect, communication_table, comm_starts, comm_fired}
+use Rattle.gem_states.specs.Communication as comm
+use Rattle.gem_states.specs.Control.{ControlWant, ControlEffect, control_table, control_starts, control_fired}
+use Rattle.gem_states.specs.Control as control
 use Rattle.spool.specs.declared.note.Kind.{Kind}
 use Rattle.spool.specs.declared.note.Kind.TheVariants.{Event, Alarm}
 use Rattle.spool.specs.declared.note.Note.{Note}
 use Rattle.note_line.specs.Table3.{line_starts, row_effect}
-use Rattle.gem_tables.specs.Table.{firing, starts}
-use Rattle.gem_tables.specs.declared.firing.Firing.{Firing}
-use Rattle.gem_tables.specs.Communication.{communication_table}
-use Rattle.gem_tables.specs.Control.{control_table}
 use Rattle.transactions.specs.declared.transaction.What.{What}
 use Rattle.transactions.specs.declared.transaction.What.TheVariants as what
 use Rattle.transactions.specs.Table.{taken_out}
 use Rattle.transactions.specs.Endings.{first_of}
 use Rattle.gem_model.specs.State.{State, establish_timeout, is_online, can_ask, none_asked, around}
 use Rattle.gem_model.specs.Sending.{asks, identity_text}
+use Rattle.gem_model.specs.Values.{object_name}
 use Rattle.shop_floor.specs.Rows.{floor_starts, floor_fired, creation_rows}
 use Rattle.gem_model.specs.Noting.{noted}
 
@@ -29,23 +33,37 @@ forgets kind g = record g { transactions = taken_out (first_of kind g.transactio
 abbrev pub delay_end : ℕ → State → ℕ
 delay_end row g = if row == 5 then g.moment + establish_timeout g else 0
 
--- row 2: every open transaction fails; row 3: S1F13 is sent; row 6: the tool's S1F13 is forgotten
+-- what a row of table 1 does besides its state
+abbrev pub comm_does : CommEffect → State → State
+comm_does comm.no_more g = g
+comm_does comm.fails_every_transaction g = none_asked g
+comm_does comm.sends_s1f13 g = asks 1 13 what.Establish (identity_text g.config) g
+comm_does comm.forgets_s1f13 g = forgets what.Establish g
+
+abbrev pub comm_effect_of : Option (Row Comm CommWant CommEffect) → State → State
+comm_effect_of None g = g
+comm_effect_of (Some r) g = comm_does r.does g
+
 abbrev pub comm_effect : ℕ → State → State
-comm_effect row g =
-    if row == 2 then none_asked g
-    else (if row == 3 then asks 1 13 what.Establish (identity_text g.config) g
-    else (if row == 6 then forgets what.Establish g else g))
+comm_effect row g = comm_effect_of (row_of (communication_table 0) row) g
 
 abbrev pub fire_comm : ℕ → State → State
 fire_comm row g = comm_effect row (record g { comm = comm_fired row (delay_end row g) g.comm })
 
 -- ---- table 2, control
 
--- row 1: S1F1 is sent where the tool can ask; row 6: the tool's S1F1 is forgotten
+-- what a row of table 2 does besides its state
+abbrev pub control_does : ControlEffect → State → State
+control_does control.no_more g = g
+control_does control.sends_s1f1_where_it_can g = if can_ask g then asks 1 1 what.Attempt [] g else g
+control_does control.forgets_s1f1 g = forgets what.Attempt g
+
+abbrev pub control_effect_of : Option (Row Control ControlWant ControlEffect) → State → State
+control_effect_of None g = g
+control_effect_of (Some r) g = control_does r.does g
+
 abbrev pub control_effect : ℕ → State → State
-control_effect row g =
-    if row == 1 then (if can_ask g then asks 1 1 what.Attempt [] g else g)
-    else (if row == 6 then forgets what.Attempt g else g)
+control_effect row g = control_effect_of (row_of control_table row) g
 
 abbrev pub fire_control : ℕ → State → State
 fire_control row g = control_effect row (record g { control = control_fired row g.control })
@@ -83,8 +101,8 @@ fire_floor f g = record g { floor = floor_fired f g.floor }
 -- the row of a firing starts at the present state
 abbrev pub row_starts : State → Firing → Bool
 row_starts g f =
-    if f.row.table == 1 then starts communication_table f.row.row (comm_number g.comm)
-    else (if f.row.table == 2 then starts control_table f.row.row (control_number g.control)
+    if f.row.table == 1 then comm_starts f.row.row g.comm
+    else (if f.row.table == 2 then control_starts f.row.row g.control
     else (if f.row.table == 3 then line_starts (around g) f.row.row g.line else floor_starts f g.floor))
 
 -- the row's state and effect; all else stays
@@ -93,14 +111,23 @@ takes_effect g f =
     if f.row.table == 1 then fire_comm f.row.row g
     else (if f.row.table == 2 then fire_control f.row.row g else (if f.row.table == 3 then fire_line f.row.row g else fire_floor f g))
 
--- a row fires: its effect, and the note that it makes behind it
+-- a row fires: its effect, and the note that it makes behind it, with the name that its object had before it
 abbrev pub fire : State → Firing → State
-fire g f = noted (is_online g.control) f (takes_effect g f)
+fire g f = noted (is_online g.control) f (object_name g f) (takes_effect g f)
 
--- the rows of the object that a firing creates, which are fired straight after it: only a carrier is created so (this tool's
+-- the rows of the objects that a firing creates, which are fired straight after it: only a carrier is created so (this tool's
 -- profile, settling)
 abbrev pub creations : State → Firing → List Firing
 creations g f = creation_rows f g.floor
+
+-- the state after these firings
+abbrev pub fire_all : List Firing → State → State
+fire_all [] g = g
+fire_all (f ∷ fs) g = fire_all fs (fire g f)
+
+-- a row fires, by an input or by itself, and then the rows of the objects that it creates
+abbrev pub advanced : State → Firing → State
+advanced g f = fire_all (creations g f) (fire g f)
 
 -- ---- direct rows
 
@@ -108,7 +135,7 @@ creations g f = creation_rows f g.floor
 -- direct rows)
 abbrev pub fire_listed : List Firing → State → State
 fire_listed [] g = g
-fire_listed (f ∷ fs) g = fire_listed fs (if row_starts g f then fire g f else g)
+fire_listed (f ∷ fs) g = fire_listed fs (if row_starts g f then advanced g f else g)
 
 -- the rows that are listed in a state fire in it
 abbrev pub fires : (State → List Firing) → State → State

@@ -13,6 +13,8 @@ pub mod Measure
 pub mod Settle
 pub mod Valid
 pub mod Shop
+pub mod HostMessages
+pub mod Messages
 pub mod Verdict
 pub mod Act
 pub mod Due

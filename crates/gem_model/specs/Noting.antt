@@ -12,7 +12,7 @@ use Rattle.event_reports.specs.Alarms.{is_set, is_alarm_enabled, set_alarm, clea
 use Rattle.spool.specs.declared.note.Kind.TheVariants.{Event, Alarm}
 use Rattle.note_line.specs.Line as notes
 use Rattle.gem_model.specs.State.{State, is_disabled, is_online}
-use Rattle.gem_model.specs.Values.{Occasion, value_of, object_name}
+use Rattle.gem_model.specs.Values.{Occasion, value_of}
 
 -- ---- events
 
@@ -42,9 +42,9 @@ abbrev pub noted_as : ℕ → ℕ → List ℕ → Bool → State → State
 noted_as table row object online_before g =
     record g { line = line_behind (ceid_of table row) (record { object = object; row = 100 * table + row }) online_before g }
 
--- the note that a firing makes
-abbrev pub noted : Bool → Firing → State → State
-noted online_before f g = noted_as f.row.table f.row.row (object_name g f) online_before g
+-- the note that a firing makes at an object of this name
+abbrev pub noted : Bool → Firing → List ℕ → State → State
+noted online_before f object g = noted_as f.row.table f.row.row object online_before g
 
 -- ---- alarms
 

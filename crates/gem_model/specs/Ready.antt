@@ -5,7 +5,11 @@ use Rattle.gem_states.specs.declared.communication.Comm.{Comm}
 use Rattle.gem_states.specs.declared.communication.Comm.TheVariants as comm
 use Rattle.gem_states.specs.declared.control.Control.{Control}
 use Rattle.gem_states.specs.declared.control.Control.TheVariants as control
-use Rattle.gem_tables.specs.Table.{firing}
+use Rattle.gem_tables.specs.Table.{firing, first_itself}
+use Rattle.gem_states.specs.Communication.{CommWant, communication_table, comm_number}
+use Rattle.gem_states.specs.Communication as comm_table
+use Rattle.gem_states.specs.Control.{ControlWant, control_table, control_number}
+use Rattle.gem_states.specs.Control as control_table_words
 use Rattle.gem_tables.specs.declared.firing.Firing.{Firing}
 use Rattle.note_line.specs.Table3 as line
 use Rattle.shop_floor.specs.Ready.{floor_least}
@@ -21,13 +25,21 @@ abbrev pub is_attempt : Control → Bool
 is_attempt control.Attempt = true
 is_attempt _ = false
 
--- table 1, row 3: from WAIT DELAY, where the link is selected and the delay is over
-abbrev pub ready_comm : State → Option Firing
-ready_comm g = if delay_is_over g.moment g.comm && is_selected g then Some (firing 1 0 3) else None
+-- what a row of table 1 wants besides its state
+abbrev pub comm_finds : State → CommWant → Bool
+comm_finds g comm_table.nothing_more = true
+comm_finds g comm_table.selected_and_delay_over = delay_is_over g.moment g.comm && is_selected g
 
--- table 2, row 2: from ATTEMPT ON-LINE, where the tool cannot ask
+abbrev pub ready_comm : State → Option Firing
+ready_comm g = option_map (firing 1 0) (first_itself comm_number (comm_finds g) (communication_table 0) g.comm)
+
+-- what a row of table 2 wants besides its state
+abbrev pub control_finds : State → ControlWant → Bool
+control_finds g control_table_words.nothing_more = true
+control_finds g control_table_words.cannot_ask = not (can_ask g)
+
 abbrev pub ready_control : State → Option Firing
-ready_control g = if is_attempt g.control && not (can_ask g) then Some (firing 2 0 2) else None
+ready_control g = option_map (firing 2 0) (first_itself control_number (control_finds g) control_table g.control)
 
 -- table 3: the rows of the line of notes, by what lies around it
 abbrev pub ready_line : State → Option Firing

@@ -11,10 +11,7 @@ use Rattle.hsms_link.specs.declared.table.LinkAct.{LinkAct}
 use Rattle.hsms_link.specs.declared.table.LinkAct.TheVariants as link
 use Rattle.hsms_link.specs.LinkTable.{link_act}
 use Rattle.secs_items.specs.Data.{Data}
-use Rattle.secs_items.specs.Plain.{plain}
-use Rattle.gem_primaries.specs.declared.primary.GemMsg.{GemMsg}
 use Rattle.gem_primaries.specs.declared.primary.GemMsg.TheVariants as msg
-use Rattle.gem_replies.specs.Replies.{reply_body}
 use Rattle.event_reports.specs.Alarms.{is_alarm, is_set, set_alarm, clear_alarm}
 use Rattle.shop_floor.specs.Requests.{at_port, removal}
 use Rattle.tool_events.specs.declared.event.Signal.{Signal}
@@ -33,15 +30,15 @@ use Rattle.transactions.specs.Endings.{answered}
 use Rattle.gem_model.specs.State.{State, is_up, is_session_up, is_online, without_session, raised}
 use Rattle.gem_model.specs.Sending.{data_header, sends_stream9}
 use Rattle.gem_model.specs.Noting.{is_event_reported, is_alarm_reported}
-use Rattle.gem_model.specs.Fire.{row_starts, takes_effect, fire}
-use Rattle.gem_model.specs.Direct.{message_rows, answer_rows, session_end_rows, timeout_rows, operator_rows}
-use Rattle.gem_model.specs.Remote.{RemoteCommand, ClearAlarm, Parameter, accepted, alarm_named}
+use Rattle.gem_model.specs.Fire.{row_starts, takes_effect, fire, creations, advanced}
+use Rattle.gem_model.specs.Direct.{answer_rows, session_end_rows, timeout_rows, operator_rows}
+use Rattle.gem_model.specs.Remote.{Decision, clears, decided}
+use Rattle.gem_model.specs.HostMessages.{HostMessage, Gem, reply_text}
+use Rattle.gem_model.specs.Messages.{Done, done}
 use Rattle.gem_model.specs.Settle.{settling}
-use Rattle.msgs_300.specs.Primaries.{Message}
-use Rattle.gem_model.specs.Shop.{shop_written, shop_rows}
-use Rattle.gem_model.specs.Verdict.{Verdict, Answers, Taken, ShopTaken, verdict, header_of, item_of, stream_of, function_of, reply_to}
-use Rattle.gem_model.specs.Act.{written, replied, shop_replied, note_answered}
-use Rattle.gem_model.specs.Due.{Due, EndOfSession, Linktest, Timeout, dues, is_due, done}
+use Rattle.gem_model.specs.Verdict.{Verdict, Answers, Taken, verdict, header_of, item_of, stream_of, function_of}
+use Rattle.gem_model.specs.Act.{replied, note_answered}
+use Rattle.gem_model.specs.Due.{Due, EndOfSession, Linktest, Timeout, dues, is_due, due_done}
 use Rattle.gem_model.specs.Step.{Outcome, linked, can_clear, switched, acts}
 use Rattle.gem_model.specs.Run.{entry_after}
 
@@ -65,10 +62,14 @@ abbrev pub by_firings : List Firing → State → List Reported
 by_firings [] g = []
 by_firings (f ∷ fs) g = by_firing g f ++ by_firings fs (fire g f)
 
+-- a row fires, and then the rows of the objects that it creates
+abbrev pub by_advance : State → Firing → List Reported
+by_advance g f = by_firing g f ++ by_firings (creations g f) (fire g f)
+
 -- the listed rows fire; one that does not start is left out
 abbrev pub by_listed : List Firing → State → List Reported
 by_listed [] g = []
-by_listed (f ∷ fs) g = if row_starts g f then by_firing g f ++ by_listed fs (fire g f) else by_listed fs g
+by_listed (f ∷ fs) g = if row_starts g f then by_advance g f ++ by_listed fs (advanced g f) else by_listed fs g
 
 -- the rows that are listed in a state fire in it
 abbrev pub by_rows : (State → List Firing) → State → List Reported
@@ -110,31 +111,23 @@ by_signal _ g = []
 
 -- ---- data messages
 
-abbrev pub by_clearing_named : Option ℕ → State → List Reported
-by_clearing_named None g = []
-by_clearing_named (Some alid) g = by_clearing alid g
+-- a remote command, as it was decided
+abbrev pub by_decision : Decision → State → List Reported
+by_decision (clears alid) g = by_clearing alid g
+by_decision _ g = []
 
--- a remote command writes
-abbrev pub by_command : Option RemoteCommand → List Parameter → State → List Reported
-by_command (Some ClearAlarm) parameters g = by_clearing_named (alarm_named parameters) g
-by_command _ parameters g = []
+-- what a message writes: a remote command may clear an alarm
+abbrev pub by_message : HostMessage → State → List Reported
+by_message (Gem (msg.S2F41 name parameters)) g = by_decision (decided g name parameters) g
+by_message _ g = []
 
--- a message writes
-abbrev pub by_written : GemMsg → State → List Reported
-by_written (msg.S2F41 name parameters) g = by_command (accepted g name parameters) parameters g
-by_written _ g = []
-
--- a message that is taken, and answered, writes, and then its rows fire
-abbrev pub by_answered : GemMsg → State → List Reported
-by_answered m g = by_written m g ++ by_rows (message_rows m) (written m g)
+-- the rows of a message fire, behind what it writes and its reply
+abbrev pub by_message_rows : Header → Done → List Reported
+by_message_rows h d = by_listed d.rows (replied h (function_of h + 1) (reply_text d.reply) d.after)
 
 -- a message is taken
-abbrev pub by_taken : Header → GemMsg → State → List Reported
-by_taken h m g = by_answered m (replied h (function_of h + 1) (plain (reply_body (reply_to g m))) g)
-
--- a message of carriers and ports is taken
-abbrev pub by_shop_taken : Header → Message → State → List Reported
-by_shop_taken h m g = by_listed (shop_rows m (shop_replied h m g)) (shop_written m (shop_replied h m g))
+abbrev pub by_taken : Header → HostMessage → State → List Reported
+by_taken h m g = by_message m g ++ by_message_rows h (done g m)
 
 -- a message closes a transaction of the tool, if one is open
 abbrev pub by_closing : Header → Option Data → Option Open → State → List Reported
@@ -146,7 +139,6 @@ by_closing h item (Some one) g =
 abbrev pub by_data : Header → Option Data → Verdict → State → List Reported
 by_data h item Answers g = by_closing h item (answered h.system (stream_of h) (function_of h) g.transactions.opened) g
 by_data h item (Taken m) g = by_taken h m g
-by_data h item (ShopTaken m) g = by_shop_taken h m g
 by_data h item _ g = []
 
 -- ---- the rest
@@ -183,7 +175,7 @@ by_due (Timeout one) g =
 -- all that is due is done, in order
 abbrev pub by_dues : List Due → State → List Reported
 by_dues [] g = []
-by_dues (due ∷ dues) g = by_due due g ++ by_dues dues (done due g)
+by_dues (due ∷ dues) g = by_due due g ++ by_dues dues (due_done due g)
 
 -- ---- a history
 

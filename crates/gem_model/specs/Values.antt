@@ -1,7 +1,8 @@
 -- The values of variables: what S1F3, S2F13 and reports give (SEMI E5, S1F3 and S2F13; this tool's profile, variables).
 use Rattle.std.specs.Prelude.{ℕ, ◌+◌, ◌==◌, if◌then◌else◌, List, [], ◌∷◌, ◌++◌, length, map, Option, Some, None, option_map, unwrap_or}
 use Rattle.gem_ids.specs.Civil.{time_digits}
-use Rattle.gem_states.specs.Meaning.{comm_number, control_number}
+use Rattle.gem_states.specs.Communication.{comm_number}
+use Rattle.gem_states.specs.Control.{control_number}
 use Rattle.gem_tables.specs.declared.firing.Firing.{Firing}
 use Rattle.secs_items.specs.Data.{Data, ascii, u1, u2, u4}
 use Rattle.data_variables.specs.Bodies.{value_item}

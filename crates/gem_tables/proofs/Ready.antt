@@ -1,7 +1,8 @@
 -- Where the least ready row of a table comes from.
 use Rattle.std.proofs.Common.{◌≡◌, ℕ, zero, suc, ◌+◌, List, [], ◌∷◌, Option, Some, None, option_map, slice_get, refl, sym, ◌∙◌, ap, arith}
 use Rattle.std.specs.Option.{option_or}
-use Rattle.gem_tables.specs.Table.{firing, first_ready}
+use Rattle.gem_tables.specs.Table.{firing}
+use Rattle.gem_tables.specs.Old.{first_ready}
 use Rattle.gem_tables.specs.declared.firing.Firing.{Firing}
 
 module _ {O : Type 0} (table : ℕ) (row_at : O → Option ℕ) where

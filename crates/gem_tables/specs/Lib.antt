@@ -1,3 +1,3 @@
 pub mod Table
-pub mod Communication
-pub mod Control
+pub mod Machine
+pub mod Old

@@ -1,6 +1,6 @@
 -- What the states of a load port are in its tables, and what a row does to them (after SEMI E87; this tool's profile).
 use Rattle.std.specs.Prelude.{ℕ, ◌==◌, Bool, true, false, if◌then◌else◌}
-use Rattle.gem_tables.specs.Table.{starts, after}
+use Rattle.gem_tables.specs.Old.{starts, after}
 use Rattle.load_port.specs.Tables.{transfer_table, out_of_service, transfer_blocked, ready_to_load, ready_to_unload, access_table, manual, auto, reservation_table, not_reserved, reserved, association_table, not_associated, associated}
 use Rattle.load_port.specs.declared.record.Transfer.{Transfer}
 use Rattle.load_port.specs.declared.record.Transfer.TheVariants.{OutOfService, TransferBlocked, ReadyToLoad, ReadyToUnload}

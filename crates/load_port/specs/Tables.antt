@@ -1,6 +1,6 @@
 -- The tables of a load port (after SEMI E87, load port states; this tool's profile, tables 4 to 7).
 use Rattle.std.specs.Prelude.{ℕ, List, [], ◌∷◌}
-use Rattle.gem_tables.specs.Table.{Line, line}
+use Rattle.gem_tables.specs.Old.{Line, line}
 
 -- ---- transfer
 --

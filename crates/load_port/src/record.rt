@@ -1,7 +1,7 @@
 //! The states of a load port (after SEMI E87, load port states; tables 4 to 7).
 
 ghost use Rattle.std.specs.Prelude.{◌≡◌, false};
-ghost use Rattle.gem_tables.specs.Table.{starts};
+ghost use Rattle.gem_tables.specs.Old.{starts};
 ghost use Rattle.load_port.specs.Tables.{transfer_table, access_table, reservation_table, association_table};
 ghost use Rattle.load_port.specs.Record.{transfer_number, access_number, reservation_number, association_number, transfer_fired, access_fired, reservation_fired, association_fired, first_record, port_starts, port_fired, is_occupied, is_in_service, is_reserved};
 

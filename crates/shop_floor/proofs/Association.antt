@@ -1,7 +1,7 @@
 -- What table 7 says of a port where a row of it starts, and behind it.
 use Rattle.std.proofs.Common.{◌≡◌, ℕ, ◌==◌, Bool, true, false, ◌||◌, List, Option, Some, None, is_some, refl, sym, ap, ◌∙◌, arith}
 use Rattle.std.proofs.lemmas.Bool.Decides.{nat_tests}
-use Rattle.gem_tables.specs.Table.{starts}
+use Rattle.gem_tables.specs.Old.{starts}
 use Rattle.load_port.specs.Tables.{association_table}
 use Rattle.load_port.specs.declared.record.Association.{Association}
 use Rattle.load_port.specs.declared.record.Association.TheVariants.{NotAssociated, Associated}

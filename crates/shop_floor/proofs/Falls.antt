@@ -1,7 +1,8 @@
 -- Each row that fires by itself lets what is left fall, by more than the rows count of the carrier that it may create.
 use Rattle.std.proofs.Common.{◌≡◌, ℕ, ◌+◌, ◌<◌, ◌≤◌, Bool, true, false, List, length, Option, Some, None, is_some, slice_get, refl, sym, ap, subst, arith}
 use Rattle.std.specs.Prelude.{if◌then◌else◌}
-use Rattle.gem_tables.specs.Table.{firing, starts, after}
+use Rattle.gem_tables.specs.Table.{firing}
+use Rattle.gem_tables.specs.Old.{starts, after}
 use Rattle.gem_tables.specs.declared.firing.Firing.{Firing}
 use Rattle.load_port.specs.declared.port.Port.{Port}
 use Rattle.load_port.specs.declared.port.Arrival.{Arrival}

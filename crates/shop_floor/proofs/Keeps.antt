@@ -4,7 +4,8 @@ use Rattle.std.specs.List.{AllByRecursion}
 use Rattle.std.proofs.lemmas.Bool.{and_parts, or_cases, or_parts, or_from, both_ways, not-true, cond_both}
 use Rattle.std.proofs.lemmas.Bool.Decides.{nat_tests}
 use Rattle.std.proofs.lemmas.Slice.Eq.{bytes_eq-Decides}
-use Rattle.gem_tables.specs.Table.{firing, starts, update_at}
+use Rattle.gem_tables.specs.Table.{firing, update_at}
+use Rattle.gem_tables.specs.Old.{starts}
 use Rattle.gem_tables.specs.declared.firing.Firing.{Firing}
 use Rattle.gem_tables.proofs.Falling.{length_update}
 use Rattle.load_port.specs.declared.record.PortRecord.{PortRecord}

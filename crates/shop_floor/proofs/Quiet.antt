@@ -1,7 +1,7 @@
 -- No row is ready where the tool begins.
 use Rattle.std.proofs.Common.{◌≡◌, ℕ, zero, suc, ◌+◌, [], Option, None, refl, ◌∙◌, ap}
 use Rattle.std.specs.Option.{option_or}
-use Rattle.gem_tables.specs.Table.{first_ready}
+use Rattle.gem_tables.specs.Old.{first_ready}
 use Rattle.gem_tables.specs.declared.firing.Firing.{Firing}
 use Rattle.load_port.specs.Ports.{first_ports}
 use Rattle.shop_floor.specs.Floor.{opening}

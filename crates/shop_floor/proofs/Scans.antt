@@ -1,7 +1,8 @@
 -- What a scan over the places of a list finds.
 use Rattle.std.proofs.Common.{◌≡◌, ℕ, zero, suc, ◌+◌, ◌≤◌, Bool, true, false, List, [], ◌∷◌, length, drop, find, Option, Some, None, slice_get, refl, sym, ap, ◌∙◌, add-one, arith}
 use Rattle.std.specs.List.{list_any}
-use Rattle.gem_tables.specs.Table.{firing, first_ready}
+use Rattle.gem_tables.specs.Table.{firing}
+use Rattle.gem_tables.specs.Old.{first_ready}
 use Rattle.load_port.specs.declared.port.Port.{Port}
 use Rattle.shop_floor.specs.Ready.{numbered}
 

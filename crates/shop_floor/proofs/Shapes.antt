@@ -3,7 +3,8 @@ use Rattle.std.proofs.Common.{◌≡◌, ℕ, ◌+◌, ◌==◌, Bool, true, fal
 use Rattle.std.specs.Prelude.{if◌then◌else◌}
 use Rattle.std.specs.Option.{option_or}
 use Rattle.std.proofs.lemmas.Bool.{true≢false}
-use Rattle.gem_tables.specs.Table.{firing, is_one_of, first_ready}
+use Rattle.gem_tables.specs.Table.{firing, is_one_of}
+use Rattle.gem_tables.specs.Old.{first_ready}
 use Rattle.gem_tables.specs.declared.firing.Firing.{Firing}
 use Rattle.gem_tables.proofs.Ready.{ready_cases}
 use Rattle.load_port.specs.declared.port.Port.{Port}

@@ -3,7 +3,8 @@
 use Rattle.std.specs.Prelude.{ℕ, ◌+◌, Bool, not, ◌&&◌, List, [], ◌∷◌, Option, is_some}
 use Rattle.std.specs.List.{list_any}
 use Rattle.std.specs.Option.{option_or}
-use Rattle.gem_tables.specs.Table.{choose, first_ready}
+use Rattle.gem_tables.specs.Table.{choose}
+use Rattle.gem_tables.specs.Old.{first_ready}
 use Rattle.gem_tables.specs.declared.firing.Firing.{Firing}
 use Rattle.load_port.specs.declared.port.Port.{Port}
 use Rattle.load_port.specs.Record.{is_blocked, is_occupied, is_reserved, is_associated}

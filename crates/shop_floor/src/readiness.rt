@@ -2,7 +2,7 @@
 
 ghost use Rattle.std.specs.Prelude.{◌≡◌, ◌+◌, ◌&&◌, slice_get, option_map};
 ghost use Rattle.carrier.specs.Record.{is_id_verified, is_map_not_read};
-ghost use Rattle.gem_tables.specs.Table.{first_ready};
+ghost use Rattle.gem_tables.specs.Old.{first_ready};
 ghost use Rattle.shop_floor.specs.Rows.{may_associate, port_starts_at, carrier_starts_at};
 ghost use Rattle.shop_floor.specs.Ready.{numbered, transfer_row, reservation_row, association_row, id_row, map_row};
 ghost use Rattle.shop_floor.specs.Firings.{firing_of, port_row, carrier_row};

@@ -1,5 +1,5 @@
 use Rattle.std.proofs.Common.{◌≡◌, drop}
-use Rattle.gem_tables.specs.Table.{first_ready}
+use Rattle.gem_tables.specs.Old.{first_ready}
 use Rattle.shop_floor.specs.Firings.{port_row}
 use Rattle.shop_floor.specs.Ready.{numbered}
 use Rattle.shop_floor.proofs.readiness.ready_port.Given as goal

@@ -59,7 +59,7 @@ pub record Each (P : State → Type 0) : Type 1 where
 
 module _ (P : State → Type 0) (each : EachInner P) where
   each_listed : (fs : List Firing) → Are IsListed fs → (g : State) → P g → P (fire_listed fs g)
-  each_listed fs listed g at = listed_keeps P IsListed each.event each.row fs listed g at
+  each_listed fs listed g at = listed_keeps P IsListed each.event each.row each.created fs listed g at
 
   each_note : (g : State) (w : What) → P g → P (note_answered w g)
   each_note g what.Establish at = at

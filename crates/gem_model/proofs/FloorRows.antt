@@ -17,12 +17,15 @@ use Rattle.carrier.specs.Carriers.{is_known, carrier_named, place_of}
 use Rattle.load_port.specs.declared.action.PortAction.{PortAction}
 use Rattle.load_port.specs.declared.action.PortAction.TheVariants as ask
 use Rattle.msgs_300.specs.Primaries.{Message, S3F17, S3F25, S3F27}
-use Rattle.gem_model.specs.Shop.{carrier_action, port_word, carrier_caack, port_caack, carrier_done_rows, port_done_rows, shop_rows}
+use Rattle.msgs_300.specs.declared.reply.ShopReply.{ShopReply}
+use Rattle.msgs_300.specs.declared.reply.ShopReply.TheVariants as reply
+use Rattle.gem_model.specs.Shop.{carrier_action, port_word, carrier_caack, port_caack}
+use Rattle.gem_model.specs.Messages.{carrier_done, port_done, shop_done}
 use Rattle.shop_floor.proofs.Shapes.{not_table_1, not_table_2, not_table_3}
 use Rattle.gem_model.specs.State.{State, is_online}
 use Rattle.gem_model.specs.Values.{Occasion, object_name}
 use Rattle.gem_model.specs.Noting.{line_behind}
-use Rattle.gem_model.specs.Fire.{fire, fire_floor, takes_effect, creations}
+use Rattle.gem_model.specs.Fire.{fire, fire_all, advanced, fire_floor, takes_effect, creations}
 use Rattle.gem_model.proofs.Tests.{either_way}
 
 -- a row of tables 4 to 10
@@ -121,22 +124,26 @@ action_are (ask.CancelReserve number) f = at_port_are 6 2 f number (is_6 (number
 action_are (ask.Access mode numbers) f = ports_are (mode_row mode) f (or_all numbers f)
 action_are ask.Unknown f = tt
 
-carrier_are : (a : CarrierAction) (g : State) → AreFloorRows (carrier_done_rows a g)
-carrier_are a g = either_way AreFloorRows (carrier_caack a g == 0) (carrier_rows a g.floor) [] (word_are a.word a g.floor) tt
+pub carrier_are : (a : CarrierAction) (g : State) (code : ℕ) → AreFloorRows (carrier_done g a code).rows
+carrier_are a g code = either_way AreFloorRows (code == 0) (carrier_rows a g.floor) [] (word_are a.word a g.floor) tt
 
-port_are : (a : PortAction) (g : State) → AreFloorRows (port_done_rows a g)
-port_are a g = either_way AreFloorRows (port_caack a g == 0) (port_rows a g.floor) [] (action_are a g.floor) tt
+pub port_are : (a : PortAction) (g : State) (r : ShopReply) (code : ℕ) → AreFloorRows (port_done g a r code).rows
+port_are a g r code = either_way AreFloorRows (code == 0) (port_rows a g.floor) [] (action_are a g.floor) tt
 
-pub shop_are : (m : Message) (g : State) → AreFloorRows (shop_rows m g)
-shop_are (S3F17 dataid action carrier number attributes) g = carrier_are (carrier_action action carrier number attributes) g
-shop_are (S3F25 action number value) g = port_are (port_word action number) g
-shop_are (S3F27 mode numbers) g = port_are (ask.Access mode numbers) g
+pub shop_are : (m : Message) (g : State) → AreFloorRows (shop_done g m).rows
+shop_are (S3F17 dataid action carrier number attributes) g = carrier_are (carrier_action action carrier number attributes) g (carrier_caack (carrier_action action carrier number attributes) g)
+shop_are (S3F25 action number value) g = port_are (port_word action number) g (reply.S3F26 (port_caack (port_word action number) g)) (port_caack (port_word action number) g)
+shop_are (S3F27 mode numbers) g = port_are (ask.Access mode numbers) g (reply.S3F28 (port_caack (ask.Access mode numbers) g)) (port_caack (ask.Access mode numbers) g)
 
 -- ---- what a firing creates
 
 -- a firing creates nothing, or one carrier, whose creation row follows
 pub created_case : (P : List Firing → Type 0) (g : State) (f : Firing) → P [] → ((n : ℕ) → P (firing 8 n 1 ∷ [])) → P (creations g f)
 created_case P g f none one = either_way P (creates f g.floor) (firing 8 _ 1 ∷ []) [] (one _) none
+
+-- what holds of a state behind a firing holds behind what that creates
+pub advanced_keeps : (P : State → Type 0) → ((g : State) (n : ℕ) → P g → P (fire g (firing 8 n 1))) → (g : State) (f : Firing) → P (fire g f) → P (advanced g f)
+advanced_keeps P creates g f here = created_case (λ (cs : List Firing). P (fire_all cs (fire g f))) g f here (λ n. creates (fire g f) n here)
 
 -- ---- what the floor leaves alone
 
@@ -148,5 +155,5 @@ pub record LeftAlone (P : State → Type 0) : Type 1 where
 pub alone_fire : (P : State → Type 0) → LeftAlone P → (g : State) (f : Firing) → IsFloorRow f → P g → P (fire g f)
 alone_fire P alone g f is here =
     let h : State = takes_effect g f in
-    alone.noted h (ceid_of f.row.table f.row.row) (record { object = object_name h f; row = 100 * f.row.table + f.row.row }) (is_online g.control)
+    alone.noted h (ceid_of f.row.table f.row.row) (record { object = object_name g f; row = 100 * f.row.table + f.row.row }) (is_online g.control)
     (subst P (sym (effect_is g f is)) (alone.floor g _ here))

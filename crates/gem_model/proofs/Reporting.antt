@@ -7,12 +7,10 @@ use Rattle.hsms_link.specs.declared.table.LinkAct.{LinkAct}
 use Rattle.hsms_link.specs.declared.table.LinkAct.TheVariants as link
 use Rattle.hsms_link.specs.LinkTable.{link_act}
 use Rattle.secs_items.specs.Data.{Data}
-use Rattle.secs_items.specs.Plain.{plain}
 use Rattle.gem_primaries.specs.declared.primary.GemMsg.{GemMsg}
 use Rattle.gem_primaries.specs.declared.primary.SpooledStream.{SpooledStream}
 use Rattle.gem_model.specs.Spooling.{rspack, kinds_of, spools}
 use Rattle.gem_primaries.specs.declared.primary.GemMsg.TheVariants as msg
-use Rattle.gem_replies.specs.Replies.{reply_body}
 use Rattle.gem_ids.specs.Civil.{moment_in}
 use Rattle.gem_tables.specs.declared.firing.Firing.{Firing}
 use Rattle.gem_rows.specs.Events.{ceid_of}
@@ -21,9 +19,8 @@ use Rattle.shop_floor.specs.Requests.{at_port, removal}
 use Rattle.tool_events.specs.declared.event.Signal.{Signal}
 use Rattle.tool_events.specs.declared.event.Signal.TheVariants as equipment
 use Rattle.msgs_300.specs.Primaries.{Message, S3F17, S3F25, S3F27}
-use Rattle.msgs_300.specs.Replies.{shop_reply_body}
 use Rattle.shop_floor.specs.Requests.{carrier_written}
-use Rattle.gem_model.specs.Shop.{carrier_action, carrier_caack, shop_reply_to, shop_written, shop_rows}
+use Rattle.gem_model.specs.Shop.{carrier_action, carrier_caack}
 use Rattle.gem_model.specs.Signals.{lacks_port, port_row_starts, port_alarm, with_arrival, placed, removed, signalled, is_ready_to_unload}
 use Rattle.spool.specs.declared.note.Kind.TheVariants.{Event, Alarm}
 use Rattle.spool.specs.Spool.{has_note}
@@ -45,17 +42,19 @@ use Rattle.gem_model.specs.State.{State, opening, is_up, is_session_up, is_onlin
 use Rattle.gem_model.specs.Sending.{sends_stream9, data_header}
 use Rattle.gem_model.specs.Values.{Occasion, object_name}
 use Rattle.gem_model.specs.Noting.{sets_alarm, line_behind, line_with_event, is_event_reported, is_alarm_reported, line_with_alarm, clears_alarm}
-use Rattle.gem_model.specs.Fire.{fire, fires, fire_listed, fire_comm, fire_control, fire_line, fire_floor, takes_effect, row_starts}
-use Rattle.gem_model.specs.Remote.{RemoteCommand, GoLocal, ClearAlarm, Parameter, accepted, alarm_named}
-use Rattle.gem_model.specs.Direct.{operator_rows, message_rows, answer_rows, timeout_rows, session_end_rows}
-use Rattle.gem_model.specs.Verdict.{Verdict, Discarded, Stream9, Aborted, Answers, Taken, ShopTaken, verdict, header_of, item_of, wants_reply, function_of, reply_to}
-use Rattle.gem_model.specs.Act.{written, clock_set, clears_named, command_written, note_answered, replied, taken, shop_replied, shop_taken, closed_by, data_act, session_ended}
-use Rattle.gem_model.specs.Due.{Due, EndOfSession, Linktest, Timeout, dues, is_due, done, all_done}
-use Rattle.gem_model.specs.Settle.{settling, settled, fire_all}
+use Rattle.gem_model.specs.Fire.{fire, fire_all, advanced, creations, fires, fire_listed, fire_comm, fire_control, fire_line, fire_floor, takes_effect, row_starts}
+use Rattle.gem_model.specs.Remote.{Decision, refused, goes_local, clears, decided}
+use Rattle.gem_model.specs.HostMessages.{HostMessage, Gem, Shop, reply_text}
+use Rattle.gem_model.specs.Messages.{done, gem_done, shop_done, remote_done, clock_set}
+use Rattle.gem_model.specs.Direct.{operator_rows, answer_rows, timeout_rows, session_end_rows}
+use Rattle.gem_model.specs.Verdict.{Verdict, Discarded, Stream9, Aborted, Answers, Taken, verdict, header_of, item_of, wants_reply, function_of}
+use Rattle.gem_model.specs.Act.{note_answered, replied, taken, closed_by, data_act, session_ended}
+use Rattle.gem_model.specs.Due.{Due, EndOfSession, Linktest, Timeout, dues, is_due, due_done, all_done}
+use Rattle.gem_model.specs.Settle.{settling, settled}
 use Rattle.gem_model.specs.Step as steps
 use Rattle.gem_model.specs.Step.{Outcome, answered, ends, ended_by, step, step_from, acts, linked, hosted, can_clear, operated, switched, quits, settles}
 use Rattle.gem_model.specs.Run.{Run, entry_after}
-use Rattle.gem_model.specs.Reported.{Reported, by_event, by_firing, by_firings, by_listed, by_rows, by_settling, by_clearing, by_setting, by_placed, by_removed, by_signal, by_clearing_named, by_command, by_written, by_answered, by_taken, by_shop_taken, by_closing, by_data, by_session_end, by_host, by_switched, by_operator, by_due, by_dues, by_act, by_settling_behind, by_step_from, by_step, reported_in}
+use Rattle.gem_model.specs.Reported.{Reported, by_event, by_firing, by_firings, by_advance, by_listed, by_rows, by_settling, by_clearing, by_setting, by_placed, by_removed, by_signal, by_decision, by_message, by_message_rows, by_taken, by_closing, by_data, by_session_end, by_host, by_switched, by_operator, by_due, by_dues, by_act, by_settling_behind, by_step_from, by_step, reported_in}
 use Rattle.gem_model.proofs.Tests.{went, either_way, none_some}
 use Rattle.gem_model.proofs.Lined.{SameLine, line_comm, line_control}
 use Rattle.gem_model.proofs.Runs.{after-step}
@@ -114,17 +113,20 @@ tells_fire : (g : State) (f : Firing) → Tells g (by_firing g f) (fire g f)
 tells_fire g f =
     let event = ceid_of f.row.table f.row.row in
     let h : State = takes_effect g f in
-    let told : told_in (fire g f) ≡ told_in h ++ by_firing g f = tells_event event (record { object = object_name h f; row = 100 * f.row.table + f.row.row }) (is_online g.control) h in
+    let told : told_in (fire g f) ≡ told_in h ++ by_firing g f = tells_event event (record { object = object_name g f; row = 100 * f.row.table + f.row.row }) (is_online g.control) h in
     told ∙ ap (λ (xs : List Reported). xs ++ by_firing g f) (told_effect g f)
 
 tells_firings : (fs : List Firing) (g : State) → Tells g (by_firings fs g) (fire_all fs g)
 tells_firings [] g = tells_at g
 tells_firings (f ∷ fs) g = tells_then g (fire g f) (fire_all fs (fire g f)) _ _ (tells_fire g f) (tells_firings fs (fire g f))
 
+tells_advance : (g : State) (f : Firing) → Tells g (by_advance g f) (advanced g f)
+tells_advance g f = tells_then g (fire g f) (advanced g f) (by_firing g f) (by_firings (creations g f) (fire g f)) (tells_fire g f) (tells_firings (creations g f) (fire g f))
+
 tells_listed : (fs : List Firing) (g : State) → Tells g (by_listed fs g) (fire_listed fs g)
 tells_listed [] g = tells_at g
-tells_listed (f ∷ fs) g = of (row_starts g f) (tells_then g (fire g f) (fire_listed fs (fire g f)) _ _ (tells_fire g f) (tells_listed fs (fire g f))) (tells_listed fs g) where
-  of : (b : Bool) → Tells g (by_firing g f ++ by_listed fs (fire g f)) (fire_listed fs (fire g f)) → Tells g (by_listed fs g) (fire_listed fs g) → Tells g (if b then by_firing g f ++ by_listed fs (fire g f) else by_listed fs g) (fire_listed fs (if b then fire g f else g))
+tells_listed (f ∷ fs) g = of (row_starts g f) (tells_then g (advanced g f) (fire_listed fs (advanced g f)) (by_advance g f) (by_listed fs (advanced g f)) (tells_advance g f) (tells_listed fs (advanced g f))) (tells_listed fs g) where
+  of : (b : Bool) → Tells g (by_advance g f ++ by_listed fs (advanced g f)) (fire_listed fs (advanced g f)) → Tells g (by_listed fs g) (fire_listed fs g) → Tells g (if b then by_advance g f ++ by_listed fs (advanced g f) else by_listed fs g) (fire_listed fs (if b then advanced g f else g))
   of true fires waits = fires
   of false fires waits = waits
 
@@ -181,14 +183,10 @@ tells_clock : (g : State) (shown : Option ℕ) → Tells g [] (clock_set shown g
 tells_clock g None = tells_at g
 tells_clock g (Some shown) = tells_at g
 
-tells_named : (g : State) (alid : Option ℕ) → Tells g (by_clearing_named alid g) (clears_named alid g)
-tells_named g None = tells_at g
-tells_named g (Some alid) = tells_cleared g alid
-
-tells_command : (g : State) (command : Option RemoteCommand) (parameters : List Parameter) → Tells g (by_command command parameters g) (command_written command parameters g)
-tells_command g None parameters = tells_at g
-tells_command g (Some GoLocal) parameters = tells_at g
-tells_command g (Some ClearAlarm) parameters = tells_named g (alarm_named parameters)
+tells_remote : (g : State) (d : Decision) → Tells g (by_decision d g) (remote_done g d).after
+tells_remote g (refused code faults) = tells_at g
+tells_remote g goes_local = tells_at g
+tells_remote g (clears alid) = tells_cleared g alid
 
 tells_spools : (g : State) (entries : List SpooledStream) → Tells g [] (spools entries g)
 tells_spools g entries =
@@ -197,38 +195,33 @@ tells_spools g entries =
     (either_way (λ (l : Line). map tells l.told ≡ map tells g.line.told) (has_note g.line.spool) g.line (record g.line { kinds = kinds_of entries }) refl refl))
     (tells_at g)
 
-tells_written : (g : State) (m : GemMsg) → Tells g (by_written m g) (written m g)
-tells_written g (msg.S2F31 text) = tells_clock g (moment_in text)
-tells_written g (msg.S2F41 name parameters) = tells_command g (accepted g name parameters) parameters
-tells_written g (msg.S2F43 entries) = tells_spools g entries
-tells_written g _ = tells_at g
+tells_gem : (g : State) (m : GemMsg) → Tells g (by_message (Gem m) g) (gem_done g m).after
+tells_gem g (msg.S2F31 text) = tells_clock g (moment_in text)
+tells_gem g (msg.S2F41 name parameters) = tells_remote g (decided g name parameters)
+tells_gem g (msg.S2F43 entries) = tells_spools g entries
+tells_gem g _ = tells_at g
 
-tells_answered : (m : GemMsg) (g : State) → Tells g (by_answered m g) (fires (message_rows m) (written m g))
-tells_answered m g = tells_then g (written m g) (fires (message_rows m) (written m g)) _ _ (tells_written g m) (tells_rows (message_rows m) (written m g))
+-- what a message of carriers and ports writes makes no note
+tells_shop : (g : State) (m : Message) → Tells g [] (shop_done g m).after
+tells_shop g (S3F17 dataid action carrier number attributes) =
+    let a = carrier_action action carrier number attributes in
+    either_way (Tells g []) (carrier_caack a g == 0) (record g { floor = carrier_written a g.floor }) g (tells_at g) (tells_at g)
+tells_shop g (S3F25 action number value) = tells_at g
+tells_shop g (S3F27 mode numbers) = tells_at g
+
+tells_message : (g : State) (m : HostMessage) → Tells g (by_message m g) (done g m).after
+tells_message g (Gem m) = tells_gem g m
+tells_message g (Shop m) = tells_shop g m
 
 tells_replied : (g : State) (h : Header) (function : ℕ) (text : List ℕ) → Tells g [] (replied h function text g)
 tells_replied g h function text = either_way (Tells g []) (wants_reply h) _ g (tells_at g) (tells_at g)
 
-tells_taken : (g : State) (h : Header) (m : GemMsg) → Tells g (by_taken h m g) (taken h m g)
+tells_taken : (g : State) (h : Header) (m : HostMessage) → Tells g (by_taken h m g) (taken h m g)
 tells_taken g h m =
-    let text = plain (reply_body (reply_to g m)) in
-    let told : State = replied h (function_of h + 1) text g in
-    tells_then g told (taken h m g) [] (by_answered m told) (tells_replied g h (function_of h + 1) text) (tells_answered m told)
-
--- what a message of carriers and ports writes makes no note
-tells_shop_written : (g : State) (m : Message) → Tells g [] (shop_written m g)
-tells_shop_written g (S3F17 dataid action carrier number attributes) =
-    let a = carrier_action action carrier number attributes in
-    either_way (Tells g []) (carrier_caack a g == 0) (record g { floor = carrier_written a g.floor }) g (tells_at g) (tells_at g)
-tells_shop_written g (S3F25 action number value) = tells_at g
-tells_shop_written g (S3F27 mode numbers) = tells_at g
-
-tells_shop : (g : State) (h : Header) (m : Message) → Tells g (by_shop_taken h m g) (shop_taken h m g)
-tells_shop g h m =
-    let told : State = shop_replied h m g in
-    let written : State = shop_written m told in
-    tells_then g told (shop_taken h m g) [] (by_shop_taken h m g) (tells_replied g h (function_of h + 1) (plain (shop_reply_body (shop_reply_to g m))))
-    (tells_then told written (shop_taken h m g) [] (by_shop_taken h m g) (tells_shop_written told m) (tells_listed (shop_rows m told) written))
+    let d = done g m in
+    let told : State = replied h (function_of h + 1) (reply_text d.reply) d.after in
+    tells_then g d.after (taken h m g) (by_message m g) (by_message_rows h d) (tells_message g m)
+    (tells_then d.after told (taken h m g) [] (by_message_rows h d) (tells_replied d.after h (function_of h + 1) (reply_text d.reply)) (tells_listed d.rows told))
 
 tells_note : (g : State) (w : What) → Tells g [] (note_answered w g)
 tells_note g what.Establish = tells_at g
@@ -249,7 +242,6 @@ tells_data g h item (Stream9 function) = tells_at g
 tells_data g h item Aborted = tells_replied g h 0 []
 tells_data g h item Answers = tells_closed g h item _
 tells_data g h item (Taken m) = tells_taken g h m
-tells_data g h item (ShopTaken m) = tells_shop g h m
 
 -- ---- the end of a session, and operators
 
@@ -277,7 +269,7 @@ tells_operated command g = tells_changed command g
 
 -- ---- the clock
 
-tells_done : (d : Due) (g : State) → Tells g (by_due d g) (done d g)
+tells_done : (d : Due) (g : State) → Tells g (by_due d g) (due_done d g)
 tells_done (EndOfSession cause) g = tells_ended g
 tells_done Linktest g = tells_at g
 tells_done (Timeout one) g =
@@ -285,7 +277,7 @@ tells_done (Timeout one) g =
 
 tells_all : (ds : List Due) (g : State) → Tells g (by_dues ds g) (all_done ds g)
 tells_all [] g = tells_at g
-tells_all (d ∷ ds) g = tells_then g (done d g) (all_done ds (done d g)) _ _ (tells_done d g) (tells_all ds (done d g))
+tells_all (d ∷ ds) g = tells_then g (due_done d g) (all_done ds (due_done d g)) _ _ (tells_done d g) (tells_all ds (due_done d g))
 
 -- ---- a step
 

@@ -4,7 +4,8 @@ use Rattle.gem_states.specs.declared.communication.Comm.{Comm}
 use Rattle.gem_states.specs.declared.communication.Comm.TheVariants.{Disabled, WaitDelay, WaitCra, Communicating}
 use Rattle.gem_states.specs.declared.control.Control.{Control}
 use Rattle.gem_states.specs.declared.control.Control.TheVariants as control
-use Rattle.gem_states.specs.Meaning.{comm_fired, control_fired}
+use Rattle.gem_states.specs.Communication.{comm_fired}
+use Rattle.gem_states.specs.Control.{control_fired}
 use Rattle.gem_tables.specs.Table.{firing}
 use Rattle.gem_tables.specs.declared.firing.Firing.{Firing}
 use Rattle.std.specs.Option.{option_or}
@@ -26,12 +27,13 @@ use Rattle.shop_floor.specs.Ready.{floor_least}
 use Rattle.shop_floor.specs.Left.{floor_left}
 use Rattle.shop_floor.proofs.Falls.{least_falls as floor_falls}
 use Rattle.shop_floor.proofs.Creations.{creation_same}
-use Rattle.gem_model.specs.Fire.{fire, fire_floor, takes_effect, asks_first, line_effect, creations}
-use Rattle.gem_model.specs.Ready.{least, ready_comm, ready_control, ready_line, ready_floor, delay_is_over, is_attempt}
+use Rattle.gem_model.specs.Fire.{fire, fire_all, advanced, fire_floor, takes_effect, asks_first, line_effect, creations}
+use Rattle.gem_model.specs.Ready.{least, ready_line, ready_floor, delay_is_over, is_attempt}
+use Rattle.gem_model.proofs.Effects.{asks_host, gives_up, least_is}
 use Rattle.gem_model.specs.Measure.{left, is_wait_delay, one_if}
-use Rattle.gem_model.specs.Settle.{Path, Settles, settling, settling_by, settled, fire_all, advanced, Along}
+use Rattle.gem_model.specs.Settle.{Path, Settles, settling, settling_by, settled, Along}
 use Rattle.gem_model.proofs.LineRows.{line_went, event_weight, told_enough}
-use Rattle.gem_model.proofs.FloorRows.{effect_is, ready_is, created_case}
+use Rattle.gem_model.proofs.FloorRows.{effect_is, ready_is, created_case, advanced_keeps}
 use Rattle.gem_model.proofs.Tests.{went, either_way, or_went, and_parts_of, none_some}
 
 -- ---- the measure falls
@@ -155,7 +157,7 @@ record Moved (g h : State) : Type 0 where
 moved_fire : (g : State) (f : Firing) → takes_effect g f ≡ fire_floor f g → Moved g (fire g f)
 moved_fire g f is =
     let h : State = takes_effect g f in
-    let told = event_left (ceid_of f.row.table f.row.row) (record { object = object_name h f; row = 100 * f.row.table + f.row.row }) (is_online g.control) h in
+    let told = event_left (ceid_of f.row.table f.row.row) (record { object = object_name g f; row = 100 * f.row.table + f.row.row }) (is_online g.control) h in
     let most = event_most (ceid_of f.row.table f.row.row) in
     let same : left_line h.line ≡ left_line g.line = ap (λ (k : State). left_line k.line) is in
     record { comm = ap (λ (k : State). k.comm) is; control = ap (λ (k : State). k.control) is; line = omega (arith, told, most, same) }
@@ -214,14 +216,14 @@ falls_floor g f ready = of (creates f g.floor) refl where
 -- an automatic firing, with what it creates, leaves less to fire
 pub left_falls : (g : State) (f : Firing) → least g ≡ Some f → left (advanced g f) < left g
 left_falls g f ready =
-    or_went (ready_comm g) (option_or (ready_control g) (option_or (ready_line g) (ready_floor g))) f
+    or_went (asks_host g) (option_or (gives_up g) (option_or (ready_line g) (ready_floor g))) f
     (λ at. went _ _ _ _ (λ over e. the_firing g f (firing 1 0 3) (falls_comm g (waits g.moment g.comm (and_parts_of _ _ over).0)) e) (λ _ e. none_some f e) at)
-    (λ _ behind. or_went (ready_control g) (option_or (ready_line g) (ready_floor g)) f
+    (λ _ behind. or_went (gives_up g) (option_or (ready_line g) (ready_floor g)) f
     (λ at. went _ _ _ _ (λ can e. the_firing g f (firing 2 0 2) (falls_control g (and_parts_of _ _ can).0) e) (λ _ e. none_some f e) at)
     (λ _ last. or_went (ready_line g) (ready_floor g) f
     (λ at. line_went g f (λ row is e. this_firing g f (firing 3 0 row) (falls_line g row is) e) at)
     (λ _ at. falls_floor g f at) last) behind)
-    ready
+    (sym (least_is g) ∙ ready)
 
 -- ---- the settled state
 
@@ -255,10 +257,6 @@ settled_none g none = ap (λ fs. fire_all fs g) (ap (settling_by (left g) g) non
 -- where one is ready, it settles as behind its firing and what that creates
 pub settled_some : (g : State) (f : Firing) → least g ≡ Some f → settled g ≡ settled (advanced g f)
 settled_some g f ready = ap (λ fs. fire_all fs g) (settling_is g f ready) ∙ fire_both (creations g f) (settling (advanced g f)) (fire g f)
-
--- what holds of a state behind a firing holds behind what that creates
-pub advanced_keeps : (P : State → Type 0) → ((g : State) (n : ℕ) → P g → P (fire g (firing 8 n 1))) → (g : State) (f : Firing) → P (fire g f) → P (advanced g f)
-advanced_keeps P creates g f here = created_case (λ (cs : List Firing). P (fire_all cs (fire g f))) g f here (λ n. creates (fire g f) n here)
 
 settled_within : (P : State → Type 0) → ((g : State) (f : Firing) → least g ≡ Some f → P g → P (advanced g f)) → (n : ℕ) (g : State) (f : Option Firing) → least g ≡ f → left g ≤ n → P g → P (settled g)
 settled_within P keeps n g None is fits here = subst P (sym (settled_none g is)) here

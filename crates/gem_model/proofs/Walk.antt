@@ -16,10 +16,8 @@ use Rattle.std.proofs.lemmas.Bool.{true≢false}
 use Rattle.transactions.specs.Endings.{answers, first_expired, is_first_expired}
 use Rattle.gem_model.proofs.Links.{link_after-keeps}
 use Rattle.secs_items.specs.Data.{Data}
-use Rattle.secs_items.specs.Plain.{plain}
 use Rattle.gem_primaries.specs.declared.primary.GemMsg.{GemMsg}
 use Rattle.gem_primaries.specs.declared.primary.GemMsg.TheVariants as msg
-use Rattle.gem_replies.specs.Replies.{reply_body}
 use Rattle.msgs_300.specs.Primaries.{Message, S3F17, S3F25, S3F27}
 use Rattle.gem_ids.specs.Civil.{moment_in}
 use Rattle.gem_tables.specs.Table.{firing}
@@ -42,20 +40,22 @@ use Rattle.gem_model.specs.State.{State, is_up, is_session_up, raised}
 use Rattle.gem_model.specs.Sending.{sends_stream9, data_header}
 use Rattle.gem_model.specs.Noting.{sets_alarm, clears_alarm}
 use Rattle.gem_model.specs.Fire.{fire, fires, fire_listed, row_starts}
-use Rattle.gem_model.specs.Remote.{RemoteCommand, GoLocal, ClearAlarm, Parameter, accepted, alarm_named}
+use Rattle.gem_model.specs.Remote.{Decision, refused, goes_local, clears, decided}
+use Rattle.gem_model.specs.HostMessages.{HostMessage, Gem, Shop, reply_text}
+use Rattle.gem_model.specs.Messages.{done, gem_done, shop_done, remote_done, carrier_action_done, clock_set}
 use Rattle.gem_model.specs.Spooling.{rspack}
-use Rattle.gem_model.specs.Shop.{is_local, carrier_caack, carrier_action, carrier_done, shop_rows, shop_written}
+use Rattle.gem_model.specs.Shop.{is_local, carrier_caack, carrier_action}
 use Rattle.gem_model.specs.Signals.{lacks_port, port_row_starts, port_alarm, with_arrival, placed, removed, signalled, is_ready_to_unload}
-use Rattle.gem_model.specs.Direct.{operator_rows, message_rows, timeout_rows}
+use Rattle.gem_model.specs.Direct.{operator_rows, timeout_rows}
 use Rattle.gem_model.specs.Ready.{least}
-use Rattle.gem_model.specs.Verdict.{Verdict, Discarded, Stream9, Aborted, Answers, Taken, ShopTaken, verdict, header_of, item_of, wants_reply, stream_of, function_of, reply_to}
-use Rattle.gem_model.specs.Act.{written, clock_set, clears_named, command_written, replied, taken, shop_replied, shop_taken, closed_by, data_act, session_ended}
+use Rattle.gem_model.specs.Verdict.{Verdict, Discarded, Stream9, Aborted, Answers, Taken, verdict, header_of, item_of, wants_reply, stream_of, function_of}
+use Rattle.gem_model.specs.Act.{replied, taken, closed_by, data_act, session_ended}
 use Rattle.gem_model.specs.Due.{Timeout, dues_with, timeouts, expired_from, link_times, is_due, all_done, asks_linktest, timed_out}
 use Rattle.gem_model.specs.Settle.{settled}
 use Rattle.gem_model.specs.Step as steps
 use Rattle.gem_model.specs.Step.{Outcome, step, step_from, acts, linked, hosted, can_clear, operated, switched, quits, settles}
 use Rattle.gem_model.proofs.Tests.{went, either_way, none_some}
-use Rattle.gem_model.proofs.Listed.{Are, IsFree, listed_keeps, free_message, free_shop, free_enable, free_online, free_offline, free_local, free_remote, free_service, free_access, free_placing, free_removal}
+use Rattle.gem_model.proofs.Listed.{Are, IsFree, listed_keeps, free_message, free_enable, free_online, free_offline, free_local, free_remote, free_service, free_access, free_placing, free_removal}
 use Rattle.gem_model.proofs.Settling.{settled_keeps}
 use Rattle.hsms_link.specs.declared.state.LinkState.{LinkState}
 use Rattle.event_reports.specs.Reports.{Reports}
@@ -131,7 +131,7 @@ done_code false false code is = eqb-true code 0 is
 
 module _ (P : State → Type 0) (inner : Inner P) where
   pub kept_listed : (fs : List Firing) → Are IsFree fs → (g : State) → P g → P (fire_listed fs g)
-  kept_listed fs free g at = listed_keeps P IsFree inner.event inner.row fs free g at
+  kept_listed fs free g at = listed_keeps P IsFree inner.event inner.row inner.created fs free g at
 
   pub kept_settled : (g : State) → P g → P (settled g)
   kept_settled g at = settled_keeps P inner.ready inner.created g at
@@ -146,48 +146,45 @@ module _ (P : State → Type 0) (inner : Inner P) where
   kept_clock g None at = at
   kept_clock g (Some shown) at = inner.clock g _ at
 
-  kept_named : (g : State) (alid : Option ℕ) → P g → P (clears_named alid g)
-  kept_named g None at = at
-  kept_named g (Some alid) at = kept_cleared g alid at
+  kept_remote : (g : State) (d : Decision) → P g → P (remote_done g d).after
+  kept_remote g (refused code faults) at = at
+  kept_remote g goes_local at = at
+  kept_remote g (clears alid) at = kept_cleared g alid at
 
-  kept_command : (g : State) (command : Option RemoteCommand) (parameters : List Parameter) → P g → P (command_written command parameters g)
-  kept_command g None parameters at = at
-  kept_command g (Some GoLocal) parameters at = at
-  kept_command g (Some ClearAlarm) parameters at = kept_named g (alarm_named parameters) at
+  kept_gem : (g : State) (m : GemMsg) → P g → P (gem_done g m).after
+  kept_gem g (msg.S2F15 settings) at = inner.constants g _ at
+  kept_gem g (msg.S2F31 text) at = kept_clock g (moment_in text) at
+  kept_gem g (msg.S2F33 id reports) at = inner.reports g _ at
+  kept_gem g (msg.S2F35 id events) at = inner.reports g _ at
+  kept_gem g (msg.S2F37 on ceids) at = inner.reports g _ at
+  kept_gem g (msg.S2F41 name parameters) at = kept_remote g (decided g name parameters) at
+  kept_gem g (msg.S2F43 entries) at = either_way P (rspack g entries == 0) _ g (inner.kinds g _ at) at
+  kept_gem g (msg.S5F3 aled alid) at = inner.alarms g _ at
+  kept_gem g _ at = at
 
-  pub kept_written : (g : State) (m : GemMsg) → P g → P (written m g)
-  kept_written g (msg.S2F15 settings) at = inner.constants g _ at
-  kept_written g (msg.S2F31 text) at = kept_clock g (moment_in text) at
-  kept_written g (msg.S2F33 id reports) at = inner.reports g _ at
-  kept_written g (msg.S2F35 id events) at = inner.reports g _ at
-  kept_written g (msg.S2F37 on ceids) at = inner.reports g _ at
-  kept_written g (msg.S2F41 name parameters) at = kept_command g (accepted g name parameters) parameters at
-  kept_written g (msg.S2F43 entries) at = either_way P (rspack g entries == 0) _ g (inner.kinds g _ at) at
-  kept_written g (msg.S5F3 aled alid) at = inner.alarms g _ at
-  kept_written g _ at = at
-
-  kept_replied : (g : State) (h : Header) (function : ℕ) (text : List ℕ) → P g → P (replied h function text g)
-  kept_replied g h function text at = either_way P (wants_reply h) _ g (inner.waiting g _ at) at
-
-  kept_taken : (g : State) (h : Header) (m : GemMsg) → P g → P (taken h m g)
-  kept_taken g h m at =
-      let told : State = replied h (function_of h + 1) (plain (reply_body (reply_to g m))) g in
-      kept_listed (message_rows m (written m told)) (free_message m (written m told)) (written m told) (kept_written told m (kept_replied g h (function_of h + 1) (plain (reply_body (reply_to g m))) at))
-
-  kept_action : (a : CarrierAction) (g : State) → P g → P (carrier_done a g)
+  kept_action : (a : CarrierAction) (g : State) → P g → P (carrier_action_done g a).after
   kept_action a g at =
       where_true P (carrier_caack a g == 0) (record g { floor = carrier_written a g.floor }) g
       (λ is. inner.written g a (done_code (is_unknown a.word) (is_local g.control) (carrier_code g.floor a) is) at) at
 
-  kept_asked : (m : Message) (g : State) → P g → P (shop_written m g)
-  kept_asked (S3F17 dataid action carrier number attributes) g at = kept_action (carrier_action action carrier number attributes) g at
-  kept_asked (S3F25 action number value) g at = at
-  kept_asked (S3F27 mode numbers) g at = at
+  kept_shop : (m : Message) (g : State) → P g → P (shop_done g m).after
+  kept_shop (S3F17 dataid action carrier number attributes) g at = kept_action (carrier_action action carrier number attributes) g at
+  kept_shop (S3F25 action number value) g at = at
+  kept_shop (S3F27 mode numbers) g at = at
 
-  kept_shop : (g : State) (h : Header) (m : Message) → P g → P (shop_taken h m g)
-  kept_shop g h m at =
-      let told : State = shop_replied h m g in
-      kept_listed (shop_rows m told) (free_shop m told) (shop_written m told) (kept_asked m told (kept_replied g h (function_of h + 1) _ at))
+  -- what a message writes
+  pub kept_done : (g : State) (m : HostMessage) → P g → P (done g m).after
+  kept_done g (Gem m) at = kept_gem g m at
+  kept_done g (Shop m) at = kept_shop m g at
+
+  kept_replied : (g : State) (h : Header) (function : ℕ) (text : List ℕ) → P g → P (replied h function text g)
+  kept_replied g h function text at = either_way P (wants_reply h) _ g (inner.waiting g _ at) at
+
+  kept_taken : (g : State) (h : Header) (m : HostMessage) → P g → P (taken h m g)
+  kept_taken g h m at =
+      let d = done g m in
+      let told : State = replied h (function_of h + 1) (reply_text d.reply) d.after in
+      kept_listed d.rows (free_message m g) told (kept_replied d.after h (function_of h + 1) (reply_text d.reply) (kept_done g m at))
 
   kept_closed : (g : State) (h : Header) (item : Option Data) (test : Open → Bool) (one : Option Open) → find test g.transactions.opened ≡ one → P g → P (closed_by h item one g)
   kept_closed g h item test None found at = at
@@ -202,7 +199,6 @@ module _ (P : State → Type 0) (inner : Inner P) where
   kept_act g h item Aborted at = kept_replied g h 0 [] at
   kept_act g h item Answers at = kept_closed g h item (answers h.system (stream_of h) (function_of h)) _ refl at
   kept_act g h item (Taken m) at = kept_taken g h m at
-  kept_act g h item (ShopTaken m) at = kept_shop g h m at
 
   pub kept_switched : (command : OperCmd) (g : State) → P g → P (switched command g)
   kept_switched oper.Local g at = inner.switch g true at

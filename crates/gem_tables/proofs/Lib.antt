@@ -1,3 +1,4 @@
 pub mod Choosing
 pub mod Ready
 pub mod Falling
+pub mod Starting

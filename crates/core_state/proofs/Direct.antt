@@ -4,7 +4,8 @@ use Rattle.gem_tables.specs.Table.{firing, starts, first_starting}
 use Rattle.gem_tables.specs.Control.{control_table}
 use Rattle.gem_states.specs.declared.control.ControlTrigger.{ControlTrigger}
 use Rattle.gem_states.specs.declared.control.ControlTrigger.TheVariants as trigger
-use Rattle.gem_states.specs.Meaning.{control_number, control_rows}
+use Rattle.gem_states.specs.Control.{control_number}
+use Rattle.gem_states.specs.Triggers.{control_rows}
 use Rattle.gem_model.specs.State.{State}
 use Rattle.gem_model.specs.Fire.{fire, fires, fire_listed, of_control}
 use Rattle.gem_model.specs.Direct.{by_control}

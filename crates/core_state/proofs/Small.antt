@@ -25,7 +25,8 @@ use Rattle.event_reports.specs.Limits.{most_alarms}
 use Rattle.spool.specs.Spool.{load_number, unload_number}
 use Rattle.event_reports.specs.declared.alarms.AlarmLine.{AlarmLine}
 use Rattle.event_reports.specs.Alarms.{set_alids}
-use Rattle.gem_states.specs.Meaning.{comm_number, control_number}
+use Rattle.gem_states.specs.Communication.{comm_number}
+use Rattle.gem_states.specs.Control.{control_number}
 use Rattle.gem_model.specs.State.{State, clock_now}
 use Rattle.core_state.proofs.MomentTexts.{clock_text}
 use Rattle.gem_model.specs.Values.{Occasion, no_firing, svids, port_vids, Valued, tool_variables, port_values, transfers, accesses, port_carriers, event_variables, value_among, status_value, constant_value, or_else, value_of}

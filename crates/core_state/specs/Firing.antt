@@ -1,6 +1,6 @@
 -- One automatic firing, with the row of what it creates.
 use Rattle.std.specs.Prelude.{Option, Some, None}
-use Rattle.gem_tables.specs.Table.{Firing}
+use Rattle.gem_tables.specs.declared.firing.Firing.{Firing}
 use Rattle.gem_model.specs.State.{State}
 use Rattle.gem_model.specs.Settle.{advanced}
 

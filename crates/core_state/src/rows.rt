@@ -3,7 +3,7 @@ ghost use Rattle.std.specs.Prelude.{◌≡◌, ◌+◌, ◌≤◌, ◌<◌, ◌^
 ghost use Rattle.gem_ids.specs.Texts.{IsText};
 ghost use Rattle.gem_tables.specs.Table.{first_starting, firing};
 ghost use Rattle.gem_states.specs.declared.control.ControlTrigger.TheVariants as control;
-ghost use Rattle.gem_states.specs.Meaning.{comm_rows, control_rows};
+ghost use Rattle.gem_states.specs.Triggers.{comm_rows, control_rows};
 ghost use Rattle.gem_model.specs.State.{State};
 ghost use Rattle.gem_model.specs.Sending.{identity_text};
 ghost use Rattle.gem_model.specs.Fire.{fire, fire_comm, comm_effect, fire_control, control_effect, fire_listed, fires};

@@ -5,11 +5,17 @@ ghost use Rattle.gem_model.specs.Signals.{lacks_port, placed, removed, signalled
 
 use core_state::Plant;
 use gem_ids::{CarrierId, PortNo};
+use gem_tables::Firing;
 use std::alloc::{AllocError, Global};
 use tool_events::Signal;
 
 // The alarm of a carrier signal that a port doesn't expect, which is that of the port behind this number.
 const UNEXPECTED: u32 = 30;
+
+// The numbers of the tables, as the definitions have them.
+const TRANSFER: u8 = 4;
+
+const ASSOCIATION: u8 = 7;
 
 /// A carrier is placed at a port that the tool has: its rows fire where the port is READY TO LOAD, and else the port's alarm is
 /// set.
@@ -23,10 +29,12 @@ fn place(
     requires { lacks_port port.0 plant.old ≡ false }
     ensures { OnOk result (plant.new ≡ placed port.0 id map plant.old) }
 {
-    if !plant.is_loadable(port) {
+    let placed = Firing::new(TRANSFER, u64::from(port.0), 3);
+    if !plant.row_starts(placed) {
         return plant.set_alarm(alloc, UNEXPECTED + u32::from(port.0));
     }
-    plant.place_carrier(alloc, port, id, map)
+    plant.write_arrival(port, id, map);
+    plant.fire_listed(alloc, &[placed])
 }
 
 /// A carrier is removed from a port that the tool has: its rows fire where the port is READY TO UNLOAD, and else the port's
@@ -35,10 +43,12 @@ fn remove(plant: &mut Plant, alloc: Global, port: PortNo) -> Result<(), AllocErr
     requires { lacks_port port.0 plant.old ≡ false }
     ensures { OnOk result (plant.new ≡ removed port.0 plant.old) }
 {
-    if !plant.is_unloadable(port) {
+    let removed = Firing::new(TRANSFER, u64::from(port.0), 5);
+    if !plant.row_starts(removed) {
         return plant.set_alarm(alloc, UNEXPECTED + u32::from(port.0));
     }
-    plant.remove_carrier(alloc, port)
+    let freed = Firing::new(ASSOCIATION, u64::from(port.0), 6);
+    plant.fire_listed(alloc, &[removed, freed])
 }
 
 /// What the equipment tells: a carrier was placed at a port, or taken away from one. A signal of a port that the tool lacks

@@ -155,16 +155,6 @@ impl Plant {
         Ok(true)
     }
 
-    /// The transaction of the open note has failed: its row fires, where a note is open.
-    pub fn fail_note(&mut self)
-        ensures { self.new ≡ fire_listed note_fails self.old }
-    {
-        if self.line.open_note().is_some() {
-            let around = self.around();
-            self.line.fail_open(around);
-        }
-    }
-
     /// The open note is answered, where one is open.
     pub fn answer_note(&mut self)
         ensures { self.new ≡ record self.old { line = answered self.old.line } }
@@ -194,16 +184,6 @@ impl Plant {
         ensures { result ≡ rsda self.now.line.spool }
     {
         self.line.rsda()
-    }
-
-    /// The host asks for the spooled notes, with RSDC 0 to be sent and with 1 to be dropped: its row fires, where it
-    /// starts (SEMI E5, S6F23).
-    pub fn unload_spool(&mut self, rsdc: u8)
-        requires { rsdc ≤ 1 }
-        ensures { self.new ≡ fire_listed (unload_rows rsdc) self.old }
-    {
-        let around = self.around();
-        self.line.begin_unload(rsdc, around);
     }
 
     /// What became of the note of a number; `None` exactly where the number was not given.

@@ -27,7 +27,8 @@ use Rattle.gem_model.specs.Ready.{least}
 use Rattle.gem_model.specs.Verdict.{function_of}
 use Rattle.gem_model.specs.Act.{note_answered, closed_by, session_ended}
 use Rattle.gem_model.specs.Due.{timed_out}
-use Rattle.gem_model.proofs.Listed.{Are, IsListed, listed_keeps, free_listed, listed_answer, listed_timeout, listed_ended, listed_disable}
+use Rattle.gem_model.specs.Direct.{Are, IsListed}
+use Rattle.gem_model.proofs.Listed.{listed_keeps, free_listed, listed_answer, listed_timeout, listed_ended, listed_disable}
 use Rattle.gem_model.proofs.Walk.{Inner, Kept, out_of, told_of}
 
 -- what keeps a fact of states that looks at no transaction, while link, moment and the end of the run stay: each change by

@@ -8,7 +8,6 @@ use Rattle.gem_tables.specs.declared.firing.Firing.{Firing}
 use Rattle.gem_states.specs.declared.communication.CommTrigger.TheVariants as comm
 use Rattle.gem_states.specs.declared.control.ControlTrigger.TheVariants as trigger
 use Rattle.gem_states.specs.Triggers.{comm_rows, control_rows}
-use Rattle.note_line.specs.Table3.{is_direct}
 use Rattle.tool_events.specs.declared.event.OperCmd.TheVariants as oper
 use Rattle.transactions.specs.declared.transaction.What.{What}
 use Rattle.transactions.specs.declared.transaction.What.TheVariants as what
@@ -25,23 +24,14 @@ use Rattle.gem_model.specs.Remote.{Decision, refused, goes_local, clears, decide
 use Rattle.gem_model.specs.HostMessages.{HostMessage, Gem, Shop}
 use Rattle.gem_model.specs.Messages.{done, gem_done, shop_done, remote_done}
 use Rattle.gem_model.specs.Spooling.{unload_rows}
-use Rattle.gem_model.specs.Direct.{by_comm, by_control, note_fails, attempt_fails, all_fail, operator_rows, answer_rows, timeout_rows, session_end_rows, establish_answer, attempt_answer}
+use Rattle.gem_model.specs.Direct.{Are, IsListed, by_comm, by_control, note_fails, attempt_fails, all_fail, operator_rows, answer_rows, timeout_rows, session_end_rows, establish_answer, attempt_answer}
 use Rattle.gem_model.proofs.Tests.{either_way}
 use Rattle.gem_model.proofs.FloorRows.{IsFloorRow, AreFloorRows, placing_are, removal_are, shop_are, service_are, access_are, advanced_keeps}
 use Rattle.shop_floor.specs.Requests.{at_port, removal}
 
--- each of these firings is such
-abbrev pub Are : (Firing → Type 0) → List Firing → Type 0
-Are Is [] = Unit {0}
-Are Is (f ∷ fs) = Is f × Are Is fs
-
 pub are_both : (Is : Firing → Type 0) (fs gs : List Firing) → Are Is fs → Are Is gs → Are Is (fs ++ gs)
 are_both Is [] gs first next = next
 are_both Is (f ∷ fs) gs first next = (first.0, are_both Is fs gs first.1 next)
-
--- a firing of table 3 is of a row that an input fires
-abbrev pub IsListed : Firing → Type 0
-IsListed f = (f.row.table == 3) ≡ true → is_direct f.row.row ≡ true
 
 -- a firing of a row that an input fires by itself, not the end of a transaction
 pub data IsFree (f : Firing) : Type 0 where

@@ -55,7 +55,8 @@ use Rattle.gem_model.specs.Settle.{settled}
 use Rattle.gem_model.specs.Step as steps
 use Rattle.gem_model.specs.Step.{Outcome, step, step_from, acts, linked, hosted, can_clear, operated, switched, quits, settles}
 use Rattle.gem_model.proofs.Tests.{went, either_way, none_some}
-use Rattle.gem_model.proofs.Listed.{Are, IsFree, listed_keeps, free_message, free_enable, free_online, free_offline, free_local, free_remote, free_service, free_access, free_placing, free_removal}
+use Rattle.gem_model.specs.Direct.{Are}
+use Rattle.gem_model.proofs.Listed.{IsFree, listed_keeps, free_message, free_enable, free_online, free_offline, free_local, free_remote, free_service, free_access, free_placing, free_removal}
 use Rattle.gem_model.proofs.Settling.{settled_keeps}
 use Rattle.hsms_link.specs.declared.state.LinkState.{LinkState}
 use Rattle.event_reports.specs.Reports.{Reports}

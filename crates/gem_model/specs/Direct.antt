@@ -1,6 +1,6 @@
 -- The direct rows of each input, in order (this tool's profile, direct rows). A listed row that does not start at the
 -- present state is left out when they fire.
-use Rattle.std.specs.Prelude.{ℕ, ◌==◌, if◌then◌else◌, List, [], ◌∷◌, ◌++◌, Option, Some, None, is_some}
+use Rattle.std.specs.Prelude.{◌≡◌, true, ℕ, ◌==◌, if◌then◌else◌, List, [], ◌∷◌, ◌++◌, Option, Some, None, is_some}
 use Rattle.secs_items.specs.Data.{Data}
 use Rattle.gem_states.specs.declared.communication.CommTrigger.{CommTrigger}
 use Rattle.gem_states.specs.declared.communication.CommTrigger.TheVariants as comm
@@ -8,6 +8,7 @@ use Rattle.gem_states.specs.declared.control.ControlTrigger.{ControlTrigger}
 use Rattle.gem_states.specs.declared.control.ControlTrigger.TheVariants as control
 use Rattle.gem_states.specs.Triggers.{comm_rows, control_rows}
 use Rattle.gem_tables.specs.declared.firing.Firing.{Firing}
+use Rattle.note_line.specs.Table3.{is_direct}
 use Rattle.gem_replies.specs.Acknowledge.{accepts}
 use Rattle.tool_events.specs.declared.event.OperCmd.{OperCmd}
 use Rattle.tool_events.specs.declared.event.OperCmd.TheVariants as oper
@@ -73,3 +74,14 @@ abbrev pub timeout_rows : What → State → List Firing
 timeout_rows what.Establish g = by_comm comm.Refused
 timeout_rows what.Attempt g = by_control control.Failed g
 timeout_rows (what.Note n) g = note_fails
+
+-- ---- what is listed
+
+-- each of these firings is such
+abbrev pub Are : (Firing → Type 0) → List Firing → Type 0
+Are Is [] = Unit {0}
+Are Is (f ∷ fs) = Is f × Are Is fs
+
+-- a firing that an input lists: one of table 3 is of a row that inputs fire
+abbrev pub IsListed : Firing → Type 0
+IsListed f = (f.row.table == 3) ≡ true → is_direct f.row.row ≡ true

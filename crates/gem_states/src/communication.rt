@@ -1,6 +1,6 @@
 //! The states of communication with the host (after SEMI E30, communication state model; table 1).
 
-ghost use Rattle.std.specs.Prelude.{◌≡◌};
+ghost use Rattle.std.specs.Prelude.{◌≡◌, ◌∷◌, []};
 ghost use Rattle.gem_tables.specs.Table.{first_starting};
 ghost use Rattle.gem_states.specs.Communication.{communication_table, comm_number, comm_starts, comm_fired};
 ghost use Rattle.gem_states.specs.Triggers.{comm_rows};
@@ -72,6 +72,22 @@ impl Comm {
             (CommTrigger::HostS1F13, Comm::WaitDelay { .. } | Comm::WaitCra) => Some(6),
             (CommTrigger::SessionEnd, Comm::WaitCra | Comm::Communicating) => Some(7),
             _ => None,
+        }
+    }
+}
+
+impl CommTrigger {
+    /// The number of the direct row that the trigger fires where it starts (this tool's profile, direct rows).
+    pub fn row(self) -> u8
+        ensures { comm_rows self ≡ result ∷ [] }
+    {
+        match self {
+            CommTrigger::Enable => 1,
+            CommTrigger::Disable => 2,
+            CommTrigger::Accepted => 4,
+            CommTrigger::Refused => 5,
+            CommTrigger::HostS1F13 => 6,
+            CommTrigger::SessionEnd => 7,
         }
     }
 }

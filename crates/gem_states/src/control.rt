@@ -1,6 +1,6 @@
 //! The states of control (after SEMI E30, control state model; table 2).
 
-ghost use Rattle.std.specs.Prelude.{◌≡◌};
+ghost use Rattle.std.specs.Prelude.{◌≡◌, ◌∷◌, []};
 ghost use Rattle.gem_tables.specs.Table.{first_starting};
 ghost use Rattle.gem_states.specs.Control.{control_table, control_number, control_starts, control_fired};
 ghost use Rattle.gem_states.specs.Triggers.{control_rows};
@@ -90,6 +90,25 @@ impl Control {
             (ControlTrigger::Remote, Control::Local) => Some(10),
             (ControlTrigger::Local, Control::Remote) => Some(11),
             _ => None,
+        }
+    }
+}
+
+impl ControlTrigger {
+    /// The number of the direct row that the trigger fires where it starts, where the switch is local or remote (this tool's
+    /// profile, direct rows). The switch counts for an S1F2 and an S1F17 alone.
+    pub fn row(self, switch_local: bool) -> u8
+        ensures { control_rows self switch_local ≡ result ∷ [] }
+    {
+        match self {
+            ControlTrigger::Online => 1,
+            ControlTrigger::Failed => 3,
+            ControlTrigger::HostS1F2 => if switch_local { 4 } else { 5 },
+            ControlTrigger::Offline => 6,
+            ControlTrigger::HostS1F17 => if switch_local { 7 } else { 8 },
+            ControlTrigger::HostS1F15 => 9,
+            ControlTrigger::Remote => 10,
+            ControlTrigger::Local => 11,
         }
     }
 }

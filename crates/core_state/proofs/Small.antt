@@ -31,7 +31,7 @@ use Rattle.gem_model.specs.State.{State, clock_now}
 use Rattle.core_state.proofs.MomentTexts.{clock_text}
 use Rattle.gem_model.specs.Values.{Occasion, no_firing, svids, port_vids, Valued, tool_variables, port_values, transfers, accesses, port_carriers, event_variables, value_among, status_value, constant_value, or_else, value_of}
 use Rattle.load_port.specs.declared.port.Port.{Port}
-use Rattle.load_port.specs.Record.{transfer_number, access_number}
+use Rattle.load_port.specs.Tables.{transfer_number, access_number}
 use Rattle.load_port.specs.Ports.{most_ports}
 use Rattle.core_state.specs.Named.{AreNamed}
 

@@ -6,9 +6,10 @@ ghost use Rattle.gem_states.specs.Communication.{comm_starts};
 ghost use Rattle.gem_states.specs.Control.{control_starts};
 ghost use Rattle.note_line.specs.Table3.{line_starts, is_direct};
 ghost use Rattle.gem_model.specs.State.{around};
-ghost use Rattle.gem_model.specs.Fire.{row_starts, fire, fire_all, advanced, fire_listed, creations};
+ghost use Rattle.gem_model.specs.Machines.{row_starts, creations, least};
+ghost use Rattle.gem_model.specs.Fire.{fire, fire_all, advanced, fire_listed};
 ghost use Rattle.gem_model.specs.Direct.{Are, IsListed};
-ghost use Rattle.gem_model.specs.Ready.{ready_line, ready_floor, least};
+ghost use Rattle.gem_model.specs.Ready.{ready_line, ready_floor};
 ghost use Rattle.core_state.specs.Firing.{fire_first, AreCreated};
 
 use crate::plant::Plant;

@@ -4,7 +4,8 @@ ghost use Rattle.std.specs.Prelude.{◌≡◌, true, false, not, OnOk, IfOk};
 ghost use Rattle.shop_floor.specs.Floor.{numbers_from};
 ghost use Rattle.shop_floor.specs.Requests.{carrier_code, carrier_written, carrier_rows, port_code, port_rows, at_ports, mode_row, or_all};
 ghost use Rattle.shop_floor.specs.Machines.{floor_starts};
-ghost use Rattle.gem_model.specs.Fire.{fire, fire_floor};
+ghost use Rattle.gem_model.specs.Fire.{fire};
+ghost use Rattle.gem_model.specs.Machines.{fire_floor};
 ghost use Rattle.gem_model.specs.Signals.{lacks_port, with_arrival, is_ready_to_unload};
 
 use crate::noting::RowFiring;

@@ -4,8 +4,9 @@ ghost use Rattle.gem_ids.specs.Texts.{IsText};
 ghost use Rattle.gem_tables.specs.Table.{firing};
 ghost use Rattle.gem_model.specs.State.{without_session};
 ghost use Rattle.gem_model.specs.Sending.{identity_text};
-ghost use Rattle.gem_model.specs.Fire.{fire, fire_comm, comm_effect, fire_control, control_effect};
-ghost use Rattle.gem_model.specs.Ready.{delay_is_over};
+ghost use Rattle.gem_model.specs.Fire.{fire};
+ghost use Rattle.gem_model.specs.Effects.{fire_comm, comm_effect, fire_control, control_effect};
+ghost use Rattle.gem_model.specs.Wants.{delay_is_over};
 ghost use Rattle.gem_model.specs.Due.{delay_has_come};
 ghost use Rattle.gem_model.specs.Act.{session_ended};
 

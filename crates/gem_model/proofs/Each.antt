@@ -20,10 +20,10 @@ use Rattle.transactions.specs.Table.{Table}
 use Rattle.gem_model.specs.State.{State, Clock, none_asked, without_session}
 use Rattle.gem_model.specs.Values.{Occasion}
 use Rattle.gem_model.specs.Noting.{line_behind, line_with_alarm}
-use Rattle.gem_model.specs.Fire.{fire, fires, fire_listed, row_starts, takes_effect}
+use Rattle.gem_model.specs.Fire.{fire, fires, fire_listed}
+use Rattle.gem_model.specs.Machines.{row_starts, takes_effect, least}
 use Rattle.gem_model.specs.Signals.{with_arrival}
 use Rattle.gem_model.specs.Direct.{operator_rows, answer_rows, timeout_rows, session_end_rows}
-use Rattle.gem_model.specs.Ready.{least}
 use Rattle.gem_model.specs.Verdict.{function_of}
 use Rattle.gem_model.specs.Act.{note_answered, closed_by, session_ended}
 use Rattle.gem_model.specs.Due.{timed_out}

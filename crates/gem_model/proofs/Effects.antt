@@ -1,5 +1,5 @@
 -- What rows of tables 1 and 2 do, by the words of their lines, and which of them are ready.
-use Rattle.std.proofs.Common.{◌≡◌, ℕ, Bool, true, false, not, ◌&&◌, if◌then◌else◌, [], Option, Some, None, option_map, refl, sym, ◌∙◌, ap}
+use Rattle.std.proofs.Common.{◌≡◌, ℕ, Bool, true, false, not, ◌&&◌, if◌then◌else◌, [], ◌∷◌, map, Option, Some, None, option_map, refl, sym, ◌∙◌, ap}
 use Rattle.std.specs.Option.{option_or}
 use Rattle.gem_tables.specs.Table.{Row, firing, first_itself}
 use Rattle.gem_tables.specs.declared.firing.Firing.{Firing}
@@ -12,10 +12,16 @@ use Rattle.gem_states.specs.Communication as comm
 use Rattle.gem_states.specs.Control.{ControlWant, ControlEffect, control_table, control_number}
 use Rattle.gem_states.specs.Control as control
 use Rattle.transactions.specs.declared.transaction.What.TheVariants as what
-use Rattle.gem_model.specs.State.{State, none_asked, can_ask, is_selected}
+use Rattle.gem_tables.specs.Machine.{first_ready, least_in}
+use Rattle.note_line.specs.Table3 as table3
+use Rattle.shop_floor.specs.Machines.{floor_machines}
+use Rattle.gem_model.specs.State.{State, none_asked, can_ask, is_selected, around}
 use Rattle.gem_model.specs.Sending.{asks, identity_text}
-use Rattle.gem_model.specs.Fire.{forgets, comm_does, comm_effect_of, control_does, control_effect_of}
-use Rattle.gem_model.specs.Ready.{delay_is_over, is_attempt, comm_finds, control_finds, ready_comm, ready_control, ready_line, ready_floor, least}
+use Rattle.gem_model.proofs.OnFloor.{one_object, least_there}
+use Rattle.gem_model.specs.Effects.{forgets, comm_does, comm_effect_of, control_does, control_effect_of}
+use Rattle.gem_model.specs.Wants.{delay_is_over, is_attempt, comm_finds, control_finds}
+use Rattle.gem_model.specs.Ready.{ready_line, ready_floor}
+use Rattle.gem_model.specs.Machines.{least, control_machine, line_machine, on_floor}
 
 -- what holds behind each effect of table 1 holds behind that of each of its rows
 pub comm_effect_case : (P : State → Type 0) (row : Option (Row Comm CommWant CommEffect)) (g : State) → P g → P (none_asked g) → P (asks 1 13 what.Establish (identity_text g.config) g) → P (forgets what.Establish g) → P (comm_effect_of row g)
@@ -89,5 +95,10 @@ control_ready Remote can finds is = refl
 -- the least ready row, with those of tables 1 and 2 as tests
 pub least_is : (g : State) → least g ≡ option_or (asks_host g) (option_or (gives_up g) (option_or (ready_line g) (ready_floor g)))
 least_is g =
-    ap (λ (x : Option Firing). option_or x (option_or (ready_control g) (option_or (ready_line g) (ready_floor g)))) (comm_ready g.moment g.comm (is_selected g) (comm_finds g) refl)
-    ∙ ap (λ (x : Option Firing). option_or (asks_host g) (option_or x (option_or (ready_line g) (ready_floor g)))) (control_ready g.control (can_ask g) (control_finds g) refl)
+    ap (λ (x : Option Firing). option_or x (option_or (first_ready 2 (λ object. control_machine.ready object g) (0 ∷ [])) (option_or (first_ready 3 (λ object. line_machine.ready object g) (0 ∷ [])) (least_in (map on_floor floor_machines) g))))
+    (one_object 1 (first_itself comm_number (comm_finds g) (communication_table 0) g.comm) ∙ comm_ready g.moment g.comm (is_selected g) (comm_finds g) refl)
+    ∙ ap (λ (x : Option Firing). option_or (asks_host g) (option_or x (option_or (first_ready 3 (λ object. line_machine.ready object g) (0 ∷ [])) (least_in (map on_floor floor_machines) g))))
+    (one_object 2 (first_itself control_number (control_finds g) control_table g.control) ∙ control_ready g.control (can_ask g) (control_finds g) refl)
+    ∙ ap (λ (x : Option Firing). option_or (asks_host g) (option_or (gives_up g) (option_or x (least_in (map on_floor floor_machines) g))))
+    (one_object 3 (table3.least (around g) g.line))
+    ∙ ap (λ (x : Option Firing). option_or (asks_host g) (option_or (gives_up g) (option_or (ready_line g) x))) (least_there g floor_machines)

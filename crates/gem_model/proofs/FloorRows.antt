@@ -5,15 +5,13 @@ use Rattle.gem_tables.specs.declared.firing.Firing.{Firing}
 use Rattle.gem_rows.specs.Events.{ceid_of}
 use Rattle.load_port.specs.Ports.{is_no_port}
 use Rattle.shop_floor.specs.Floor.{Floor}
-use Rattle.shop_floor.specs.Rows.{creates}
-use Rattle.shop_floor.specs.Ready.{floor_least}
-use Rattle.shop_floor.specs.Requests.{at_port, at_place, at_ports, creation_of, unbinding, proceeding, cancelling, port_number_of, word_rows, carrier_rows, port_rows, mode_row, or_all, removal}
+use Rattle.shop_floor.specs.Requests.{at_port, at_ports, creation_of, unbinding, proceeding, cancelling, port_number_of, word_rows, carrier_rows, port_rows, mode_row, or_all, removal}
 use Rattle.carrier.specs.declared.carrier.Carrier.{Carrier}
 use Rattle.carrier.specs.declared.action.CarrierAction.{CarrierAction}
 use Rattle.carrier.specs.declared.action.CarrierWord.{CarrierWord}
 use Rattle.carrier.specs.declared.action.CarrierWord.TheVariants as word
 use Rattle.carrier.specs.Record.{is_id_waiting, is_map_waiting}
-use Rattle.carrier.specs.Carriers.{is_known, carrier_named, place_of}
+use Rattle.carrier.specs.Carriers.{is_known, carrier_named}
 use Rattle.load_port.specs.declared.action.PortAction.{PortAction}
 use Rattle.load_port.specs.declared.action.PortAction.TheVariants as ask
 use Rattle.msgs_300.specs.Primaries.{Message, S3F17, S3F25, S3F27}
@@ -23,9 +21,12 @@ use Rattle.gem_model.specs.Shop.{carrier_action, port_word, carrier_caack, port_
 use Rattle.gem_model.specs.Messages.{carrier_done, port_done, shop_done}
 use Rattle.shop_floor.proofs.Shapes.{not_table_1, not_table_2, not_table_3}
 use Rattle.gem_model.specs.State.{State, is_online}
-use Rattle.gem_model.specs.Values.{Occasion, object_name}
+use Rattle.gem_model.specs.Values.{Occasion}
+use Rattle.gem_model.specs.Machines.{creations, fire_floor, object_name, row_starts, takes_effect}
 use Rattle.gem_model.specs.Noting.{line_behind}
-use Rattle.gem_model.specs.Fire.{fire, fire_all, advanced, fire_floor, takes_effect, creations}
+use Rattle.gem_model.specs.Fire.{fire, fire_all, advanced}
+use Rattle.shop_floor.specs.Machines.{floor_starts, creation_rows, creates, floor_least, object_name as floor_object}
+use Rattle.gem_model.proofs.OnFloor.{starts_as, effect_as, creations_as, object_as}
 use Rattle.gem_model.proofs.Tests.{either_way}
 
 -- a row of tables 4 to 10
@@ -39,14 +40,20 @@ AreFloorRows [] = Unit {0}
 AreFloorRows (f ∷ fs) = IsFloorRow f × AreFloorRows fs
 
 pub effect_is : (g : State) (f : Firing) → IsFloorRow f → takes_effect g f ≡ fire_floor f g
-effect_is g f is = rw (is.not_1, is.not_2, is.not_3) refl
+effect_is g f is = effect_as g f ∙ rw (is.not_1, is.not_2, is.not_3) refl
+
+pub starts_is : (g : State) (f : Firing) → IsFloorRow f → row_starts g f ≡ floor_starts f g.floor
+starts_is g f is = starts_as g f ∙ rw (is.not_1, is.not_2, is.not_3) refl
+
+pub creations_is : (g : State) (f : Firing) → IsFloorRow f → creations g f ≡ creation_rows f g.floor
+creations_is g f is = creations_as g f ∙ rw (is.not_1, is.not_2, is.not_3) refl
+
+pub object_is : (g : State) (f : Firing) → IsFloorRow f → object_name g f ≡ floor_object f g.floor
+object_is g f is = object_as g f ∙ rw (is.not_1, is.not_2, is.not_3) refl
 
 -- those that are ready by themselves are such rows
 pub ready_is : (g : State) (f : Firing) → floor_least g.floor ≡ Some f → IsFloorRow f
 ready_is g f ready = record { not_1 = not_table_1 g.floor f ready; not_2 = not_table_2 g.floor f ready; not_3 = not_table_3 g.floor f ready }
-
-pub at_port_are : (table row : ℕ) (f : Floor) (port : ℕ) → IsFloorRow (firing table (port - 1) row) → AreFloorRows (at_port table row f port)
-at_port_are table row f port is = either_way AreFloorRows (is_no_port port f.ports) [] (firing table (port - 1) row ∷ []) tt (is, tt)
 
 pub both_are : (fs gs : List Firing) → AreFloorRows fs → AreFloorRows gs → AreFloorRows (fs ++ gs)
 both_are [] gs first next = next
@@ -67,61 +74,60 @@ is_7 n row = record { not_1 = refl; not_2 = refl; not_3 = refl }
 pub is_8 : (n row : ℕ) → IsFloorRow (firing 8 n row)
 is_8 n row = record { not_1 = refl; not_2 = refl; not_3 = refl }
 
-pub service_are : (on : Bool) (f : Floor) (port : ℕ) → AreFloorRows (at_port 4 (if on then 1 else 2) f port)
-service_are on f port = at_port_are 4 (if on then 1 else 2) f port (is_4 (port - 1) (if on then 1 else 2))
+is_9 : (n row : ℕ) → IsFloorRow (firing 9 n row)
+is_9 n row = record { not_1 = refl; not_2 = refl; not_3 = refl }
 
-pub access_are : (auto : Bool) (f : Floor) (port : ℕ) → AreFloorRows (at_port 5 (if auto then 1 else 2) f port)
-access_are auto f port = at_port_are 5 (if auto then 1 else 2) f port (is_5 (port - 1) (if auto then 1 else 2))
+is_10 : (n row : ℕ) → IsFloorRow (firing 10 n row)
+is_10 n row = record { not_1 = refl; not_2 = refl; not_3 = refl }
 
-pub placing_are : (f : Floor) (port : ℕ) → AreFloorRows (at_port 4 3 f port)
-placing_are f port = at_port_are 4 3 f port (is_4 (port - 1) 3)
+pub service_are : (on : Bool) (port : ℕ) → AreFloorRows (at_port 4 (if on then 1 else 2) port)
+service_are on port = (is_4 port (if on then 1 else 2), tt)
 
-pub removal_are : (f : Floor) (port : ℕ) → AreFloorRows (removal port f)
-removal_are f port = both_are (at_port 4 5 f port) (at_port 7 6 f port) (at_port_are 4 5 f port (is_4 (port - 1) 5)) (at_port_are 7 6 f port (is_7 (port - 1) 6))
+pub access_are : (auto : Bool) (port : ℕ) → AreFloorRows (at_port 5 (if auto then 1 else 2) port)
+access_are auto port = (is_5 port (if auto then 1 else 2), tt)
+
+pub placing_are : (port : ℕ) → AreFloorRows (at_port 4 3 port)
+placing_are port = (is_4 port 3, tt)
+
+pub removal_are : (port : ℕ) → AreFloorRows (removal port)
+removal_are port = (is_4 port 5, (is_7 port 6, tt))
 
 creation_are : (name : List ℕ) (f : Floor) → AreFloorRows (creation_of name f)
-creation_are name f = either_way AreFloorRows (is_known name f.carriers) [] (firing 8 _ 1 ∷ []) tt (is_8 _ 1, tt)
+creation_are name f = either_way AreFloorRows (is_known name f.carriers) [] (firing 8 f.next_carrier 1 ∷ []) tt (is_8 f.next_carrier 1, tt)
 
-place_are : (table row : ℕ) (place : Option ℕ) → ((n : ℕ) → IsFloorRow (firing table n row)) → AreFloorRows (at_place table row place)
-place_are table row None is = tt
-place_are table row (Some n) is = (is n, tt)
+unbinding_are : (number : ℕ) → AreFloorRows (unbinding number)
+unbinding_are number = (is_6 number 2, (is_7 number 2, tt))
 
-unbinding_are : (number : ℕ) (f : Floor) → AreFloorRows (unbinding number f)
-unbinding_are number f = both_are (at_port 6 2 f number) (at_port 7 2 f number) (at_port_are 6 2 f number (is_6 (number - 1) 2)) (at_port_are 7 2 f number (is_7 (number - 1) 2))
+proceeding_are : (c : Option Carrier) → AreFloorRows (proceeding c)
+proceeding_are None = tt
+proceeding_are (Some c) =
+    either_way AreFloorRows (is_id_waiting c.states.id) (firing 8 c.number 4 ∷ []) (firing 9 c.number 3 ∷ []) (is_8 c.number 4, tt) (is_9 c.number 3, tt)
 
-proceeding_are : (c : Option Carrier) (place : Option ℕ) → AreFloorRows (proceeding c place)
-proceeding_are None place = tt
-proceeding_are (Some c) place =
-    either_way AreFloorRows (is_id_waiting c.states.id) (at_place 8 4 place) (at_place 9 3 place)
-    (place_are 8 4 place (λ n. is_8 n 4)) (place_are 9 3 place (λ n. record { not_1 = refl; not_2 = refl; not_3 = refl }))
-
-cancelling_are : (c : Option Carrier) (place : Option ℕ) → AreFloorRows (cancelling c place)
-cancelling_are None place = tt
-cancelling_are (Some c) place =
-    either_way AreFloorRows (is_id_waiting c.states.id) (at_place 8 5 place) (if is_map_waiting c.states.map then at_place 9 4 place else at_place 10 4 place)
-    (place_are 8 5 place (λ n. is_8 n 5))
-    (either_way AreFloorRows (is_map_waiting c.states.map) (at_place 9 4 place) (at_place 10 4 place)
-    (place_are 9 4 place (λ n. record { not_1 = refl; not_2 = refl; not_3 = refl })) (place_are 10 4 place (λ n. record { not_1 = refl; not_2 = refl; not_3 = refl })))
+cancelling_are : (c : Option Carrier) → AreFloorRows (cancelling c)
+cancelling_are None = tt
+cancelling_are (Some c) =
+    either_way AreFloorRows (is_id_waiting c.states.id) (firing 8 c.number 5 ∷ []) (if is_map_waiting c.states.map then firing 9 c.number 4 ∷ [] else firing 10 c.number 4 ∷ [])
+    (is_8 c.number 5, tt)
+    (either_way AreFloorRows (is_map_waiting c.states.map) (firing 9 c.number 4 ∷ []) (firing 10 c.number 4 ∷ []) (is_9 c.number 4, tt) (is_10 c.number 4, tt))
 
 pub word_are : (w : CarrierWord) (a : CarrierAction) (f : Floor) → AreFloorRows (word_rows w a f)
 word_are word.Bind a f =
-    both_are (creation_of a.id f) (at_port 6 1 f a.port ++ at_port 7 1 f a.port) (creation_are a.id f)
-    (both_are (at_port 6 1 f a.port) (at_port 7 1 f a.port) (at_port_are 6 1 f a.port (is_6 (a.port - 1) 1)) (at_port_are 7 1 f a.port (is_7 (a.port - 1) 1)))
-word_are word.CancelBind a f = unbinding_are (port_number_of (carrier_named a.id f.carriers)) f
-word_are word.Proceed a f = proceeding_are (carrier_named a.id f.carriers) (place_of a.id f.carriers)
-word_are word.Cancel a f = cancelling_are (carrier_named a.id f.carriers) (place_of a.id f.carriers)
+    both_are (creation_of a.id f) (at_port 6 1 a.port ++ at_port 7 1 a.port) (creation_are a.id f) (is_6 a.port 1, (is_7 a.port 1, tt))
+word_are word.CancelBind a f = unbinding_are (port_number_of (carrier_named a.id f.carriers))
+word_are word.Proceed a f = proceeding_are (carrier_named a.id f.carriers)
+word_are word.Cancel a f = cancelling_are (carrier_named a.id f.carriers)
 word_are word.Notify a f = creation_are a.id f
 word_are word.CancelNotify a f = tt
 word_are word.Unknown a f = tt
 
-ports_are : (row : ℕ) (f : Floor) (numbers : List ℕ) → AreFloorRows (at_ports 5 row f numbers)
-ports_are row f [] = tt
-ports_are row f (n ∷ ns) = both_are (at_port 5 row f n) (at_ports 5 row f ns) (at_port_are 5 row f n (is_5 (n - 1) row)) (ports_are row f ns)
+ports_are : (row : ℕ) (numbers : List ℕ) → AreFloorRows (at_ports 5 row numbers)
+ports_are row [] = tt
+ports_are row (n ∷ ns) = (is_5 n row, ports_are row ns)
 
 action_are : (a : PortAction) (f : Floor) → AreFloorRows (port_rows a f)
-action_are (ask.Reserve number) f = at_port_are 6 1 f number (is_6 (number - 1) 1)
-action_are (ask.CancelReserve number) f = at_port_are 6 2 f number (is_6 (number - 1) 2)
-action_are (ask.Access mode numbers) f = ports_are (mode_row mode) f (or_all numbers f)
+action_are (ask.Reserve number) f = (is_6 number 1, tt)
+action_are (ask.CancelReserve number) f = (is_6 number 2, tt)
+action_are (ask.Access mode numbers) f = ports_are (mode_row mode) (or_all numbers f)
 action_are ask.Unknown f = tt
 
 pub carrier_are : (a : CarrierAction) (g : State) (code : ℕ) → AreFloorRows (carrier_done g a code).rows

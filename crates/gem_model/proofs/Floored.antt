@@ -14,7 +14,7 @@ use Rattle.spool.specs.declared.note.Note.{Note}
 use Rattle.load_port.specs.Ports.{most_ports}
 use Rattle.carrier.specs.Carriers.{most_carriers}
 use Rattle.shop_floor.specs.Floor.{arrival_of}
-use Rattle.shop_floor.specs.Rows.{floor_starts}
+use Rattle.shop_floor.specs.Machines.{floor_starts}
 use Rattle.shop_floor.specs.Valid.{IsFloor}
 use Rattle.shop_floor.proofs.Keeps.{opening-valid, row-keeps, came-keeps}
 use Rattle.shop_floor.proofs.Asked.{written-keeps}
@@ -27,12 +27,15 @@ use Rattle.tool_events.specs.declared.event.Event.{Event}
 use Rattle.transactions.specs.declared.transaction.What.TheVariants as what
 use Rattle.gem_model.specs.State.{State, opening, around, can_ask, none_asked, raised}
 use Rattle.gem_model.specs.Sending.{asks, identity_text}
-use Rattle.gem_model.specs.Fire.{fire, fire_listed, fire_comm, fire_control, fire_line, fire_floor, row_starts, delay_end, forgets, asks_first}
-use Rattle.gem_model.specs.Ready.{least, ready_line, ready_floor}
+use Rattle.gem_model.specs.Fire.{fire, fire_listed}
+use Rattle.gem_model.specs.Effects.{fire_comm, fire_control, fire_line, delay_end, forgets, asks_first}
+use Rattle.gem_model.specs.Machines.{fire_floor, row_starts, least}
+use Rattle.gem_model.specs.Ready.{ready_line, ready_floor}
 use Rattle.gem_model.proofs.Effects.{asks_host, gives_up, least_is}
 use Rattle.gem_model.specs.Settle.{settled, settling, Along}
 use Rattle.gem_model.specs.Step.{Outcome, acts}
 use Rattle.gem_model.specs.Run.{Run}
+use Rattle.gem_model.proofs.OnFloor.{effect_as, starts_as}
 use Rattle.gem_model.proofs.Tests.{went, either_way, or_went, none_some}
 use Rattle.gem_model.proofs.FloorRows.{effect_is, ready_is}
 use Rattle.gem_model.proofs.Each.{Each, each_kept}
@@ -137,7 +140,7 @@ sound_each = record {
     answer = λ g valid. valid;
     came = λ g port name slots valid. came-keeps port (arrival_of port name slots g.floor.carriers) g.floor valid;
     written = λ g a is valid. written-keeps a g.floor is valid;
-    row = λ g f listed is valid. by_tables (f.row.table == 1) (f.row.table == 2) (f.row.table == 3) f f.row.row g is valid;
+    row = λ g f listed is valid. subst Sound (sym (effect_as g f)) (by_tables (f.row.table == 1) (f.row.table == 2) (f.row.table == 3) f f.row.row g (sym (starts_as g f) ∙ is) valid);
     ready = λ g f ready valid. sound_automatic g f ready valid;
     created = λ g n valid. sound_creation g n valid;
   };

@@ -18,14 +18,17 @@ use Rattle.tool_events.specs.declared.event.Event.{Event}
 use Rattle.transactions.specs.declared.transaction.What.TheVariants as what
 use Rattle.gem_model.specs.State.{State, is_online, around, can_ask, none_asked, raised}
 use Rattle.gem_model.specs.Sending.{asks, identity_text}
-use Rattle.gem_model.specs.Values.{Occasion, object_name}
+use Rattle.gem_model.specs.Values.{Occasion}
+use Rattle.gem_model.specs.Machines.{object_name, fire_floor, takes_effect, least}
 use Rattle.gem_model.specs.Noting.{line_behind, line_with_alarm, alarm_line, line_with_event, is_event_reported, is_alarm_reported}
-use Rattle.gem_model.specs.Fire.{fire, fire_comm, fire_control, fire_line, fire_floor, takes_effect, delay_end, forgets}
-use Rattle.gem_model.specs.Ready.{least, ready_line, ready_floor}
+use Rattle.gem_model.specs.Fire.{fire}
+use Rattle.gem_model.specs.Effects.{fire_comm, fire_control, fire_line, delay_end, forgets}
+use Rattle.gem_model.specs.Ready.{ready_line, ready_floor}
 use Rattle.gem_model.proofs.Effects.{asks_host, gives_up, least_is}
 use Rattle.gem_model.specs.Step.{Outcome, step, step_from}
+use Rattle.gem_model.proofs.OnFloor.{effect_as, starts_as}
 use Rattle.gem_model.proofs.Tests.{went, either_way, or_went, none_some}
-use Rattle.shop_floor.specs.Rows.{floor_starts}
+use Rattle.shop_floor.specs.Machines.{floor_starts}
 use Rattle.gem_model.proofs.FloorRows.{LeftAlone, alone_fire, ready_is, is_8}
 use Rattle.gem_model.proofs.Each.{Each, each_kept}
 use Rattle.gem_model.proofs.Walk.{kept_step_from}
@@ -144,7 +147,7 @@ lined_each g = record {
     answer = λ h lined. lined_then g h (record h { line = answered h.line }) lined (answered-keeps h.line);
     came = λ h port name slots lined. lined;
     written = λ h a is lined. lined;
-    row = λ h f listed is lined. lined_then g h (takes_effect h f) lined (by_tables (f.row.table == 1) (f.row.table == 2) (f.row.table == 3) f f.row.row h listed is);
+    row = λ h f listed is lined. lined_then g h (takes_effect h f) lined (subst (Lined h) (sym (effect_as h f)) (by_tables (f.row.table == 1) (f.row.table == 2) (f.row.table == 3) f f.row.row h listed (sym (starts_as h f) ∙ is)));
     ready = λ h f ready lined. lined_then g h (fire h f) lined (lined_automatic h f ready);
     created = λ h n lined. lined_then g h (fire h (firing 8 n 1)) lined (lined_creation h n);
   };

@@ -13,13 +13,15 @@ use Rattle.transactions.specs.declared.transaction.What.{What}
 use Rattle.transactions.specs.declared.transaction.What.TheVariants as what
 use Rattle.transactions.specs.Endings.{first_of}
 use Rattle.gem_model.specs.State.{State, is_online}
-use Rattle.gem_model.specs.Values.{Occasion, object_name}
+use Rattle.gem_model.specs.Values.{Occasion}
+use Rattle.gem_model.specs.Machines.{object_name, row_starts, takes_effect}
 use Rattle.gem_model.specs.Noting.{line_behind}
 use Rattle.gem_rows.specs.Events.{ceid_of}
 use Rattle.std.proofs.lemmas.Bool.{true≢false}
 use Rattle.gem_states.specs.Control.{control_starts}
 use Rattle.gem_states.specs.declared.control.Control.TheVariants.{Attempt}
-use Rattle.gem_model.specs.Fire.{fire, advanced, fire_listed, row_starts, takes_effect, control_effect, of_comm, of_control, of_line}
+use Rattle.gem_model.specs.Fire.{fire, advanced, fire_listed, of_comm, of_control, of_line}
+use Rattle.gem_model.specs.Effects.{control_effect}
 use Rattle.gem_model.specs.Remote.{Decision, refused, goes_local, clears, decided}
 use Rattle.gem_model.specs.HostMessages.{HostMessage, Gem, Shop}
 use Rattle.gem_model.specs.Messages.{done, gem_done, shop_done, remote_done}
@@ -139,11 +141,11 @@ free_local g = elsewhere 11 refl (λ g. refl)
 pub free_remote : (g : State) → AreFree (by_control trigger.Remote g)
 free_remote g = elsewhere 10 refl (λ g. refl)
 
-pub free_service : (port : ℕ) (on : Bool) (g : State) → AreFree (at_port 4 (if on then 1 else 2) g.floor port)
-free_service port on g = of_floor (at_port 4 (if on then 1 else 2) g.floor port) (service_are on g.floor port)
+pub free_service : (port : ℕ) (on : Bool) (g : State) → AreFree (at_port 4 (if on then 1 else 2) port)
+free_service port on g = of_floor (at_port 4 (if on then 1 else 2) port) (service_are on port)
 
-pub free_access : (port : ℕ) (auto : Bool) (g : State) → AreFree (at_port 5 (if auto then 1 else 2) g.floor port)
-free_access port auto g = of_floor (at_port 5 (if auto then 1 else 2) g.floor port) (access_are auto g.floor port)
+pub free_access : (port : ℕ) (auto : Bool) (g : State) → AreFree (at_port 5 (if auto then 1 else 2) port)
+free_access port auto g = of_floor (at_port 5 (if auto then 1 else 2) port) (access_are auto port)
 
 free_decided : (d : Decision) (g : State) → AreFree (remote_done g d).rows
 free_decided (refused code faults) g = tt
@@ -169,8 +171,8 @@ pub free_message : (m : HostMessage) (g : State) → AreFree (done g m).rows
 free_message (Gem m) g = free_gem m g
 free_message (Shop m) g = of_floor (shop_done g m).rows (shop_are m g)
 
-pub free_placing : (port : ℕ) (g : State) → AreFree (at_port 4 3 g.floor port)
-free_placing port g = of_floor (at_port 4 3 g.floor port) (placing_are g.floor port)
+pub free_placing : (port : ℕ) (g : State) → AreFree (at_port 4 3 port)
+free_placing port g = of_floor (at_port 4 3 port) (placing_are port)
 
-pub free_removal : (port : ℕ) (g : State) → AreFree (removal port g.floor)
-free_removal port g = of_floor (removal port g.floor) (removal_are g.floor port)
+pub free_removal : (port : ℕ) (g : State) → AreFree (removal port)
+free_removal port g = of_floor (removal port) (removal_are port)

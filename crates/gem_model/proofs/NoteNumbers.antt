@@ -38,11 +38,12 @@ use Rattle.transactions.proofs.Systems.{without-none}
 use Rattle.transactions.proofs.Laws.{table-taken_out, table-started, found-there}
 use Rattle.gem_model.specs.State.{State, opening, t3, with_frame, is_communicating, is_online, around, can_ask, none_asked, without_session, raised}
 use Rattle.gem_model.specs.Sending.{asks, data_frame, identity_text}
-use Rattle.gem_model.specs.Values.{object_name}
+use Rattle.gem_model.specs.Machines.{object_name, fire_floor, takes_effect, row_starts, least}
 use Rattle.gem_model.specs.Noting.{line_with_alarm}
-use Rattle.gem_model.specs.Fire.{advanced, asks_first, stream_of_kind, function_of_kind, fire, fires, fire_listed, fire_comm, fire_control, fire_line, fire_floor, takes_effect, row_starts, delay_end, forgets, of_control}
+use Rattle.gem_model.specs.Fire.{advanced, fire, fires, fire_listed, of_control}
+use Rattle.gem_model.specs.Effects.{asks_first, stream_of_kind, function_of_kind, fire_comm, fire_control, fire_line, delay_end, forgets}
 use Rattle.gem_model.specs.Direct.{answer_rows, timeout_rows, establish_answer, attempt_answer, by_comm, by_control, note_fails, operator_rows}
-use Rattle.gem_model.specs.Ready.{least, ready_line, ready_floor}
+use Rattle.gem_model.specs.Ready.{ready_line, ready_floor}
 use Rattle.gem_model.proofs.Effects.{asks_host, gives_up, least_is, spares, comm_effect_spared, control_effect_case}
 use Rattle.gem_model.specs.Verdict.{function_of}
 use Rattle.gem_model.specs.Act.{note_answered, closed_by, session_ended}
@@ -50,6 +51,7 @@ use Rattle.gem_model.specs.Due.{timed_out}
 use Rattle.gem_model.specs.Run.{Run}
 use Rattle.gem_model.specs.Valid.{notes, count_of}
 use Rattle.gem_model.specs.OpenNotes.{note_number, note_numbers, number_of, open_number}
+use Rattle.gem_model.proofs.OnFloor.{effect_as}
 use Rattle.gem_model.proofs.Tests.{went, either_way, or_went, none_some}
 use Rattle.gem_model.proofs.LineRows.{line_went, opened_by, oldest_opened, head_opened}
 use Rattle.gem_model.specs.Noting.{line_behind}
@@ -217,7 +219,7 @@ quiet_8 : (n : ℕ) → IsQuiet (firing 8 n 1)
 quiet_8 n = (refl, λ is. absurd (cc))
 
 with_fire : (ns : List ℕ) (g : State) (f : Firing) → IsQuiet f → With ns g.transactions.opened → With ns (fire g f).transactions.opened
-with_fire ns g f quiet is = of (f.row.table == 1) (f.row.table == 2) (f.row.table == 3) quiet.0 quiet.1 where
+with_fire ns g f quiet is = subst (λ (h : State). With ns h.transactions.opened) (sym (effect_as g f)) (of (f.row.table == 1) (f.row.table == 2) (f.row.table == 3) quiet.0 quiet.1) where
   of : (first second third : Bool) → third ≡ false → (first ≡ true → spares (row_of (communication_table 0) f.row.row) ≡ true) → With ns (if first then fire_comm f.row.row g else (if second then fire_control f.row.row g else (if third then fire_line f.row.row g else fire_floor f g))).transactions.opened
   of true second third none never = with_comm ns g f.row.row (never refl) is
   of false true third none never = with_control ns g f.row.row is
@@ -225,7 +227,7 @@ with_fire ns g f quiet is = of (f.row.table == 1) (f.row.table == 2) (f.row.tabl
   of false false false none never = is
 
 open_effect : (g : State) (f : Firing) → IsQuiet f → (takes_effect g f).line.opened ≡ g.line.opened
-open_effect g f quiet = of (f.row.table == 1) (f.row.table == 2) (f.row.table == 3) quiet.0 where
+open_effect g f quiet = ap (λ (h : State). h.line.opened) (effect_as g f) ∙ of (f.row.table == 1) (f.row.table == 2) (f.row.table == 3) quiet.0 where
   of : (first second third : Bool) → third ≡ false → (if first then fire_comm f.row.row g else (if second then fire_control f.row.row g else (if third then fire_line f.row.row g else fire_floor f g))).line.opened ≡ g.line.opened
   of true second third none = ap (λ (l : Line). l.opened) (line_comm g f.row.row)
   of false true third none = ap (λ (l : Line). l.opened) (line_control g f.row.row)

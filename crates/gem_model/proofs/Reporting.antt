@@ -40,9 +40,11 @@ use Rattle.transactions.specs.declared.transaction.What.TheVariants as what
 use Rattle.transactions.specs.Table.{taken_out}
 use Rattle.gem_model.specs.State.{State, opening, is_up, is_session_up, is_online, around, without_session, raised}
 use Rattle.gem_model.specs.Sending.{sends_stream9, data_header}
-use Rattle.gem_model.specs.Values.{Occasion, object_name}
+use Rattle.gem_model.specs.Values.{Occasion}
+use Rattle.gem_model.specs.Machines.{object_name, creations, fire_floor, takes_effect, row_starts}
 use Rattle.gem_model.specs.Noting.{sets_alarm, line_behind, line_with_event, is_event_reported, is_alarm_reported, line_with_alarm, clears_alarm}
-use Rattle.gem_model.specs.Fire.{fire, fire_all, advanced, creations, fires, fire_listed, fire_comm, fire_control, fire_line, fire_floor, takes_effect, row_starts}
+use Rattle.gem_model.specs.Fire.{fire, fire_all, advanced, fires, fire_listed}
+use Rattle.gem_model.specs.Effects.{fire_comm, fire_control, fire_line}
 use Rattle.gem_model.specs.Remote.{Decision, refused, goes_local, clears, decided}
 use Rattle.gem_model.specs.HostMessages.{HostMessage, Gem, Shop, reply_text}
 use Rattle.gem_model.specs.Messages.{done, gem_done, shop_done, remote_done, clock_set}
@@ -55,6 +57,7 @@ use Rattle.gem_model.specs.Step as steps
 use Rattle.gem_model.specs.Step.{Outcome, answered, ends, ended_by, step, step_from, acts, linked, hosted, can_clear, operated, switched, quits, settles}
 use Rattle.gem_model.specs.Run.{Run, entry_after}
 use Rattle.gem_model.specs.Reported.{Reported, by_event, by_firing, by_firings, by_advance, by_listed, by_rows, by_settling, by_clearing, by_setting, by_placed, by_removed, by_signal, by_decision, by_message, by_message_rows, by_taken, by_closing, by_data, by_session_end, by_host, by_switched, by_operator, by_due, by_dues, by_act, by_settling_behind, by_step_from, by_step, reported_in}
+use Rattle.gem_model.proofs.OnFloor.{effect_as}
 use Rattle.gem_model.proofs.Tests.{went, either_way, none_some}
 use Rattle.gem_model.proofs.Lined.{SameLine, line_comm, line_control}
 use Rattle.gem_model.proofs.Runs.{after-step}
@@ -97,7 +100,7 @@ told_same : (g h : State) → SameLine g h → told_in h ≡ told_in g
 told_same g h same = subst (λ (l : Line). map tells l.told ≡ told_in g) (sym same) refl
 
 told_effect : (g : State) (f : Firing) → told_in (takes_effect g f) ≡ told_in g
-told_effect g f = of (f.row.table == 1) (f.row.table == 2) (f.row.table == 3) where
+told_effect g f = ap told_in (effect_as g f) ∙ of (f.row.table == 1) (f.row.table == 2) (f.row.table == 3) where
   of : (first second third : Bool) → told_in (if first then fire_comm f.row.row g else (if second then fire_control f.row.row g else (if third then fire_line f.row.row g else fire_floor f g))) ≡ told_in g
   of true second third = told_same g (fire_comm f.row.row g) (line_comm g f.row.row)
   of false true third = told_same g (fire_control f.row.row g) (line_control g f.row.row)
@@ -162,15 +165,15 @@ tells_set g alid =
 
 tells_placed : (g : State) (port : ℕ) (name : Option (List ℕ)) (slots : List ℕ) → Tells g (by_placed port name slots g) (placed port name slots g)
 tells_placed g port name slots =
-    both_ways g (port_row_starts 3 port g) (fire_listed (at_port 4 3 g.floor port) (with_arrival port name slots g)) (sets_alarm (port_alarm port) g)
-    (by_listed (at_port 4 3 g.floor port) (with_arrival port name slots g)) (by_setting (port_alarm port) g)
-    (tells_listed (at_port 4 3 g.floor port) (with_arrival port name slots g)) (tells_set g (port_alarm port))
+    both_ways g (port_row_starts 3 port g) (fire_listed (at_port 4 3 port) (with_arrival port name slots g)) (sets_alarm (port_alarm port) g)
+    (by_listed (at_port 4 3 port) (with_arrival port name slots g)) (by_setting (port_alarm port) g)
+    (tells_listed (at_port 4 3 port) (with_arrival port name slots g)) (tells_set g (port_alarm port))
 
 tells_removed : (g : State) (port : ℕ) → Tells g (by_removed port g) (removed port g)
 tells_removed g port =
-    both_ways g (port_row_starts 5 port g) (fire_listed (removal port g.floor) g) (sets_alarm (port_alarm port) g)
-    (by_listed (removal port g.floor) g) (by_setting (port_alarm port) g)
-    (tells_listed (removal port g.floor) g) (tells_set g (port_alarm port))
+    both_ways g (port_row_starts 5 port g) (fire_listed (removal port) g) (sets_alarm (port_alarm port) g)
+    (by_listed (removal port) g) (by_setting (port_alarm port) g)
+    (tells_listed (removal port) g) (tells_set g (port_alarm port))
 
 tells_signalled : (s : Signal) (g : State) → Tells g (by_signal s g) (signalled s g)
 tells_signalled (equipment.Placed port name slots) g = both_ways g (lacks_port port.0 g) g (placed port.0 name slots g) [] (by_placed port.0 name slots g) (tells_at g) (tells_placed g port.0 name slots)

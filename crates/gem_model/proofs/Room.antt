@@ -39,11 +39,14 @@ use Rattle.transactions.specs.SystemBytes.{drawn, with_started}
 use Rattle.transactions.specs.Endings.{same_kind, first_of}
 use Rattle.gem_model.specs.State.{State, t3, is_selected, is_communicating, is_online, around, can_ask, without_session, with_frame}
 use Rattle.gem_model.specs.Sending.{asks, identity_text, data_frame}
-use Rattle.gem_model.specs.Fire.{fire, advanced, fires, control_effect, fire_listed, row_starts, takes_effect, asks_first, stream_of_kind, function_of_kind, delay_end, of_control}
-use Rattle.gem_model.specs.Values.{Occasion, object_name}
+use Rattle.gem_model.specs.Fire.{fire, advanced, fires, fire_listed, of_control}
+use Rattle.gem_model.specs.Effects.{control_effect, asks_first, stream_of_kind, function_of_kind, delay_end}
+use Rattle.gem_model.specs.Machines.{row_starts, takes_effect, object_name, least}
+use Rattle.gem_model.specs.Values.{Occasion}
 use Rattle.gem_model.specs.Noting.{line_behind, line_with_event, line_with_alarm, is_event_reported, is_alarm_reported}
 use Rattle.gem_model.specs.Direct.{by_comm, by_control, note_fails, operator_rows, answer_rows, timeout_rows}
-use Rattle.gem_model.specs.Ready.{least, ready_line, ready_floor, is_attempt}
+use Rattle.gem_model.specs.Ready.{ready_line, ready_floor}
+use Rattle.gem_model.specs.Wants.{is_attempt}
 use Rattle.gem_model.proofs.Effects.{asks_host, gives_up, least_is}
 use Rattle.gem_model.specs.Measure.{one_if, is_wait_delay}
 use Rattle.gem_model.specs.Verdict.{function_of}

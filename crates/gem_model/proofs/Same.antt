@@ -1,5 +1,5 @@
 -- What a change of the state leaves alone: the configuration, the link, and whether the run was ended.
-use Rattle.std.proofs.Common.{◌≡◌, ℕ, ◌==◌, Bool, if◌then◌else◌, List, [], ◌∷◌, refl, ◌∙◌}
+use Rattle.std.proofs.Common.{◌≡◌, ℕ, ◌==◌, Bool, if◌then◌else◌, List, [], ◌∷◌, refl, sym, subst, ◌∙◌}
 use Rattle.hsms_frame.specs.declared.frame.Arrival.{Arrival}
 use Rattle.tool_events.specs.declared.event.OperCmd.{OperCmd}
 use Rattle.transactions.specs.declared.transaction.What.{What}
@@ -16,7 +16,9 @@ use Rattle.gem_tables.specs.declared.firing.Firing.{Firing}
 use Rattle.gem_model.specs.State.{State, none_asked, can_ask}
 use Rattle.gem_model.specs.Sending.{asks, identity_text}
 use Rattle.spool.specs.declared.note.Note.{Note}
-use Rattle.gem_model.specs.Fire.{fire, advanced, fire_listed, fire_comm, fire_control, fire_line, fire_floor, comm_effect, control_effect, line_effect, asks_first, takes_effect, stream_of_kind, function_of_kind, delay_end, forgets, row_starts}
+use Rattle.gem_model.specs.Fire.{fire, advanced, fire_listed}
+use Rattle.gem_model.specs.Effects.{fire_comm, fire_control, fire_line, comm_effect, control_effect, line_effect, asks_first, stream_of_kind, function_of_kind, delay_end, forgets}
+use Rattle.gem_model.specs.Machines.{fire_floor, takes_effect, row_starts}
 use Rattle.gem_model.specs.Verdict.{verdict, header_of, item_of}
 use Rattle.gem_model.specs.Act.{data_done}
 use Rattle.gem_model.specs.HostMessages.{HostMessage}
@@ -24,6 +26,7 @@ use Rattle.gem_model.specs.Messages.{done}
 use Rattle.gem_model.specs.Due.{timed_out}
 use Rattle.gem_model.specs.Step.{switched}
 use Rattle.gem_model.specs.Settle.{settled}
+use Rattle.gem_model.proofs.OnFloor.{effect_as}
 use Rattle.gem_model.proofs.Tests.{either_way}
 use Rattle.tool_events.specs.declared.event.Signal.{Signal}
 use Rattle.gem_model.specs.Signals.{signalled}
@@ -80,9 +83,10 @@ same_line g row =
 
 same_effect : (g : State) (f : Firing) → Same g (takes_effect g f)
 same_effect g f =
-    same_either g (f.row.table == 1) (fire_comm f.row.row g) (if f.row.table == 2 then fire_control f.row.row g else (if f.row.table == 3 then fire_line f.row.row g else fire_floor f g)) (same_comm g f.row.row)
+    subst (Same g) (sym (effect_as g f))
+    (same_either g (f.row.table == 1) (fire_comm f.row.row g) (if f.row.table == 2 then fire_control f.row.row g else (if f.row.table == 3 then fire_line f.row.row g else fire_floor f g)) (same_comm g f.row.row)
     (same_either g (f.row.table == 2) (fire_control f.row.row g) (if f.row.table == 3 then fire_line f.row.row g else fire_floor f g) (same_control g f.row.row)
-    (same_either g (f.row.table == 3) (fire_line f.row.row g) (fire_floor f g) (same_line g f.row.row) (record { config = refl; link = refl; quitting = refl })))
+    (same_either g (f.row.table == 3) (fire_line f.row.row g) (fire_floor f g) (same_line g f.row.row) (record { config = refl; link = refl; quitting = refl }))))
 
 pub same_fire : (g : State) (f : Firing) → Same g (fire g f)
 same_fire g f = let effect = same_effect g f in record { config = effect.config; link = effect.link; quitting = effect.quitting }

@@ -20,15 +20,18 @@ use Rattle.note_line.specs.Table3 as table
 use Rattle.note_line.specs.Table3.{row_effect}
 use Rattle.note_line.proofs.Falls.{least-falls, noted-left}
 use Rattle.gem_model.specs.State.{State, is_online, around}
-use Rattle.gem_model.specs.Values.{Occasion, value_of, object_name}
+use Rattle.gem_model.specs.Values.{Occasion, value_of}
+use Rattle.gem_model.specs.Machines.{object_name, fire_floor, takes_effect, creations, least}
 use Rattle.gem_model.specs.Noting.{line_with_event, line_behind, is_event_reported, event_text}
-use Rattle.shop_floor.specs.Rows.{creates, floor_fired}
-use Rattle.shop_floor.specs.Ready.{floor_least}
+use Rattle.shop_floor.specs.Machines.{creates, floor_fired}
+use Rattle.shop_floor.specs.Machines.{floor_least}
 use Rattle.shop_floor.specs.Left.{floor_left}
 use Rattle.shop_floor.proofs.Falls.{least_falls as floor_falls}
 use Rattle.shop_floor.proofs.Creations.{creation_same}
-use Rattle.gem_model.specs.Fire.{fire, fire_all, advanced, fire_floor, takes_effect, asks_first, line_effect, creations}
-use Rattle.gem_model.specs.Ready.{least, ready_line, ready_floor, delay_is_over, is_attempt}
+use Rattle.gem_model.specs.Fire.{fire, fire_all, advanced}
+use Rattle.gem_model.specs.Effects.{asks_first, line_effect}
+use Rattle.gem_model.specs.Ready.{ready_line, ready_floor}
+use Rattle.gem_model.specs.Wants.{delay_is_over, is_attempt}
 use Rattle.gem_model.proofs.Effects.{asks_host, gives_up, least_is}
 use Rattle.gem_model.specs.Measure.{left, is_wait_delay, one_if}
 use Rattle.gem_model.specs.Settle.{Path, Settles, settling, settling_by, settled, Along}

@@ -24,8 +24,10 @@ use Rattle.note_line.specs.Order.{Pairwise}
 use Rattle.note_line.proofs.Keeps.{Keeps, fates-same, fates-trans, opening-valid, quiet_first}
 use Rattle.note_line.proofs.Sendings.{never-back}
 use Rattle.gem_model.specs.State.{State, opening, around, is_up, is_selected, raised, first_control, first_kinds}
-use Rattle.gem_model.specs.Fire.{fire, creations}
-use Rattle.gem_model.specs.Ready.{delay_is_over, least, ready_line, ready_floor, is_attempt}
+use Rattle.gem_model.specs.Fire.{fire}
+use Rattle.gem_model.specs.Machines.{creations, least}
+use Rattle.gem_model.specs.Wants.{delay_is_over, is_attempt}
+use Rattle.gem_model.specs.Ready.{ready_line, ready_floor}
 use Rattle.gem_model.proofs.Effects.{asks_host, gives_up, least_is}
 use Rattle.gem_model.specs.Settle.{Path, settled, settling, Along}
 use Rattle.gem_model.specs.Step.{Outcome, step, step_from, acts, settles}

@@ -39,7 +39,8 @@ use Rattle.transactions.specs.Table.{taken_out, without}
 use Rattle.gem_model.specs.State.{State, is_up, is_session_up, raised}
 use Rattle.gem_model.specs.Sending.{sends_stream9, data_header}
 use Rattle.gem_model.specs.Noting.{sets_alarm, clears_alarm}
-use Rattle.gem_model.specs.Fire.{fire, fires, fire_listed, row_starts}
+use Rattle.gem_model.specs.Fire.{fire, fires, fire_listed}
+use Rattle.gem_model.specs.Machines.{row_starts, least, takes_effect}
 use Rattle.gem_model.specs.Remote.{Decision, refused, goes_local, clears, decided}
 use Rattle.gem_model.specs.HostMessages.{HostMessage, Gem, Shop, reply_text}
 use Rattle.gem_model.specs.Messages.{done, gem_done, shop_done, remote_done, carrier_action_done, clock_set}
@@ -47,7 +48,6 @@ use Rattle.gem_model.specs.Spooling.{rspack}
 use Rattle.gem_model.specs.Shop.{is_local, carrier_caack, carrier_action}
 use Rattle.gem_model.specs.Signals.{lacks_port, port_row_starts, port_alarm, with_arrival, placed, removed, signalled, is_ready_to_unload}
 use Rattle.gem_model.specs.Direct.{operator_rows, timeout_rows}
-use Rattle.gem_model.specs.Ready.{least}
 use Rattle.gem_model.specs.Verdict.{Verdict, Discarded, Stream9, Aborted, Answers, Taken, verdict, header_of, item_of, wants_reply, stream_of, function_of}
 use Rattle.gem_model.specs.Act.{replied, taken, closed_by, data_act, session_ended}
 use Rattle.gem_model.specs.Due.{Timeout, dues_with, timeouts, expired_from, link_times, is_due, all_done, asks_linktest, timed_out}
@@ -69,7 +69,6 @@ use Rattle.note_line.specs.declared.around.SpooledKinds.{SpooledKinds}
 use Rattle.gem_model.specs.State.{Clock}
 use Rattle.gem_model.specs.Values.{Occasion}
 use Rattle.gem_model.specs.Noting.{line_behind, line_with_alarm}
-use Rattle.gem_model.specs.Fire.{takes_effect}
 
 -- what keeps a fact of states while link, moment and the end of the run stay: each change that a step is made of, by the field
 -- that it writes, each row, and the moves by which a transaction ends together with what its end does
@@ -212,14 +211,14 @@ module _ (P : State → Type 0) (inner : Inner P) where
 
   kept_placed : (port : ℕ) (name : Option (List ℕ)) (slots : List ℕ) (g : State) → P g → P (placed port name slots g)
   kept_placed port name slots g at =
-      either_way P (port_row_starts 3 port g) (fire_listed (at_port 4 3 g.floor port) (with_arrival port name slots g)) (sets_alarm (port_alarm port) g)
-      (kept_listed (at_port 4 3 g.floor port) (free_placing port g) (with_arrival port name slots g) (inner.came g port name slots at))
+      either_way P (port_row_starts 3 port g) (fire_listed (at_port 4 3 port) (with_arrival port name slots g)) (sets_alarm (port_alarm port) g)
+      (kept_listed (at_port 4 3 port) (free_placing port g) (with_arrival port name slots g) (inner.came g port name slots at))
       (kept_set g (port_alarm port) at)
 
   kept_removed : (port : ℕ) (g : State) → P g → P (removed port g)
   kept_removed port g at =
-      either_way P (port_row_starts 5 port g) (fire_listed (removal port g.floor) g) (sets_alarm (port_alarm port) g)
-      (kept_listed (removal port g.floor) (free_removal port g) g at) (kept_set g (port_alarm port) at)
+      either_way P (port_row_starts 5 port g) (fire_listed (removal port) g) (sets_alarm (port_alarm port) g)
+      (kept_listed (removal port) (free_removal port g) g at) (kept_set g (port_alarm port) at)
 
   pub kept_signalled : (s : Signal) (g : State) → P g → P (signalled s g)
   kept_signalled (signal.Placed port name slots) g at = either_way P (lacks_port port.0 g) g (placed port.0 name slots g) at (kept_placed port.0 name slots g at)

@@ -51,8 +51,8 @@ operator_rows oper.Online g = by_control control.Online g
 operator_rows oper.Offline g = by_control control.Offline g
 operator_rows oper.Local g = by_control control.Local g
 operator_rows oper.Remote g = by_control control.Remote g
-operator_rows (oper.Service port on) g = at_port 4 (if on then 1 else 2) g.floor port.0
-operator_rows (oper.Access port auto) g = at_port 5 (if auto then 1 else 2) g.floor port.0
+operator_rows (oper.Service port on) g = at_port 4 (if on then 1 else 2) port.0
+operator_rows (oper.Access port auto) g = at_port 5 (if auto then 1 else 2) port.0
 operator_rows _ g = []
 
 -- what the answer to the tool's S1F13 does: S1F14 with COMMACK 0 accepts, another S1F14 and S1F0 refuse

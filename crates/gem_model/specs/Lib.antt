@@ -3,6 +3,9 @@ pub mod State
 pub mod Sending
 pub mod Values
 pub mod Noting
+pub mod Effects
+pub mod Wants
+pub mod Machines
 pub mod Fire
 pub mod Remote
 pub mod Spooling

@@ -30,7 +30,8 @@ use Rattle.transactions.specs.Endings.{answered}
 use Rattle.gem_model.specs.State.{State, is_up, is_session_up, is_online, without_session, raised}
 use Rattle.gem_model.specs.Sending.{data_header, sends_stream9}
 use Rattle.gem_model.specs.Noting.{is_event_reported, is_alarm_reported}
-use Rattle.gem_model.specs.Fire.{row_starts, takes_effect, fire, creations, advanced}
+use Rattle.gem_model.specs.Machines.{row_starts, takes_effect, creations}
+use Rattle.gem_model.specs.Fire.{fire, advanced}
 use Rattle.gem_model.specs.Direct.{answer_rows, session_end_rows, timeout_rows, operator_rows}
 use Rattle.gem_model.specs.Remote.{Decision, clears, decided}
 use Rattle.gem_model.specs.HostMessages.{HostMessage, Gem, reply_text}
@@ -98,10 +99,10 @@ by_setting alid g =
 -- a carrier is placed, or removed: the rows, or the alarm
 abbrev pub by_placed : ℕ → Option (List ℕ) → List ℕ → State → List Reported
 by_placed port name slots g =
-    if port_row_starts 3 port g then by_listed (at_port 4 3 g.floor port) (with_arrival port name slots g) else by_setting (port_alarm port) g
+    if port_row_starts 3 port g then by_listed (at_port 4 3 port) (with_arrival port name slots g) else by_setting (port_alarm port) g
 
 abbrev pub by_removed : ℕ → State → List Reported
-by_removed port g = if port_row_starts 5 port g then by_listed (removal port g.floor) g else by_setting (port_alarm port) g
+by_removed port g = if port_row_starts 5 port g then by_listed (removal port) g else by_setting (port_alarm port) g
 
 -- the equipment tells of something
 abbrev pub by_signal : Signal → State → List Reported

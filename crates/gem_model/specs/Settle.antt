@@ -2,8 +2,8 @@
 use Rattle.std.specs.Prelude.{◌≡◌, ℕ, zero, suc, List, [], ◌∷◌, ◌++◌, Option, Some, None}
 use Rattle.gem_tables.specs.declared.firing.Firing.{Firing}
 use Rattle.gem_model.specs.State.{State}
-use Rattle.gem_model.specs.Ready.{least}
-use Rattle.gem_model.specs.Fire.{fire, fire_all, advanced, creations}
+use Rattle.gem_model.specs.Machines.{least, creations}
+use Rattle.gem_model.specs.Fire.{fire, fire_all, advanced}
 use Rattle.gem_model.specs.Measure.{left}
 
 -- The firings lead from g to h, where no row is ready. Each is the first creation row that is due, or, where none is due,

@@ -20,7 +20,8 @@ use Rattle.tool_events.specs.declared.event.SessionCause.TheVariants as cause
 use Rattle.tool_events.specs.declared.event.SessionEnd.{SessionEnd}
 use Rattle.gem_model.specs.State.{State, is_up, is_session_up, raised, with_frame}
 use Rattle.event_reports.specs.Alarms.{is_set}
-use Rattle.gem_model.specs.Fire.{row_starts, fires}
+use Rattle.gem_model.specs.Machines.{row_starts}
+use Rattle.gem_model.specs.Fire.{fires}
 use Rattle.gem_model.specs.Noting.{clears_alarm}
 use Rattle.gem_model.specs.Direct.{operator_rows}
 use Rattle.gem_model.specs.Signals.{lacks_port, signalled, is_ready_to_unload}

@@ -9,6 +9,8 @@ ghost use Rattle.note_line.specs.Line.{Line, opening, next, noted, answered, wit
 ghost use Rattle.note_line.specs.Table3.{least, line_starts, is_direct, row_effect};
 ghost use Rattle.note_line.specs.Left.{left, told_weight};
 ghost use Rattle.note_line.specs.Fates.{LineValid, KeepsFates};
+ghost use Rattle.note_line.specs.Limits.{most_text};
+ghost use Rattle.spool.specs.declared.note.TheConstants.{MOST_TEXT};
 
 /// The line is always valid: it is where no note was made, and stays so where a note is made, a row fires, the open note is
 /// answered, or other kinds of note are to be spooled.
@@ -54,4 +56,9 @@ pub fn the_line_comes_to_rest()
 pub fn sendings_never_go_back()
     ensures { (g h : Line) (earlier later : Note) → LineValid g → LineValid h → KeepsFates g h
         → g.opened ≡ Some earlier → h.opened ≡ Some later → earlier.kind ≡ later.kind → earlier.number ≤ later.number }
+{}
+
+/// The limit of the code is that of the definitions.
+pub fn the_greatest_text_is_that_of_the_definitions()
+    ensures { MOST_TEXT ≡ most_text }
 {}

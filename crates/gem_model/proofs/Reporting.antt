@@ -298,7 +298,7 @@ tells_host g arrival link.Data = tells_data g (header_of arrival) (item_of arriv
 tells_host g arrival link.Ended = tells_ended g
 tells_host g arrival link.Nothing = tells_at g
 
-tells_frame : (g : State) (frames : List (List ℕ)) (o : Outcome) → steps.taken g frames ≡ Some o → TellsTo g [] o
+tells_frame : (g : State) (frames : List (List ℕ)) (o : Outcome) → steps.handed_out g frames ≡ Some o → TellsTo g [] o
 tells_frame g [] o here = none_some o here
 tells_frame g (frame ∷ frames) o here = the_told g [] _ o (tells_at g) here
 

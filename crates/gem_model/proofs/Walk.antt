@@ -276,7 +276,7 @@ module _ (P : State → Type 0) (kept : Kept P) where
   kept_hosted g arrival link.Ended at = kept.ended g at
   kept_hosted g arrival link.Nothing at = at
 
-  kept_frame : (g : State) (frames : List (List ℕ)) (o : Outcome) → P g → steps.taken g frames ≡ Some o → KeptTo o
+  kept_frame : (g : State) (frames : List (List ℕ)) (o : Outcome) → P g → steps.handed_out g frames ≡ Some o → KeptTo o
   kept_frame g [] o at here = none_some o here
   kept_frame g (frame ∷ frames) o at here = the_kept _ o (kept.inner.waiting g frames at) here
 

@@ -63,9 +63,9 @@ hosted g arrival link.Ended = ends answer.Ended cause.Separated g
 hosted g arrival link.Nothing = answered answer.Done g
 
 -- the oldest frame that waits is handed out
-abbrev pub taken : State → List (List ℕ) → Option Outcome
-taken g [] = None
-taken g (frame ∷ frames) = Some (answered (answer.Frame frame) (record g { waiting = frames }))
+abbrev pub handed_out : State → List (List ℕ) → Option Outcome
+handed_out g [] = None
+handed_out g (frame ∷ frames) = Some (answered (answer.Frame frame) (record g { waiting = frames }))
 
 -- ---- operators
 
@@ -139,7 +139,7 @@ acts before g (event.Host session arrival) =
     if is_session_up g session then Some (hosted (linked g (header_of arrival)) arrival (link_act (header_of arrival) g.link))
     else Some (answered answer.Ended g)
 acts before g (event.Take session) =
-    if is_session_up g session then taken g g.waiting else Some (answered answer.Ended g)
+    if is_session_up g session then handed_out g g.waiting else Some (answered answer.Ended g)
 acts before g (event.Oper command) = Some (operated command g)
 acts before g (event.Signal signal) = Some (answered answer.Done (signalled signal g))
 acts before g (event.Fetch m) = None

@@ -2,7 +2,8 @@
 use Rattle.std.specs.Prelude.{◌≡◌, ℕ, ◌+◌, ◌==◌, ◌≤◌, Bool, true, false, not, ◌&&◌, ◌||◌, if◌then◌else◌, List, [], ◌∷◌, ◌++◌, length, map, find, Option, Some, None}
 use Rattle.std.specs.List.{list_any, list_all, filter}
 use Rattle.std.specs.Str.{bytes_eq}
-use Rattle.carrier.specs.Record.{id_number, map_number, access_number, first_record, carrier_starts, carrier_fired, is_id_failed, is_map_failed, is_done}
+use Rattle.carrier.specs.Tables.{id_number, map_number, access_number}
+use Rattle.carrier.specs.Record.{first_record, carrier_starts, carrier_fired, is_id_failed, is_map_failed, is_done}
 use Rattle.carrier.specs.declared.record.CarrierRecord.{CarrierRecord}
 use Rattle.carrier.specs.declared.carrier.Carrier.{Carrier}
 use Rattle.carrier.specs.declared.carrier.CarrierView.{CarrierView}

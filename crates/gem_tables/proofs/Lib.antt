@@ -1,2 +1,4 @@
 pub mod Choosing
 pub mod Falling
+pub mod Rows
+pub mod Machines

@@ -4,8 +4,7 @@ use Rattle.gem_tables.specs.Table.{starts, after}
 use Rattle.load_port.specs.Tables.{transfer_table, transfer_number, access_table, access_number, reservation_table, reservation_number, association_table, association_number}
 use Rattle.load_port.specs.declared.record.Transfer.{Transfer}
 use Rattle.load_port.specs.declared.record.Transfer.TheVariants.{OutOfService, TransferBlocked, ReadyToLoad, ReadyToUnload}
-use Rattle.load_port.specs.declared.record.Access.{Access}
-use Rattle.load_port.specs.declared.record.Access.TheVariants.{Manual, Auto}
+use Rattle.load_port.specs.declared.record.Access.TheVariants.{Manual}
 use Rattle.load_port.specs.declared.record.Reservation.{Reservation}
 use Rattle.load_port.specs.declared.record.Reservation.TheVariants.{NotReserved, Reserved}
 use Rattle.load_port.specs.declared.record.Association.{Association}

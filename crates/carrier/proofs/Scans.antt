@@ -31,7 +31,7 @@ module _ {X : Type 0} where
       ∙ ap (λ (n : ℕ). drop n xs) (sym (add-one place))
 
   -- nothing is left behind the end
-  drop_end : (xs : List X) (place : ℕ) → length xs ≤ place → drop place xs ≡ []
+  pub drop_end : (xs : List X) (place : ℕ) → length xs ≤ place → drop place xs ≡ []
   drop_end [] zero l = refl
   drop_end [] (suc place) l = refl
   drop_end (y ∷ ys) zero l = absurd (omega arith)

@@ -6,7 +6,7 @@ use Rattle.std.proofs.lemmas.Bool.{true≢false}
 use Rattle.std.proofs.lemmas.Bool.Decides.{nat_tests}
 use Rattle.gem_tables.specs.Table.{firing}
 use Rattle.gem_tables.specs.declared.firing.Firing.{Firing}
-use Rattle.gem_tables.specs.Machine.{Machine, first_ready, starts_in, least_in}
+use Rattle.gem_tables.specs.Machine.{Machine, first_ready, starts_in, fired_in, creates_in, least_in}
 use Rattle.gem_tables.proofs.Choosing.{or_cases}
 
 -- the first that is ready is ready at one of the objects
@@ -43,3 +43,13 @@ module _ {World : Type 0} where
     by_option : (least_in ms w ≡ Some x → P x) → (first_ready m.table (λ object. m.ready object w) (m.objects w) ≡ Some x) ⊎ ((first_ready m.table (λ object. m.ready object w) (m.objects w) ≡ None) × (least_in ms w ≡ Some x)) → P x
     by_option later (inl f) = first_ready_cases P m.table (λ object. m.ready object w) (m.objects w) x all.0 f
     by_option later (inr f) = later f.1
+
+  -- what follows a firing, and the world behind it
+  pub either_creates : (P : List Firing → World → Type 0) (w : World) (x : Firing) (ms : List (Machine World)) → P [] w
+      → AllByRecursion (λ (m : Machine World). P (m.creates x.row.row x.object w) (m.fired x.row.row x.object w)) ms → P (creates_in ms x w) (fired_in ms x w)
+  either_creates P w x [] none all = none
+  either_creates P w x (m ∷ ms) none all = by_test (x.row.table == m.table) (either_creates P w x ms none all.1) where
+    by_test : (b : Bool) → P (creates_in ms x w) (fired_in ms x w)
+        → P (cond b (m.creates x.row.row x.object w) (creates_in ms x w)) (cond b (m.fired x.row.row x.object w) (fired_in ms x w))
+    by_test true later = all.0
+    by_test false later = later

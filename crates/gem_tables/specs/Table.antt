@@ -89,6 +89,11 @@ module _ {S W E : Type 0} where
   found_starts number finds state None = false
   found_starts number finds state (Some r) = (is_creation r.by || is_among number r.from state) && finds r.wants
 
+  -- what a row that was looked for wants is found; one that isn't there wants nothing
+  abbrev pub wants_found : (W → Bool) → Option (Row S W E) → Bool
+  wants_found finds None = true
+  wants_found finds (Some r) = finds r.wants
+
   -- the row of a number may fire at an object in this state, by what is found
   abbrev pub may_fire : (S → ℕ) → (W → Bool) → List (Row S W E) → ℕ → S → Bool
   may_fire number finds rows row state = found_starts number finds state (row_of rows row)

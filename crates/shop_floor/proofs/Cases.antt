@@ -1,8 +1,8 @@
 -- What is true of each row of a table is true of the one that is ready, or starts, at a port or a carrier.
-use Rattle.std.proofs.Common.{◌≡◌, ℕ, zero, suc, Bool, true, false, ◌||◌, List, Option, Some, None, slice_get, refl, sym, subst}
+use Rattle.std.proofs.Common.{◌≡◌, ℕ, zero, suc, true, ◌||◌, List, Option, Some, None, slice_get, refl, sym, subst}
 use Rattle.std.specs.List.{AllByRecursion}
 use Rattle.std.proofs.lemmas.Bool.{true≢false, and_parts}
-use Rattle.gem_tables.specs.Table.{Row, is_itself, is_creation, is_among, row_of, found_starts, first_itself}
+use Rattle.gem_tables.specs.Table.{is_itself, is_creation, is_among, row_of, found_starts}
 use Rattle.gem_tables.proofs.Rows.{found_row, ready_row}
 use Rattle.load_port.specs.declared.port.Port.{Port}
 use Rattle.load_port.specs.declared.record.PortRecord.{PortRecord}

@@ -1,18 +1,17 @@
 -- The rows of a carrier that is created: which there are, that they change nothing, and that they start.
-use Rattle.std.proofs.Common.{◌≡◌, ℕ, ◌==◌, ◌≤◌, Bool, true, false, not, cond, List, [], ◌∷◌, length, Option, Some, None, is_some, slice_get, refl, sym, ap, subst, arith, ◌∙◌}
+use Rattle.std.proofs.Common.{◌≡◌, ℕ, ◌==◌, ◌≤◌, Bool, true, false, not, cond, List, [], ◌∷◌, length, Option, Some, None, is_some, refl, sym, ap, subst, arith, ◌∙◌}
 use Rattle.std.specs.List.{AllByRecursion}
 use Rattle.std.proofs.lemmas.Bool.{not-true}
 use Rattle.std.proofs.lemmas.Bool.Decides.{nat_tests}
 use Rattle.gem_tables.specs.Table.{firing, row_of}
 use Rattle.gem_tables.specs.declared.firing.Firing.{Firing}
-use Rattle.gem_tables.proofs.Rows.{looked_for}
 use Rattle.gem_tables.proofs.Machines.{either_creates}
 use Rattle.load_port.specs.declared.port.Arrival.{Arrival}
 use Rattle.load_port.specs.Tables as word
 use Rattle.load_port.specs.Tables.{PortEffect, PortRow, transfer_table, access_table, reservation_table, association_table}
 use Rattle.load_port.specs.Ports.{port_numbered}
 use Rattle.carrier.specs.declared.carrier.Carrier.{Carrier}
-use Rattle.carrier.specs.Carriers.{is_known, carrier_numbered, with_created, found_or_created}
+use Rattle.carrier.specs.Carriers.{carrier_numbered, found_or_created}
 use Rattle.shop_floor.specs.Floor.{Floor}
 use Rattle.shop_floor.specs.Rows.{forgets, owner, without_owner, is_new, arrival_at, arrived, creation_of_arrival, port_does, port_creates, found_does, found_creates}
 use Rattle.shop_floor.specs.Machines.{floor_machines, floor_starts, floor_fired, creation_rows}
@@ -83,7 +82,7 @@ effect_follows word.replaces port f =
 effect_follows word.frees port f = none_follows _
 
 -- and behind the state of the port, which the rows don't see
-pub found_follows : {S : Type 0} (o : Option (PortRow S)) (port : ℕ) (f after : Floor) → after.carriers ≡ (found_does o port f).carriers → Follows (found_creates o port f) after
+found_follows : {S : Type 0} (o : Option (PortRow S)) (port : ℕ) (f after : Floor) → after.carriers ≡ (found_does o port f).carriers → Follows (found_creates o port f) after
 found_follows None port f after same = none_follows after
 found_follows (Some r) port f after same =
     let here = effect_follows r.does port f in

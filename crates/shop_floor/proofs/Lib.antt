@@ -16,3 +16,6 @@ pub mod FallLists
 pub mod Shapes
 pub mod Creations
 pub mod Starts
+pub mod Falls
+pub mod Quiet
+pub mod Fires

@@ -1,10 +1,10 @@
 -- The numbers of the carriers, and changes of the one of a number.
-use Rattle.std.proofs.Common.{◌≡◌, ℕ, ◌+◌, ◌==◌, ◌≤◌, Bool, true, false, not, ◌||◌, List, [], ◌∷◌, ◌++◌, cond, Some, is_some, refl, sym, ap, subst, arith, ◌∙◌}
+use Rattle.std.proofs.Common.{◌≡◌, ℕ, ◌+◌, ◌==◌, ◌≤◌, Bool, true, false, not, List, [], ◌∷◌, cond, Some, is_some, refl, sym, ap, subst, arith, ◌∙◌}
 use Rattle.std.specs.Prelude.{if◌then◌else◌}
 use Rattle.std.specs.List.{AllByRecursion}
 use Rattle.std.proofs.lemmas.Bool.{cond_both}
 use Rattle.carrier.specs.declared.carrier.Carrier.{Carrier}
-use Rattle.carrier.specs.Carriers.{has_name, is_known, carrier_numbered, change_numbered, change_named, without, created, with_created, found_or_created, next_number, are_named_apart, absent_count}
+use Rattle.carrier.specs.Carriers.{has_name, is_known, carrier_numbered, change_numbered, change_named, without, with_created, found_or_created, next_number, are_named_apart, absent_count}
 use Rattle.shop_floor.specs.Valid.{RiseFrom}
 use Rattle.shop_floor.proofs.Apart.{absent_cons}
 

@@ -1,14 +1,16 @@
 -- What the least ready row is.
-use Rattle.std.proofs.Common.{◌≡◌, ℕ, ◌==◌, Bool, true, false, [], ◌∷◌, Some, refl, sym}
+use Rattle.std.proofs.Common.{◌≡◌, ℕ, ◌==◌, true, false, [], ◌∷◌, map, Option, Some, None, refl, sym}
 use Rattle.std.specs.List.{AllByRecursion}
+use Rattle.std.specs.Option.{option_or}
 use Rattle.std.proofs.lemmas.Bool.{true≢false}
 use Rattle.gem_tables.specs.Table.{is_one_of}
 use Rattle.gem_tables.specs.declared.firing.Firing.{Firing}
 use Rattle.gem_tables.proofs.Rows.{one_of_cases}
-use Rattle.gem_tables.proofs.Machines.{least_cases}
+use Rattle.gem_tables.specs.Machine.{first_ready, ready_in}
+use Rattle.gem_tables.proofs.Machines.{least_cases, none_ready}
 use Rattle.load_port.specs.Tables.{access_number as mode_number, access_table}
 use Rattle.carrier.specs.Tables.{access_number, accessing_table}
-use Rattle.shop_floor.specs.Floor.{Floor}
+use Rattle.shop_floor.specs.Floor.{Floor, numbers_from, number_of}
 use Rattle.shop_floor.specs.Machines.{floor_machines, access_machine, accessing_machine, floor_least}
 use Rattle.shop_floor.proofs.Cases.{ready_at_port, ready_at_carrier}
 
@@ -44,3 +46,27 @@ not_table_2 f x e = of_tables (λ n. (n == 2) ≡ false) f x (refl, (refl, (refl
 
 pub not_table_3 : (f : Floor) (x : Firing) → floor_least f ≡ Some x → (x.row.table == 3) ≡ false
 not_table_3 f x e = of_tables (λ n. (n == 3) ≡ false) f x (refl, (refl, (refl, (refl, (refl, tt))))) e
+
+-- ---- where it is looked for
+
+-- the first of a table of ports, and of one of carriers
+abbrev pub first_port : ℕ → Floor → Option Firing
+first_port table f = first_ready table (λ port. ready_in floor_machines table port f) (numbers_from 1 f.ports)
+
+abbrev pub first_carrier : ℕ → Floor → Option Firing
+first_carrier table f = first_ready table (λ carrier. ready_in floor_machines table carrier f) (map number_of f.carriers)
+
+none_of : {A : Type 0} (o : Option A) → ((x : A) → o ≡ Some x → o ≡ None) → o ≡ None
+none_of None f = refl
+none_of (Some x) f = f x refl
+
+or_none : {A : Type 0} (o : Option A) → option_or o None ≡ o
+or_none None = refl
+or_none (Some x) = refl
+
+-- tables 5 and 10 may be passed over
+pub least_so : (f : Floor) → floor_least f ≡ option_or (first_port 4 f) (option_or (first_port 6 f) (option_or (first_port 7 f) (option_or (first_carrier 8 f) (first_carrier 9 f))))
+least_so f =
+    let access : first_port 5 f ≡ None = none_ready 5 (λ port. access_machine.ready port f) (numbers_from 1 f.ports) (λ port. none_of (access_machine.ready port f) (λ row e. no_access f port row e)) in
+    let accessing : first_carrier 10 f ≡ None = none_ready 10 (λ carrier. accessing_machine.ready carrier f) (map number_of f.carriers) (λ carrier. none_of (accessing_machine.ready carrier f) (λ row e. no_accessing f carrier row e)) in
+    rw (access, accessing, or_none (first_carrier 9 f)) refl

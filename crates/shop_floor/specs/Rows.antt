@@ -3,7 +3,7 @@
 use Rattle.std.specs.Prelude.{ℕ, ◌==◌, Bool, true, false, not, ◌&&◌, if◌then◌else◌, List, [], ◌∷◌, find, Option, Some, None, is_some}
 use Rattle.std.specs.List.{list_any}
 use Rattle.std.specs.Str.{bytes_eq}
-use Rattle.gem_tables.specs.Table.{Row, row_of, firing}
+use Rattle.gem_tables.specs.Table.{row_of, firing}
 use Rattle.gem_tables.specs.declared.firing.Firing.{Firing}
 use Rattle.load_port.specs.Tables as word
 use Rattle.load_port.specs.Tables.{PortWant, PortEffect, PortRow, association_table}

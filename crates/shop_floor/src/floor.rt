@@ -99,7 +99,8 @@ impl ShopFloor {
 
     // How many carriers are known.
     pub(crate) fn carrier_count(&self) -> usize
-        ensures { result ≡ length self.now.carriers }
+        ensures count { result ≡ length self.now.carriers }
+        ensures valid { IsFloor self.now }
     {
         self.carriers.len()
     }

@@ -1,8 +1,8 @@
 //! What the rows of tables 4 to 10 do (after SEMI E87; this tool's profile, tables 4 to 10). Each function has the ports, the
 //! carriers and the number of the next carrier at hand, and its contract speaks of all of them together.
 
-ghost use Rattle.std.specs.Prelude.{◌≡◌, ℕ, suc, ◌+◌, ◌≤◌, true, false, [], length, IsTrue, IsFalse, IfOk, IfErr};
-ghost use Rattle.gem_tables.specs.Table.{firing, row_of};
+ghost use Rattle.std.specs.Prelude.{◌≡◌, ℕ, suc, ◌+◌, ◌≤◌, true, false, [], ◌∷◌, length, IsTrue, IsFalse, IfOk, IfErr};
+ghost use Rattle.gem_tables.specs.Table.{firing, row_of, is_one_of};
 ghost use Rattle.load_port.specs.Tables.{association_table};
 ghost use Rattle.load_port.specs.Ports.{most_ports, port_numbered};
 ghost use Rattle.carrier.specs.Carriers.{is_known, with_created, found_or_created, next_number, most_carriers};
@@ -218,20 +218,30 @@ pub(crate) fn fire(
     ensures err { IfErr result (λ _. floor_of ports.new carriers.new next.new ≡ without_memory x (floor_of ports.old carriers.old next.old)) }
     ensures needed { IfErr result (λ _. creates x (floor_of ports.old carriers.old next.old) ≡ true) }
 {
-    match x.row.table {
-        4 | 5 | 6 => {
-            ports.fire(x.object, x.row.table, x.row.row);
+    if x.row.table == 7 {
+        match associate(x.row.row, x.object, ports, carriers, next) {
+            Ok(()) => {}
+            Err(fault) => return Err(fault),
         }
-        7 => {
-            match associate(x.row.row, x.object, ports, carriers, next) {
-                Ok(()) => {}
-                Err(fault) => return Err(fault),
-            }
-            ports.fire(x.object, 7, x.row.row);
-        }
-        _ => {
-            carriers.fire(x.object, x.row.table, x.row.row);
-        }
+        ports.fire(x.object, 7, x.row.row);
+    } else if is_of_port(x.row.table) {
+        ports.fire(x.object, x.row.table, x.row.row);
+    } else if is_of_carrier(x.row.table) {
+        carriers.fire(x.object, x.row.table, x.row.row);
     }
     Ok(())
+}
+
+// Whether it is a table of the ports.
+fn is_of_port(table: u8) -> bool
+    ensures { result ≡ is_one_of (4 ∷ 5 ∷ 6 ∷ 7 ∷ []) table }
+{
+    4 <= table && table <= 7
+}
+
+// Whether it is a table of the carriers.
+fn is_of_carrier(table: u8) -> bool
+    ensures { result ≡ is_one_of (8 ∷ 9 ∷ 10 ∷ []) table }
+{
+    8 <= table && table <= 10
 }

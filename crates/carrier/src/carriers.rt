@@ -2,7 +2,7 @@
 
 ghost use Rattle.std.specs.Prelude.{◌≡◌, ◌≤◌, ◌<◌, false, [], length, slice_get, option_map, Some, None, Err, IfOk, IfErr, IfSome};
 ghost use Rattle.gem_tables.specs.Table.{update_at};
-ghost use Rattle.carrier.specs.Carriers.{carrier_named, is_known, place_of, change_named, without, with_created, fires_row, starts_row, came_to, directed_to, binds, told_map, read_map, is_absent_at, absent_count, most_carriers, view_of, AreCarriers};
+ghost use Rattle.carrier.specs.Carriers.{carrier_named, carrier_numbered, is_known, place_of, change_named, change_numbered, without, with_created, fires_row, starts_row, came_to, directed_to, binds, told_map, read_map, is_absent_at, absent_count, most_carriers, view_of, AreCarriers};
 ghost use Rattle.carrier.specs.Creating.{create_fault};
 ghost use Rattle.carrier.specs.Verdict.{is_carrier_name, view_numbered, bind_carrier_code, bind_code, cancel_bind_code, proceed_code, can_be_stopped, cancel_code, notify_code, cancel_notify_code, word_code, carrier_caack};
 ghost use Rattle.carrier.specs.declared.fault.CarrierFault.{CarrierFault};
@@ -80,6 +80,22 @@ impl Carriers {
         ensures carriers { AreCarriers self.now }
     {
         self.by_name.get(&Key { name }).copied()
+    }
+
+    /// The carrier of a number of creation. `None` exactly where none of that number is known.
+    pub fn numbered(&self, number: u64) -> Option<Carrier>
+        ensures value { result ≡ carrier_numbered number self.now }
+        ensures carriers { AreCarriers self.now }
+    {
+        let _ = &self.by_name;
+        for place in 0..self.len() {
+            if let Some(carrier) = self.get(place) {
+                if carrier.number == number {
+                    return Some(carrier);
+                }
+            }
+        }
+        None
     }
 
     /// The place of the carrier of a name, counted from 0. `None` exactly where none of that name is known.
@@ -216,11 +232,12 @@ impl Carriers {
 
     // ---- what happens to them
 
-    /// A carrier of this name is known from now on, behind the others. `NameTaken` comes exactly where one of the name is
+    /// A carrier of this name is known from now on, behind the others, with its number of creation. That no other has the
+    /// number is for the caller. `NameTaken` comes exactly where one of the name is
     /// known, and else `NoSpace(16)` exactly where 16 carriers are known; `NoMemory` comes for want of memory alone. Any
     /// fault changes nothing.
-    pub fn create(&mut self, id: CarrierId) -> Result<(), CarrierFault>
-        ensures created { IfOk result (λ _. self.new ≡ with_created id self.old) }
+    pub fn create(&mut self, number: u64, id: CarrierId) -> Result<(), CarrierFault>
+        ensures created { IfOk result (λ _. self.new ≡ with_created number id self.old) }
         ensures unchanged { IfErr result (λ _. self.new ≡ self.old) }
         ensures refused { (fault : CarrierFault) → create_fault id self.old ≡ Some fault → result ≡ Err fault }
         ensures memory { create_fault id self.old ≡ None → IfErr result (λ fault. fault ≡ NoMemory) }
@@ -231,19 +248,19 @@ impl Carriers {
         if self.len() >= MOST_CARRIERS {
             return Err(CarrierFault::NoSpace(MOST_CARRIERS as u32));
         }
-        self.push(id)
+        self.push(number, id)
     }
 
     // A carrier of a name that isn't known comes behind the others, which are fewer than 16.
-    fn push(&mut self, id: CarrierId) -> Result<(), CarrierFault>
+    fn push(&mut self, number: u64, id: CarrierId) -> Result<(), CarrierFault>
         requires unknown { is_known id self.old ≡ false }
         requires few { length self.old < most_carriers }
-        ensures created { IfOk result (λ _. self.new ≡ with_created id self.old) }
+        ensures created { IfOk result (λ _. self.new ≡ with_created number id self.old) }
         ensures unchanged { IfErr result (λ _. self.new ≡ self.old) }
         ensures memory { IfErr result (λ fault. fault ≡ NoMemory) }
     {
         let key = Key { name: id.text() };
-        match self.by_name.insert(key, Carrier::new(id)) {
+        match self.by_name.insert(key, Carrier::new(number, id)) {
             Ok(_) => Ok(()),
             Err(_) => Err(CarrierFault::NoMemory),
         }
@@ -276,19 +293,19 @@ impl Carriers {
         }
     }
 
-    /// Fires a row of table 8, 9 or 10 at the carrier of a place, counted from 0: true exactly where there is a carrier of
-    /// that place at whose states the row starts. The carrier's state in the row's table is then the row's end, and all else
+    /// Fires a row of table 8, 9 or 10 at the carrier of a number of creation: true exactly where there is a carrier of that
+    /// number at whose states the row starts. The carrier's state in the row's table is then the row's end, and all else
     /// stays; false changes nothing. What a row wants besides the states is for the caller.
-    pub fn fire(&mut self, place: usize, table: u8, row: u8) -> bool
-        ensures fires { result ≡ starts_row table row (slice_get self.old place) }
-        ensures after { self.new ≡ update_at place (fires_row table row) self.old }
+    pub fn fire(&mut self, number: u64, table: u8, row: u8) -> bool
+        ensures fires { result ≡ starts_row table row (carrier_numbered number self.old) }
+        ensures after { self.new ≡ change_numbered number (fires_row table row) self.old }
     {
-        match self.get(place) {
+        match self.numbered(number) {
             None => false,
             Some(carrier) => {
                 let mut changed = carrier;
                 let fires = changed.states.fire(table, row);
-                self.put(place, changed);
+                self.replace(changed);
                 fires
             }
         }

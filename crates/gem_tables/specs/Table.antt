@@ -83,6 +83,21 @@ module _ {S W E : Type 0} where
   first_itself number finds (r ∷ rows) state =
       if is_itself r.by && (is_among number r.from state && finds r.wants) then Some r.number else first_itself number finds rows state
 
+  -- the row of a number that was looked for is there, it starts in the state or is one of an object that was just created, and
+  -- what it wants is found
+  abbrev pub found_starts : (S → ℕ) → (W → Bool) → S → Option (Row S W E) → Bool
+  found_starts number finds state None = false
+  found_starts number finds state (Some r) = (is_creation r.by || is_among number r.from state) && finds r.wants
+
+  -- what a row that was looked for wants is found; one that isn't there wants nothing
+  abbrev pub wants_found : (W → Bool) → Option (Row S W E) → Bool
+  wants_found finds None = true
+  wants_found finds (Some r) = finds r.wants
+
+  -- the row of a number may fire at an object in this state, by what is found
+  abbrev pub may_fire : (S → ℕ) → (W → Bool) → List (Row S W E) → ℕ → S → Bool
+  may_fire number finds rows row state = found_starts number finds state (row_of rows row)
+
 -- ---- cases
 
 -- what the first case that fits gives, of cases that each are a test and what it stands for

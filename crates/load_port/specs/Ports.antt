@@ -2,6 +2,7 @@
 -- tool's profile, S3F25 and S3F27).
 use Rattle.std.specs.Prelude.{ℕ, zero, suc, ◌==◌, Bool, false, not, ◌||◌, nat_lt, if◌then◌else◌, List, [], ◌∷◌, length, Option, Some, None, slice_get}
 use Rattle.std.specs.List.{list_any}
+use Rattle.gem_tables.specs.Table.{update_at}
 use Rattle.load_port.specs.Record.{first_record, port_starts, port_fired, is_occupied, is_in_service, is_reserved}
 use Rattle.load_port.specs.declared.port.Port.{Port}
 use Rattle.load_port.specs.declared.action.PortView.{PortView}
@@ -22,6 +23,16 @@ first_ports (suc n) = first_port ∷ first_ports n
 -- the most ports of a tool (this tool's profile, variables)
 abbrev pub most_ports : ℕ
 most_ports = 4
+
+-- the port of a number, counted from 1
+abbrev pub port_numbered : ℕ → List Port → Option Port
+port_numbered zero ports = None
+port_numbered (suc n) ports = slice_get ports n
+
+-- a change of the port of a number; where there is none, nothing changes
+abbrev pub change_port : ℕ → (Port → Port) → List Port → List Port
+change_port zero change ports = ports
+change_port (suc n) change ports = update_at n change ports
 
 -- the states of a port change by a row
 abbrev pub fires_row : ℕ → ℕ → Port → Port
@@ -52,11 +63,6 @@ reserve_code (Some p) =
 abbrev pub cancel_code : Option Port → ℕ
 cancel_code None = 3
 cancel_code (Some p) = if is_reserved p.states.reservation then 0 else 5
-
--- the port of a number, counted from 1
-abbrev pub port_numbered : ℕ → List Port → Option Port
-port_numbered zero ports = None
-port_numbered (suc n) ports = slice_get ports n
 
 -- S3F27: 3 for a mode other than 0 and 1, and for a port that isn't there; no port at all is all (this tool's profile, S3F27)
 abbrev pub access_code : ℕ → List ℕ → List Port → ℕ

@@ -1,9 +1,8 @@
 -- What an action on a carrier writes, where the host is answered that it is done, keeps what holds of the ports and the carriers,
 -- and finds room for a new carrier.
-use Rattle.std.proofs.Common.{◌≡◌, ℕ, suc, ◌==◌, ◌≤◌, Bool, true, false, not, List, length, map, Option, Some, None, refl, sym, ap, subst, arith, ◌∙◌}
+use Rattle.std.proofs.Common.{◌≡◌, ℕ, suc, ◌+◌, ◌==◌, ◌≤◌, Bool, true, false, not, cond, List, length, map, Option, Some, None, refl, sym, ap, subst, arith, ◌∙◌}
 use Rattle.std.specs.Prelude.{if◌then◌else◌}
 use Rattle.std.specs.List.{AllByRecursion}
-use Rattle.std.proofs.lemmas.Bool.{cond_both}
 use Rattle.std.proofs.lemmas.Bool.Decides.{nat_tests}
 use Rattle.load_port.specs.declared.action.PortView.{PortView}
 use Rattle.load_port.specs.Ports.{view_of}
@@ -11,13 +10,14 @@ use Rattle.carrier.specs.declared.carrier.Carrier.{Carrier}
 use Rattle.carrier.specs.declared.action.CarrierAction.{CarrierAction}
 use Rattle.carrier.specs.declared.action.CarrierWord.{CarrierWord}
 use Rattle.carrier.specs.declared.action.CarrierWord.TheVariants as word
-use Rattle.carrier.specs.Carriers.{has_name, is_known, carrier_named, change_named, without, created, with_created, found_or_created, directed_to, told_map, are_named_apart, absent_count, most_absent, most_carriers}
+use Rattle.carrier.specs.Carriers.{has_name, is_known, carrier_named, change_named, without, created as new_carrier, with_created, found_or_created, next_number, directed_to, told_map, are_named_apart, absent_count, most_absent, most_carriers}
 use Rattle.carrier.specs.Verdict.{has_room, view_numbered, bind_carrier_code, bind_code, notify_code}
 use Rattle.shop_floor.specs.Floor.{Floor}
-use Rattle.shop_floor.specs.Requests.{carrier_code, carrier_written, maps_told}
+use Rattle.shop_floor.specs.Requests.{carrier_code, carrier_written, created as made, directed, maps_told}
 use Rattle.shop_floor.specs.Valid.{Belongs, IsFloor}
 use Rattle.shop_floor.proofs.Belonging.{is_held}
 use Rattle.shop_floor.proofs.Apart.{IsOnly, all_both, all_follows, all_pushed, all_filtered, all_changed, all_found, found_only, found_passes, none_passes, unknown_all, named_so, has_its_name, known_found, apart_changed, apart_without, apart_created, absent_pushed, absent_without, absent_changed}
+use Rattle.shop_floor.proofs.Numbers.{rise_changed, rise_without, rise_created}
 use Rattle.shop_floor.proofs.Room.{room-absent}
 
 -- ---- answers
@@ -46,17 +46,25 @@ bind_of known cs (Some p) e = answer_of _ 5 _ (answer_of (not p.in_service) 2 _ 
 room_so : (cs : List Carrier) → has_room cs ≡ true → suc (absent_count cs) ≤ most_absent
 room_so cs e = grind (arith, nat_tests)
 
-pub notified-valid : (name : List ℕ) (f : Floor) → is_known name f.carriers ≡ false → has_room f.carriers ≡ true → IsFloor f → IsFloor (record f { carriers = with_created name f.carriers })
+-- the carrier of a name, made where it isn't known
+abbrev found_floor : List ℕ → Floor → Floor
+found_floor name f = record f { carriers = found_or_created f.next_carrier name f.carriers; next_carrier = next_number f.next_carrier name f.carriers }
+
+pub notified-valid : (name : List ℕ) (f : Floor) → is_known name f.carriers ≡ false → has_room f.carriers ≡ true → IsFloor f → IsFloor (made name f)
 notified-valid name f new room valid = record {
-  apart = apart_created name f.carriers new valid.apart;
-  absent = let k = absent_pushed f.carriers (created name) in let r = room_so f.carriers room in omega (arith, k, r);
-  belong = all_pushed (Belongs f.ports) f.carriers (created name) valid.belong (λ held. absurd (cc));
+  apart = apart_created f.next_carrier name f.carriers new valid.apart;
+  rising = rise_created 1 f.next_carrier name f.carriers valid.rising;
+  absent = let k = absent_pushed f.carriers (new_carrier f.next_carrier name) in let r = room_so f.carriers room in omega (arith, k, r);
+  belong = all_pushed (Belongs f.ports) f.carriers (new_carrier f.next_carrier name) valid.belong (λ held. absurd (cc));
   told = valid.told;
   few = valid.few;
 }
 
-pub found-valid : (name : List ℕ) (f : Floor) → (is_known name f.carriers ≡ false → has_room f.carriers ≡ true) → IsFloor f → IsFloor (record f { carriers = found_or_created name f.carriers })
-found-valid name f room valid = cond_both (is_known name f.carriers) _ _ (λ cs. IsFloor (record f { carriers = cs })) (λ t. valid) (λ t. notified-valid name f t (room t) valid)
+pub found-valid : (name : List ℕ) (f : Floor) → (is_known name f.carriers ≡ false → has_room f.carriers ≡ true) → IsFloor f → IsFloor (found_floor name f)
+found-valid name f room valid = of (is_known name f.carriers) refl where
+  of : (b : Bool) → is_known name f.carriers ≡ b → IsFloor (record f { carriers = cond b f.carriers (with_created f.next_carrier name f.carriers); next_carrier = cond b f.next_carrier (f.next_carrier + 1) })
+  of true t = valid
+  of false t = notified-valid name f t (room t) valid
 
 -- ---- a carrier that is neither present nor bound is directed to a port
 
@@ -64,8 +72,8 @@ found-valid name f room valid = cond_both (is_known name f.carriers) _ _ (λ cs.
 abbrev IsLoose : List ℕ → Carrier → Type 0
 IsLoose name c = has_name name c ≡ true → is_held c ≡ false
 
-loose_found : (name : List ℕ) (cs : List Carrier) → AllByRecursion (IsLoose name) cs → AllByRecursion (IsLoose name) (found_or_created name cs)
-loose_found name cs loose = all_found (IsLoose name) name cs (λ new is. refl) loose
+loose_found : (number : ℕ) (name : List ℕ) (cs : List Carrier) → AllByRecursion (IsLoose name) cs → AllByRecursion (IsLoose name) (found_or_created number name cs)
+loose_found number name cs loose = all_found (IsLoose name) number name cs (λ new is. refl) loose
 
 loose_unknown : (name : List ℕ) (cs : List Carrier) → is_known name cs ≡ false → AllByRecursion (IsLoose name) cs
 loose_unknown name cs new = all_follows (λ c. has_name name c ≡ false) (IsLoose name) cs (λ c other is. absurd (cc)) (unknown_all name cs new)
@@ -79,6 +87,7 @@ loose_known name cs c apart found loose =
 pub directed-valid : (name : List ℕ) (port : ℕ) (f : Floor) → AllByRecursion (IsLoose name) f.carriers → IsFloor f → IsFloor (record f { carriers = change_named name (directed_to port) f.carriers })
 directed-valid name port f loose valid = record {
   apart = apart_changed name (directed_to port) f.carriers (λ c. refl) valid.apart;
+  rising = rise_changed 1 f.next_carrier name (directed_to port) f.carriers (λ c. refl) valid.rising;
   absent = let less = absent_changed name (directed_to port) f.carriers (λ c. omega arith) in omega (arith, less, valid.absent);
   belong = all_changed (λ c. Belongs f.ports c × IsLoose name c) (Belongs f.ports) name (directed_to port) f.carriers
       (λ c is b held. never c (b.1 is) held) (λ c other b. b.0) (all_both (Belongs f.ports) (IsLoose name) f.carriers valid.belong loose);
@@ -88,15 +97,15 @@ directed-valid name port f loose valid = record {
   never : {P : Type 0} (c : Carrier) → is_held c ≡ false → is_held c ≡ true → P
   never c loose held = absurd (cc)
 
-bound-so : (name : List ℕ) (port : ℕ) (f : Floor) (known : Option Carrier) → carrier_named name f.carriers ≡ known → bind_carrier_code known f.carriers ≡ 0 → IsFloor f → IsFloor (record f { carriers = change_named name (directed_to port) (found_or_created name f.carriers) })
+bound-so : (name : List ℕ) (port : ℕ) (f : Floor) (known : Option Carrier) → carrier_named name f.carriers ≡ known → bind_carrier_code known f.carriers ≡ 0 → IsFloor f → IsFloor (directed name port f)
 bound-so name port f None found code valid =
     let new = none_passes (has_name name) f.carriers found in
-    directed-valid name port (record f { carriers = found_or_created name f.carriers })
-    (loose_found name f.carriers (loose_unknown name f.carriers new))
+    directed-valid name port (found_floor name f)
+    (loose_found f.next_carrier name f.carriers (loose_unknown name f.carriers new))
     (found-valid name f (λ t. answer_first (has_room f.carriers) 0 2 code refl) valid)
 bound-so name port f (Some c) found code valid =
-    directed-valid name port (record f { carriers = found_or_created name f.carriers })
-    (loose_found name f.carriers (loose_known name f.carriers c valid.apart found (answer_second (is_held c) 5 0 code refl)))
+    directed-valid name port (found_floor name f)
+    (loose_found f.next_carrier name f.carriers (loose_known name f.carriers c valid.apart found (answer_second (is_held c) 5 0 code refl)))
     (found-valid name f (λ t. absurd (known_named name f.carriers c found t)) valid) where
       known_named : (n : List ℕ) (cs : List Carrier) (d : Carrier) → carrier_named n cs ≡ Some d → is_known n cs ≡ false → ⊥
       known_named n cs d here unknown =
@@ -107,13 +116,14 @@ bound-so name port f (Some c) found code valid =
 -- ---- the other words
 
 -- a carrier that isn't known is told of
-pub notify-so : (name : List ℕ) (f : Floor) (known : Option Carrier) → carrier_named name f.carriers ≡ known → notify_code known f.carriers ≡ 0 → IsFloor f → IsFloor (record f { carriers = with_created name f.carriers })
+pub notify-so : (name : List ℕ) (f : Floor) (known : Option Carrier) → carrier_named name f.carriers ≡ known → notify_code known f.carriers ≡ 0 → IsFloor f → IsFloor (made name f)
 notify-so name f None found code valid = notified-valid name f (none_passes (has_name name) f.carriers found) (answer_first (has_room f.carriers) 0 2 code refl) valid
 notify-so name f (Some c) found code valid = absurd (omega arith)
 
 forgotten-so : (name : List ℕ) (f : Floor) → IsFloor f → IsFloor (record f { carriers = without name f.carriers })
 forgotten-so name f valid = record {
   apart = apart_without name f.carriers valid.apart;
+  rising = rise_without 1 f.next_carrier name f.carriers valid.rising;
   absent = let less = absent_without name f.carriers in omega (arith, less, valid.absent);
   belong = all_filtered (Belongs f.ports) (Belongs f.ports) (λ c. not (has_name name c)) f.carriers (λ c t b. b) valid.belong;
   told = valid.told;
@@ -124,6 +134,7 @@ maps-so : (o : Option (List ℕ)) (name : List ℕ) (f : Floor) → IsFloor f �
 maps-so None name f valid = valid
 maps-so (Some slots) name f valid = record {
   apart = apart_changed name (told_map slots) f.carriers (λ c. refl) valid.apart;
+  rising = rise_changed 1 f.next_carrier name (told_map slots) f.carriers (λ c. refl) valid.rising;
   absent = let less = absent_changed name (told_map slots) f.carriers (λ c. omega arith) in omega (arith, less, valid.absent);
   belong = all_changed (Belongs f.ports) (Belongs f.ports) name (told_map slots) f.carriers (λ c is b. b) (λ c other b. b) valid.belong;
   told = valid.told;

@@ -1,5 +1,5 @@
 use Rattle.std.proofs.Common.{◌≡◌, sym, subst}
-use Rattle.shop_floor.specs.Floor.{Floor}
+use Rattle.shop_floor.specs.Floor.{Floor, floor_of}
 use Rattle.shop_floor.specs.Requests.{carrier_code}
 use Rattle.shop_floor.specs.Kept.{kept_floor}
 use Rattle.shop_floor.proofs.Asked.{room-bind, room-notify, notify-unknown}
@@ -24,4 +24,4 @@ write-requires-clause-notify c =
 pub invariant_of-self : goal.invariant_of-self
 invariant_of-self c =
     let code = subst (λ (f : Floor). carrier_code f c.args.a.now ≡ 0) (sym c.self.view_is) c.requires in
-    written-valid c.write.result c.args.a.now (kept_floor c.self.inside) c.write.new.carriers code c.self.invariant c.write.ensures.ok c.write.ensures.err
+    written-valid c.write.result c.args.a.now (kept_floor c.self.inside) (floor_of c.self.inside.ports c.write.new.carriers c.write.new.next) code c.self.invariant (c.write.ensures.ok c.self.inside.ports) (c.write.ensures.err c.self.inside.ports)

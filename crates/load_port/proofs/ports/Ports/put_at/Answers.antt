@@ -3,7 +3,7 @@ use Rattle.std.specs.List.{refill}
 use Rattle.gem_tables.specs.Table.{update_at}
 use Rattle.load_port.specs.declared.port.Port.{Port}
 use Rattle.load_port.proofs.Places.{update_refill, update_none}
-use Rattle.load_port.proofs.ports.Ports.put.Goals as goal
+use Rattle.load_port.proofs.ports.Ports.put_at.Goals as goal
 
 pub returns-then-place-len : goal.returns-then-place-len
 returns-then-place-len c =

@@ -1,6 +1,6 @@
 //! The states of communication with the host (after SEMI E30, communication state model; table 1).
 
-ghost use Rattle.std.specs.Prelude.{◌≡◌};
+ghost use Rattle.std.specs.Prelude.{◌≡◌, ◌∷◌, []};
 ghost use Rattle.gem_tables.specs.Table.{first_starting};
 ghost use Rattle.gem_states.specs.Communication.{communication_table, comm_number, comm_starts, comm_fired};
 ghost use Rattle.gem_states.specs.Triggers.{comm_rows};

@@ -1,6 +1,6 @@
 //! The states of control (after SEMI E30, control state model; table 2).
 
-ghost use Rattle.std.specs.Prelude.{◌≡◌};
+ghost use Rattle.std.specs.Prelude.{◌≡◌, ◌∷◌, []};
 ghost use Rattle.gem_tables.specs.Table.{first_starting};
 ghost use Rattle.gem_states.specs.Control.{control_table, control_number, control_starts, control_fired};
 ghost use Rattle.gem_states.specs.Triggers.{control_rows};

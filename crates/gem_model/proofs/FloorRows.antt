@@ -1,5 +1,5 @@
 -- The rows of the load ports and the carriers: what they leave alone, whether an input fires them or they fire by themselves.
-use Rattle.std.proofs.Common.{◌≡◌, ℕ, ◌+◌, ◌*◌, ◌-◌, ◌==◌, Bool, false, if◌then◌else◌, List, [], ◌∷◌, ◌++◌, Option, Some, None, refl, sym, subst}
+use Rattle.std.proofs.Common.{◌≡◌, ℕ, ◌+◌, ◌*◌, ◌-◌, ◌==◌, Bool, true, false, if◌then◌else◌, List, [], ◌∷◌, ◌++◌, Option, Some, None, refl, sym, subst, ◌∙◌}
 use Rattle.gem_tables.specs.Table.{firing}
 use Rattle.gem_tables.specs.declared.firing.Firing.{Firing}
 use Rattle.gem_rows.specs.Events.{ceid_of}
@@ -25,7 +25,9 @@ use Rattle.gem_model.specs.Values.{Occasion}
 use Rattle.gem_model.specs.Machines.{creations, fire_floor, object_name, row_starts, takes_effect}
 use Rattle.gem_model.specs.Noting.{line_behind}
 use Rattle.gem_model.specs.Fire.{fire, fire_all, advanced}
-use Rattle.shop_floor.specs.Machines.{floor_starts, creation_rows, creates, floor_least, object_name as floor_object}
+use Rattle.std.specs.List.{AllByRecursion}
+use Rattle.shop_floor.proofs.Creations.{creations as floor_creations}
+use Rattle.shop_floor.specs.Machines.{floor_starts, creation_rows, floor_least, object_name as floor_object}
 use Rattle.gem_model.proofs.OnFloor.{starts_as, effect_as, creations_as, object_as}
 use Rattle.gem_model.proofs.Tests.{either_way}
 
@@ -143,13 +145,30 @@ shop_are (S3F27 mode numbers) g = port_are (ask.Access mode numbers) g (reply.S3
 
 -- ---- what a firing creates
 
--- a firing creates nothing, or one carrier, whose creation row follows
-pub created_case : (P : List Firing → Type 0) (g : State) (f : Firing) → P [] → ((n : ℕ) → P (firing 8 n 1 ∷ [])) → P (creations g f)
-created_case P g f none one = either_way P (creates f g.floor) (firing 8 _ 1 ∷ []) [] (one _) none
+-- each row of a created object is row 1 of table 8
+abbrev pub AreCreations : List Firing → Type 0
+AreCreations ds = AllByRecursion (λ (d : Firing). d ≡ firing 8 d.object 1) ds
+
+pub created_are : (g : State) (f : Firing) → AreCreations (creations g f)
+created_are g f = subst AreCreations (sym (creations_as g f)) (of (f.row.table == 1) (f.row.table == 2) (f.row.table == 3)) where
+  of : (first second third : Bool) → AreCreations (if first then [] else (if second then [] else (if third then [] else creation_rows f g.floor)))
+  of true second third = tt
+  of false true third = tt
+  of false false true = tt
+  of false false false = floor_creations g.floor f
+
+-- such a row creates no more
+pub creates_no_more : (g : State) (d : Firing) → d ≡ firing 8 d.object 1 → creations g d ≡ []
+creates_no_more g d is = subst (λ (x : Firing). creations g x ≡ []) (sym is) refl
 
 -- what holds of a state behind a firing holds behind what that creates
+pub created_keeps : (P : State → Type 0) → ((g : State) (n : ℕ) → P g → P (fire g (firing 8 n 1))) → (ds : List Firing) → AreCreations ds → (g : State) → P g → P (fire_all ds g)
+created_keeps P creates [] are g here = here
+created_keeps P creates (d ∷ ds) are g here =
+    created_keeps P creates ds are.1 (fire g d) (subst (λ (x : Firing). P (fire g x)) (sym are.0) (creates g d.object here))
+
 pub advanced_keeps : (P : State → Type 0) → ((g : State) (n : ℕ) → P g → P (fire g (firing 8 n 1))) → (g : State) (f : Firing) → P (fire g f) → P (advanced g f)
-advanced_keeps P creates g f here = created_case (λ (cs : List Firing). P (fire_all cs (fire g f))) g f here (λ n. creates (fire g f) n here)
+advanced_keeps P creates g f here = created_keeps P creates (creations g f) (created_are g f) (fire g f) here
 
 -- ---- what the floor leaves alone
 

@@ -8,7 +8,7 @@ use Rattle.gem_tables.specs.Machine.{starts_in}
 use Rattle.gem_tables.specs.declared.firing.Firing.{Firing}
 use Rattle.shop_floor.specs.Floor.{Floor}
 use Rattle.shop_floor.specs.Machines.{floor_machines, floor_starts, floor_fired, creation_rows, floor_least, object_name as floor_object}
-use Rattle.shop_floor.proofs.Creations.{creation_same, creations_follow, creations_start}
+use Rattle.shop_floor.proofs.Creations.{creation_same, creations as floor_creations, creations_start}
 use Rattle.gem_model.specs.State.{State, is_online}
 use Rattle.gem_model.specs.Noting.{noted_as}
 use Rattle.gem_model.specs.Machines.{row_starts, takes_effect, creations, fire_floor}
@@ -61,8 +61,7 @@ created_are g h x starts is = of (x.row.table == 1) (x.row.table == 2) (x.row.ta
   on_floor : IsFloorRow x → AreCreated h.floor (creations g x)
   on_floor high =
       let floor : h.floor ≡ floor_fired x g.floor = ap (λ (k : State). k.floor) (is ∙ refl) ∙ ap (λ (k : State). k.floor) (effect_is g x high) in
-      let there : floor_starts x g.floor ≡ true = sym (starts_is g x high) ∙ starts in
-      let all = are_created (floor_fired x g.floor) (creation_rows x g.floor) (creations_follow x g.floor) (creations_start x g.floor there) in
+      let all = are_created (floor_fired x g.floor) (creation_rows x g.floor) (floor_creations g.floor x) (creations_start g.floor x) in
       subst (λ (f : Floor). AreCreated f (creations g x)) (sym floor) (subst (AreCreated (floor_fired x g.floor)) (sym (creations_is g x high)) all)
 
   of : (first second third : Bool) → (x.row.table == 1) ≡ first → (x.row.table == 2) ≡ second → (x.row.table == 3) ≡ third → AreCreated h.floor (creations g x)

@@ -20,7 +20,7 @@ use Rattle.data_variables.specs.Bodies.{name_item, items}
 use Rattle.data_variables.specs.Table.{constant_ids}
 use Rattle.data_variables.proofs.Sending.{names_bounded, names_counted}
 use Rattle.gem_replies.specs.Sendable.{AreFew}
-use Rattle.gem_model.specs.Verdict.{or_all, status_name, alarm_part, alids_of, enabled_alids}
+use Rattle.gem_model.specs.Messages.{or_all, status_name, alarm_part, alids_of, enabled_alids}
 use Rattle.event_reports.specs.Limits.{most_alarms}
 use Rattle.spool.specs.Spool.{load_number, unload_number}
 use Rattle.event_reports.specs.declared.alarms.AlarmLine.{AlarmLine}

@@ -7,6 +7,7 @@
 
 mod fault;
 mod keys;
+pub mod laws;
 mod read;
 mod reader;
 mod recipes;

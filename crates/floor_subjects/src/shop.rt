@@ -148,12 +148,12 @@ impl Floor {
         };
         let code = self.floor.carrier_code(&action);
         self.done(&action)?;
-        Ok(code)
+        Ok(code.number())
     }
 
     // What the host asks for is done, where it can be.
     fn done(&mut self, action: &CarrierAction) -> Result<()> {
-        if self.floor.carrier_code(action) != 0 {
+        if !self.floor.carrier_code(action).is_done() {
             return Ok(());
         }
         let rows = self.floor.carrier_rows(action);
@@ -166,7 +166,7 @@ impl Floor {
 
     // What a reservation of a port is answered.
     fn reserve(&self, port: u8) -> u8 {
-        self.floor.port_code(&PortAction::Reserve(port))
+        self.floor.port_code(&PortAction::Reserve(port)).number()
     }
 
     // ---- what is told

@@ -3,9 +3,11 @@
 ghost use Rattle.std.specs.Prelude.{◌≡◌, ◌≤◌, length, map, slice_get, option_map, Some, None, IfSome};
 ghost use Rattle.std.specs.List.{list_any};
 ghost use Rattle.gem_tables.specs.Table.{update_at};
+ghost use Rattle.load_port.specs.Caack.{caack_number};
 ghost use Rattle.load_port.specs.Ports.{first_ports, most_ports, change_port, fires_row, starts_row, view_of, is_no_port, port_numbered, reserve_code, cancel_code, access_code, port_caack};
 
 use crate::action::{PortAction, PortView};
+use crate::caack::Caack;
 use crate::port::{Arrival, Port};
 use arrayvec::ArrayVec;
 use gem_ids::CarrierId;
@@ -97,28 +99,36 @@ impl Ports {
 
     // ---- what is asked of them
 
-    /// What the host is answered of an action on ports by the states before it, CAACK (SEMI E87, S3F26 and S3F28; this
-    /// tool's profile): 0 where it can be done, 1 for an unknown action, 3 for a port that isn't there and for a mode other
-    /// than 0 and 1, 5 where the port's states forbid it. Changes nothing.
+    /// What the host is answered of an action on ports by the states before it, CAACK, by its number (SEMI E87, S3F26 and S3F28;
+    /// this tool's profile): that of `code`. Changes nothing.
     pub fn verdict(&self, a: &PortAction) -> u8
+        ensures { result ≡ caack_number (port_caack self.now a.now) }
+    {
+        self.code(a).number()
+    }
+
+    /// What the host is answered of an action on ports by the states before it (SEMI E87, S3F26 and S3F28; this tool's
+    /// profile): that it is done where it can be, unknown for an unknown action, faulty for a port that isn't there and for a
+    /// mode other than 0 and 1, impossible where the port's states forbid it. Changes nothing.
+    pub fn code(&self, a: &PortAction) -> Caack
         ensures { result ≡ port_caack self.now a.now }
     {
         match a {
             PortAction::Reserve(port) => reserve_code(self.numbered(*port as u64)),
             PortAction::CancelReserve(port) => cancel_code(self.numbered(*port as u64)),
             PortAction::Access(mode, numbers) => self.access_code(*mode, numbers.as_slice()),
-            PortAction::Unknown => 1,
+            PortAction::Unknown => Caack::Unknown,
         }
     }
 
     // What the host is answered that sets the access mode of these ports.
-    fn access_code(&self, mode: u8, numbers: &[u8]) -> u8
+    fn access_code(&self, mode: u8, numbers: &[u8]) -> Caack
         ensures { result ≡ access_code mode numbers.now self.now }
     {
         if mode > 1 || self.any_no_port(numbers) {
-            3
+            Caack::Faulty
         } else {
-            0
+            Caack::Done
         }
     }
 
@@ -223,36 +233,36 @@ impl Ports {
 }
 
 // What the host is answered that reserves a port.
-fn reserve_code(port: Option<Port>) -> u8
+fn reserve_code(port: Option<Port>) -> Caack
     ensures { result ≡ reserve_code port }
 {
     match port {
-        None => 3,
+        None => Caack::Faulty,
         Some(p) => {
             let transfer = p.states.transfer;
             if p.states.reservation.is_reserved()
                 || !transfer.is_in_service()
                 || transfer.is_occupied()
             {
-                5
+                Caack::Impossible
             } else {
-                0
+                Caack::Done
             }
         }
     }
 }
 
 // What the host is answered that cancels the reservation of a port.
-fn cancel_code(port: Option<Port>) -> u8
+fn cancel_code(port: Option<Port>) -> Caack
     ensures { result ≡ cancel_code port }
 {
     match port {
-        None => 3,
+        None => Caack::Faulty,
         Some(p) => {
             if p.states.reservation.is_reserved() {
-                0
+                Caack::Done
             } else {
-                5
+                Caack::Impossible
             }
         }
     }

@@ -1,10 +1,14 @@
 -- What an action on a carrier writes, where the host is answered that it is done, keeps what holds of the ports and the carriers,
 -- and finds room for a new carrier.
-use Rattle.std.proofs.Common.{◌≡◌, ℕ, suc, ◌+◌, ◌==◌, ◌≤◌, Bool, true, false, not, cond, List, length, map, Option, Some, None, refl, sym, ap, subst, arith, ◌∙◌}
+use Rattle.std.proofs.Common.{◌≡◌, ℕ, suc, ◌+◌, ◌≤◌, Bool, true, false, not, cond, List, length, map, Option, Some, None, refl, sym, ap, subst, arith, ◌∙◌}
 use Rattle.std.specs.Prelude.{if◌then◌else◌}
 use Rattle.std.specs.List.{AllByRecursion}
 use Rattle.std.proofs.lemmas.Bool.Decides.{nat_tests}
+use Rattle.std.proofs.lemmas.Bool.{true≢false, both_ways}
 use Rattle.load_port.specs.declared.action.PortView.{PortView}
+use Rattle.load_port.specs.declared.caack.Caack.{Caack}
+use Rattle.load_port.specs.declared.caack.Caack.TheVariants as caack
+use Rattle.load_port.specs.Caack.{is_done_code}
 use Rattle.load_port.specs.Ports.{view_of}
 use Rattle.carrier.specs.declared.carrier.Carrier.{Carrier}
 use Rattle.carrier.specs.declared.action.CarrierAction.{CarrierAction}
@@ -22,24 +26,24 @@ use Rattle.shop_floor.proofs.Room.{room-absent}
 
 -- ---- answers
 
--- an answer 0 that isn't the first
-answer_of : (b : Bool) (n m : ℕ) → (if b then n else m) ≡ 0 → (n == 0) ≡ false → m ≡ 0
-answer_of true n m e other = absurd (grind (arith, nat_tests))
+-- an answer that it is done, and isn't the first
+answer_of : (b : Bool) (n m : Caack) → is_done_code (if b then n else m) ≡ true → is_done_code n ≡ false → is_done_code m ≡ true
+answer_of true n m e other = absurd (both_ways _ other e)
 answer_of false n m e other = e
 
--- an answer 0 that isn't the second
-answer_first : (b : Bool) (n m : ℕ) → (if b then n else m) ≡ 0 → (m == 0) ≡ false → b ≡ true
+-- one that isn't the second
+answer_first : (b : Bool) (n m : Caack) → is_done_code (if b then n else m) ≡ true → is_done_code m ≡ false → b ≡ true
 answer_first true n m e other = refl
-answer_first false n m e other = absurd (grind (arith, nat_tests))
+answer_first false n m e other = absurd (both_ways _ other e)
 
-answer_second : (b : Bool) (n m : ℕ) → (if b then n else m) ≡ 0 → (n == 0) ≡ false → b ≡ false
-answer_second true n m e other = absurd (grind (arith, nat_tests))
+answer_second : (b : Bool) (n m : Caack) → is_done_code (if b then n else m) ≡ true → is_done_code n ≡ false → b ≡ false
+answer_second true n m e other = absurd (both_ways _ other e)
 answer_second false n m e other = refl
 
 -- what a Bind wants of the carrier
-bind_of : (known : Option Carrier) (cs : List Carrier) (o : Option PortView) → bind_code known cs o ≡ 0 → bind_carrier_code known cs ≡ 0
-bind_of known cs None e = absurd (omega arith)
-bind_of known cs (Some p) e = answer_of _ 5 _ (answer_of (not p.in_service) 2 _ e refl) refl
+bind_of : (known : Option Carrier) (cs : List Carrier) (o : Option PortView) → is_done_code (bind_code known cs o) ≡ true → is_done_code (bind_carrier_code known cs) ≡ true
+bind_of known cs None e = absurd (true≢false (sym e))
+bind_of known cs (Some p) e = answer_of _ caack.Impossible _ (answer_of (not p.in_service) caack.NotNow _ e refl) refl
 
 -- ---- a carrier becomes known
 
@@ -97,15 +101,15 @@ directed-valid name port f loose valid = record {
   never : {P : Type 0} (c : Carrier) → is_held c ≡ false → is_held c ≡ true → P
   never c loose held = absurd (cc)
 
-bound-so : (name : List ℕ) (port : ℕ) (f : Floor) (known : Option Carrier) → carrier_named name f.carriers ≡ known → bind_carrier_code known f.carriers ≡ 0 → IsFloor f → IsFloor (directed name port f)
+bound-so : (name : List ℕ) (port : ℕ) (f : Floor) (known : Option Carrier) → carrier_named name f.carriers ≡ known → is_done_code (bind_carrier_code known f.carriers) ≡ true → IsFloor f → IsFloor (directed name port f)
 bound-so name port f None found code valid =
     let new = none_passes (has_name name) f.carriers found in
     directed-valid name port (found_floor name f)
     (loose_found f.next_carrier name f.carriers (loose_unknown name f.carriers new))
-    (found-valid name f (λ t. answer_first (has_room f.carriers) 0 2 code refl) valid)
+    (found-valid name f (λ t. answer_first (has_room f.carriers) caack.Done caack.NotNow code refl) valid)
 bound-so name port f (Some c) found code valid =
     directed-valid name port (found_floor name f)
-    (loose_found f.next_carrier name f.carriers (loose_known name f.carriers c valid.apart found (answer_second (is_held c) 5 0 code refl)))
+    (loose_found f.next_carrier name f.carriers (loose_known name f.carriers c valid.apart found (answer_second (is_held c) caack.Impossible caack.Done code refl)))
     (found-valid name f (λ t. absurd (known_named name f.carriers c found t)) valid) where
       known_named : (n : List ℕ) (cs : List Carrier) (d : Carrier) → carrier_named n cs ≡ Some d → is_known n cs ≡ false → ⊥
       known_named n cs d here unknown =
@@ -116,9 +120,9 @@ bound-so name port f (Some c) found code valid =
 -- ---- the other words
 
 -- a carrier that isn't known is told of
-pub notify-so : (name : List ℕ) (f : Floor) (known : Option Carrier) → carrier_named name f.carriers ≡ known → notify_code known f.carriers ≡ 0 → IsFloor f → IsFloor (made name f)
-notify-so name f None found code valid = notified-valid name f (none_passes (has_name name) f.carriers found) (answer_first (has_room f.carriers) 0 2 code refl) valid
-notify-so name f (Some c) found code valid = absurd (omega arith)
+pub notify-so : (name : List ℕ) (f : Floor) (known : Option Carrier) → carrier_named name f.carriers ≡ known → is_done_code (notify_code known f.carriers) ≡ true → IsFloor f → IsFloor (made name f)
+notify-so name f None found code valid = notified-valid name f (none_passes (has_name name) f.carriers found) (answer_first (has_room f.carriers) caack.Done caack.NotNow code refl) valid
+notify-so name f (Some c) found code valid = absurd (true≢false (sym code))
 
 forgotten-so : (name : List ℕ) (f : Floor) → IsFloor f → IsFloor (record f { carriers = without name f.carriers })
 forgotten-so name f valid = record {
@@ -147,46 +151,46 @@ maps-so (Some slots) name f valid = record {
 abbrev action : CarrierWord → List ℕ → ℕ → Option (List ℕ) → Bool → CarrierAction
 action w id port slots bad = record { word = w; id = id; port = port; map = slots; bad_attr = bad }
 
-written-so : (w : CarrierWord) (id : List ℕ) (port : ℕ) (slots : Option (List ℕ)) (bad : Bool) (f : Floor) → carrier_code f (action w id port slots bad) ≡ 0 → IsFloor f → IsFloor (carrier_written (action w id port slots bad) f)
-written-so word.Bind id port slots bad f code valid = bound-so id port f (carrier_named id f.carriers) refl (bind_of (carrier_named id f.carriers) f.carriers (view_numbered port (map view_of f.ports)) (answer_of _ 3 _ code refl)) valid
+written-so : (w : CarrierWord) (id : List ℕ) (port : ℕ) (slots : Option (List ℕ)) (bad : Bool) (f : Floor) → is_done_code (carrier_code f (action w id port slots bad)) ≡ true → IsFloor f → IsFloor (carrier_written (action w id port slots bad) f)
+written-so word.Bind id port slots bad f code valid = bound-so id port f (carrier_named id f.carriers) refl (bind_of (carrier_named id f.carriers) f.carriers (view_numbered port (map view_of f.ports)) (answer_of _ caack.Faulty _ code refl)) valid
 written-so word.CancelBind id port slots bad f code valid = valid
 written-so word.Proceed id port slots bad f code valid = maps-so slots id f valid
 written-so word.Cancel id port slots bad f code valid = valid
-written-so word.Notify id port slots bad f code valid = notify-so id f (carrier_named id f.carriers) refl (answer_of _ 3 _ code refl) valid
+written-so word.Notify id port slots bad f code valid = notify-so id f (carrier_named id f.carriers) refl (answer_of _ caack.Faulty _ code refl) valid
 written-so word.CancelNotify id port slots bad f code valid = forgotten-so id f valid
 written-so word.Unknown id port slots bad f code valid = valid
 
-pub written-keeps : (a : CarrierAction) (f : Floor) → carrier_code f a ≡ 0 → IsFloor f → IsFloor (carrier_written a f)
+pub written-keeps : (a : CarrierAction) (f : Floor) → is_done_code (carrier_code f a) ≡ true → IsFloor f → IsFloor (carrier_written a f)
 written-keeps a f code valid = written-so a.word a.id a.port a.map a.bad_attr f code valid
 
 -- ---- there is room for a carrier that becomes known
 
-bind_room : (name : List ℕ) (f : Floor) (known : Option Carrier) → carrier_named name f.carriers ≡ known → bind_carrier_code known f.carriers ≡ 0 → is_known name f.carriers ≡ false → IsFloor f → suc (length f.carriers) ≤ most_carriers
-bind_room name f None found code new valid = room-absent f valid (room_so f.carriers (answer_first (has_room f.carriers) 0 2 code refl))
+bind_room : (name : List ℕ) (f : Floor) (known : Option Carrier) → carrier_named name f.carriers ≡ known → is_done_code (bind_carrier_code known f.carriers) ≡ true → is_known name f.carriers ≡ false → IsFloor f → suc (length f.carriers) ≤ most_carriers
+bind_room name f None found code new valid = room-absent f valid (room_so f.carriers (answer_first (has_room f.carriers) caack.Done caack.NotNow code refl))
 bind_room name f (Some c) found code new valid = unlike (found_passes (has_name name) f.carriers c found) (known_found name (has_name name) f.carriers c found new) where
   unlike : {P : Type 0} → has_name name c ≡ true → has_name name c ≡ false → P
   unlike passes fails = absurd (cc)
 
-notify_room : (f : Floor) (known : Option Carrier) → notify_code known f.carriers ≡ 0 → IsFloor f → suc (length f.carriers) ≤ most_carriers
-notify_room f None code valid = room-absent f valid (room_so f.carriers (answer_first (has_room f.carriers) 0 2 code refl))
-notify_room f (Some c) code valid = absurd (omega arith)
+notify_room : (f : Floor) (known : Option Carrier) → is_done_code (notify_code known f.carriers) ≡ true → IsFloor f → suc (length f.carriers) ≤ most_carriers
+notify_room f None code valid = room-absent f valid (room_so f.carriers (answer_first (has_room f.carriers) caack.Done caack.NotNow code refl))
+notify_room f (Some c) code valid = absurd (true≢false (sym code))
 
-pub room-bind : (a : CarrierAction) (f : Floor) → a.word ≡ word.Bind → carrier_code f a ≡ 0 → is_known a.id f.carriers ≡ false → IsFloor f → suc (length f.carriers) ≤ most_carriers
+pub room-bind : (a : CarrierAction) (f : Floor) → a.word ≡ word.Bind → is_done_code (carrier_code f a) ≡ true → is_known a.id f.carriers ≡ false → IsFloor f → suc (length f.carriers) ≤ most_carriers
 room-bind a f is code new valid =
-    let known : carrier_code f (action word.Bind a.id a.port a.map a.bad_attr) ≡ 0 = subst (λ w. carrier_code f (action w a.id a.port a.map a.bad_attr) ≡ 0) is code in
-    bind_room a.id f (carrier_named a.id f.carriers) refl (bind_of (carrier_named a.id f.carriers) f.carriers (view_numbered a.port (map view_of f.ports)) (answer_of _ 3 _ known refl)) new valid
+    let known : is_done_code (carrier_code f (action word.Bind a.id a.port a.map a.bad_attr)) ≡ true = subst (λ w. is_done_code (carrier_code f (action w a.id a.port a.map a.bad_attr)) ≡ true) is code in
+    bind_room a.id f (carrier_named a.id f.carriers) refl (bind_of (carrier_named a.id f.carriers) f.carriers (view_numbered a.port (map view_of f.ports)) (answer_of _ caack.Faulty _ known refl)) new valid
 
-pub room-notify : (a : CarrierAction) (f : Floor) → a.word ≡ word.Notify → carrier_code f a ≡ 0 → IsFloor f → suc (length f.carriers) ≤ most_carriers
+pub room-notify : (a : CarrierAction) (f : Floor) → a.word ≡ word.Notify → is_done_code (carrier_code f a) ≡ true → IsFloor f → suc (length f.carriers) ≤ most_carriers
 room-notify a f is code valid =
-    let known : carrier_code f (action word.Notify a.id a.port a.map a.bad_attr) ≡ 0 = subst (λ w. carrier_code f (action w a.id a.port a.map a.bad_attr) ≡ 0) is code in
-    notify_room f (carrier_named a.id f.carriers) (answer_of _ 3 _ known refl) valid
+    let known : is_done_code (carrier_code f (action word.Notify a.id a.port a.map a.bad_attr)) ≡ true = subst (λ w. is_done_code (carrier_code f (action w a.id a.port a.map a.bad_attr)) ≡ true) is code in
+    notify_room f (carrier_named a.id f.carriers) (answer_of _ caack.Faulty _ known refl) valid
 
-notify_unknown : (name : List ℕ) (f : Floor) (known : Option Carrier) → carrier_named name f.carriers ≡ known → notify_code known f.carriers ≡ 0 → is_known name f.carriers ≡ false
+notify_unknown : (name : List ℕ) (f : Floor) (known : Option Carrier) → carrier_named name f.carriers ≡ known → is_done_code (notify_code known f.carriers) ≡ true → is_known name f.carriers ≡ false
 notify_unknown name f None found code = none_passes (has_name name) f.carriers found
-notify_unknown name f (Some c) found code = absurd (omega arith)
+notify_unknown name f (Some c) found code = absurd (true≢false (sym code))
 
 -- a carrier that is told of isn't known yet
-pub notify-unknown : (a : CarrierAction) (f : Floor) → a.word ≡ word.Notify → carrier_code f a ≡ 0 → is_known a.id f.carriers ≡ false
+pub notify-unknown : (a : CarrierAction) (f : Floor) → a.word ≡ word.Notify → is_done_code (carrier_code f a) ≡ true → is_known a.id f.carriers ≡ false
 notify-unknown a f is code =
-    let known : carrier_code f (action word.Notify a.id a.port a.map a.bad_attr) ≡ 0 = subst (λ w. carrier_code f (action w a.id a.port a.map a.bad_attr) ≡ 0) is code in
-    notify_unknown a.id f (carrier_named a.id f.carriers) refl (answer_of _ 3 _ known refl)
+    let known : is_done_code (carrier_code f (action word.Notify a.id a.port a.map a.bad_attr)) ≡ true = subst (λ w. is_done_code (carrier_code f (action w a.id a.port a.map a.bad_attr)) ≡ true) is code in
+    notify_unknown a.id f (carrier_named a.id f.carriers) refl (answer_of _ caack.Faulty _ known refl)

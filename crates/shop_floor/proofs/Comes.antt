@@ -60,14 +60,25 @@ arrives f port row o other room = record { comes = λ e t. room e; replaces = λ
 has_room : (f : Floor) (port row : ℕ) → IsFloor f → floor_starts (firing 7 port row) f ≡ true → HasRoom f port row (row_of association_table row)
 has_room f port row valid starts =
     starts_at_port association_number association_table (λ s. s.association) (λ to s. record s { association = to }) (HasRoom f) f port row
-    (λ place p s. let told = all_at IsTold place f.ports p s valid.told in
-    ((λ among wants. nothing f (suc place) 1 _ refl refl),
-    ((λ among wants. nothing f (suc place) 2 _ refl refl),
-    ((λ among wants. arrives f (suc place) 3 _ refl (λ e. room_3 place f p valid s (begins 3 p told refl among).none)),
-    ((λ among wants. record { comes = λ e t. absurd (true≢false t); replaces = λ t. at_4 place f p valid s (stands 4 true p told refl among).some }),
-    ((λ among wants. arrives f (suc place) 5 _ refl (λ e. at_5 place f p valid s wants (ap (λ o. is_new (arrival_at o) f.carriers) (sym s) ∙ new_so (arrival_at (slice_get f.ports place)) f e))),
-    ((λ among wants. nothing f (suc place) 6 _ refl refl),
-    ((λ among wants. nothing f (suc place) 7 _ refl refl), tt))))))))
+    (λ place p s. let told = all_at IsTold place f.ports p s valid.told in (
+      (λ among wants. nothing f (suc place) 1 _ refl refl),
+      (
+        (λ among wants. nothing f (suc place) 2 _ refl refl),
+        (
+          (λ among wants. arrives f (suc place) 3 _ refl (λ e. room_3 place f p valid s (begins 3 p told refl among).none)),
+          (
+            (λ among wants. record { comes = λ e t. absurd (true≢false t); replaces = λ t. at_4 place f p valid s (stands 4 true p told refl among).some }),
+            (
+              (λ among wants. arrives f (suc place) 5 _ refl (λ e. at_5 place f p valid s wants (ap (λ o. is_new (arrival_at o) f.carriers) (sym s) ∙ new_so (arrival_at (slice_get f.ports place)) f e))),
+              (
+                (λ among wants. nothing f (suc place) 6 _ refl refl),
+                ((λ among wants. nothing f (suc place) 7 _ refl refl), tt),
+              ),
+            ),
+          ),
+        ),
+      ),
+    ))
     starts
 
 -- rows 3 and 5, where what came isn't known
@@ -94,10 +105,19 @@ reservation_none f port row = looked_for (λ o. is_some_row (found_creates o por
 -- a row that starts and creates is one of table 7
 of_creating : (P : Firing → Type 0) (x : Firing) (f : Floor) → (floor_starts (firing 7 x.object x.row.row) f ≡ true → creates (firing 7 x.object x.row.row) f ≡ true → P (firing 7 x.object x.row.row)) → floor_starts x f ≡ true → creates x f ≡ true → P x
 of_creating P x f at_7 starts makes =
-    starts_cases (λ (y : Firing). creates y f ≡ true → P y) f x floor_machines
-    ((λ s m. absurd (both_ways _ (transfer_none f x.object x.row.row) m)), ((λ s m. absurd (both_ways _ (access_none f x.object x.row.row) m)),
-    ((λ s m. absurd (both_ways _ (reservation_none f x.object x.row.row) m)), ((λ s m. at_7 s m),
-    ((λ s m. absurd (true≢false (sym m))), ((λ s m. absurd (true≢false (sym m))), ((λ s m. absurd (true≢false (sym m))), tt)))))))
+    starts_cases (λ (y : Firing). creates y f ≡ true → P y) f x floor_machines (
+      (λ s m. absurd (both_ways _ (transfer_none f x.object x.row.row) m)),
+      (
+        (λ s m. absurd (both_ways _ (access_none f x.object x.row.row) m)),
+        (
+          (λ s m. absurd (both_ways _ (reservation_none f x.object x.row.row) m)),
+          (
+            (λ s m. at_7 s m),
+            ((λ s m. absurd (true≢false (sym m))), ((λ s m. absurd (true≢false (sym m))), ((λ s m. absurd (true≢false (sym m))), tt))),
+          ),
+        ),
+      ),
+    )
     starts makes
 
 pub room-comes : (x : Firing) (f : Floor) → floor_starts x f ≡ true → creates x f ≡ true → (x.row.row == 4) ≡ false → IsFloor f → suc (length f.carriers) ≤ most_carriers
@@ -128,8 +148,17 @@ pub new-replaced : (row port : ℕ) (f : Floor) → row ≡ 4 → floor_starts (
 new-replaced row port f is starts new =
     starts_at_port association_number association_table (λ s. s.association) (λ to s. record s { association = to })
     (λ (n r : ℕ) (o : Option (PortRow Association)). r ≡ 4 → is_new (arrival_at (port_numbered n f.ports)) (forgets (owner (port_numbered n f.ports)) f.carriers) ≡ true → is_some_row (found_creates o n f) ≡ true) f port row
-    (λ place p s.
-    ((λ among wants is new. absurd (omega (arith, is))), ((λ among wants is new. absurd (omega (arith, is))), ((λ among wants is new. absurd (omega (arith, is))),
-    ((λ among wants is new. rw (subst (λ (o : Option Port). is_new (arrival_at o) (forgets (owner o) f.carriers) ≡ true → is_new (arrival_at o) f.carriers ≡ true) (sym s) (new_kept p.carrier p.arrival f.carriers (and_parts (is_some p.arrival) (not (is_own p.carrier p.arrival)) wants).1) new) refl),
-    ((λ among wants is new. absurd (omega (arith, is))), ((λ among wants is new. absurd (omega (arith, is))), ((λ among wants is new. absurd (omega (arith, is))), tt))))))))
+    (λ place p s. (
+      (λ among wants is new. absurd (omega (arith, is))),
+      (
+        (λ among wants is new. absurd (omega (arith, is))),
+        (
+          (λ among wants is new. absurd (omega (arith, is))),
+          (
+            (λ among wants is new. rw (subst (λ (o : Option Port). is_new (arrival_at o) (forgets (owner o) f.carriers) ≡ true → is_new (arrival_at o) f.carriers ≡ true) (sym s) (new_kept p.carrier p.arrival f.carriers (and_parts (is_some p.arrival) (not (is_own p.carrier p.arrival)) wants).1) new) refl),
+            ((λ among wants is new. absurd (omega (arith, is))), ((λ among wants is new. absurd (omega (arith, is))), ((λ among wants is new. absurd (omega (arith, is))), tt))),
+          ),
+        ),
+      ),
+    ))
     starts is new

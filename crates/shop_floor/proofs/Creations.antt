@@ -97,10 +97,19 @@ found_follows (Some r) port f after same =
 -- whatever fires
 follows : (x : Firing) (f : Floor) → Follows (creation_rows x f) (floor_fired x f)
 follows x f =
-    either_creates Follows f x floor_machines (none_follows f)
-    (found_follows (row_of transfer_table x.row.row) x.object f _ refl, (found_follows (row_of access_table x.row.row) x.object f _ refl,
-    (found_follows (row_of reservation_table x.row.row) x.object f _ refl, (found_follows (row_of association_table x.row.row) x.object f _ refl,
-    (none_follows _, (none_follows _, (none_follows _, tt)))))))
+    either_creates Follows f x floor_machines (none_follows f) (
+      found_follows (row_of transfer_table x.row.row) x.object f _ refl,
+      (
+        found_follows (row_of access_table x.row.row) x.object f _ refl,
+        (
+          found_follows (row_of reservation_table x.row.row) x.object f _ refl,
+          (
+            found_follows (row_of association_table x.row.row) x.object f _ refl,
+            (none_follows _, (none_follows _, (none_follows _, tt))),
+          ),
+        ),
+      ),
+    )
 
 -- the rows that follow a firing are those of a carrier that it created
 pub creations : (f : Floor) (x : Firing) → AllByRecursion (λ (d : Firing). d ≡ firing 8 d.object 1) (creation_rows x f)

@@ -21,10 +21,13 @@ forgets_owner row port f (inr is) = rw is refl
 -- a row of another table of ports does no more than its state says
 pub port_fires : (x : Firing) (f : Floor) → is_one_of (4 ∷ 5 ∷ 6 ∷ 7 ∷ []) x.row.table ≡ true → (x.row.table ≡ 7 → ⊥) → with_port x.object (ports.fires_row x.row.table x.row.row) f ≡ floor_fired x f
 port_fires x f among other =
-    one_of_cases (λ (t : ℕ). (t ≡ 7 → ⊥) → with_port x.object (ports.fires_row t x.row.row) f ≡ floor_fired (firing t x.object x.row.row) f) (4 ∷ 5 ∷ 6 ∷ 7 ∷ []) x.row.table
-    ((λ _. looked_for (λ (o : Option (PortRow Transfer)). with_port x.object (ports.fires_row 4 x.row.row) f ≡ with_port x.object (ports.fires_row 4 x.row.row) (found_does o x.object f)) transfer_table x.row.row refl (refl, (refl, (refl, (refl, (refl, tt)))))),
-    ((λ _. looked_for (λ (o : Option (PortRow Access)). with_port x.object (ports.fires_row 5 x.row.row) f ≡ with_port x.object (ports.fires_row 5 x.row.row) (found_does o x.object f)) access_table x.row.row refl (refl, (refl, tt))),
-    ((λ _. looked_for (λ (o : Option (PortRow Reservation)). with_port x.object (ports.fires_row 6 x.row.row) f ≡ with_port x.object (ports.fires_row 6 x.row.row) (found_does o x.object f)) reservation_table x.row.row refl (refl, (refl, (refl, tt)))), ((λ seven. absurd (seven refl)), tt)))) among other
+    one_of_cases (λ (t : ℕ). (t ≡ 7 → ⊥) → with_port x.object (ports.fires_row t x.row.row) f ≡ floor_fired (firing t x.object x.row.row) f) (4 ∷ 5 ∷ 6 ∷ 7 ∷ []) x.row.table (
+      (λ _. looked_for (λ (o : Option (PortRow Transfer)). with_port x.object (ports.fires_row 4 x.row.row) f ≡ with_port x.object (ports.fires_row 4 x.row.row) (found_does o x.object f)) transfer_table x.row.row refl (refl, (refl, (refl, (refl, (refl, tt)))))),
+      (
+        (λ _. looked_for (λ (o : Option (PortRow Access)). with_port x.object (ports.fires_row 5 x.row.row) f ≡ with_port x.object (ports.fires_row 5 x.row.row) (found_does o x.object f)) access_table x.row.row refl (refl, (refl, tt))),
+        ((λ _. looked_for (λ (o : Option (PortRow Reservation)). with_port x.object (ports.fires_row 6 x.row.row) f ≡ with_port x.object (ports.fires_row 6 x.row.row) (found_does o x.object f)) reservation_table x.row.row refl (refl, (refl, (refl, tt)))), ((λ seven. absurd (seven refl)), tt)),
+      ),
+    ) among other
 
 -- nor does one of a table of carriers
 pub carrier_fires : (x : Firing) (f : Floor) → is_one_of (8 ∷ 9 ∷ 10 ∷ []) x.row.table ≡ true → with_carrier x.object (carriers.fires_row x.row.table x.row.row) f ≡ floor_fired x f

@@ -26,7 +26,17 @@ tested f port test valid none e = of (port_numbered port f.ports) refl e where
 
 pub port_within : (x : Firing) (f : Floor) → floor_starts x f ≡ true → is_one_of (4 ∷ 5 ∷ 6 ∷ 7 ∷ []) x.row.table ≡ true → IsFloor f → x.object ≤ most_ports
 port_within x f starts of_port valid =
-    starts_cases (λ (y : Firing). is_one_of (4 ∷ 5 ∷ 6 ∷ 7 ∷ []) y.row.table ≡ true → y.object ≤ most_ports) f x floor_machines
-    ((λ s t. tested f x.object (port_starts transfer_number transfer_table (λ r. r.transfer) (λ to r. record r { transfer = to }) x.row.row x.object f) valid refl s), ((λ s t. tested f x.object (port_starts access_number access_table (λ r. r.access) (λ to r. record r { access = to }) x.row.row x.object f) valid refl s), ((λ s t. tested f x.object (port_starts reservation_number reservation_table (λ r. r.reservation) (λ to r. record r { reservation = to }) x.row.row x.object f) valid refl s), ((λ s t. tested f x.object (port_starts association_number association_table (λ r. r.association) (λ to r. record r { association = to }) x.row.row x.object f) valid refl s),
-    ((λ s t. absurd (true≢false (sym t))), ((λ s t. absurd (true≢false (sym t))), ((λ s t. absurd (true≢false (sym t))), tt)))))))
+    starts_cases (λ (y : Firing). is_one_of (4 ∷ 5 ∷ 6 ∷ 7 ∷ []) y.row.table ≡ true → y.object ≤ most_ports) f x floor_machines (
+      (λ s t. tested f x.object (port_starts transfer_number transfer_table (λ r. r.transfer) (λ to r. record r { transfer = to }) x.row.row x.object f) valid refl s),
+      (
+        (λ s t. tested f x.object (port_starts access_number access_table (λ r. r.access) (λ to r. record r { access = to }) x.row.row x.object f) valid refl s),
+        (
+          (λ s t. tested f x.object (port_starts reservation_number reservation_table (λ r. r.reservation) (λ to r. record r { reservation = to }) x.row.row x.object f) valid refl s),
+          (
+            (λ s t. tested f x.object (port_starts association_number association_table (λ r. r.association) (λ to r. record r { association = to }) x.row.row x.object f) valid refl s),
+            ((λ s t. absurd (true≢false (sym t))), ((λ s t. absurd (true≢false (sym t))), ((λ s t. absurd (true≢false (sym t))), tt))),
+          ),
+        ),
+      ),
+    )
     starts of_port

@@ -196,14 +196,25 @@ association-keeps : (f : Floor) (port row : ℕ) → IsFloor f → floor_starts 
 association-keeps f port row valid starts =
     starts_at_port association_number association_table (λ s. s.association) (λ to s. record s { association = to })
     (λ (n r : ℕ) (o : Option (PortRow Association)). IsFloor (with_port n (ports.fires_row 7 r) (found_does o n f))) f port row
-    (λ place p s. let told = all_at IsTold place f.ports p s valid.told in
-    ((λ among wants. keeps_1 place f p valid s (begins 1 p told refl among) wants),
-    ((λ among wants. keeps_2 2 place f p valid s (stands 2 false p told refl among)),
-    ((λ among wants. keeps_3 place f p valid s (begins 3 p told refl among) wants),
-    ((λ among wants. keeps_4 place f p valid s (stands 4 true p told refl among) (and_parts _ _ wants).0),
-    ((λ among wants. keeps_5 place f p valid s (stands 5 true p told refl among) wants),
-    ((λ among wants. keeps_2 6 place f p valid s (stands 6 false p told refl among)),
-    ((λ among wants. keeps_7 place f p valid s (stands 7 false p told refl among) wants), tt))))))))
+    (λ place p s. let told = all_at IsTold place f.ports p s valid.told in (
+      (λ among wants. keeps_1 place f p valid s (begins 1 p told refl among) wants),
+      (
+        (λ among wants. keeps_2 2 place f p valid s (stands 2 false p told refl among)),
+        (
+          (λ among wants. keeps_3 place f p valid s (begins 3 p told refl among) wants),
+          (
+            (λ among wants. keeps_4 place f p valid s (stands 4 true p told refl among) (and_parts _ _ wants).0),
+            (
+              (λ among wants. keeps_5 place f p valid s (stands 5 true p told refl among) wants),
+              (
+                (λ among wants. keeps_2 6 place f p valid s (stands 6 false p told refl among)),
+                ((λ among wants. keeps_7 place f p valid s (stands 7 false p told refl among) wants), tt),
+              ),
+            ),
+          ),
+        ),
+      ),
+    ))
     starts
 
 -- ---- all tables
@@ -229,12 +240,25 @@ states_left table row = record { number = λ c. refl; name = λ c. refl; port = 
 
 pub row-keeps : (x : Firing) (f : Floor) → floor_starts x f ≡ true → IsFloor f → IsFloor (floor_fired x f)
 row-keeps x f starts valid =
-    starts_cases (λ (y : Firing). IsFloor (floor_fired y f)) f x floor_machines
-    ((λ s. transfer-keeps f x.object x.row.row valid), ((λ s. access-keeps f x.object x.row.row valid), ((λ s. reservation-keeps f x.object x.row.row valid),
-    ((λ s. association-keeps f x.object x.row.row valid s),
-    ((λ s. carrier-keeps x.object (carriers.fires_row 8 x.row.row) f (states_left 8 x.row.row) valid),
-    ((λ s. carrier-keeps x.object (carriers.fires_row 9 x.row.row) f (states_left 9 x.row.row) valid),
-    ((λ s. carrier-keeps x.object (carriers.fires_row 10 x.row.row) f (states_left 10 x.row.row) valid), tt)))))))
+    starts_cases (λ (y : Firing). IsFloor (floor_fired y f)) f x floor_machines (
+      (λ s. transfer-keeps f x.object x.row.row valid),
+      (
+        (λ s. access-keeps f x.object x.row.row valid),
+        (
+          (λ s. reservation-keeps f x.object x.row.row valid),
+          (
+            (λ s. association-keeps f x.object x.row.row valid s),
+            (
+              (λ s. carrier-keeps x.object (carriers.fires_row 8 x.row.row) f (states_left 8 x.row.row) valid),
+              (
+                (λ s. carrier-keeps x.object (carriers.fires_row 9 x.row.row) f (states_left 9 x.row.row) valid),
+                ((λ s. carrier-keeps x.object (carriers.fires_row 10 x.row.row) f (states_left 10 x.row.row) valid), tt),
+              ),
+            ),
+          ),
+        ),
+      ),
+    )
     starts
 
 -- ---- what came to a port

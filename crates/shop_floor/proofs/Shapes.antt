@@ -24,8 +24,13 @@ no_access f port row {P} e =
 pub no_accessing : (f : Floor) (carrier row : ℕ) {P : Type 0} → accessing_machine.ready carrier f ≡ Some row → P
 no_accessing f carrier row {P} e =
     ready_at_carrier access_number accessing_table (λ s. s.access) (λ to s. record s { access = to }) (λ r. P) f carrier row
-    (λ c s. ((λ itself among wants. absurd (true≢false (sym wants))), ((λ itself among wants. absurd (true≢false (sym wants))),
-    ((λ itself among wants. absurd (true≢false (sym wants))), ((λ itself. absurd (true≢false (sym itself))), tt))))) e
+    (λ c s. (
+      (λ itself among wants. absurd (true≢false (sym wants))),
+      (
+        (λ itself among wants. absurd (true≢false (sym wants))),
+        ((λ itself among wants. absurd (true≢false (sym wants))), ((λ itself. absurd (true≢false (sym itself))), tt)),
+      ),
+    )) e
 
 -- it is one of these tables
 pub least_table : (f : Floor) (x : Firing) → floor_least f ≡ Some x → is_one_of (4 ∷ 6 ∷ 7 ∷ 8 ∷ 9 ∷ []) x.row.table ≡ true

@@ -31,11 +31,22 @@ module _ {S : Type 0} (number : S → ℕ) (rows : List (CarrierRow S)) (state :
 -- the least row that is ready by itself starts
 pub least_starts : (f : Floor) (x : Firing) → floor_least f ≡ Some x → floor_starts x f ≡ true
 least_starts f x e =
-    least_cases (λ (y : Firing). floor_starts y f ≡ true) f x floor_machines
-    ((λ o r s. at_port transfer_number transfer_table (λ s. s.transfer) (λ to s. record s { transfer = to }) f o r (port_numbered o f.ports) (refl, (refl, (refl, (refl, (refl, tt))))) s),
-    ((λ o r s. at_port mode_number access_table (λ s. s.access) (λ to s. record s { access = to }) f o r (port_numbered o f.ports) (refl, (refl, tt)) s),
-    ((λ o r s. at_port reservation_number reservation_table (λ s. s.reservation) (λ to s. record s { reservation = to }) f o r (port_numbered o f.ports) (refl, (refl, (refl, tt))) s),
-    ((λ o r s. at_port association_number association_table (λ s. s.association) (λ to s. record s { association = to }) f o r (port_numbered o f.ports) (refl, (refl, (refl, (refl, (refl, (refl, (refl, tt))))))) s),
-    ((λ o r s. at_carrier id_number id_table (λ s. s.id) (λ to s. record s { id = to }) r (carrier_numbered o f.carriers) (refl, (refl, (refl, (refl, (refl, tt))))) s),
-    ((λ o r s. at_carrier map_number map_table (λ s. s.map) (λ to s. record s { map = to }) r (carrier_numbered o f.carriers) (refl, (refl, (refl, (refl, tt)))) s),
-    ((λ o r s. at_carrier access_number accessing_table (λ s. s.access) (λ to s. record s { access = to }) r (carrier_numbered o f.carriers) (refl, (refl, (refl, (refl, tt)))) s), tt))))))) e
+    least_cases (λ (y : Firing). floor_starts y f ≡ true) f x floor_machines (
+      (λ o r s. at_port transfer_number transfer_table (λ s. s.transfer) (λ to s. record s { transfer = to }) f o r (port_numbered o f.ports) (refl, (refl, (refl, (refl, (refl, tt))))) s),
+      (
+        (λ o r s. at_port mode_number access_table (λ s. s.access) (λ to s. record s { access = to }) f o r (port_numbered o f.ports) (refl, (refl, tt)) s),
+        (
+          (λ o r s. at_port reservation_number reservation_table (λ s. s.reservation) (λ to s. record s { reservation = to }) f o r (port_numbered o f.ports) (refl, (refl, (refl, tt))) s),
+          (
+            (λ o r s. at_port association_number association_table (λ s. s.association) (λ to s. record s { association = to }) f o r (port_numbered o f.ports) (refl, (refl, (refl, (refl, (refl, (refl, (refl, tt))))))) s),
+            (
+              (λ o r s. at_carrier id_number id_table (λ s. s.id) (λ to s. record s { id = to }) r (carrier_numbered o f.carriers) (refl, (refl, (refl, (refl, (refl, tt))))) s),
+              (
+                (λ o r s. at_carrier map_number map_table (λ s. s.map) (λ to s. record s { map = to }) r (carrier_numbered o f.carriers) (refl, (refl, (refl, (refl, tt)))) s),
+                ((λ o r s. at_carrier access_number accessing_table (λ s. s.access) (λ to s. record s { access = to }) r (carrier_numbered o f.carriers) (refl, (refl, (refl, (refl, tt)))) s), tt),
+              ),
+            ),
+          ),
+        ),
+      ),
+    ) e

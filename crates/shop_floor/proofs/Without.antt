@@ -6,6 +6,7 @@ use Rattle.gem_tables.specs.declared.firing.Firing.{Firing}
 use Rattle.gem_tables.proofs.Rows.{looked_for}
 use Rattle.load_port.specs.declared.record.Association.{Association}
 use Rattle.load_port.specs.Tables.{PortRow, association_table}
+use Rattle.load_port.specs.Caack.{is_done_code}
 use Rattle.load_port.specs.Ports.{port_numbered}
 use Rattle.carrier.specs.declared.action.CarrierAction.{CarrierAction}
 use Rattle.shop_floor.specs.Floor.{Floor}
@@ -31,6 +32,6 @@ pub fired-valid : {A E : Type 0} (r : Result A E) (x : Firing) (f after : Floor)
 fired-valid (Ok _) x f after starts valid ok err = subst IsFloor (sym ok) (row-keeps x f starts valid)
 fired-valid (Err _) x f after starts valid ok err = subst IsFloor (sym err) (without-keeps x f valid)
 
-pub written-valid : {A E : Type 0} (r : Result A E) (a : CarrierAction) (f after : Floor) → carrier_code f a ≡ 0 → IsFloor f → IfOk r (λ _. after ≡ carrier_written a f) → IfErr r (λ _. after ≡ f) → IsFloor after
+pub written-valid : {A E : Type 0} (r : Result A E) (a : CarrierAction) (f after : Floor) → is_done_code (carrier_code f a) ≡ true → IsFloor f → IfOk r (λ _. after ≡ carrier_written a f) → IfErr r (λ _. after ≡ f) → IsFloor after
 written-valid (Ok _) a f after code valid ok err = subst IsFloor (sym ok) (written-keeps a f code valid)
 written-valid (Err _) a f after code valid ok err = subst IsFloor (sym err) valid

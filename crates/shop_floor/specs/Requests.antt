@@ -4,6 +4,7 @@ use Rattle.std.specs.Prelude.{ℕ, ◌+◌, ◌==◌, false, if◌then◌else◌
 use Rattle.gem_tables.specs.Table.{firing}
 use Rattle.gem_tables.specs.declared.firing.Firing.{Firing}
 use Rattle.gem_ids.specs.declared.numbers.PortNo.{PortNo}
+use Rattle.load_port.specs.declared.caack.Caack.{Caack}
 use Rattle.load_port.specs.declared.port.Arrival.{Arrival}
 use Rattle.load_port.specs.declared.action.PortAction.{PortAction}
 use Rattle.load_port.specs.declared.action.PortAction.TheVariants as action
@@ -23,8 +24,8 @@ at_port table row port = firing table port row ∷ []
 
 -- ---- S3F17
 
--- CAACK of an action on a carrier; no process job names one yet (this tool's profile, S3F17)
-abbrev pub carrier_code : Floor → CarrierAction → ℕ
+-- what is answered of an action on a carrier; no process job names one yet (this tool's profile, S3F17)
+abbrev pub carrier_code : Floor → CarrierAction → Caack
 carrier_code f a = carrier_caack f.carriers (map view_of f.ports) a false
 
 -- the map that is given is the host's
@@ -102,7 +103,7 @@ carrier_rows a f = word_rows a.word a f
 
 -- ---- S3F25 and S3F27
 
-abbrev pub port_code : Floor → PortAction → ℕ
+abbrev pub port_code : Floor → PortAction → Caack
 port_code f a = port_caack f.ports a
 
 -- no port at all is all

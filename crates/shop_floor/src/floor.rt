@@ -1,6 +1,7 @@
 //! The load ports and the carriers together.
 
 ghost use Rattle.std.specs.Prelude.{◌≡◌, ◌≤◌, true, false, not, length, slice_get, IfOk, IfErr};
+ghost use Rattle.load_port.specs.Caack.{is_done_code};
 ghost use Rattle.load_port.specs.Ports.{most_ports, is_no_port};
 ghost use Rattle.carrier.specs.Carriers.{carrier_named, is_known};
 ghost use Rattle.shop_floor.specs.Floor.{opening, arrival_of, is_unloadable_port};
@@ -15,7 +16,7 @@ use arrayvec::ArrayVec;
 use carrier::{Carrier, CarrierAction, Carriers};
 use gem_ids::{CarrierId, PortNo, Text80};
 use gem_tables::Firing;
-use load_port::{Arrival, Port, PortAction, Ports, Transfer};
+use load_port::{Arrival, Caack, Port, PortAction, Ports, Transfer};
 use std::alloc::{AllocError, Global};
 use std::marker::Model;
 
@@ -188,20 +189,20 @@ impl ShopFloor {
     // ---- what the host asks
 
     /// What the host is answered of an action on a carrier by the states before it, CAACK (SEMI E87, S3F17; this tool's
-    /// profile, S3F17): 0 where it can be done. Changes nothing.
-    pub fn carrier_code(&self, a: &CarrierAction) -> u8
+    /// profile, S3F17): that it is done where it can be. Changes nothing.
+    pub fn carrier_code(&self, a: &CarrierAction) -> Caack
         ensures { result ≡ carrier_code self.now a.now }
     {
         let views = self.ports.views();
-        self.carriers.verdict(views.as_slice(), a, false)
+        self.carriers.code(views.as_slice(), a, false)
     }
 
     /// What the host is answered of an action on ports by the states before it, CAACK (SEMI E87, S3F26 and S3F28; this tool's
-    /// profile, S3F25 and S3F27): 0 where it can be done. Changes nothing.
-    pub fn port_code(&self, a: &PortAction) -> u8
+    /// profile, S3F25 and S3F27): that it is done where it can be. Changes nothing.
+    pub fn port_code(&self, a: &PortAction) -> Caack
         ensures { result ≡ port_code self.now a.now }
     {
-        self.ports.verdict(a)
+        self.ports.code(a)
     }
 
     /// What an action on a carrier writes that can be done: Bind and CarrierNotification make a carrier known, and Bind directs
@@ -209,7 +210,7 @@ impl ShopFloor {
     /// for the caller: `carrier_rows`, asked before. `AllocError`: there is no memory for a carrier, or the last
     /// number was given; nothing has changed.
     pub fn write(&mut self, a: &CarrierAction) -> Result<(), AllocError>
-        requires { carrier_code self.old a.now ≡ 0 }
+        requires { is_done_code (carrier_code self.old a.now) ≡ true }
         ensures ok { IfOk result (λ _. self.new ≡ carrier_written a.now self.old) }
         ensures err { IfErr result (λ _. self.new ≡ self.old) }
         ensures needed { IfErr result (λ _. is_known a.now.id self.old.carriers ≡ false) }

@@ -5,6 +5,7 @@ ghost use Rattle.std.specs.List.{AllByRecursion};
 ghost use Rattle.gem_tables.specs.Table.{firing, is_one_of};
 ghost use Rattle.gem_tables.specs.declared.firing.Firing.{Firing};
 ghost use Rattle.load_port.specs.declared.port.Arrival.{Arrival};
+ghost use Rattle.load_port.specs.Caack.{is_done_code};
 ghost use Rattle.load_port.specs.Ports.{most_ports, port_numbered};
 ghost use Rattle.carrier.specs.declared.action.CarrierAction.{CarrierAction};
 ghost use Rattle.carrier.specs.declared.action.CarrierWord.TheVariants.{Bind, Notify};
@@ -52,7 +53,7 @@ pub fn the_floor_stays_valid()
     ensures opening { (ports : ℕ) → ports ≤ most_ports → IsFloor (opening ports) }
     ensures fired { (x : Firing) (f : Floor) → floor_starts x f ≡ true → IsFloor f → IsFloor (floor_fired x f) }
     ensures written { (a : CarrierAction) (f : Floor)
-        → carrier_code f a ≡ 0 → IsFloor f → IsFloor (carrier_written a f) }
+        → is_done_code (carrier_code f a) ≡ true → IsFloor f → IsFloor (carrier_written a f) }
     ensures came { (port : ℕ) (a : Arrival) (f : Floor) → IsFloor f → IsFloor (came port a f) }
 {}
 
@@ -64,8 +65,8 @@ pub fn there_is_room_for_each_carrier()
         → IsFloor f → suc (length f.carriers) ≤ most_carriers }
     ensures replaces { (x : Firing) (f : Floor) → floor_starts x f ≡ true → creates x f ≡ true → (x.row.row == 4) ≡ true
         → IsFloor f → suc (length (forgets (owner (port_numbered x.object f.ports)) f.carriers)) ≤ most_carriers }
-    ensures bind { (a : CarrierAction) (f : Floor) → a.word ≡ Bind → carrier_code f a ≡ 0
+    ensures bind { (a : CarrierAction) (f : Floor) → a.word ≡ Bind → is_done_code (carrier_code f a) ≡ true
         → is_known a.id f.carriers ≡ false → IsFloor f → suc (length f.carriers) ≤ most_carriers }
-    ensures notify { (a : CarrierAction) (f : Floor) → a.word ≡ Notify → carrier_code f a ≡ 0
+    ensures notify { (a : CarrierAction) (f : Floor) → a.word ≡ Notify → is_done_code (carrier_code f a) ≡ true
         → IsFloor f → suc (length f.carriers) ≤ most_carriers }
 {}

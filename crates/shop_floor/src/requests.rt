@@ -76,11 +76,7 @@ fn tell(id: CarrierId, map: Option<[u8; 25]>, carriers: &mut Carriers)
 // ---- the rows that it fires
 
 // The rows of an action that can be done, in their order, where the next carrier gets this number.
-pub(crate) fn carrier_rows(
-    a: &CarrierAction,
-    carriers: &Carriers,
-    next: u64,
-) -> ArrayVec<Firing, 3>
+pub(crate) fn carrier_rows(a: &CarrierAction, carriers: &Carriers, next: u64) -> ArrayVec<Firing, 3>
     ensures { (ports : List Port) → result.items ≡ carrier_rows a.now (floor_of ports carriers.now next) }
 {
     match a.word {

@@ -185,10 +185,7 @@ pub(crate) fn creations(
     ensures { result.items ≡ creation_rows x (floor_of ports.now carriers.now next) }
 {
     let mut rows = ArrayVec::new();
-    if x.row.table == 7
-        && is_arrival_row(x.row.row)
-        && is_new_at(x.object, ports, carriers)
-    {
+    if x.row.table == 7 && is_arrival_row(x.row.row) && is_new_at(x.object, ports, carriers) {
         rows.push(Firing::new(8, next, 1));
     }
     rows

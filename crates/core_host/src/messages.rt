@@ -137,95 +137,64 @@ fn date_and_time(plant: &Plant, alloc: Global) -> Result<GemReply, AllocError>
     Ok(GemReply::S2F18(plant.time_text(alloc)?))
 }
 
-/// A message of streams 1, 2, 5 and 6.
+/// A message of streams 1, 2, 5 and 6. Most are answered, and no row fires; the others return what they do.
 fn gem_done(plant: &mut Plant, alloc: Global, message: &GemMsg) -> Result<Done, AllocError>
     requires { HasFewParts message.now }
     ensures done { IfOk result (λ told. done_view told plant.new ≡ gem_done plant.old message.now) }
     ensures sendable { IfOk result (λ told. CanBeSent told.reply) }
 {
-    match message {
-        GemMsg::S1F1 => Ok(answered(alloc, on_line_data(plant, alloc)?)),
-        GemMsg::S1F3(ids) => Ok(answered(
-            alloc,
-            GemReply::S1F4(plant.status_values(alloc, ids.as_slice())?),
-        )),
-        GemMsg::S1F11(ids) => Ok(answered(
-            alloc,
-            GemReply::S1F12(plant.status_names(alloc, ids.as_slice())?),
-        )),
-        GemMsg::S1F13 => fires_row(
+    let reply = match message {
+        GemMsg::S1F1 => on_line_data(plant, alloc)?,
+        GemMsg::S1F3(ids) => GemReply::S1F4(plant.status_values(alloc, ids.as_slice())?),
+        GemMsg::S1F11(ids) => GemReply::S1F12(plant.status_names(alloc, ids.as_slice())?),
+        GemMsg::S1F13 => return fires_row(
             alloc,
             established(plant, alloc)?,
             by_comm(CommTrigger::HostS1F13),
         ),
-        GemMsg::S1F15 => fires_row(
+        GemMsg::S1F15 => return fires_row(
             alloc,
             GemReply::S1F16,
             plant.by_control(ControlTrigger::HostS1F15),
         ),
-        GemMsg::S1F17 => fires_row(
+        GemMsg::S1F17 => return fires_row(
             alloc,
             GemReply::S1F18(onlack(plant.control())),
             plant.by_control(ControlTrigger::HostS1F17),
         ),
-        GemMsg::S2F13(ids) => Ok(answered(
+        GemMsg::S2F13(ids) => GemReply::S2F14(plant.constant_values(alloc, ids.as_slice())?),
+        GemMsg::S2F15(settings) => GemReply::S2F16(plant.set_constants(
             alloc,
-            GemReply::S2F14(plant.constant_values(alloc, ids.as_slice())?),
-        )),
-        GemMsg::S2F15(settings) => Ok(answered(
+            settings.as_slice(),
+        )?),
+        GemMsg::S2F17 => date_and_time(plant, alloc)?,
+        GemMsg::S2F29(ids) => GemReply::S2F30(plant.constant_names(alloc, ids.as_slice())?),
+        GemMsg::S2F31(text) => GemReply::S2F32(set_clock(plant, text.as_slice())),
+        GemMsg::S2F33(_, reports) => GemReply::S2F34(plant.define_reports(
             alloc,
-            GemReply::S2F16(plant.set_constants(alloc, settings.as_slice())?),
-        )),
-        GemMsg::S2F17 => Ok(answered(alloc, date_and_time(plant, alloc)?)),
-        GemMsg::S2F29(ids) => Ok(answered(
-            alloc,
-            GemReply::S2F30(plant.constant_names(alloc, ids.as_slice())?),
-        )),
-        GemMsg::S2F31(text) => Ok(answered(
-            alloc,
-            GemReply::S2F32(set_clock(plant, text.as_slice())),
-        )),
-        GemMsg::S2F33(_, reports) => Ok(answered(
-            alloc,
-            GemReply::S2F34(plant.define_reports(alloc, reports.as_slice())?),
-        )),
-        GemMsg::S2F35(_, events) => Ok(answered(
-            alloc,
-            GemReply::S2F36(plant.link_reports(alloc, events.as_slice())?),
-        )),
-        GemMsg::S2F37(on, ceids) => Ok(answered(
-            alloc,
-            GemReply::S2F38(plant.enable_events(*on, ceids.as_slice())),
-        )),
-        GemMsg::S2F41(name, parameters) => command(
+            reports.as_slice(),
+        )?),
+        GemMsg::S2F35(_, events) => GemReply::S2F36(plant.link_reports(alloc, events.as_slice())?),
+        GemMsg::S2F37(on, ceids) => GemReply::S2F38(plant.enable_events(*on, ceids.as_slice())),
+        GemMsg::S2F41(name, parameters) => return command(
             plant,
             alloc,
             name.as_bytes(),
             parameters.as_slice(),
         ),
-        GemMsg::S2F43(entries) => Ok(answered(
+        GemMsg::S2F43(entries) => spool_streams(plant, alloc, entries.as_slice())?,
+        GemMsg::S5F3(aled, alid) => GemReply::S5F4(plant.enable_alarms(is_enabling(*aled), *alid)),
+        GemMsg::S5F5(ids) => GemReply::S5F6(plant.alarm_list(alloc, ids.as_slice())?),
+        GemMsg::S5F7 => GemReply::S5F8(plant.enabled_alarm_list(alloc)?),
+        GemMsg::S6F15(ceid) => GemReply::S6F16(*ceid, plant.event_reports(alloc, *ceid)?),
+        GemMsg::S6F19(rptid) => GemReply::S6F20(plant.one_report(alloc, *rptid)?),
+        GemMsg::S6F23(rsdc) => return fires_row(
             alloc,
-            spool_streams(plant, alloc, entries.as_slice())?,
-        )),
-        GemMsg::S5F3(aled, alid) => Ok(answered(
-            alloc,
-            GemReply::S5F4(plant.enable_alarms(is_enabling(*aled), *alid)),
-        )),
-        GemMsg::S5F5(ids) => Ok(answered(
-            alloc,
-            GemReply::S5F6(plant.alarm_list(alloc, ids.as_slice())?),
-        )),
-        GemMsg::S5F7 => Ok(answered(alloc, GemReply::S5F8(plant.enabled_alarm_list(alloc)?))),
-        GemMsg::S6F15(ceid) => Ok(answered(
-            alloc,
-            GemReply::S6F16(*ceid, plant.event_reports(alloc, *ceid)?),
-        )),
-        GemMsg::S6F19(rptid) => Ok(answered(
-            alloc,
-            GemReply::S6F20(plant.one_report(alloc, *rptid)?),
-        )),
-        GemMsg::S6F23(rsdc) => fires_row(alloc, GemReply::S6F24(plant.rsda()), unload_row(*rsdc)),
-    }
+            GemReply::S6F24(plant.rsda()),
+            unload_row(*rsdc),
+        ),
+    };
+    Ok(answered(alloc, reply))
 }
 
 /// What a message is answered, and the rows that it fires, by the plant before it; and what it writes is written.

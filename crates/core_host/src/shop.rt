@@ -1,5 +1,6 @@
 //! What the host asks of carriers and load ports (SEMI E87, S3F17, S3F25 and S3F27): what it is answered, and what is done.
-ghost use Rattle.std.specs.Prelude.{◌≡◌, ◌==◌, if◌then◌else◌, [], IfOk};
+ghost use Rattle.std.specs.Prelude.{◌≡◌, if◌then◌else◌, [], IfOk};
+ghost use Rattle.load_port.specs.Caack.{is_done_code};
 ghost use Rattle.msgs_300.specs.Primaries.{said};
 ghost use Rattle.msgs_300.specs.declared.reply.ShopReply.TheVariants as shop;
 ghost use Rattle.shop_floor.specs.Requests.{port_rows};
@@ -13,38 +14,31 @@ use core_state::Plant;
 use gem_states::Control;
 use gem_tables::Firing;
 use host_requests::{carrier_action, port_word};
-use load_port::PortAction;
+use load_port::{Caack, PortAction};
 use msgs_300::{ShopMsg, ShopReply};
 use std::alloc::{AllocError, Global};
 
-// CAACK: an action that is done; and those that come before the states are asked, an unknown action, and not now.
-const DONE: u8 = 0;
-
-const UNKNOWN: u8 = 1;
-
-const NOT_NOW: u8 = 2;
-
 /// CAACK of an action on a carrier.
-fn carrier_caack(plant: &Plant, action: &CarrierAction) -> u8
+fn carrier_caack(plant: &Plant, action: &CarrierAction) -> Caack
     ensures { result ≡ carrier_caack action.now plant.now }
 {
     if action.word == CarrierWord::Unknown {
-        UNKNOWN
+        Caack::Unknown
     } else if plant.control() == Control::Local {
-        NOT_NOW
+        Caack::NotNow
     } else {
         plant.carrier_code(action)
     }
 }
 
 /// CAACK of an action on ports.
-fn port_caack(plant: &Plant, action: &PortAction) -> u8
+fn port_caack(plant: &Plant, action: &PortAction) -> Caack
     ensures { result ≡ port_caack action.now plant.now }
 {
     if matches!(action, PortAction::Unknown) {
-        UNKNOWN
+        Caack::Unknown
     } else if plant.control() == Control::Local {
-        NOT_NOW
+        Caack::NotNow
     } else {
         plant.port_code(action)
     }
@@ -60,8 +54,8 @@ fn carrier_action_done(
     ensures sendable { IfOk result (λ told. CanBeSent told.reply) }
 {
     let code = carrier_caack(plant, action);
-    let reply = HostReply::Shop(ShopReply::S3F18(code));
-    if code != DONE {
+    let reply = HostReply::Shop(ShopReply::S3F18(code.number()));
+    if !code.is_done() {
         return Ok(Done {
             reply,
             rows: Vec::new(alloc),
@@ -77,11 +71,11 @@ fn port_rows(
     plant: &Plant,
     alloc: Global,
     action: &PortAction,
-    code: u8,
+    code: Caack,
 ) -> Result<Vec<Firing>, AllocError>
-    ensures { IfOk result (λ rows. rows.items ≡ (if code == 0 then port_rows action.now plant.now.floor else [])) }
+    ensures { IfOk result (λ rows. rows.items ≡ (if is_done_code code then port_rows action.now plant.now.floor else [])) }
 {
-    if code == DONE {
+    if code.is_done() {
         plant.port_rows(alloc, action)
     } else {
         Ok(Vec::new(alloc))
@@ -104,7 +98,7 @@ pub fn shop_done(plant: &mut Plant, alloc: Global, message: ShopMsg) -> Result<D
             let asked = port_word(action, port);
             let code = port_caack(plant, &asked);
             Ok(Done {
-                reply: HostReply::Shop(ShopReply::S3F26(code)),
+                reply: HostReply::Shop(ShopReply::S3F26(code.number())),
                 rows: port_rows(plant, alloc, &asked, code)?,
             })
         }
@@ -112,7 +106,7 @@ pub fn shop_done(plant: &mut Plant, alloc: Global, message: ShopMsg) -> Result<D
             let asked = PortAction::Access(mode, ports);
             let code = port_caack(plant, &asked);
             Ok(Done {
-                reply: HostReply::Shop(ShopReply::S3F28(code)),
+                reply: HostReply::Shop(ShopReply::S3F28(code.number())),
                 rows: port_rows(plant, alloc, &asked, code)?,
             })
         }

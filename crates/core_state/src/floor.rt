@@ -1,6 +1,7 @@
 //! The load ports and the carriers: their rows, and what the host, the operator and the equipment do to them (SEMI E87; tables
 //! 4 to 10).
 ghost use Rattle.std.specs.Prelude.{◌≡◌, true, false, not, OnOk, IfOk};
+ghost use Rattle.load_port.specs.Caack.{is_done_code};
 ghost use Rattle.shop_floor.specs.Floor.{numbers_from};
 ghost use Rattle.shop_floor.specs.Requests.{carrier_code, carrier_written, carrier_rows, port_code, port_rows, at_ports, mode_row, or_all};
 ghost use Rattle.shop_floor.specs.Machines.{floor_starts};
@@ -13,7 +14,7 @@ use crate::plant::Plant;
 use carrier::CarrierAction;
 use gem_ids::{CarrierId, PortNo};
 use gem_tables::Firing;
-use load_port::PortAction;
+use load_port::{Caack, PortAction};
 use std::alloc::{AllocError, Global};
 
 // The numbers of the tables, as the definitions have them.
@@ -80,14 +81,14 @@ impl Plant {
     }
 
     /// CAACK of an action on a carrier (SEMI E87, S3F18), where the host commands.
-    pub fn carrier_code(&self, action: &CarrierAction) -> u8
+    pub fn carrier_code(&self, action: &CarrierAction) -> Caack
         ensures { result ≡ carrier_code self.now.floor action.now }
     {
         self.floor.carrier_code(action)
     }
 
     /// CAACK of an action on ports (SEMI E87, S3F26 and S3F28), where the host commands.
-    pub fn port_code(&self, action: &PortAction) -> u8
+    pub fn port_code(&self, action: &PortAction) -> Caack
         ensures { result ≡ port_code self.now.floor action.now }
     {
         self.floor.port_code(action)
@@ -95,7 +96,7 @@ impl Plant {
 
     /// An action on a carrier that is accepted writes.
     pub fn write_action(&mut self, action: &CarrierAction) -> Result<(), AllocError>
-        requires { carrier_code self.old.floor action.now ≡ 0 }
+        requires { is_done_code (carrier_code self.old.floor action.now) ≡ true }
         ensures { OnOk result (self.new ≡ record self.old { floor = carrier_written action.now self.old.floor }) }
     {
         self.floor.write(action)?;

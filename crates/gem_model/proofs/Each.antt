@@ -8,6 +8,7 @@ use Rattle.gem_tables.specs.declared.firing.Firing.{Firing}
 use Rattle.event_reports.specs.Reports.{Reports}
 use Rattle.event_reports.specs.declared.alarms.AlarmLine.{AlarmLine}
 use Rattle.data_variables.specs.declared.val.Val.{Val}
+use Rattle.load_port.specs.Caack.{is_done_code}
 use Rattle.carrier.specs.declared.action.CarrierAction.{CarrierAction}
 use Rattle.shop_floor.specs.Requests.{carrier_code, carrier_written}
 use Rattle.note_line.specs.Line.{with_kinds, answered as answered_line}
@@ -46,7 +47,7 @@ pub record EachInner (P : State → Type 0) : Type 1 where
   pub kinds : (g : State) (k : SpooledKinds) → P g → P (record g { line = with_kinds k g.line })
   pub answer : (g : State) → P g → P (record g { line = answered_line g.line })
   pub came : (g : State) (port : ℕ) (name : Option (List ℕ)) (slots : List ℕ) → P g → P (with_arrival port name slots g)
-  pub written : (g : State) (a : CarrierAction) → carrier_code g.floor a ≡ 0 → P g → P (record g { floor = carrier_written a g.floor })
+  pub written : (g : State) (a : CarrierAction) → is_done_code (carrier_code g.floor a) ≡ true → P g → P (record g { floor = carrier_written a g.floor })
   pub row : (g : State) (f : Firing) → IsListed f → row_starts g f ≡ true → P g → P (takes_effect g f)
   pub ready : (g : State) (f : Firing) → least g ≡ Some f → P g → P (fire g f)
   pub created : (g : State) (n : ℕ) → P g → P (fire g (firing 8 n 1))

@@ -12,6 +12,8 @@ use Rattle.carrier.specs.declared.action.CarrierWord.{CarrierWord}
 use Rattle.carrier.specs.declared.action.CarrierWord.TheVariants as word
 use Rattle.carrier.specs.Record.{is_id_waiting, is_map_waiting}
 use Rattle.carrier.specs.Carriers.{is_known, carrier_named}
+use Rattle.load_port.specs.declared.caack.Caack.{Caack}
+use Rattle.load_port.specs.Caack.{caack_number, is_done_code}
 use Rattle.load_port.specs.declared.action.PortAction.{PortAction}
 use Rattle.load_port.specs.declared.action.PortAction.TheVariants as ask
 use Rattle.msgs_300.specs.Primaries.{Message, S3F17, S3F25, S3F27}
@@ -132,16 +134,16 @@ action_are (ask.CancelReserve number) f = (is_6 number 2, tt)
 action_are (ask.Access mode numbers) f = ports_are (mode_row mode) (or_all numbers f)
 action_are ask.Unknown f = tt
 
-pub carrier_are : (a : CarrierAction) (g : State) (code : ℕ) → AreFloorRows (carrier_done g a code).rows
-carrier_are a g code = either_way AreFloorRows (code == 0) (carrier_rows a g.floor) [] (word_are a.word a g.floor) tt
+pub carrier_are : (a : CarrierAction) (g : State) (code : Caack) → AreFloorRows (carrier_done g a code).rows
+carrier_are a g code = either_way AreFloorRows (is_done_code code) (carrier_rows a g.floor) [] (word_are a.word a g.floor) tt
 
-pub port_are : (a : PortAction) (g : State) (r : ShopReply) (code : ℕ) → AreFloorRows (port_done g a r code).rows
-port_are a g r code = either_way AreFloorRows (code == 0) (port_rows a g.floor) [] (action_are a g.floor) tt
+pub port_are : (a : PortAction) (g : State) (r : ShopReply) (code : Caack) → AreFloorRows (port_done g a r code).rows
+port_are a g r code = either_way AreFloorRows (is_done_code code) (port_rows a g.floor) [] (action_are a g.floor) tt
 
 pub shop_are : (m : Message) (g : State) → AreFloorRows (shop_done g m).rows
 shop_are (S3F17 dataid action carrier number attributes) g = carrier_are (carrier_action action carrier number attributes) g (carrier_caack (carrier_action action carrier number attributes) g)
-shop_are (S3F25 action number value) g = port_are (port_word action number) g (reply.S3F26 (port_caack (port_word action number) g)) (port_caack (port_word action number) g)
-shop_are (S3F27 mode numbers) g = port_are (ask.Access mode numbers) g (reply.S3F28 (port_caack (ask.Access mode numbers) g)) (port_caack (ask.Access mode numbers) g)
+shop_are (S3F25 action number value) g = port_are (port_word action number) g (reply.S3F26 (caack_number (port_caack (port_word action number) g))) (port_caack (port_word action number) g)
+shop_are (S3F27 mode numbers) g = port_are (ask.Access mode numbers) g (reply.S3F28 (caack_number (port_caack (ask.Access mode numbers) g))) (port_caack (ask.Access mode numbers) g)
 
 -- ---- what a firing creates
 

@@ -20,6 +20,7 @@ use Rattle.tool_events.specs.declared.event.Signal.{Signal}
 use Rattle.tool_events.specs.declared.event.Signal.TheVariants as equipment
 use Rattle.msgs_300.specs.Primaries.{Message, S3F17, S3F25, S3F27}
 use Rattle.shop_floor.specs.Requests.{carrier_written}
+use Rattle.load_port.specs.Caack.{is_done_code}
 use Rattle.gem_model.specs.Shop.{carrier_action, carrier_caack}
 use Rattle.gem_model.specs.Signals.{lacks_port, port_row_starts, port_alarm, with_arrival, placed, removed, signalled, is_ready_to_unload}
 use Rattle.spool.specs.declared.note.Kind.TheVariants.{Event, Alarm}
@@ -208,7 +209,7 @@ tells_gem g _ = tells_at g
 tells_shop : (g : State) (m : Message) → Tells g [] (shop_done g m).after
 tells_shop g (S3F17 dataid action carrier number attributes) =
     let a = carrier_action action carrier number attributes in
-    either_way (Tells g []) (carrier_caack a g == 0) (record g { floor = carrier_written a g.floor }) g (tells_at g) (tells_at g)
+    either_way (Tells g []) (is_done_code (carrier_caack a g)) (record g { floor = carrier_written a g.floor }) g (tells_at g) (tells_at g)
 tells_shop g (S3F25 action number value) = tells_at g
 tells_shop g (S3F27 mode numbers) = tells_at g
 

@@ -24,6 +24,9 @@ use Rattle.gem_tables.specs.Table.{firing}
 use Rattle.gem_tables.specs.declared.firing.Firing.{Firing}
 use Rattle.event_reports.specs.Alarms.{is_alarm, is_set}
 use Rattle.carrier.specs.declared.action.CarrierAction.{CarrierAction}
+use Rattle.load_port.specs.declared.caack.Caack.{Caack}
+use Rattle.load_port.specs.declared.caack.Caack.TheVariants.{Unknown, NotNow}
+use Rattle.load_port.specs.Caack.{is_done_code}
 use Rattle.carrier.specs.Verdict.{is_unknown}
 use Rattle.shop_floor.specs.Requests.{carrier_code, carrier_written, at_port, removal}
 use Rattle.tool_events.specs.declared.event.Event.{Event}
@@ -84,7 +87,7 @@ pub record Inner (P : State → Type 0) : Type 1 where
   pub alarm : (g : State) (alid : ℕ) → P g → P (record g { line = line_with_alarm alid g })
   pub kinds : (g : State) (k : SpooledKinds) → P g → P (record g { line = with_kinds k g.line })
   pub came : (g : State) (port : ℕ) (name : Option (List ℕ)) (slots : List ℕ) → P g → P (with_arrival port name slots g)
-  pub written : (g : State) (a : CarrierAction) → carrier_code g.floor a ≡ 0 → P g → P (record g { floor = carrier_written a g.floor })
+  pub written : (g : State) (a : CarrierAction) → is_done_code (carrier_code g.floor a) ≡ true → P g → P (record g { floor = carrier_written a g.floor })
   pub row : (g : State) (f : Firing) → IsFree f → row_starts g f ≡ true → P g → P (takes_effect g f)
   pub ready : (g : State) (f : Firing) → least g ≡ Some f → P g → P (fire g f)
   pub created : (g : State) (n : ℕ) → P g → P (fire g (firing 8 n 1))
@@ -124,10 +127,10 @@ where_true : {A : Type 0} (Q : A → Type 0) (b : Bool) (x y : A) → (b ≡ tru
 where_true Q true x y at_x at_y = at_x refl
 where_true Q false x y at_x at_y = at_y
 
-done_code : (unknown local : Bool) (code : ℕ) → ((if unknown then 1 else (if local then 2 else code)) == 0) ≡ true → code ≡ 0
+done_code : (unknown local : Bool) (code : Caack) → is_done_code (if unknown then Unknown else (if local then NotNow else code)) ≡ true → is_done_code code ≡ true
 done_code true local code is = absurd (cc)
 done_code false true code is = absurd (cc)
-done_code false false code is = eqb-true code 0 is
+done_code false false code is = is
 
 module _ (P : State → Type 0) (inner : Inner P) where
   pub kept_listed : (fs : List Firing) → Are IsFree fs → (g : State) → P g → P (fire_listed fs g)
@@ -164,7 +167,7 @@ module _ (P : State → Type 0) (inner : Inner P) where
 
   kept_action : (a : CarrierAction) (g : State) → P g → P (carrier_action_done g a).after
   kept_action a g at =
-      where_true P (carrier_caack a g == 0) (record g { floor = carrier_written a g.floor }) g
+      where_true P (is_done_code (carrier_caack a g)) (record g { floor = carrier_written a g.floor }) g
       (λ is. inner.written g a (done_code (is_unknown a.word) (is_local g.control) (carrier_code g.floor a) is) at) at
 
   kept_shop : (m : Message) (g : State) → P g → P (shop_done g m).after

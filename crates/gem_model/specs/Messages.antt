@@ -27,6 +27,8 @@ use Rattle.gem_rows.specs.Variables.{vid_name}
 use Rattle.event_reports.specs.Reports.{drack, lrack, erack, report_items, one_items, value_items, defined, linked, enabled}
 use Rattle.event_reports.specs.declared.alarms.AlarmLine.{AlarmLine}
 use Rattle.event_reports.specs.Alarms.{ackc5, is_alarm, is_set, alarms_enabled}
+use Rattle.load_port.specs.declared.caack.Caack.{Caack}
+use Rattle.load_port.specs.Caack.{caack_number, is_done_code}
 use Rattle.load_port.specs.declared.action.PortAction.{PortAction}
 use Rattle.load_port.specs.declared.action.PortAction.TheVariants as port
 use Rattle.carrier.specs.declared.action.CarrierAction.{CarrierAction}
@@ -144,21 +146,21 @@ gem_done g (msg.S6F23 rsdc) = fires_rows (reply.S6F24 (rsda g.line.spool)) g (un
 
 -- ---- stream 3
 
--- an action on a carrier, answered with this code: with 0 it writes, and fires its rows
-abbrev pub carrier_done : State → CarrierAction → ℕ → Done
+-- an action on a carrier, by its code: where it is done it writes, and fires its rows
+abbrev pub carrier_done : State → CarrierAction → Caack → Done
 carrier_done g a code =
     record {
-      reply = ShopTold (shop.S3F18 code);
-      after = if code == 0 then record g { floor = carrier_written a g.floor } else g;
-      rows = if code == 0 then carrier_rows a g.floor else [];
+      reply = ShopTold (shop.S3F18 (caack_number code));
+      after = if is_done_code code then record g { floor = carrier_written a g.floor } else g;
+      rows = if is_done_code code then carrier_rows a g.floor else [];
     }
 
--- an action on ports, answered so: with 0 it fires its rows
-abbrev pub port_done : State → PortAction → ShopReply → ℕ → Done
-port_done g a r code = record { reply = ShopTold r; after = g; rows = if code == 0 then port_rows a g.floor else [] }
+-- an action on ports, by its code: where it is done it fires its rows
+abbrev pub port_done : State → PortAction → ShopReply → Caack → Done
+port_done g a r code = record { reply = ShopTold r; after = g; rows = if is_done_code code then port_rows a g.floor else [] }
 
 abbrev pub port_action_done : State → PortAction → (ℕ → ShopReply) → Done
-port_action_done g a r = port_done g a (r (port_caack a g)) (port_caack a g)
+port_action_done g a r = port_done g a (r (caack_number (port_caack a g))) (port_caack a g)
 
 abbrev pub carrier_action_done : State → CarrierAction → Done
 carrier_action_done g a = carrier_done g a (carrier_caack a g)

@@ -11,12 +11,14 @@ use Rattle.msgs_300.specs.Primaries.{Message, S3F17, S3F25, S3F27}
 use Rattle.msgs_300.specs.declared.reply.ShopReply.{ShopReply}
 use Rattle.msgs_300.specs.declared.reply.ShopReply.TheVariants as reply
 use Rattle.load_port.specs.declared.action.PortAction.{PortAction}
+use Rattle.load_port.specs.declared.caack.Caack.{Caack}
+use Rattle.load_port.specs.declared.caack.Caack.TheVariants.{Unknown, NotNow}
 use Rattle.load_port.specs.declared.action.PortAction.TheVariants as port
 use Rattle.carrier.specs.declared.action.CarrierAction.{CarrierAction}
 use Rattle.carrier.specs.declared.action.CarrierWord.{CarrierWord}
 use Rattle.carrier.specs.declared.action.CarrierWord.TheVariants as word
 use Rattle.carrier.specs.Verdict.{is_unknown}
-use Rattle.shop_floor.specs.Requests.{carrier_code, carrier_written, carrier_rows, port_code, port_rows}
+use Rattle.shop_floor.specs.Requests.{carrier_code, port_code}
 use Rattle.gem_model.specs.State.{State}
 
 -- ---- the actions
@@ -73,9 +75,9 @@ abbrev pub is_unknown_action : PortAction → Bool
 is_unknown_action port.Unknown = true
 is_unknown_action _ = false
 
--- CAACK: an unknown action is told first, and in ON-LINE LOCAL all others are not done now, 2 (this tool's profile, messages)
-abbrev pub carrier_caack : CarrierAction → State → ℕ
-carrier_caack a g = if is_unknown a.word then 1 else (if is_local g.control then 2 else carrier_code g.floor a)
+-- CAACK: an unknown action is told first, and in ON-LINE LOCAL all others are not done now (this tool's profile, messages)
+abbrev pub carrier_caack : CarrierAction → State → Caack
+carrier_caack a g = if is_unknown a.word then Unknown else (if is_local g.control then NotNow else carrier_code g.floor a)
 
-abbrev pub port_caack : PortAction → State → ℕ
-port_caack a g = if is_unknown_action a then 1 else (if is_local g.control then 2 else port_code g.floor a)
+abbrev pub port_caack : PortAction → State → Caack
+port_caack a g = if is_unknown_action a then Unknown else (if is_local g.control then NotNow else port_code g.floor a)

@@ -1,6 +1,8 @@
--- The notes of the line tell of what is reported, in order.
-use Rattle.std.proofs.Common.{◌≡◌, ℕ, ◌+◌, ◌==◌, Bool, true, false, not, ◌&&◌, if◌then◌else◌, List, [], ◌∷◌, ◌++◌, map, Option, Some, None, option_map, refl, sym, ◌∙◌, ap, subst, append_assoc, ◌*◌}
-use Rattle.std.proofs.lemmas.List.{append-nil}
+-- The notes of the line tell of what is reported, in order; and each note that stands, or is sent, has its text.
+use Rattle.std.proofs.Common.{◌≡◌, ℕ, suc, ◌+◌, ◌==◌, Bool, true, false, not, ◌&&◌, if◌then◌else◌, List, [], ◌∷◌, ◌++◌, length, map, slice_get, Option, Some, None, option_map, refl, sym, ◌∙◌, ap, subst, arith, append_assoc, length-append}
+use Rattle.std.specs.List.{AllByRecursion}
+use Rattle.std.specs.Option.{option_to_list}
+use Rattle.std.proofs.lemmas.List.{append-nil, length-map, map-append, length_push}
 use Rattle.hsms_frame.specs.declared.frame.Header.{Header}
 use Rattle.hsms_frame.specs.declared.frame.Arrival.{Arrival}
 use Rattle.hsms_link.specs.declared.table.LinkAct.{LinkAct}
@@ -22,11 +24,16 @@ use Rattle.msgs_300.specs.Primaries.{Message, S3F17, S3F25, S3F27}
 use Rattle.shop_floor.specs.Requests.{carrier_written}
 use Rattle.gem_model.specs.Shop.{carrier_action, carrier_caack}
 use Rattle.gem_model.specs.Signals.{lacks_port, port_row_starts, port_alarm, with_arrival, placed, removed, signalled, is_ready_to_unload}
+use Rattle.spool.specs.declared.note.Kind.{Kind}
 use Rattle.spool.specs.declared.note.Kind.TheVariants.{Event, Alarm}
+use Rattle.spool.specs.declared.note.Note.{Note}
 use Rattle.spool.specs.Spool.{has_note}
-use Rattle.note_line.specs.Line.{Line, with_kinds}
+use Rattle.note_line.specs.Line.{Line, next, standing, noted, with_kinds}
 use Rattle.note_line.specs.Fates.{tells}
 use Rattle.note_line.proofs.Tells.{row-tells, answered-tells, noted-tells}
+use Rattle.note_line.proofs.Rows.{noted_standing}
+use Rattle.note_line.proofs.Lists.{all_first, all_joined}
+use Rattle.note_line.proofs.Standing.{row-stands, answered-stands, kinds-stands}
 use Rattle.tool_events.specs.declared.config.Config.{Config}
 use Rattle.tool_events.specs.declared.entry.Entry.{Entry}
 use Rattle.tool_events.specs.declared.event.Event.{Event as Posted}
@@ -40,8 +47,8 @@ use Rattle.transactions.specs.declared.transaction.What.TheVariants as what
 use Rattle.transactions.specs.Table.{taken_out}
 use Rattle.gem_model.specs.State.{State, opening, is_up, is_session_up, is_online, around, without_session, raised}
 use Rattle.gem_model.specs.Sending.{sends_stream9, data_header}
-use Rattle.gem_model.specs.Values.{Occasion, object_name}
-use Rattle.gem_model.specs.Noting.{sets_alarm, line_behind, line_with_event, is_event_reported, is_alarm_reported, line_with_alarm, clears_alarm}
+use Rattle.gem_model.specs.Values.{Occasion}
+use Rattle.gem_model.specs.Noting.{sets_alarm, line_behind, line_with_event, is_event_reported, is_alarm_reported, change_text, alarm_line, line_with_alarm, clears_alarm}
 use Rattle.gem_model.specs.Fire.{fire, fire_all, advanced, creations, fires, fire_listed, fire_comm, fire_control, fire_line, fire_floor, takes_effect, row_starts}
 use Rattle.gem_model.specs.Remote.{Decision, refused, goes_local, clears, decided}
 use Rattle.gem_model.specs.HostMessages.{HostMessage, Gem, Shop, reply_text}
@@ -54,67 +61,112 @@ use Rattle.gem_model.specs.Settle.{settling, settled}
 use Rattle.gem_model.specs.Step as steps
 use Rattle.gem_model.specs.Step.{Outcome, answered, ends, ended_by, step, step_from, acts, linked, hosted, can_clear, operated, switched, quits, settles}
 use Rattle.gem_model.specs.Run.{Run, entry_after}
-use Rattle.gem_model.specs.Reported.{Reported, by_event, by_firing, by_firings, by_advance, by_listed, by_rows, by_settling, by_clearing, by_setting, by_placed, by_removed, by_signal, by_decision, by_message, by_message_rows, by_taken, by_closing, by_data, by_session_end, by_host, by_switched, by_operator, by_due, by_dues, by_act, by_settling_behind, by_step_from, by_step, reported_in}
+use Rattle.gem_model.specs.OpenNotes.{open_behind}
+use Rattle.gem_model.specs.Reported.{Reported, told_as, event_report, occasion, alarm_report, by_change, IsOf, by_event, by_firing, by_firings, by_advance, by_listed, by_rows, by_settling, by_clearing, by_setting, by_placed, by_removed, by_signal, by_decision, by_message, by_message_rows, by_taken, by_closing, by_data, by_session_end, by_host, by_switched, by_operator, by_due, by_dues, by_act, by_settling_behind, by_step_from, by_step, reported_in}
 use Rattle.gem_model.proofs.Tests.{went, either_way, none_some}
-use Rattle.gem_model.proofs.Lined.{SameLine, line_comm, line_control}
+use Rattle.gem_model.proofs.Lined.{line_comm, line_control}
 use Rattle.gem_model.proofs.Runs.{after-step}
 
--- what the notes of a state tell of, from number 1 on
-abbrev pub told_in : State → List Reported
-told_in g = map tells g.line.told
+-- ---- a line that goes on
+
+-- the notes of what is reported, the first of them with this number
+abbrev notes_from : ℕ → List Reported → List Note
+notes_from number [] = []
+notes_from number (one ∷ others) = record { number = number; kind = one.kind; id = one.id; text = one.text } ∷ notes_from (suc number) others
+
+-- From the first line to the second, notes of these are made: the numbers tell of them, and each note that stands, stood
+-- before or is one of theirs.
+record GoesOn (l : Line) (new : List Reported) (m : Line) : Type 1 where
+  told : map tells m.told ≡ map tells l.told ++ map told_as new
+  stand : (P : Note → Type 0) → AllByRecursion P (standing l) → AllByRecursion P (notes_from (next l) new) → AllByRecursion P (standing m)
+
+-- no note is made
+goes_quiet : (l m : Line) → map tells m.told ≡ map tells l.told → ((P : Note → Type 0) → AllByRecursion P (standing l) → AllByRecursion P (standing m)) → GoesOn l [] m
+goes_quiet l m same stands = record { told = same ∙ sym (append-nil (map tells l.told)); stand = λ P all new. stands P all }
+
+-- one is made
+goes_noted : (kind : Kind) (id : ℕ) (text : List ℕ) (l : Line) → GoesOn l (record { kind = kind; id = id; text = text } ∷ []) (noted kind id text l)
+goes_noted kind id text l = record {
+  told = noted-tells kind id l.told;
+  stand = λ P all new. subst (AllByRecursion P) (sym (noted_standing kind id text l)) (all_joined P (standing l) _ all new);
+}
+
+-- the number of the next note goes on by how many are made
+next_after : (l m : Line) (new : List Reported) → map tells m.told ≡ map tells l.told ++ map told_as new → next m ≡ next l + length new
+next_after l m new told =
+    let lengths : length (map tells m.told) ≡ length (map tells l.told ++ map told_as new) = ap length told in
+    omega (arith, lengths, length-map m.told tells, length-append (map tells l.told) (map told_as new), length-map l.told tells, length-map new told_as)
+
+-- the notes of two lists, one after another
+notes_parted : (P : Note → Type 0) (number : ℕ) (first others : List Reported) → AllByRecursion P (notes_from number (first ++ others)) → AllByRecursion P (notes_from number first) × AllByRecursion P (notes_from (number + length first) others)
+notes_parted P number [] others all = let same : number ≡ number + 0 = omega arith in (tt, subst (λ (n : ℕ). AllByRecursion P (notes_from n others)) same all)
+notes_parted P number (one ∷ first) others all =
+    let rest = notes_parted P (suc number) first others all.1 in
+    let same : suc number + length first ≡ number + suc (length first) = omega arith in
+    ((all.0, rest.0), subst (λ (n : ℕ). AllByRecursion P (notes_from n others)) same rest.1)
+
+-- those that the first list makes, and those that the second makes behind it
+parted_at : (P : Note → Type 0) (l m : Line) (first others : List Reported) → GoesOn l first m → AllByRecursion P (notes_from (next l) (first ++ others)) → AllByRecursion P (notes_from (next l) first) × AllByRecursion P (notes_from (next m) others)
+parted_at P l m first others one all =
+    let parts = notes_parted P (next l) first others all in
+    (parts.0, subst (λ (n : ℕ). AllByRecursion P (notes_from n others)) (sym (next_after l m first one.told)) parts.1)
+
+goes_then : (l m k : Line) (first others : List Reported) → GoesOn l first m → GoesOn m others k → GoesOn l (first ++ others) k
+goes_then l m k first others one two = record {
+  told = two.told
+      ∙ ap (λ (xs : List (Kind × ℕ)). xs ++ map told_as others) one.told
+      ∙ append_assoc (map tells l.told) (map told_as first) (map told_as others)
+      ∙ ap (λ (xs : List (Kind × ℕ)). map tells l.told ++ xs) (sym (map-append told_as first others));
+  stand = λ P all new. let parts = parted_at P l m first others one new in two.stand P (one.stand P all parts.0) parts.1;
+}
+
+-- a note is made where a test says so
+goes_where : (b : Bool) (l m : Line) (new : List Reported) → GoesOn l new m → GoesOn l (if b then new else []) (if b then m else l)
+goes_where true l m new made = made
+goes_where false l m new made = goes_quiet l l refl (λ P all. all)
+
+-- ---- states
 
 -- from the first state to the second, notes of these are made
-abbrev pub Tells : State → List Reported → State → Type 0
-Tells g new h = told_in h ≡ told_in g ++ new
-
-tells_none : (g h : State) → told_in h ≡ told_in g → Tells g [] h
-tells_none g h same = same ∙ sym (append-nil (told_in g))
+abbrev Tells : State → List Reported → State → Type 1
+Tells g new h = GoesOn g.line new h.line
 
 tells_at : (g : State) → Tells g [] g
-tells_at g = tells_none g g refl
+tells_at g = goes_quiet g.line g.line refl (λ P all. all)
 
 -- the line is the same
 tells_same : (g h : State) → h.line ≡ g.line → Tells g [] h
-tells_same g h same = tells_none g h (ap (λ (l : _). map tells l.told) same)
+tells_same g h same = subst (GoesOn g.line []) (sym same) (tells_at g)
 
 tells_then : (g h k : State) (first next : List Reported) → Tells g first h → Tells h next k → Tells g (first ++ next) k
-tells_then g h k first next one two = two ∙ ap (λ (xs : List Reported). xs ++ next) one ∙ append_assoc (told_in g) first next
+tells_then g h k first next one two = goes_then g.line h.line k.line first next one two
 
 -- what is so of both ways is so of the one that was taken
 both_ways : (g : State) (b : Bool) (x y : State) (r s : List Reported) → Tells g r x → Tells g s y → Tells g (if b then r else s) (if b then x else y)
 both_ways g true x y r s at_x at_y = at_x
 both_ways g false x y r s at_x at_y = at_y
 
--- a note is made where a test says so
-tells_where : (g : State) (b : Bool) (l : Line) (new : List Reported) → map tells l.told ≡ told_in g ++ new → map tells (if b then l else g.line).told ≡ told_in g ++ (if b then new else [])
-tells_where g true l new made = made
-tells_where g false l new made = tells_at g
-
 -- ---- firings
 
--- the effect of a row changes no note
-told_same : (g h : State) → SameLine g h → told_in h ≡ told_in g
-told_same g h same = subst (λ (l : Line). map tells l.told ≡ told_in g) (sym same) refl
-
-told_effect : (g : State) (f : Firing) → told_in (takes_effect g f) ≡ told_in g
-told_effect g f = of (f.row.table == 1) (f.row.table == 2) (f.row.table == 3) where
-  of : (first second third : Bool) → told_in (if first then fire_comm f.row.row g else (if second then fire_control f.row.row g else (if third then fire_line f.row.row g else fire_floor f g))) ≡ told_in g
-  of true second third = told_same g (fire_comm f.row.row g) (line_comm g f.row.row)
-  of false true third = told_same g (fire_control f.row.row g) (line_control g f.row.row)
-  of false false true = row-tells (around g) f.row.row g.line
-  of false false false = refl
+-- the effect of a row makes no note
+tells_effect : (g : State) (f : Firing) → Tells g [] (takes_effect g f)
+tells_effect g f = of (f.row.table == 1) (f.row.table == 2) (f.row.table == 3) where
+  of : (first second third : Bool) → Tells g [] (if first then fire_comm f.row.row g else (if second then fire_control f.row.row g else (if third then fire_line f.row.row g else fire_floor f g)))
+  of true second third = tells_same g (fire_comm f.row.row g) (line_comm g f.row.row)
+  of false true third = tells_same g (fire_control f.row.row g) (line_control g f.row.row)
+  of false false true = goes_quiet g.line (fire_line f.row.row g).line (row-tells (around g) f.row.row g.line) (λ P. row-stands P (around g) f.row.row g.line)
+  of false false false = tells_at g
 
 -- a note is made exactly where the event is reported
-tells_event : (event : Option ℕ) (o : Occasion) (online : Bool) (g : State) → Tells g (by_event event online g) (record g { line = line_behind event o online g })
+tells_event : (event : Option ℕ) (o : Occasion) (online : Bool) (g : State) → Tells g (by_event event o online g) (record g { line = line_behind event o online g })
 tells_event None o online g = tells_at g
-tells_event (Some ceid) o online g = tells_where g (is_event_reported ceid online g) (line_with_event ceid o g) ((Event, ceid) ∷ []) (noted-tells Event ceid g.line.told)
+tells_event (Some ceid) o online g =
+    goes_where (is_event_reported ceid online g) g.line (line_with_event ceid o g) (event_report ceid o g ∷ []) (goes_noted Event ceid (event_report ceid o g).text g.line)
 
 tells_fire : (g : State) (f : Firing) → Tells g (by_firing g f) (fire g f)
 tells_fire g f =
-    let event = ceid_of f.row.table f.row.row in
     let h : State = takes_effect g f in
-    let told : told_in (fire g f) ≡ told_in h ++ by_firing g f = tells_event event (record { object = object_name g f; row = 100 * f.row.table + f.row.row }) (is_online g.control) h in
-    told ∙ ap (λ (xs : List Reported). xs ++ by_firing g f) (told_effect g f)
+    tells_then g h (fire g f) [] (by_firing g f) (tells_effect g f) (tells_event (ceid_of f.row.table f.row.row) (occasion g f) (is_online g.control) h)
 
 tells_firings : (fs : List Firing) (g : State) → Tells g (by_firings fs g) (fire_all fs g)
 tells_firings [] g = tells_at g
@@ -138,25 +190,20 @@ tells_settled g = tells_firings (settling g) g
 
 -- ---- alarms
 
--- the alarm is clear
-abbrev with_clear : ℕ → State → State
-with_clear alid g = record g { alarms = clear_alarm alid g.alarms }
+-- a note is made exactly where the change is reported
+tells_change : (alid : ℕ) (g : State) → Tells g (by_change alid g) (record g { line = line_with_alarm alid g })
+tells_change alid g =
+    goes_where (is_alarm_reported alid g) g.line (alarm_line alid g) (alarm_report alid g ∷ []) (goes_noted Alarm alid (change_text alid g) g.line)
 
 tells_cleared : (g : State) (alid : ℕ) → Tells g (by_clearing alid g) (clears_alarm alid g)
-tells_cleared g alid = of (is_set alid g.alarms) (tells_where g (is_alarm_reported alid (with_clear alid g)) _ ((Alarm, alid) ∷ []) (noted-tells Alarm alid g.line.told)) where
-  of : (set : Bool) → Tells g (if is_alarm_reported alid (with_clear alid g) then (Alarm, alid) ∷ [] else []) (record (with_clear alid g) { line = line_with_alarm alid (with_clear alid g) }) → Tells g (if set && is_alarm_reported alid (with_clear alid g) then (Alarm, alid) ∷ [] else []) (if set then record (with_clear alid g) { line = line_with_alarm alid (with_clear alid g) } else g)
-  of true told = told
-  of false told = tells_at g
-
--- the alarm is set
-abbrev with_set : ℕ → State → State
-with_set alid g = record g { alarms = set_alarm alid g.alarms }
+tells_cleared g alid =
+    let h : State = record g { alarms = clear_alarm alid g.alarms } in
+    both_ways g (is_set alid g.alarms) (record h { line = line_with_alarm alid h }) g (by_change alid h) [] (tells_change alid h) (tells_at g)
 
 tells_set : (g : State) (alid : ℕ) → Tells g (by_setting alid g) (sets_alarm alid g)
 tells_set g alid =
-    both_ways g (is_alarm alid g.alarms && not (is_set alid g.alarms)) (record (with_set alid g) { line = line_with_alarm alid (with_set alid g) }) g
-    (if is_alarm_reported alid (with_set alid g) then (Alarm, alid) ∷ [] else []) []
-    (tells_where g (is_alarm_reported alid (with_set alid g)) _ ((Alarm, alid) ∷ []) (noted-tells Alarm alid g.line.told)) (tells_at g)
+    let h : State = record g { alarms = set_alarm alid g.alarms } in
+    both_ways g (is_alarm alid g.alarms && not (is_set alid g.alarms)) (record h { line = line_with_alarm alid h }) g (by_change alid h) [] (tells_change alid h) (tells_at g)
 
 -- ---- the equipment
 
@@ -190,9 +237,10 @@ tells_remote g (clears alid) = tells_cleared g alid
 
 tells_spools : (g : State) (entries : List SpooledStream) → Tells g [] (spools entries g)
 tells_spools g entries =
-    either_way (Tells g []) (rspack g entries == 0) (record g { line = with_kinds (kinds_of entries) g.line }) g
-    (tells_none g (record g { line = with_kinds (kinds_of entries) g.line })
-    (either_way (λ (l : Line). map tells l.told ≡ map tells g.line.told) (has_note g.line.spool) g.line (record g.line { kinds = kinds_of entries }) refl refl))
+    let kinds = kinds_of entries in
+    let told = either_way (λ (l : Line). map tells l.told ≡ map tells g.line.told) (has_note g.line.spool) g.line (record g.line { kinds = kinds }) refl refl in
+    either_way (Tells g []) (rspack g entries == 0) (record g { line = with_kinds kinds g.line }) g
+    (goes_quiet g.line (with_kinds kinds g.line) told (λ P. kinds-stands P kinds g.line))
     (tells_at g)
 
 tells_gem : (g : State) (m : GemMsg) → Tells g (by_message (Gem m) g) (gem_done g m).after
@@ -226,7 +274,7 @@ tells_taken g h m =
 tells_note : (g : State) (w : What) → Tells g [] (note_answered w g)
 tells_note g what.Establish = tells_at g
 tells_note g what.Attempt = tells_at g
-tells_note g (what.Note n) = tells_none g (note_answered (what.Note n) g) (answered-tells g.line)
+tells_note g (what.Note n) = goes_quiet g.line (note_answered (what.Note n) g).line (answered-tells g.line) (λ P. answered-stands P g.line)
 
 tells_closed : (g : State) (h : Header) (item : Option Data) (one : Option Open) → Tells g (by_closing h item one g) (closed_by h item one g)
 tells_closed g h item None = tells_at g
@@ -253,7 +301,7 @@ tells_switched (oper.Clear n) g = both_ways g (can_clear n g) (clears_alarm n g)
 tells_switched _ g = tells_at g
 
 -- to the state of an outcome, notes of these are made
-abbrev TellsTo : State → List Reported → Outcome → Type 0
+abbrev TellsTo : State → List Reported → Outcome → Type 1
 TellsTo g new o = Tells g new o.after
 
 tells_changed : (command : OperCmd) (g : State) → Tells g (by_switched command g ++ by_rows (operator_rows command) (switched command g)) (fires (operator_rows command) (switched command g))
@@ -334,13 +382,61 @@ tells_step g at e o here = tells_step_from g.moment (raised g at) e o here
 -- ---- a history
 
 -- over a run the notes go on by what is reported
-pub run-tells : (g : State) (entries : List Entry) (h : State) → Run g entries h → Tells g (reported_in g entries) h
-run-tells g [] h run = tells_same g h (ap (λ (k : State). k.line) run)
-run-tells g (e ∷ entries) h run =
-    let next : List Reported = reported_in run.0.after entries in
-    let same : reported_in (entry_after g e) entries ≡ next = ap (λ (k : State). reported_in k entries) (after-step g e.at.0 e.event run.0 run.1) in
-    rw same (tells_then g run.0.after h (by_step g e.at.0 e.event) next (tells_step g e.at.0 e.event run.0 run.1) (run-tells run.0.after entries h run.2))
+run_goes_on : (g : State) (entries : List Entry) (h : State) → Run g entries h → Tells g (reported_in g entries) h
+run_goes_on g [] h run = tells_same g h (ap (λ (k : State). k.line) run)
+run_goes_on g (e ∷ entries) h run =
+    let behind : List Reported = reported_in run.0.after entries in
+    let same : reported_in (entry_after g e) entries ≡ behind = ap (λ (k : State). reported_in k entries) (after-step g e.at.0 e.event run.0 run.1) in
+    subst (λ (xs : List Reported). Tells g (by_step g e.at.0 e.event ++ xs) h) (sym same)
+    (tells_then g run.0.after h (by_step g e.at.0 e.event) behind (tells_step g e.at.0 e.event run.0 run.1) (run_goes_on run.0.after entries h run.2))
+
+pub run-tells : (g : State) (entries : List Entry) (h : State) → Run g entries h → map tells h.line.told ≡ map tells g.line.told ++ map told_as (reported_in g entries)
+run-tells g entries h run = (run_goes_on g entries h run).told
 
 -- and from the beginning they are what is reported
-pub run-reported : (c : Config) (entries : List Entry) (h : State) → Run (opening c) entries h → map tells h.line.told ≡ reported_in (opening c) entries
+pub run-reported : (c : Config) (entries : List Entry) (h : State) → Run (opening c) entries h → map tells h.line.told ≡ map told_as (reported_in (opening c) entries)
 run-reported c entries h run = run-tells (opening c) entries h run
+
+-- ---- the texts
+
+-- what is reported behind some others
+reported_behind : (front others : List Reported) (one : Reported) → slice_get (front ++ one ∷ others) (length front) ≡ Some one
+reported_behind [] others one = refl
+reported_behind (first ∷ front) others one = reported_behind front others one
+
+-- the notes of what is reported behind some others have the texts of what was reported under their numbers
+notes_are_of : (front new : List Reported) → AllByRecursion (IsOf (front ++ new)) (notes_from (suc (length front)) new)
+notes_are_of front [] = tt
+notes_are_of front (one ∷ others) =
+    let together : (front ++ one ∷ []) ++ others ≡ front ++ one ∷ others = append_assoc front (one ∷ []) others in
+    let further : suc (length (front ++ one ∷ [])) ≡ suc (suc (length front)) = omega (arith, length_push front one) in
+    let rest = subst (λ (n : ℕ). AllByRecursion (IsOf ((front ++ one ∷ []) ++ others)) (notes_from n others)) further (notes_are_of (front ++ one ∷ []) others) in
+    (reported_behind front others one, subst (λ (all : List Reported). AllByRecursion (IsOf all) (notes_from (suc (suc (length front))) others)) together rest)
+
+-- each note that stands where a history leads
+pub run-texts : (c : Config) (entries : List Entry) (h : State) → Run (opening c) entries h → AllByRecursion (IsOf (reported_in (opening c) entries)) (standing h.line)
+run-texts c entries h run =
+    let all : List Reported = reported_in (opening c) entries in
+    (run_goes_on (opening c) entries h run).stand (IsOf all) tt (notes_are_of [] all)
+
+-- what is so of each note that stands, and of each that is made, is so of each that is open behind an entry
+run_open : (P : Note → Type 0) (g : State) (entries : List Entry) (h : State) → Run g entries h → AllByRecursion P (standing g.line) → AllByRecursion P (notes_from (next g.line) (reported_in g entries)) → AllByRecursion P (open_behind g entries)
+run_open P g [] h run stands new = tt
+run_open P g (e ∷ entries) h run stands new =
+    let k : State = run.0.after in
+    let first : List Reported = by_step g e.at.0 e.event in
+    let same : entry_after g e ≡ k = after-step g e.at.0 e.event run.0 run.1 in
+    let goes : Tells g first k = tells_step g e.at.0 e.event run.0 run.1 in
+    let made = subst (λ (s : State). AllByRecursion P (notes_from (next g.line) (first ++ reported_in s entries))) same new in
+    let parts = parted_at P g.line k.line first (reported_in k entries) goes made in
+    let behind = goes.stand P stands parts.0 in
+    subst (λ (s : State). AllByRecursion P (option_to_list s.line.opened ++ open_behind s entries)) (sym same)
+    (all_joined P (option_to_list k.line.opened) (open_behind k entries)
+    (all_first P (option_to_list k.line.opened) (k.line.spool.notes ++ k.line.waiting) behind)
+    (run_open P k entries h run.2 behind parts.1))
+
+-- each note that was sent
+pub run-sent : (c : Config) (entries : List Entry) (h : State) → Run (opening c) entries h → AllByRecursion (IsOf (reported_in (opening c) entries)) (open_behind (opening c) entries)
+run-sent c entries h run =
+    let all : List Reported = reported_in (opening c) entries in
+    run_open (IsOf all) (opening c) entries h run tt (notes_are_of [] all)

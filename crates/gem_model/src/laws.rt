@@ -1,6 +1,7 @@
 //! Laws of the definitions, for proofs to cite. Each function is empty: what it ensures holds of the definitions.
 
 ghost use Rattle.std.specs.Prelude.{◌≡◌, ℕ, ◌≤◌, true, false, List, ◌++◌, length, map, Some};
+ghost use Rattle.std.specs.List.{AllByRecursion};
 ghost use Rattle.transactions.specs.Table.{is_full};
 ghost use Rattle.tool_events.specs.declared.config.Config.{Config};
 ghost use Rattle.tool_events.specs.declared.entry.Entry.{Entry};
@@ -12,9 +13,10 @@ ghost use Rattle.gem_model.specs.Step.{Outcome, acts};
 ghost use Rattle.gem_model.specs.Run.{Run};
 ghost use Rattle.gem_model.specs.Recorded.{Recorded};
 ghost use Rattle.tool_events.specs.Configs.{IsConfig};
-ghost use Rattle.gem_model.specs.Reported.{reported_in};
-ghost use Rattle.gem_model.specs.OpenNotes.{note_numbers, open_number, NeverBack};
+ghost use Rattle.gem_model.specs.Reported.{told_as, reported_in, IsOf};
+ghost use Rattle.gem_model.specs.OpenNotes.{note_numbers, open_number, open_behind, NeverBack};
 ghost use Rattle.spool.specs.Spool.{is_inactive, has_note};
+ghost use Rattle.note_line.specs.Line.{standing};
 ghost use Rattle.note_line.specs.Fates.{LineValid, KeepsFates, tells};
 ghost use Rattle.load_port.specs.Ports.{most_ports};
 ghost use Rattle.carrier.specs.Carriers.{most_carriers};
@@ -46,9 +48,20 @@ pub fn each_note_has_one_fate()
 /// The notes of the line, from number 1 on, tell of what is reported, one for one and in order: where a history leads, the
 /// i-th note is that of the i-th firing or change of an alarm that is reported.
 pub fn the_notes_are_what_was_reported()
-    ensures all { (c : Config) (entries : List Entry) (h : State) → Run (opening c) entries h → map tells h.line.told ≡ reported_in (opening c) entries }
+    ensures all { (c : Config) (entries : List Entry) (h : State)
+        → Run (opening c) entries h → map tells h.line.told ≡ map told_as (reported_in (opening c) entries) }
     ensures more { (g : State) (entries : List Entry) (h : State)
-        → Run g entries h → map tells h.line.told ≡ map tells g.line.told ++ reported_in g entries }
+        → Run g entries h → map tells h.line.told ≡ map tells g.line.told ++ map told_as (reported_in g entries) }
+{}
+
+/// Each note has the text of what was reported under its number, so an event's has the values behind its own firing: where a
+/// history leads, each note that has not ended, and behind each of its entries the note that is open. That is sent as it opens,
+/// by law `a_note_goes_out_as_it_opens`.
+pub fn each_note_has_the_text_of_its_own_firing()
+    ensures standing { (c : Config) (entries : List Entry) (h : State)
+        → Run (opening c) entries h → AllByRecursion (IsOf (reported_in (opening c) entries)) (standing h.line) }
+    ensures sent { (c : Config) (entries : List Entry) (h : State)
+        → Run (opening c) entries h → AllByRecursion (IsOf (reported_in (opening c) entries)) (open_behind (opening c) entries) }
 {}
 
 /// Where a history leads, the open note of the line is the one note whose transaction is open: where no note is open, no

@@ -3,14 +3,14 @@
 //! that it makes.
 #![tactic(auto, unfolding(crate::proofs::OnLiterals::feed_on_literals))]
 
-ghost use Rattle.std.specs.Prelude.{◌≡◌, true, false, [], ◌∷◌, codes};
+ghost use Rattle.std.specs.Prelude.{◌≡◌, true, false, [], ◌∷◌, map, codes};
 ghost use Rattle.spool.specs.declared.note.Kind.TheVariants.{Event};
 ghost use Rattle.tool_events.specs.declared.event.Event.TheVariants.{LinkUp, Oper, Tick};
 ghost use Rattle.tool_events.specs.declared.event.OperCmd.TheVariants.{Local, Offline, Online};
 ghost use Rattle.tool_events.specs.declared.config.CommStart.TheVariants.{Enabled};
 ghost use Rattle.tool_events.specs.declared.config.ControlStart.TheVariants.{HostOffline};
 ghost use Rattle.gem_model.specs.State.{opening};
-ghost use Rattle.gem_model.specs.Reported.{reported_in};
+ghost use Rattle.gem_model.specs.Reported.{told_as, reported_in};
 ghost use Rattle.gem_model.specs.Command.{known_config};
 ghost use Rattle.gem_model.specs.Sizes.{is_full};
 ghost use Rattle.gem_model.specs.Feed.{AllRead, OutsideGrammar, QuitAt};
@@ -265,9 +265,9 @@ pub fn an_event_that_is_not_enabled_is_not_reported()
 /// With all events enabled the change to ON-LINE LOCAL is reported, and that to EQUIPMENT OFF-LINE, since control was
 /// on-line before it. The attempt to go on-line again is not. Without the S2F37 nothing is reported.
 pub fn what_is_reported_of_changes_of_control()
-    ensures enabled { reported_in (opening known_config)
+    ensures enabled { map told_as (reported_in (opening known_config)
         (posted (LinkUp ∷ message_of (select_request 1) [] ∷ message_of (request 2 37 10) (1 ∷ 2 ∷ 37 ∷ 1 ∷ 1 ∷ 1 ∷ 0 ∷ [])
-        ∷ Oper Local ∷ Oper Offline ∷ Oper Online ∷ []))
+        ∷ Oper Local ∷ Oper Offline ∷ Oper Online ∷ [])))
         ≡ (Event, 211) ∷ (Event, 206) ∷ [] }
     ensures not_enabled { reported_in (opening known_config)
         (posted (LinkUp ∷ message_of (select_request 1) [] ∷ Oper Local ∷ Oper Offline ∷ Oper Online ∷ [])) ≡ [] }

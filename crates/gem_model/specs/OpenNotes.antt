@@ -1,5 +1,5 @@
 -- Which notes are open (this tool's profile, notes).
-use Rattle.std.specs.Prelude.{ℕ, ◌≡◌, ◌≤◌, List, [], ◌∷◌, ◌++◌, Option, option_map}
+use Rattle.std.specs.Prelude.{ℕ, ◌≡◌, ◌≤◌, List, [], ◌∷◌, ◌++◌, true, Option, Some, option_map}
 use Rattle.std.specs.Option.{option_to_list}
 use Rattle.spool.specs.declared.note.Note.{Note}
 use Rattle.note_line.specs.Line.{Line}
@@ -8,7 +8,10 @@ use Rattle.tool_events.specs.declared.entry.Entry.{Entry}
 use Rattle.transactions.specs.declared.transaction.Open.{Open}
 use Rattle.transactions.specs.declared.transaction.What.{What}
 use Rattle.transactions.specs.declared.transaction.What.TheVariants as what
+use Rattle.transactions.specs.SystemBytes.{drawn}
 use Rattle.gem_model.specs.State.{State}
+use Rattle.gem_model.specs.Sending.{data_frame}
+use Rattle.gem_model.specs.Fire.{stream_of_kind, function_of_kind}
 use Rattle.gem_model.specs.Run.{entry_after}
 
 -- the number of the note that a transaction sends, where it sends one
@@ -29,6 +32,17 @@ number_of note = option_to_list (option_map (λ (n : Note). n.number) note)
 -- the number of the open note of a line, where one is open
 abbrev pub open_number : Line → List ℕ
 open_number l = number_of l.opened
+
+-- the frame by which a note is sent in this state: S6F11 or S5F1 with the text of the note, under the system bytes that are
+-- next (SEMI E5, S6F11 and S5F1)
+abbrev pub note_frame : Note → State → List ℕ
+note_frame note g =
+    data_frame g.config.device true (stream_of_kind note.kind) (function_of_kind note.kind) (drawn g.transactions) note.text
+
+-- from the first state to the second this note is sent: it is open, and its frame waits for the writer behind the others
+pub record IsSent (note : Note) (g h : State) : Type 0 where
+  pub opened : h.line.opened ≡ Some note
+  pub frame : h.waiting ≡ g.waiting ++ note_frame note g ∷ []
 
 -- ---- along a history
 

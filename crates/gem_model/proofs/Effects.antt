@@ -1,5 +1,5 @@
 -- What rows of tables 1 and 2 do, by the words of their lines, and which of them are ready.
-use Rattle.std.proofs.Common.{◌≡◌, ℕ, Bool, true, false, not, ◌&&◌, if◌then◌else◌, [], Option, Some, None, option_map, refl, ◌∙◌, ap}
+use Rattle.std.proofs.Common.{◌≡◌, ℕ, Bool, true, false, not, ◌&&◌, if◌then◌else◌, [], Option, Some, None, option_map, refl, sym, ◌∙◌, ap}
 use Rattle.std.specs.Option.{option_or}
 use Rattle.gem_tables.specs.Table.{Row, firing, first_itself}
 use Rattle.gem_tables.specs.declared.firing.Firing.{Firing}
@@ -15,7 +15,7 @@ use Rattle.transactions.specs.declared.transaction.What.TheVariants as what
 use Rattle.gem_model.specs.State.{State, none_asked, can_ask, is_selected}
 use Rattle.gem_model.specs.Sending.{asks, identity_text}
 use Rattle.gem_model.specs.Fire.{forgets, comm_does, comm_effect_of, control_does, control_effect_of}
-use Rattle.gem_model.specs.Ready.{delay_is_over, is_attempt, comm_finds, control_finds, ready_control, ready_line, ready_floor, least}
+use Rattle.gem_model.specs.Ready.{delay_is_over, is_attempt, comm_finds, control_finds, ready_comm, ready_control, ready_line, ready_floor, least}
 
 -- what holds behind each effect of table 1 holds behind that of each of its rows
 pub comm_effect_case : (P : State → Type 0) (row : Option (Row Comm CommWant CommEffect)) (g : State) → P g → P (none_asked g) → P (asks 1 13 what.Establish (identity_text g.config) g) → P (forgets what.Establish g) → P (comm_effect_of row g)

@@ -36,11 +36,11 @@ use Rattle.transactions.specs.Endings.{same_kind, first_of}
 use Rattle.transactions.proofs.Finding.{found-passes}
 use Rattle.transactions.proofs.Systems.{without-none}
 use Rattle.transactions.proofs.Laws.{table-taken_out, table-started, found-there}
-use Rattle.gem_model.specs.State.{State, opening, t3, with_frame, is_communicating, is_online, around, without_session, raised}
+use Rattle.gem_model.specs.State.{State, opening, t3, with_frame, is_communicating, is_online, around, can_ask, none_asked, without_session, raised}
 use Rattle.gem_model.specs.Sending.{asks, data_frame, identity_text}
 use Rattle.gem_model.specs.Values.{object_name}
 use Rattle.gem_model.specs.Noting.{line_with_alarm}
-use Rattle.gem_model.specs.Fire.{advanced, asks_first, stream_of_kind, function_of_kind, fire, fires, fire_listed, fire_comm, fire_control, fire_line, fire_floor, takes_effect, row_starts, delay_end, of_control}
+use Rattle.gem_model.specs.Fire.{advanced, asks_first, stream_of_kind, function_of_kind, fire, fires, fire_listed, fire_comm, fire_control, fire_line, fire_floor, takes_effect, row_starts, delay_end, forgets, of_control}
 use Rattle.gem_model.specs.Direct.{answer_rows, timeout_rows, establish_answer, attempt_answer, by_comm, by_control, note_fails, operator_rows}
 use Rattle.gem_model.specs.Ready.{least, ready_line, ready_floor}
 use Rattle.gem_model.proofs.Effects.{asks_host, gives_up, least_is, spares, comm_effect_spared, control_effect_case}

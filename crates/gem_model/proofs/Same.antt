@@ -13,7 +13,7 @@ use Rattle.gem_states.specs.Control.{control_table}
 use Rattle.gem_model.proofs.Effects.{comm_effect_case, control_effect_case}
 use Rattle.gem_model.proofs.FloorRows.{advanced_keeps}
 use Rattle.gem_tables.specs.declared.firing.Firing.{Firing}
-use Rattle.gem_model.specs.State.{State}
+use Rattle.gem_model.specs.State.{State, none_asked, can_ask}
 use Rattle.gem_model.specs.Sending.{asks, identity_text}
 use Rattle.spool.specs.declared.note.Note.{Note}
 use Rattle.gem_model.specs.Fire.{fire, advanced, fire_listed, fire_comm, fire_control, fire_line, fire_floor, comm_effect, control_effect, line_effect, asks_first, takes_effect, stream_of_kind, function_of_kind, delay_end, forgets, row_starts}

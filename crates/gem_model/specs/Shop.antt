@@ -1,18 +1,22 @@
 -- What the host asks of carriers and load ports: the actions of S3F17, S3F25 and S3F27, and their acknowledge codes (SEMI E87,
 -- carrier action, port action and change access; this tool's profile, messages).
-use Rattle.std.specs.Prelude.{ℕ, Bool, true, false, not, nat_le, if◌then◌else◌, List, [], ◌∷◌, codes, Option, None, is_some}
+use Rattle.std.specs.Prelude.{ℕ, ◌==◌, Bool, true, false, not, nat_le, if◌then◌else◌, List, [], ◌∷◌, codes, Option, None, is_some}
 use Rattle.std.specs.Str.{bytes_eq}
+use Rattle.gem_tables.specs.declared.firing.Firing.{Firing}
 use Rattle.gem_states.specs.declared.control.Control.{Control}
 use Rattle.gem_states.specs.declared.control.Control.TheVariants as control
 use Rattle.secs_items.specs.Data.{Data}
 use Rattle.body_parts.specs.Bodies.{Form, meeting, of_count, all_of, small_id, ◌>>=◌}
+use Rattle.msgs_300.specs.Primaries.{Message, S3F17, S3F25, S3F27}
+use Rattle.msgs_300.specs.declared.reply.ShopReply.{ShopReply}
+use Rattle.msgs_300.specs.declared.reply.ShopReply.TheVariants as reply
 use Rattle.load_port.specs.declared.action.PortAction.{PortAction}
 use Rattle.load_port.specs.declared.action.PortAction.TheVariants as port
 use Rattle.carrier.specs.declared.action.CarrierAction.{CarrierAction}
 use Rattle.carrier.specs.declared.action.CarrierWord.{CarrierWord}
 use Rattle.carrier.specs.declared.action.CarrierWord.TheVariants as word
 use Rattle.carrier.specs.Verdict.{is_unknown}
-use Rattle.shop_floor.specs.Requests.{carrier_code, port_code}
+use Rattle.shop_floor.specs.Requests.{carrier_code, carrier_written, carrier_rows, port_code, port_rows}
 use Rattle.gem_model.specs.State.{State}
 
 -- ---- the actions

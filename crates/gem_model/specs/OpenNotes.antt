@@ -1,6 +1,8 @@
--- Which notes are open (this tool's profile, notes).
-use Rattle.std.specs.Prelude.{ℕ, ◌≡◌, ◌≤◌, List, [], ◌∷◌, ◌++◌, true, Option, Some, option_map}
+-- Which notes are open, and which frames send them (this tool's profile, notes).
+use Rattle.std.specs.Prelude.{ℕ, ◌+◌, ◌==◌, ◌≡◌, ◌≤◌, Bool, true, false, ◌&&◌, ◌||◌, List, [], ◌∷◌, ◌++◌, Option, Some, option_map}
 use Rattle.std.specs.Option.{option_to_list}
+use Rattle.hsms_frame.specs.declared.frame.Header.{Header}
+use Rattle.hsms_frame.specs.Spelling.{message_bytes}
 use Rattle.spool.specs.declared.note.Note.{Note}
 use Rattle.note_line.specs.Line.{Line}
 use Rattle.note_line.specs.Order.{Pairwise}
@@ -39,6 +41,18 @@ abbrev pub note_frame : Note → State → List ℕ
 note_frame note g =
     data_frame g.config.device true (stream_of_kind note.kind) (function_of_kind note.kind) (drawn g.transactions) note.text
 
+-- a header of a message that sends a note: a data message with the W-bit, S6F11 or S5F1 (SEMI E37, message header)
+abbrev pub sends_note : Header → Bool
+sends_note h =
+    (h.stype == 0) && (((h.byte2 == 128 + 6) && (h.byte3 == 11)) || ((h.byte2 == 128 + 5) && (h.byte3 == 1)))
+
+-- a frame is of another message, or is that of a note of which this is so, with its text
+pub data Carries (P : Note → Type 0) (frame : List ℕ) : Type 0 where
+  of_other : (h : Header) (text : List ℕ) → frame ≡ message_bytes h text → sends_note h ≡ false → Carries P frame
+  of_note : (device system : ℕ) (note : Note)
+      → frame ≡ data_frame device true (stream_of_kind note.kind) (function_of_kind note.kind) system note.text → P note
+      → Carries P frame
+
 -- from the first state to the second this note is sent: it is open, and its frame waits for the writer behind the others
 pub record IsSent (note : Note) (g h : State) : Type 0 where
   pub opened : h.line.opened ≡ Some note
@@ -58,3 +72,9 @@ NotBelow earlier later = earlier.kind ≡ later.kind → earlier.number ≤ late
 -- sendings of one kind never go back to a lower number (this tool's profile, notes)
 abbrev pub NeverBack : State → List Entry → Type 0
 NeverBack g entries = Pairwise NotBelow (open_behind g entries)
+
+-- the frames that wait for the writer behind each of these entries: each that goes out is among them, since it waits behind the
+-- entry in which it came
+abbrev pub frames_behind : State → List Entry → List (List ℕ)
+frames_behind g [] = []
+frames_behind g (entry ∷ entries) = (entry_after g entry).waiting ++ frames_behind (entry_after g entry) entries

@@ -11,7 +11,7 @@ use Rattle.shop_floor.specs.Valid.{IsFloor}
 use Rattle.gem_model.specs.State.{State, opening}
 use Rattle.gem_model.specs.Run.{Run}
 use Rattle.gem_model.specs.Reported.{told_as, reported_in, IsOf}
-use Rattle.gem_model.specs.OpenNotes.{NeverBack, open_behind, note_numbers, open_number}
+use Rattle.gem_model.specs.OpenNotes.{Carries, NeverBack, open_behind, frames_behind, note_numbers, open_number}
 
 -- Facts of a history that began under this configuration and led to this state. Each public call that hands out a history has
 -- them; a further one is a field more.
@@ -24,6 +24,8 @@ pub record Recorded (c : Config) (history : List Entry) (g : State) : Type 0 whe
   pub texts : AllByRecursion (IsOf (reported_in (opening c) history)) (standing g.line)
   -- and so has each note that was sent: each that is open behind an entry
   pub sent : AllByRecursion (IsOf (reported_in (opening c) history)) (open_behind (opening c) history)
+  -- each frame of S6F11 and S5F1 that goes out is that of a note, and has the text of what was reported under its number
+  pub frames : AllByRecursion (Carries (IsOf (reported_in (opening c) history))) (frames_behind (opening c) history)
   -- each note has one fate, and of each kind those that have not ended stand in the order of their numbers
   pub fates : LineValid g.line
   -- sendings of one kind never go back to a lower number

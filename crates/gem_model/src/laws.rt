@@ -14,7 +14,7 @@ ghost use Rattle.gem_model.specs.Run.{Run};
 ghost use Rattle.gem_model.specs.Recorded.{Recorded};
 ghost use Rattle.tool_events.specs.Configs.{IsConfig};
 ghost use Rattle.gem_model.specs.Reported.{told_as, reported_in, IsOf};
-ghost use Rattle.gem_model.specs.OpenNotes.{note_numbers, open_number, IsSent, open_behind, NeverBack};
+ghost use Rattle.gem_model.specs.OpenNotes.{note_numbers, open_number, Carries, IsSent, open_behind, frames_behind, NeverBack};
 ghost use Rattle.gem_model.specs.Fire.{fire};
 ghost use Rattle.gem_tables.specs.Table.{firing};
 ghost use Rattle.spool.specs.declared.note.Note.{Note};
@@ -58,13 +58,16 @@ pub fn the_notes_are_what_was_reported()
 {}
 
 /// Each note has the text of what was reported under its number, so an event's has the values behind its own firing: where a
-/// history leads, each note that has not ended, and behind each of its entries the note that is open. That is sent as it opens,
-/// by law `a_note_goes_out_as_it_opens`.
+/// history leads, each note that has not ended; behind each of its entries the note that is open; and of the frames that wait
+/// for the writer behind each entry, which are all that go out, each of S6F11 and S5F1 is that of such a note.
 pub fn each_note_has_the_text_of_its_own_firing()
     ensures standing { (c : Config) (entries : List Entry) (h : State)
         → Run (opening c) entries h → AllByRecursion (IsOf (reported_in (opening c) entries)) (standing h.line) }
     ensures sent { (c : Config) (entries : List Entry) (h : State)
         → Run (opening c) entries h → AllByRecursion (IsOf (reported_in (opening c) entries)) (open_behind (opening c) entries) }
+    ensures frames { (c : Config) (entries : List Entry) (h : State)
+        → Run (opening c) entries h
+        → AllByRecursion (Carries (IsOf (reported_in (opening c) entries))) (frames_behind (opening c) entries) }
 {}
 
 /// A note goes out as it opens, with its text. Whichever row a firing is of: where no note is open before it and one is behind

@@ -273,6 +273,14 @@ pub fn what_is_reported_of_changes_of_control()
         (posted (LinkUp ∷ message_of (select_request 1) [] ∷ Oper Local ∷ Oper Offline ∷ Oper Online ∷ [])) ≡ [] }
 {}
 
+/// A note tells the values behind its own firing. ControlState stands in the reports of the changes to ON-LINE LOCAL and to
+/// REMOTE: the first note tells 4, and the second, which goes out once the first is answered, tells 5, though control is LOCAL
+/// again by then.
+pub fn a_note_tells_the_values_behind_its_own_firing()
+    ensures { answer_to (codes "L+\nH 0000000AFFFF0000000100000001\nH 000000240000822100000000000A0102B1040000000101010102B104000000010101B10400000003\nH 000000340000822300000000000B0102B1040000000101020102B104000000D30101B104000000010102B104000000D20101B10400000001\nH 000000110000822500000000000C01022501010100\nO local\nO remote\nO local\nH 0000000D0000060C000000000001210100\n")
+        ≡ codes "+ 1\n> 0000000AFFFF0000000200000001\n> 0000000D0000022200000000000A210100\n> 0000000D0000022400000000000B210100\n> 0000000D0000022600000000000C210100\n= ok\n> 0000002B0000860B0000000000010103A1080000000000000001B104000000D301010102B104000000010101A50104\n= ok\n= ok\n> 0000002B0000860B0000000000020103A1080000000000000002B104000000D201010102B104000000010101A50105\n" }
+{}
+
 /// Events that are spooled: where the link is lost, the open note goes to the spool, and so does the next. Nothing is sent on
 /// a new link until the host asks by S6F23; then the oldest is sent, with the DATAID that it had, and the other behind its
 /// answer.

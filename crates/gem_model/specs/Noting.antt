@@ -62,10 +62,13 @@ alcd is_set = if is_set then 134 else 6
 abbrev pub text_of_alarm : ℕ → List ℕ
 text_of_alarm alid = unwrap_or (alarm_text alid) []
 
+-- the text of S5F1: ALCD by whether the alarm is set, ALID and ALTX (SEMI E5, S5F1)
+abbrev pub change_text : ℕ → State → List ℕ
+change_text alid g = plain (reply_body (reply.S5F1 (alcd (is_set alid g.alarms)) alid (text_of_alarm alid)))
+
 -- the line with a note of an alarm behind the others, by whether it is set
 abbrev pub alarm_line : ℕ → State → notes.Line
-alarm_line alid g =
-    notes.noted Alarm alid (plain (reply_body (reply.S5F1 (alcd (is_set alid g.alarms)) alid (text_of_alarm alid)))) g.line
+alarm_line alid g = notes.noted Alarm alid (change_text alid g) g.line
 
 -- the line behind a change of an alarm that led to this state
 abbrev pub line_with_alarm : ℕ → State → notes.Line

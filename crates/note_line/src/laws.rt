@@ -1,11 +1,11 @@
 //! Laws of the definitions, for proofs to cite. Each function is empty: what it ensures holds of the definitions.
 
-ghost use Rattle.std.specs.Prelude.{◌≡◌, ℕ, ◌+◌, ◌<◌, ◌≤◌, Bool, true, List, Some, None, IsSome};
+ghost use Rattle.std.specs.Prelude.{◌≡◌, ℕ, ◌+◌, ◌<◌, ◌≤◌, Bool, true, List, [], ◌∷◌, ◌++◌, Some, None, IsSome, All, Contains};
 ghost use Rattle.spool.specs.declared.note.Kind.{Kind};
 ghost use Rattle.spool.specs.declared.note.Note.{Note};
 ghost use Rattle.note_line.specs.declared.around.Around.{Around};
 ghost use Rattle.note_line.specs.declared.around.SpooledKinds.{SpooledKinds};
-ghost use Rattle.note_line.specs.Line.{Line, opening, next, noted, answered, with_kinds, fate_of};
+ghost use Rattle.note_line.specs.Line.{Line, opening, next, standing, noted, answered, with_kinds, fate_of};
 ghost use Rattle.note_line.specs.Table3.{least, line_starts, is_direct, row_effect};
 ghost use Rattle.note_line.specs.Left.{left, told_weight};
 ghost use Rattle.note_line.specs.Fates.{LineValid, KeepsFates};
@@ -36,6 +36,17 @@ pub fn fates_are_kept()
     ensures kinds { (kinds : SpooledKinds) (l : Line) → LineValid l → KeepsFates l (with_kinds kinds l) }
     ensures nothing { (l : Line) → KeepsFates l l }
     ensures together { (g m h : Line) → KeepsFates g m → KeepsFates m h → KeepsFates g h }
+{}
+
+/// A note stays as it was made until it ends: each note that stands behind a row, an answer, or other kinds of note to spool,
+/// stood before, with the same number, kind, id and text. A new note is one more behind the others; it has the next number,
+/// and the kind, the id and the text that it is made with.
+pub fn a_note_stays_as_it_was_made()
+    ensures rows { (a : Around) (row : ℕ) (l : Line) → All (Contains (standing l)) (standing (row_effect a row l)) }
+    ensures answered { (l : Line) → All (Contains (standing l)) (standing (answered l)) }
+    ensures kinds { (kinds : SpooledKinds) (l : Line) → All (Contains (standing l)) (standing (with_kinds kinds l)) }
+    ensures noted { (kind : Kind) (id : ℕ) (text : List ℕ) (l : Line)
+        → standing (noted kind id text l) ≡ standing l ++ record { number = next l; kind = kind; id = id; text = text } ∷ [] }
 {}
 
 /// Each number below the next one has a fate.

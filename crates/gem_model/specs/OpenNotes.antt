@@ -73,8 +73,8 @@ NotBelow earlier later = earlier.kind ≡ later.kind → earlier.number ≤ late
 abbrev pub NeverBack : State → List Entry → Type 0
 NeverBack g entries = Pairwise NotBelow (open_behind g entries)
 
--- the frames that wait for the writer behind each of these entries: each that goes out is among them, since it waits behind the
--- entry in which it came
+-- the frames that wait for the writer behind each of these entries: each that goes out is among them, since what a Take hands
+-- out waited behind the entry before it
 abbrev pub frames_behind : State → List Entry → List (List ℕ)
 frames_behind g [] = []
 frames_behind g (entry ∷ entries) = (entry_after g entry).waiting ++ frames_behind (entry_after g entry) entries

@@ -1,5 +1,5 @@
 -- The rows of the load ports and the carriers, as the plant fires them.
-use Rattle.std.proofs.Common.{◌≡◌, ℕ, ◌==◌, Bool, true, false, if◌then◌else◌, List, [], ◌∷◌, Option, Some, None, is_some, refl, sym, ◌∙◌, ap, subst}
+use Rattle.std.proofs.Common.{◌≡◌, ℕ, ◌==◌, Bool, true, false, if◌then◌else◌, List, [], ◌∷◌, Option, Some, None, is_some, refl, sym, ◌∙◌, ap, subst, arith}
 use Rattle.std.specs.Option.{option_or}
 use Rattle.std.specs.List.{AllByRecursion}
 use Rattle.std.proofs.lemmas.Bool.Decides.{nat_tests}
@@ -11,7 +11,7 @@ use Rattle.shop_floor.specs.Machines.{floor_machines, floor_starts, floor_fired,
 use Rattle.shop_floor.proofs.Creations.{creation_same, creations as floor_creations, creations_start}
 use Rattle.gem_model.specs.State.{State, is_online}
 use Rattle.gem_model.specs.Noting.{noted_as}
-use Rattle.gem_model.specs.Machines.{row_starts, takes_effect, creations, fire_floor}
+use Rattle.gem_model.specs.Machines.{row_starts, takes_effect, creations, object_name, fire_floor}
 use Rattle.gem_model.specs.Fire.{fire, advanced}
 use Rattle.gem_model.specs.Direct.{IsListed}
 use Rattle.gem_model.specs.Ready.{ready_floor}
@@ -31,18 +31,24 @@ starts_high x f starts = record {
     at table = starts_in floor_machines (firing table x.object x.row.row) f
 
     other : (n : ℕ) → at n ≡ false → (x.row.table == n) ≡ false
-    other n no = of (x.row.table == n) refl where
+    other n none = of (x.row.table == n) refl where
       of : (b : Bool) → (x.row.table == n) ≡ b → b ≡ false
       of false is = refl
       of true is = let same : x.row.table ≡ n = grind (arith, nat_tests, is) in
-          let never : floor_starts x f ≡ false = ap at same ∙ no in
+          let never : floor_starts x f ≡ false = ap at same ∙ none in
           absurd (let clash : true ≡ false = sym starts ∙ never in cc)
 
 -- its effect, and then its note
-pub row_fires : (g h : State) (x : Firing) → floor_starts x g.floor ≡ true → h ≡ record g { floor = floor_fired x g.floor } → noted_as x.row.table x.row.row (floor_object x g.floor) (is_online g.control) h ≡ fire g x
-row_fires g h x starts is =
+pub row_fires : (g h : State) (x : Firing) (object : List ℕ) (online : Bool) → floor_starts x g.floor ≡ true → object ≡ floor_object x g.floor → online ≡ is_online g.control → h ≡ fire_floor x g → noted_as x.row.table x.row.row object online h ≡ fire g x
+row_fires g h x object online starts named on is =
     let high = starts_high x g.floor starts in
-    rw (effect_is g x high, object_is g x high, is) refl
+    ap (λ (o : List ℕ). noted_as x.row.table x.row.row o online h) (named ∙ sym (object_is g x high))
+    ∙ ap (λ (b : Bool). noted_as x.row.table x.row.row (object_name g x) b h) on
+    ∙ ap (λ (k : State). noted_as x.row.table x.row.row (object_name g x) (is_online g.control) k) (is ∙ sym (effect_is g x high))
+
+-- the floor behind it
+pub row_floor : (g : State) (x : Firing) → floor_starts x g.floor ≡ true → (fire g x).floor ≡ floor_fired x g.floor
+row_floor g x starts = ap (λ (k : State). k.floor) (effect_is g x (starts_high x g.floor starts))
 
 -- ---- what a row creates
 
@@ -56,7 +62,7 @@ are_created f (d ∷ ds) follow start =
 pub created_are : (g h : State) (x : Firing) → row_starts g x ≡ true → h ≡ fire g x → AreCreated h.floor (creations g x)
 created_are g h x starts is = of (x.row.table == 1) (x.row.table == 2) (x.row.table == 3) refl refl refl where
   none : creations g x ≡ [] → AreCreated h.floor (creations g x)
-  none no = subst (AreCreated h.floor) (sym no) tt
+  none nothing = subst (AreCreated h.floor) (sym nothing) tt
 
   on_floor : IsFloorRow x → AreCreated h.floor (creations g x)
   on_floor high =

@@ -1,5 +1,5 @@
 -- The rows of the load ports and the carriers, as the plant fires them.
-use Rattle.std.proofs.Common.{◌≡◌, ℕ, ◌==◌, Bool, true, false, if◌then◌else◌, List, [], ◌∷◌, Option, Some, None, is_some, refl, sym, ◌∙◌, ap, subst, arith}
+use Rattle.std.proofs.Common.{◌≡◌, ℕ, ◌==◌, ◌≤◌, ◌&&◌, not, length, take, Bool, true, false, if◌then◌else◌, List, [], ◌∷◌, Option, Some, None, is_some, refl, sym, ◌∙◌, ap, subst, arith}
 use Rattle.std.specs.Option.{option_or}
 use Rattle.std.specs.List.{AllByRecursion}
 use Rattle.std.proofs.lemmas.Bool.Decides.{nat_tests}
@@ -17,6 +17,16 @@ use Rattle.gem_model.specs.Direct.{IsListed}
 use Rattle.gem_model.specs.Ready.{ready_floor}
 use Rattle.gem_model.proofs.FloorRows.{IsFloorRow, effect_is, starts_is, creations_is, object_is}
 use Rattle.gem_model.proofs.OnFloor.{creations_as}
+use Rattle.load_port.specs.declared.port.Port.{Port}
+use Rattle.shop_floor.specs.Floor.{numbers_from}
+use Rattle.shop_floor.proofs.Shapes.{not_table_3}
+use Rattle.shop_floor.proofs.Starts.{least_starts}
+use Rattle.gem_model.specs.State.{is_selected, can_ask}
+use Rattle.gem_model.specs.Wants.{delay_is_over, is_attempt}
+use Rattle.gem_model.specs.Machines.{least}
+use Rattle.gem_model.specs.Ready.{ready_line}
+use Rattle.gem_model.proofs.Effects.{gives_up, least_is}
+use Rattle.gem_model.proofs.FloorRows.{ready_is}
 use Rattle.core_state.specs.Firing.{fire_first, AreCreated}
 
 -- a row that starts on the floor is of tables 4 to 10
@@ -104,3 +114,38 @@ or_behind (Some f) y is = absurd (cc)
 pub or_stays : (x : Option Firing) (g : State) → is_some x ≡ false → fire_first x g ≡ g
 or_stays None g is = refl
 or_stays (Some f) g is = absurd (cc)
+
+-- ---- the least row of all tables
+
+pub least_first : (g : State) → (delay_is_over g.moment g.comm && is_selected g) ≡ true → least g ≡ Some (firing 1 0 3)
+least_first g asks =
+    least_is g ∙ ap (λ (b : Bool). option_or (if b then Some (firing 1 0 3) else None) (option_or (gives_up g) (option_or (ready_line g) (ready_floor g)))) asks
+
+pub least_second : (g : State) → (delay_is_over g.moment g.comm && is_selected g) ≡ false → (is_attempt g.control && not (can_ask g)) ≡ true → least g ≡ Some (firing 2 0 2)
+least_second g quiet gives =
+    least_is g
+    ∙ ap (λ (b : Bool). option_or (if b then Some (firing 1 0 3) else None) (option_or (gives_up g) (option_or (ready_line g) (ready_floor g)))) quiet
+    ∙ ap (λ (b : Bool). option_or (if b then Some (firing 2 0 2) else None) (option_or (ready_line g) (ready_floor g))) gives
+
+pub least_rest : (g : State) → (delay_is_over g.moment g.comm && is_selected g) ≡ false → (is_attempt g.control && not (can_ask g)) ≡ false → least g ≡ option_or (ready_line g) (ready_floor g)
+least_rest g quiet stays =
+    least_is g
+    ∙ ap (λ (b : Bool). option_or (if b then Some (firing 1 0 3) else None) (option_or (gives_up g) (option_or (ready_line g) (ready_floor g)))) quiet
+    ∙ ap (λ (b : Bool). option_or (if b then Some (firing 2 0 2) else None) (option_or (ready_line g) (ready_floor g))) stays
+
+-- the least row of the floor is one that can be listed, and starts
+pub floor_listed : (g : State) (x : Firing) → floor_least g.floor ≡ Some x → IsListed x
+floor_listed g x ready is = absurd (let clash : true ≡ false = sym is ∙ not_table_3 g.floor x ready in cc)
+
+pub floor_ready : (g : State) (x : Firing) → floor_least g.floor ≡ Some x → row_starts g x ≡ true
+floor_ready g x ready = starts_is g x (ready_is g x ready) ∙ least_starts g.floor x ready
+
+-- ---- the ports by their numbers
+
+pub all_numbers : (ports : List Port) → length ports ≤ 4 → take (length ports) (1 ∷ 2 ∷ 3 ∷ 4 ∷ []) ≡ numbers_from 1 ports
+all_numbers [] few = refl
+all_numbers (a ∷ []) few = refl
+all_numbers (a ∷ (b ∷ [])) few = refl
+all_numbers (a ∷ (b ∷ (c ∷ []))) few = refl
+all_numbers (a ∷ (b ∷ (c ∷ (d ∷ [])))) few = refl
+all_numbers (a ∷ (b ∷ (c ∷ (d ∷ (e ∷ ports))))) few = absurd (omega (arith, few))

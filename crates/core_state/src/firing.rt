@@ -1,11 +1,12 @@
 //! Rows fire: those that an input lists, and those that are ready by themselves (this tool's profile, direct rows and settling).
-ghost use Rattle.std.specs.Prelude.{◌≡◌, ◌∷◌, [], true, OnOk, IfOk, is_some};
+ghost use Rattle.std.specs.Prelude.{◌≡◌, ◌&&◌, not, true, OnOk, IfOk, is_some};
 ghost use Rattle.std.specs.Option.{option_or};
 ghost use Rattle.gem_tables.specs.Table.{firing};
 ghost use Rattle.gem_states.specs.Communication.{comm_starts};
 ghost use Rattle.gem_states.specs.Control.{control_starts};
 ghost use Rattle.note_line.specs.Table3.{line_starts, is_direct};
-ghost use Rattle.gem_model.specs.State.{around};
+ghost use Rattle.gem_model.specs.State.{around, can_ask, is_selected};
+ghost use Rattle.gem_model.specs.Wants.{delay_is_over, is_attempt};
 ghost use Rattle.gem_model.specs.Machines.{row_starts, creations, least};
 ghost use Rattle.gem_model.specs.Fire.{fire, fire_all, advanced, fire_listed};
 ghost use Rattle.gem_model.specs.Direct.{Are, IsListed};
@@ -152,7 +153,7 @@ impl Plant {
         ensures fired { IfOk result (λ fired. fired ≡ is_some (ready_floor self.old)) }
         ensures after { OnOk result (self.new ≡ fire_first (ready_floor self.old) self.old) }
     {
-        let Some(f) = self.floor.least() else {
+        let Some(f) = self.least_of_floor() else {
             return Ok(false);
         };
         self.advance(alloc, f)?;
@@ -172,17 +173,31 @@ impl Plant {
         Ok(fired)
     }
 
+    /// Whether row 3 of communication is ready: the delay is over, and the link is selected.
+    fn asks_host(&self) -> bool
+        ensures { result ≡ (delay_is_over self.now.moment self.now.comm && is_selected self.now) }
+    {
+        self.delay_is_over() && self.is_selected()
+    }
+
+    /// Whether row 2 of control is ready: it is ATTEMPT ON-LINE, and the tool cannot ask.
+    fn gives_up(&self) -> bool
+        ensures { result ≡ (is_attempt self.now.control && not (can_ask self.now)) }
+    {
+        matches!(self.control, Control::Attempt) && !self.can_ask()
+    }
+
     /// Fires the least row that is ready by itself, with those of the objects that it creates, and tells whether there was one
     /// (this tool's profile, settling). `AllocError`: memory ran out.
     pub fn fire_least(&mut self, alloc: Global) -> Result<bool, AllocError>
         ensures fired { IfOk result (λ fired. fired ≡ is_some (least self.old)) }
         ensures after { OnOk result (self.new ≡ fire_first (least self.old) self.old) }
     {
-        if self.delay_is_over() && self.is_selected() {
+        if self.asks_host() {
             self.comm_row(alloc, 3)?;
             return Ok(true);
         }
-        if self.control == Control::Attempt && !self.can_ask() {
+        if self.gives_up() {
             self.control_row(alloc, 2)?;
             return Ok(true);
         }

@@ -1,10 +1,11 @@
 //! The load ports and the carriers: their rows, and what the host, the operator and the equipment do to them (SEMI E87; tables
 //! 4 to 10).
-ghost use Rattle.std.specs.Prelude.{◌≡◌, true, false, not, OnOk, IfOk};
+ghost use Rattle.std.specs.Prelude.{◌≡◌, ◌≤◌, true, false, not, length, OnOk, IfOk};
 ghost use Rattle.load_port.specs.Caack.{is_done_code};
 ghost use Rattle.shop_floor.specs.Floor.{numbers_from};
 ghost use Rattle.shop_floor.specs.Requests.{carrier_code, carrier_written, carrier_rows, port_code, port_rows, at_ports, mode_row, or_all};
-ghost use Rattle.shop_floor.specs.Machines.{floor_starts};
+ghost use Rattle.shop_floor.specs.Machines.{floor_starts, object_name};
+ghost use Rattle.gem_model.specs.Ready.{ready_floor};
 ghost use Rattle.gem_model.specs.Fire.{fire};
 ghost use Rattle.gem_model.specs.Machines.{fire_floor};
 ghost use Rattle.gem_model.specs.Signals.{lacks_port, with_arrival, is_ready_to_unload};
@@ -12,7 +13,7 @@ ghost use Rattle.gem_model.specs.Signals.{lacks_port, with_arrival, is_ready_to_
 use crate::noting::RowFiring;
 use crate::plant::Plant;
 use carrier::CarrierAction;
-use gem_ids::{CarrierId, PortNo};
+use gem_ids::{CarrierId, PortNo, Text80};
 use gem_tables::Firing;
 use load_port::{Caack, PortAction};
 use std::alloc::{AllocError, Global};
@@ -53,6 +54,20 @@ impl Plant {
         Ok(())
     }
 
+    /// The name of the object of a row of a port or a carrier.
+    fn floor_object(&self, f: Firing) -> Text80
+        ensures { result ≡ object_name f self.now.floor }
+    {
+        self.floor.object_name(f)
+    }
+
+    /// The least row of the load ports and the carriers that is ready by itself.
+    pub(crate) fn least_of_floor(&self) -> Option<Firing>
+        ensures { result ≡ ready_floor self.now }
+    {
+        self.floor.least()
+    }
+
     /// A row of a load port or a carrier fires, which starts, and makes its note.
     #[tactic(auto, using(crate::proofs::Floors::row_fires))]
     pub(crate) fn floor_row(&mut self, alloc: Global, f: Firing) -> Result<(), AllocError>
@@ -60,7 +75,7 @@ impl Plant {
         ensures { OnOk result (self.new ≡ fire self.old f) }
     {
         let online_before = self.is_online();
-        let object = self.floor.object_name(f);
+        let object = self.floor_object(f);
         self.fire_floor(f)?;
         let noted = RowFiring {
             row: f.row,
@@ -130,15 +145,21 @@ impl Plant {
         Ok(rows)
     }
 
-    /// A row of a table at each port of the tool.
-    fn at_all_ports(&self, alloc: Global, table: u8, row: u8) -> Result<Vec<Firing>, AllocError>
-        ensures { IfOk result (λ rows. rows.items ≡ at_ports table row (numbers_from 1 self.now.floor.ports)) }
+    /// The rows by which the access mode of all ports changes.
+    fn all_access_rows(&self, alloc: Global, row: u8) -> Result<Vec<Firing>, AllocError>
+        ensures { IfOk result (λ rows. rows.items ≡ at_ports 5 row (numbers_from 1 self.now.floor.ports)) }
     {
-        let mut rows = Vec::new(alloc);
-        for place in 0..self.floor.port_count() {
-            rows.push(Firing::new(table, 1 + place as u64, row))?;
-        }
-        Ok(rows)
+        let numbers: [u8; 4] = [1, 2, 3, 4];
+        let count = self.port_count();
+        Plant::at_ports(alloc, ACCESS, row, &numbers[..count])
+    }
+
+    /// How many ports there are.
+    fn port_count(&self) -> usize
+        ensures count { result ≡ length self.now.floor.ports }
+        ensures few { result ≤ 4 }
+    {
+        self.floor.port_count()
     }
 
     /// The rows by which the access mode of these ports changes, or that of all where there is none.
@@ -146,7 +167,7 @@ impl Plant {
         ensures { IfOk result (λ rows. rows.items ≡ at_ports 5 (mode_row mode) (or_all ports.now self.now.floor)) }
     {
         if ports.is_empty() {
-            self.at_all_ports(alloc, ACCESS, mode_row(mode))
+            self.all_access_rows(alloc, mode_row(mode))
         } else {
             Plant::at_ports(alloc, ACCESS, mode_row(mode), ports)
         }

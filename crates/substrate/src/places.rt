@@ -93,6 +93,13 @@ impl Places {
         }
     }
 
+    /// Whether a location is one of the tool.
+    pub fn has(&self, loc: LocId) -> bool
+        ensures { result ≡ is_location self.now.ports self.now.chambers loc }
+    {
+        self.board.has(loc)
+    }
+
     // ---- what happens to them
 
     /// Registers a substrate at a location of the tool, and gives the number of its registration: the next, from 1. No number

@@ -1,5 +1,5 @@
 //! Rows fire: those that an input lists, and those that are ready by themselves (this tool's profile, direct rows and settling).
-ghost use Rattle.std.specs.Prelude.{◌≡◌, ◌&&◌, not, true, OnOk, IfOk, is_some};
+ghost use Rattle.std.specs.Prelude.{◌≡◌, ◌∷◌, [], ◌&&◌, not, true, OnOk, IfOk, is_some};
 ghost use Rattle.std.specs.Option.{option_or};
 ghost use Rattle.gem_tables.specs.Table.{firing};
 ghost use Rattle.gem_states.specs.Communication.{comm_starts};
@@ -138,9 +138,18 @@ impl Plant {
         ensures { OnOk result (self.new ≡ fire_listed firings.now self.old) }
     {
         for f in firings {
-            if self.row_starts(*f) {
-                self.advance(alloc, *f)?;
-            }
+            self.listed_row(alloc, *f)?;
+        }
+        Ok(())
+    }
+
+    /// A row that is listed fires where it starts, with those of what it creates.
+    fn listed_row(&mut self, alloc: Global, f: Firing) -> Result<(), AllocError>
+        requires { IsListed f }
+        ensures { OnOk result (self.new ≡ fire_listed (f ∷ []) self.old) }
+    {
+        if self.row_starts(f) {
+            self.advance(alloc, f)?;
         }
         Ok(())
     }

@@ -12,6 +12,7 @@ ghost use Rattle.gem_model.specs.Signals.{lacks_port, with_arrival, is_ready_to_
 
 use crate::noting::RowFiring;
 use crate::plant::Plant;
+use arrayvec::ArrayVec;
 use carrier::CarrierAction;
 use gem_ids::{CarrierId, PortNo, Text80};
 use gem_tables::Firing;
@@ -145,13 +146,13 @@ impl Plant {
         Ok(rows)
     }
 
-    /// The rows by which the access mode of all ports changes.
-    fn all_access_rows(&self, alloc: Global, row: u8) -> Result<Vec<Firing>, AllocError>
-        ensures { IfOk result (λ rows. rows.items ≡ at_ports 5 row (numbers_from 1 self.now.floor.ports)) }
+    /// The numbers of the ports.
+    fn port_numbers(&self) -> ArrayVec<u8, 4>
+        ensures { result.items ≡ numbers_from 1 self.now.floor.ports }
     {
-        let numbers: [u8; 4] = [1, 2, 3, 4];
-        let count = self.port_count();
-        Plant::at_ports(alloc, ACCESS, row, &numbers[..count])
+        let mut numbers = ArrayVec::from([1, 2, 3, 4]);
+        numbers.truncate(self.port_count());
+        numbers
     }
 
     /// How many ports there are.
@@ -167,7 +168,8 @@ impl Plant {
         ensures { IfOk result (λ rows. rows.items ≡ at_ports 5 (mode_row mode) (or_all ports.now self.now.floor)) }
     {
         if ports.is_empty() {
-            self.all_access_rows(alloc, mode_row(mode))
+            let numbers = self.port_numbers();
+            Plant::at_ports(alloc, ACCESS, mode_row(mode), numbers.as_slice())
         } else {
             Plant::at_ports(alloc, ACCESS, mode_row(mode), ports)
         }

@@ -8,7 +8,6 @@ use Rattle.transactions.specs.Table.{is_full}
 use Rattle.note_line.specs.Line.{Line}
 use Rattle.note_line.proofs.Opens.{Sends, sends_oldest, sends_head, none_opened, row-sends}
 use Rattle.gem_model.specs.State.{State, is_online, around}
-
 use Rattle.gem_model.specs.Fire.{fire}
 use Rattle.gem_model.specs.Machines.{object_name, takes_effect, fire_floor}
 use Rattle.gem_model.specs.Effects.{fire_comm, fire_control, fire_line, asks_first}

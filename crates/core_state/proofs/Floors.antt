@@ -1,5 +1,5 @@
 -- The rows of the load ports and the carriers, as the plant fires them.
-use Rattle.std.proofs.Common.{drop, get_or, drop-cons, append_assoc, ◌++◌, ◌+◌, ◌<◌, zero, suc, ◌≡◌, ℕ, ◌==◌, ◌≤◌, ◌&&◌, not, length, take, Bool, true, false, if◌then◌else◌, List, [], ◌∷◌, Option, Some, None, is_some, refl, sym, ◌∙◌, ap, subst, arith}
+use Rattle.std.proofs.Common.{drop, get_or, drop-cons, add-one, append_assoc, ◌++◌, ◌+◌, ◌<◌, zero, suc, ◌≡◌, ℕ, ◌==◌, ◌≤◌, ◌&&◌, not, length, take, Bool, true, false, if◌then◌else◌, List, [], ◌∷◌, Option, Some, None, is_some, refl, sym, ◌∙◌, ap, subst, arith}
 use Rattle.std.specs.Option.{option_or}
 use Rattle.std.proofs.lemmas.List.{append-nil}
 use Rattle.std.specs.List.{AllByRecursion}
@@ -160,9 +160,12 @@ drop_end [] (suc i) within = refl
 drop_end (x ∷ xs) zero within = absurd (omega (arith, within))
 drop_end (x ∷ xs) (suc i) within = drop_end xs i (omega (arith, within))
 
--- the row at a place, and those behind it
+-- the one at a place, and those behind it
+pub next_of : {X : Type 0} (xs : List X) (i : ℕ) (none : X) → i < length xs → drop i xs ≡ get_or xs i none ∷ drop (i + 1) xs
+next_of xs i none within = drop-cons xs i none within ∙ rw add-one refl
+
 pub listed_more : (fs : List Firing) (i : ℕ) (x : Firing) (g : State) → i < length fs → fire_listed (drop i fs) g ≡ fire_listed (drop (i + 1) fs) (fire_listed (get_or fs i x ∷ []) g)
-listed_more fs i x g within = ap (λ (ys : List Firing). fire_listed ys g) (drop-cons fs i x within)
+listed_more fs i x g within = ap (λ (ys : List Firing). fire_listed ys g) (next_of fs i x within)
 
 pub listed_at : (fs : List Firing) (i : ℕ) (x : Firing) → Are IsListed fs → i < length fs → IsListed (get_or fs i x)
 listed_at [] i x are within = absurd (omega (arith, within))
@@ -173,7 +176,7 @@ listed_at (f ∷ fs) (suc i) x are within = listed_at fs i x are.1 (omega (arith
 pub ports_more : (table row : ℕ) (rows : List Firing) (ports : List ℕ) (i : ℕ) → i < length ports → (rows ++ firing table (get_or ports i 0) row ∷ []) ++ at_ports table row (drop (i + 1) ports) ≡ rows ++ at_ports table row (drop i ports)
 ports_more table row rows ports i within =
     append_assoc rows (firing table (get_or ports i 0) row ∷ []) (at_ports table row (drop (i + 1) ports))
-    ∙ ap (λ (ps : List ℕ). rows ++ at_ports table row ps) (sym (drop-cons ports i 0 within))
+    ∙ ap (λ (ps : List ℕ). rows ++ at_ports table row ps) (sym (next_of ports i 0 within))
 
 pub ports_all : (table row : ℕ) (rows : List Firing) (ports : List ℕ) (i : ℕ) → length ports ≤ i → rows ++ at_ports table row (drop i ports) ≡ at_ports table row ports → rows ≡ at_ports table row ports
 ports_all table row rows ports i within is =

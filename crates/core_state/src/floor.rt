@@ -131,12 +131,7 @@ impl Plant {
     }
 
     /// A row of a table at each of these ports.
-    fn at_ports(
-        alloc: Global,
-        table: u8,
-        row: u8,
-        ports: &[u8],
-    ) -> Result<Vec<Firing>, AllocError>
+    fn at_ports(alloc: Global, table: u8, row: u8, ports: &[u8]) -> Result<Vec<Firing>, AllocError>
         ensures { IfOk result (λ rows. rows.items ≡ at_ports table row ports.now) }
     {
         let mut rows = Vec::new(alloc);

@@ -1,10 +1,10 @@
-use Rattle.std.proofs.Common.{◌≡◌, ◌∷◌, ◌+◌, ◌∙◌, List, drop, get_or, refl, sym, ap, subst, drop-cons}
+use Rattle.std.proofs.Common.{◌≡◌, ◌∷◌, ◌+◌, ◌∙◌, List, drop, get_or, refl, sym, ap, subst}
 use Rattle.gem_tables.specs.declared.firing.Firing.{Firing}
 use Rattle.shop_floor.specs.Floor.{Floor}
 use Rattle.gem_model.specs.State.{State}
 use Rattle.gem_model.specs.Fire.{fire_all}
 use Rattle.core_state.specs.Firing.{AreCreated}
-use Rattle.core_state.proofs.Floors.{row_floor, drop_end}
+use Rattle.core_state.proofs.Floors.{row_floor, next_of, drop_end}
 use Rattle.core_state.proofs.plant.Plant.fire_created.Goals as goal
 
 pub loop-f-init : goal.loop-f-init
@@ -13,13 +13,13 @@ loop-f-init c = record { leads = refl; created = c.requires }
 pub floor_row-requires : goal.floor_row-requires
 floor_row-requires c =
     let none : Firing = record { row = record { table = 0; row = 0 }; object = 0 } in
-    let here = subst (AreCreated c.loop-f.self.floor) (drop-cons c.args.created.now c.loop-f.f-index none c.loop-f-test.true) c.loop-f.invariant.created in
+    let here = subst (AreCreated c.loop-f.self.floor) (next_of c.args.created.now c.loop-f.f-index none c.loop-f-test.true) c.loop-f.invariant.created in
     here.0.0
 
 pub loop-f-preserved : goal.loop-f-preserved
 loop-f-preserved c =
     let none : Firing = record { row = record { table = 0; row = 0 }; object = 0 } in
-    let more = drop-cons c.args.created.now c.loop-f.f-index none c.loop-f-test.true in
+    let more = next_of c.args.created.now c.loop-f.f-index none c.loop-f-test.true in
     let here = subst (AreCreated c.loop-f.self.floor) more c.loop-f.invariant.created in
     let d = get_or c.args.created.now c.loop-f.f-index none in
     let floor = ap (λ (g : State). g.floor) c.in_ok-floor_row.ensures ∙ row_floor c.loop-f.self d here.0.0 ∙ here.0.1 in

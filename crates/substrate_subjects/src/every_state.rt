@@ -39,8 +39,11 @@ fn standing(place: Stands, flags: [bool; 4]) -> Condition {
 }
 
 const ALIGNER: Stands = Stands::At(LocId::Aligner);
+
 const ARM: Stands = Stands::At(LocId::Arm);
+
 const FIRST: Stands = Stands::At(LocId::Chamber(1));
+
 const SECOND: Stands = Stands::At(LocId::Chamber(2));
 
 // The conditions of a substrate in all its places, by a number below 16.

@@ -9,7 +9,7 @@ use link_subjects::{Communicates, Controls, Linked, Reads, Table};
 use message_subjects::{Acknowledge, Messages};
 use name_subjects::{Calendar, IdList, Names};
 use std::alloc::Global;
-use substrate_subjects::{Planned, PlacesOf, SubstrateStates};
+use substrate_subjects::{PlacesOf, Planned, SubstrateStates};
 use test_lines::{Texts, answers};
 
 /// The parts of the tool below its core.

@@ -87,8 +87,25 @@ fn is_accepted(plant: &Plant, command: &OperCmd) -> bool
         OperCmd::Local | OperCmd::Remote => true,
         OperCmd::Clear(alid) => can_clear(plant, *alid),
         OperCmd::Access(port, _) => plant.has_port(*port),
-        _ => can_fire(plant, operator_rows(plant, command).as_slice()),
+        OperCmd::Enable
+        | OperCmd::Disable
+        | OperCmd::Online
+        | OperCmd::Offline
+        | OperCmd::Service(_, _)
+        | OperCmd::Quit
+        | OperCmd::Job(_, _)
+        | OperCmd::CtlJob(_, _)
+        | OperCmd::Up(_)
+        | OperCmd::Lost(_) => first_starts(plant, command),
     }
+}
+
+/// Whether the first row of an operator's command starts at the present state.
+fn first_starts(plant: &Plant, command: &OperCmd) -> bool
+    ensures { result ≡ can_fire plant.now (operator_rows command.now plant.now) }
+{
+    let rows = operator_rows(plant, command);
+    can_fire(plant, rows.as_slice())
 }
 
 /// What a command changes besides its rows: the operator's switch is set, or an alarm is cleared.

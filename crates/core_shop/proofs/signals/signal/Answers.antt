@@ -15,4 +15,4 @@ returns-else-not-has_port c =
     let port = c.in-Placed.port.0 in
     let behind = placed port c.in-Placed.id c.in-Placed.map before in
     subst (λ (told : Signal). OnOk c.place.result (c.place.new.plant ≡ signalled told before)) (sym c.in-Placed.is)
-        (subst (λ (g : State). OnOk c.place.result (c.place.new.plant ≡ g)) (there (lacks_port port before) before behind c.if-not-has_port.ensures.has) c.place.ensures)
+    (subst (λ (g : State). OnOk c.place.result (c.place.new.plant ≡ g)) (there (lacks_port port before) before behind c.if-not-has_port.ensures.has) c.place.ensures)

@@ -1,10 +1,10 @@
 -- Lists of carriers, of which each has its own name.
-use Rattle.std.proofs.Common.{◌≡◌, ℕ, zero, suc, ◌+◌, ◌≤◌, ◌<◌, Bool, true, false, true≢false, cond, not, ◌&&◌, ◌||◌, List, [], ◌∷◌, ◌++◌, length, map, filter, Option, Some, None, is_some, IfSome, option_map, slice_get, bytes_eq, refl, sym, ap, ◌∙◌, subst, arith}
+use Rattle.std.proofs.Common.{◌≡◌, ℕ, zero, suc, ◌+◌, ◌==◌, ◌≤◌, ◌<◌, Bool, true, false, true≢false, cond, not, ◌&&◌, ◌||◌, List, [], ◌∷◌, ◌++◌, length, map, filter, Option, Some, None, is_some, IfSome, option_map, slice_get, bytes_eq, refl, sym, ap, ◌∙◌, subst, arith}
 use Rattle.std.specs.List.{list_any}
 use Rattle.gem_tables.specs.Table.{update_at}
-use Rattle.carrier.specs.Carriers.{has_name, carrier_named, is_known, place_from, place_of, change_named, without, created, with_created, are_named_apart, AreCarriers, most_carriers}
+use Rattle.carrier.specs.Carriers.{has_name, carrier_named, carrier_numbered, change_numbered, is_known, place_from, place_of, change_named, without, created, with_created, are_named_apart, AreCarriers, most_carriers}
 use Rattle.carrier.specs.declared.carrier.Carrier.{Carrier}
-use Rattle.carrier.proofs.Names.{same_name, turned}
+use Rattle.carrier.proofs.Names.{same_name, own_name, turned}
 
 -- ---- truth values
 
@@ -232,24 +232,54 @@ without_none name (c ∷ cs) h =
     rw (parts.0, without_none name cs parts.1) refl
 
 -- one more carrier, behind the others
-known_more : (name other : List ℕ) (cs : List Carrier) → is_known name cs ≡ false → bytes_eq other name ≡ false → is_known name (cs ++ created other ∷ []) ≡ false
-known_more name other [] h e = rw e refl
-known_more name other (c ∷ cs) h e =
+known_more : (number : ℕ) (name other : List ℕ) (cs : List Carrier) → is_known name cs ≡ false → bytes_eq other name ≡ false → is_known name (cs ++ created number other ∷ []) ≡ false
+known_more number name other [] h e = rw e refl
+known_more number name other (c ∷ cs) h e =
     let parts = or_false (has_name name c) (is_known name cs) h in
-    rw (parts.0, known_more name other cs parts.1 e) refl
+    rw (parts.0, known_more number name other cs parts.1 e) refl
 
-apart_more : (name : List ℕ) (cs : List Carrier) → are_named_apart cs ≡ true → is_known name cs ≡ false → are_named_apart (with_created name cs) ≡ true
-apart_more name [] h e = refl
-apart_more name (c ∷ cs) h e =
+apart_more : (number : ℕ) (name : List ℕ) (cs : List Carrier) → are_named_apart cs ≡ true → is_known name cs ≡ false → are_named_apart (with_created number name cs) ≡ true
+apart_more number name [] h e = refl
+apart_more number name (c ∷ cs) h e =
     let parts = or_false (has_name name c) (is_known name cs) e in
     let other : bytes_eq name c.name ≡ false = turned name c.name ∙ parts.0 in
-    rw (known_more c.name name cs (first_apart c cs h) other, apart_more name cs (rest_apart c cs h) parts.1) refl
+    rw (known_more number c.name name cs (first_apart c cs h) other, apart_more number name cs (rest_apart c cs h) parts.1) refl
 
-length_more : (name : List ℕ) (cs : List Carrier) → length (with_created name cs) ≡ suc (length cs)
-length_more name [] = refl
-length_more name (c ∷ cs) = ap suc (length_more name cs)
+length_more : (number : ℕ) (name : List ℕ) (cs : List Carrier) → length (with_created number name cs) ≡ suc (length cs)
+length_more number name [] = refl
+length_more number name (c ∷ cs) = ap suc (length_more number name cs)
 
-pub carriers_more : (name : List ℕ) (cs : List Carrier) → AreCarriers cs → is_known name cs ≡ false → length cs < most_carriers → AreCarriers (with_created name cs)
-carriers_more name cs h e l =
-    let longer = length_more name cs in
-    record { apart = apart_more name cs h.apart e; few = omega arith }
+pub carriers_more : (number : ℕ) (name : List ℕ) (cs : List Carrier) → AreCarriers cs → is_known name cs ≡ false → length cs < most_carriers → AreCarriers (with_created number name cs)
+carriers_more number name cs h e l =
+    let longer = length_more number name cs in
+    record { apart = apart_more number name cs h.apart e; few = omega arith }
+
+-- ---- the carrier of a number
+
+-- one that is found is of a known name
+known_numbered : (n : ℕ) (name : List ℕ) (cs : List Carrier) (found : Carrier) → carrier_numbered n cs ≡ Some found → is_known name cs ≡ false → has_name name found ≡ false
+known_numbered n name [] found e new = absurd (cc)
+known_numbered n name (c ∷ cs) found e new = by_test (c.number == n) e (or_false (has_name name c) (is_known name cs) new) (known_numbered n name cs found) where
+  by_test : (b : Bool) → cond b (Some c) (carrier_numbered n cs) ≡ Some found → (has_name name c ≡ false) × (is_known name cs ≡ false) → (carrier_numbered n cs ≡ Some found → is_known name cs ≡ false → has_name name found ≡ false) → has_name name found ≡ false
+  by_test true f parts later = let same : c ≡ found = cc in subst (λ (d : Carrier). has_name name d ≡ false) same parts.0
+  by_test false f parts later = later f parts.1
+
+-- a change of the carrier that has the number is one of the carrier of its name
+pub replaced_numbered : (n : ℕ) (change : Carrier → Carrier) (cs : List Carrier) (found : Carrier) → are_named_apart cs ≡ true → carrier_numbered n cs ≡ Some found → change_named found.name (λ _. change found) cs ≡ change_numbered n change cs
+replaced_numbered n change [] found apart e = refl
+replaced_numbered n change (c ∷ cs) found apart e = by_test (c.number == n) refl e (replaced_numbered n change cs found (rest_apart c cs apart)) where
+  by_test : (b : Bool) → (c.number == n) ≡ b → cond b (Some c) (carrier_numbered n cs) ≡ Some found → (carrier_numbered n cs ≡ Some found → change_named found.name (λ _. change found) cs ≡ change_numbered n change cs) → change_named found.name (λ _. change found) (c ∷ cs) ≡ cond b (change c ∷ cs) (c ∷ change_numbered n change cs)
+  by_test true t f later =
+      let same : c ≡ found = cc in
+      let here = own_name c.name in
+      subst (λ (d : Carrier). change_named d.name (λ _. change d) (c ∷ cs) ≡ change c ∷ cs) same (rw (here, tail_stays c.name (λ _. change c) c cs apart here) refl)
+  by_test false t f later =
+      let other : has_name found.name c ≡ false = turned c.name found.name ∙ known_numbered n c.name cs found f (first_apart c cs apart) in
+      rw other (ap (λ (ds : List Carrier). c ∷ ds) (later f))
+
+pub change_unnumbered : (n : ℕ) (change : Carrier → Carrier) (cs : List Carrier) → carrier_numbered n cs ≡ None → change_numbered n change cs ≡ cs
+change_unnumbered n change [] e = refl
+change_unnumbered n change (c ∷ cs) e = by_test (c.number == n) e (change_unnumbered n change cs) where
+  by_test : (b : Bool) → cond b (Some c) (carrier_numbered n cs) ≡ None → (carrier_numbered n cs ≡ None → change_numbered n change cs ≡ cs) → cond b (change c ∷ cs) (c ∷ change_numbered n change cs) ≡ c ∷ cs
+  by_test true f later = absurd (cc)
+  by_test false f later = ap (λ (ds : List Carrier). c ∷ ds) (later f)

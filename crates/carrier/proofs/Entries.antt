@@ -91,18 +91,18 @@ kept_removed name es h = record {
 }
 
 -- the entry of a carrier as it is created
-abbrev pub new_entry : List ℕ → Key × Carrier
-new_entry name = (record { name = name }, created name)
+abbrev pub new_entry : ℕ → List ℕ → Key × Carrier
+new_entry number name = (record { name = name }, created number name)
 
-pub kept_more : (name : List ℕ) (es : List (Key × Carrier)) → AreKept es → is_known name (carriers_of es) ≡ false → length (carriers_of es) < most_carriers → AreKept (es ++ new_entry name ∷ [])
-kept_more name es h e l = record {
-  keyed = keyed_more es (new_entry name) h.keyed refl;
-  carriers = subst AreCarriers (sym (more_is es (new_entry name))) (carriers_more name (carriers_of es) h.carriers e l);
+pub kept_more : (number : ℕ) (name : List ℕ) (es : List (Key × Carrier)) → AreKept es → is_known name (carriers_of es) ≡ false → length (carriers_of es) < most_carriers → AreKept (es ++ new_entry number name ∷ [])
+kept_more number name es h e l = record {
+  keyed = keyed_more es (new_entry number name) h.keyed refl;
+  carriers = subst AreCarriers (sym (more_is es (new_entry number name))) (carriers_more number name (carriers_of es) h.carriers e l);
 }
 
 -- a key that isn't there goes last
-pub inserted : {S : Type 0} (m : IndexMap Key Carrier S) (name text : List ℕ) (carrier : Carrier) → AllByRecursion IsKeyed m.entries → is_known name (carriers_of m.entries) ≡ false → text ≡ name → carrier ≡ created name → insert_entry (λ (x y : Key). bytes_eq x.name y.name) m.entries (record { name = text }) carrier ≡ m.entries ++ new_entry name ∷ []
-inserted m name text carrier h e t is =
+pub inserted : {S : Type 0} (m : IndexMap Key Carrier S) (number : ℕ) (name text : List ℕ) (carrier : Carrier) → AllByRecursion IsKeyed m.entries → is_known name (carriers_of m.entries) ≡ false → text ≡ name → carrier ≡ created number name → insert_entry (λ (x y : Key). bytes_eq x.name y.name) m.entries (record { name = text }) carrier ≡ m.entries ++ new_entry number name ∷ []
+inserted m number name text carrier h e t is =
     let none : lookup (is_key text) m.entries ≡ None = lookup_is text m.entries h ∙ unknown_none text (carriers_of m.entries) (subst (λ (n : List ℕ). is_known n (carriers_of m.entries) ≡ false) (sym t) e) in
     insert_entry-new (λ (x y : Key). bytes_eq x.name y.name) m (record { name = text }) carrier none
     ∙ ap (λ (n : List ℕ). m.entries ++ (record { name = n }, carrier) ∷ []) t

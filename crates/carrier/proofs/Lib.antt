@@ -2,3 +2,4 @@ pub mod Names
 pub mod Apart
 pub mod Entries
 pub mod Absent
+pub mod Scans

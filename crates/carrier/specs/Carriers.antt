@@ -2,7 +2,8 @@
 use Rattle.std.specs.Prelude.{◌≡◌, ℕ, ◌+◌, ◌==◌, ◌≤◌, Bool, true, false, not, ◌&&◌, ◌||◌, if◌then◌else◌, List, [], ◌∷◌, ◌++◌, length, map, find, Option, Some, None}
 use Rattle.std.specs.List.{list_any, list_all, filter}
 use Rattle.std.specs.Str.{bytes_eq}
-use Rattle.carrier.specs.Record.{id_number, map_number, access_number, first_record, carrier_starts, carrier_fired, is_id_failed, is_map_failed, is_done}
+use Rattle.carrier.specs.Tables.{id_number, map_number, access_number}
+use Rattle.carrier.specs.Record.{first_record, carrier_starts, carrier_fired, is_id_failed, is_map_failed, is_done}
 use Rattle.carrier.specs.declared.record.CarrierRecord.{CarrierRecord}
 use Rattle.carrier.specs.declared.carrier.Carrier.{Carrier}
 use Rattle.carrier.specs.declared.carrier.CarrierView.{CarrierView}
@@ -19,6 +20,15 @@ carrier_named name carriers = find (has_name name) carriers
 -- the carrier of a name is known
 abbrev pub is_known : List ℕ → List Carrier → Bool
 is_known name carriers = list_any (has_name name) carriers
+
+-- the carrier of a number of creation
+abbrev pub carrier_numbered : ℕ → List Carrier → Option Carrier
+carrier_numbered n carriers = find (λ c. c.number == n) carriers
+
+-- a change of the carrier of a number; where there is none, nothing changes
+abbrev pub change_numbered : ℕ → (Carrier → Carrier) → List Carrier → List Carrier
+change_numbered n change [] = []
+change_numbered n change (c ∷ cs) = if c.number == n then change c ∷ cs else c ∷ change_numbered n change cs
 
 -- the place of the first carrier of a name, of which the given one has this place
 abbrev pub place_from : ℕ → List ℕ → List Carrier → Option ℕ
@@ -41,18 +51,22 @@ without name carriers = filter (λ c. not (has_name name c)) carriers
 abbrev pub no_map : List ℕ
 no_map = 0 ∷ 0 ∷ 0 ∷ 0 ∷ 0 ∷ 0 ∷ 0 ∷ 0 ∷ 0 ∷ 0 ∷ 0 ∷ 0 ∷ 0 ∷ 0 ∷ 0 ∷ 0 ∷ 0 ∷ 0 ∷ 0 ∷ 0 ∷ 0 ∷ 0 ∷ 0 ∷ 0 ∷ 0 ∷ []
 
--- a carrier that is created: nothing came of it yet, and no port is its
-abbrev pub created : List ℕ → Carrier
-created name =
-    record { name = name; states = first_record; is_read = false; map = no_map; host_map = None; port = None; present = false; bound = false }
+-- a carrier that is created with this number: nothing came of it yet, and no port is its
+abbrev pub created : ℕ → List ℕ → Carrier
+created number name =
+    record { number = number; name = name; states = first_record; is_read = false; map = no_map; host_map = None; port = None; present = false; bound = false }
 
 -- it is behind the others
-abbrev pub with_created : List ℕ → List Carrier → List Carrier
-with_created name carriers = carriers ++ created name ∷ []
+abbrev pub with_created : ℕ → List ℕ → List Carrier → List Carrier
+with_created number name carriers = carriers ++ created number name ∷ []
 
--- the carrier of a name, made where it isn't known
-abbrev pub found_or_created : List ℕ → List Carrier → List Carrier
-found_or_created name carriers = if is_known name carriers then carriers else with_created name carriers
+-- the carrier of a name, made with this number where it isn't known
+abbrev pub found_or_created : ℕ → List ℕ → List Carrier → List Carrier
+found_or_created number name carriers = if is_known name carriers then carriers else with_created number name carriers
+
+-- the number that the next carrier gets behind that
+abbrev pub next_number : ℕ → List ℕ → List Carrier → ℕ
+next_number number name carriers = if is_known name carriers then number else number + 1
 
 -- the states of a carrier change by a row
 abbrev pub fires_row : ℕ → ℕ → Carrier → Carrier

@@ -1,6 +1,38 @@
--- The tables of a carrier (after SEMI E87, carrier states; this tool's profile, tables 8 to 10).
+-- The tables of a carrier (after SEMI E87, carrier states; this tool's profile, tables 8 to 10). What a row wants besides the
+-- state of its carrier is told here by a word, and is said of the carrier in Wants.antt.
 use Rattle.std.specs.Prelude.{ℕ, List, [], ◌∷◌}
-use Rattle.gem_tables.specs.Table.{Line, line}
+use Rattle.gem_tables.specs.Table.{Row, by_input, by_itself, by_creation}
+use Rattle.carrier.specs.declared.record.IdState.{IdState}
+use Rattle.carrier.specs.declared.record.IdState.TheVariants as id
+use Rattle.carrier.specs.declared.record.MapState.{MapState}
+use Rattle.carrier.specs.declared.record.MapState.TheVariants as slots
+use Rattle.carrier.specs.declared.record.Accessing.{Accessing}
+use Rattle.carrier.specs.declared.record.Accessing.TheVariants as access
+
+-- what a row wants besides the state of its carrier
+pub data CarrierWant : Type 0 where
+  nothing_more : CarrierWant
+  -- the carrier is present
+  present : CarrierWant
+  -- it is present and bound to its port, and its id was read
+  bound_and_read : CarrierWant
+  -- it is present, and its id is VERIFIED
+  id_verified : CarrierWant
+  -- besides, its map is usable, and the one that the host gave
+  map_of_the_host : CarrierWant
+  -- a substrate of it is outside its slot
+  substrate_outside : CarrierWant
+  -- no process job names it, and each of its substrates is in its slot or removed; a job of it was not stopped, or was
+  quiet : CarrierWant
+  quiet_and_stopped : CarrierWant
+
+-- what a row does besides the state of its carrier
+pub data CarrierEffect : Type 0 where
+  no_more : CarrierEffect
+
+-- a row of a table of a carrier over these states
+abbrev pub CarrierRow : Type 0 → Type 0
+CarrierRow S = Row S CarrierWant CarrierEffect
 
 -- ---- carrier id
 --
@@ -15,30 +47,23 @@ use Rattle.gem_tables.specs.Table.{Line, line}
 --                +-------------+                          +------------------------+
 
 -- the numbers of the states, as the tables print them (after SEMI E87)
-abbrev pub id_not_read : ℕ
-id_not_read = 0
+abbrev pub id_number : IdState → ℕ
+id_number id.NotRead = 0
+id_number id.WaitingForHost = 1
+id_number id.Verified = 2
+id_number id.VerificationFailed = 3
 
-abbrev pub id_waiting : ℕ
-id_waiting = 1
-
-abbrev pub id_verified : ℕ
-id_verified = 2
-
-abbrev pub id_failed : ℕ
-id_failed = 3
-
--- Table 8 but for row 1, which creates the carrier and starts at no state. Rows 2 and 3 fire by themselves, where the carrier
--- is present; the others are fired by inputs.
-abbrev pub id_table : List Line
+-- Table 8.
+abbrev pub id_table : List (CarrierRow IdState)
 id_table =
-    -- by itself: it is bound to the port, and its id was read
-    line 2 (id_not_read ∷ []) id_verified
-    -- by itself, otherwise
-    ∷ line 3 (id_not_read ∷ []) id_waiting
+    by_creation 1 nothing_more id.NotRead no_more
+    ∷ by_itself 2 (id.NotRead ∷ []) bound_and_read id.Verified no_more
+    -- otherwise
+    ∷ by_itself 3 (id.NotRead ∷ []) present id.WaitingForHost no_more
     -- ProceedWithCarrier
-    ∷ line 4 (id_waiting ∷ []) id_verified
+    ∷ by_input 4 (id.WaitingForHost ∷ []) nothing_more id.Verified no_more
     -- CancelCarrier
-    ∷ line 5 (id_waiting ∷ []) id_failed
+    ∷ by_input 5 (id.WaitingForHost ∷ []) nothing_more id.VerificationFailed no_more
     ∷ []
 
 -- ---- slot map
@@ -53,30 +78,22 @@ id_table =
 --   | VERIFIED |                            | VERIFICATION FAILED |
 --   +----------+                            +---------------------+
 
-abbrev pub map_not_read : ℕ
-map_not_read = 0
+abbrev pub map_number : MapState → ℕ
+map_number slots.NotRead = 0
+map_number slots.WaitingForHost = 1
+map_number slots.Verified = 2
+map_number slots.VerificationFailed = 3
 
-abbrev pub map_waiting : ℕ
-map_waiting = 1
-
-abbrev pub map_verified : ℕ
-map_verified = 2
-
-abbrev pub map_failed : ℕ
-map_failed = 3
-
--- Table 9. Rows 1 and 2 fire by themselves, where the carrier is present and its id is VERIFIED; the others are fired by
--- inputs.
-abbrev pub map_table : List Line
+-- Table 9.
+abbrev pub map_table : List (CarrierRow MapState)
 map_table =
-    -- by itself: the map is usable, and the one that the host gave
-    line 1 (map_not_read ∷ []) map_verified
-    -- by itself, otherwise
-    ∷ line 2 (map_not_read ∷ []) map_waiting
+    by_itself 1 (slots.NotRead ∷ []) map_of_the_host slots.Verified no_more
+    -- otherwise
+    ∷ by_itself 2 (slots.NotRead ∷ []) id_verified slots.WaitingForHost no_more
     -- ProceedWithCarrier
-    ∷ line 3 (map_waiting ∷ []) map_verified
+    ∷ by_input 3 (slots.WaitingForHost ∷ []) nothing_more slots.Verified no_more
     -- CancelCarrier
-    ∷ line 4 (map_waiting ∷ []) map_failed
+    ∷ by_input 4 (slots.WaitingForHost ∷ []) nothing_more slots.VerificationFailed no_more
     ∷ []
 
 -- ---- accessing
@@ -90,27 +107,18 @@ map_table =
 --          +------> | CARRIER STOPPED | <----+
 --                   +-----------------+
 
-abbrev pub not_accessed : ℕ
-not_accessed = 0
+abbrev pub access_number : Accessing → ℕ
+access_number access.NotAccessed = 0
+access_number access.InAccess = 1
+access_number access.Complete = 2
+access_number access.Stopped = 3
 
-abbrev pub in_access : ℕ
-in_access = 1
-
-abbrev pub carrier_complete : ℕ
-carrier_complete = 2
-
-abbrev pub carrier_stopped : ℕ
-carrier_stopped = 3
-
--- Table 10. Row 4 is fired by an input; the others fire by themselves, by where the carrier's substrates are.
-abbrev pub accessing_table : List Line
+-- Table 10. While no substrates are built, rows 1 to 3 find nothing that they want.
+abbrev pub accessing_table : List (CarrierRow Accessing)
 accessing_table =
-    -- by itself: a substrate of it is outside its slot
-    line 1 (not_accessed ∷ []) in_access
-    -- by itself: all is done
-    ∷ line 2 (in_access ∷ []) carrier_complete
-    -- by itself: all is done, and a job of it was stopped
-    ∷ line 3 (in_access ∷ []) carrier_stopped
+    by_itself 1 (access.NotAccessed ∷ []) substrate_outside access.InAccess no_more
+    ∷ by_itself 2 (access.InAccess ∷ []) quiet access.Complete no_more
+    ∷ by_itself 3 (access.InAccess ∷ []) quiet_and_stopped access.Stopped no_more
     -- CancelCarrier
-    ∷ line 4 (not_accessed ∷ []) carrier_stopped
+    ∷ by_input 4 (access.NotAccessed ∷ []) nothing_more access.Stopped no_more
     ∷ []

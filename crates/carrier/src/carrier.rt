@@ -6,10 +6,11 @@ ghost use Rattle.carrier.specs.Carriers.{created, view_of, is_usable, is_usable_
 use crate::record::CarrierRecord;
 use gem_ids::{CarrierId, PortNo};
 
-/// A carrier: its name and states; whether its id was read, and the map of its slots, where it came; the map that the host
+/// A carrier: its number of creation, which is its own for good; its name and states; whether its id was read, and the map of its slots, where it came; the map that the host
 /// gave; the port that it is at or bound to; whether it is present there, and whether it is bound there.
 #[derive(Clone, Copy, Debug, PartialEq, Eq)]
 pub struct Carrier {
+    pub number: u64,
     pub name: CarrierId,
     pub states: CarrierRecord,
     pub is_read: bool,
@@ -34,12 +35,13 @@ pub struct CarrierView {
 }
 
 impl Carrier {
-    /// A carrier as it is created: nothing came of it yet, its map is 25 codes 0, undefined, and no port is its (this tool's
+    /// A carrier as it is created, with its number: nothing came of it yet, its map is 25 codes 0, undefined, and no port is its (this tool's
     /// profile, tables 8 to 10).
-    pub fn new(name: CarrierId) -> Carrier
-        ensures { result ≡ created name }
+    pub fn new(number: u64, name: CarrierId) -> Carrier
+        ensures { result ≡ created number name }
     {
         Carrier {
+            number,
             name,
             states: CarrierRecord::new(),
             is_read: false,

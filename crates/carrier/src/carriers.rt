@@ -2,7 +2,8 @@
 
 ghost use Rattle.std.specs.Prelude.{◌≡◌, ◌≤◌, ◌<◌, false, [], length, slice_get, option_map, Some, None, Err, IfOk, IfErr, IfSome};
 ghost use Rattle.gem_tables.specs.Table.{update_at};
-ghost use Rattle.carrier.specs.Carriers.{carrier_named, is_known, place_of, change_named, without, with_created, fires_row, starts_row, came_to, directed_to, binds, told_map, read_map, is_absent_at, absent_count, most_carriers, view_of, AreCarriers};
+ghost use Rattle.load_port.specs.Caack.{caack_number};
+ghost use Rattle.carrier.specs.Carriers.{carrier_named, carrier_numbered, is_known, place_of, change_named, change_numbered, without, with_created, fires_row, starts_row, came_to, directed_to, binds, told_map, read_map, is_absent_at, absent_count, most_carriers, view_of, AreCarriers};
 ghost use Rattle.carrier.specs.Creating.{create_fault};
 ghost use Rattle.carrier.specs.Verdict.{is_carrier_name, view_numbered, bind_carrier_code, bind_code, cancel_bind_code, proceed_code, can_be_stopped, cancel_code, notify_code, cancel_notify_code, word_code, carrier_caack};
 ghost use Rattle.carrier.specs.declared.fault.CarrierFault.{CarrierFault};
@@ -14,7 +15,7 @@ use crate::fault::CarrierFault;
 use crate::key::Key;
 use gem_ids::{CarrierId, PortNo, Text80};
 use indexmap::IndexMap;
-use load_port::PortView;
+use load_port::{Caack, PortView};
 use std::alloc::{AllocError, Global};
 use std::marker::Model;
 
@@ -82,6 +83,22 @@ impl Carriers {
         self.by_name.get(&Key { name }).copied()
     }
 
+    /// The carrier of a number of creation. `None` exactly where none of that number is known.
+    pub fn numbered(&self, number: u64) -> Option<Carrier>
+        ensures value { result ≡ carrier_numbered number self.now }
+        ensures carriers { AreCarriers self.now }
+    {
+        let _ = &self.by_name;
+        for place in 0..self.len() {
+            if let Some(carrier) = self.get(place) {
+                if carrier.number == number {
+                    return Some(carrier);
+                }
+            }
+        }
+        None
+    }
+
     /// The place of the carrier of a name, counted from 0. `None` exactly where none of that name is known.
     pub fn place_of(&self, name: Text80) -> Option<usize>
         ensures value { result ≡ place_of name self.now }
@@ -109,25 +126,33 @@ impl Carriers {
 
     // ---- what is asked of them
 
-    /// What the host is answered of an action on a carrier by the states before it, CAACK (SEMI E87, S3F18; this tool's
-    /// profile, S3F17): 0 where it can be done, 1 for an unknown action, 3 for a faulty parameter, 2 where it can't be done
-    /// now, 5 where the states forbid it. An unknown action is told first, then a faulty attribute, a name that is none of a
-    /// carrier, and a port that isn't there. It is handed what is told of the ports, in their order, and whether a process
-    /// job names the carrier. Changes nothing and takes no memory.
+    /// What the host is answered of an action on a carrier by the states before it, CAACK, by its number (SEMI E87, S3F18; this
+    /// tool's profile, S3F17): that of `code`. Changes nothing and takes no memory.
     pub fn verdict(&self, ports: &[PortView], a: &CarrierAction, job_names_it: bool) -> u8
+        ensures { result ≡ caack_number (carrier_caack self.now ports.now a.now job_names_it) }
+    {
+        self.code(ports, a, job_names_it).number()
+    }
+
+    /// What the host is answered of an action on a carrier by the states before it (SEMI E87, S3F18; this tool's profile,
+    /// S3F17): that it is done where it can be, unknown for an unknown action, faulty for a faulty parameter, not now where it
+    /// can't be done now, impossible where the states forbid it. An unknown action is told first, then a faulty attribute, a
+    /// name that is none of a carrier, and a port that isn't there. It is handed what is told of the ports, in their order, and
+    /// whether a process job names the carrier. Changes nothing and takes no memory.
+    pub fn code(&self, ports: &[PortView], a: &CarrierAction, job_names_it: bool) -> Caack
         ensures { result ≡ carrier_caack self.now ports.now a.now job_names_it }
     {
         if matches!(a.word, CarrierWord::Unknown) {
-            1
+            Caack::Unknown
         } else if a.bad_attr || !is_carrier_name(a.id) || ports.len() < a.port as usize {
-            3
+            Caack::Faulty
         } else {
             self.word_code(ports, a, job_names_it)
         }
     }
 
     // What an action is answered whose parameters are well formed.
-    fn word_code(&self, ports: &[PortView], a: &CarrierAction, job_names_it: bool) -> u8
+    fn word_code(&self, ports: &[PortView], a: &CarrierAction, job_names_it: bool) -> Caack
         ensures { result ≡ word_code self.now ports.now a.now job_names_it }
     {
         let known = self.named(a.id);
@@ -138,21 +163,21 @@ impl Carriers {
             CarrierWord::Cancel => cancel_code(&known, job_names_it),
             CarrierWord::Notify => self.notify_code(&known),
             CarrierWord::CancelNotify => cancel_notify_code(&known),
-            CarrierWord::Unknown => 1,
+            CarrierWord::Unknown => Caack::Unknown,
         }
     }
 
     // What a Bind of this carrier, or of a new one, to this port is answered.
-    fn bind_code(&self, known: &Option<Carrier>, port: Option<PortView>) -> u8
+    fn bind_code(&self, known: &Option<Carrier>, port: Option<PortView>) -> Caack
         ensures { result ≡ bind_code known.now self.now port }
     {
         match port {
-            None => 3,
+            None => Caack::Faulty,
             Some(p) => {
                 if !p.in_service {
-                    2
+                    Caack::NotNow
                 } else if p.carrier.is_some() || p.present {
-                    5
+                    Caack::Impossible
                 } else {
                     self.bind_carrier_code(known)
                 }
@@ -161,7 +186,7 @@ impl Carriers {
     }
 
     // What a Bind to a port that can take a carrier is answered.
-    fn bind_carrier_code(&self, known: &Option<Carrier>) -> u8
+    fn bind_carrier_code(&self, known: &Option<Carrier>) -> Caack
         ensures { result ≡ bind_carrier_code known.now self.now }
     {
         match known {
@@ -171,23 +196,23 @@ impl Carriers {
     }
 
     // What a CarrierNotification is answered.
-    fn notify_code(&self, known: &Option<Carrier>) -> u8
+    fn notify_code(&self, known: &Option<Carrier>) -> Caack
         ensures { result ≡ notify_code known.now self.now }
     {
         match known {
             None => self.room_code(),
-            Some(_) => 5,
+            Some(_) => Caack::Impossible,
         }
     }
 
     // What is answered that makes one more carrier known.
-    fn room_code(&self) -> u8
+    fn room_code(&self) -> Caack
         ensures { result ≡ bind_carrier_code None self.now }
     {
         if self.absent_count() < MOST_ABSENT {
-            0
+            Caack::Done
         } else {
-            2
+            Caack::NotNow
         }
     }
 
@@ -216,11 +241,12 @@ impl Carriers {
 
     // ---- what happens to them
 
-    /// A carrier of this name is known from now on, behind the others. `NameTaken` comes exactly where one of the name is
+    /// A carrier of this name is known from now on, behind the others, with its number of creation. That no other has the
+    /// number is for the caller. `NameTaken` comes exactly where one of the name is
     /// known, and else `NoSpace(16)` exactly where 16 carriers are known; `NoMemory` comes for want of memory alone. Any
     /// fault changes nothing.
-    pub fn create(&mut self, id: CarrierId) -> Result<(), CarrierFault>
-        ensures created { IfOk result (λ _. self.new ≡ with_created id self.old) }
+    pub fn create(&mut self, number: u64, id: CarrierId) -> Result<(), CarrierFault>
+        ensures created { IfOk result (λ _. self.new ≡ with_created number id self.old) }
         ensures unchanged { IfErr result (λ _. self.new ≡ self.old) }
         ensures refused { (fault : CarrierFault) → create_fault id self.old ≡ Some fault → result ≡ Err fault }
         ensures memory { create_fault id self.old ≡ None → IfErr result (λ fault. fault ≡ NoMemory) }
@@ -231,19 +257,19 @@ impl Carriers {
         if self.len() >= MOST_CARRIERS {
             return Err(CarrierFault::NoSpace(MOST_CARRIERS as u32));
         }
-        self.push(id)
+        self.push(number, id)
     }
 
     // A carrier of a name that isn't known comes behind the others, which are fewer than 16.
-    fn push(&mut self, id: CarrierId) -> Result<(), CarrierFault>
+    fn push(&mut self, number: u64, id: CarrierId) -> Result<(), CarrierFault>
         requires unknown { is_known id self.old ≡ false }
         requires few { length self.old < most_carriers }
-        ensures created { IfOk result (λ _. self.new ≡ with_created id self.old) }
+        ensures created { IfOk result (λ _. self.new ≡ with_created number id self.old) }
         ensures unchanged { IfErr result (λ _. self.new ≡ self.old) }
         ensures memory { IfErr result (λ fault. fault ≡ NoMemory) }
     {
         let key = Key { name: id.text() };
-        match self.by_name.insert(key, Carrier::new(id)) {
+        match self.by_name.insert(key, Carrier::new(number, id)) {
             Ok(_) => Ok(()),
             Err(_) => Err(CarrierFault::NoMemory),
         }
@@ -276,19 +302,19 @@ impl Carriers {
         }
     }
 
-    /// Fires a row of table 8, 9 or 10 at the carrier of a place, counted from 0: true exactly where there is a carrier of
-    /// that place at whose states the row starts. The carrier's state in the row's table is then the row's end, and all else
+    /// Fires a row of table 8, 9 or 10 at the carrier of a number of creation: true exactly where there is a carrier of that
+    /// number at whose states the row starts. The carrier's state in the row's table is then the row's end, and all else
     /// stays; false changes nothing. What a row wants besides the states is for the caller.
-    pub fn fire(&mut self, place: usize, table: u8, row: u8) -> bool
-        ensures fires { result ≡ starts_row table row (slice_get self.old place) }
-        ensures after { self.new ≡ update_at place (fires_row table row) self.old }
+    pub fn fire(&mut self, number: u64, table: u8, row: u8) -> bool
+        ensures fires { result ≡ starts_row table row (carrier_numbered number self.old) }
+        ensures after { self.new ≡ change_numbered number (fires_row table row) self.old }
     {
-        match self.get(place) {
+        match self.numbered(number) {
             None => false,
             Some(carrier) => {
                 let mut changed = carrier;
                 let fires = changed.states.fire(table, row);
-                self.put(place, changed);
+                self.replace(changed);
                 fires
             }
         }
@@ -375,66 +401,70 @@ fn view_numbered(number: u8, ports: &[PortView]) -> Option<PortView>
 }
 
 // What is answered that wants a carrier neither present nor bound.
-fn free_code(carrier: &Carrier) -> u8
+fn free_code(carrier: &Carrier) -> Caack
     ensures { result ≡ cancel_notify_code (Some carrier.now) }
 {
     if carrier.present || carrier.bound {
-        5
+        Caack::Impossible
     } else {
-        0
+        Caack::Done
     }
 }
 
 // What a CancelBind with this port is answered.
-fn cancel_bind_code(known: &Option<Carrier>, port: u8) -> u8
+fn cancel_bind_code(known: &Option<Carrier>, port: u8) -> Caack
     ensures { result ≡ cancel_bind_code known.now port }
 {
     match known {
-        None => 3,
+        None => Caack::Faulty,
         Some(carrier) => {
             if !carrier.bound || carrier.present {
-                5
+                Caack::Impossible
             } else if port == 0 || carrier.is_at(PortNo(port)) {
-                0
+                Caack::Done
             } else {
-                3
+                Caack::Faulty
             }
         }
     }
 }
 
 // What a ProceedWithCarrier is answered.
-fn proceed_code(known: &Option<Carrier>) -> u8
+fn proceed_code(known: &Option<Carrier>) -> Caack
     ensures { result ≡ proceed_code known.now }
 {
     match known {
-        None => 3,
+        None => Caack::Faulty,
         Some(carrier) => {
             if carrier.states.id.is_waiting() {
-                0
+                Caack::Done
             } else if carrier.states.map.is_waiting() {
-                if carrier.is_usable() { 0 } else { 3 }
+                if carrier.is_usable() {
+                    Caack::Done
+                } else {
+                    Caack::Faulty
+                }
             } else {
-                5
+                Caack::Impossible
             }
         }
     }
 }
 
 // What a CancelCarrier is answered.
-fn cancel_code(known: &Option<Carrier>, job_names_it: bool) -> u8
+fn cancel_code(known: &Option<Carrier>, job_names_it: bool) -> Caack
     ensures { result ≡ cancel_code known.now job_names_it }
 {
     match known {
-        None => 3,
+        None => Caack::Faulty,
         Some(carrier) => {
             if carrier.states.id.is_waiting()
                 || carrier.states.map.is_waiting()
                 || can_be_stopped(carrier, job_names_it)
             {
-                0
+                Caack::Done
             } else {
-                5
+                Caack::Impossible
             }
         }
     }
@@ -448,11 +478,11 @@ fn can_be_stopped(carrier: &Carrier, job_names_it: bool) -> bool
 }
 
 // What a CancelCarrierNotification is answered.
-fn cancel_notify_code(known: &Option<Carrier>) -> u8
+fn cancel_notify_code(known: &Option<Carrier>) -> Caack
     ensures { result ≡ cancel_notify_code known.now }
 {
     match known {
-        None => 3,
+        None => Caack::Faulty,
         Some(carrier) => free_code(carrier),
     }
 }

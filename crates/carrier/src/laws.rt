@@ -1,9 +1,25 @@
-//! Laws of the carriers, for proofs to cite. Each function is empty: what it ensures holds of the definitions.
+//! Laws of the carriers, for proofs to cite. What a function ensures that is empty holds of the definitions.
 
 ghost use Rattle.std.specs.Prelude.{◌≡◌, ◌<◌, ℕ, List, length, Some, slice_get, true};
 ghost use Rattle.gem_tables.specs.Table.{update_at};
-ghost use Rattle.carrier.specs.Carriers.{carrier_named, place_of, change_named, are_named_apart};
+ghost use Rattle.carrier.specs.Carriers.{carrier_named, place_of, change_named, are_named_apart, most_carriers, most_absent};
 ghost use Rattle.carrier.specs.declared.carrier.Carrier.{Carrier};
+
+use crate::carriers::{MOST_ABSENT, MOST_CARRIERS};
+
+/// The most carriers that are known: the constant is that of the definitions.
+pub fn the_most_carriers_are_those_of_the_profile() -> usize
+    ensures { result ≡ most_carriers }
+{
+    MOST_CARRIERS
+}
+
+/// The most of them that aren't present: the constant is that of the definitions.
+pub fn the_most_absent_are_those_of_the_profile() -> usize
+    ensures { result ≡ most_absent }
+{
+    MOST_ABSENT
+}
 
 /// The place of a name is that of the carrier of the name; and where each name is that of one carrier, a change of the
 /// carrier of the name is one at its place.

@@ -1,10 +1,10 @@
 //! The states of a carrier (after SEMI E87, carrier states; tables 8 to 10).
 
 ghost use Rattle.std.specs.Prelude.{◌≡◌, false};
-ghost use Rattle.gem_tables.specs.Table.{starts};
-ghost use Rattle.carrier.specs.Tables.{id_table, map_table, accessing_table};
+ghost use Rattle.gem_tables.specs.Table.{starts, after};
+ghost use Rattle.carrier.specs.Tables.{id_table, id_number, map_table, map_number, accessing_table, access_number};
 ghost use Rattle.carrier.specs.Carriers.{is_finished};
-ghost use Rattle.carrier.specs.Record.{id_number, map_number, access_number, id_fired, map_fired, access_fired, first_record, carrier_starts, carrier_fired, is_id_waiting, is_id_failed, is_map_waiting, is_map_verified, is_map_failed, is_not_accessed, is_done};
+ghost use Rattle.carrier.specs.Record.{first_record, carrier_starts, carrier_fired, is_id_waiting, is_id_failed, is_map_waiting, is_map_verified, is_map_failed, is_not_accessed, is_done};
 
 /// The states of a carrier's id: ID NOT READ, WAITING FOR HOST, ID VERIFIED and ID VERIFICATION FAILED.
 #[derive(Clone, Copy, Debug, PartialEq, Eq)]
@@ -70,8 +70,8 @@ impl IdState {
 
     // Fires a row of table 8.
     fn fire(&mut self, row: u8) -> bool
-        ensures fires { result ≡ starts id_table row (id_number self.old) }
-        ensures after { self.new ≡ id_fired row self.old }
+        ensures fires { result ≡ starts id_number id_table row self.old }
+        ensures after { self.new ≡ after id_number id_table row self.old }
     {
         let end = match (row, *self) {
             (2, IdState::NotRead) => IdState::Verified,
@@ -121,8 +121,8 @@ impl MapState {
 
     // Fires a row of table 9.
     fn fire(&mut self, row: u8) -> bool
-        ensures fires { result ≡ starts map_table row (map_number self.old) }
-        ensures after { self.new ≡ map_fired row self.old }
+        ensures fires { result ≡ starts map_number map_table row self.old }
+        ensures after { self.new ≡ after map_number map_table row self.old }
     {
         let end = match (row, *self) {
             (1, MapState::NotRead) => MapState::Verified,
@@ -165,8 +165,8 @@ impl Accessing {
 
     // Fires a row of table 10.
     fn fire(&mut self, row: u8) -> bool
-        ensures fires { result ≡ starts accessing_table row (access_number self.old) }
-        ensures after { self.new ≡ access_fired row self.old }
+        ensures fires { result ≡ starts access_number accessing_table row self.old }
+        ensures after { self.new ≡ after access_number accessing_table row self.old }
     {
         let end = match (row, *self) {
             (1, Accessing::NotAccessed) => Accessing::InAccess,

@@ -31,6 +31,7 @@ enum FirstPort {
 #[derive(Drop)]
 pub struct KnownCarriers {
     carriers: Carriers,
+    created: u64,
     port: FirstPort,
 }
 
@@ -39,6 +40,7 @@ impl KnownCarriers {
     pub fn new(alloc: Global) -> Result<KnownCarriers> {
         Ok(KnownCarriers {
             carriers: Carriers::new(alloc)?,
+            created: 0,
             port: FirstPort::Free,
         })
     }
@@ -50,7 +52,9 @@ impl Subject for KnownCarriers {
         let words = words.as_slice();
         match word(words, 0)? {
             "known" => {
-                self.carriers = filled(alloc, small(words, 1)?)?;
+                let count = small(words, 1)?;
+                self.carriers = filled(alloc, count)?;
+                self.created = count as u64;
                 nothing(alloc)
             }
             "port" => {
@@ -59,7 +63,8 @@ impl Subject for KnownCarriers {
             }
             "ask" => asked(alloc, &self.carriers, self.port, words),
             "compare" | "usable" => Ok(format!(in alloc; "{}", compared(words)?)?),
-            "create" | "fire" | "map" => changed(alloc, &mut self.carriers, words),
+            "create" => self.create(alloc, words),
+            "fire" | "map" => changed(alloc, &mut self.carriers, words),
             "len" | "place" | "name" | "finished" => told(alloc, &self.carriers, words),
             "view" | "carrier" => shown(alloc, &self.carriers, words),
             _ => {
@@ -70,11 +75,20 @@ impl Subject for KnownCarriers {
     }
 }
 
+impl KnownCarriers {
+    // A carrier is created with the next number; the answer.
+    fn create(&mut self, alloc: Global, words: &[&str]) -> Result<String> {
+        self.created = self.created.saturating_add(1);
+        let created = self.carriers.create(self.created, carrier(words, 1)?);
+        Ok(format!(in alloc; "{created:?}")?)
+    }
+}
+
 // So many carriers, named by their numbers from 0.
 fn filled(alloc: Global, count: u8) -> Result<Carriers> {
     let mut carriers = Carriers::new(alloc)?;
     for number in 0..count {
-        carriers.create(numbered(number)?)?;
+        carriers.create(number as u64 + 1, numbered(number)?)?;
     }
     Ok(carriers)
 }
@@ -110,7 +124,7 @@ fn view_of(port: FirstPort) -> Result<PortView> {
 
 // Whether the host's map is that of a carrier, or a map is usable; each stands as its 25 codes.
 fn compared(words: &[&str]) -> Result<bool> {
-    let mut carrier = Carrier::new(numbered(1)?);
+    let mut carrier = Carrier::new(1, numbered(1)?);
     carrier.map = codes(word(words, 1)?)?;
     if word(words, 0)? == "usable" {
         return Ok(carrier.is_usable());
@@ -155,22 +169,26 @@ fn name(word: &str) -> Result<Text80> {
     }
 }
 
-// What the carriers answer that may change: a carrier that is created, a row at a place, or a map that is read.
+// What the carriers answer that may change: a row at the carrier of a place, or a map that is read.
 fn changed(alloc: Global, carriers: &mut Carriers, words: &[&str]) -> Result<String> {
     match word(words, 0)? {
-        "create" => {
-            let created = carriers.create(carrier(words, 1)?);
-            Ok(format!(in alloc; "{created:?}")?)
-        }
         "fire" => {
-            let place = small(words, 1)?;
-            let fires = carriers.fire(place as usize, small(words, 2)?, small(words, 3)?);
+            let number = number_at(carriers, small(words, 1)?);
+            let fires = carriers.fire(number, small(words, 2)?, small(words, 3)?);
             Ok(format!(in alloc; "{fires}")?)
         }
         _ => {
             let read = carriers.map_read(carrier(words, 1)?, [small(words, 2)?; 25]);
             Ok(format!(in alloc; "{read}")?)
         }
+    }
+}
+
+// The number of the carrier at a place, 0 for none.
+fn number_at(carriers: &Carriers, place: u8) -> u64 {
+    match carriers.get(place as usize) {
+        Some(carrier) => carrier.number,
+        None => 0,
     }
 }
 

@@ -3,7 +3,7 @@ use Rattle.std.specs.Prelude.{ℕ, ◌+◌, if◌then◌else◌}
 use Rattle.hsms_frame.specs.declared.frame.Header.{Header}
 use Rattle.hsms_frame.specs.declared.frame.Arrival.{Arrival}
 use Rattle.gem_model.specs.State.{State}
-use Rattle.gem_model.specs.Verdict.{Verdict, Discarded, Stream9, Aborted, Answers, Taken, ShopTaken, verdict, header_of, wants_reply, stream_of, function_of}
+use Rattle.gem_model.specs.Verdict.{Verdict, Discarded, Stream9, Aborted, Answers, Taken, verdict, header_of, wants_reply, stream_of, function_of}
 use Rattle.core_host.specs.declared.data.HostAct.{HostAct}
 use Rattle.core_host.specs.declared.data.HostAct.TheVariants as act
 
@@ -20,7 +20,6 @@ act_of h (Stream9 function) = act.Stream9 function
 act_of h Aborted = reply_act h 0
 act_of h Answers = act.Silent
 act_of h (Taken m) = reply_act h (function_of h + 1)
-act_of h (ShopTaken m) = reply_act h (function_of h + 1)
 
 -- what a data message is answered, by the state before it
 abbrev pub host_act : State → Arrival → HostAct

@@ -1,29 +1,21 @@
 //! A data message of the host: what it is answered, and what it does.
 ghost use Rattle.std.specs.Prelude.{◌≡◌, ◌+◌, ◌≤◌, ◌<◌, ◌^◌, length, OnOk, IfOk};
-ghost use Rattle.secs_items.specs.Plain.{plain};
 ghost use Rattle.transactions.specs.Endings.{answered};
 ghost use Rattle.gem_replies.specs.Acknowledge.{accepts};
-ghost use Rattle.gem_primaries.specs.Few.{HasFewParts};
-ghost use Rattle.gem_replies.specs.Replies.{reply_body};
-ghost use Rattle.gem_replies.specs.Sendable.{HasSendableParts};
-ghost use Rattle.gem_model.specs.Fire.{fires, fire_listed};
-ghost use Rattle.gem_model.specs.Direct.{by_comm, establish_answer};
+ghost use Rattle.gem_model.specs.Direct.{attempt_answer, establish_answer};
 ghost use Rattle.gem_model.specs.Verdict.{item_of, stream_of, function_of};
 ghost use Rattle.gem_model.specs.Act.{replied, taken, closed_by, data_done};
 ghost use Rattle.core_host.specs.HostActs.{host_act, reply_act};
-ghost use Rattle.core_host.specs.Answered.{answered_rows};
 ghost use Rattle.host_requests.specs.Short.{IsShort};
+ghost use Rattle.host_requests.specs.Verdicts.{message_view, HasFew};
 
-use crate::remote::command_rows;
-use crate::replies::perform;
-use crate::shop::take_shop;
-use crate::spooling::unload;
+use crate::messages::{perform, reply_text};
 use crate::verdict::verdict_of;
-use core_state::{Plant, reply_text};
+use core_state::{Plant, by_comm};
 use gem_states::{CommTrigger, ControlTrigger};
-use host_requests::{Verdict, header_of, item_of, stream_of, wants_reply};
+use host_requests::{HostMsg, Verdict, header_of, item_of, stream_of, wants_reply};
 use hsms_frame::{Arrival, Bytes, Header};
-use msgs_gem::{GemMsg, GemReply, accepts_communication};
+use msgs_gem::accepts_communication;
 use std::alloc::{AllocError, Global};
 use transactions::What;
 
@@ -59,13 +51,12 @@ pub fn host(plant: &mut Plant, alloc: Global, arrival: &Arrival) -> Result<HostA
             close(plant, alloc, &header, arrival)?;
             Ok(HostAct::Silent)
         }
-        Verdict::Taken(message) => take_message(plant, alloc, &header, &message),
-        Verdict::ShopTaken(message) => take_shop(plant, alloc, &header, message),
+        Verdict::Taken(message) => take_message(plant, alloc, &header, message),
     }
 }
 
 /// A reply of this function waits for the writer, where one is wanted.
-pub fn answer(
+fn answer(
     plant: &mut Plant,
     alloc: Global,
     header: &Header,
@@ -84,65 +75,27 @@ pub fn answer(
     Ok(HostAct::Reply(stream, function))
 }
 
-/// A message is taken: its reply, what it writes, and its direct rows.
+/// A message is taken: what it writes, its reply, and then its direct rows.
 fn take_message(
     plant: &mut Plant,
     alloc: Global,
     header: &Header,
-    message: &GemMsg,
+    message: HostMsg,
 ) -> Result<HostAct, AllocError>
     requires next { function_of header.now < 255 }
-    requires few { HasFewParts message.now }
+    requires few { HasFew message }
     ensures act { IfOk result (λ act. act ≡ reply_act header.now (function_of header.now + 1)) }
-    ensures after { OnOk result (plant.new ≡ taken header.now message.now plant.old) }
+    ensures after { OnOk result (plant.new ≡ taken header.now (message_view message) plant.old) }
 {
-    let reply = perform(plant, alloc, message)?;
-    let act = reply_taken(plant, alloc, header, message, &reply)?;
-    Ok(act)
-}
-
-/// A message that wrote what it writes is answered by this reply, and then its direct rows fire.
-fn reply_taken(
-    plant: &mut Plant,
-    alloc: Global,
-    header: &Header,
-    message: &GemMsg,
-    reply: &GemReply,
-) -> Result<HostAct, AllocError>
-    requires next { function_of header.now < 255 }
-    requires sendable { HasSendableParts reply.now }
-    ensures act { IfOk result (λ act. act ≡ reply_act header.now (function_of header.now + 1)) }
-    ensures after { OnOk result (plant.new ≡ fires (answered_rows message.now reply.now) (replied header.now (function_of header.now + 1) (plain (reply_body reply.now)) plant.old)) }
-{
-    let text = reply_text(alloc, reply)?;
+    let done = perform(plant, alloc, message)?;
+    let text = reply_text(alloc, &done.reply)?;
     let act = answer(plant, alloc, header, header.byte3 + 1, text)?;
-    message_rows(plant, alloc, message, reply)?;
+    plant.fire_listed(alloc, done.rows.as_slice())?;
     Ok(act)
-}
-
-/// The direct rows of a message that was answered so.
-fn message_rows(
-    plant: &mut Plant,
-    alloc: Global,
-    message: &GemMsg,
-    reply: &GemReply,
-) -> Result<(), AllocError>
-    ensures { OnOk result (plant.new ≡ fires (answered_rows message.now reply.now) plant.old) }
-{
-    match message {
-        GemMsg::S1F13 => plant.by_comm(alloc, CommTrigger::HostS1F13),
-        GemMsg::S1F15 => plant.by_control(alloc, ControlTrigger::HostS1F15),
-        GemMsg::S1F17 => plant.by_control(alloc, ControlTrigger::HostS1F17),
-        GemMsg::S2F41(name, _) => command_rows(plant, alloc, *name, reply),
-        GemMsg::S6F23(rsdc) => {
-            unload(plant, *rsdc);
-            Ok(())
-        }
-        _ => Ok(()),
-    }
 }
 
 /// The transaction that a message answers is closed, and its rows fire. Without one nothing changes.
+#[tactic(auto, using(crate::proofs::Listed::comm_listed, crate::proofs::Listed::control_listed))]
 fn close(
     plant: &mut Plant,
     alloc: Global,
@@ -156,9 +109,14 @@ fn close(
         return Ok(());
     };
     match one.what {
-        What::Establish => establish_answered(plant, alloc, header, arrival),
-        What::Attempt if header.byte3 == 0 => plant.by_control(alloc, ControlTrigger::Failed),
-        What::Attempt => plant.by_control(alloc, ControlTrigger::HostS1F2),
+        What::Establish => {
+            let trigger = establish_answer(alloc, header, arrival)?;
+            plant.fire_listed(alloc, &[by_comm(trigger)])
+        }
+        What::Attempt => {
+            let row = plant.by_control(attempt_answer(header.byte3));
+            plant.fire_listed(alloc, &[row])
+        }
         What::Note(_) => {
             plant.answer_note();
             Ok(())
@@ -166,17 +124,15 @@ fn close(
     }
 }
 
-/// What an answer to the tool's S1F13 does.
-fn establish_answered(
-    plant: &mut Plant,
-    alloc: Global,
-    header: &Header,
-    arrival: &Arrival,
-) -> Result<(), AllocError>
-    ensures { OnOk result (plant.new ≡ fire_listed (by_comm (establish_answer (function_of header.now) (item_of arrival.now))) plant.old) }
+/// What an answer to the tool's S1F1 does: S1F2, and S1F0 by which it fails.
+fn attempt_answer(function: u8) -> ControlTrigger
+    ensures { result ≡ attempt_answer function }
 {
-    let trigger = establish_answer(alloc, header, arrival)?;
-    plant.by_comm(alloc, trigger)
+    if function == 0 {
+        ControlTrigger::Failed
+    } else {
+        ControlTrigger::HostS1F2
+    }
 }
 
 /// Whether the text of what arrived is that of an S1F14 with COMMACK 0.

@@ -3,14 +3,14 @@
 //!
 //! Each is one change of the `Plant` of `core_state`, by its header and its body, which `host_requests` reads. What the link
 //! table says of the header, the settling behind the message and the history are for `tool_core`. The verdict on a message
-//! is chosen in one place, `verdict.rt`, and each message that is taken has one arm in `replies.rt`.
+//! is chosen in one place, `verdict.rt`, and each message that is taken is one arm in `messages.rt` or `shop.rt`.
 //!
 //! Memory may run out; nothing is said of the plant after that. Begin with `host`.
 #![tactic(auto)]
 
 mod data;
+mod messages;
 mod remote;
-mod replies;
 mod shop;
 mod spooling;
 mod verdict;

@@ -1,11 +1,10 @@
-//! Which notes the host has spooled, and how it asks for them (SEMI E5, S2F43 and S6F23; SEMI E30, spooling).
+//! Which notes the host has spooled (SEMI E5, S2F43; SEMI E30, spooling).
 ghost use Rattle.std.specs.Prelude.{◌≡◌, map, OnOk, IfOk};
 ghost use Rattle.gem_primaries.specs.declared.primary.SpooledStream.{SpooledStream};
 ghost use Rattle.gem_replies.specs.declared.reply.GemReply.TheVariants as reply;
 ghost use Rattle.body_parts.specs.Functions.{AreFewFunctions};
 ghost use Rattle.gem_replies.specs.Sendable.{HasSendableParts};
-ghost use Rattle.gem_model.specs.Fire.{fire_listed};
-ghost use Rattle.gem_model.specs.Spooling.{refusals, rspack, spools, unload_rows};
+ghost use Rattle.gem_model.specs.Spooling.{refusals, rspack, spools};
 
 use core_state::Plant;
 use gem_ids::Listed;
@@ -34,15 +33,4 @@ pub fn spool_streams(
     }
     plant.set_spooled_kinds(kinds_of(entries));
     Ok(GemReply::S2F44(0, refusals))
-}
-
-/// The row of RSDC: by 0 the spooled notes are sent, and else they are dropped.
-pub fn unload(plant: &mut Plant, rsdc: u8)
-    ensures { plant.new ≡ fire_listed (unload_rows rsdc) plant.old }
-{
-    if rsdc == 0 {
-        plant.unload_spool(0);
-    } else {
-        plant.unload_spool(1);
-    }
 }

@@ -1,8 +1,8 @@
 -- Settling by automatic firings.
 use Rattle.std.proofs.Common.{◌≡◌, ◌<◌, true, false, Option, Some, None, is_some, refl, sym}
-use Rattle.gem_tables.specs.Table.{Firing}
+use Rattle.gem_tables.specs.declared.firing.Firing.{Firing}
 use Rattle.gem_model.specs.State.{State}
-use Rattle.gem_model.specs.Ready.{least}
+use Rattle.gem_model.specs.Machines.{least}
 use Rattle.gem_model.specs.Measure.{left}
 use Rattle.gem_model.specs.Settle.{settled}
 use Rattle.gem_model.proofs.Settling.{settled_none, settled_some, left_falls}

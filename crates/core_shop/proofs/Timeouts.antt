@@ -17,7 +17,8 @@ use Rattle.transactions.specs.Table.{without, taken_out}
 use Rattle.transactions.specs.Endings.{first_expired, is_first_expired}
 use Rattle.transactions.proofs.Laws.{found-shorter}
 use Rattle.gem_model.specs.State.{State}
-use Rattle.gem_model.specs.Fire.{fire, fires, row_starts}
+use Rattle.gem_model.specs.Fire.{fire, fires}
+use Rattle.gem_model.specs.Machines.{row_starts}
 use Rattle.gem_model.specs.Direct.{timeout_rows}
 use Rattle.gem_model.specs.Sending.{data_header, sends_stream9}
 use Rattle.gem_model.specs.Due.{Due, Timeout, expired, expired_from, timeouts, timed_out, all_done}

@@ -1,15 +1,16 @@
 //! What is due at a look at the clock.
-ghost use Rattle.std.specs.Prelude.{◌≡◌, OnOk, IfOk, true};
+ghost use Rattle.std.specs.Prelude.{◌≡◌, ◌∷◌, [], OnOk, IfOk, true};
 ghost use Rattle.gem_model.specs.Fire.{fires};
-ghost use Rattle.gem_model.specs.Direct.{timeout_rows};
+ghost use Rattle.gem_model.specs.Direct.{IsListed, timeout_rows};
 ghost use Rattle.gem_model.specs.Sending.{data_header, sends_stream9};
 ghost use Rattle.gem_model.specs.Due.{dues, timeouts, all_done, is_due};
 ghost use Rattle.gem_model.specs.Act.{session_ended};
 ghost use Rattle.gem_model.specs.Step.{ended_by, end_now};
 
-use core_state::{Plant, data_header};
+use core_state::{Plant, by_comm, data_header, note_fails};
 use gem_ids::Moment;
 use gem_states::{CommTrigger, ControlTrigger};
+use gem_tables::Firing;
 use hsms_link::{LinkDue, has_come};
 use std::alloc::{AllocError, Global};
 use tool_events::{SessionCause, SessionEnd};
@@ -41,13 +42,19 @@ fn time_out(plant: &mut Plant, alloc: Global, one: Open) -> Result<(), AllocErro
         one.system,
     );
     plant.send_stream9(alloc, 9, header)?;
-    match one.what {
-        What::Establish => plant.by_comm(alloc, CommTrigger::Refused),
-        What::Attempt => plant.by_control(alloc, ControlTrigger::Failed),
-        What::Note(_) => {
-            plant.fail_note();
-            Ok(())
-        }
+    let row = timeout_row(plant, one.what);
+    plant.fire_listed(alloc, &[row])
+}
+
+/// The row of a transaction of this kind whose T3 is over.
+fn timeout_row(plant: &Plant, what: What) -> Firing
+    ensures row { timeout_rows what plant.now ≡ result ∷ [] }
+    ensures listed { IsListed result }
+{
+    match what {
+        What::Establish => by_comm(CommTrigger::Refused),
+        What::Attempt => plant.by_control(ControlTrigger::Failed),
+        What::Note(_) => note_fails(),
     }
 }
 

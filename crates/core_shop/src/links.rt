@@ -45,6 +45,7 @@ fn link_down(
 fn take(plant: &mut Plant, session: u64) -> Option<Reaction>
     ensures some { IfSome result (λ reaction. Acts plant.old.moment plant.old (event.Take session) reaction plant.new) }
     ensures none { IfNone result (acts plant.old.moment plant.old (event.Take session) ≡ None) }
+    ensures stays { IfNone result (plant.new ≡ plant.old) }
 {
     if !plant.is_session_up(session) {
         return Some(Reaction::answered(Answer::Ended));
@@ -59,6 +60,7 @@ fn take(plant: &mut Plant, session: u64) -> Option<Reaction>
 fn tick(plant: &mut Plant, alloc: Global, before: Moment) -> Result<Option<Reaction>, AllocError>
     ensures some { IfOk result (λ r. IfSome r (λ reaction. ticked before.0 plant.old ≡ Some (outcome_of reaction plant.new))) }
     ensures none { IfOk result (λ r. IfNone r (ticked before.0 plant.old ≡ None)) }
+    ensures stays { IfOk result (λ r. IfNone r (plant.new ≡ plant.old)) }
 {
     if !is_due(plant, before, plant.moment()) {
         return Ok(None);
@@ -83,6 +85,7 @@ pub fn link_event(
     requires link { IsLinkEvent event.now }
     ensures some { IfOk result (λ r. IfSome r (λ reaction. Acts before.0 plant.old event.now reaction plant.new)) }
     ensures none { IfOk result (λ r. IfNone r (acts before.0 plant.old event.now ≡ None)) }
+    ensures stays { IfOk result (λ r. IfNone r (plant.new ≡ plant.old)) }
 {
     match event {
         Event::LinkUp => Ok(Some(link_up(plant))),

@@ -1,18 +1,22 @@
 //! What an operator wants.
 
 ghost use Rattle.std.specs.Prelude.{◌≡◌, OnOk, IfOk, if◌then◌else◌};
+ghost use Rattle.std.specs.Option.{option_to_list};
+ghost use Rattle.gem_tables.specs.Table.{firing};
 ghost use Rattle.gem_model.specs.State.{is_up};
 ghost use Rattle.gem_model.specs.Fire.{fires};
-ghost use Rattle.gem_model.specs.Direct.{operator_rows};
-ghost use Rattle.gem_model.specs.Step.{answered, is_accepted, can_clear, switched, operated, quits};
+ghost use Rattle.gem_model.specs.Direct.{Are, IsListed, operator_rows};
+ghost use Rattle.gem_model.specs.Step.{answered, is_accepted, can_fire, can_clear, switched, operated, quits};
 ghost use Rattle.core_shop.specs.Reactions.{outcome_of};
-ghost use Rattle.tool_events.specs.declared.event.OperCmd.TheVariants as oper;
 ghost use Rattle.tool_events.specs.declared.answer.Answer.TheVariants as answer;
 
 use crate::clock::end_for;
 use crate::reaction::Reaction;
-use core_state::Plant;
+use arrayvec::ArrayVec;
+use core_state::{Plant, by_comm};
+use gem_ids::PortNo;
 use gem_states::{CommTrigger, ControlTrigger};
+use gem_tables::Firing;
 use std::alloc::{AllocError, Global};
 use tool_events::{Answer, OperCmd, SessionCause};
 
@@ -21,18 +25,51 @@ const TRANSFER: u8 = 4;
 
 const ACCESS: u8 = 5;
 
-// The row by which a port goes in service, and out of it.
-fn service_row(on: bool) -> u8
-    ensures { result ≡ (if on then 1 else 2) }
+// One row, or none.
+fn one(row: Option<Firing>) -> ArrayVec<Firing, 3>
+    ensures { result.items ≡ option_to_list row }
 {
-    if on { 1 } else { 2 }
+    let mut rows = ArrayVec::new();
+    if let Some(row) = row {
+        rows.push(row);
+    }
+    rows
 }
 
-// The row by which a port's access becomes AUTO, and MANUAL.
-fn access_row(auto: bool) -> u8
-    ensures { result ≡ (if auto then 1 else 2) }
+// A row of a table at a port: the first, or the second.
+fn at_port(table: u8, first: bool, port: PortNo) -> Firing
+    ensures { result ≡ firing table port.0 (if first then 1 else 2) }
 {
-    if auto { 1 } else { 2 }
+    Firing::new(table, u64::from(port.0), if first { 1 } else { 2 })
+}
+
+/// The direct rows of an operator's command, in their order (this tool's profile, direct rows).
+fn operator_rows(plant: &Plant, command: &OperCmd) -> ArrayVec<Firing, 3>
+    ensures rows { result.items ≡ operator_rows command.now plant.now }
+    ensures listed { Are IsListed result.items }
+{
+    match command {
+        OperCmd::Enable => one(Some(by_comm(CommTrigger::Enable))),
+        OperCmd::Disable => plant.disable_rows(),
+        OperCmd::Online => one(Some(plant.by_control(ControlTrigger::Online))),
+        OperCmd::Offline => one(Some(plant.by_control(ControlTrigger::Offline))),
+        OperCmd::Local => one(Some(plant.by_control(ControlTrigger::Local))),
+        OperCmd::Remote => one(Some(plant.by_control(ControlTrigger::Remote))),
+        OperCmd::Service(port, on) => one(Some(at_port(TRANSFER, *on, *port))),
+        OperCmd::Access(port, auto) => one(Some(at_port(ACCESS, *auto, *port))),
+        _ => one(None),
+    }
+}
+
+/// Whether the first of these rows starts at the present state.
+fn can_fire(plant: &Plant, rows: &[Firing]) -> bool
+    requires { Are IsListed rows.now }
+    ensures { result ≡ can_fire plant.now rows.now }
+{
+    match rows.first() {
+        Some(row) => plant.row_starts(*row),
+        None => false,
+    }
 }
 
 /// Whether the operator can clear an alarm: it is set, and no module's.
@@ -46,26 +83,29 @@ fn can_clear(plant: &Plant, alid: u32) -> bool
 fn is_accepted(plant: &Plant, command: &OperCmd) -> bool
     ensures { result ≡ is_accepted command.now plant.now }
 {
-    let row = match command {
-        OperCmd::Local | OperCmd::Remote => return true,
-        OperCmd::Clear(alid) => return can_clear(plant, *alid),
-        OperCmd::Enable => plant.comm().row_for(CommTrigger::Enable),
-        OperCmd::Disable => plant.comm().row_for(CommTrigger::Disable),
-        OperCmd::Online => plant
-            .control()
-            .row_for(ControlTrigger::Online, plant.switch_local()),
-        OperCmd::Offline => plant
-            .control()
-            .row_for(ControlTrigger::Offline, plant.switch_local()),
-        OperCmd::Service(port, on) => return plant.port_row_starts(
-            TRANSFER,
-            service_row(*on),
-            *port,
-        ),
-        OperCmd::Access(port, _) => return plant.has_port(*port),
-        _ => return false,
-    };
-    row.is_some()
+    match command {
+        OperCmd::Local | OperCmd::Remote => true,
+        OperCmd::Clear(alid) => can_clear(plant, *alid),
+        OperCmd::Access(port, _) => plant.has_port(*port),
+        OperCmd::Enable
+        | OperCmd::Disable
+        | OperCmd::Online
+        | OperCmd::Offline
+        | OperCmd::Service(_, _)
+        | OperCmd::Quit
+        | OperCmd::Job(_, _)
+        | OperCmd::CtlJob(_, _)
+        | OperCmd::Up(_)
+        | OperCmd::Lost(_) => first_starts(plant, command),
+    }
+}
+
+/// Whether the first row of an operator's command starts at the present state.
+fn first_starts(plant: &Plant, command: &OperCmd) -> bool
+    ensures { result ≡ can_fire plant.now (operator_rows command.now plant.now) }
+{
+    let rows = operator_rows(plant, command);
+    can_fire(plant, rows.as_slice())
 }
 
 /// What a command changes besides its rows: the operator's switch is set, or an alarm is cleared.
@@ -79,32 +119,6 @@ fn switch(plant: &mut Plant, alloc: Global, command: &OperCmd) -> Result<(), All
         _ => {}
     }
     Ok(())
-}
-
-/// Communication is disabled: every open transaction fails.
-fn disable(plant: &mut Plant, alloc: Global) -> Result<(), AllocError>
-    ensures { OnOk result (plant.new ≡ fires (operator_rows oper.Disable) plant.old) }
-{
-    let attempted = plant.is_attempting();
-    plant.by_comm(alloc, CommTrigger::Disable)?;
-    plant.fail_all(alloc, attempted)
-}
-
-/// The direct rows of an operator's command.
-fn operator_rows(plant: &mut Plant, alloc: Global, command: &OperCmd) -> Result<(), AllocError>
-    ensures { OnOk result (plant.new ≡ fires (operator_rows command.now) plant.old) }
-{
-    match command {
-        OperCmd::Enable => plant.by_comm(alloc, CommTrigger::Enable),
-        OperCmd::Disable => disable(plant, alloc),
-        OperCmd::Online => plant.by_control(alloc, ControlTrigger::Online),
-        OperCmd::Offline => plant.by_control(alloc, ControlTrigger::Offline),
-        OperCmd::Local => plant.by_control(alloc, ControlTrigger::Local),
-        OperCmd::Remote => plant.by_control(alloc, ControlTrigger::Remote),
-        OperCmd::Service(port, on) => plant.port_row(alloc, TRANSFER, service_row(*on), *port),
-        OperCmd::Access(port, auto) => plant.port_row(alloc, ACCESS, access_row(*auto), *port),
-        _ => Ok(()),
-    }
 }
 
 /// The operator ends the run, and with it the session that is up.
@@ -140,6 +154,7 @@ fn commanded(plant: &mut Plant, alloc: Global, command: &OperCmd) -> Result<Reac
 {
     let accepted = is_accepted(plant, command);
     switch(plant, alloc, command)?;
-    operator_rows(plant, alloc, command)?;
+    let rows = operator_rows(plant, command);
+    plant.fire_listed(alloc, rows.as_slice())?;
     Ok(Reaction::answered(Answer::Oper(accepted)))
 }

@@ -1,106 +1,103 @@
 -- The rows of the load ports and the carriers, as the plant fires them.
-use Rattle.std.proofs.Common.{◌≡◌, ℕ, zero, suc, ◌<◌, ◌≤◌, ◌-◌, length, slice_get, ◌==◌, Bool, true, false, if◌then◌else◌, List, [], ◌∷◌, ◌++◌, Option, Some, None, is_some, refl, sym, ◌∙◌, ap, subst, arith}
+use Rattle.std.proofs.Common.{drop, get_or, drop-cons, add-one, append_assoc, ◌++◌, ◌+◌, ◌<◌, zero, suc, ◌≡◌, ℕ, ◌==◌, ◌≤◌, ◌&&◌, not, length, take, Bool, true, false, if◌then◌else◌, List, [], ◌∷◌, Option, Some, None, is_some, refl, sym, ◌∙◌, ap, subst, arith}
 use Rattle.std.specs.Option.{option_or}
+use Rattle.std.proofs.lemmas.List.{append-nil}
+use Rattle.std.specs.List.{AllByRecursion}
 use Rattle.std.proofs.lemmas.Bool.Decides.{nat_tests}
-use Rattle.gem_tables.specs.Table.{Firing, firing}
-use Rattle.load_port.specs.declared.port.Port.{Port}
-use Rattle.load_port.specs.Ports.{is_no_port}
+use Rattle.gem_tables.specs.Table.{firing}
+use Rattle.gem_tables.specs.Machine.{starts_in}
+use Rattle.gem_tables.specs.declared.firing.Firing.{Firing}
 use Rattle.shop_floor.specs.Floor.{Floor}
-use Rattle.shop_floor.specs.Rows.{is_port_table, is_carrier_table, port_starts_at, carrier_starts_at, floor_starts, floor_fired, creation_rows, object_name}
-use Rattle.shop_floor.specs.Ready.{floor_least}
-use Rattle.shop_floor.specs.Requests.{at_port, removal}
+use Rattle.shop_floor.specs.Machines.{floor_machines, floor_starts, floor_fired, creation_rows, floor_least, object_name as floor_object}
+use Rattle.shop_floor.proofs.Creations.{creation_same, creations as floor_creations, creations_start}
 use Rattle.gem_model.specs.State.{State, is_online}
 use Rattle.gem_model.specs.Noting.{noted_as}
-use Rattle.gem_model.specs.Fire.{fire, fire_listed, fire_floor, row_starts, takes_effect}
-use Rattle.gem_model.specs.Settle.{fire_all, advanced}
+use Rattle.gem_model.specs.Machines.{row_starts, takes_effect, creations, object_name, fire_floor}
+use Rattle.gem_model.specs.Fire.{fire, advanced, fire_listed}
+use Rattle.gem_model.specs.Direct.{Are, IsListed}
+use Rattle.shop_floor.specs.Requests.{at_ports}
 use Rattle.gem_model.specs.Ready.{ready_floor}
-use Rattle.gem_model.proofs.FloorRows.{IsFloorRow, AreFloorRows, effect_is}
-use Rattle.core_state.specs.Firing.{fire_first}
+use Rattle.gem_model.proofs.FloorRows.{IsFloorRow, effect_is, starts_is, creations_is, object_is}
+use Rattle.gem_model.proofs.OnFloor.{creations_as}
+use Rattle.load_port.specs.declared.port.Port.{Port}
+use Rattle.shop_floor.specs.Floor.{numbers_from}
+use Rattle.shop_floor.proofs.Shapes.{not_table_3}
+use Rattle.shop_floor.proofs.Starts.{least_starts}
+use Rattle.gem_model.specs.State.{is_selected, can_ask}
+use Rattle.gem_model.specs.Wants.{delay_is_over, is_attempt}
+use Rattle.gem_model.specs.Machines.{least}
+use Rattle.gem_model.specs.Ready.{ready_line}
+use Rattle.gem_model.proofs.Effects.{gives_up, least_is}
+use Rattle.gem_model.proofs.FloorRows.{ready_is}
+use Rattle.core_state.specs.Firing.{fire_first, AreCreated}
 
--- the tables from 4 on are those of the floor
-pub high_table : (table n row : ℕ) → 4 ≤ table → IsFloorRow (firing table n row)
-high_table table n row high = record {
-  not_1 = grind (arith, nat_tests, high);
-  not_2 = grind (arith, nat_tests, high);
-  not_3 = grind (arith, nat_tests, high);
-}
-
--- a row that starts on the floor is of such a table
+-- a row that starts on the floor is of tables 4 to 10
 pub starts_high : (x : Firing) (f : Floor) → floor_starts x f ≡ true → IsFloorRow x
 starts_high x f starts = record {
-  not_1 = low 1 refl refl;
-  not_2 = low 2 refl refl;
-  not_3 = low 3 refl refl;
+  not_1 = other 1 refl;
+  not_2 = other 2 refl;
+  not_3 = other 3 refl;
 }
   where
-    other : (n : ℕ) → is_port_table n ≡ false → is_carrier_table n ≡ false → x.table ≡ n → ⊥
-    other n no_port no_carrier is =
-        let ports : is_port_table x.table ≡ false = ap is_port_table is ∙ no_port in
-        let carriers : is_carrier_table x.table ≡ false = ap is_carrier_table is ∙ no_carrier in
-        let none : false ≡ true = sym (rw (ports, carriers) refl) ∙ starts in
-        cc
+    at : ℕ → Bool
+    at table = starts_in floor_machines (firing table x.object x.row.row) f
 
-    by_test : (n : ℕ) (b : Bool) → (x.table == n) ≡ b → (x.table ≡ n → ⊥) → b ≡ false
-    by_test n true is never = absurd (never (grind (arith, nat_tests, is)))
-    by_test n false is never = refl
-
-    low : (n : ℕ) → is_port_table n ≡ false → is_carrier_table n ≡ false → (x.table == n) ≡ false
-    low n no_port no_carrier = by_test n (x.table == n) refl (other n no_port no_carrier)
-
--- the port of a row that starts is one of the few
-pub starts_place : (x : Firing) (f : Floor) → floor_starts x f ≡ true → length f.ports ≤ 4 → is_port_table x.table ≡ true → x.object < 9
-starts_place x f starts few is = of (slice_get f.ports x.object) refl
-  where
-    at : port_starts_at x.table x.row x.object (slice_get f.ports x.object) f.carriers ≡ true
-    at = rw is at starts
-
-    within : (p : Port) (ports : List Port) (place : ℕ) → slice_get ports place ≡ Some p → place < length ports
-    within p [] place there = absurd (cc)
-    within p (q ∷ ports) zero there = omega arith
-    within p (q ∷ ports) (suc place) there = let less = within p ports place there in omega (arith, less)
-
-    of : (o : Option Port) → slice_get f.ports x.object ≡ o → x.object < 9
-    of None there = absurd (let no : port_starts_at x.table x.row x.object None f.carriers ≡ true = subst (λ (o : Option Port). port_starts_at x.table x.row x.object o f.carriers ≡ true) there at in cc)
-    of (Some p) there = let less = within p f.ports x.object there in omega (arith, less, few)
+    other : (n : ℕ) → at n ≡ false → (x.row.table == n) ≡ false
+    other n none = of (x.row.table == n) refl where
+      of : (b : Bool) → (x.row.table == n) ≡ b → b ≡ false
+      of false is = refl
+      of true is = let same : x.row.table ≡ n = grind (arith, nat_tests, is) in
+          let never : floor_starts x f ≡ false = ap at same ∙ none in
+          absurd (let clash : true ≡ false = sym starts ∙ never in cc)
 
 -- its effect, and then its note
-pub row_fires : (g h : State) (x : Firing) → floor_starts x g.floor ≡ true → h ≡ record g { floor = floor_fired x g.floor } → noted_as x.table x.row (object_name x h.floor) (is_online g.control) h ≡ fire g x
-row_fires g h x starts is = rw (effect_is g x (starts_high x g.floor starts), is) refl
+pub row_fires : (g h : State) (x : Firing) (object : List ℕ) (online : Bool) → floor_starts x g.floor ≡ true → object ≡ floor_object x g.floor → online ≡ is_online g.control → h ≡ fire_floor x g → noted_as x.row.table x.row.row object online h ≡ fire g x
+row_fires g h x object online starts named on is =
+    let high = starts_high x g.floor starts in
+    ap (λ (o : List ℕ). noted_as x.row.table x.row.row o online h) (named ∙ sym (object_is g x high))
+    ∙ ap (λ (b : Bool). noted_as x.row.table x.row.row (object_name g x) b h) on
+    ∙ ap (λ (k : State). noted_as x.row.table x.row.row (object_name g x) (is_online g.control) k) (is ∙ sym (effect_is g x high))
 
--- whether it starts
-pub starts_is : (g : State) (x : Firing) → IsFloorRow x → row_starts g x ≡ floor_starts x g.floor
-starts_is g x is = rw (is.not_1, is.not_2, is.not_3) refl
+-- the floor behind it
+pub row_floor : (g : State) (x : Firing) → floor_starts x g.floor ≡ true → (fire g x).floor ≡ floor_fired x g.floor
+row_floor g x starts = ap (λ (k : State). k.floor) (effect_is g x (starts_high x g.floor starts))
 
--- ---- the least row
+-- ---- what a row creates
 
--- one that creates nothing
-pub least_fires : (g : State) (x : Firing) → floor_least g.floor ≡ Some x → creation_rows x g.floor ≡ [] → fire g x ≡ fire_first (ready_floor g) g
-least_fires g x is none =
-    sym (ap (λ (f : Option Firing). fire_first f g) is ∙ ap (λ (cs : List Firing). fire_all cs (fire g x)) none)
+-- creation rows that start, and leave the floor as it is
+are_created : (f : Floor) (ds : List Firing) → AllByRecursion (λ (d : Firing). d ≡ firing 8 d.object 1) ds → AllByRecursion (λ (d : Firing). floor_starts d f ≡ true) ds → AreCreated f ds
+are_created f [] follow start = tt
+are_created f (d ∷ ds) follow start =
+    ((start.0, subst (λ (x : Firing). floor_fired x f ≡ f) (sym follow.0) (creation_same f d.object)), are_created f ds follow.1 start.1)
 
--- one that creates a carrier, whose row follows
-pub creation_fires : (g : State) (x c : Firing) → floor_least g.floor ≡ Some x → creation_rows x g.floor ≡ c ∷ [] → fire (fire g x) c ≡ fire_first (ready_floor g) g
-creation_fires g x c is one =
-    sym (ap (λ (f : Option Firing). fire_first f g) is ∙ ap (λ (cs : List Firing). fire_all cs (fire g x)) one)
+-- those behind a row that starts
+pub created_are : (g h : State) (x : Firing) → row_starts g x ≡ true → h ≡ fire g x → AreCreated h.floor (creations g x)
+created_are g h x starts is = of (x.row.table == 1) (x.row.table == 2) (x.row.table == 3) refl refl refl where
+  none : creations g x ≡ [] → AreCreated h.floor (creations g x)
+  none nothing = subst (AreCreated h.floor) (sym nothing) tt
 
--- ---- rows at ports
+  on_floor : IsFloorRow x → AreCreated h.floor (creations g x)
+  on_floor high =
+      let floor : h.floor ≡ floor_fired x g.floor = ap (λ (k : State). k.floor) (is ∙ refl) ∙ ap (λ (k : State). k.floor) (effect_is g x high) in
+      let all = are_created (floor_fired x g.floor) (creation_rows x g.floor) (floor_creations g.floor x) (creations_start g.floor x) in
+      subst (λ (f : Floor). AreCreated f (creations g x)) (sym floor) (subst (AreCreated (floor_fired x g.floor)) (sym (creations_is g x high)) all)
 
-pub at_there : (table row : ℕ) (f : Floor) (port : ℕ) → is_no_port port f.ports ≡ false → at_port table row f port ≡ firing table (port - 1) row ∷ []
-at_there table row f port is = rw is refl
+  of : (first second third : Bool) → (x.row.table == 1) ≡ first → (x.row.table == 2) ≡ second → (x.row.table == 3) ≡ third → AreCreated h.floor (creations g x)
+  of true second third one two three = none (creations_as g x ∙ rw one refl)
+  of false true third one two three = none (creations_as g x ∙ rw (one, two) refl)
+  of false false true one two three = none (creations_as g x ∙ rw (one, two, three) refl)
+  of false false false one two three = on_floor (record { not_1 = one; not_2 = two; not_3 = three })
 
-pub at_nowhere : (table row : ℕ) (f : Floor) (port : ℕ) → is_no_port port f.ports ≡ true → at_port table row f port ≡ []
-at_nowhere table row f port is = rw is refl
+-- ---- one of tables 1 to 3, whatever object it names
 
--- ---- both rows of a removal
+pub of_table_1 : (g : State) (x : Firing) → x.row.table ≡ 1 → fire g (firing 1 0 x.row.row) ≡ fire g x
+of_table_1 g x is = subst (λ (t : ℕ). fire g (firing 1 0 x.row.row) ≡ fire g (firing t x.object x.row.row)) (sym is) refl
 
-pub removal_fires : (f : Floor) (port : ℕ) (g : State) → is_no_port port f.ports ≡ false → fire_listed (firing 7 (port - 1) 6 ∷ []) (fire_listed (firing 4 (port - 1) 5 ∷ []) g) ≡ fire_listed (removal port f) g
-removal_fires f port g is = rw is refl
+pub of_table_2 : (g : State) (x : Firing) → x.row.table ≡ 2 → fire g (firing 2 0 x.row.row) ≡ fire g x
+of_table_2 g x is = subst (λ (t : ℕ). fire g (firing 2 0 x.row.row) ≡ fire g (firing t x.object x.row.row)) (sym is) refl
 
-pub one_fires : (table row : ℕ) (f : Floor) (port : ℕ) (g : State) → is_no_port port f.ports ≡ false → fire_listed (firing table (port - 1) row ∷ []) g ≡ fire_listed (at_port table row f port) g
-one_fires table row f port g is = rw is refl
-
-pub none_fires : (table row : ℕ) (f : Floor) (port : ℕ) (g : State) → is_no_port port f.ports ≡ true → g ≡ fire_listed (at_port table row f port) g
-none_fires table row f port g is = rw is refl
+pub of_table_3 : (g : State) (x : Firing) → x.row.table ≡ 3 → fire g (firing 3 0 x.row.row) ≡ fire g x
+of_table_3 g x is = subst (λ (t : ℕ). fire g (firing 3 0 x.row.row) ≡ fire g (firing t x.object x.row.row)) (sym is) refl
 
 -- ---- the first of two that is ready
 
@@ -119,3 +116,68 @@ or_behind (Some f) y is = absurd (cc)
 pub or_stays : (x : Option Firing) (g : State) → is_some x ≡ false → fire_first x g ≡ g
 or_stays None g is = refl
 or_stays (Some f) g is = absurd (cc)
+
+-- ---- the least row of all tables
+
+pub least_first : (g : State) → (delay_is_over g.moment g.comm && is_selected g) ≡ true → least g ≡ Some (firing 1 0 3)
+least_first g asks =
+    least_is g ∙ ap (λ (b : Bool). option_or (if b then Some (firing 1 0 3) else None) (option_or (gives_up g) (option_or (ready_line g) (ready_floor g)))) asks
+
+pub least_second : (g : State) → (delay_is_over g.moment g.comm && is_selected g) ≡ false → (is_attempt g.control && not (can_ask g)) ≡ true → least g ≡ Some (firing 2 0 2)
+least_second g quiet gives =
+    least_is g
+    ∙ ap (λ (b : Bool). option_or (if b then Some (firing 1 0 3) else None) (option_or (gives_up g) (option_or (ready_line g) (ready_floor g)))) quiet
+    ∙ ap (λ (b : Bool). option_or (if b then Some (firing 2 0 2) else None) (option_or (ready_line g) (ready_floor g))) gives
+
+pub least_rest : (g : State) → (delay_is_over g.moment g.comm && is_selected g) ≡ false → (is_attempt g.control && not (can_ask g)) ≡ false → least g ≡ option_or (ready_line g) (ready_floor g)
+least_rest g quiet stays =
+    least_is g
+    ∙ ap (λ (b : Bool). option_or (if b then Some (firing 1 0 3) else None) (option_or (gives_up g) (option_or (ready_line g) (ready_floor g)))) quiet
+    ∙ ap (λ (b : Bool). option_or (if b then Some (firing 2 0 2) else None) (option_or (ready_line g) (ready_floor g))) stays
+
+-- the least row of the floor is one that can be listed, and starts
+pub floor_listed : (g : State) (x : Firing) → floor_least g.floor ≡ Some x → IsListed x
+floor_listed g x ready is = absurd (let clash : true ≡ false = sym is ∙ not_table_3 g.floor x ready in cc)
+
+pub floor_ready : (g : State) (x : Firing) → floor_least g.floor ≡ Some x → row_starts g x ≡ true
+floor_ready g x ready = starts_is g x (ready_is g x ready) ∙ least_starts g.floor x ready
+
+-- ---- the ports by their numbers
+
+pub all_numbers : (ports : List Port) → length ports ≤ 4 → take (length ports) (1 ∷ 2 ∷ 3 ∷ 4 ∷ []) ≡ numbers_from 1 ports
+all_numbers [] few = refl
+all_numbers (a ∷ []) few = refl
+all_numbers (a ∷ (b ∷ [])) few = refl
+all_numbers (a ∷ (b ∷ (c ∷ []))) few = refl
+all_numbers (a ∷ (b ∷ (c ∷ (d ∷ [])))) few = refl
+all_numbers (a ∷ (b ∷ (c ∷ (d ∷ (e ∷ ports))))) few = absurd (omega (arith, few))
+
+-- ---- lists, one after another
+
+pub drop_end : {X : Type 0} (xs : List X) (i : ℕ) → length xs ≤ i → drop i xs ≡ []
+drop_end [] zero within = refl
+drop_end [] (suc i) within = refl
+drop_end (x ∷ xs) zero within = absurd (omega (arith, within))
+drop_end (x ∷ xs) (suc i) within = drop_end xs i (omega (arith, within))
+
+-- the one at a place, and those behind it
+pub next_of : {X : Type 0} (xs : List X) (i : ℕ) (none : X) → i < length xs → drop i xs ≡ get_or xs i none ∷ drop (i + 1) xs
+next_of xs i none within = drop-cons xs i none within ∙ rw add-one refl
+
+pub listed_more : (fs : List Firing) (i : ℕ) (x : Firing) (g : State) → i < length fs → fire_listed (drop i fs) g ≡ fire_listed (drop (i + 1) fs) (fire_listed (get_or fs i x ∷ []) g)
+listed_more fs i x g within = ap (λ (ys : List Firing). fire_listed ys g) (next_of fs i x within)
+
+pub listed_at : (fs : List Firing) (i : ℕ) (x : Firing) → Are IsListed fs → i < length fs → IsListed (get_or fs i x)
+listed_at [] i x are within = absurd (omega (arith, within))
+listed_at (f ∷ fs) zero x are within = are.0
+listed_at (f ∷ fs) (suc i) x are within = listed_at fs i x are.1 (omega (arith, within))
+
+-- the rows at the ports that are left, behind those that are listed
+pub ports_more : (table row : ℕ) (rows : List Firing) (ports : List ℕ) (i : ℕ) → i < length ports → (rows ++ firing table (get_or ports i 0) row ∷ []) ++ at_ports table row (drop (i + 1) ports) ≡ rows ++ at_ports table row (drop i ports)
+ports_more table row rows ports i within =
+    append_assoc rows (firing table (get_or ports i 0) row ∷ []) (at_ports table row (drop (i + 1) ports))
+    ∙ ap (λ (ps : List ℕ). rows ++ at_ports table row ps) (sym (next_of ports i 0 within))
+
+pub ports_all : (table row : ℕ) (rows : List Firing) (ports : List ℕ) (i : ℕ) → length ports ≤ i → rows ++ at_ports table row (drop i ports) ≡ at_ports table row ports → rows ≡ at_ports table row ports
+ports_all table row rows ports i within is =
+    sym (append-nil rows) ∙ ap (λ (ps : List ℕ). rows ++ at_ports table row ps) (sym (drop_end ports i within)) ∙ is

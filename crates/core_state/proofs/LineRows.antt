@@ -1,16 +1,18 @@
 -- The rows of the line of notes, as the plant fires them.
-use Rattle.std.proofs.Common.{◌≡◌, ℕ, ◌==◌, Bool, true, false, if◌then◌else◌, List, [], ◌∷◌, Option, Some, None, option_map, refl, sym, ap, subst, ◌∙◌}
+use Rattle.std.proofs.Common.{◌≡◌, ℕ, ◌==◌, ◌&&◌, not, find, Bool, true, false, if◌then◌else◌, List, [], ◌∷◌, Option, Some, None, option_map, refl, sym, ap, subst, ◌∙◌}
 use Rattle.std.specs.List.{AllByRecursion}
 use Rattle.std.proofs.lemmas.Bool.{true≢false}
 use Rattle.gem_tables.specs.Table.{firing}
 use Rattle.spool.specs.declared.note.Note.{Note}
 use Rattle.note_line.specs.declared.around.Around.{Around}
 use Rattle.note_line.specs.Line.{Line, restated}
-use Rattle.note_line.specs.Table3.{Row, line_table, least, row_effect}
+use Rattle.spool.specs.Spool.{Spool, rsda, is_active, is_inactive, is_no_output}
+use Rattle.note_line.specs.Table3.{Row, line_table, least, row_effect, is_fired, is_direct}
 use Rattle.note_line.proofs.Keeps.{IsLeast, least_is}
 use Rattle.gem_model.specs.State.{State, around, is_online}
 use Rattle.gem_model.specs.Noting.{noted_as}
-use Rattle.gem_model.specs.Fire.{fire, asks_first}
+use Rattle.gem_model.specs.Fire.{fire}
+use Rattle.gem_model.specs.Effects.{asks_first}
 use Rattle.gem_model.specs.Ready.{ready_line}
 use Rattle.core_state.specs.Firing.{fire_first}
 
@@ -92,3 +94,27 @@ pub last_row : (a : Around) (l : Line) (row : ℕ) → least a l ≡ Some row �
 last_row a l row e others =
     let is = least_is IsLast a l row all_last e in
     e ∙ ap Some (sym is.its_number ∙ is.gives is.is_automatic (subst Others (sym is.its_number) others))
+
+-- ---- rows that inputs fire
+
+-- S6F23 finds the spool ACTIVE and in NO OUTPUT exactly where RSDA is 0
+pub may_unload : (s : Spool) → (rsda s == 0) ≡ (is_active s && is_no_output s.unload)
+may_unload s = of (is_inactive s.load) (is_no_output s.unload) where
+  of : (inactive quiet : Bool) → ((if inactive then 2 else (if quiet then 0 else 1)) == 0) ≡ (not inactive && quiet)
+  of true quiet = refl
+  of false true = refl
+  of false false = refl
+
+-- where each row of this number among some fires by itself, the row of the number is fired by none
+found_itself : (number : ℕ) (rows : List Row) → AllByRecursion (λ (r : Row). (r.number == number) ≡ true → r.is_automatic ≡ true) rows → is_fired (find (λ (r : Row). r.number == number) rows) ≡ false
+found_itself number [] each = refl
+found_itself number (r ∷ rows) each = of (r.number == number) refl (found_itself number rows each.1) where
+  of : (b : Bool) → (r.number == number) ≡ b → is_fired (find (λ (q : Row). q.number == number) rows) ≡ false → is_fired (if b then Some r else find (λ (q : Row). q.number == number) rows) ≡ false
+  of true is rest = ap not (each.0 is)
+  of false is rest = rest
+
+-- only rows 4, 5 and 14 are fired by inputs
+pub not_direct : (number : ℕ) → (4 == number) ≡ false → (5 == number) ≡ false → (14 == number) ≡ false → is_direct number ≡ false
+not_direct number not_4 not_5 not_14 =
+    found_itself number line_table
+    ((λ _. refl), ((λ _. refl), ((λ _. refl), ((λ is. absurd (true≢false (sym is ∙ not_4))), ((λ is. absurd (true≢false (sym is ∙ not_5))), ((λ _. refl), ((λ _. refl), ((λ _. refl), ((λ _. refl), ((λ _. refl), ((λ _. refl), ((λ _. refl), ((λ _. refl), ((λ is. absurd (true≢false (sym is ∙ not_14))), tt))))))))))))))

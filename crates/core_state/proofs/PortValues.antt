@@ -3,7 +3,7 @@ use Rattle.std.proofs.Common.{◌≡◌, ℕ, zero, suc, ◌+◌, ◌-◌, ◌<�
 use Rattle.std.proofs.lemmas.Bool.Decides.{nat_tests}
 use Rattle.secs_items.specs.Data.{Data, ascii, u1}
 use Rattle.load_port.specs.declared.port.Port.{Port}
-use Rattle.load_port.specs.Record.{transfer_number, access_number}
+use Rattle.load_port.specs.Tables.{transfer_number, access_number}
 use Rattle.load_port.specs.Ports.{port_numbered}
 use Rattle.gem_model.specs.State.{State}
 use Rattle.gem_model.specs.Values.{value_among, port_values, port_vids, tool_variables, transfers, accesses, port_carriers, or_else, status_value}

@@ -20,17 +20,18 @@ use Rattle.data_variables.specs.Bodies.{name_item, items}
 use Rattle.data_variables.specs.Table.{constant_ids}
 use Rattle.data_variables.proofs.Sending.{names_bounded, names_counted}
 use Rattle.gem_replies.specs.Sendable.{AreFew}
-use Rattle.gem_model.specs.Verdict.{or_all, status_name, alarm_part, alids_of, enabled_alids}
+use Rattle.gem_model.specs.Messages.{or_all, status_name, alarm_part, alids_of, enabled_alids}
 use Rattle.event_reports.specs.Limits.{most_alarms}
 use Rattle.spool.specs.Spool.{load_number, unload_number}
 use Rattle.event_reports.specs.declared.alarms.AlarmLine.{AlarmLine}
 use Rattle.event_reports.specs.Alarms.{set_alids}
-use Rattle.gem_states.specs.Meaning.{comm_number, control_number}
+use Rattle.gem_states.specs.Communication.{comm_number}
+use Rattle.gem_states.specs.Control.{control_number}
 use Rattle.gem_model.specs.State.{State, clock_now}
 use Rattle.core_state.proofs.MomentTexts.{clock_text}
 use Rattle.gem_model.specs.Values.{Occasion, no_firing, svids, port_vids, Valued, tool_variables, port_values, transfers, accesses, port_carriers, event_variables, value_among, status_value, constant_value, or_else, value_of}
 use Rattle.load_port.specs.declared.port.Port.{Port}
-use Rattle.load_port.specs.Record.{transfer_number, access_number}
+use Rattle.load_port.specs.Tables.{transfer_number, access_number}
 use Rattle.load_port.specs.Ports.{most_ports}
 use Rattle.core_state.specs.Named.{AreNamed}
 

@@ -1,10 +1,17 @@
--- One automatic firing, with the row of what it creates.
-use Rattle.std.specs.Prelude.{Option, Some, None}
-use Rattle.gem_tables.specs.Table.{Firing}
+-- Firings of the plant.
+use Rattle.std.specs.Prelude.{◌≡◌, true, List, [], ◌∷◌, Option, Some, None}
+use Rattle.gem_tables.specs.declared.firing.Firing.{Firing}
+use Rattle.shop_floor.specs.Floor.{Floor}
+use Rattle.shop_floor.specs.Machines.{floor_starts, floor_fired}
 use Rattle.gem_model.specs.State.{State}
-use Rattle.gem_model.specs.Settle.{advanced}
+use Rattle.gem_model.specs.Fire.{advanced}
 
--- the state behind the firing, where there is one
+-- the state behind the firing, with those of what it creates, where there is one
 abbrev pub fire_first : Option Firing → State → State
 fire_first None g = g
 fire_first (Some f) g = advanced g f
+
+-- each of these rows of created objects starts, and leaves the ports and the carriers as they are
+abbrev pub AreCreated : Floor → List Firing → Type 0
+AreCreated f [] = Unit {0}
+AreCreated f (d ∷ ds) = ((floor_starts d f ≡ true) × (floor_fired d f ≡ f)) × AreCreated f ds

@@ -9,7 +9,7 @@ ghost use Rattle.event_reports.specs.Reports.{value_items, report_items, one_ite
 ghost use Rattle.gem_replies.specs.Replies.{items as items_data};
 ghost use Rattle.gem_replies.specs.Sendable.{AreFew};
 ghost use Rattle.gem_model.specs.Values.{no_firing, status_value, constant_value, value_of, port_vids, svids};
-ghost use Rattle.gem_model.specs.Verdict.{or_all, status_name, settings_of, alarm_part, alids_of, enabled_alids};
+ghost use Rattle.gem_model.specs.Messages.{or_all, status_name, settings_of, alarm_part, alids_of, enabled_alids};
 
 use crate::noting::{alcd, text_of_alarm};
 use crate::plant::Plant;

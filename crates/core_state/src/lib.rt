@@ -10,6 +10,8 @@
 //! the plant after that. Begin with `Plant::open`.
 #![tactic(auto)]
 
+mod direct;
+mod firing;
 mod floor;
 mod frames;
 mod host_data;
@@ -22,6 +24,7 @@ mod rows;
 mod sending;
 mod values;
 
+pub use direct::{by_comm, note_fails, unload_row};
 pub use frames::{data_header, header_frame, reply_text, shop_text};
 pub use noting::{RowFiring, alcd, text_of_alarm};
 pub use plant::Plant;

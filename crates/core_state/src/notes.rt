@@ -7,7 +7,8 @@ ghost use Rattle.note_line.specs.Table3.{least, head_in_kind, row_effect};
 ghost use Rattle.note_line.specs.Limits.{most_text};
 ghost use Rattle.gem_model.specs.State.{around};
 ghost use Rattle.gem_model.specs.Ready.{ready_line};
-ghost use Rattle.gem_model.specs.Fire.{stream_of_kind, function_of_kind, fire, fire_listed, asks_first};
+ghost use Rattle.gem_model.specs.Effects.{stream_of_kind, function_of_kind, asks_first};
+ghost use Rattle.gem_model.specs.Fire.{fire, fire_listed};
 ghost use Rattle.gem_model.specs.Direct.{note_fails};
 ghost use Rattle.gem_model.specs.Spooling.{unload_rows};
 ghost use Rattle.core_state.specs.Firing.{fire_first};
@@ -155,16 +156,6 @@ impl Plant {
         Ok(true)
     }
 
-    /// The transaction of the open note has failed: its row fires, where a note is open.
-    pub fn fail_note(&mut self)
-        ensures { self.new ≡ fire_listed note_fails self.old }
-    {
-        if self.line.open_note().is_some() {
-            let around = self.around();
-            self.line.fail_open(around);
-        }
-    }
-
     /// The open note is answered, where one is open.
     pub fn answer_note(&mut self)
         ensures { self.new ≡ record self.old { line = answered self.old.line } }
@@ -194,16 +185,6 @@ impl Plant {
         ensures { result ≡ rsda self.now.line.spool }
     {
         self.line.rsda()
-    }
-
-    /// The host asks for the spooled notes, with RSDC 0 to be sent and with 1 to be dropped: its row fires, where it
-    /// starts (SEMI E5, S6F23).
-    pub fn unload_spool(&mut self, rsdc: u8)
-        requires { rsdc ≤ 1 }
-        ensures { self.new ≡ fire_listed (unload_rows rsdc) self.old }
-    {
-        let around = self.around();
-        self.line.begin_unload(rsdc, around);
     }
 
     /// What became of the note of a number; `None` exactly where the number was not given.

@@ -4,7 +4,7 @@ ghost use Rattle.transactions.specs.declared.transaction.What.TheVariants as wha
 ghost use Rattle.transactions.specs.Table.{taken_out};
 ghost use Rattle.transactions.specs.Endings.{answered, first_expired, first_of};
 ghost use Rattle.gem_model.specs.State.{none_asked};
-ghost use Rattle.gem_model.specs.Fire.{forgets};
+ghost use Rattle.gem_model.specs.Effects.{forgets};
 
 use crate::plant::Plant;
 use gem_ids::Moment;

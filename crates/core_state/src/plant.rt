@@ -4,7 +4,7 @@ ghost use Rattle.gem_ids.specs.Moments.{last_moment};
 ghost use Rattle.tool_events.specs.Configs.{IsConfig};
 ghost use Rattle.transactions.specs.Table.{none_open};
 ghost use Rattle.gem_model.specs.State.{opening, first_comm, first_control, first_switch, first_constants, first_kinds, around, is_communicating, is_online, is_up, is_session_up, is_selected, can_ask, clock_now, raised, with_frame};
-ghost use Rattle.gem_model.specs.Act.{clock_set};
+ghost use Rattle.gem_model.specs.Messages.{clock_set};
 
 use data_variables::{Constants, Val};
 use event_reports::{Alarms, Reports};

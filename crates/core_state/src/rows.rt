@@ -1,24 +1,20 @@
 //! The rows of the transition tables: what each does, which are ready, and settling.
-ghost use Rattle.std.specs.Prelude.{◌≡◌, ◌+◌, ◌≤◌, ◌<◌, ◌^◌, ◌++◌, length, [], if◌then◌else◌, OnOk, IfOk, is_some};
+ghost use Rattle.std.specs.Prelude.{◌≡◌, ◌+◌, ◌≤◌, ◌<◌, ◌^◌, length, OnOk, IfOk};
 ghost use Rattle.gem_ids.specs.Texts.{IsText};
-ghost use Rattle.gem_tables.specs.Table.{first_starting, firing};
-ghost use Rattle.gem_states.specs.declared.control.ControlTrigger.TheVariants as control;
-ghost use Rattle.gem_states.specs.Meaning.{comm_rows, control_rows};
-ghost use Rattle.gem_model.specs.State.{State};
+ghost use Rattle.gem_tables.specs.Table.{firing};
+ghost use Rattle.gem_model.specs.State.{without_session};
 ghost use Rattle.gem_model.specs.Sending.{identity_text};
-ghost use Rattle.gem_model.specs.Fire.{fire, fire_comm, comm_effect, fire_control, control_effect, fire_listed, fires};
-ghost use Rattle.gem_model.specs.Direct.{by_comm, by_control, note_fails, session_end_rows};
-ghost use Rattle.std.specs.Option.{option_or};
-ghost use Rattle.gem_model.specs.Ready.{delay_is_over, ready_line, ready_floor, least};
+ghost use Rattle.gem_model.specs.Fire.{fire};
+ghost use Rattle.gem_model.specs.Effects.{fire_comm, comm_effect, fire_control, control_effect};
+ghost use Rattle.gem_model.specs.Wants.{delay_is_over};
 ghost use Rattle.gem_model.specs.Due.{delay_has_come};
 ghost use Rattle.gem_model.specs.Act.{session_ended};
-ghost use Rattle.core_state.specs.Firing.{fire_first};
 
 use crate::frames::reply_text;
 use crate::noting::RowFiring;
 use crate::plant::Plant;
 use gem_ids::{Moment, Text80};
-use gem_states::{Comm, CommTrigger, Control, ControlTrigger};
+use gem_states::Comm;
 use hsms_frame::Bytes;
 use msgs_gem::GemReply;
 use std::alloc::{AllocError, Global};
@@ -105,7 +101,7 @@ impl Plant {
     }
 
     /// A row of communication fires, and makes its note.
-    fn comm_row(&mut self, alloc: Global, row: u8) -> Result<(), AllocError>
+    pub(crate) fn comm_row(&mut self, alloc: Global, row: u8) -> Result<(), AllocError>
         ensures { OnOk result (self.new ≡ fire self.old (firing 1 0 row)) }
     {
         let online_before = self.is_online();
@@ -114,7 +110,7 @@ impl Plant {
     }
 
     /// A row of control fires, and makes its note.
-    fn control_row(&mut self, alloc: Global, row: u8) -> Result<(), AllocError>
+    pub(crate) fn control_row(&mut self, alloc: Global, row: u8) -> Result<(), AllocError>
         ensures { OnOk result (self.new ≡ fire self.old (firing 2 0 row)) }
     {
         let online_before = self.is_online();
@@ -122,53 +118,27 @@ impl Plant {
         self.note(alloc, RowFiring::unnamed(CONTROL, row, online_before))
     }
 
-    /// The direct row of communication that a trigger fires, if one starts at the present state.
-    pub fn by_comm(&mut self, alloc: Global, trigger: CommTrigger) -> Result<(), AllocError>
-        ensures { OnOk result (self.new ≡ fire_listed (by_comm trigger) self.old) }
-    {
-        match self.comm.row_for(trigger) {
-            Some(row) => self.comm_row(alloc, row),
-            None => Ok(()),
-        }
-    }
-
-    /// The direct row of control that a trigger fires, if one starts at the present state.
-    pub fn by_control(&mut self, alloc: Global, trigger: ControlTrigger) -> Result<(), AllocError>
-        ensures { OnOk result (self.new ≡ fires (by_control trigger) self.old) }
-    {
-        match self.control.row_for(trigger, self.switch_local) {
-            Some(row) => self.control_row(alloc, row),
-            None => Ok(()),
-        }
-    }
-
-    /// Every transaction that was open has failed, and its rows fire: that of the tool's S1F1, where it was open, and that
-    /// of the open note.
-    pub fn fail_all(&mut self, alloc: Global, attempted: bool) -> Result<(), AllocError>
-        ensures { OnOk result (self.new ≡ fire_listed ((if attempted then by_control control.Failed self.old else []) ++ note_fails) self.old) }
-    {
-        if attempted {
-            self.by_control(alloc, ControlTrigger::Failed)?;
-        }
-        self.fail_note();
-        Ok(())
-    }
-
     /// The session ends: the link is down, the frames that wait are gone, every transaction has failed, and the direct
     /// rows fire.
     pub fn end_session(&mut self, alloc: Global) -> Result<(), AllocError>
         ensures { OnOk result (self.new ≡ session_ended self.old) }
     {
-        let attempted = self.is_attempting();
+        let rows = self.session_end_rows();
+        self.drop_session();
+        self.fire_listed(alloc, rows.as_slice())
+    }
+
+    /// The link is down, the frames that wait are gone, and every transaction has failed; no row has fired yet.
+    fn drop_session(&mut self)
+        ensures { self.new ≡ without_session self.old }
+    {
         self.close_all();
         self.link.down();
         self.waiting.clear();
-        self.by_comm(alloc, CommTrigger::SessionEnd)?;
-        self.fail_all(alloc, attempted)
     }
 
     /// Whether communication is in WAIT DELAY, and the delay is over.
-    fn delay_is_over(&self) -> bool
+    pub(crate) fn delay_is_over(&self) -> bool
         ensures { result ≡ delay_is_over self.now.moment self.now.comm }
     {
         match self.comm {
@@ -186,35 +156,5 @@ impl Plant {
             Comm::WaitDelay { until } => until <= at.0 && until <= Moment::LAST.0,
             _ => false,
         }
-    }
-
-    /// Fires the row of the line of notes that is ready, or else the least of the load ports and the carriers, and tells whether
-    /// there was one.
-    fn fire_line_or_floor(&mut self, alloc: Global) -> Result<bool, AllocError>
-        ensures fired { IfOk result (λ fired. fired ≡ is_some (option_or (ready_line self.old) (ready_floor self.old))) }
-        ensures after { OnOk result (self.new ≡ fire_first (option_or (ready_line self.old) (ready_floor self.old)) self.old) }
-    {
-        if self.line_row(alloc)? {
-            return Ok(true);
-        }
-        let fired = self.fire_least_of_floor(alloc)?;
-        Ok(fired)
-    }
-
-    /// Fires the least automatic row that is ready, with the row of the object that it creates, and tells whether there was
-    /// one.
-    pub fn fire_least(&mut self, alloc: Global) -> Result<bool, AllocError>
-        ensures fired { IfOk result (λ fired. fired ≡ is_some (least self.old)) }
-        ensures after { OnOk result (self.new ≡ fire_first (least self.old) self.old) }
-    {
-        if self.delay_is_over() && self.is_selected() {
-            self.comm_row(alloc, 3)?;
-            return Ok(true);
-        }
-        if self.control == Control::Attempt && !self.can_ask() {
-            self.control_row(alloc, 2)?;
-            return Ok(true);
-        }
-        self.fire_line_or_floor(alloc)
     }
 }

@@ -8,7 +8,7 @@ use anyhow::{Result, bail};
 use gem_ids::{Moment, Text80};
 use std::alloc::Global;
 use tool_core::Core;
-use tool_events::{CommStart, Config, ControlStart, SpoolStreams};
+use tool_events::{CommStart, Config, ControlStart, Recipes, SpoolStreams};
 
 fn word(bytes: &[u8]) -> Result<Text80>
     ensures { IfOk result (λ word. word ≡ bytes.now) }
@@ -27,6 +27,7 @@ fn config(max_entries: u64, max_bytes: u64) -> Result<Config>
     ensures { IfOk result IsConfig }
 {
     Ok(Config {
+        version: 1,
         device: 0,
         mdln: word(b"GEM300".as_slice())?,
         softrev: word(b"1.0.00".as_slice())?,
@@ -49,6 +50,8 @@ fn config(max_entries: u64, max_bytes: u64) -> Result<Config>
         max_entries,
         max_bytes,
         start_moment: Moment(0),
+        recipes: Recipes::none(),
+        tcp_port: 5000,
     })
 }
 

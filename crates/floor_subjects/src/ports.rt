@@ -1,7 +1,6 @@
 //! The load ports of a tool (`load_port`).
 //!
-//! `new 2` makes them two ports anew. The host names a port by its number; a row fires, and a carrier comes, at the place of
-//! a port, counted from 0. `ask Access 1 1*10000 2` asks for access mode 1 of port 1, ten thousand times, and of port 2.
+//! `new 2` makes them two ports anew. The host names a port by its number; else a port stands as its place, counted from 0. `ask Access 1 1*10000 2` asks for access mode 1 of port 1, ten thousand times, and of port 2.
 
 use anyhow::{Result, bail, ensure};
 use carrier_subjects::carrier;
@@ -83,14 +82,19 @@ fn add(numbers: &mut Vec<u8>, word: &str) -> Result<()> {
 
 // Whether a row of a table starts at the port of a place.
 fn fires(ports: &mut Ports, words: &[&str]) -> Result<bool> {
-    let place = small(words, 1)? as usize;
-    Ok(ports.fire(place, small(words, 2)?, small(words, 3)?))
+    let number = number_at(words)?;
+    Ok(ports.fire(number, small(words, 2)?, small(words, 3)?))
+}
+
+// The number of the port of a place.
+fn number_at(words: &[&str]) -> Result<u64> {
+    Ok(small(words, 1)? as u64 + 1)
 }
 
 // A carrier comes to the port of a place, with its name and the code of all its slots; what came there is told to the
 // carriers; or the port is some carrier's, or no one's.
 fn happens(ports: &mut Ports, words: &[&str]) -> Result<()> {
-    let place = small(words, 1)? as usize;
+    let number = number_at(words)?;
     match word(words, 0)? {
         "come" => {
             let arrival = Arrival {
@@ -98,10 +102,10 @@ fn happens(ports: &mut Ports, words: &[&str]) -> Result<()> {
                 is_read: true,
                 map: [small(words, 3)?; 25],
             };
-            ports.come(place, arrival);
+            ports.come(number, arrival);
         }
-        "settle" => ports.settle(place, carrier(words, 2)?),
-        _ => ports.own(place, owner(words)?),
+        "settle" => ports.settle(number, carrier(words, 2)?),
+        _ => ports.own(number, owner(words)?),
     }
     Ok(())
 }

@@ -1,15 +1,15 @@
 //! A shop floor (`shop_floor`): what the host asks and what the equipment does, where rows then fire until none is ready,
 //! and the rows that fired.
 //!
-//! A port stands as its number where the host names it, and as its place, counted from 0, where a carrier comes to it or
-//! a row fires; a row stands as its table, the place of its port or carrier, and its number.
+//! A port stands as its number, and a row as its table, the number of its port or that of creation of its carrier, and its own.
 
 use anyhow::{Result, bail, ensure};
 use carrier::CarrierAction;
 use carrier_subjects::{action, carrier};
 use gem_ids::{CarrierId, Listed, PortNo, Text80};
+use gem_tables::Firing;
 use load_port::PortAction;
-use shop_floor::{FloorFiring, ShopFloor};
+use shop_floor::ShopFloor;
 use std::alloc::Global;
 use test_lines::{Subject, nothing, small, word, words};
 
@@ -17,7 +17,7 @@ use test_lines::{Subject, nothing, small, word, words};
 #[derive(Drop)]
 pub struct Floor {
     floor: ShopFloor,
-    fired: Listed<FloorFiring>,
+    fired: Listed<Firing>,
 }
 
 impl Floor {
@@ -53,7 +53,7 @@ impl Floor {
     // ---- rows
 
     // A row fires where it starts.
-    fn fire(&mut self, x: FloorFiring) -> Result<()> {
+    fn fire(&mut self, x: Firing) -> Result<()> {
         if self.floor.starts(x) {
             self.floor.fire(x)?;
             self.fired.push(x)?;
@@ -61,14 +61,14 @@ impl Floor {
         Ok(())
     }
 
-    // A row fires where it starts, and then that of the carrier that it creates.
-    fn fire_all(&mut self, x: FloorFiring) -> Result<()> {
-        let creation = self.floor.creation(x);
+    // A row fires where it starts, and then those of the carrier that it creates.
+    fn fire_all(&mut self, x: Firing) -> Result<()> {
+        let creations = self.floor.creations(x);
         self.fire(x)?;
-        match creation {
-            Some(first) => self.fire(first),
-            None => Ok(()),
+        for creation in creations.as_slice() {
+            self.fire(*creation)?;
         }
+        Ok(())
     }
 
     // Rows fire by themselves until none is ready.
@@ -82,10 +82,10 @@ impl Floor {
         bail!("the floor doesn't come to rest")
     }
 
-    // A row of a table fires at the port of this place, where it starts.
+    // A row of a table fires at the object of this number, where it starts.
     fn fire_at(&mut self, table: u8, object: u8, row: u8) -> Result<()> {
-        let object = object as usize;
-        self.fire_all(FloorFiring { table, object, row })
+        let object = object as u64;
+        self.fire_all(Firing::new(table, object, row))
     }
 
     // The rows that fired, which are told no more.
@@ -114,22 +114,21 @@ impl Floor {
 
     // A carrier is placed at a port, with the name that is read and its map.
     fn come(&mut self, words: &[&str]) -> Result<()> {
-        let place = small(words, 1)?;
+        let port = PortNo(small(words, 1)?);
         let name = name_read(words)?;
         let map = map(word(words, 3)?)?;
-        let port = PortNo(place.saturating_add(1));
         if !self.floor.has_port(port) {
             bail!("there is no such port");
         }
         let arrival = self.floor.arrival(port, name, map);
         self.floor.come(port, arrival);
-        self.fire_at(4, place, 3)
+        self.fire_at(4, port.0, 3)
     }
 
     // The carrier of a port is removed, and rows fire.
-    fn remove(&mut self, place: u8) -> Result<()> {
-        self.fire_at(4, place, 5)?;
-        self.fire_at(7, place, 6)?;
+    fn remove(&mut self, port: u8) -> Result<()> {
+        self.fire_at(4, port, 5)?;
+        self.fire_at(7, port, 6)?;
         self.settle()
     }
 
@@ -149,12 +148,12 @@ impl Floor {
         };
         let code = self.floor.carrier_code(&action);
         self.done(&action)?;
-        Ok(code)
+        Ok(code.number())
     }
 
     // What the host asks for is done, where it can be.
     fn done(&mut self, action: &CarrierAction) -> Result<()> {
-        if self.floor.carrier_code(action) != 0 {
+        if !self.floor.carrier_code(action).is_done() {
             return Ok(());
         }
         let rows = self.floor.carrier_rows(action);
@@ -167,20 +166,17 @@ impl Floor {
 
     // What a reservation of a port is answered.
     fn reserve(&self, port: u8) -> u8 {
-        self.floor.port_code(&PortAction::Reserve(port))
+        self.floor.port_code(&PortAction::Reserve(port)).number()
     }
 
     // ---- what is told
 
-    // The name of the object at a place of a table.
+    // The name of the object of a number in a table.
     fn name(&self, alloc: Global, words: &[&str]) -> Result<String> {
         let table = small(words, 1)?;
-        let object = small(words, 2)? as usize;
-        if table < 8 && object >= 9 {
-            bail!("there is no such place");
-        }
+        let object = small(words, 2)? as u64;
         let row = 1;
-        let name = self.floor.object_name(FloorFiring { table, object, row });
+        let name = self.floor.object_name(Firing::new(table, object, row));
         Ok(String::from_utf8_lossy(alloc, name.as_bytes())?)
     }
 
@@ -208,19 +204,19 @@ impl Floor {
 
     fn starts(&self, words: &[&str]) -> Result<bool> {
         let table = small(words, 1)?;
-        let object = small(words, 2)? as usize;
+        let object = small(words, 2)? as u64;
         let row = small(words, 3)?;
-        Ok(self.floor.starts(FloorFiring { table, object, row }))
+        Ok(self.floor.starts(Firing::new(table, object, row)))
     }
 }
 
-fn rows_text(alloc: Global, rows: &[FloorFiring]) -> Result<String> {
+fn rows_text(alloc: Global, rows: &[Firing]) -> Result<String> {
     let mut text = String::new(alloc);
     for row in rows {
         if !text.is_empty() {
             text.push_str(" ")?;
         }
-        let row = format!(in alloc; "{}.{}.{}", row.table, row.object, row.row)?;
+        let row = format!(in alloc; "{}.{}.{}", row.row.table, row.object, row.row.row)?;
         text.push_str(row.as_str())?;
     }
     Ok(text)

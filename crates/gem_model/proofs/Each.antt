@@ -3,10 +3,12 @@ use Rattle.std.proofs.Common.{◌≡◌, ℕ, Bool, true, List, [], Option, Some
 use Rattle.hsms_frame.specs.declared.frame.Header.{Header}
 use Rattle.hsms_link.specs.declared.state.LinkState.{LinkState}
 use Rattle.secs_items.specs.Data.{Data}
-use Rattle.gem_tables.specs.Table.{Firing, firing}
+use Rattle.gem_tables.specs.Table.{firing}
+use Rattle.gem_tables.specs.declared.firing.Firing.{Firing}
 use Rattle.event_reports.specs.Reports.{Reports}
 use Rattle.event_reports.specs.declared.alarms.AlarmLine.{AlarmLine}
 use Rattle.data_variables.specs.declared.val.Val.{Val}
+use Rattle.load_port.specs.Caack.{is_done_code}
 use Rattle.carrier.specs.declared.action.CarrierAction.{CarrierAction}
 use Rattle.shop_floor.specs.Requests.{carrier_code, carrier_written}
 use Rattle.note_line.specs.Line.{with_kinds, answered as answered_line}
@@ -19,14 +21,15 @@ use Rattle.transactions.specs.Table.{Table}
 use Rattle.gem_model.specs.State.{State, Clock, none_asked, without_session}
 use Rattle.gem_model.specs.Values.{Occasion}
 use Rattle.gem_model.specs.Noting.{line_behind, line_with_alarm}
-use Rattle.gem_model.specs.Fire.{fire, fires, fire_listed, row_starts, takes_effect}
+use Rattle.gem_model.specs.Fire.{fire, fires, fire_listed}
+use Rattle.gem_model.specs.Machines.{row_starts, takes_effect, least}
 use Rattle.gem_model.specs.Signals.{with_arrival}
 use Rattle.gem_model.specs.Direct.{operator_rows, answer_rows, timeout_rows, session_end_rows}
-use Rattle.gem_model.specs.Ready.{least}
 use Rattle.gem_model.specs.Verdict.{function_of}
 use Rattle.gem_model.specs.Act.{note_answered, closed_by, session_ended}
 use Rattle.gem_model.specs.Due.{timed_out}
-use Rattle.gem_model.proofs.Listed.{Are, IsListed, listed_keeps, free_listed, listed_answer, listed_timeout, listed_ended, listed_disable}
+use Rattle.gem_model.specs.Direct.{Are, IsListed}
+use Rattle.gem_model.proofs.Listed.{listed_keeps, free_listed, listed_answer, listed_timeout, listed_ended, listed_disable}
 use Rattle.gem_model.proofs.Walk.{Inner, Kept, out_of, told_of}
 
 -- what keeps a fact of states that looks at no transaction, while link, moment and the end of the run stay: each change by
@@ -44,7 +47,7 @@ pub record EachInner (P : State → Type 0) : Type 1 where
   pub kinds : (g : State) (k : SpooledKinds) → P g → P (record g { line = with_kinds k g.line })
   pub answer : (g : State) → P g → P (record g { line = answered_line g.line })
   pub came : (g : State) (port : ℕ) (name : Option (List ℕ)) (slots : List ℕ) → P g → P (with_arrival port name slots g)
-  pub written : (g : State) (a : CarrierAction) → carrier_code g.floor a ≡ 0 → P g → P (record g { floor = carrier_written a g.floor })
+  pub written : (g : State) (a : CarrierAction) → is_done_code (carrier_code g.floor a) ≡ true → P g → P (record g { floor = carrier_written a g.floor })
   pub row : (g : State) (f : Firing) → IsListed f → row_starts g f ≡ true → P g → P (takes_effect g f)
   pub ready : (g : State) (f : Firing) → least g ≡ Some f → P g → P (fire g f)
   pub created : (g : State) (n : ℕ) → P g → P (fire g (firing 8 n 1))
@@ -58,7 +61,7 @@ pub record Each (P : State → Type 0) : Type 1 where
 
 module _ (P : State → Type 0) (each : EachInner P) where
   each_listed : (fs : List Firing) → Are IsListed fs → (g : State) → P g → P (fire_listed fs g)
-  each_listed fs listed g at = listed_keeps P IsListed each.event each.row fs listed g at
+  each_listed fs listed g at = listed_keeps P IsListed each.event each.row each.created fs listed g at
 
   each_note : (g : State) (w : What) → P g → P (note_answered w g)
   each_note g what.Establish at = at

@@ -1,48 +1,63 @@
 -- The rows of the load ports and the carriers: what they leave alone, whether an input fires them or they fire by themselves.
-use Rattle.std.proofs.Common.{◌≡◌, ℕ, ◌+◌, ◌*◌, ◌-◌, ◌==◌, Bool, false, if◌then◌else◌, List, [], ◌∷◌, ◌++◌, Option, Some, None, refl, sym, subst}
-use Rattle.gem_tables.specs.Table.{Firing, firing}
+use Rattle.std.proofs.Common.{◌≡◌, ℕ, ◌+◌, ◌*◌, ◌-◌, ◌==◌, Bool, true, false, if◌then◌else◌, List, [], ◌∷◌, ◌++◌, Option, Some, None, refl, sym, subst, ◌∙◌}
+use Rattle.gem_tables.specs.Table.{firing}
+use Rattle.gem_tables.specs.declared.firing.Firing.{Firing}
 use Rattle.gem_rows.specs.Events.{ceid_of}
 use Rattle.load_port.specs.Ports.{is_no_port}
 use Rattle.shop_floor.specs.Floor.{Floor}
-use Rattle.shop_floor.specs.Rows.{creates}
-use Rattle.shop_floor.specs.Ready.{floor_least}
-use Rattle.shop_floor.specs.Requests.{at_port, at_place, at_ports, creation_of, unbinding, proceeding, cancelling, port_number_of, word_rows, carrier_rows, port_rows, mode_row, or_all, removal}
+use Rattle.shop_floor.specs.Requests.{at_port, at_ports, creation_of, unbinding, proceeding, cancelling, port_number_of, word_rows, carrier_rows, port_rows, mode_row, or_all, removal}
 use Rattle.carrier.specs.declared.carrier.Carrier.{Carrier}
 use Rattle.carrier.specs.declared.action.CarrierAction.{CarrierAction}
 use Rattle.carrier.specs.declared.action.CarrierWord.{CarrierWord}
 use Rattle.carrier.specs.declared.action.CarrierWord.TheVariants as word
 use Rattle.carrier.specs.Record.{is_id_waiting, is_map_waiting}
-use Rattle.carrier.specs.Carriers.{is_known, carrier_named, place_of}
+use Rattle.carrier.specs.Carriers.{is_known, carrier_named}
+use Rattle.load_port.specs.declared.caack.Caack.{Caack}
+use Rattle.load_port.specs.Caack.{caack_number, is_done_code}
 use Rattle.load_port.specs.declared.action.PortAction.{PortAction}
 use Rattle.load_port.specs.declared.action.PortAction.TheVariants as ask
 use Rattle.msgs_300.specs.Primaries.{Message, S3F17, S3F25, S3F27}
-use Rattle.gem_model.specs.Shop.{carrier_action, port_word, carrier_caack, port_caack, carrier_done_rows, port_done_rows, shop_rows}
+use Rattle.msgs_300.specs.declared.reply.ShopReply.{ShopReply}
+use Rattle.msgs_300.specs.declared.reply.ShopReply.TheVariants as reply
+use Rattle.gem_model.specs.Shop.{carrier_action, port_word, carrier_caack, port_caack}
+use Rattle.gem_model.specs.Messages.{carrier_done, port_done, shop_done}
 use Rattle.shop_floor.proofs.Shapes.{not_table_1, not_table_2, not_table_3}
 use Rattle.gem_model.specs.State.{State, is_online}
-use Rattle.gem_model.specs.Values.{Occasion, object_name}
+use Rattle.gem_model.specs.Values.{Occasion}
+use Rattle.gem_model.specs.Machines.{creations, fire_floor, object_name, row_starts, takes_effect}
 use Rattle.gem_model.specs.Noting.{line_behind}
-use Rattle.gem_model.specs.Fire.{fire, fire_floor, takes_effect, creations}
+use Rattle.gem_model.specs.Fire.{fire, fire_all, advanced}
+use Rattle.std.specs.List.{AllByRecursion}
+use Rattle.shop_floor.proofs.Creations.{creations as floor_creations}
+use Rattle.shop_floor.specs.Machines.{floor_starts, creation_rows, floor_least, object_name as floor_object}
+use Rattle.gem_model.proofs.OnFloor.{starts_as, effect_as, creations_as, object_as}
 use Rattle.gem_model.proofs.Tests.{either_way}
 
 -- a row of tables 4 to 10
 pub record IsFloorRow (f : Firing) : Type 0 where
-  pub not_1 : (f.table == 1) ≡ false
-  pub not_2 : (f.table == 2) ≡ false
-  pub not_3 : (f.table == 3) ≡ false
+  pub not_1 : (f.row.table == 1) ≡ false
+  pub not_2 : (f.row.table == 2) ≡ false
+  pub not_3 : (f.row.table == 3) ≡ false
 
 abbrev pub AreFloorRows : List Firing → Type 0
 AreFloorRows [] = Unit {0}
 AreFloorRows (f ∷ fs) = IsFloorRow f × AreFloorRows fs
 
 pub effect_is : (g : State) (f : Firing) → IsFloorRow f → takes_effect g f ≡ fire_floor f g
-effect_is g f is = rw (is.not_1, is.not_2, is.not_3) refl
+effect_is g f is = effect_as g f ∙ rw (is.not_1, is.not_2, is.not_3) refl
+
+pub starts_is : (g : State) (f : Firing) → IsFloorRow f → row_starts g f ≡ floor_starts f g.floor
+starts_is g f is = starts_as g f ∙ rw (is.not_1, is.not_2, is.not_3) refl
+
+pub creations_is : (g : State) (f : Firing) → IsFloorRow f → creations g f ≡ creation_rows f g.floor
+creations_is g f is = creations_as g f ∙ rw (is.not_1, is.not_2, is.not_3) refl
+
+pub object_is : (g : State) (f : Firing) → IsFloorRow f → object_name g f ≡ floor_object f g.floor
+object_is g f is = object_as g f ∙ rw (is.not_1, is.not_2, is.not_3) refl
 
 -- those that are ready by themselves are such rows
 pub ready_is : (g : State) (f : Firing) → floor_least g.floor ≡ Some f → IsFloorRow f
 ready_is g f ready = record { not_1 = not_table_1 g.floor f ready; not_2 = not_table_2 g.floor f ready; not_3 = not_table_3 g.floor f ready }
-
-pub at_port_are : (table row : ℕ) (f : Floor) (port : ℕ) → IsFloorRow (firing table (port - 1) row) → AreFloorRows (at_port table row f port)
-at_port_are table row f port is = either_way AreFloorRows (is_no_port port f.ports) [] (firing table (port - 1) row ∷ []) tt (is, tt)
 
 pub both_are : (fs gs : List Firing) → AreFloorRows fs → AreFloorRows gs → AreFloorRows (fs ++ gs)
 both_are [] gs first next = next
@@ -63,79 +78,99 @@ is_7 n row = record { not_1 = refl; not_2 = refl; not_3 = refl }
 pub is_8 : (n row : ℕ) → IsFloorRow (firing 8 n row)
 is_8 n row = record { not_1 = refl; not_2 = refl; not_3 = refl }
 
-pub service_are : (on : Bool) (f : Floor) (port : ℕ) → AreFloorRows (at_port 4 (if on then 1 else 2) f port)
-service_are on f port = at_port_are 4 (if on then 1 else 2) f port (is_4 (port - 1) (if on then 1 else 2))
+is_9 : (n row : ℕ) → IsFloorRow (firing 9 n row)
+is_9 n row = record { not_1 = refl; not_2 = refl; not_3 = refl }
 
-pub access_are : (auto : Bool) (f : Floor) (port : ℕ) → AreFloorRows (at_port 5 (if auto then 1 else 2) f port)
-access_are auto f port = at_port_are 5 (if auto then 1 else 2) f port (is_5 (port - 1) (if auto then 1 else 2))
+is_10 : (n row : ℕ) → IsFloorRow (firing 10 n row)
+is_10 n row = record { not_1 = refl; not_2 = refl; not_3 = refl }
 
-pub placing_are : (f : Floor) (port : ℕ) → AreFloorRows (at_port 4 3 f port)
-placing_are f port = at_port_are 4 3 f port (is_4 (port - 1) 3)
+pub service_are : (on : Bool) (port : ℕ) → AreFloorRows (at_port 4 (if on then 1 else 2) port)
+service_are on port = (is_4 port (if on then 1 else 2), tt)
 
-pub removal_are : (f : Floor) (port : ℕ) → AreFloorRows (removal port f)
-removal_are f port = both_are (at_port 4 5 f port) (at_port 7 6 f port) (at_port_are 4 5 f port (is_4 (port - 1) 5)) (at_port_are 7 6 f port (is_7 (port - 1) 6))
+pub access_are : (auto : Bool) (port : ℕ) → AreFloorRows (at_port 5 (if auto then 1 else 2) port)
+access_are auto port = (is_5 port (if auto then 1 else 2), tt)
+
+pub placing_are : (port : ℕ) → AreFloorRows (at_port 4 3 port)
+placing_are port = (is_4 port 3, tt)
+
+pub removal_are : (port : ℕ) → AreFloorRows (removal port)
+removal_are port = (is_4 port 5, (is_7 port 6, tt))
 
 creation_are : (name : List ℕ) (f : Floor) → AreFloorRows (creation_of name f)
-creation_are name f = either_way AreFloorRows (is_known name f.carriers) [] (firing 8 _ 1 ∷ []) tt (is_8 _ 1, tt)
+creation_are name f = either_way AreFloorRows (is_known name f.carriers) [] (firing 8 f.next_carrier 1 ∷ []) tt (is_8 f.next_carrier 1, tt)
 
-place_are : (table row : ℕ) (place : Option ℕ) → ((n : ℕ) → IsFloorRow (firing table n row)) → AreFloorRows (at_place table row place)
-place_are table row None is = tt
-place_are table row (Some n) is = (is n, tt)
+unbinding_are : (number : ℕ) → AreFloorRows (unbinding number)
+unbinding_are number = (is_6 number 2, (is_7 number 2, tt))
 
-unbinding_are : (number : ℕ) (f : Floor) → AreFloorRows (unbinding number f)
-unbinding_are number f = both_are (at_port 6 2 f number) (at_port 7 2 f number) (at_port_are 6 2 f number (is_6 (number - 1) 2)) (at_port_are 7 2 f number (is_7 (number - 1) 2))
+proceeding_are : (c : Option Carrier) → AreFloorRows (proceeding c)
+proceeding_are None = tt
+proceeding_are (Some c) =
+    either_way AreFloorRows (is_id_waiting c.states.id) (firing 8 c.number 4 ∷ []) (firing 9 c.number 3 ∷ []) (is_8 c.number 4, tt) (is_9 c.number 3, tt)
 
-proceeding_are : (c : Option Carrier) (place : Option ℕ) → AreFloorRows (proceeding c place)
-proceeding_are None place = tt
-proceeding_are (Some c) place =
-    either_way AreFloorRows (is_id_waiting c.states.id) (at_place 8 4 place) (at_place 9 3 place)
-    (place_are 8 4 place (λ n. is_8 n 4)) (place_are 9 3 place (λ n. record { not_1 = refl; not_2 = refl; not_3 = refl }))
-
-cancelling_are : (c : Option Carrier) (place : Option ℕ) → AreFloorRows (cancelling c place)
-cancelling_are None place = tt
-cancelling_are (Some c) place =
-    either_way AreFloorRows (is_id_waiting c.states.id) (at_place 8 5 place) (if is_map_waiting c.states.map then at_place 9 4 place else at_place 10 4 place)
-    (place_are 8 5 place (λ n. is_8 n 5))
-    (either_way AreFloorRows (is_map_waiting c.states.map) (at_place 9 4 place) (at_place 10 4 place)
-    (place_are 9 4 place (λ n. record { not_1 = refl; not_2 = refl; not_3 = refl })) (place_are 10 4 place (λ n. record { not_1 = refl; not_2 = refl; not_3 = refl })))
+cancelling_are : (c : Option Carrier) → AreFloorRows (cancelling c)
+cancelling_are None = tt
+cancelling_are (Some c) =
+    either_way AreFloorRows (is_id_waiting c.states.id) (firing 8 c.number 5 ∷ []) (if is_map_waiting c.states.map then firing 9 c.number 4 ∷ [] else firing 10 c.number 4 ∷ [])
+    (is_8 c.number 5, tt)
+    (either_way AreFloorRows (is_map_waiting c.states.map) (firing 9 c.number 4 ∷ []) (firing 10 c.number 4 ∷ []) (is_9 c.number 4, tt) (is_10 c.number 4, tt))
 
 pub word_are : (w : CarrierWord) (a : CarrierAction) (f : Floor) → AreFloorRows (word_rows w a f)
 word_are word.Bind a f =
-    both_are (creation_of a.id f) (at_port 6 1 f a.port ++ at_port 7 1 f a.port) (creation_are a.id f)
-    (both_are (at_port 6 1 f a.port) (at_port 7 1 f a.port) (at_port_are 6 1 f a.port (is_6 (a.port - 1) 1)) (at_port_are 7 1 f a.port (is_7 (a.port - 1) 1)))
-word_are word.CancelBind a f = unbinding_are (port_number_of (carrier_named a.id f.carriers)) f
-word_are word.Proceed a f = proceeding_are (carrier_named a.id f.carriers) (place_of a.id f.carriers)
-word_are word.Cancel a f = cancelling_are (carrier_named a.id f.carriers) (place_of a.id f.carriers)
+    both_are (creation_of a.id f) (at_port 6 1 a.port ++ at_port 7 1 a.port) (creation_are a.id f) (is_6 a.port 1, (is_7 a.port 1, tt))
+word_are word.CancelBind a f = unbinding_are (port_number_of (carrier_named a.id f.carriers))
+word_are word.Proceed a f = proceeding_are (carrier_named a.id f.carriers)
+word_are word.Cancel a f = cancelling_are (carrier_named a.id f.carriers)
 word_are word.Notify a f = creation_are a.id f
 word_are word.CancelNotify a f = tt
 word_are word.Unknown a f = tt
 
-ports_are : (row : ℕ) (f : Floor) (numbers : List ℕ) → AreFloorRows (at_ports 5 row f numbers)
-ports_are row f [] = tt
-ports_are row f (n ∷ ns) = both_are (at_port 5 row f n) (at_ports 5 row f ns) (at_port_are 5 row f n (is_5 (n - 1) row)) (ports_are row f ns)
+ports_are : (row : ℕ) (numbers : List ℕ) → AreFloorRows (at_ports 5 row numbers)
+ports_are row [] = tt
+ports_are row (n ∷ ns) = (is_5 n row, ports_are row ns)
 
 action_are : (a : PortAction) (f : Floor) → AreFloorRows (port_rows a f)
-action_are (ask.Reserve number) f = at_port_are 6 1 f number (is_6 (number - 1) 1)
-action_are (ask.CancelReserve number) f = at_port_are 6 2 f number (is_6 (number - 1) 2)
-action_are (ask.Access mode numbers) f = ports_are (mode_row mode) f (or_all numbers f)
+action_are (ask.Reserve number) f = (is_6 number 1, tt)
+action_are (ask.CancelReserve number) f = (is_6 number 2, tt)
+action_are (ask.Access mode numbers) f = ports_are (mode_row mode) (or_all numbers f)
 action_are ask.Unknown f = tt
 
-carrier_are : (a : CarrierAction) (g : State) → AreFloorRows (carrier_done_rows a g)
-carrier_are a g = either_way AreFloorRows (carrier_caack a g == 0) (carrier_rows a g.floor) [] (word_are a.word a g.floor) tt
+pub carrier_are : (a : CarrierAction) (g : State) (code : Caack) → AreFloorRows (carrier_done g a code).rows
+carrier_are a g code = either_way AreFloorRows (is_done_code code) (carrier_rows a g.floor) [] (word_are a.word a g.floor) tt
 
-port_are : (a : PortAction) (g : State) → AreFloorRows (port_done_rows a g)
-port_are a g = either_way AreFloorRows (port_caack a g == 0) (port_rows a g.floor) [] (action_are a g.floor) tt
+pub port_are : (a : PortAction) (g : State) (r : ShopReply) (code : Caack) → AreFloorRows (port_done g a r code).rows
+port_are a g r code = either_way AreFloorRows (is_done_code code) (port_rows a g.floor) [] (action_are a g.floor) tt
 
-pub shop_are : (m : Message) (g : State) → AreFloorRows (shop_rows m g)
-shop_are (S3F17 dataid action carrier number attributes) g = carrier_are (carrier_action action carrier number attributes) g
-shop_are (S3F25 action number value) g = port_are (port_word action number) g
-shop_are (S3F27 mode numbers) g = port_are (ask.Access mode numbers) g
+pub shop_are : (m : Message) (g : State) → AreFloorRows (shop_done g m).rows
+shop_are (S3F17 dataid action carrier number attributes) g = carrier_are (carrier_action action carrier number attributes) g (carrier_caack (carrier_action action carrier number attributes) g)
+shop_are (S3F25 action number value) g = port_are (port_word action number) g (reply.S3F26 (caack_number (port_caack (port_word action number) g))) (port_caack (port_word action number) g)
+shop_are (S3F27 mode numbers) g = port_are (ask.Access mode numbers) g (reply.S3F28 (caack_number (port_caack (ask.Access mode numbers) g))) (port_caack (ask.Access mode numbers) g)
 
 -- ---- what a firing creates
 
--- a firing creates nothing, or one carrier, whose creation row follows
-pub created_case : (P : List Firing → Type 0) (g : State) (f : Firing) → P [] → ((n : ℕ) → P (firing 8 n 1 ∷ [])) → P (creations g f)
-created_case P g f none one = either_way P (creates f g.floor) (firing 8 _ 1 ∷ []) [] (one _) none
+-- each row of a created object is row 1 of table 8
+abbrev pub AreCreations : List Firing → Type 0
+AreCreations ds = AllByRecursion (λ (d : Firing). d ≡ firing 8 d.object 1) ds
+
+pub created_are : (g : State) (f : Firing) → AreCreations (creations g f)
+created_are g f = subst AreCreations (sym (creations_as g f)) (of (f.row.table == 1) (f.row.table == 2) (f.row.table == 3)) where
+  of : (first second third : Bool) → AreCreations (if first then [] else (if second then [] else (if third then [] else creation_rows f g.floor)))
+  of true second third = tt
+  of false true third = tt
+  of false false true = tt
+  of false false false = floor_creations g.floor f
+
+-- such a row creates no more
+pub creates_no_more : (g : State) (d : Firing) → d ≡ firing 8 d.object 1 → creations g d ≡ []
+creates_no_more g d is = subst (λ (x : Firing). creations g x ≡ []) (sym is) refl
+
+-- what holds of a state behind a firing holds behind what that creates
+pub created_keeps : (P : State → Type 0) → ((g : State) (n : ℕ) → P g → P (fire g (firing 8 n 1))) → (ds : List Firing) → AreCreations ds → (g : State) → P g → P (fire_all ds g)
+created_keeps P creates [] are g here = here
+created_keeps P creates (d ∷ ds) are g here =
+    created_keeps P creates ds are.1 (fire g d) (subst (λ (x : Firing). P (fire g x)) (sym are.0) (creates g d.object here))
+
+pub advanced_keeps : (P : State → Type 0) → ((g : State) (n : ℕ) → P g → P (fire g (firing 8 n 1))) → (g : State) (f : Firing) → P (fire g f) → P (advanced g f)
+advanced_keeps P creates g f here = created_keeps P creates (creations g f) (created_are g f) (fire g f) here
 
 -- ---- what the floor leaves alone
 
@@ -147,5 +182,5 @@ pub record LeftAlone (P : State → Type 0) : Type 1 where
 pub alone_fire : (P : State → Type 0) → LeftAlone P → (g : State) (f : Firing) → IsFloorRow f → P g → P (fire g f)
 alone_fire P alone g f is here =
     let h : State = takes_effect g f in
-    alone.noted h (ceid_of f.table f.row) (record { object = object_name h f; row = 100 * f.table + f.row }) (is_online g.control)
+    alone.noted h (ceid_of f.row.table f.row.row) (record { object = object_name g f; row = 100 * f.row.table + f.row.row }) (is_online g.control)
     (subst P (sym (effect_is g f is)) (alone.floor g _ here))

@@ -1,17 +1,20 @@
 -- The load ports and the carriers stay valid, whatever comes: so at most sixteen carriers are known.
-use Rattle.std.proofs.Common.{◌≡◌, ℕ, ◌==◌, ◌≤◌, Bool, true, false, if◌then◌else◌, List, [], ◌∷◌, length, Option, Some, None, option_map, refl, sym, subst}
+use Rattle.std.proofs.Common.{◌≡◌, ℕ, ◌==◌, ◌≤◌, Bool, true, false, if◌then◌else◌, List, [], ◌∷◌, length, Option, Some, None, option_map, refl, sym, ◌∙◌, subst}
 use Rattle.std.specs.Option.{option_or}
-use Rattle.gem_tables.specs.Table.{Firing, firing, starts}
-use Rattle.gem_tables.specs.Communication.{communication_table}
-use Rattle.gem_tables.specs.Control.{control_table}
-use Rattle.gem_states.specs.Meaning.{comm_number, comm_fired, control_number, control_fired}
+use Rattle.gem_tables.specs.Table.{firing, row_of}
+use Rattle.gem_states.specs.Communication.{communication_table, comm_starts}
+use Rattle.gem_states.specs.Control.{control_table, control_starts}
+use Rattle.gem_model.proofs.Effects.{comm_effect_case, control_effect_case}
+use Rattle.gem_tables.specs.declared.firing.Firing.{Firing}
+use Rattle.gem_states.specs.Communication.{comm_number, comm_fired}
+use Rattle.gem_states.specs.Control.{control_number, control_fired}
 use Rattle.note_line.specs.Table3.{line_starts}
 use Rattle.note_line.specs.Table3 as table
 use Rattle.spool.specs.declared.note.Note.{Note}
 use Rattle.load_port.specs.Ports.{most_ports}
 use Rattle.carrier.specs.Carriers.{most_carriers}
 use Rattle.shop_floor.specs.Floor.{arrival_of}
-use Rattle.shop_floor.specs.Rows.{floor_starts}
+use Rattle.shop_floor.specs.Machines.{floor_starts}
 use Rattle.shop_floor.specs.Valid.{IsFloor}
 use Rattle.shop_floor.proofs.Keeps.{opening-valid, row-keeps, came-keeps}
 use Rattle.shop_floor.proofs.Asked.{written-keeps}
@@ -24,11 +27,15 @@ use Rattle.tool_events.specs.declared.event.Event.{Event}
 use Rattle.transactions.specs.declared.transaction.What.TheVariants as what
 use Rattle.gem_model.specs.State.{State, opening, around, can_ask, none_asked, raised}
 use Rattle.gem_model.specs.Sending.{asks, identity_text}
-use Rattle.gem_model.specs.Fire.{fire, fire_listed, fire_comm, fire_control, fire_line, fire_floor, row_starts, delay_end, forgets, asks_first}
-use Rattle.gem_model.specs.Ready.{least, ready_comm, ready_control, ready_line, ready_floor}
+use Rattle.gem_model.specs.Fire.{fire, fire_listed}
+use Rattle.gem_model.specs.Effects.{fire_comm, fire_control, fire_line, delay_end, forgets, asks_first}
+use Rattle.gem_model.specs.Machines.{fire_floor, row_starts, least}
+use Rattle.gem_model.specs.Ready.{ready_line, ready_floor}
+use Rattle.gem_model.proofs.Effects.{asks_host, gives_up, least_is}
 use Rattle.gem_model.specs.Settle.{settled, settling, Along}
 use Rattle.gem_model.specs.Step.{Outcome, acts}
 use Rattle.gem_model.specs.Run.{Run}
+use Rattle.gem_model.proofs.OnFloor.{effect_as, starts_as}
 use Rattle.gem_model.proofs.Tests.{went, either_way, or_went, none_some}
 use Rattle.gem_model.proofs.FloorRows.{effect_is, ready_is}
 use Rattle.gem_model.proofs.Each.{Each, each_kept}
@@ -59,17 +66,12 @@ floor_either g b x y at_x at_y = either_way (SameFloor g) b x y at_x at_y
 floor_comm : (g : State) (row : ℕ) → SameFloor g (fire_comm row g)
 floor_comm g row =
     let h : State = record g { comm = comm_fired row (delay_end row g) g.comm } in
-    floor_either g (row == 2) (none_asked h) (if row == 3 then asks 1 13 what.Establish (identity_text h.config) h else (if row == 6 then forgets what.Establish h else h)) refl
-    (floor_either g (row == 3) (asks 1 13 what.Establish (identity_text h.config) h) (if row == 6 then forgets what.Establish h else h)
-    (floor_either g _ h _ refl refl)
-    (floor_either g (row == 6) (forgets what.Establish h) h refl refl))
+    comm_effect_case (SameFloor g) (row_of (communication_table 0) row) h refl refl (floor_either g _ h _ refl refl) refl
 
 floor_control : (g : State) (row : ℕ) → SameFloor g (fire_control row g)
 floor_control g row =
     let h : State = record g { control = control_fired row g.control } in
-    floor_either g (row == 1) (if can_ask h then asks 1 1 what.Attempt [] h else h) (if row == 6 then forgets what.Attempt h else h)
-    (floor_either g (can_ask h) (asks 1 1 what.Attempt [] h) h (floor_either g _ h _ refl refl) refl)
-    (floor_either g (row == 6) (forgets what.Attempt h) h refl refl)
+    control_effect_case (SameFloor g) (row_of control_table row) h refl (floor_either g _ h _ refl refl) refl
 
 floor_first : (notes : List Note) (g : State) → SameFloor g (asks_first notes g)
 floor_first [] g = refl
@@ -81,21 +83,12 @@ floor_line g row =
     (floor_either g (row == 13) (asks_first g.line.waiting g) g (floor_first g.line.waiting g) refl)
 
 by_tables : (first second third : Bool) (f : Firing) (row : ℕ) (g : State) →
-    (if first then starts communication_table row (comm_number g.comm) else (if second then starts control_table row (control_number g.control) else (if third then line_starts (around g) row g.line else floor_starts f g.floor))) ≡ true →
+    (if first then comm_starts row g.comm else (if second then control_starts row g.control else (if third then line_starts (around g) row g.line else floor_starts f g.floor))) ≡ true →
     Sound g → Sound (if first then fire_comm row g else (if second then fire_control row g else (if third then fire_line row g else fire_floor f g)))
 by_tables true second third f row g is valid = sound_same g (fire_comm row g) (floor_comm g row) valid
 by_tables false true third f row g is valid = sound_same g (fire_control row g) (floor_control g row) valid
 by_tables false false true f row g is valid = sound_same g (fire_line row g) (floor_line g row) valid
 by_tables false false false f row g is valid = row-keeps f g.floor is valid
-
--- a row that starts keeps it
-sound_fire : (g : State) (f : Firing) → row_starts g f ≡ true → Sound g → Sound (fire g f)
-sound_fire g f is valid = by_tables (f.table == 1) (f.table == 2) (f.table == 3) f f.row g is valid
-
-sound_listed : (fs : List Firing) (g : State) → Sound g → Sound (fire_listed fs g)
-sound_listed [] g valid = valid
-sound_listed (f ∷ fs) g valid =
-    sound_listed fs (if row_starts g f then fire g f else g) (where_true Sound (row_starts g f) (fire g f) g (λ is. sound_fire g f is valid) valid)
 
 -- ---- settling
 
@@ -113,12 +106,12 @@ sound_ready g f ready valid = subst Sound (sym (effect_is g f (ready_is g f read
 
 sound_automatic : (g : State) (f : Firing) → least g ≡ Some f → Sound g → Sound (fire g f)
 sound_automatic g f ready valid =
-    or_went (ready_comm g) (option_or (ready_control g) (option_or (ready_line g) (ready_floor g))) f
+    or_went (asks_host g) (option_or (gives_up g) (option_or (ready_line g) (ready_floor g))) f
     (λ at. went _ _ _ _ (λ over e. sound_one g f (firing 1 0 3) (sound_same g (fire_comm 3 g) (floor_comm g 3) valid) e) (λ _ e. none_some f e) at)
-    (λ _ behind. or_went (ready_control g) (option_or (ready_line g) (ready_floor g)) f
+    (λ _ behind. or_went (gives_up g) (option_or (ready_line g) (ready_floor g)) f
     (λ at. went _ _ _ _ (λ can e. sound_one g f (firing 2 0 2) (sound_same g (fire_control 2 g) (floor_control g 2) valid) e) (λ _ e. none_some f e) at)
     (λ _ last. or_went (ready_line g) (ready_floor g) f (λ at. sound_line g (table.least (around g) g.line) f at valid) (λ _ at. sound_ready g f at valid) last) behind)
-    ready
+    (sym (least_is g) ∙ ready)
 
 sound_creation : (g : State) (n : ℕ) → Sound g → Sound (fire g (firing 8 n 1))
 sound_creation g n valid = subst IsFloor (sym (creation_same g.floor n)) valid
@@ -147,7 +140,7 @@ sound_each = record {
     answer = λ g valid. valid;
     came = λ g port name slots valid. came-keeps port (arrival_of port name slots g.floor.carriers) g.floor valid;
     written = λ g a is valid. written-keeps a g.floor is valid;
-    row = λ g f listed is valid. by_tables (f.table == 1) (f.table == 2) (f.table == 3) f f.row g is valid;
+    row = λ g f listed is valid. subst Sound (sym (effect_as g f)) (by_tables (f.row.table == 1) (f.row.table == 2) (f.row.table == 3) f f.row.row g (sym (starts_as g f) ∙ is) valid);
     ready = λ g f ready valid. sound_automatic g f ready valid;
     created = λ g n valid. sound_creation g n valid;
   };

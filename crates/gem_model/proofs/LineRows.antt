@@ -1,7 +1,8 @@
 -- The rows of the line of notes that fire by themselves: which is ready, and what they do.
 use Rattle.std.proofs.Common.{◌≡◌, ℕ, ◌≤◌, List, [], ◌∷◌, Option, Some, None, option_map, refl, subst, arith}
 use Rattle.std.specs.List.{AllByRecursion}
-use Rattle.gem_tables.specs.Table.{Firing, firing}
+use Rattle.gem_tables.specs.Table.{firing}
+use Rattle.gem_tables.specs.declared.firing.Firing.{Firing}
 use Rattle.gem_rows.specs.Events.{ceid_of}
 use Rattle.spool.specs.declared.note.Note.{Note}
 use Rattle.note_line.specs.declared.around.Around.{Around}

@@ -1,10 +1,13 @@
 -- The line of notes goes on: it stays valid, and what became of a note stays.
-use Rattle.std.proofs.Common.{◌≡◌, ℕ, ◌+◌, ◌*◌, ◌==◌, Bool, true, false, if◌then◌else◌, [], Option, Some, None, option_map, refl, subst, sym}
+use Rattle.std.proofs.Common.{◌∙◌, ◌≡◌, ℕ, ◌+◌, ◌*◌, ◌==◌, Bool, true, false, if◌then◌else◌, [], Option, Some, None, option_map, refl, subst, sym}
 use Rattle.std.specs.Option.{option_or}
-use Rattle.gem_tables.specs.Table.{Firing, firing, starts}
-use Rattle.gem_tables.specs.Communication.{communication_table}
-use Rattle.gem_tables.specs.Control.{control_table}
-use Rattle.gem_states.specs.Meaning.{comm_number, comm_fired, control_number, control_fired}
+use Rattle.gem_tables.specs.Table.{firing, row_of}
+use Rattle.gem_states.specs.Communication.{communication_table, comm_starts}
+use Rattle.gem_states.specs.Control.{control_table, control_starts}
+use Rattle.gem_model.proofs.Effects.{comm_effect_case, control_effect_case}
+use Rattle.gem_tables.specs.declared.firing.Firing.{Firing}
+use Rattle.gem_states.specs.Communication.{comm_number, comm_fired}
+use Rattle.gem_states.specs.Control.{control_number, control_fired}
 use Rattle.gem_rows.specs.Events.{ceid_of}
 use Rattle.note_line.specs.Line.{Line, with_kinds, answered}
 use Rattle.note_line.specs.Table3.{is_direct, line_starts}
@@ -15,13 +18,17 @@ use Rattle.tool_events.specs.declared.event.Event.{Event}
 use Rattle.transactions.specs.declared.transaction.What.TheVariants as what
 use Rattle.gem_model.specs.State.{State, is_online, around, can_ask, none_asked, raised}
 use Rattle.gem_model.specs.Sending.{asks, identity_text}
-use Rattle.gem_model.specs.Values.{Occasion, object_name}
+use Rattle.gem_model.specs.Values.{Occasion}
+use Rattle.gem_model.specs.Machines.{object_name, fire_floor, takes_effect, least}
 use Rattle.gem_model.specs.Noting.{line_behind, line_with_alarm, alarm_line, line_with_event, is_event_reported, is_alarm_reported}
-use Rattle.gem_model.specs.Fire.{fire, fire_comm, fire_control, fire_line, fire_floor, takes_effect, delay_end, forgets}
-use Rattle.gem_model.specs.Ready.{least, ready_comm, ready_control, ready_line, ready_floor}
+use Rattle.gem_model.specs.Fire.{fire}
+use Rattle.gem_model.specs.Effects.{fire_comm, fire_control, fire_line, delay_end, forgets}
+use Rattle.gem_model.specs.Ready.{ready_line, ready_floor}
+use Rattle.gem_model.proofs.Effects.{asks_host, gives_up, least_is}
 use Rattle.gem_model.specs.Step.{Outcome, step, step_from}
+use Rattle.gem_model.proofs.OnFloor.{effect_as, starts_as}
 use Rattle.gem_model.proofs.Tests.{went, either_way, or_went, none_some}
-use Rattle.shop_floor.specs.Rows.{floor_starts}
+use Rattle.shop_floor.specs.Machines.{floor_starts}
 use Rattle.gem_model.proofs.FloorRows.{LeftAlone, alone_fire, ready_is, is_8}
 use Rattle.gem_model.proofs.Each.{Each, each_kept}
 use Rattle.gem_model.proofs.Walk.{kept_step_from}
@@ -61,17 +68,12 @@ line_either g b x y at_x at_y = either_way (SameLine g) b x y at_x at_y
 pub line_comm : (g : State) (row : ℕ) → SameLine g (fire_comm row g)
 line_comm g row =
     let h : State = record g { comm = comm_fired row (delay_end row g) g.comm } in
-    line_either g (row == 2) (none_asked h) (if row == 3 then asks 1 13 what.Establish (identity_text h.config) h else (if row == 6 then forgets what.Establish h else h)) refl
-    (line_either g (row == 3) (asks 1 13 what.Establish (identity_text h.config) h) (if row == 6 then forgets what.Establish h else h)
-    (line_either g _ h _ refl refl)
-    (line_either g (row == 6) (forgets what.Establish h) h refl refl))
+    comm_effect_case (SameLine g) (row_of (communication_table 0) row) h refl refl (line_either g _ h _ refl refl) refl
 
 pub line_control : (g : State) (row : ℕ) → SameLine g (fire_control row g)
 line_control g row =
     let h : State = record g { control = control_fired row g.control } in
-    line_either g (row == 1) (if can_ask h then asks 1 1 what.Attempt [] h else h) (if row == 6 then forgets what.Attempt h else h)
-    (line_either g (can_ask h) (asks 1 1 what.Attempt [] h) h (line_either g _ h _ refl refl) refl)
-    (line_either g (row == 6) (forgets what.Attempt h) h refl refl)
+    control_effect_case (SameLine g) (row_of control_table row) h refl (line_either g _ h _ refl refl) refl
 
 -- a firing's note
 lined_event : (event : Option ℕ) (o : Occasion) (online : Bool) (g : State) → Lined g (record g { line = line_behind event o online g })
@@ -82,10 +84,10 @@ lined_event (Some ceid) o online g valid =
 lined_fire : (g : State) (f : Firing) → Lined g (takes_effect g f) → Lined g (fire g f)
 lined_fire g f effect =
     lined_then g (takes_effect g f) (fire g f) effect
-    (lined_event (ceid_of f.table f.row) (record { object = object_name (takes_effect g f) f; row = 100 * f.table + f.row }) (is_online g.control) (takes_effect g f))
+    (lined_event (ceid_of f.row.table f.row.row) (record { object = object_name g f; row = 100 * f.row.table + f.row.row }) (is_online g.control) (takes_effect g f))
 
 by_tables : (first second third : Bool) (f : Firing) (row : ℕ) (g : State) → (third ≡ true → is_direct row ≡ true) →
-    (if first then starts communication_table row (comm_number g.comm) else (if second then starts control_table row (control_number g.control) else (if third then line_starts (around g) row g.line else floor_starts f g.floor))) ≡ true →
+    (if first then comm_starts row g.comm else (if second then control_starts row g.control else (if third then line_starts (around g) row g.line else floor_starts f g.floor))) ≡ true →
     Lined g (if first then fire_comm row g else (if second then fire_control row g else (if third then fire_line row g else fire_floor f g)))
 by_tables true second third f row g listed is = lined_same g (fire_comm row g) (line_comm g row)
 by_tables false true third f row g listed is = lined_same g (fire_control row g) (line_control g row)
@@ -114,12 +116,12 @@ lined_firing g f one lined here = let same : one ≡ f = cc in subst (λ (x : Fi
 
 lined_automatic : (g : State) (f : Firing) → least g ≡ Some f → Lined g (fire g f)
 lined_automatic g f ready =
-    or_went (ready_comm g) (option_or (ready_control g) (option_or (ready_line g) (ready_floor g))) f
+    or_went (asks_host g) (option_or (gives_up g) (option_or (ready_line g) (ready_floor g))) f
     (λ at. went _ _ _ _ (λ over e. lined_firing g f (firing 1 0 3) (lined_fire g (firing 1 0 3) (lined_same g (fire_comm 3 g) (line_comm g 3))) e) (λ _ e. none_some f e) at)
-    (λ _ behind. or_went (ready_control g) (option_or (ready_line g) (ready_floor g)) f
+    (λ _ behind. or_went (gives_up g) (option_or (ready_line g) (ready_floor g)) f
     (λ at. went _ _ _ _ (λ can e. lined_firing g f (firing 2 0 2) (lined_fire g (firing 2 0 2) (lined_same g (fire_control 2 g) (line_control g 2))) e) (λ _ e. none_some f e) at)
     (λ _ last. or_went (ready_line g) (ready_floor g) f (λ at. lined_ready g f _ refl at) (λ _ at. alone_fire (Lined g) (lined_alone g) g f (ready_is g f at) (lined_at g)) last) behind)
-    ready
+    (sym (least_is g) ∙ ready)
 
 lined_creation : (g : State) (n : ℕ) → Lined g (fire g (firing 8 n 1))
 lined_creation g n = alone_fire (Lined g) (lined_alone g) g (firing 8 n 1) (is_8 n 1) (lined_at g)
@@ -145,7 +147,7 @@ lined_each g = record {
     answer = λ h lined. lined_then g h (record h { line = answered h.line }) lined (answered-keeps h.line);
     came = λ h port name slots lined. lined;
     written = λ h a is lined. lined;
-    row = λ h f listed is lined. lined_then g h (takes_effect h f) lined (by_tables (f.table == 1) (f.table == 2) (f.table == 3) f f.row h listed is);
+    row = λ h f listed is lined. lined_then g h (takes_effect h f) lined (subst (Lined h) (sym (effect_as h f)) (by_tables (f.row.table == 1) (f.row.table == 2) (f.row.table == 3) f f.row.row h listed (sym (starts_as h f) ∙ is)));
     ready = λ h f ready lined. lined_then g h (fire h f) lined (lined_automatic h f ready);
     created = λ h n lined. lined_then g h (fire h (firing 8 n 1)) lined (lined_creation h n);
   };

@@ -3,43 +3,37 @@ use Rattle.std.proofs.Common.{◌≡◌, ℕ, ◌+◌, ◌*◌, ◌==◌, Bool, 
 use Rattle.secs_items.specs.Data.{Data}
 use Rattle.gem_primaries.specs.declared.primary.GemMsg.{GemMsg}
 use Rattle.gem_primaries.specs.declared.primary.GemMsg.TheVariants as msg
-use Rattle.gem_tables.specs.Table.{Firing, firing, starts}
-use Rattle.gem_tables.specs.Control.{control_table, attempt_online}
+use Rattle.gem_tables.specs.Table.{firing}
+use Rattle.gem_tables.specs.declared.firing.Firing.{Firing}
 use Rattle.gem_states.specs.declared.communication.CommTrigger.TheVariants as comm
 use Rattle.gem_states.specs.declared.control.ControlTrigger.TheVariants as trigger
-use Rattle.gem_states.specs.Meaning.{comm_rows, control_rows}
-use Rattle.note_line.specs.Table3.{is_direct}
+use Rattle.gem_states.specs.Triggers.{comm_rows, control_rows}
 use Rattle.tool_events.specs.declared.event.OperCmd.TheVariants as oper
 use Rattle.transactions.specs.declared.transaction.What.{What}
 use Rattle.transactions.specs.declared.transaction.What.TheVariants as what
 use Rattle.transactions.specs.Endings.{first_of}
 use Rattle.gem_model.specs.State.{State, is_online}
-use Rattle.gem_model.specs.Values.{Occasion, object_name}
+use Rattle.gem_model.specs.Values.{Occasion}
+use Rattle.gem_model.specs.Machines.{object_name, row_starts, takes_effect}
 use Rattle.gem_model.specs.Noting.{line_behind}
 use Rattle.gem_rows.specs.Events.{ceid_of}
 use Rattle.std.proofs.lemmas.Bool.{true≢false}
-use Rattle.gem_model.specs.Fire.{fire, fire_listed, row_starts, takes_effect, of_comm, of_control, of_line}
-use Rattle.gem_model.specs.Remote.{RemoteCommand, GoLocal, ClearAlarm, accepted}
+use Rattle.gem_states.specs.Control.{control_starts}
+use Rattle.gem_states.specs.declared.control.Control.TheVariants.{Attempt}
+use Rattle.gem_model.specs.Fire.{fire, advanced, fire_listed, of_comm, of_control, of_line}
+use Rattle.gem_model.specs.Effects.{control_effect}
+use Rattle.gem_model.specs.Remote.{Decision, refused, goes_local, clears, decided}
+use Rattle.gem_model.specs.HostMessages.{HostMessage, Gem, Shop}
+use Rattle.gem_model.specs.Messages.{done, gem_done, shop_done, remote_done}
 use Rattle.gem_model.specs.Spooling.{unload_rows}
-use Rattle.gem_model.specs.Direct.{by_comm, by_control, note_fails, attempt_fails, all_fail, operator_rows, command_rows, message_rows, answer_rows, timeout_rows, session_end_rows, establish_answer, attempt_answer}
+use Rattle.gem_model.specs.Direct.{Are, IsListed, by_comm, by_control, note_fails, attempt_fails, all_fail, operator_rows, answer_rows, timeout_rows, session_end_rows, establish_answer, attempt_answer}
 use Rattle.gem_model.proofs.Tests.{either_way}
-use Rattle.msgs_300.specs.Primaries.{Message}
-use Rattle.gem_model.proofs.FloorRows.{IsFloorRow, AreFloorRows, placing_are, removal_are, shop_are, service_are, access_are}
-use Rattle.gem_model.specs.Shop.{shop_rows}
+use Rattle.gem_model.proofs.FloorRows.{IsFloorRow, AreFloorRows, placing_are, removal_are, shop_are, service_are, access_are, advanced_keeps}
 use Rattle.shop_floor.specs.Requests.{at_port, removal}
-
--- each of these firings is such
-abbrev pub Are : (Firing → Type 0) → List Firing → Type 0
-Are Is [] = Unit {0}
-Are Is (f ∷ fs) = Is f × Are Is fs
 
 pub are_both : (Is : Firing → Type 0) (fs gs : List Firing) → Are Is fs → Are Is gs → Are Is (fs ++ gs)
 are_both Is [] gs first next = next
 are_both Is (f ∷ fs) gs first next = (first.0, are_both Is fs gs first.1 next)
-
--- a firing of table 3 is of a row that an input fires
-abbrev pub IsListed : Firing → Type 0
-IsListed f = (f.table == 3) ≡ true → is_direct f.row ≡ true
 
 -- a firing of a row that an input fires by itself, not the end of a transaction
 pub data IsFree (f : Firing) : Type 0 where
@@ -47,7 +41,7 @@ pub data IsFree (f : Firing) : Type 0 where
   free_met : f ≡ firing 1 0 6 → IsFree f
   free_attempted : f ≡ firing 2 0 1 → IsFree f
   free_off_line : f ≡ firing 2 0 6 → IsFree f
-  free_elsewhere : (row : ℕ) → starts control_table row attempt_online ≡ false → (row == 1) ≡ false → (row == 6) ≡ false → f ≡ firing 2 0 row → IsFree f
+  free_elsewhere : (row : ℕ) → control_starts row Attempt ≡ false → ((g : State) → control_effect row g ≡ g) → f ≡ firing 2 0 row → IsFree f
   free_unload : f ≡ firing 3 0 4 → IsFree f
   free_purge : f ≡ firing 3 0 5 → IsFree f
   free_floor : IsFloorRow f → IsFree f
@@ -65,16 +59,17 @@ where_starts Q false x y at_x at_y = at_y
 module _ (P : State → Type 0) (Is : Firing → Type 0)
     (noted : (g : State) (e : Option ℕ) (o : Occasion) (online : Bool) → P g → P (record g { line = line_behind e o online g }))
     (row : (g : State) (f : Firing) → Is f → row_starts g f ≡ true → P g → P (takes_effect g f))
+    (created : (g : State) (n : ℕ) → P g → P (fire g (firing 8 n 1)))
   where
     fired_keeps : (g : State) (f : Firing) → Is f → row_starts g f ≡ true → P g → P (fire g f)
     fired_keeps g f is starts at =
-        noted (takes_effect g f) (ceid_of f.table f.row) (record { object = object_name (takes_effect g f) f; row = 100 * f.table + f.row }) (is_online g.control) (row g f is starts at)
+        noted (takes_effect g f) (ceid_of f.row.table f.row.row) (record { object = object_name g f; row = 100 * f.row.table + f.row.row }) (is_online g.control) (row g f is starts at)
 
     pub listed_keeps : (fs : List Firing) → Are Is fs → (g : State) → P g → P (fire_listed fs g)
     listed_keeps [] are g at = at
     listed_keeps (f ∷ fs) are g at =
-        listed_keeps fs are.1 (if row_starts g f then fire g f else g)
-        (where_starts P (row_starts g f) (fire g f) g (λ starts. fired_keeps g f are.0 starts at) at)
+        listed_keeps fs are.1 (if row_starts g f then advanced g f else g)
+        (where_starts P (row_starts g f) (advanced g f) g (λ starts. advanced_keeps P created g f (fired_keeps g f are.0 starts at)) at)
 
 -- ---- the ends of transactions, and of a session
 
@@ -115,11 +110,11 @@ listed_disable g = are_both IsListed (by_comm comm.Disable) (all_fail g) (listed
 
 -- a free row of table 3 is one that inputs fire
 pub free_listed : (f : Firing) → IsFree f → IsListed f
-free_listed f (free_enabled same) is = absurd (let no : (f.table == 3) ≡ false = rw same refl in true≢false (sym is ∙ no))
-free_listed f (free_met same) is = absurd (let no : (f.table == 3) ≡ false = rw same refl in true≢false (sym is ∙ no))
-free_listed f (free_attempted same) is = absurd (let no : (f.table == 3) ≡ false = rw same refl in true≢false (sym is ∙ no))
-free_listed f (free_off_line same) is = absurd (let no : (f.table == 3) ≡ false = rw same refl in true≢false (sym is ∙ no))
-free_listed f (free_elsewhere row never sends forgets same) is = absurd (let no : (f.table == 3) ≡ false = rw same refl in true≢false (sym is ∙ no))
+free_listed f (free_enabled same) is = absurd (let no : (f.row.table == 3) ≡ false = rw same refl in true≢false (sym is ∙ no))
+free_listed f (free_met same) is = absurd (let no : (f.row.table == 3) ≡ false = rw same refl in true≢false (sym is ∙ no))
+free_listed f (free_attempted same) is = absurd (let no : (f.row.table == 3) ≡ false = rw same refl in true≢false (sym is ∙ no))
+free_listed f (free_off_line same) is = absurd (let no : (f.row.table == 3) ≡ false = rw same refl in true≢false (sym is ∙ no))
+free_listed f (free_elsewhere row never alone same) is = absurd (let no : (f.row.table == 3) ≡ false = rw same refl in true≢false (sym is ∙ no))
 free_listed f (free_unload same) is = rw same refl
 free_listed f (free_purge same) is = rw same refl
 free_listed f (free_floor floor) is = absurd (true≢false (sym is ∙ floor.not_3))
@@ -128,8 +123,8 @@ of_floor : (fs : List Firing) → AreFloorRows fs → AreFree fs
 of_floor [] are = tt
 of_floor (f ∷ fs) are = (free_floor are.0, of_floor fs are.1)
 
-elsewhere : (row : ℕ) → starts control_table row attempt_online ≡ false → (row == 1) ≡ false → (row == 6) ≡ false → AreFree (of_control (row ∷ []))
-elsewhere row never sends forgets = (free_elsewhere row never sends forgets refl, tt)
+elsewhere : (row : ℕ) → control_starts row Attempt ≡ false → ((g : State) → control_effect row g ≡ g) → AreFree (of_control (row ∷ []))
+elsewhere row never alone = (free_elsewhere row never alone refl, tt)
 
 pub free_enable : AreFree (by_comm comm.Enable)
 free_enable = (free_enabled refl, tt)
@@ -141,42 +136,43 @@ pub free_offline : (g : State) → AreFree (by_control trigger.Offline g)
 free_offline g = (free_off_line refl, tt)
 
 pub free_local : (g : State) → AreFree (by_control trigger.Local g)
-free_local g = elsewhere 11 refl refl refl
+free_local g = elsewhere 11 refl (λ g. refl)
 
 pub free_remote : (g : State) → AreFree (by_control trigger.Remote g)
-free_remote g = elsewhere 10 refl refl refl
+free_remote g = elsewhere 10 refl (λ g. refl)
 
-pub free_service : (port : ℕ) (on : Bool) (g : State) → AreFree (at_port 4 (if on then 1 else 2) g.floor port)
-free_service port on g = of_floor (at_port 4 (if on then 1 else 2) g.floor port) (service_are on g.floor port)
+pub free_service : (port : ℕ) (on : Bool) (g : State) → AreFree (at_port 4 (if on then 1 else 2) port)
+free_service port on g = of_floor (at_port 4 (if on then 1 else 2) port) (service_are on port)
 
-pub free_access : (port : ℕ) (auto : Bool) (g : State) → AreFree (at_port 5 (if auto then 1 else 2) g.floor port)
-free_access port auto g = of_floor (at_port 5 (if auto then 1 else 2) g.floor port) (access_are auto g.floor port)
+pub free_access : (port : ℕ) (auto : Bool) (g : State) → AreFree (at_port 5 (if auto then 1 else 2) port)
+free_access port auto g = of_floor (at_port 5 (if auto then 1 else 2) port) (access_are auto port)
 
-free_commanded : (command : Option RemoteCommand) (g : State) → AreFree (command_rows command g)
-free_commanded None g = tt
-free_commanded (Some GoLocal) g = free_local g
-free_commanded (Some ClearAlarm) g = tt
+free_decided : (d : Decision) (g : State) → AreFree (remote_done g d).rows
+free_decided (refused code faults) g = tt
+free_decided goes_local g = free_local g
+free_decided (clears alid) g = tt
 
 free_unloading : (rsdc : ℕ) → AreFree (unload_rows rsdc)
 free_unloading rsdc = either_way (λ (rows : List ℕ). AreFree (of_line rows)) (rsdc == 0) (4 ∷ []) (5 ∷ []) (free_unload refl, tt) (free_purge refl, tt)
 
 free_s1f17 : (local : Bool) → AreFree (of_control (if local then 7 ∷ [] else 8 ∷ []))
-free_s1f17 true = elsewhere 7 refl refl refl
-free_s1f17 false = elsewhere 8 refl refl refl
+free_s1f17 true = elsewhere 7 refl (λ g. refl)
+free_s1f17 false = elsewhere 8 refl (λ g. refl)
 
-pub free_message : (m : GemMsg) (g : State) → AreFree (message_rows m g)
-free_message msg.S1F13 g = (free_met refl, tt)
-free_message msg.S1F15 g = elsewhere 9 refl refl refl
-free_message msg.S1F17 g = free_s1f17 g.switch_local
-free_message (msg.S2F41 name parameters) g = free_commanded (accepted g name parameters) g
-free_message (msg.S6F23 rsdc) g = free_unloading rsdc
-free_message _ g = tt
+free_gem : (m : GemMsg) (g : State) → AreFree (gem_done g m).rows
+free_gem msg.S1F13 g = (free_met refl, tt)
+free_gem msg.S1F15 g = elsewhere 9 refl (λ g. refl)
+free_gem msg.S1F17 g = free_s1f17 g.switch_local
+free_gem (msg.S2F41 name parameters) g = free_decided (decided g name parameters) g
+free_gem (msg.S6F23 rsdc) g = free_unloading rsdc
+free_gem _ g = tt
 
-pub free_shop : (m : Message) (g : State) → AreFree (shop_rows m g)
-free_shop m g = of_floor (shop_rows m g) (shop_are m g)
+pub free_message : (m : HostMessage) (g : State) → AreFree (done g m).rows
+free_message (Gem m) g = free_gem m g
+free_message (Shop m) g = of_floor (shop_done g m).rows (shop_are m g)
 
-pub free_placing : (port : ℕ) (g : State) → AreFree (at_port 4 3 g.floor port)
-free_placing port g = of_floor (at_port 4 3 g.floor port) (placing_are g.floor port)
+pub free_placing : (port : ℕ) (g : State) → AreFree (at_port 4 3 port)
+free_placing port g = of_floor (at_port 4 3 port) (placing_are port)
 
-pub free_removal : (port : ℕ) (g : State) → AreFree (removal port g.floor)
-free_removal port g = of_floor (removal port g.floor) (removal_are g.floor port)
+pub free_removal : (port : ℕ) (g : State) → AreFree (removal port)
+free_removal port g = of_floor (removal port) (removal_are port)

@@ -7,11 +7,14 @@ use Rattle.std.proofs.lemmas.Bool.{true≢false}
 use Rattle.hsms_frame.specs.declared.frame.Header.{Header}
 use Rattle.secs_items.specs.Data.{Data}
 use Rattle.gem_replies.specs.Acknowledge.{accepts}
-use Rattle.gem_tables.specs.Table.{Firing, firing}
+use Rattle.gem_tables.specs.Table.{firing, row_of}
+use Rattle.gem_tables.specs.declared.firing.Firing.{Firing}
 use Rattle.gem_states.specs.declared.communication.CommTrigger.TheVariants as comm
 use Rattle.gem_states.specs.declared.control.ControlTrigger.{ControlTrigger}
 use Rattle.gem_states.specs.declared.control.ControlTrigger.TheVariants as trigger
-use Rattle.gem_states.specs.Meaning.{comm_fired, control_fired, control_rows}
+use Rattle.gem_states.specs.Communication.{communication_table, comm_fired}
+use Rattle.gem_states.specs.Control.{control_table, control_fired}
+use Rattle.gem_states.specs.Triggers.{control_rows}
 use Rattle.gem_states.specs.declared.communication.CommTrigger.{CommTrigger}
 use Rattle.gem_rows.specs.Events.{ceid_of}
 use Rattle.tool_events.specs.declared.event.OperCmd.TheVariants as oper
@@ -35,21 +38,24 @@ use Rattle.transactions.proofs.Systems.{without-none}
 use Rattle.transactions.proofs.Laws.{table-taken_out, table-started, found-there}
 use Rattle.gem_model.specs.State.{State, opening, t3, with_frame, is_communicating, is_online, around, can_ask, none_asked, without_session, raised}
 use Rattle.gem_model.specs.Sending.{asks, data_frame, identity_text}
-use Rattle.gem_model.specs.Values.{object_name}
+use Rattle.gem_model.specs.Machines.{object_name, fire_floor, takes_effect, row_starts, least}
 use Rattle.gem_model.specs.Noting.{line_with_alarm}
-use Rattle.gem_model.specs.Fire.{asks_first, stream_of_kind, function_of_kind, fire, fires, fire_listed, fire_comm, fire_control, fire_line, fire_floor, takes_effect, row_starts, delay_end, forgets, of_control}
+use Rattle.gem_model.specs.Fire.{advanced, fire, fires, fire_listed, of_control}
+use Rattle.gem_model.specs.Effects.{asks_first, stream_of_kind, function_of_kind, fire_comm, fire_control, fire_line, delay_end, forgets}
 use Rattle.gem_model.specs.Direct.{answer_rows, timeout_rows, establish_answer, attempt_answer, by_comm, by_control, note_fails, operator_rows}
-use Rattle.gem_model.specs.Ready.{least, ready_comm, ready_control, ready_line, ready_floor}
+use Rattle.gem_model.specs.Ready.{ready_line, ready_floor}
+use Rattle.gem_model.proofs.Effects.{asks_host, gives_up, least_is, spares, comm_effect_spared, control_effect_case}
 use Rattle.gem_model.specs.Verdict.{function_of}
 use Rattle.gem_model.specs.Act.{note_answered, closed_by, session_ended}
 use Rattle.gem_model.specs.Due.{timed_out}
 use Rattle.gem_model.specs.Run.{Run}
 use Rattle.gem_model.specs.Valid.{notes, count_of}
 use Rattle.gem_model.specs.OpenNotes.{note_number, note_numbers, number_of, open_number}
+use Rattle.gem_model.proofs.OnFloor.{effect_as}
 use Rattle.gem_model.proofs.Tests.{went, either_way, or_went, none_some}
 use Rattle.gem_model.proofs.LineRows.{line_went, opened_by, oldest_opened, head_opened}
 use Rattle.gem_model.specs.Noting.{line_behind}
-use Rattle.gem_model.proofs.FloorRows.{LeftAlone, alone_fire, effect_is, ready_is, is_8}
+use Rattle.gem_model.proofs.FloorRows.{advanced_keeps, LeftAlone, alone_fire, effect_is, ready_is, is_8}
 use Rattle.gem_model.proofs.Lined.{line_comm, line_control}
 use Rattle.gem_model.proofs.Room.{Few, same_open, same_alarm, same_kinds, no_talk, cannot_note, few-room, few_kept}
 use Rattle.gem_model.proofs.Listed.{IsFree, free_enabled, free_met, free_attempted, free_off_line, free_elsewhere, free_unload, free_purge, free_floor}
@@ -193,45 +199,44 @@ no_attempt (what.Note n) is = absurd (cc)
 
 -- ---- firings of tables 1 and 2
 
-with_comm : (ns : List ℕ) (g : State) (row : ℕ) → (row == 2) ≡ false → With ns g.transactions.opened → With ns (fire_comm row g).transactions.opened
-with_comm ns g row never is = of (row == 2) (row == 3) (row == 6) never where
-  of : (fails sends forgets_it : Bool) → fails ≡ false → With ns (if fails then none_asked (record g { comm = comm_fired row (delay_end row g) g.comm }) else (if sends then asks 1 13 what.Establish (identity_text g.config) (record g { comm = comm_fired row (delay_end row g) g.comm }) else (if forgets_it then forgets what.Establish (record g { comm = comm_fired row (delay_end row g) g.comm }) else record g { comm = comm_fired row (delay_end row g) g.comm }))).transactions.opened
-  of true sends forgets_it never = absurd (cc)
-  of false true forgets_it never = with_asks ns (record g { comm = comm_fired row (delay_end row g) g.comm }) 1 13 what.Establish (identity_text g.config) refl is
-  of false false true never = with_forgotten ns what.Establish g.transactions no_establish is
-  of false false false never = is
+with_comm : (ns : List ℕ) (g : State) (row : ℕ) → spares (row_of (communication_table 0) row) ≡ true → With ns g.transactions.opened → With ns (fire_comm row g).transactions.opened
+with_comm ns g row spared is =
+    let h : State = record g { comm = comm_fired row (delay_end row g) g.comm } in
+    comm_effect_spared (λ (k : State). With ns k.transactions.opened) (row_of (communication_table 0) row) h spared is
+    (with_asks ns h 1 13 what.Establish (identity_text g.config) refl is) (with_forgotten ns what.Establish g.transactions no_establish is)
 
 with_control : (ns : List ℕ) (g : State) (row : ℕ) → With ns g.transactions.opened → With ns (fire_control row g).transactions.opened
-with_control ns g row is = of (row == 1) (row == 6) (can_ask (record g { control = control_fired row g.control })) where
-  of : (sends forgets_it can : Bool) → With ns (if sends then (if can then asks 1 1 what.Attempt [] (record g { control = control_fired row g.control }) else record g { control = control_fired row g.control }) else (if forgets_it then forgets what.Attempt (record g { control = control_fired row g.control }) else record g { control = control_fired row g.control })).transactions.opened
-  of true forgets_it true = with_asks ns (record g { control = control_fired row g.control }) 1 1 what.Attempt [] refl is
-  of true forgets_it false = is
-  of false true can = with_forgotten ns what.Attempt g.transactions no_attempt is
-  of false false can = is
+with_control ns g row is =
+    let h : State = record g { control = control_fired row g.control } in
+    control_effect_case (λ (k : State). With ns k.transactions.opened) (row_of control_table row) h is
+    (with_asks ns h 1 1 what.Attempt [] refl is) (with_forgotten ns what.Attempt g.transactions no_attempt is)
 
--- a firing leaves the notes alone: it is of table 1 or 2, and not the row that disables communication
+-- a firing leaves the notes alone: it is not of table 3, and not the row that disables communication
 abbrev IsQuiet : Firing → Type 0
-IsQuiet f = ((f.table == 3) ≡ false) × ((f.table == 1) ≡ true → (f.row == 2) ≡ false)
+IsQuiet f = ((f.row.table == 3) ≡ false) × ((f.row.table == 1) ≡ true → spares (row_of (communication_table 0) f.row.row) ≡ true)
+
+quiet_8 : (n : ℕ) → IsQuiet (firing 8 n 1)
+quiet_8 n = (refl, λ is. absurd (cc))
 
 with_fire : (ns : List ℕ) (g : State) (f : Firing) → IsQuiet f → With ns g.transactions.opened → With ns (fire g f).transactions.opened
-with_fire ns g f quiet is = of (f.table == 1) (f.table == 2) (f.table == 3) quiet.0 quiet.1 where
-  of : (first second third : Bool) → third ≡ false → (first ≡ true → (f.row == 2) ≡ false) → With ns (if first then fire_comm f.row g else (if second then fire_control f.row g else (if third then fire_line f.row g else fire_floor f g))).transactions.opened
-  of true second third none never = with_comm ns g f.row (never refl) is
-  of false true third none never = with_control ns g f.row is
+with_fire ns g f quiet is = subst (λ (h : State). With ns h.transactions.opened) (sym (effect_as g f)) (of (f.row.table == 1) (f.row.table == 2) (f.row.table == 3) quiet.0 quiet.1) where
+  of : (first second third : Bool) → third ≡ false → (first ≡ true → spares (row_of (communication_table 0) f.row.row) ≡ true) → With ns (if first then fire_comm f.row.row g else (if second then fire_control f.row.row g else (if third then fire_line f.row.row g else fire_floor f g))).transactions.opened
+  of true second third none never = with_comm ns g f.row.row (never refl) is
+  of false true third none never = with_control ns g f.row.row is
   of false false true none never = absurd (cc)
   of false false false none never = is
 
 open_effect : (g : State) (f : Firing) → IsQuiet f → (takes_effect g f).line.opened ≡ g.line.opened
-open_effect g f quiet = of (f.table == 1) (f.table == 2) (f.table == 3) quiet.0 where
-  of : (first second third : Bool) → third ≡ false → (if first then fire_comm f.row g else (if second then fire_control f.row g else (if third then fire_line f.row g else fire_floor f g))).line.opened ≡ g.line.opened
-  of true second third none = ap (λ (l : Line). l.opened) (line_comm g f.row)
-  of false true third none = ap (λ (l : Line). l.opened) (line_control g f.row)
+open_effect g f quiet = ap (λ (h : State). h.line.opened) (effect_as g f) ∙ of (f.row.table == 1) (f.row.table == 2) (f.row.table == 3) quiet.0 where
+  of : (first second third : Bool) → third ≡ false → (if first then fire_comm f.row.row g else (if second then fire_control f.row.row g else (if third then fire_line f.row.row g else fire_floor f g))).line.opened ≡ g.line.opened
+  of true second third none = ap (λ (l : Line). l.opened) (line_comm g f.row.row)
+  of false true third none = ap (λ (l : Line). l.opened) (line_control g f.row.row)
   of false false true none = absurd (cc)
   of false false false none = refl
 
 open_fire : (g : State) (f : Firing) → IsQuiet f → (fire g f).line.opened ≡ g.line.opened
 open_fire g f quiet =
-    same_open (ceid_of f.table f.row) (record { object = object_name (takes_effect g f) f; row = 100 * f.table + f.row }) (is_online g.control) (takes_effect g f)
+    same_open (ceid_of f.row.table f.row.row) (record { object = object_name g f; row = 100 * f.row.table + f.row.row }) (is_online g.control) (takes_effect g f)
     ∙ open_effect g f quiet
 
 abbrev AreQuiet : List Firing → Type 0
@@ -241,14 +246,16 @@ AreQuiet (f ∷ fs) = IsQuiet f × AreQuiet fs
 with_listed : (ns : List ℕ) (fs : List Firing) → AreQuiet fs → (g : State) → With ns g.transactions.opened → With ns (fire_listed fs g).transactions.opened
 with_listed ns [] quiet g is = is
 with_listed ns (f ∷ fs) quiet g is =
-    with_listed ns fs quiet.1 (if row_starts g f then fire g f else g)
-    (either_way (λ (h : State). With ns h.transactions.opened) (row_starts g f) (fire g f) g (with_fire ns g f quiet.0 is) is)
+    with_listed ns fs quiet.1 (if row_starts g f then advanced g f else g)
+    (either_way (λ (h : State). With ns h.transactions.opened) (row_starts g f) (advanced g f) g
+    (advanced_keeps (λ (h : State). With ns h.transactions.opened) (λ h n is. with_fire ns h (firing 8 n 1) (quiet_8 n) is) g f (with_fire ns g f quiet.0 is)) is)
 
 open_listed : (fs : List Firing) → AreQuiet fs → (g : State) → (fire_listed fs g).line.opened ≡ g.line.opened
 open_listed [] quiet g = refl
 open_listed (f ∷ fs) quiet g =
-    open_listed fs quiet.1 (if row_starts g f then fire g f else g)
-    ∙ either_way (λ (h : State). h.line.opened ≡ g.line.opened) (row_starts g f) (fire g f) g (open_fire g f quiet.0) refl
+    open_listed fs quiet.1 (if row_starts g f then advanced g f else g)
+    ∙ either_way (λ (h : State). h.line.opened ≡ g.line.opened) (row_starts g f) (advanced g f) g
+    (advanced_keeps (λ (h : State). h.line.opened ≡ g.line.opened) (λ h n same. open_fire h (firing 8 n 1) (quiet_8 n) ∙ same) g f (open_fire g f quiet.0)) refl
 
 quiet_control : (rows : List ℕ) → AreQuiet (of_control rows)
 quiet_control [] = tt
@@ -278,7 +285,7 @@ own_control t g own = own_listed (by_control t g) (quiet_control (control_rows t
 own_fire : (g : State) (f : Firing) → Own (takes_effect g f) → Own (fire g f)
 own_fire g f own =
     own_open (takes_effect g f) (fire g f)
-    (same_open (ceid_of f.table f.row) (record { object = object_name (takes_effect g f) f; row = 100 * f.table + f.row }) (is_online g.control) (takes_effect g f)) own
+    (same_open (ceid_of f.row.table f.row.row) (record { object = object_name g f; row = 100 * f.row.table + f.row.row }) (is_online g.control) (takes_effect g f)) own
 
 own_alone : LeftAlone Own
 own_alone = record {
@@ -402,14 +409,14 @@ own_line_row g row ready room own = of (least-opens (around g) g.line row ready)
 
 own_automatic : (g : State) (f : Firing) → least g ≡ Some f → Few g → Own g → Own (fire g f)
 own_automatic g f ready few own =
-    or_went (ready_comm g) (option_or (ready_control g) (option_or (ready_line g) (ready_floor g))) f
+    or_went (asks_host g) (option_or (gives_up g) (option_or (ready_line g) (ready_floor g))) f
     (λ at. went _ _ _ _ (λ _ e. own_some g f (firing 1 0 3) (own_fired g (firing 1 0 3) (refl, λ is. refl) own) e) (λ _ e. none_some f e) at)
-    (λ _ behind. or_went (ready_control g) (option_or (ready_line g) (ready_floor g)) f
+    (λ _ behind. or_went (gives_up g) (option_or (ready_line g) (ready_floor g)) f
     (λ at. went _ _ _ _ (λ _ e. own_some g f (firing 2 0 2) (own_fired g (firing 2 0 2) (refl, λ is. absurd (cc)) own) e) (λ _ e. none_some f e) at)
     (λ _ last. or_went (ready_line g) (ready_floor g) f
     (λ at. line_went g f (λ row is e. own_this g f (firing 3 0 row) (own_fire g (firing 3 0 row) (own_line_row g row is (few-room g few) own)) e) at)
     (λ _ at. alone_fire Own own_alone g f (ready_is g f at) own) last) behind)
-    ready
+    (sym (least_is g) ∙ ready)
 
 -- ---- a step
 
@@ -431,7 +438,7 @@ own_row g f free own = of free where
   of (free_met same) = this (firing 1 0 6) same (own_quiet g (firing 1 0 6) (refl, λ is. refl) own)
   of (free_attempted same) = this (firing 2 0 1) same (own_quiet g (firing 2 0 1) (refl, λ is. absurd (cc)) own)
   of (free_off_line same) = this (firing 2 0 6) same (own_quiet g (firing 2 0 6) (refl, λ is. absurd (cc)) own)
-  of (free_elsewhere row never sends forgets same) = this (firing 2 0 row) same (own_quiet g (firing 2 0 row) (refl, λ is. absurd (cc)) own)
+  of (free_elsewhere row never alone same) = this (firing 2 0 row) same (own_quiet g (firing 2 0 row) (refl, λ is. absurd (cc)) own)
   of (free_unload same) = this (firing 3 0 4) same (own_line g (row_effect (around g) 4 g.line) refl own)
   of (free_purge same) = this (firing 3 0 5) same (own_line g (row_effect (around g) 5 g.line) refl own)
   of (free_floor floor) = subst Own (sym (effect_is g f floor)) own

@@ -5,7 +5,7 @@ use Rattle.tool_events.specs.declared.event.Event.TheVariants.{Take}
 use Rattle.tool_events.specs.declared.answer.Answer.{Answer}
 use Rattle.tool_events.specs.declared.answer.Answer.TheVariants.{Frame, Ended}
 use Rattle.gem_model.specs.State.{State, is_session_up, raised}
-use Rattle.gem_model.specs.Step.{Outcome, step, taken, answered, settles}
+use Rattle.gem_model.specs.Step.{Outcome, step, handed_out, answered, settles}
 use Rattle.gem_model.specs.Run.{Run, entry_step}
 use Rattle.gem_model.specs.Sessions.{frame_taken, frame_in, session_out}
 use Rattle.gem_model.proofs.Runs.{told-snoc}
@@ -30,5 +30,5 @@ pub frame-up : (g : State) (at session : ℕ) (o : Outcome) (frame : List ℕ) �
 frame-up g at session o frame here is =
     went g.quitting _ _ _
     (λ _ e. absurd (not_ended o.answer frame is (the_answer (answered Ended (raised g at)) o e)))
-    (λ _ e. up_where (is_session_up g session) (taken (raised g at) g.waiting) (answered Ended (raised g at)) o (not_ended o.answer frame is) e)
+    (λ _ e. up_where (is_session_up g session) (handed_out (raised g at) g.waiting) (answered Ended (raised g at)) o (not_ended o.answer frame is) e)
     here

@@ -8,7 +8,7 @@ use Rattle.gem_model.specs.State.{State, opening}
 use Rattle.gem_model.specs.Run.{Run, after_all}
 use Rattle.gem_model.specs.Recorded.{Recorded}
 use Rattle.gem_model.proofs.Runs.{after_all-run}
-use Rattle.gem_model.proofs.Reporting.{run-reported}
+use Rattle.gem_model.proofs.Reporting.{run-reported, run-texts, run-sent, run-frames}
 use Rattle.gem_model.proofs.Validity.{run-line, run-sendings, run-empty, run-room}
 use Rattle.gem_model.proofs.NoteNumbers.{run-own}
 use Rattle.gem_model.proofs.Floored.{run-floor, run-carriers}
@@ -20,6 +20,9 @@ recorded-of c history g bounds run =
     record {
       run = run;
       notes = run-reported c history g run;
+      texts = run-texts c history g run;
+      sent = run-sent c history g run;
+      frames = run-frames c history g run;
       fates = run-line c history g run;
       sendings = run-sendings c history g run;
       open_note = run-own c history g run;

@@ -7,9 +7,8 @@ use Rattle.hsms_frame.specs.declared.frame.Header.{Header}
 use Rattle.hsms_link.specs.Links as links
 use Rattle.secs_items.specs.Data.{Data}
 use Rattle.gem_replies.specs.Acknowledge.{accepts}
-use Rattle.gem_tables.specs.Table.{Firing, firing, starts}
-use Rattle.gem_tables.specs.Communication.{communication_table, communicating}
-use Rattle.gem_tables.specs.Control.{control_table, attempt_online}
+use Rattle.gem_tables.specs.Table.{firing}
+use Rattle.gem_tables.specs.declared.firing.Firing.{Firing}
 use Rattle.gem_states.specs.declared.communication.Comm.{Comm}
 use Rattle.gem_states.specs.declared.communication.Comm.TheVariants.{Disabled, WaitDelay, WaitCra, Communicating}
 use Rattle.gem_states.specs.declared.communication.CommTrigger.{CommTrigger}
@@ -18,7 +17,9 @@ use Rattle.gem_states.specs.declared.control.Control.{Control}
 use Rattle.gem_states.specs.declared.control.Control.TheVariants as control
 use Rattle.gem_states.specs.declared.control.ControlTrigger.{ControlTrigger}
 use Rattle.gem_states.specs.declared.control.ControlTrigger.TheVariants as trigger
-use Rattle.gem_states.specs.Meaning.{comm_number, comm_fired, control_number, control_fired}
+use Rattle.gem_states.specs.Communication.{communication_table, comm_number, comm_starts, comm_fired}
+use Rattle.gem_states.specs.Control.{control_table, control_number, control_starts, control_fired}
+use Rattle.gem_tables.proofs.Starting.{after-stays}
 use Rattle.tool_events.specs.declared.event.Event.{Event}
 use Rattle.tool_events.specs.declared.event.OperCmd.TheVariants as oper
 use Rattle.gem_rows.specs.Events.{ceid_of}
@@ -38,11 +39,15 @@ use Rattle.transactions.specs.SystemBytes.{drawn, with_started}
 use Rattle.transactions.specs.Endings.{same_kind, first_of}
 use Rattle.gem_model.specs.State.{State, t3, is_selected, is_communicating, is_online, around, can_ask, without_session, with_frame}
 use Rattle.gem_model.specs.Sending.{asks, identity_text, data_frame}
-use Rattle.gem_model.specs.Fire.{fire, fires, fire_listed, row_starts, takes_effect, asks_first, stream_of_kind, function_of_kind, delay_end, of_control}
-use Rattle.gem_model.specs.Values.{Occasion, object_name}
+use Rattle.gem_model.specs.Fire.{fire, advanced, fires, fire_listed, of_control}
+use Rattle.gem_model.specs.Effects.{control_effect, asks_first, stream_of_kind, function_of_kind, delay_end}
+use Rattle.gem_model.specs.Machines.{row_starts, takes_effect, object_name, least}
+use Rattle.gem_model.specs.Values.{Occasion}
 use Rattle.gem_model.specs.Noting.{line_behind, line_with_event, line_with_alarm, is_event_reported, is_alarm_reported}
 use Rattle.gem_model.specs.Direct.{by_comm, by_control, note_fails, operator_rows, answer_rows, timeout_rows}
-use Rattle.gem_model.specs.Ready.{least, ready_comm, ready_control, ready_line, ready_floor, is_attempt}
+use Rattle.gem_model.specs.Ready.{ready_line, ready_floor}
+use Rattle.gem_model.specs.Wants.{is_attempt}
+use Rattle.gem_model.proofs.Effects.{asks_host, gives_up, least_is}
 use Rattle.gem_model.specs.Measure.{one_if, is_wait_delay}
 use Rattle.gem_model.specs.Verdict.{function_of}
 use Rattle.gem_model.specs.Act.{note_answered, closed_by, session_ended}
@@ -52,7 +57,7 @@ use Rattle.gem_model.specs.Step.{Outcome, step_from, acts}
 use Rattle.gem_model.specs.Valid.{is_wait_cra, establishes, attempts, is_note, notes, count_of}
 use Rattle.gem_model.proofs.Tests.{went, either_way, or_went, and_parts_of, none_some}
 use Rattle.gem_model.proofs.LineRows.{line_went, opened_by, oldest_opened, head_opened}
-use Rattle.gem_model.proofs.FloorRows.{LeftAlone, alone_fire, effect_is, ready_is, is_8}
+use Rattle.gem_model.proofs.FloorRows.{LeftAlone, alone_fire, effect_is, ready_is, is_8, advanced_keeps}
 use Rattle.gem_model.proofs.Settling.{settled_along, waits, fired_3}
 use Rattle.gem_model.proofs.Listed.{IsFree, free_enabled, free_met, free_attempted, free_off_line, free_elsewhere, free_unload, free_purge, free_floor}
 use Rattle.gem_model.proofs.Walk.{Kept, out_of, told_of, kept_acts, kept_step_from}
@@ -98,8 +103,8 @@ fits-comm e a n c d k s o none talks f = record {
 }
 
 -- a row that does not start in COMMUNICATING leaves it
-talks_on : (row until : ℕ) (c : Comm) → starts communication_table row communicating ≡ false → is_communicating c ≡ true → is_communicating (comm_fired row until c) ≡ true
-talks_on row until Communicating never is = rw never refl
+talks_on : (row until : ℕ) (c : Comm) → comm_starts row Communicating ≡ false → is_communicating c ≡ true → is_communicating (comm_fired row until c) ≡ true
+talks_on row until Communicating never is = ap is_communicating (after-stays comm_number (communication_table until) row Communicating never)
 talks_on row until Disabled never is = absurd (cc)
 talks_on row until (WaitDelay since) never is = absurd (cc)
 talks_on row until WaitCra never is = absurd (cc)
@@ -127,8 +132,9 @@ no_ask a true f = omega (arith, f)
 no_ask a false f = omega (arith, f)
 
 -- a row that does not start in ATTEMPT ON-LINE
-fits-elsewhere : (row e a n : ℕ) (c : Comm) (k : Control) (s o : Bool) → starts control_table row attempt_online ≡ false → Fits e a n c k s o → Fits e a n c (control_fired row k) s o
-fits-elsewhere row e a n c control.Attempt s o never f = rw never f
+fits-elsewhere : (row e a n : ℕ) (c : Comm) (k : Control) (s o : Bool) → control_starts row control.Attempt ≡ false → Fits e a n c k s o → Fits e a n c (control_fired row k) s o
+fits-elsewhere row e a n c control.Attempt s o never f =
+    subst (λ (k : Control). Fits e a n c k s o) (sym (after-stays control_number control_table row control.Attempt never)) f
 fits-elsewhere row e a n c control.EquipmentOffline s o never f = fits-control e a n c control.EquipmentOffline _ s o (no_ask a (is_communicating c && s) f.attempt) f
 fits-elsewhere row e a n c control.HostOffline s o never f = fits-control e a n c control.HostOffline _ s o (no_ask a (is_communicating c && s) f.attempt) f
 fits-elsewhere row e a n c control.Local s o never f = fits-control e a n c control.Local _ s o (no_ask a (is_communicating c && s) f.attempt) f
@@ -139,7 +145,7 @@ record FromOffline (a : ℕ) (k : Control) : Type 0 where
   pub none : a ≡ 0
   pub leads : control_fired 1 k ≡ control.Attempt
 
-from_offline : (e a n : ℕ) (c : Comm) (k : Control) (s o : Bool) → starts control_table 1 (control_number k) ≡ true → Fits e a n c k s o → FromOffline a k
+from_offline : (e a n : ℕ) (c : Comm) (k : Control) (s o : Bool) → control_starts 1 k ≡ true → Fits e a n c k s o → FromOffline a k
 from_offline e a n c control.EquipmentOffline s o is f = record { none = no_ask a (is_communicating c && s) f.attempt; leads = refl }
 from_offline e a n c control.Attempt s o is f = absurd (cc)
 from_offline e a n c control.HostOffline s o is f = absurd (cc)
@@ -234,11 +240,20 @@ same_open (Some ceid) o online g = either_way (λ (l : Line). l.opened ≡ g.lin
 
 few_fire : (g : State) (f : Firing) → Few (takes_effect g f) → Few (fire g f)
 few_fire g f few =
-    let o : Occasion = record { object = object_name (takes_effect g f) f; row = 100 * f.table + f.row } in
-    few-line (takes_effect g f) (line_behind (ceid_of f.table f.row) o (is_online g.control) (takes_effect g f)) (same_open (ceid_of f.table f.row) o (is_online g.control) (takes_effect g f)) few
+    let o : Occasion = record { object = object_name g f; row = 100 * f.row.table + f.row.row } in
+    few-line (takes_effect g f) (line_behind (ceid_of f.row.table f.row.row) o (is_online g.control) (takes_effect g f)) (same_open (ceid_of f.row.table f.row.row) o (is_online g.control) (takes_effect g f)) few
+
+few_alone : LeftAlone Few
+few_alone = record {
+  floor = λ g x few. few;
+  noted = λ g event o online few. few-line g (line_behind event o online g) (same_open event o online g) few;
+}
+
+pub few_creation : (g : State) (n : ℕ) → Few g → Few (fire g (firing 8 n 1))
+few_creation g n few = alone_fire Few few_alone g (firing 8 n 1) (is_8 n 1) few
 
 few-one : (f : Firing) (g : State) → Few g → (row_starts g f ≡ true → Few (takes_effect g f)) → Few (fire_listed (f ∷ []) g)
-few-one f g few fired = few_where (row_starts g f) (fire g f) g (λ is. few_fire g f (fired is)) (λ _. few)
+few-one f g few fired = few_where (row_starts g f) (advanced g f) g (λ is. advanced_keeps Few few_creation g f (few_fire g f (fired is))) (λ _. few)
 
 -- rows 4 and 5 of table 1, where no S1F13 is open
 few-accepted : (g : State) → Few g → count_of establishes g.transactions.opened ≡ 0 → Few (fire_listed (firing 1 0 4 ∷ []) g)
@@ -282,12 +297,13 @@ few_off_line g few =
     fits-control _ _ _ g.comm g.control (control_fired 6 g.control) (is_selected g) (has_open g.line) none (few-out g (first_of what.Attempt g.transactions.opened) few)
 
 -- the other rows of table 2 do not start in ATTEMPT ON-LINE, and have no effect
-few_elsewhere : (row : ℕ) (g : State) → starts control_table row attempt_online ≡ false → (row == 1) ≡ false → (row == 6) ≡ false → Few g → Few (takes_effect g (firing 2 0 row))
-few_elsewhere row g never sends_none forgets_none few =
-    rw (sends_none, forgets_none) (fits-elsewhere row _ _ _ g.comm g.control (is_selected g) (has_open g.line) never few)
+few_elsewhere : (row : ℕ) (g : State) → control_starts row control.Attempt ≡ false → ((h : State) → control_effect row h ≡ h) → Few g → Few (takes_effect g (firing 2 0 row))
+few_elsewhere row g never alone few =
+    subst Few (sym (alone (record g { control = control_fired row g.control })))
+    (fits-elsewhere row _ _ _ g.comm g.control (is_selected g) (has_open g.line) never few)
 
 -- row 1 of table 2: S1F1 is sent where the tool can ask
-few_attempted : (g : State) → starts control_table 1 (control_number g.control) ≡ true → Few g → Few (takes_effect g (firing 2 0 1))
+few_attempted : (g : State) → control_starts 1 g.control ≡ true → Few g → Few (takes_effect g (firing 2 0 1))
 few_attempted g is few =
     let from = from_offline _ _ _ g.comm g.control (is_selected g) (has_open g.line) is few in
     let h : State = record g { control = control_fired 1 g.control } in
@@ -312,18 +328,10 @@ few_row g f free is few = of free where
   of (free_met same) = this (firing 1 0 6) same (few_met g few)
   of (free_attempted same) = this (firing 2 0 1) same (few_attempted g (subst (λ (x : Firing). row_starts g x ≡ true) same is) few)
   of (free_off_line same) = this (firing 2 0 6) same (few_off_line g few)
-  of (free_elsewhere row never sends forgets same) = this (firing 2 0 row) same (few_elsewhere row g never sends forgets few)
+  of (free_elsewhere row never alone same) = this (firing 2 0 row) same (few_elsewhere row g never alone few)
   of (free_unload same) = this (firing 3 0 4) same (few-line g (row_effect (around g) 4 g.line) refl few)
   of (free_purge same) = this (firing 3 0 5) same (few-line g (row_effect (around g) 5 g.line) refl few)
   of (free_floor floor) = subst Few (sym (effect_is g f floor)) few
-
--- ---- the floor
-
-few_alone : LeftAlone Few
-few_alone = record {
-  floor = λ g x few. few;
-  noted = λ g event o online few. few-line g (line_behind event o online g) (same_open event o online g) few;
-}
 
 -- ---- settling
 
@@ -397,17 +405,14 @@ few-line_row g row ready few = of (least-opens (around g) g.line row ready) wher
 
 pub few-automatic : (g : State) (f : Firing) → least g ≡ Some f → Few g → Few (fire g f)
 few-automatic g f ready few =
-    or_went (ready_comm g) (option_or (ready_control g) (option_or (ready_line g) (ready_floor g))) f
+    or_went (asks_host g) (option_or (gives_up g) (option_or (ready_line g) (ready_floor g))) f
     (λ at. went _ _ _ _ (λ over e. few_firing g f (firing 1 0 3) (few_fire g (firing 1 0 3) (few-asking g (waits g.moment g.comm (and_parts_of _ _ over).0) few)) e) (λ _ e. none_some f e) at)
-    (λ _ behind. or_went (ready_control g) (option_or (ready_line g) (ready_floor g)) f
+    (λ _ behind. or_went (gives_up g) (option_or (ready_line g) (ready_floor g)) f
     (λ at. went _ _ _ _ (λ can e. few_firing g f (firing 2 0 2) (few_fire g (firing 2 0 2) (few-given_up g (and_parts_of _ _ can).1 few)) e) (λ _ e. none_some f e) at)
     (λ _ last. or_went (ready_line g) (ready_floor g) f
     (λ at. line_went g f (λ row is e. few_this g f (firing 3 0 row) (few_fire g (firing 3 0 row) (few-line_row g row is few)) e) at)
     (λ _ at. alone_fire Few few_alone g f (ready_is g f at) few) last) behind)
-    ready
-
-pub few_creation : (g : State) (n : ℕ) → Few g → Few (fire g (firing 8 n 1))
-few_creation g n few = alone_fire Few few_alone g (firing 8 n 1) (is_8 n 1) few
+    (sym (least_is g) ∙ ready)
 
 -- ---- answers and timeouts
 
@@ -496,7 +501,7 @@ failed_where true g few none no_note = note_failed (fire_listed (firing 2 0 3 �
 failed_where false g few none no_note = note_failed g few no_note
 
 -- communication is disabled already where its row does not start, and so no S1F1 is open
-pub no_talk : (c : Comm) → starts communication_table 2 (comm_number c) ≡ false → not (is_communicating c) ≡ true
+pub no_talk : (c : Comm) → comm_starts 2 c ≡ false → not (is_communicating c) ≡ true
 no_talk Disabled is = refl
 no_talk (WaitDelay until) is = refl
 no_talk WaitCra is = refl

@@ -1,28 +1,38 @@
 -- What a change of the state leaves alone: the configuration, the link, and whether the run was ended.
-use Rattle.std.proofs.Common.{◌≡◌, ℕ, ◌==◌, Bool, if◌then◌else◌, List, [], ◌∷◌, refl, ◌∙◌}
+use Rattle.std.proofs.Common.{◌≡◌, ℕ, ◌==◌, Bool, if◌then◌else◌, List, [], ◌∷◌, refl, sym, subst, ◌∙◌}
 use Rattle.hsms_frame.specs.declared.frame.Arrival.{Arrival}
 use Rattle.tool_events.specs.declared.event.OperCmd.{OperCmd}
 use Rattle.transactions.specs.declared.transaction.What.{What}
 use Rattle.transactions.specs.declared.transaction.What.TheVariants as what
-use Rattle.gem_states.specs.Meaning.{comm_fired, control_fired}
+use Rattle.gem_states.specs.Communication.{comm_fired}
+use Rattle.gem_states.specs.Control.{control_fired}
 use Rattle.transactions.specs.declared.transaction.Open.{Open}
-use Rattle.gem_primaries.specs.declared.primary.GemMsg.{GemMsg}
-use Rattle.gem_tables.specs.Table.{Firing, firing}
+use Rattle.gem_tables.specs.Table.{firing, row_of}
+use Rattle.gem_states.specs.Communication.{communication_table}
+use Rattle.gem_states.specs.Control.{control_table}
+use Rattle.gem_model.proofs.Effects.{comm_effect_case, control_effect_case}
+use Rattle.gem_model.proofs.FloorRows.{advanced_keeps}
+use Rattle.gem_tables.specs.declared.firing.Firing.{Firing}
 use Rattle.gem_model.specs.State.{State, none_asked, can_ask}
 use Rattle.gem_model.specs.Sending.{asks, identity_text}
 use Rattle.spool.specs.declared.note.Note.{Note}
-use Rattle.gem_model.specs.Fire.{fire, fire_listed, fire_comm, fire_control, fire_line, fire_floor, comm_effect, control_effect, line_effect, asks_first, takes_effect, stream_of_kind, function_of_kind, delay_end, forgets, row_starts}
+use Rattle.gem_model.specs.Fire.{fire, advanced, fire_listed}
+use Rattle.gem_model.specs.Effects.{fire_comm, fire_control, fire_line, comm_effect, control_effect, line_effect, asks_first, stream_of_kind, function_of_kind, delay_end, forgets}
+use Rattle.gem_model.specs.Machines.{fire_floor, takes_effect, row_starts}
 use Rattle.gem_model.specs.Verdict.{verdict, header_of, item_of}
-use Rattle.gem_model.specs.Act.{written, data_done}
+use Rattle.gem_model.specs.Act.{data_done}
+use Rattle.gem_model.specs.HostMessages.{HostMessage}
+use Rattle.gem_model.specs.Messages.{done}
 use Rattle.gem_model.specs.Due.{timed_out}
 use Rattle.gem_model.specs.Step.{switched}
 use Rattle.gem_model.specs.Settle.{settled}
+use Rattle.gem_model.proofs.OnFloor.{effect_as}
 use Rattle.gem_model.proofs.Tests.{either_way}
 use Rattle.tool_events.specs.declared.event.Signal.{Signal}
 use Rattle.gem_model.specs.Signals.{signalled}
 use Rattle.gem_model.proofs.Settling.{settled_keeps}
 use Rattle.gem_model.proofs.Each.{EachInner, each_inner, each_timed_out}
-use Rattle.gem_model.proofs.Walk.{Inner, kept_act, kept_signalled, kept_switched, kept_written}
+use Rattle.gem_model.proofs.Walk.{Inner, kept_act, kept_signalled, kept_switched, kept_done}
 
 -- the configuration and the link are the same, and so is whether the run was ended
 pub record Same (g h : State) : Type 0 where
@@ -48,18 +58,12 @@ same_forgets g h kind same = record { config = same.config; link = same.link; qu
 
 same_comm_effect : (g h : State) (row : ℕ) → Same g h → Same g (comm_effect row h)
 same_comm_effect g h row same =
-    same_either g (row == 2) (none_asked h)
-    (if row == 3 then asks 1 13 what.Establish (identity_text h.config) h else (if row == 6 then forgets what.Establish h else h))
-    (record { config = same.config; link = same.link; quitting = same.quitting })
-    (same_either g (row == 3) (asks 1 13 what.Establish (identity_text h.config) h) (if row == 6 then forgets what.Establish h else h)
-    (same_asks g h 1 13 what.Establish (identity_text h.config) same)
-    (same_either g (row == 6) (forgets what.Establish h) h (same_forgets g h what.Establish same) same))
+    comm_effect_case (Same g) (row_of (communication_table 0) row) h same (record { config = same.config; link = same.link; quitting = same.quitting })
+    (same_asks g h 1 13 what.Establish (identity_text h.config) same) (same_forgets g h what.Establish same)
 
 same_control_effect : (g h : State) (row : ℕ) → Same g h → Same g (control_effect row h)
 same_control_effect g h row same =
-    same_either g (row == 1) (if can_ask h then asks 1 1 what.Attempt [] h else h) (if row == 6 then forgets what.Attempt h else h)
-    (same_either g (can_ask h) (asks 1 1 what.Attempt [] h) h (same_asks g h 1 1 what.Attempt [] same) same)
-    (same_either g (row == 6) (forgets what.Attempt h) h (same_forgets g h what.Attempt same) same)
+    control_effect_case (Same g) (row_of control_table row) h same (same_asks g h 1 1 what.Attempt [] same) (same_forgets g h what.Attempt same)
 
 same_comm : (g : State) (row : ℕ) → Same g (fire_comm row g)
 same_comm g row = same_comm_effect g (record g { comm = comm_fired row (delay_end row g) g.comm }) row (record { config = refl; link = refl; quitting = refl })
@@ -79,21 +83,28 @@ same_line g row =
 
 same_effect : (g : State) (f : Firing) → Same g (takes_effect g f)
 same_effect g f =
-    same_either g (f.table == 1) (fire_comm f.row g) (if f.table == 2 then fire_control f.row g else (if f.table == 3 then fire_line f.row g else fire_floor f g)) (same_comm g f.row)
-    (same_either g (f.table == 2) (fire_control f.row g) (if f.table == 3 then fire_line f.row g else fire_floor f g) (same_control g f.row)
-    (same_either g (f.table == 3) (fire_line f.row g) (fire_floor f g) (same_line g f.row) (record { config = refl; link = refl; quitting = refl })))
+    subst (Same g) (sym (effect_as g f))
+    (same_either g (f.row.table == 1) (fire_comm f.row.row g) (if f.row.table == 2 then fire_control f.row.row g else (if f.row.table == 3 then fire_line f.row.row g else fire_floor f g)) (same_comm g f.row.row)
+    (same_either g (f.row.table == 2) (fire_control f.row.row g) (if f.row.table == 3 then fire_line f.row.row g else fire_floor f g) (same_control g f.row.row)
+    (same_either g (f.row.table == 3) (fire_line f.row.row g) (fire_floor f g) (same_line g f.row.row) (record { config = refl; link = refl; quitting = refl }))))
 
 pub same_fire : (g : State) (f : Firing) → Same g (fire g f)
 same_fire g f = let effect = same_effect g f in record { config = effect.config; link = effect.link; quitting = effect.quitting }
 
+same_created : (g h : State) (n : ℕ) → Same g h → Same g (fire h (firing 8 n 1))
+same_created g h n same = same_then g h (fire h (firing 8 n 1)) same (same_fire h (firing 8 n 1))
+
+same_advanced : (g : State) (f : Firing) → Same g (advanced g f)
+same_advanced g f = advanced_keeps (Same g) (same_created g) g f (same_fire g f)
+
 pub same_listed : (fs : List Firing) (g : State) → Same g (fire_listed fs g)
 same_listed [] g = same_at g
 same_listed (f ∷ fs) g =
-    let one : Same g (if row_starts g f then fire g f else g) = same_either g (row_starts g f) _ _ (same_fire g f) (same_at g) in
-    same_then g _ _ one (same_listed fs (if row_starts g f then fire g f else g))
+    let one : Same g (if row_starts g f then advanced g f else g) = same_either g (row_starts g f) _ _ (same_advanced g f) (same_at g) in
+    same_then g _ _ one (same_listed fs (if row_starts g f then advanced g f else g))
 
 pub same_settled : (g : State) → Same g (settled g)
-same_settled g = settled_keeps (Same g) (λ h f ready same. same_then g h _ same (same_fire h f)) (λ h n same. same_then g h (fire h (firing 8 n 1)) same (same_fire h (firing 8 n 1))) g (same_at g)
+same_settled g = settled_keeps (Same g) (λ h f ready same. same_then g h _ same (same_fire h f)) (same_created g) g (same_at g)
 
 -- ---- what a step does
 
@@ -115,7 +126,7 @@ same_each g = record {
   written = λ h a is same. record { config = same.config; link = same.link; quitting = same.quitting };
   row = λ h f listed is same. same_then g h (takes_effect h f) same (same_effect h f);
   ready = λ h f ready same. same_then g h (fire h f) same (same_fire h f);
-  created = λ h n same. same_then g h (fire h (firing 8 n 1)) same (same_fire h (firing 8 n 1));
+  created = same_created g;
 }
 
 same_inner : (g : State) → Inner (Same g)
@@ -124,8 +135,8 @@ same_inner g = each_inner (Same g) (same_each g)
 pub same_signal : (g : State) (s : Signal) → Same g (signalled s g)
 same_signal g s = kept_signalled (Same g) (same_inner g) s g (same_at g)
 
-pub same_written : (g : State) (m : GemMsg) → Same g (written m g)
-same_written g m = kept_written (Same g) (same_inner g) g m (same_at g)
+pub same_done : (g : State) (m : HostMessage) → Same g (done g m).after
+same_done g m = kept_done (Same g) (same_inner g) g m (same_at g)
 
 pub same_data : (g : State) (arrival : Arrival) → Same g (data_done arrival g)
 same_data g arrival = kept_act (Same g) (same_inner g) g (header_of arrival) (item_of arrival) (verdict g arrival) (same_at g)

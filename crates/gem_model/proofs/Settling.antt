@@ -4,8 +4,10 @@ use Rattle.gem_states.specs.declared.communication.Comm.{Comm}
 use Rattle.gem_states.specs.declared.communication.Comm.TheVariants.{Disabled, WaitDelay, WaitCra, Communicating}
 use Rattle.gem_states.specs.declared.control.Control.{Control}
 use Rattle.gem_states.specs.declared.control.Control.TheVariants as control
-use Rattle.gem_states.specs.Meaning.{comm_fired, control_fired}
-use Rattle.gem_tables.specs.Table.{Firing, firing}
+use Rattle.gem_states.specs.Communication.{comm_fired}
+use Rattle.gem_states.specs.Control.{control_fired}
+use Rattle.gem_tables.specs.Table.{firing}
+use Rattle.gem_tables.specs.declared.firing.Firing.{Firing}
 use Rattle.std.specs.Option.{option_or}
 use Rattle.gem_rows.specs.Events.{ceid_of}
 use Rattle.event_reports.specs.Reports.{report_items}
@@ -18,19 +20,22 @@ use Rattle.note_line.specs.Table3 as table
 use Rattle.note_line.specs.Table3.{row_effect}
 use Rattle.note_line.proofs.Falls.{least-falls, noted-left}
 use Rattle.gem_model.specs.State.{State, is_online, around}
-use Rattle.gem_model.specs.Values.{Occasion, value_of, object_name}
+use Rattle.gem_model.specs.Values.{Occasion, value_of}
+use Rattle.gem_model.specs.Machines.{object_name, fire_floor, takes_effect, creations, least}
 use Rattle.gem_model.specs.Noting.{line_with_event, line_behind, is_event_reported, event_text}
-use Rattle.shop_floor.specs.Rows.{creates, floor_fired}
-use Rattle.shop_floor.specs.Ready.{floor_least}
+use Rattle.shop_floor.specs.Machines.{floor_least, floor_fired, creation_rows}
 use Rattle.shop_floor.specs.Left.{floor_left}
 use Rattle.shop_floor.proofs.Falls.{least_falls as floor_falls}
 use Rattle.shop_floor.proofs.Creations.{creation_same}
-use Rattle.gem_model.specs.Fire.{fire, fire_floor, takes_effect, asks_first, line_effect, creations}
-use Rattle.gem_model.specs.Ready.{least, ready_comm, ready_control, ready_line, ready_floor, delay_is_over, is_attempt}
+use Rattle.gem_model.specs.Fire.{fire, fire_all, advanced}
+use Rattle.gem_model.specs.Effects.{asks_first, line_effect}
+use Rattle.gem_model.specs.Ready.{ready_line, ready_floor}
+use Rattle.gem_model.specs.Wants.{delay_is_over, is_attempt}
+use Rattle.gem_model.proofs.Effects.{asks_host, gives_up, least_is}
 use Rattle.gem_model.specs.Measure.{left, is_wait_delay, one_if}
-use Rattle.gem_model.specs.Settle.{Path, Settles, settling, settling_by, settled, fire_all, advanced, Along}
+use Rattle.gem_model.specs.Settle.{Path, Settles, settling, settling_by, settled, Along}
 use Rattle.gem_model.proofs.LineRows.{line_went, event_weight, told_enough}
-use Rattle.gem_model.proofs.FloorRows.{effect_is, ready_is, created_case}
+use Rattle.gem_model.proofs.FloorRows.{AreCreations, effect_is, creations_is, ready_is, created_are, creates_no_more, advanced_keeps}
 use Rattle.gem_model.proofs.Tests.{went, either_way, or_went, and_parts_of, none_some}
 
 -- ---- the measure falls
@@ -154,8 +159,8 @@ record Moved (g h : State) : Type 0 where
 moved_fire : (g : State) (f : Firing) → takes_effect g f ≡ fire_floor f g → Moved g (fire g f)
 moved_fire g f is =
     let h : State = takes_effect g f in
-    let told = event_left (ceid_of f.table f.row) (record { object = object_name h f; row = 100 * f.table + f.row }) (is_online g.control) h in
-    let most = event_most (ceid_of f.table f.row) in
+    let told = event_left (ceid_of f.row.table f.row.row) (record { object = object_name g f; row = 100 * f.row.table + f.row.row }) (is_online g.control) h in
+    let most = event_most (ceid_of f.row.table f.row.row) in
     let same : left_line h.line ≡ left_line g.line = ap (λ (k : State). left_line k.line) is in
     record { comm = ap (λ (k : State). k.comm) is; control = ap (λ (k : State). k.control) is; line = omega (arith, told, most, same) }
   where
@@ -163,64 +168,54 @@ moved_fire g f is =
     event_most None = omega arith
     event_most (Some ceid) = omega arith
 
--- a row of the floor that creates nothing, and one that creates a carrier
-falls_alone : (g h : State) → Moved g h → floor_left h.floor + 1 ≤ floor_left g.floor → left h < left g
-falls_alone g h moved falls =
-    let comm = ap (λ (c : Comm). one_if (is_wait_delay c)) moved.comm in
-    let control = ap (λ (c : Control). one_if (is_attempt c)) moved.control in
-    omega (arith, moved.line, falls, comm, control)
+-- so many rows of created objects leave the floor as it is, and make a note each at most
+record MovedBy (g h : State) (n : ℕ) : Type 0 where
+  pub comm : h.comm ≡ g.comm
+  pub control : h.control ≡ g.control
+  pub floor : h.floor ≡ g.floor
+  pub line : left_line h.line ≤ left_line g.line + 6 * n
 
-falls_created : (g h k : State) → Moved g h → Moved h k → k.floor ≡ h.floor → floor_left h.floor + 2 ≤ floor_left g.floor → left k < left g
-falls_created g h k first next same falls =
+moved_all : (ds : List Firing) → AreCreations ds → (g : State) → MovedBy g (fire_all ds g) (length ds)
+moved_all [] are g = record { comm = refl; control = refl; floor = refl; line = omega arith }
+moved_all (d ∷ ds) are g =
+    let one : Moved g (fire g d) = subst (λ (x : Firing). Moved g (fire g x)) (sym are.0) (moved_fire g (firing 8 d.object 1) refl) in
+    let floor : (fire g d).floor ≡ g.floor = subst (λ (x : Firing). (fire g x).floor ≡ g.floor) (sym are.0) (creation_same g.floor d.object) in
+    let rest = moved_all ds are.1 (fire g d) in
+    record {
+      comm = rest.comm ∙ one.comm;
+      control = rest.control ∙ one.control;
+      floor = rest.floor ∙ floor;
+      line = omega (arith, rest.line, one.line);
+    }
+
+falls_moved : (g h k : State) (n : ℕ) → Moved g h → MovedBy h k n → floor_left h.floor + n < floor_left g.floor → left k < left g
+falls_moved g h k n first next falls =
     let comm = ap (λ (c : Comm). one_if (is_wait_delay c)) (next.comm ∙ first.comm) in
     let control = ap (λ (c : Control). one_if (is_attempt c)) (next.control ∙ first.control) in
-    let floor = ap floor_left same in
+    let floor = ap floor_left next.floor in
     omega (arith, first.line, next.line, falls, comm, control, floor)
 
 falls_floor : (g : State) (f : Firing) → floor_least g.floor ≡ Some f → left (advanced g f) < left g
-falls_floor g f ready = of (creates f g.floor) refl where
-  is : takes_effect g f ≡ fire_floor f g
-  is = effect_is g f (ready_is g f ready)
-
-  floor_is : (fire g f).floor ≡ floor_fired f g.floor
-  floor_is = ap (λ (k : State). k.floor) is
-
-  left_is : floor_left (fire g f).floor ≡ floor_left (floor_fired f g.floor)
-  left_is = ap floor_left floor_is
-
-  creation : Firing
-  creation = firing 8 (length (floor_fired f g.floor).carriers - 1) 1
-
-  none : creates f g.floor ≡ false → creations g f ≡ []
-  none nothing = ap (λ (b : Bool). if b then creation ∷ [] else []) nothing
-
-  one : creates f g.floor ≡ true → creations g f ≡ creation ∷ []
-  one made = ap (λ (b : Bool). if b then creation ∷ [] else []) made
-
-  of : (b : Bool) → creates f g.floor ≡ b → left (advanced g f) < left g
-  of false nothing =
-      let falls = floor_falls g.floor f ready in
-      let count : length (creations g f) ≡ 0 = ap length (none nothing) in
-      subst (λ (cs : List Firing). left (fire_all cs (fire g f)) < left g) (sym (none nothing))
-      (falls_alone g (fire g f) (moved_fire g f is) (omega (arith, falls, count, left_is)))
-  of true made =
-      let falls = floor_falls g.floor f ready in
-      let count : length (creations g f) ≡ 1 = ap length (one made) in
-      subst (λ (cs : List Firing). left (fire_all cs (fire g f)) < left g) (sym (one made))
-      (falls_created g (fire g f) (fire (fire g f) creation) (moved_fire g f is) (moved_fire (fire g f) creation refl)
-      (creation_same (fire g f).floor (length (floor_fired f g.floor).carriers - 1)) (omega (arith, falls, count, left_is)))
+falls_floor g f ready =
+    let high = ready_is g f ready in
+    let is = effect_is g f high in
+    let floor : floor_left (fire g f).floor ≡ floor_left (floor_fired f g.floor) = ap (λ (k : State). floor_left k.floor) is in
+    let count : length (creations g f) ≡ length (creation_rows f g.floor) = ap length (creations_is g f high) in
+    let falls = floor_falls g.floor f ready in
+    falls_moved g (fire g f) (advanced g f) (length (creations g f)) (moved_fire g f is) (moved_all (creations g f) (created_are g f) (fire g f))
+    (omega (arith, falls, count, floor))
 
 -- an automatic firing, with what it creates, leaves less to fire
 pub left_falls : (g : State) (f : Firing) → least g ≡ Some f → left (advanced g f) < left g
 left_falls g f ready =
-    or_went (ready_comm g) (option_or (ready_control g) (option_or (ready_line g) (ready_floor g))) f
+    or_went (asks_host g) (option_or (gives_up g) (option_or (ready_line g) (ready_floor g))) f
     (λ at. went _ _ _ _ (λ over e. the_firing g f (firing 1 0 3) (falls_comm g (waits g.moment g.comm (and_parts_of _ _ over).0)) e) (λ _ e. none_some f e) at)
-    (λ _ behind. or_went (ready_control g) (option_or (ready_line g) (ready_floor g)) f
+    (λ _ behind. or_went (gives_up g) (option_or (ready_line g) (ready_floor g)) f
     (λ at. went _ _ _ _ (λ can e. the_firing g f (firing 2 0 2) (falls_control g (and_parts_of _ _ can).0) e) (λ _ e. none_some f e) at)
     (λ _ last. or_went (ready_line g) (ready_floor g) f
     (λ at. line_went g f (λ row is e. this_firing g f (firing 3 0 row) (falls_line g row is) e) at)
     (λ _ at. falls_floor g f at) last) behind)
-    ready
+    (sym (least_is g) ∙ ready)
 
 -- ---- the settled state
 
@@ -255,10 +250,6 @@ settled_none g none = ap (λ fs. fire_all fs g) (ap (settling_by (left g) g) non
 pub settled_some : (g : State) (f : Firing) → least g ≡ Some f → settled g ≡ settled (advanced g f)
 settled_some g f ready = ap (λ fs. fire_all fs g) (settling_is g f ready) ∙ fire_both (creations g f) (settling (advanced g f)) (fire g f)
 
--- what holds of a state behind a firing holds behind what that creates
-pub advanced_keeps : (P : State → Type 0) → ((g : State) (n : ℕ) → P g → P (fire g (firing 8 n 1))) → (g : State) (f : Firing) → P (fire g f) → P (advanced g f)
-advanced_keeps P creates g f here = created_case (λ (cs : List Firing). P (fire_all cs (fire g f))) g f here (λ n. creates (fire g f) n here)
-
 settled_within : (P : State → Type 0) → ((g : State) (f : Firing) → least g ≡ Some f → P g → P (advanced g f)) → (n : ℕ) (g : State) (f : Option Firing) → least g ≡ f → left g ≤ n → P g → P (settled g)
 settled_within P keeps n g None is fits here = subst P (sym (settled_none g is)) here
 settled_within P keeps zero g (Some f) is fits here = absurd (omega (arith, left_falls g f is))
@@ -271,25 +262,31 @@ pub settled_keeps : (P : State → Type 0) → ((g : State) (f : Firing) → lea
 settled_keeps P keeps creates g here =
     settled_within P (λ h f ready at. advanced_keeps P creates h f (keeps h f ready at)) (left g) g (least g) refl (omega arith) here
 
-along_made : (P Q : State → Type 0) → ((h : State) → P h → Q h) → (g : State) (f : Firing) (fs : List Firing) → P (fire g f) → Along Q (advanced g f) fs → Along Q (fire g f) (creations g f ++ fs)
-along_made P Q says g f fs here =
-    created_case (λ (cs : List Firing). Along Q (fire_all cs (fire g f)) fs → Along Q (fire g f) (cs ++ fs)) g f (λ rest. rest) (λ n rest. (says (fire g f) here, rest))
+along_made : (P Q : State → Type 0) → ((h : State) → P h → Q h) → ((g : State) (n : ℕ) → P g → P (fire g (firing 8 n 1))) → (ds : List Firing) → AreCreations ds → (g : State) (fs : List Firing) → P g → Along Q (fire_all ds g) fs → Along Q g (ds ++ fs)
+along_made P Q says creates [] are g fs here rest = rest
+along_made P Q says creates (d ∷ ds) are g fs here rest =
+    (says g here, along_made P Q says creates ds are.1 (fire g d) fs (subst (λ (x : Firing). P (fire g x)) (sym are.0) (creates g d.object here)) rest)
 
 along_within : (P Q : State → Type 0) → ((h : State) → P h → Q h) → ((g : State) (f : Firing) → least g ≡ Some f → P g → P (fire g f)) → ((g : State) (n : ℕ) → P g → P (fire g (firing 8 n 1))) → (n : ℕ) (g : State) (f : Option Firing) → least g ≡ f → P g → Along Q g (settling_by n g f)
 along_within P Q says keeps creates n g None is here = says g here
 along_within P Q says keeps creates zero g (Some f) is here = says g here
 along_within P Q says keeps creates (suc n) g (Some f) is here =
     let next = keeps g f is here in
-    (says g here, along_made P Q says g f (settling_by n (advanced g f) (least (advanced g f))) next (along_within P Q says keeps creates n (advanced g f) (least (advanced g f)) refl (advanced_keeps P creates g f next)))
+    (says g here, along_made P Q says creates (creations g f) (created_are g f) (fire g f) (settling_by n (advanced g f) (least (advanced g f))) next (along_within P Q says keeps creates n (advanced g f) (least (advanced g f)) refl (advanced_keeps P creates g f next)))
 
 -- what each firing keeps holds on the way to the settled state
 pub settled_along : (P Q : State → Type 0) → ((h : State) → P h → Q h) → ((g : State) (f : Firing) → least g ≡ Some f → P g → P (fire g f)) → ((g : State) (n : ℕ) → P g → P (fire g (firing 8 n 1))) → (g : State) → P g → Along Q g (settling g)
 settled_along P Q says keeps creates g here = along_within P Q says keeps creates (left g) g (least g) refl here
 
+-- the rows that are due behind such a row are those that were due behind it
+due_behind : (g : State) (d : Firing) (ds : List Firing) → d ≡ firing 8 d.object 1 → creations g d ++ ds ≡ ds
+due_behind g d ds is = ap (λ (cs : List Firing). cs ++ ds) (creates_no_more g d is)
+
 -- a path goes on behind what a firing creates
-path_created : (g : State) (f : Firing) (fs : List Firing) (h : State) → Path (advanced g f) [] fs h → Path (fire g f) (creations g f) (creations g f ++ fs) h
-path_created g f fs h =
-    created_case (λ (cs : List Firing). Path (fire_all cs (fire g f)) [] fs h → Path (fire g f) cs (cs ++ fs) h) g f (λ path. path) (λ n path. (refl, path))
+path_created : (ds : List Firing) → AreCreations ds → (g : State) (fs : List Firing) (h : State) → Path (fire_all ds g) [] fs h → Path g ds (ds ++ fs) h
+path_created [] are g fs h path = path
+path_created (d ∷ ds) are g fs h path =
+    (refl, subst (λ (due : List Firing). Path (fire g d) due (ds ++ fs) h) (sym (due_behind g d ds are.0)) (path_created ds are.1 (fire g d) fs h path))
 
 settles_within : (n : ℕ) (g : State) (f : Option Firing) → least g ≡ f → left g ≤ n → Settles g (settling g) (settled g)
 settles_within n g None is fits =
@@ -300,7 +297,7 @@ settles_within (suc n) g (Some f) is fits =
     let next : State = advanced g f in
     let rest : Path next [] (settling next) (settled next) = settles_within n next (least next) refl (omega (arith, left_falls g f is)) in
     rw (settling_is g f is)
-    (is, subst (Path (fire g f) (creations g f) (creations g f ++ settling next)) (sym (fire_both (creations g f) (settling next) (fire g f))) (path_created g f (settling next) (settled next) rest))
+    (is, subst (Path (fire g f) (creations g f) (creations g f ++ settling next)) (sym (fire_both (creations g f) (settling next) (fire g f))) (path_created (creations g f) (created_are g f) (fire g f) (settling next) (settled next) rest))
 
 -- it settles so
 pub settles_so : (g : State) → Settles g (settling g) (settled g)
@@ -312,13 +309,12 @@ record Behind (k : State) (cs fs : List Firing) (h : State) : Type 0 where
   pub is : fs ≡ cs ++ rest
   pub path : Path (fire_all cs k) [] rest h
 
-path_behind : (g : State) (f : Firing) (fs : List Firing) (h : State) → Path (fire g f) (creations g f) fs h → Behind (fire g f) (creations g f) fs h
-path_behind g f fs h =
-    created_case (λ (cs : List Firing). Path (fire g f) cs fs h → Behind (fire g f) cs fs h) g f (λ path. record { rest = fs; is = refl; path = path }) (λ n path. first n fs path)
-  where
-    first : (n : ℕ) (fs : List Firing) → Path (fire g f) (firing 8 n 1 ∷ []) fs h → Behind (fire g f) (firing 8 n 1 ∷ []) fs h
-    first n [] path = absurd path
-    first n (x ∷ rest) path = record { rest = rest; is = ap (λ (y : Firing). y ∷ rest) path.0; path = path.1 }
+path_behind : (ds : List Firing) → AreCreations ds → (g : State) (fs : List Firing) (h : State) → Path g ds fs h → Behind g ds fs h
+path_behind [] are g fs h path = record { rest = fs; is = refl; path = path }
+path_behind (d ∷ ds) are g [] h path = absurd path
+path_behind (d ∷ ds) are g (x ∷ fs) h path =
+    let b = path_behind ds are.1 (fire g d) fs h (subst (λ (due : List Firing). Path (fire g d) due fs h) (due_behind g d ds are.0) path.1) in
+    record { rest = b.rest; is = ap (λ (y : Firing). y ∷ fs) path.0 ∙ ap (λ (ys : List Firing). d ∷ ys) b.is; path = b.path }
 
 -- and in no other way
 settles_by : (n : ℕ) (g : State) (fs : List Firing) (h : State) → length fs ≤ n → Settles g fs h → (fs ≡ settling g) × (h ≡ settled g)
@@ -326,7 +322,7 @@ settles_by n g [] h fits path =
     (sym (ap (settling_by (left g) g) path.0), path.1 ∙ sym (settled_none g path.0))
 settles_by zero g (f ∷ fs) h fits path = absurd (omega arith)
 settles_by (suc n) g (f ∷ fs) h fits path =
-    let b = path_behind g f fs h path.1 in
+    let b = path_behind (creations g f) (created_are g f) (fire g f) fs h path.1 in
     let count = ap length b.is in
     let both = length-append (creations g f) b.rest in
     let rest = settles_by n (advanced g f) b.rest h (omega (arith, fits, count, both)) b.path in

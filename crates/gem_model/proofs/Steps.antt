@@ -31,7 +31,7 @@ use Rattle.gem_model.specs.Verdict.{header_of}
 use Rattle.gem_model.specs.Act.{session_ended}
 use Rattle.gem_model.specs.Due.{Due, EndOfSession, Linktest, Timeout, dues, dues_with, timeouts, expired, link_times, is_due, all_done, asks_linktest, timed_out}
 use Rattle.gem_model.specs.Settle.{settled}
-use Rattle.gem_model.specs.Step.{Outcome, step, step_from, answered, end_now, hosted, linked, taken, operated, is_accepted, switched, quits, ticked, ended_by, acts, settles}
+use Rattle.gem_model.specs.Step.{Outcome, step, step_from, answered, end_now, hosted, linked, handed_out, operated, is_accepted, switched, quits, ticked, ended_by, acts, settles}
 use Rattle.gem_model.proofs.Links.{link_after-keeps, due-down}
 use Rattle.gem_model.proofs.Tests.{went, none_some}
 use Rattle.gem_model.specs.Signals.{signalled, is_ready_to_unload}
@@ -137,7 +137,7 @@ keeps_hosted g arrival link.Nothing up = keeps_same g _ _ (same_at g)
 the_some : (g : State) (x o : Outcome) → Keeping g x → Some x ≡ Some o → Keeping g o
 the_some g x o keeps here = let is : x ≡ o = cc in subst (Keeping g) is keeps
 
-keeps_taken : (g : State) (frames : List (List ℕ)) (o : Outcome) → taken g frames ≡ Some o → Keeping g o
+keeps_taken : (g : State) (frames : List (List ℕ)) (o : Outcome) → handed_out g frames ≡ Some o → Keeping g o
 keeps_taken g [] o here = none_some o here
 keeps_taken g (frame ∷ frames) o here = the_some g _ o (keeps_same g (record g { waiting = frames }) _ (record { config = refl; link = refl; quitting = refl })) here
 

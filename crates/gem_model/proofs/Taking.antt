@@ -6,7 +6,7 @@ use Rattle.tool_events.specs.declared.answer.Answer.TheVariants as answer
 use Rattle.tool_events.specs.declared.entry.Entry.{Entry}
 use Rattle.gem_model.specs.State.{State, is_up, is_session_up, raised}
 use Rattle.gem_model.specs.Settle.{settled}
-use Rattle.gem_model.specs.Step.{step, after, taken, answered, settles}
+use Rattle.gem_model.specs.Step.{step, after, handed_out, answered, settles}
 use Rattle.gem_model.specs.Run.{after_all}
 use Rattle.gem_model.specs.Valid.{Valid}
 use Rattle.gem_model.specs.Feed.{Given, nothing, behind, taken_all, takes, entry_of}
@@ -32,10 +32,10 @@ pub record TakesOne (g : State) (session : ℕ) : Type 0 where
   pub up : is_session_up (after g 0 (Take session)) session ≡ true
   pub fewer : length (after g 0 (Take session)).waiting < length g.waiting
 
-step_up : (g : State) (session : ℕ) → Valid g → is_session_up g session ≡ true → step g 0 (Take session) ≡ option_map settles (taken (raised g 0) g.waiting)
+step_up : (g : State) (session : ℕ) → Valid g → is_session_up g session ≡ true → step g 0 (Take session) ≡ option_map settles (handed_out (raised g 0) g.waiting)
 step_up g session valid up =
-    ap (λ (b : Bool). if b then Some (answered answer.Ended (raised g 0)) else option_map settles (if is_session_up g session then taken (raised g 0) g.waiting else Some (answered answer.Ended (raised g 0)))) (goes_on g valid (up_is g session up).0)
-    ∙ ap (λ (b : Bool). option_map settles (if b then taken (raised g 0) g.waiting else Some (answered answer.Ended (raised g 0)))) up
+    ap (λ (b : Bool). if b then Some (answered answer.Ended (raised g 0)) else option_map settles (if is_session_up g session then handed_out (raised g 0) g.waiting else Some (answered answer.Ended (raised g 0)))) (goes_on g valid (up_is g session up).0)
+    ∙ ap (λ (b : Bool). option_map settles (if b then handed_out (raised g 0) g.waiting else Some (answered answer.Ended (raised g 0)))) up
 
 -- what the entries of some takes give
 abbrev taken_by : State → List Entry → Given
@@ -56,11 +56,11 @@ without_first_settled g frames valid =
     settled_none (without_first g frames) (earlier_quiet g (raised g 0).moment frames (omega arith) valid.settled)
 
 one_taken : (g : State) (waiting : List (List ℕ)) (session : ℕ) → Valid g → g.waiting ≡ waiting → is_session_up g session ≡ true → step g 0 (Take session) ≢ None → TakesOne g session
-one_taken g [] session valid is up some = absurd (some (step_up g session valid up ∙ ap (λ fs. option_map settles (taken (raised g 0) fs)) is))
+one_taken g [] session valid is up some = absurd (some (step_up g session valid up ∙ ap (λ fs. option_map settles (handed_out (raised g 0) fs)) is))
 one_taken g (frame ∷ frames) session valid is up some =
     let h : State = without_first g frames in
     let here : step g 0 (Take session) ≡ Some (answered (answer.Frame frame) h) =
-    step_up g session valid up ∙ ap (λ fs. option_map settles (taken (raised g 0) fs)) is
+    step_up g session valid up ∙ ap (λ fs. option_map settles (handed_out (raised g 0) fs)) is
     ∙ ap (λ (k : State). Some (answered (answer.Frame frame) k)) (without_first_settled g frames valid) in
     let there : after g 0 (Take session) ≡ h = after-step g 0 (Take session) _ here in
     let number = up_is g session up in
@@ -79,7 +79,7 @@ take_one g session valid up some = one_taken g g.waiting session valid refl up s
 none_waits : (g : State) (waiting : List (List ℕ)) (session : ℕ) → Valid g → g.waiting ≡ waiting → is_session_up g session ≡ true → step g 0 (Take session) ≡ None → taken_all g ≡ nothing g
 none_waits g [] session valid is up none =
     ap (taken_by g) (takes_up g (up_is g session up).0 ∙ ap (takes_of g.link.session) is)
-none_waits g (frame ∷ frames) session valid is up none = absurd (let here : step g 0 (Take session) ≡ Some _ = step_up g session valid up ∙ ap (λ fs. option_map settles (taken (raised g 0) fs)) is in cc)
+none_waits g (frame ∷ frames) session valid is up none = absurd (let here : step g 0 (Take session) ≡ Some _ = step_up g session valid up ∙ ap (λ fs. option_map settles (handed_out (raised g 0) fs)) is in cc)
 
 pub take_none : (g : State) (session : ℕ) → Valid g → is_session_up g session ≡ true → step g 0 (Take session) ≡ None → taken_all g ≡ nothing g
 take_none g session valid up none = none_waits g g.waiting session valid refl up none

@@ -2,12 +2,12 @@
 use Rattle.std.proofs.Common.{◌≡◌, Bool, true, false, ◌&&◌, if◌then◌else◌, Option, Some, None, refl}
 use Rattle.std.specs.Option.{option_or}
 
-pub went : {P A : Type 0} (b : Bool) (x y z : A) → (b ≡ true → x ≡ z → P) → (b ≡ false → y ≡ z → P) → if b then x else y ≡ z → P
+pub went {ℓ} : {P : Type ℓ} {A : Type 0} (b : Bool) (x y z : A) → (b ≡ true → x ≡ z → P) → (b ≡ false → y ≡ z → P) → if b then x else y ≡ z → P
 went true x y z at_x at_y here = at_x refl here
 went false x y z at_x at_y here = at_y refl here
 
 -- what holds of both ways holds of the one that was taken
-pub either_way : {A : Type 0} (P : A → Type 0) (b : Bool) (x y : A) → P x → P y → P (if b then x else y)
+pub either_way {ℓ} : {A : Type 0} (P : A → Type ℓ) (b : Bool) (x y : A) → P x → P y → P (if b then x else y)
 either_way P true x y at_x at_y = at_x
 either_way P false x y at_x at_y = at_y
 
@@ -20,5 +20,5 @@ pub and_parts_of : (a b : Bool) → (a && b) ≡ true → (a ≡ true) × (b ≡
 and_parts_of true b h = (refl, h)
 and_parts_of false b h = absurd (cc)
 
-pub none_some : {P A : Type 0} (x : A) → None ≡ Some x → P
+pub none_some {ℓ} : {P : Type ℓ} {A : Type 0} (x : A) → None ≡ Some x → P
 none_some x here = absurd (cc)

@@ -5,7 +5,8 @@ use Rattle.std.specs.Option.{option_or, option_to_list}
 use Rattle.hsms_link.specs.declared.state.Phase.{Phase}
 use Rattle.hsms_link.specs.declared.state.Phase.TheVariants.{Down, NotSelected, Selected}
 use Rattle.hsms_link.specs.Links as links
-use Rattle.gem_tables.specs.Table.{Firing, firing}
+use Rattle.gem_tables.specs.Table.{firing}
+use Rattle.gem_tables.specs.declared.firing.Firing.{Firing}
 use Rattle.gem_states.specs.declared.communication.Comm.{Comm}
 use Rattle.gem_states.specs.declared.communication.Comm.TheVariants as comm
 use Rattle.transactions.specs.Table.{is_full}
@@ -23,8 +24,11 @@ use Rattle.note_line.specs.Order.{Pairwise}
 use Rattle.note_line.proofs.Keeps.{Keeps, fates-same, fates-trans, opening-valid, quiet_first}
 use Rattle.note_line.proofs.Sendings.{never-back}
 use Rattle.gem_model.specs.State.{State, opening, around, is_up, is_selected, raised, first_control, first_kinds}
-use Rattle.gem_model.specs.Fire.{fire, creations}
-use Rattle.gem_model.specs.Ready.{delay_is_over, least, ready_comm, ready_control, ready_line, ready_floor, is_attempt}
+use Rattle.gem_model.specs.Fire.{fire}
+use Rattle.gem_model.specs.Machines.{creations, least}
+use Rattle.gem_model.specs.Wants.{delay_is_over, is_attempt}
+use Rattle.gem_model.specs.Ready.{ready_line, ready_floor}
+use Rattle.gem_model.proofs.Effects.{asks_host, gives_up, least_is}
 use Rattle.gem_model.specs.Settle.{Path, settled, settling, Along}
 use Rattle.gem_model.specs.Step.{Outcome, step, step_from, acts, settles}
 use Rattle.gem_model.specs.OpenNotes.{NotBelow, NeverBack, open_behind}
@@ -66,8 +70,9 @@ behind_none (Some f) y h = absurd (cc)
 
 raised_quiet : (g : State) (at : ℕ) → is_up g ≡ false → least g ≡ None → least (raised g at) ≡ None
 raised_quiet g at down quiet =
-    ap (λ (x : Option Firing). option_or x (option_or (ready_control g) (option_or (ready_line g) (ready_floor g)))) (never _ (is_selected g) _ (down_selected g.link.phase down))
-    ∙ behind_none (ready_comm g) (option_or (ready_control g) (option_or (ready_line g) (ready_floor g))) quiet
+    least_is (raised g at)
+    ∙ ap (λ (x : Option Firing). option_or x (option_or (gives_up g) (option_or (ready_line g) (ready_floor g)))) (never _ (is_selected g) _ (down_selected g.link.phase down))
+    ∙ behind_none (asks_host g) (option_or (gives_up g) (option_or (ready_line g) (ready_floor g))) (sym (least_is g) ∙ quiet)
 
 -- ---- an earlier moment makes no row ready
 
@@ -94,10 +99,11 @@ first_none (Some f) y h = absurd (cc)
 -- what differs by an earlier moment and by the frames that wait has no row that is ready either
 pub earlier_quiet : (g : State) (moment : ℕ) (waiting : List (List ℕ)) → moment ≤ g.moment → least g ≡ None → least (record g { moment = moment; waiting = waiting }) ≡ None
 earlier_quiet g moment waiting less quiet =
-    let late = test_of _ _ (first_none (ready_comm g) (option_or (ready_control g) (option_or (ready_line g) (ready_floor g))) quiet) in
+    let late = test_of _ _ (first_none (asks_host g) (option_or (gives_up g) (option_or (ready_line g) (ready_floor g))) (sym (least_is g) ∙ quiet)) in
     let early : (delay_is_over moment g.comm && is_selected g) ≡ false = not_both _ (delay_is_over g.moment g.comm) (is_selected g) (earlier_over moment g.moment g.comm less) late in
-    ap (λ (b : Bool). option_or (if b then Some (firing 1 0 3) else None) (option_or (ready_control g) (option_or (ready_line g) (ready_floor g)))) early
-    ∙ behind_none (ready_comm g) (option_or (ready_control g) (option_or (ready_line g) (ready_floor g))) quiet
+    least_is (record g { moment = moment; waiting = waiting })
+    ∙ ap (λ (b : Bool). option_or (if b then Some (firing 1 0 3) else None) (option_or (gives_up g) (option_or (ready_line g) (ready_floor g)))) early
+    ∙ behind_none (asks_host g) (option_or (gives_up g) (option_or (ready_line g) (ready_floor g))) (sym (least_is g) ∙ quiet)
 
 -- ---- a step
 
@@ -140,7 +146,8 @@ never_first false b f h = refl
 
 pub opening_valid : (c : Config) → Valid (opening c)
 opening_valid c = record {
-  settled = ap (λ (x : Option Firing). option_or x (option_or (ready_control (opening c)) (ready_floor (opening c)))) (never _ false _ refl)
+  settled = least_is (opening c)
+      ∙ ap (λ (x : Option Firing). option_or x (option_or (gives_up (opening c)) (ready_floor (opening c)))) (never _ false _ refl)
       ∙ ap (λ (x : Option Firing). option_or x (ready_floor (opening c))) (never_first (is_attempt (first_control c.control)) _ _ (no_attempt c.control))
       ∙ opening_quiet c.ports;
   quit = λ _. refl;
@@ -202,7 +209,7 @@ inactive_empty false some e is = absurd (cc)
 pub run-empty : (c : Config) (entries : List Entry) (h : State) → Run (opening c) entries h → is_inactive h.line.spool.load ≡ true → has_note h.line.spool ≡ false
 run-empty c entries h run inactive =
     let valid = run_valid (opening c) entries h (opening_valid c) run in
-    let quiet = no_row (table.least (around h) h.line) (none_ready (ready_comm h) (ready_control h) (ready_line h) (ready_floor h) valid.settled) in
+    let quiet = no_row (table.least (around h) h.line) (none_ready (asks_host h) (gives_up h) (ready_line h) (ready_floor h) (sym (least_is h) ∙ valid.settled)) in
     inactive_empty _ _ (quiet_first (around h) h.line quiet) inactive
 
 -- ---- sendings of one kind never go back

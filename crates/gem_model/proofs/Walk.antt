@@ -16,15 +16,17 @@ use Rattle.std.proofs.lemmas.Bool.{true≢false}
 use Rattle.transactions.specs.Endings.{answers, first_expired, is_first_expired}
 use Rattle.gem_model.proofs.Links.{link_after-keeps}
 use Rattle.secs_items.specs.Data.{Data}
-use Rattle.secs_items.specs.Plain.{plain}
 use Rattle.gem_primaries.specs.declared.primary.GemMsg.{GemMsg}
 use Rattle.gem_primaries.specs.declared.primary.GemMsg.TheVariants as msg
-use Rattle.gem_replies.specs.Replies.{reply_body}
 use Rattle.msgs_300.specs.Primaries.{Message, S3F17, S3F25, S3F27}
 use Rattle.gem_ids.specs.Civil.{moment_in}
-use Rattle.gem_tables.specs.Table.{Firing, firing}
+use Rattle.gem_tables.specs.Table.{firing}
+use Rattle.gem_tables.specs.declared.firing.Firing.{Firing}
 use Rattle.event_reports.specs.Alarms.{is_alarm, is_set}
 use Rattle.carrier.specs.declared.action.CarrierAction.{CarrierAction}
+use Rattle.load_port.specs.declared.caack.Caack.{Caack}
+use Rattle.load_port.specs.declared.caack.Caack.TheVariants.{Unknown, NotNow}
+use Rattle.load_port.specs.Caack.{is_done_code}
 use Rattle.carrier.specs.Verdict.{is_unknown}
 use Rattle.shop_floor.specs.Requests.{carrier_code, carrier_written, at_port, removal}
 use Rattle.tool_events.specs.declared.event.Event.{Event}
@@ -40,21 +42,24 @@ use Rattle.transactions.specs.Table.{taken_out, without}
 use Rattle.gem_model.specs.State.{State, is_up, is_session_up, raised}
 use Rattle.gem_model.specs.Sending.{sends_stream9, data_header}
 use Rattle.gem_model.specs.Noting.{sets_alarm, clears_alarm}
-use Rattle.gem_model.specs.Fire.{fire, fires, fire_listed, row_starts}
-use Rattle.gem_model.specs.Remote.{RemoteCommand, GoLocal, ClearAlarm, Parameter, accepted, alarm_named}
+use Rattle.gem_model.specs.Fire.{fire, fires, fire_listed}
+use Rattle.gem_model.specs.Machines.{row_starts, least, takes_effect}
+use Rattle.gem_model.specs.Remote.{Decision, refused, goes_local, clears, decided}
+use Rattle.gem_model.specs.HostMessages.{HostMessage, Gem, Shop, reply_text}
+use Rattle.gem_model.specs.Messages.{done, gem_done, shop_done, remote_done, carrier_action_done, clock_set}
 use Rattle.gem_model.specs.Spooling.{rspack}
-use Rattle.gem_model.specs.Shop.{is_local, carrier_caack, carrier_action, carrier_done, shop_rows, shop_written}
+use Rattle.gem_model.specs.Shop.{is_local, carrier_caack, carrier_action}
 use Rattle.gem_model.specs.Signals.{lacks_port, port_row_starts, port_alarm, with_arrival, placed, removed, signalled, is_ready_to_unload}
-use Rattle.gem_model.specs.Direct.{operator_rows, message_rows, timeout_rows}
-use Rattle.gem_model.specs.Ready.{least}
-use Rattle.gem_model.specs.Verdict.{Verdict, Discarded, Stream9, Aborted, Answers, Taken, ShopTaken, verdict, header_of, item_of, wants_reply, stream_of, function_of, reply_to}
-use Rattle.gem_model.specs.Act.{written, clock_set, clears_named, command_written, replied, taken, shop_replied, shop_taken, closed_by, data_act, session_ended}
+use Rattle.gem_model.specs.Direct.{operator_rows, timeout_rows}
+use Rattle.gem_model.specs.Verdict.{Verdict, Discarded, Stream9, Aborted, Answers, Taken, verdict, header_of, item_of, wants_reply, stream_of, function_of}
+use Rattle.gem_model.specs.Act.{replied, taken, closed_by, data_act, session_ended}
 use Rattle.gem_model.specs.Due.{Timeout, dues_with, timeouts, expired_from, link_times, is_due, all_done, asks_linktest, timed_out}
 use Rattle.gem_model.specs.Settle.{settled}
 use Rattle.gem_model.specs.Step as steps
 use Rattle.gem_model.specs.Step.{Outcome, step, step_from, acts, linked, hosted, can_clear, operated, switched, quits, settles}
 use Rattle.gem_model.proofs.Tests.{went, either_way, none_some}
-use Rattle.gem_model.proofs.Listed.{Are, IsFree, listed_keeps, free_message, free_shop, free_enable, free_online, free_offline, free_local, free_remote, free_service, free_access, free_placing, free_removal}
+use Rattle.gem_model.specs.Direct.{Are}
+use Rattle.gem_model.proofs.Listed.{IsFree, listed_keeps, free_message, free_enable, free_online, free_offline, free_local, free_remote, free_service, free_access, free_placing, free_removal}
 use Rattle.gem_model.proofs.Settling.{settled_keeps}
 use Rattle.hsms_link.specs.declared.state.LinkState.{LinkState}
 use Rattle.event_reports.specs.Reports.{Reports}
@@ -67,7 +72,6 @@ use Rattle.note_line.specs.declared.around.SpooledKinds.{SpooledKinds}
 use Rattle.gem_model.specs.State.{Clock}
 use Rattle.gem_model.specs.Values.{Occasion}
 use Rattle.gem_model.specs.Noting.{line_behind, line_with_alarm}
-use Rattle.gem_model.specs.Fire.{takes_effect}
 
 -- what keeps a fact of states while link, moment and the end of the run stay: each change that a step is made of, by the field
 -- that it writes, each row, and the moves by which a transaction ends together with what its end does
@@ -83,7 +87,7 @@ pub record Inner (P : State → Type 0) : Type 1 where
   pub alarm : (g : State) (alid : ℕ) → P g → P (record g { line = line_with_alarm alid g })
   pub kinds : (g : State) (k : SpooledKinds) → P g → P (record g { line = with_kinds k g.line })
   pub came : (g : State) (port : ℕ) (name : Option (List ℕ)) (slots : List ℕ) → P g → P (with_arrival port name slots g)
-  pub written : (g : State) (a : CarrierAction) → carrier_code g.floor a ≡ 0 → P g → P (record g { floor = carrier_written a g.floor })
+  pub written : (g : State) (a : CarrierAction) → is_done_code (carrier_code g.floor a) ≡ true → P g → P (record g { floor = carrier_written a g.floor })
   pub row : (g : State) (f : Firing) → IsFree f → row_starts g f ≡ true → P g → P (takes_effect g f)
   pub ready : (g : State) (f : Firing) → least g ≡ Some f → P g → P (fire g f)
   pub created : (g : State) (n : ℕ) → P g → P (fire g (firing 8 n 1))
@@ -123,14 +127,14 @@ where_true : {A : Type 0} (Q : A → Type 0) (b : Bool) (x y : A) → (b ≡ tru
 where_true Q true x y at_x at_y = at_x refl
 where_true Q false x y at_x at_y = at_y
 
-done_code : (unknown local : Bool) (code : ℕ) → ((if unknown then 1 else (if local then 2 else code)) == 0) ≡ true → code ≡ 0
+done_code : (unknown local : Bool) (code : Caack) → is_done_code (if unknown then Unknown else (if local then NotNow else code)) ≡ true → is_done_code code ≡ true
 done_code true local code is = absurd (cc)
 done_code false true code is = absurd (cc)
-done_code false false code is = eqb-true code 0 is
+done_code false false code is = is
 
 module _ (P : State → Type 0) (inner : Inner P) where
   pub kept_listed : (fs : List Firing) → Are IsFree fs → (g : State) → P g → P (fire_listed fs g)
-  kept_listed fs free g at = listed_keeps P IsFree inner.event inner.row fs free g at
+  kept_listed fs free g at = listed_keeps P IsFree inner.event inner.row inner.created fs free g at
 
   pub kept_settled : (g : State) → P g → P (settled g)
   kept_settled g at = settled_keeps P inner.ready inner.created g at
@@ -145,48 +149,45 @@ module _ (P : State → Type 0) (inner : Inner P) where
   kept_clock g None at = at
   kept_clock g (Some shown) at = inner.clock g _ at
 
-  kept_named : (g : State) (alid : Option ℕ) → P g → P (clears_named alid g)
-  kept_named g None at = at
-  kept_named g (Some alid) at = kept_cleared g alid at
+  kept_remote : (g : State) (d : Decision) → P g → P (remote_done g d).after
+  kept_remote g (refused code faults) at = at
+  kept_remote g goes_local at = at
+  kept_remote g (clears alid) at = kept_cleared g alid at
 
-  kept_command : (g : State) (command : Option RemoteCommand) (parameters : List Parameter) → P g → P (command_written command parameters g)
-  kept_command g None parameters at = at
-  kept_command g (Some GoLocal) parameters at = at
-  kept_command g (Some ClearAlarm) parameters at = kept_named g (alarm_named parameters) at
+  kept_gem : (g : State) (m : GemMsg) → P g → P (gem_done g m).after
+  kept_gem g (msg.S2F15 settings) at = inner.constants g _ at
+  kept_gem g (msg.S2F31 text) at = kept_clock g (moment_in text) at
+  kept_gem g (msg.S2F33 id reports) at = inner.reports g _ at
+  kept_gem g (msg.S2F35 id events) at = inner.reports g _ at
+  kept_gem g (msg.S2F37 on ceids) at = inner.reports g _ at
+  kept_gem g (msg.S2F41 name parameters) at = kept_remote g (decided g name parameters) at
+  kept_gem g (msg.S2F43 entries) at = either_way P (rspack g entries == 0) _ g (inner.kinds g _ at) at
+  kept_gem g (msg.S5F3 aled alid) at = inner.alarms g _ at
+  kept_gem g _ at = at
 
-  pub kept_written : (g : State) (m : GemMsg) → P g → P (written m g)
-  kept_written g (msg.S2F15 settings) at = inner.constants g _ at
-  kept_written g (msg.S2F31 text) at = kept_clock g (moment_in text) at
-  kept_written g (msg.S2F33 id reports) at = inner.reports g _ at
-  kept_written g (msg.S2F35 id events) at = inner.reports g _ at
-  kept_written g (msg.S2F37 on ceids) at = inner.reports g _ at
-  kept_written g (msg.S2F41 name parameters) at = kept_command g (accepted g name parameters) parameters at
-  kept_written g (msg.S2F43 entries) at = either_way P (rspack g entries == 0) _ g (inner.kinds g _ at) at
-  kept_written g (msg.S5F3 aled alid) at = inner.alarms g _ at
-  kept_written g _ at = at
+  kept_action : (a : CarrierAction) (g : State) → P g → P (carrier_action_done g a).after
+  kept_action a g at =
+      where_true P (is_done_code (carrier_caack a g)) (record g { floor = carrier_written a g.floor }) g
+      (λ is. inner.written g a (done_code (is_unknown a.word) (is_local g.control) (carrier_code g.floor a) is) at) at
+
+  kept_shop : (m : Message) (g : State) → P g → P (shop_done g m).after
+  kept_shop (S3F17 dataid action carrier number attributes) g at = kept_action (carrier_action action carrier number attributes) g at
+  kept_shop (S3F25 action number value) g at = at
+  kept_shop (S3F27 mode numbers) g at = at
+
+  -- what a message writes
+  pub kept_done : (g : State) (m : HostMessage) → P g → P (done g m).after
+  kept_done g (Gem m) at = kept_gem g m at
+  kept_done g (Shop m) at = kept_shop m g at
 
   kept_replied : (g : State) (h : Header) (function : ℕ) (text : List ℕ) → P g → P (replied h function text g)
   kept_replied g h function text at = either_way P (wants_reply h) _ g (inner.waiting g _ at) at
 
-  kept_taken : (g : State) (h : Header) (m : GemMsg) → P g → P (taken h m g)
+  kept_taken : (g : State) (h : Header) (m : HostMessage) → P g → P (taken h m g)
   kept_taken g h m at =
-      let told : State = replied h (function_of h + 1) (plain (reply_body (reply_to g m))) g in
-      kept_listed (message_rows m (written m told)) (free_message m (written m told)) (written m told) (kept_written told m (kept_replied g h (function_of h + 1) (plain (reply_body (reply_to g m))) at))
-
-  kept_action : (a : CarrierAction) (g : State) → P g → P (carrier_done a g)
-  kept_action a g at =
-      where_true P (carrier_caack a g == 0) (record g { floor = carrier_written a g.floor }) g
-      (λ is. inner.written g a (done_code (is_unknown a.word) (is_local g.control) (carrier_code g.floor a) is) at) at
-
-  kept_asked : (m : Message) (g : State) → P g → P (shop_written m g)
-  kept_asked (S3F17 dataid action carrier number attributes) g at = kept_action (carrier_action action carrier number attributes) g at
-  kept_asked (S3F25 action number value) g at = at
-  kept_asked (S3F27 mode numbers) g at = at
-
-  kept_shop : (g : State) (h : Header) (m : Message) → P g → P (shop_taken h m g)
-  kept_shop g h m at =
-      let told : State = shop_replied h m g in
-      kept_listed (shop_rows m told) (free_shop m told) (shop_written m told) (kept_asked m told (kept_replied g h (function_of h + 1) _ at))
+      let d = done g m in
+      let told : State = replied h (function_of h + 1) (reply_text d.reply) d.after in
+      kept_listed d.rows (free_message m g) told (kept_replied d.after h (function_of h + 1) (reply_text d.reply) (kept_done g m at))
 
   kept_closed : (g : State) (h : Header) (item : Option Data) (test : Open → Bool) (one : Option Open) → find test g.transactions.opened ≡ one → P g → P (closed_by h item one g)
   kept_closed g h item test None found at = at
@@ -201,7 +202,6 @@ module _ (P : State → Type 0) (inner : Inner P) where
   kept_act g h item Aborted at = kept_replied g h 0 [] at
   kept_act g h item Answers at = kept_closed g h item (answers h.system (stream_of h) (function_of h)) _ refl at
   kept_act g h item (Taken m) at = kept_taken g h m at
-  kept_act g h item (ShopTaken m) at = kept_shop g h m at
 
   pub kept_switched : (command : OperCmd) (g : State) → P g → P (switched command g)
   kept_switched oper.Local g at = inner.switch g true at
@@ -214,14 +214,14 @@ module _ (P : State → Type 0) (inner : Inner P) where
 
   kept_placed : (port : ℕ) (name : Option (List ℕ)) (slots : List ℕ) (g : State) → P g → P (placed port name slots g)
   kept_placed port name slots g at =
-      either_way P (port_row_starts 3 port g) (fire_listed (at_port 4 3 g.floor port) (with_arrival port name slots g)) (sets_alarm (port_alarm port) g)
-      (kept_listed (at_port 4 3 g.floor port) (free_placing port g) (with_arrival port name slots g) (inner.came g port name slots at))
+      either_way P (port_row_starts 3 port g) (fire_listed (at_port 4 3 port) (with_arrival port name slots g)) (sets_alarm (port_alarm port) g)
+      (kept_listed (at_port 4 3 port) (free_placing port g) (with_arrival port name slots g) (inner.came g port name slots at))
       (kept_set g (port_alarm port) at)
 
   kept_removed : (port : ℕ) (g : State) → P g → P (removed port g)
   kept_removed port g at =
-      either_way P (port_row_starts 5 port g) (fire_listed (removal port g.floor) g) (sets_alarm (port_alarm port) g)
-      (kept_listed (removal port g.floor) (free_removal port g) g at) (kept_set g (port_alarm port) at)
+      either_way P (port_row_starts 5 port g) (fire_listed (removal port) g) (sets_alarm (port_alarm port) g)
+      (kept_listed (removal port) (free_removal port g) g at) (kept_set g (port_alarm port) at)
 
   pub kept_signalled : (s : Signal) (g : State) → P g → P (signalled s g)
   kept_signalled (signal.Placed port name slots) g at = either_way P (lacks_port port.0 g) g (placed port.0 name slots g) at (kept_placed port.0 name slots g at)
@@ -279,7 +279,7 @@ module _ (P : State → Type 0) (kept : Kept P) where
   kept_hosted g arrival link.Ended at = kept.ended g at
   kept_hosted g arrival link.Nothing at = at
 
-  kept_frame : (g : State) (frames : List (List ℕ)) (o : Outcome) → P g → steps.taken g frames ≡ Some o → KeptTo o
+  kept_frame : (g : State) (frames : List (List ℕ)) (o : Outcome) → P g → steps.handed_out g frames ≡ Some o → KeptTo o
   kept_frame g [] o at here = none_some o here
   kept_frame g (frame ∷ frames) o at here = the_kept _ o (kept.inner.waiting g frames at) here
 

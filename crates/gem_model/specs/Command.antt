@@ -1,5 +1,5 @@
 -- The command of the program, as words.
-use Rattle.std.specs.Prelude.{ℕ, ◌+◌, Bool, false, ◌&&◌, not, if◌then◌else◌, List, [], ◌∷◌, codes, Option, Some, None, nat_eq}
+use Rattle.std.specs.Prelude.{ℕ, ◌+◌, Bool, true, false, ◌&&◌, not, if◌then◌else◌, List, [], ◌∷◌, codes, Option, Some, None, nat_eq}
 use Rattle.std.specs.Str.{bytes_eq}
 use Rattle.tool_events.specs.declared.config.Config.{Config}
 use Rattle.tool_events.specs.declared.config.CommStart.TheVariants as start
@@ -34,9 +34,10 @@ known_configuration = codes "communication = \"communicating\"\n"
 abbrev pub configuration_bytes : ℕ
 configuration_bytes = 65537
 
--- what the known configuration says: the defaults of all keys that are built (this tool's profile, configuration)
+-- what the known configuration says: the default of each key but `communication` (this tool's profile, configuration)
 abbrev pub known_config : Config
 known_config = record {
+  version = 1;
   device = 0;
   mdln = codes "GEM300";
   softrev = codes "1.0.00";
@@ -56,4 +57,6 @@ known_config = record {
   max_entries = 4000000;
   max_bytes = 536870912;
   start_moment = record { 0 = 0 };
+  recipes = record { name = codes "R1"; chambers = record { one = true; two = true } } ∷ [];
+  tcp_port = 5000;
 }

@@ -1,15 +1,14 @@
 -- The direct rows of each input, in order (this tool's profile, direct rows). A listed row that does not start at the
 -- present state is left out when they fire.
-use Rattle.std.specs.Prelude.{ℕ, ◌==◌, if◌then◌else◌, List, [], ◌∷◌, ◌++◌, Option, Some, None, is_some}
+use Rattle.std.specs.Prelude.{◌≡◌, true, ℕ, ◌==◌, if◌then◌else◌, List, [], ◌∷◌, ◌++◌, Option, Some, None, is_some}
 use Rattle.secs_items.specs.Data.{Data}
 use Rattle.gem_states.specs.declared.communication.CommTrigger.{CommTrigger}
 use Rattle.gem_states.specs.declared.communication.CommTrigger.TheVariants as comm
 use Rattle.gem_states.specs.declared.control.ControlTrigger.{ControlTrigger}
 use Rattle.gem_states.specs.declared.control.ControlTrigger.TheVariants as control
-use Rattle.gem_states.specs.Meaning.{comm_rows, control_rows}
-use Rattle.gem_tables.specs.Table.{Firing}
-use Rattle.gem_primaries.specs.declared.primary.GemMsg.{GemMsg}
-use Rattle.gem_primaries.specs.declared.primary.GemMsg.TheVariants as msg
+use Rattle.gem_states.specs.Triggers.{comm_rows, control_rows}
+use Rattle.gem_tables.specs.declared.firing.Firing.{Firing}
+use Rattle.note_line.specs.Table3.{is_direct}
 use Rattle.gem_replies.specs.Acknowledge.{accepts}
 use Rattle.tool_events.specs.declared.event.OperCmd.{OperCmd}
 use Rattle.tool_events.specs.declared.event.OperCmd.TheVariants as oper
@@ -19,8 +18,6 @@ use Rattle.transactions.specs.Endings.{first_of}
 use Rattle.shop_floor.specs.Requests.{at_port}
 use Rattle.gem_model.specs.State.{State}
 use Rattle.gem_model.specs.Fire.{of_comm, of_control, of_line}
-use Rattle.gem_model.specs.Remote.{RemoteCommand, GoLocal, ClearAlarm, accepted}
-use Rattle.gem_model.specs.Spooling.{unload_rows}
 
 -- the rows of table 1 that a trigger fires
 abbrev pub by_comm : CommTrigger → List Firing
@@ -54,24 +51,9 @@ operator_rows oper.Online g = by_control control.Online g
 operator_rows oper.Offline g = by_control control.Offline g
 operator_rows oper.Local g = by_control control.Local g
 operator_rows oper.Remote g = by_control control.Remote g
-operator_rows (oper.Service port on) g = at_port 4 (if on then 1 else 2) g.floor port.0
-operator_rows (oper.Access port auto) g = at_port 5 (if auto then 1 else 2) g.floor port.0
+operator_rows (oper.Service port on) g = at_port 4 (if on then 1 else 2) port.0
+operator_rows (oper.Access port auto) g = at_port 5 (if auto then 1 else 2) port.0
 operator_rows _ g = []
-
--- a remote command that is accepted: GOLOCAL is the operator's `local`, but that the switch stays
-abbrev pub command_rows : Option RemoteCommand → State → List Firing
-command_rows None g = []
-command_rows (Some GoLocal) g = by_control control.Local g
-command_rows (Some ClearAlarm) g = []
-
--- a primary of the host that is accepted
-abbrev pub message_rows : GemMsg → State → List Firing
-message_rows msg.S1F13 g = by_comm comm.HostS1F13
-message_rows msg.S1F15 g = by_control control.HostS1F15 g
-message_rows msg.S1F17 g = by_control control.HostS1F17 g
-message_rows (msg.S2F41 name parameters) g = command_rows (accepted g name parameters) g
-message_rows (msg.S6F23 rsdc) g = unload_rows rsdc
-message_rows _ g = []
 
 -- what the answer to the tool's S1F13 does: S1F14 with COMMACK 0 accepts, another S1F14 and S1F0 refuse
 abbrev pub establish_answer : ℕ → Option Data → CommTrigger
@@ -92,3 +74,14 @@ abbrev pub timeout_rows : What → State → List Firing
 timeout_rows what.Establish g = by_comm comm.Refused
 timeout_rows what.Attempt g = by_control control.Failed g
 timeout_rows (what.Note n) g = note_fails
+
+-- ---- what is listed
+
+-- each of these firings is such
+abbrev pub Are : (Firing → Type 0) → List Firing → Type 0
+Are Is [] = Unit {0}
+Are Is (f ∷ fs) = Is f × Are Is fs
+
+-- a firing that an input lists: one of table 3 is of a row that inputs fire
+abbrev pub IsListed : Firing → Type 0
+IsListed f = (f.row.table == 3) ≡ true → is_direct f.row.row ≡ true

@@ -87,12 +87,12 @@ timed_out one g =
     (record g { transactions = taken_out (Some one) g.transactions }))
 
 -- what is due is done
-abbrev pub done : Due → State → State
-done (EndOfSession cause) g = session_ended g
-done Linktest g = asks_linktest g
-done (Timeout one) g = timed_out one g
+abbrev pub due_done : Due → State → State
+due_done (EndOfSession cause) g = session_ended g
+due_done Linktest g = asks_linktest g
+due_done (Timeout one) g = timed_out one g
 
 -- all that is due is done, in order
 abbrev pub all_done : List Due → State → State
 all_done [] g = g
-all_done (due ∷ dues) g = all_done dues (done due g)
+all_done (due ∷ dues) g = all_done dues (due_done due g)

@@ -3,6 +3,9 @@ pub mod State
 pub mod Sending
 pub mod Values
 pub mod Noting
+pub mod Effects
+pub mod Wants
+pub mod Machines
 pub mod Fire
 pub mod Remote
 pub mod Spooling
@@ -13,6 +16,8 @@ pub mod Measure
 pub mod Settle
 pub mod Valid
 pub mod Shop
+pub mod HostMessages
+pub mod Messages
 pub mod Verdict
 pub mod Act
 pub mod Due

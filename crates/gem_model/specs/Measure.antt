@@ -5,7 +5,7 @@ use Rattle.gem_states.specs.declared.communication.Comm.TheVariants as comm
 use Rattle.note_line.specs.Left.{left as left_line}
 use Rattle.shop_floor.specs.Left.{floor_left}
 use Rattle.gem_model.specs.State.{State}
-use Rattle.gem_model.specs.Ready.{is_attempt}
+use Rattle.gem_model.specs.Wants.{is_attempt}
 
 -- WAIT DELAY
 abbrev pub is_wait_delay : Comm → Bool

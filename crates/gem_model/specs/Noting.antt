@@ -1,6 +1,6 @@
 -- The notes that firings and changes of alarms make (SEMI E30, event reports and alarms; this tool's profile, notes).
 use Rattle.std.specs.Prelude.{ℕ, ◌+◌, ◌*◌, Bool, not, ◌&&◌, ◌||◌, if◌then◌else◌, List, [], Option, Some, None, unwrap_or}
-use Rattle.gem_tables.specs.Table.{Firing}
+use Rattle.gem_tables.specs.declared.firing.Firing.{Firing}
 use Rattle.gem_rows.specs.Events.{ceid_of}
 use Rattle.gem_rows.specs.Alarms.{alarm_text}
 use Rattle.secs_items.specs.Data.{DataList}
@@ -12,7 +12,7 @@ use Rattle.event_reports.specs.Alarms.{is_set, is_alarm_enabled, set_alarm, clea
 use Rattle.spool.specs.declared.note.Kind.TheVariants.{Event, Alarm}
 use Rattle.note_line.specs.Line as notes
 use Rattle.gem_model.specs.State.{State, is_disabled, is_online}
-use Rattle.gem_model.specs.Values.{Occasion, value_of, object_name}
+use Rattle.gem_model.specs.Values.{Occasion, value_of}
 
 -- ---- events
 
@@ -42,9 +42,9 @@ abbrev pub noted_as : ℕ → ℕ → List ℕ → Bool → State → State
 noted_as table row object online_before g =
     record g { line = line_behind (ceid_of table row) (record { object = object; row = 100 * table + row }) online_before g }
 
--- the note that a firing makes
-abbrev pub noted : Bool → Firing → State → State
-noted online_before f g = noted_as f.table f.row (object_name g f) online_before g
+-- the note that a firing makes at an object of this name
+abbrev pub noted : Bool → Firing → List ℕ → State → State
+noted online_before f object g = noted_as f.row.table f.row.row object online_before g
 
 -- ---- alarms
 
@@ -62,10 +62,13 @@ alcd is_set = if is_set then 134 else 6
 abbrev pub text_of_alarm : ℕ → List ℕ
 text_of_alarm alid = unwrap_or (alarm_text alid) []
 
+-- the text of S5F1: ALCD by whether the alarm is set, ALID and ALTX (SEMI E5, S5F1)
+abbrev pub change_text : ℕ → State → List ℕ
+change_text alid g = plain (reply_body (reply.S5F1 (alcd (is_set alid g.alarms)) alid (text_of_alarm alid)))
+
 -- the line with a note of an alarm behind the others, by whether it is set
 abbrev pub alarm_line : ℕ → State → notes.Line
-alarm_line alid g =
-    notes.noted Alarm alid (plain (reply_body (reply.S5F1 (alcd (is_set alid g.alarms)) alid (text_of_alarm alid)))) g.line
+alarm_line alid g = notes.noted Alarm alid (change_text alid g) g.line
 
 -- the line behind a change of an alarm that led to this state
 abbrev pub line_with_alarm : ℕ → State → notes.Line

@@ -1,6 +1,8 @@
--- Which notes are open (this tool's profile, notes).
-use Rattle.std.specs.Prelude.{ℕ, ◌≡◌, ◌≤◌, List, [], ◌∷◌, ◌++◌, Option, option_map}
+-- Which notes are open, and which frames send them (this tool's profile, notes).
+use Rattle.std.specs.Prelude.{ℕ, ◌+◌, ◌==◌, ◌≡◌, ◌≤◌, Bool, true, false, ◌&&◌, ◌||◌, List, [], ◌∷◌, ◌++◌, Option, Some, option_map}
 use Rattle.std.specs.Option.{option_to_list}
+use Rattle.hsms_frame.specs.declared.frame.Header.{Header}
+use Rattle.hsms_frame.specs.Spelling.{message_bytes}
 use Rattle.spool.specs.declared.note.Note.{Note}
 use Rattle.note_line.specs.Line.{Line}
 use Rattle.note_line.specs.Order.{Pairwise}
@@ -8,7 +10,10 @@ use Rattle.tool_events.specs.declared.entry.Entry.{Entry}
 use Rattle.transactions.specs.declared.transaction.Open.{Open}
 use Rattle.transactions.specs.declared.transaction.What.{What}
 use Rattle.transactions.specs.declared.transaction.What.TheVariants as what
+use Rattle.transactions.specs.SystemBytes.{drawn}
 use Rattle.gem_model.specs.State.{State}
+use Rattle.gem_model.specs.Sending.{data_frame}
+use Rattle.gem_model.specs.Effects.{stream_of_kind, function_of_kind}
 use Rattle.gem_model.specs.Run.{entry_after}
 
 -- the number of the note that a transaction sends, where it sends one
@@ -30,6 +35,29 @@ number_of note = option_to_list (option_map (λ (n : Note). n.number) note)
 abbrev pub open_number : Line → List ℕ
 open_number l = number_of l.opened
 
+-- the frame by which a note is sent in this state: S6F11 or S5F1 with the text of the note, under the system bytes that are
+-- next (SEMI E5, S6F11 and S5F1)
+abbrev pub note_frame : Note → State → List ℕ
+note_frame note g =
+    data_frame g.config.device true (stream_of_kind note.kind) (function_of_kind note.kind) (drawn g.transactions) note.text
+
+-- a header of a message that sends a note: a data message with the W-bit, S6F11 or S5F1 (SEMI E37, message header)
+abbrev pub sends_note : Header → Bool
+sends_note h =
+    (h.stype == 0) && (((h.byte2 == 128 + 6) && (h.byte3 == 11)) || ((h.byte2 == 128 + 5) && (h.byte3 == 1)))
+
+-- a frame is of another message, or is that of a note of which this is so, with its text
+pub data Carries (P : Note → Type 0) (frame : List ℕ) : Type 0 where
+  of_other : (h : Header) (text : List ℕ) → frame ≡ message_bytes h text → sends_note h ≡ false → Carries P frame
+  of_note : (device system : ℕ) (note : Note)
+      → frame ≡ data_frame device true (stream_of_kind note.kind) (function_of_kind note.kind) system note.text → P note
+      → Carries P frame
+
+-- from the first state to the second this note is sent: it is open, and its frame waits for the writer behind the others
+pub record IsSent (note : Note) (g h : State) : Type 0 where
+  pub opened : h.line.opened ≡ Some note
+  pub frame : h.waiting ≡ g.waiting ++ note_frame note g ∷ []
+
 -- ---- along a history
 
 -- the notes that are open behind each of these entries, where one is: a note is sent in the step in which it becomes open
@@ -44,3 +72,9 @@ NotBelow earlier later = earlier.kind ≡ later.kind → earlier.number ≤ late
 -- sendings of one kind never go back to a lower number (this tool's profile, notes)
 abbrev pub NeverBack : State → List Entry → Type 0
 NeverBack g entries = Pairwise NotBelow (open_behind g entries)
+
+-- the frames that wait for the writer behind each of these entries: each that goes out is among them, since what a Take hands
+-- out waited behind the entry before it
+abbrev pub frames_behind : State → List Entry → List (List ℕ)
+frames_behind g [] = []
+frames_behind g (entry ∷ entries) = (entry_after g entry).waiting ++ frames_behind (entry_after g entry) entries

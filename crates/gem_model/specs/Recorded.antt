@@ -1,15 +1,17 @@
 -- What holds of each history that is recorded, and of the state to which it leads.
 use Rattle.std.proofs.Common.{◌≡◌, ◌≤◌, true, false, List, length, map}
+use Rattle.std.specs.List.{AllByRecursion}
 use Rattle.transactions.specs.Table.{is_full}
 use Rattle.tool_events.specs.declared.config.Config.{Config}
 use Rattle.tool_events.specs.declared.entry.Entry.{Entry}
 use Rattle.spool.specs.Spool.{is_inactive, has_note}
+use Rattle.note_line.specs.Line.{standing}
 use Rattle.note_line.specs.Fates.{LineValid, tells}
 use Rattle.shop_floor.specs.Valid.{IsFloor}
 use Rattle.gem_model.specs.State.{State, opening}
 use Rattle.gem_model.specs.Run.{Run}
-use Rattle.gem_model.specs.Reported.{reported_in}
-use Rattle.gem_model.specs.OpenNotes.{NeverBack, note_numbers, open_number}
+use Rattle.gem_model.specs.Reported.{told_as, reported_in, IsOf}
+use Rattle.gem_model.specs.OpenNotes.{Carries, NeverBack, open_behind, frames_behind, note_numbers, open_number}
 
 -- Facts of a history that began under this configuration and led to this state. Each public call that hands out a history has
 -- them; a further one is a field more.
@@ -17,7 +19,13 @@ pub record Recorded (c : Config) (history : List Entry) (g : State) : Type 0 whe
   -- the history is a run of the tables from the first state
   pub run : Run (opening c) history g
   -- the notes are those of its firings and changes of alarms that are reported, one for one and in order
-  pub notes : map tells g.line.told ≡ reported_in (opening c) history
+  pub notes : map tells g.line.told ≡ map told_as (reported_in (opening c) history)
+  -- each note that has not ended has the text of what was reported under its number, with the values behind its own firing
+  pub texts : AllByRecursion (IsOf (reported_in (opening c) history)) (standing g.line)
+  -- and so has each note that was sent: each that is open behind an entry
+  pub sent : AllByRecursion (IsOf (reported_in (opening c) history)) (open_behind (opening c) history)
+  -- each frame of S6F11 and S5F1 that goes out is that of a note, and has the text of what was reported under its number
+  pub frames : AllByRecursion (Carries (IsOf (reported_in (opening c) history))) (frames_behind (opening c) history)
   -- each note has one fate, and of each kind those that have not ended stand in the order of their numbers
   pub fates : LineValid g.line
   -- sendings of one kind never go back to a lower number

@@ -69,14 +69,6 @@ is_missing ClearAlarm ps = not (was_given ps (codes "ALID"))
 abbrev pub alarm_named : List Parameter → Option ℕ
 alarm_named ps = option_and_then (λ p. id_of p.1) (find (λ p. bytes_eq p.0 (codes "ALID")) ps)
 
--- the command is CLEARALARM of an alarm that is clear
-abbrev pub is_clear_already : RemoteCommand → List AlarmLine → List Parameter → Bool
-is_clear_already GoLocal alarms ps = false
-is_clear_already ClearAlarm alarms ps = not (is_alarm_set (alarm_named ps)) where
-  is_alarm_set : Option ℕ → Bool
-  is_alarm_set None = false
-  is_alarm_set (Some alid) = is_set alid alarms
-
 -- the operator commands: ON-LINE LOCAL (SEMI E30)
 abbrev pub is_local : Control → Bool
 is_local control.Local = true
@@ -86,27 +78,45 @@ abbrev pub has_some : List ParameterAcknowledge → Bool
 has_some [] = false
 has_some (a ∷ acknowledges) = true
 
--- HCACK: 1 for an unknown command, 2 in ON-LINE LOCAL, 3 where a parameter is faulty or missing, 5 for CLEARALARM of an
--- alarm that is clear; the first that fits. 0 where none does (SEMI E5, S2F42; this tool's profile, remote commands)
-abbrev pub hcack : State → List ℕ → List Parameter → ℕ
-hcack g name ps = by_command (command_named name) where
-  by_command : Option RemoteCommand → ℕ
-  by_command None = 1
-  by_command (Some command) =
-      if is_local g.control then 2
-      else (if has_some (faulty command g.alarms [] ps) || is_missing command ps then 3
-      else (if is_clear_already command g.alarms ps then 5 else 0))
+-- HCACK, as far as the tool uses it (SEMI E5, S2F42; this tool's profile, remote commands)
+pub data Hcack : Type 0 where
+  UnknownCommand : Hcack
+  NotNow : Hcack
+  FaultyParameter : Hcack
+  AlreadySo : Hcack
 
--- the faulty parameters of a command, where they are listed
-abbrev pub listed_by : State → List Parameter → Option RemoteCommand → Bool → List ParameterAcknowledge
-listed_by g ps None is_listed = []
-listed_by g ps (Some command) false = []
-listed_by g ps (Some command) true = faulty command g.alarms [] ps
+-- its number
+abbrev pub hcack_number : Hcack → ℕ
+hcack_number UnknownCommand = 1
+hcack_number NotNow = 2
+hcack_number FaultyParameter = 3
+hcack_number AlreadySo = 5
 
--- the parameters that S2F42 lists: the faulty ones, under HCACK 3 (SEMI E5, S2F42)
-abbrev pub listed : State → List ℕ → List Parameter → List ParameterAcknowledge
-listed g name ps = listed_by g ps (command_named name) (hcack g name ps == 3)
+-- what is decided of a remote command: it is refused with a code and the faulty parameters that S2F42 lists, or it is done, and
+-- then HCACK is 0
+pub data Decision : Type 0 where
+  refused : Hcack → List ParameterAcknowledge → Decision
+  goes_local : Decision
+  clears : ℕ → Decision
 
--- the command, where it is accepted
-abbrev pub accepted : State → List ℕ → List Parameter → Option RemoteCommand
-accepted g name ps = if hcack g name ps == 0 then command_named name else None
+-- CLEARALARM of the alarm that is named, where it is set
+abbrev pub clearing : List AlarmLine → Option ℕ → Decision
+clearing alarms None = refused AlreadySo []
+clearing alarms (Some alid) = if is_set alid alarms then clears alid else refused AlreadySo []
+
+-- a command whose parameters are well formed
+abbrev pub commanded : State → RemoteCommand → List Parameter → Decision
+commanded g GoLocal ps = goes_local
+commanded g ClearAlarm ps = clearing g.alarms (alarm_named ps)
+
+-- The first of these that fits: an unknown command; ON-LINE LOCAL; a parameter is faulty or missing, and the faulty ones are
+-- listed; CLEARALARM of an alarm that is clear. Else the command is done (SEMI E5, S2F42; this tool's profile, remote commands).
+abbrev pub decided_by : State → List Parameter → Option RemoteCommand → Decision
+decided_by g ps None = refused UnknownCommand []
+decided_by g ps (Some command) =
+    if is_local g.control then refused NotNow []
+    else (if has_some (faulty command g.alarms [] ps) || is_missing command ps then refused FaultyParameter (faulty command g.alarms [] ps)
+    else commanded g command ps)
+
+abbrev pub decided : State → List ℕ → List Parameter → Decision
+decided g name ps = decided_by g ps (command_named name)

@@ -1,9 +1,9 @@
 -- Settling: the least ready row fires, again and again, until none is ready (this tool's profile, settling).
 use Rattle.std.specs.Prelude.{◌≡◌, ℕ, zero, suc, List, [], ◌∷◌, ◌++◌, Option, Some, None}
-use Rattle.gem_tables.specs.Table.{Firing}
+use Rattle.gem_tables.specs.declared.firing.Firing.{Firing}
 use Rattle.gem_model.specs.State.{State}
-use Rattle.gem_model.specs.Ready.{least}
-use Rattle.gem_model.specs.Fire.{fire, creations}
+use Rattle.gem_model.specs.Machines.{least, creations}
+use Rattle.gem_model.specs.Fire.{fire, fire_all, advanced}
 use Rattle.gem_model.specs.Measure.{left}
 
 -- The firings lead from g to h, where no row is ready. Each is the first creation row that is due, or, where none is due,
@@ -17,15 +17,6 @@ Path g (d ∷ due) (f ∷ fs) h = (f ≡ d) × Path (fire g d) (creations g d ++
 -- g settles by these firings, and is h then
 abbrev pub Settles : State → List Firing → State → Type 0
 Settles g fs h = Path g [] fs h
-
--- the state after these firings
-abbrev pub fire_all : List Firing → State → State
-fire_all [] g = g
-fire_all (f ∷ fs) g = fire_all fs (fire g f)
-
--- a row fires, and then the rows of the object that it creates
-abbrev pub advanced : State → Firing → State
-advanced g f = fire_all (creations g f) (fire g f)
 
 -- the firings of a settling, with so many at most that create nothing or are followed by what they create
 abbrev pub settling_by : ℕ → State → Option Firing → List Firing

@@ -1,8 +1,8 @@
--- What the host asks of carriers and load ports: the actions of S3F17, S3F25 and S3F27, their acknowledge codes, and what they
--- do (SEMI E87, carrier action, port action and change access; this tool's profile, messages).
+-- What the host asks of carriers and load ports: the actions of S3F17, S3F25 and S3F27, and their acknowledge codes (SEMI E87,
+-- carrier action, port action and change access; this tool's profile, messages).
 use Rattle.std.specs.Prelude.{ℕ, ◌==◌, Bool, true, false, not, nat_le, if◌then◌else◌, List, [], ◌∷◌, codes, Option, None, is_some}
 use Rattle.std.specs.Str.{bytes_eq}
-use Rattle.gem_tables.specs.Table.{Firing}
+use Rattle.gem_tables.specs.declared.firing.Firing.{Firing}
 use Rattle.gem_states.specs.declared.control.Control.{Control}
 use Rattle.gem_states.specs.declared.control.Control.TheVariants as control
 use Rattle.secs_items.specs.Data.{Data}
@@ -11,12 +11,14 @@ use Rattle.msgs_300.specs.Primaries.{Message, S3F17, S3F25, S3F27}
 use Rattle.msgs_300.specs.declared.reply.ShopReply.{ShopReply}
 use Rattle.msgs_300.specs.declared.reply.ShopReply.TheVariants as reply
 use Rattle.load_port.specs.declared.action.PortAction.{PortAction}
+use Rattle.load_port.specs.declared.caack.Caack.{Caack}
+use Rattle.load_port.specs.declared.caack.Caack.TheVariants.{Unknown, NotNow}
 use Rattle.load_port.specs.declared.action.PortAction.TheVariants as port
 use Rattle.carrier.specs.declared.action.CarrierAction.{CarrierAction}
 use Rattle.carrier.specs.declared.action.CarrierWord.{CarrierWord}
 use Rattle.carrier.specs.declared.action.CarrierWord.TheVariants as word
 use Rattle.carrier.specs.Verdict.{is_unknown}
-use Rattle.shop_floor.specs.Requests.{carrier_code, carrier_written, carrier_rows, port_code, port_rows}
+use Rattle.shop_floor.specs.Requests.{carrier_code, port_code}
 use Rattle.gem_model.specs.State.{State}
 
 -- ---- the actions
@@ -73,39 +75,9 @@ abbrev pub is_unknown_action : PortAction → Bool
 is_unknown_action port.Unknown = true
 is_unknown_action _ = false
 
--- CAACK: an unknown action is told first, and in ON-LINE LOCAL all others are not done now, 2 (this tool's profile, messages)
-abbrev pub carrier_caack : CarrierAction → State → ℕ
-carrier_caack a g = if is_unknown a.word then 1 else (if is_local g.control then 2 else carrier_code g.floor a)
+-- CAACK: an unknown action is told first, and in ON-LINE LOCAL all others are not done now (this tool's profile, messages)
+abbrev pub carrier_caack : CarrierAction → State → Caack
+carrier_caack a g = if is_unknown a.word then Unknown else (if is_local g.control then NotNow else carrier_code g.floor a)
 
-abbrev pub port_caack : PortAction → State → ℕ
-port_caack a g = if is_unknown_action a then 1 else (if is_local g.control then 2 else port_code g.floor a)
-
--- what a message is answered, by the state before it (SEMI E87, S3F18, S3F26 and S3F28)
-abbrev pub shop_reply_to : State → Message → ShopReply
-shop_reply_to g (S3F17 dataid action carrier number attributes) = reply.S3F18 (carrier_caack (carrier_action action carrier number attributes) g)
-shop_reply_to g (S3F25 action number value) = reply.S3F26 (port_caack (port_word action number) g)
-shop_reply_to g (S3F27 mode numbers) = reply.S3F28 (port_caack (port.Access mode numbers) g)
-
--- ---- what is done
-
--- an action on a carrier that is done writes; one that is refused writes nothing
-abbrev pub carrier_done : CarrierAction → State → State
-carrier_done a g = if carrier_caack a g == 0 then record g { floor = carrier_written a g.floor } else g
-
-abbrev pub carrier_done_rows : CarrierAction → State → List Firing
-carrier_done_rows a g = if carrier_caack a g == 0 then carrier_rows a g.floor else []
-
-abbrev pub port_done_rows : PortAction → State → List Firing
-port_done_rows a g = if port_caack a g == 0 then port_rows a g.floor else []
-
--- what a message writes
-abbrev pub shop_written : Message → State → State
-shop_written (S3F17 dataid action carrier number attributes) g = carrier_done (carrier_action action carrier number attributes) g
-shop_written (S3F25 action number value) g = g
-shop_written (S3F27 mode numbers) g = g
-
--- the direct rows of a message, by the state before it is written (this tool's profile, direct rows)
-abbrev pub shop_rows : Message → State → List Firing
-shop_rows (S3F17 dataid action carrier number attributes) g = carrier_done_rows (carrier_action action carrier number attributes) g
-shop_rows (S3F25 action number value) g = port_done_rows (port_word action number) g
-shop_rows (S3F27 mode numbers) g = port_done_rows (port.Access mode numbers) g
+abbrev pub port_caack : PortAction → State → Caack
+port_caack a g = if is_unknown_action a then Unknown else (if is_local g.control then NotNow else port_code g.floor a)

@@ -1,6 +1,6 @@
 -- One event: what it is answered, whether it ended the session, and the state after it.
 use Rattle.std.specs.Prelude.{ℕ, suc, Bool, true, false, if◌then◌else◌, List, [], ◌∷◌, Option, Some, None, option_map, unwrap_or, nat_lt, nat_le, not, ◌&&◌}
-use Rattle.gem_tables.specs.Table.{Firing}
+use Rattle.gem_tables.specs.declared.firing.Firing.{Firing}
 use Rattle.hsms_frame.specs.declared.frame.Header.{Header}
 use Rattle.hsms_frame.specs.declared.frame.Arrival.{Arrival}
 use Rattle.hsms_frame.specs.Spelling.{message_bytes}
@@ -20,7 +20,8 @@ use Rattle.tool_events.specs.declared.event.SessionCause.TheVariants as cause
 use Rattle.tool_events.specs.declared.event.SessionEnd.{SessionEnd}
 use Rattle.gem_model.specs.State.{State, is_up, is_session_up, raised, with_frame}
 use Rattle.event_reports.specs.Alarms.{is_set}
-use Rattle.gem_model.specs.Fire.{row_starts, fires}
+use Rattle.gem_model.specs.Machines.{row_starts}
+use Rattle.gem_model.specs.Fire.{fires}
 use Rattle.gem_model.specs.Noting.{clears_alarm}
 use Rattle.gem_model.specs.Direct.{operator_rows}
 use Rattle.gem_model.specs.Signals.{lacks_port, signalled, is_ready_to_unload}
@@ -62,9 +63,9 @@ hosted g arrival link.Ended = ends answer.Ended cause.Separated g
 hosted g arrival link.Nothing = answered answer.Done g
 
 -- the oldest frame that waits is handed out
-abbrev pub taken : State → List (List ℕ) → Option Outcome
-taken g [] = None
-taken g (frame ∷ frames) = Some (answered (answer.Frame frame) (record g { waiting = frames }))
+abbrev pub handed_out : State → List (List ℕ) → Option Outcome
+handed_out g [] = None
+handed_out g (frame ∷ frames) = Some (answered (answer.Frame frame) (record g { waiting = frames }))
 
 -- ---- operators
 
@@ -138,7 +139,7 @@ acts before g (event.Host session arrival) =
     if is_session_up g session then Some (hosted (linked g (header_of arrival)) arrival (link_act (header_of arrival) g.link))
     else Some (answered answer.Ended g)
 acts before g (event.Take session) =
-    if is_session_up g session then taken g g.waiting else Some (answered answer.Ended g)
+    if is_session_up g session then handed_out g g.waiting else Some (answered answer.Ended g)
 acts before g (event.Oper command) = Some (operated command g)
 acts before g (event.Signal signal) = Some (answered answer.Done (signalled signal g))
 acts before g (event.Fetch m) = None

@@ -9,7 +9,8 @@ use Rattle.transactions.specs.Endings.{same_kind}
 use Rattle.note_line.specs.Table3.{has_open}
 use Rattle.note_line.specs.Fates.{LineValid}
 use Rattle.gem_model.specs.State.{State, is_up, is_communicating, can_ask}
-use Rattle.gem_model.specs.Ready.{least, is_attempt}
+use Rattle.gem_model.specs.Machines.{least}
+use Rattle.gem_model.specs.Wants.{is_attempt}
 use Rattle.gem_model.specs.Measure.{one_if}
 
 -- WAIT CRA, in which the tool's S1F13 is open (SEMI E30)

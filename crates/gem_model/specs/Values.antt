@@ -1,16 +1,15 @@
 -- The values of variables: what S1F3, S2F13 and reports give (SEMI E5, S1F3 and S2F13; this tool's profile, variables).
 use Rattle.std.specs.Prelude.{ℕ, ◌+◌, ◌==◌, if◌then◌else◌, List, [], ◌∷◌, ◌++◌, length, map, Option, Some, None, option_map, unwrap_or}
 use Rattle.gem_ids.specs.Civil.{time_digits}
-use Rattle.gem_states.specs.Meaning.{comm_number, control_number}
-use Rattle.gem_tables.specs.Table.{Firing}
+use Rattle.gem_states.specs.Communication.{comm_number}
+use Rattle.gem_states.specs.Control.{control_number}
 use Rattle.secs_items.specs.Data.{Data, ascii, u1, u2, u4}
 use Rattle.data_variables.specs.Bodies.{value_item}
 use Rattle.data_variables.specs.Values as constants
 use Rattle.event_reports.specs.Alarms.{set_alids}
 use Rattle.spool.specs.Spool.{load_number, unload_number}
 use Rattle.load_port.specs.declared.port.Port.{Port}
-use Rattle.load_port.specs.Record.{transfer_number, access_number}
-use Rattle.shop_floor.specs.Rows as rows
+use Rattle.load_port.specs.Tables.{transfer_number, access_number}
 use Rattle.gem_model.specs.State.{State, clock_now}
 
 -- what is happening while a value is asked: the object and the row of a firing, which EventObject and EventRow tell; the row
@@ -22,11 +21,6 @@ pub record Occasion : Type 0 where
 -- outside a firing EventObject is empty and EventRow is 0 (this tool's profile, variables)
 abbrev pub no_firing : Occasion
 no_firing = record { object = []; row = 0 }
-
--- the name of the object of a firing: a port's or a carrier's; communication, control and the line of notes have none (this
--- tool's profile, variables)
-abbrev pub object_name : State → Firing → List ℕ
-object_name g f = rows.object_name f g.floor
 
 -- a variable and its value
 pub record Valued : Type 0 where

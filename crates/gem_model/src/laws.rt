@@ -1,20 +1,25 @@
 //! Laws of the definitions, for proofs to cite. Each function is empty: what it ensures holds of the definitions.
 
-ghost use Rattle.std.specs.Prelude.{◌≡◌, ℕ, ◌≤◌, true, false, List, ◌++◌, length, map, Some};
+ghost use Rattle.std.specs.Prelude.{◌≡◌, ℕ, ◌≤◌, true, false, List, ◌∷◌, ◌++◌, length, map, Some, None};
+ghost use Rattle.std.specs.List.{AllByRecursion};
 ghost use Rattle.transactions.specs.Table.{is_full};
 ghost use Rattle.tool_events.specs.declared.config.Config.{Config};
 ghost use Rattle.tool_events.specs.declared.entry.Entry.{Entry};
 ghost use Rattle.tool_events.specs.declared.event.Event.{Event};
-ghost use Rattle.gem_tables.specs.Table.{Firing};
+ghost use Rattle.gem_tables.specs.declared.firing.Firing.{Firing};
 ghost use Rattle.gem_model.specs.State.{State, opening, raised};
 ghost use Rattle.gem_model.specs.Settle.{Settles, settling, settled, Along};
 ghost use Rattle.gem_model.specs.Step.{Outcome, acts};
 ghost use Rattle.gem_model.specs.Run.{Run};
 ghost use Rattle.gem_model.specs.Recorded.{Recorded};
 ghost use Rattle.tool_events.specs.Configs.{IsConfig};
-ghost use Rattle.gem_model.specs.Reported.{reported_in};
-ghost use Rattle.gem_model.specs.OpenNotes.{note_numbers, open_number, NeverBack};
+ghost use Rattle.gem_model.specs.Reported.{told_as, reported_in, IsOf};
+ghost use Rattle.gem_model.specs.OpenNotes.{note_numbers, open_number, Carries, IsSent, open_behind, frames_behind, NeverBack};
+ghost use Rattle.gem_model.specs.Fire.{fire};
+ghost use Rattle.gem_tables.specs.Table.{firing};
+ghost use Rattle.spool.specs.declared.note.Note.{Note};
 ghost use Rattle.spool.specs.Spool.{is_inactive, has_note};
+ghost use Rattle.note_line.specs.Line.{standing};
 ghost use Rattle.note_line.specs.Fates.{LineValid, KeepsFates, tells};
 ghost use Rattle.load_port.specs.Ports.{most_ports};
 ghost use Rattle.carrier.specs.Carriers.{most_carriers};
@@ -46,9 +51,35 @@ pub fn each_note_has_one_fate()
 /// The notes of the line, from number 1 on, tell of what is reported, one for one and in order: where a history leads, the
 /// i-th note is that of the i-th firing or change of an alarm that is reported.
 pub fn the_notes_are_what_was_reported()
-    ensures all { (c : Config) (entries : List Entry) (h : State) → Run (opening c) entries h → map tells h.line.told ≡ reported_in (opening c) entries }
+    ensures all { (c : Config) (entries : List Entry) (h : State)
+        → Run (opening c) entries h → map tells h.line.told ≡ map told_as (reported_in (opening c) entries) }
     ensures more { (g : State) (entries : List Entry) (h : State)
-        → Run g entries h → map tells h.line.told ≡ map tells g.line.told ++ reported_in g entries }
+        → Run g entries h → map tells h.line.told ≡ map tells g.line.told ++ map told_as (reported_in g entries) }
+{}
+
+/// Each note has the text of what was reported under its number, so an event's has the values behind its own firing: where a
+/// history leads, each note that has not ended; behind each of its entries the note that is open; and of the frames that wait
+/// for the writer behind each entry, which are all that go out, each of S6F11 and S5F1 is that of such a note.
+pub fn each_note_has_the_text_of_its_own_firing()
+    ensures standing { (c : Config) (entries : List Entry) (h : State)
+        → Run (opening c) entries h → AllByRecursion (IsOf (reported_in (opening c) entries)) (standing h.line) }
+    ensures sent { (c : Config) (entries : List Entry) (h : State)
+        → Run (opening c) entries h → AllByRecursion (IsOf (reported_in (opening c) entries)) (open_behind (opening c) entries) }
+    ensures frames { (c : Config) (entries : List Entry) (h : State)
+        → Run (opening c) entries h
+        → AllByRecursion (Carries (IsOf (reported_in (opening c) entries))) (frames_behind (opening c) entries) }
+{}
+
+/// A note goes out as it opens, with its text. Whichever row a firing is of: where no note is open before it and one is behind
+/// it, the frame of this note comes behind those that wait for the writer. Rows 12 and 13 of table 3 do so, the one with the
+/// oldest note of the spool and the other with the head. Each start finds room, by law `no_start_meets_a_full_table`.
+pub fn a_note_goes_out_as_it_opens()
+    ensures opens { (g : State) (f : Firing) (note : Note)
+        → is_full g.transactions ≡ false → g.line.opened ≡ None → (fire g f).line.opened ≡ Some note → IsSent note g (fire g f) }
+    ensures oldest { (g : State) (note : Note) (notes : List Note)
+        → is_full g.transactions ≡ false → g.line.spool.notes ≡ note ∷ notes → IsSent note g (fire g (firing 3 0 12)) }
+    ensures head { (g : State) (note : Note) (notes : List Note)
+        → is_full g.transactions ≡ false → g.line.waiting ≡ note ∷ notes → IsSent note g (fire g (firing 3 0 13)) }
 {}
 
 /// Where a history leads, the open note of the line is the one note whose transaction is open: where no note is open, no

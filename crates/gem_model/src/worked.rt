@@ -3,14 +3,14 @@
 //! that it makes.
 #![tactic(auto, unfolding(crate::proofs::OnLiterals::feed_on_literals))]
 
-ghost use Rattle.std.specs.Prelude.{◌≡◌, true, false, [], ◌∷◌, codes};
+ghost use Rattle.std.specs.Prelude.{◌≡◌, true, false, [], ◌∷◌, map, codes};
 ghost use Rattle.spool.specs.declared.note.Kind.TheVariants.{Event};
 ghost use Rattle.tool_events.specs.declared.event.Event.TheVariants.{LinkUp, Oper, Tick};
 ghost use Rattle.tool_events.specs.declared.event.OperCmd.TheVariants.{Local, Offline, Online};
 ghost use Rattle.tool_events.specs.declared.config.CommStart.TheVariants.{Enabled};
 ghost use Rattle.tool_events.specs.declared.config.ControlStart.TheVariants.{HostOffline};
 ghost use Rattle.gem_model.specs.State.{opening};
-ghost use Rattle.gem_model.specs.Reported.{reported_in};
+ghost use Rattle.gem_model.specs.Reported.{told_as, reported_in};
 ghost use Rattle.gem_model.specs.Command.{known_config};
 ghost use Rattle.gem_model.specs.Sizes.{is_full};
 ghost use Rattle.gem_model.specs.Feed.{AllRead, OutsideGrammar, QuitAt};
@@ -265,12 +265,20 @@ pub fn an_event_that_is_not_enabled_is_not_reported()
 /// With all events enabled the change to ON-LINE LOCAL is reported, and that to EQUIPMENT OFF-LINE, since control was
 /// on-line before it. The attempt to go on-line again is not. Without the S2F37 nothing is reported.
 pub fn what_is_reported_of_changes_of_control()
-    ensures enabled { reported_in (opening known_config)
+    ensures enabled { map told_as (reported_in (opening known_config)
         (posted (LinkUp ∷ message_of (select_request 1) [] ∷ message_of (request 2 37 10) (1 ∷ 2 ∷ 37 ∷ 1 ∷ 1 ∷ 1 ∷ 0 ∷ [])
-        ∷ Oper Local ∷ Oper Offline ∷ Oper Online ∷ []))
+        ∷ Oper Local ∷ Oper Offline ∷ Oper Online ∷ [])))
         ≡ (Event, 211) ∷ (Event, 206) ∷ [] }
     ensures not_enabled { reported_in (opening known_config)
         (posted (LinkUp ∷ message_of (select_request 1) [] ∷ Oper Local ∷ Oper Offline ∷ Oper Online ∷ [])) ≡ [] }
+{}
+
+/// A note tells the values behind its own firing. ControlState stands in the reports of the changes to ON-LINE LOCAL and to
+/// REMOTE: the first note tells 4, and the second, which goes out once the first is answered, tells 5, though control is LOCAL
+/// again by then.
+pub fn a_note_tells_the_values_behind_its_own_firing()
+    ensures { answer_to (codes "L+\nH 0000000AFFFF0000000100000001\nH 000000240000822100000000000A0102B1040000000101010102B104000000010101B10400000003\nH 000000340000822300000000000B0102B1040000000101020102B104000000D30101B104000000010102B104000000D20101B10400000001\nH 000000110000822500000000000C01022501010100\nO local\nO remote\nO local\nH 0000000D0000060C000000000001210100\n")
+        ≡ codes "+ 1\n> 0000000AFFFF0000000200000001\n> 0000000D0000022200000000000A210100\n> 0000000D0000022400000000000B210100\n> 0000000D0000022600000000000C210100\n= ok\n> 0000002B0000860B0000000000010103A1080000000000000001B104000000D301010102B104000000010101A50104\n= ok\n= ok\n> 0000002B0000860B0000000000020103A1080000000000000002B104000000D201010102B104000000010101A50105\n" }
 {}
 
 /// Events that are spooled: where the link is lost, the open note goes to the spool, and so does the next. Nothing is sent on

@@ -4,7 +4,7 @@ use Rattle.std.specs.List.{list_any, list_all, flat_map}
 use Rattle.std.proofs.lemmas.Bool.Decides.{nat_tests}
 use Rattle.std.proofs.lemmas.List.Folds.{list_any-append}
 use Rattle.gem_rows.specs.Events.{EventLine, event_lines, has_event, ceid_of, is_ceid, row_of, numbers_from, line_ceids}
-use Rattle.gem_rows.specs.declared.rows.RowId.{RowId}
+use Rattle.gem_tables.specs.declared.firing.RowId.{RowId}
 
 -- a number is in the list
 abbrev is_in : List ℕ → ℕ → Bool

@@ -2,7 +2,7 @@
 -- profile, transition tables).
 use Rattle.std.specs.Prelude.{ℕ, zero, suc, ◌+◌, ◌-◌, ◌*◌, ◌/◌, ◌%◌, ◌==◌, Bool, nat_le, ◌&&◌, if◌then◌else◌, List, [], ◌∷◌, Option, Some, None}
 use Rattle.std.specs.List.{list_any, flat_map}
-use Rattle.gem_rows.specs.declared.rows.RowId.{RowId}
+use Rattle.gem_tables.specs.declared.firing.RowId.{RowId}
 
 -- a line: a table, and a first and a last row of it, which have events as all rows between them
 pub record EventLine : Type 0 where

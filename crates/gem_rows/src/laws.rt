@@ -7,7 +7,7 @@ ghost use Rattle.gem_rows.specs.Events.{ceid_of, ceids, is_ceid, row_of, numbers
 ghost use Rattle.gem_rows.specs.Variables.{vid_name, is_vid};
 ghost use Rattle.gem_rows.specs.Alarms.{alarm_text, alids};
 ghost use Rattle.gem_rows.specs.Rising.{rises};
-ghost use Rattle.gem_rows.specs.declared.rows.RowId.{RowId};
+ghost use Rattle.gem_tables.specs.declared.firing.RowId.{RowId};
 
 /// A CEID names one row, and a row's event has one CEID.
 pub fn a_row_and_its_ceid_name_each_other()

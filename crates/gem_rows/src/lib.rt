@@ -13,9 +13,10 @@ mod rows;
 mod variables;
 
 pub use alarms::{alarm_text, alids};
+pub use gem_tables::RowId;
 pub use laws::{
     a_row_and_its_ceid_name_each_other, alarms_of_a_plant_rise_and_have_texts, names_are_texts,
     the_list_has_each_ceid_once, variables_of_a_plant_have_names,
 };
-pub use rows::{RowId, ceid_of, ceids, is_ceid, row_of};
+pub use rows::{ceid_of, ceids, is_ceid, row_of};
 pub use variables::{is_vid, vid_name};

@@ -4,14 +4,8 @@ ghost use Rattle.std.specs.Prelude.{◌≡◌, IfOk};
 ghost use Rattle.gem_rows.specs.Events.{ceid_of, ceids, has_event, is_ceid, row_of};
 
 use gem_ids::Ids;
+use gem_tables::RowId;
 use std::alloc::{AllocError, Global};
-
-/// A row of a transition table, by the numbers of both.
-#[derive(Clone, Copy, Debug, PartialEq, Eq)]
-pub struct RowId {
-    pub table: u8,
-    pub row: u8,
-}
 
 // The CEIDs, table by table.
 const CEIDS: [u32; 86] = [

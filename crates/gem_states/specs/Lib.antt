@@ -1,1 +1,3 @@
-pub mod Meaning
+pub mod Communication
+pub mod Control
+pub mod Triggers

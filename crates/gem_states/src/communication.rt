@@ -1,9 +1,9 @@
 //! The states of communication with the host (after SEMI E30, communication state model; table 1).
 
-ghost use Rattle.std.specs.Prelude.{◌≡◌};
-ghost use Rattle.gem_tables.specs.Table.{starts, first_starting};
-ghost use Rattle.gem_tables.specs.Communication.{communication_table};
-ghost use Rattle.gem_states.specs.Meaning.{comm_number, comm_fired, comm_rows};
+ghost use Rattle.std.specs.Prelude.{◌≡◌, ◌∷◌, []};
+ghost use Rattle.gem_tables.specs.Table.{first_starting};
+ghost use Rattle.gem_states.specs.Communication.{communication_table, comm_number, comm_starts, comm_fired};
+ghost use Rattle.gem_states.specs.Triggers.{comm_rows};
 
 /// The states of communication. In `WaitDelay` the delay is over at the moment `until`, in hundredths of a second.
 #[derive(Clone, Copy, Debug, PartialEq, Eq)]
@@ -42,7 +42,7 @@ impl Comm {
     /// Fires a row of table 1: true exactly where the row starts at this state, which is then the row's end. A row that
     /// ends in WAIT DELAY (1, 5 and 7) takes `until`, the moment at which the delay is over. False changes nothing.
     pub fn fire(&mut self, row: u8, until: u64) -> bool
-        ensures fires { result ≡ starts communication_table row (comm_number self.old) }
+        ensures fires { result ≡ comm_starts row self.old }
         ensures after { self.new ≡ comm_fired row until self.old }
     {
         let end = match (row, *self) {
@@ -61,7 +61,7 @@ impl Comm {
 
     /// The direct row that a trigger fires at this state; `None` exactly where none of the trigger's rows starts here.
     pub fn row_for(&self, t: CommTrigger) -> Option<u8>
-        ensures { result ≡ first_starting communication_table (comm_number self.now) (comm_rows t) }
+        ensures { result ≡ first_starting comm_number (communication_table 0) self.now (comm_rows t) }
     {
         match (t, self) {
             (CommTrigger::Enable, Comm::Disabled) => Some(1),
@@ -72,6 +72,22 @@ impl Comm {
             (CommTrigger::HostS1F13, Comm::WaitDelay { .. } | Comm::WaitCra) => Some(6),
             (CommTrigger::SessionEnd, Comm::WaitCra | Comm::Communicating) => Some(7),
             _ => None,
+        }
+    }
+}
+
+impl CommTrigger {
+    /// The number of the direct row that the trigger fires where it starts (this tool's profile, direct rows).
+    pub fn row(self) -> u8
+        ensures { comm_rows self ≡ result ∷ [] }
+    {
+        match self {
+            CommTrigger::Enable => 1,
+            CommTrigger::Disable => 2,
+            CommTrigger::Accepted => 4,
+            CommTrigger::Refused => 5,
+            CommTrigger::HostS1F13 => 6,
+            CommTrigger::SessionEnd => 7,
         }
     }
 }

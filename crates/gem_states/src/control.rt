@@ -1,9 +1,9 @@
 //! The states of control (after SEMI E30, control state model; table 2).
 
-ghost use Rattle.std.specs.Prelude.{◌≡◌};
-ghost use Rattle.gem_tables.specs.Table.{starts, first_starting};
-ghost use Rattle.gem_tables.specs.Control.{control_table};
-ghost use Rattle.gem_states.specs.Meaning.{control_number, control_fired, control_rows};
+ghost use Rattle.std.specs.Prelude.{◌≡◌, ◌∷◌, []};
+ghost use Rattle.gem_tables.specs.Table.{first_starting};
+ghost use Rattle.gem_states.specs.Control.{control_table, control_number, control_starts, control_fired};
+ghost use Rattle.gem_states.specs.Triggers.{control_rows};
 
 /// The states of control: EQUIPMENT OFF-LINE, ATTEMPT ON-LINE, HOST OFF-LINE, ON-LINE LOCAL and ON-LINE REMOTE.
 #[derive(Clone, Copy, Debug, PartialEq, Eq)]
@@ -48,7 +48,7 @@ impl Control {
     /// Fires a row of table 2: true exactly where the row starts at this state, which is then the row's end. False
     /// changes nothing.
     pub fn fire(&mut self, row: u8) -> bool
-        ensures fires { result ≡ starts control_table row (control_number self.old) }
+        ensures fires { result ≡ control_starts row self.old }
         ensures after { self.new ≡ control_fired row self.old }
     {
         let end = match (row, *self) {
@@ -73,7 +73,7 @@ impl Control {
     /// The direct row that a trigger fires at this state, where the switch is local or remote; `None` exactly where none
     /// of the trigger's rows starts here. The switch counts for an S1F2 and an S1F17 alone.
     pub fn row_for(&self, t: ControlTrigger, switch_local: bool) -> Option<u8>
-        ensures { result ≡ first_starting control_table (control_number self.now) (control_rows t switch_local) }
+        ensures { result ≡ first_starting control_number control_table self.now (control_rows t switch_local) }
     {
         match (t, self) {
             (ControlTrigger::Online, Control::EquipmentOffline) => Some(1),
@@ -90,6 +90,25 @@ impl Control {
             (ControlTrigger::Remote, Control::Local) => Some(10),
             (ControlTrigger::Local, Control::Remote) => Some(11),
             _ => None,
+        }
+    }
+}
+
+impl ControlTrigger {
+    /// The number of the direct row that the trigger fires where it starts, where the switch is local or remote (this tool's
+    /// profile, direct rows). The switch counts for an S1F2 and an S1F17 alone.
+    pub fn row(self, switch_local: bool) -> u8
+        ensures { control_rows self switch_local ≡ result ∷ [] }
+    {
+        match self {
+            ControlTrigger::Online => 1,
+            ControlTrigger::Failed => 3,
+            ControlTrigger::HostS1F2 => if switch_local { 4 } else { 5 },
+            ControlTrigger::Offline => 6,
+            ControlTrigger::HostS1F17 => if switch_local { 7 } else { 8 },
+            ControlTrigger::HostS1F15 => 9,
+            ControlTrigger::Remote => 10,
+            ControlTrigger::Local => 11,
         }
     }
 }

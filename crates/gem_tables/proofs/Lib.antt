@@ -1,3 +1,5 @@
 pub mod Choosing
-pub mod Ready
 pub mod Falling
+pub mod Rows
+pub mod Machines
+pub mod Starting

@@ -1,3 +1,2 @@
 pub mod Table
-pub mod Communication
-pub mod Control
+pub mod Machine

@@ -1,5 +1,6 @@
-//! The transition tables of the tool, as printed, and the words that all of them share. Definitions only: no state of
-//! the tool and no code of it stands here. Begin with `specs/Table.antt`; each table has a file of its own.
+//! The words that all transition tables of the tool share, and rows and firings as code hands them about. No state of the tool
+//! stands here, and no table: each stands with the record of its states. Begin with `specs/Table.antt`, rows as tables print
+//! them, and `specs/Machine.antt`, tables at work.
 //!
 //! # Theory of operation
 //!
@@ -14,9 +15,16 @@
 //! object the row with the least number. Then all are looked at anew, since a firing can make others ready, or stop
 //! them. That this ends is shown by a number that falls with each firing.
 //!
-//! | table | states of |
+//! A firing names a row and an object. A row may create objects: their rows fire straight behind it, whatever fired it.
+//!
+//! | tables | states of |
 //! |---|---|
-//! | 1 | communication with the host, `specs/Communication.antt` |
-//! | 2 | control, `specs/Control.antt` |
-//! | 3 | the line of notes and the spool, which moves notes and not a state alone: it stands in `note_line` and `spool` |
+//! | 1, 2 | communication with the host, and control: `gem_states` |
+//! | 3 | the line of notes and the spool, which moves notes and not a state alone: `note_line` and `spool` |
+//! | 4 to 7 | load ports: `load_port` |
+//! | 8 to 10 | carriers: `carrier` |
 #![tactic(auto)]
+
+mod firing;
+
+pub use firing::{Firing, RowId};

@@ -1,5 +1,5 @@
 -- The faulty parameters, one after another.
-use Rattle.std.proofs.Common.{◌≡◌, ℕ, zero, suc, ◌+◌, ◌<◌, ◌≤◌, ◌==◌, ◌||◌, Bool, true, false, if◌then◌else◌, List, [], ◌∷◌, ◌++◌, length, take, drop, get_or, Option, Some, None, refl, sym, ◌∙◌, ap, arith, add-one, drop-cons, append_assoc}
+use Rattle.std.proofs.Common.{◌≡◌, ℕ, zero, suc, ◌+◌, ◌<◌, ◌≤◌, ◌==◌, ◌||◌, Bool, true, false, if◌then◌else◌, List, [], ◌∷◌, ◌++◌, length, take, drop, get_or, None, refl, sym, ◌∙◌, ap, arith, add-one, drop-cons, append_assoc}
 use Rattle.std.specs.Prelude.{codes}
 use Rattle.std.specs.Str.{bytes_eq}
 use Rattle.std.proofs.lemmas.List.{drop_all}
@@ -8,8 +8,7 @@ use Rattle.std.proofs.lemmas.Slice.Eq.{bytes_eq-Decides}
 use Rattle.secs_items.specs.Ids.{id_of}
 use Rattle.event_reports.specs.declared.alarms.AlarmLine.{AlarmLine}
 use Rattle.gem_replies.specs.declared.reply.ParameterAcknowledge.{ParameterAcknowledge}
-use Rattle.gem_model.specs.State.{State}
-use Rattle.gem_model.specs.Remote.{RemoteCommand, GoLocal, ClearAlarm, Parameter, takes, was_given, cpack, faulty, command_named, hcack, listed, listed_by, alarm_named}
+use Rattle.gem_model.specs.Remote.{RemoteCommand, GoLocal, ClearAlarm, Parameter, takes, was_given, cpack, faulty, alarm_named}
 
 take_more : {A : Type 0} (xs : List A) (i : ℕ) (x : A) → i < length xs → take (suc i) xs ≡ take i xs ++ get_or xs i x ∷ []
 take_more [] i x within = absurd (omega arith)
@@ -62,19 +61,11 @@ either_few : (b : Bool) (fs : List ParameterAcknowledge) (f : ParameterAcknowled
 either_few true fs f n few = omega (arith, few)
 either_few false fs f n few = omega (arith, few)
 
-few_faults : (command : RemoteCommand) (alarms : List AlarmLine) (earlier ps : List Parameter) → length (faulty command alarms earlier ps) ≤ length ps
+-- no more are faulty than were given
+pub few_faults : (command : RemoteCommand) (alarms : List AlarmLine) (earlier ps : List Parameter) → length (faulty command alarms earlier ps) ≤ length ps
 few_faults command alarms earlier [] = omega arith
 few_faults command alarms earlier (p ∷ ps) =
     either_few (cpack command alarms earlier p == 0) (faulty command alarms (earlier ++ p ∷ []) ps) (record { name = p.0; cpack = cpack command alarms earlier p }) (length ps) (few_faults command alarms (earlier ++ p ∷ []) ps)
-
--- no more parameters are listed than were given
-pub few_listed : (g : State) (name : List ℕ) (ps : List Parameter) → length (listed g name ps) ≤ length ps
-few_listed g name ps = by_command (command_named name) (hcack g name ps == 3)
-  where
-    by_command : (command : Option RemoteCommand) (b : Bool) → length (listed_by g ps command b) ≤ length ps
-    by_command None b = omega arith
-    by_command (Some command) false = omega arith
-    by_command (Some command) true = few_faults command g.alarms [] ps
 
 -- ---- the alarm that is named
 

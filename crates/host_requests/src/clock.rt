@@ -1,7 +1,7 @@
 //! The moment that the host sets the clock to (SEMI E5, S2F31).
 ghost use Rattle.std.specs.Prelude.{◌≡◌, option_map};
 ghost use Rattle.gem_ids.specs.Civil.{moment_in};
-ghost use Rattle.gem_model.specs.Verdict.{tiack};
+ghost use Rattle.gem_model.specs.Messages.{tiack};
 
 use gem_ids::{Moment, moment_of};
 

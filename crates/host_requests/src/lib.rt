@@ -1,5 +1,5 @@
 //! What a data message of the host asks, as far as no state of the tool is needed to say it: its header and its item, what it
-//! is read as, which remote command it names and what is faulty in the parameters, which entries of S2F43 are refused, and
+//! is read as, what is decided of a remote command, by the alarms and who commands, which entries of S2F43 are refused, and
 //! which action on carriers or ports it means (SEMI E5, streams 1, 2, 5 and 6; SEMI E30, remote control and spooling; SEMI
 //! E87, carrier and port actions).
 //!
@@ -16,9 +16,7 @@ mod spooling;
 
 pub use arrival::{header_of, is_message, is_too_long, item_of, stream_of, wants_reply};
 pub use clock::{moment_in, tiack};
-pub use reading::{Verdict, read_message};
-pub use remote::{
-    RemoteCommand, accepted_by, alarm_named, command_named, faulty, is_clear_already, is_missing,
-};
+pub use reading::{HostMsg, Verdict, read_message};
+pub use remote::{Decision, Hcack, decided};
 pub use shop::{carrier_action, port_word};
 pub use spooling::{kinds_of, refusals};

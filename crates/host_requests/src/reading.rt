@@ -16,17 +16,22 @@ use msgs_gem::{BodyFault, GemMsg, is_ignored, read_gem};
 use secs_items::Item;
 use std::alloc::{AllocError, Global};
 
+/// A primary of the host: of streams 1, 2, 5 and 6, or of carriers and ports.
+#[derive(Debug, Drop)]
+pub enum HostMsg {
+    Gem(GemMsg),
+    Shop(ShopMsg),
+}
+
 /// What a data message does: nothing; it is told by a message of stream 9 of this function; it is answered by function 0
-/// of its stream; it answers a transaction of the tool, if that is open; or it is taken, and what it asks is of carriers and
-/// ports or of the rest.
+/// of its stream; it answers a transaction of the tool, if that is open; or it is taken.
 #[derive(Debug, Drop)]
 pub enum Verdict {
     Discarded,
     Stream9(u8),
     Aborted,
     Answers,
-    Taken(GemMsg),
-    ShopTaken(ShopMsg),
+    Taken(HostMsg),
 }
 
 /// The item of the text of a message, where it is one; a text that is ignored is not decoded.
@@ -68,7 +73,7 @@ fn read_shop_message(
 {
     let item = item_of(alloc, arrival)?;
     match read_shop(alloc, stream_of(header), header.byte3, item.as_ref()) {
-        Ok(message) => Ok(Verdict::ShopTaken(message)),
+        Ok(message) => Ok(Verdict::Taken(HostMsg::Shop(message))),
         Err(fault) => Ok(Verdict::Stream9(told_by(fault)?)),
     }
 }
@@ -87,7 +92,7 @@ fn read_gem_message(
 {
     let item = text_item(alloc, header, arrival)?;
     match read_gem(alloc, stream_of(header), header.byte3, item.as_ref()) {
-        Ok(message) => Ok(Verdict::Taken(message)),
+        Ok(message) => Ok(Verdict::Taken(HostMsg::Gem(message))),
         Err(fault) => Ok(Verdict::Stream9(told_by(fault)?)),
     }
 }

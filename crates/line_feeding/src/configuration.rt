@@ -10,7 +10,7 @@ use crate::read::{TextFault, read_text};
 use gem_ids::{Moment, Text80};
 use outside::Source;
 use std::alloc::Global;
-use tool_events::{CommStart, Config, ControlStart, SpoolStreams};
+use tool_events::{CommStart, Config, ControlStart, Recipe, RecipeChambers, Recipes, SpoolStreams};
 
 /// So many bytes of a configuration are read at most.
 const CONFIGURATION_BYTES: usize = 65_537;
@@ -42,6 +42,7 @@ pub fn known_config() -> Config
     ensures config { result ≡ known_config }
 {
     Config {
+        version: 1,
         device: 0,
         mdln: text_of(b"GEM300".as_slice()),
         softrev: text_of(b"1.0.00".as_slice()),
@@ -64,7 +65,24 @@ pub fn known_config() -> Config
         max_entries: 4_000_000,
         max_bytes: 536_870_912,
         start_moment: Moment(0),
+        recipes: known_recipes(),
+        tcp_port: 5000,
     }
+}
+
+/// The recipes of the known configuration: one, for both chambers.
+fn known_recipes() -> Recipes
+    ensures { result ≡ known_config.recipes }
+{
+    let mut recipes = Recipes::none();
+    recipes.push(Recipe {
+        name: text_of(b"R1".as_slice()),
+        chambers: RecipeChambers {
+            one: true,
+            two: true,
+        },
+    });
+    recipes
 }
 
 /// The text of bytes that print, of which there are at most 80.

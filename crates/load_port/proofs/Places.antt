@@ -1,9 +1,16 @@
 -- What a change at one place does to a list.
-use Rattle.std.proofs.Common.{◌≡◌, ℕ, zero, suc, ◌<◌, ◌≤◌, List, [], ◌∷◌, length, set, Some, None, slice_get, refl, ap, ◌∙◌, arith}
+use Rattle.std.proofs.Common.{◌≡◌, ℕ, zero, suc, ◌<◌, ◌≤◌, List, [], ◌∷◌, length, set, Option, Some, None, IfSome, slice_get, refl, ap, ◌∙◌, arith}
 use Rattle.std.specs.List.{refill}
 use Rattle.std.proofs.lemmas.List.{length-set}
 use Rattle.arrayvec.proofs.ArrayVecLemmas.{items-with_items}
 use Rattle.gem_tables.specs.Table.{update_at}
+use Rattle.load_port.specs.declared.port.Port.{Port}
+use Rattle.load_port.specs.Ports.{port_numbered, change_port}
+
+-- what follows from an object that is found holds where one is
+pub if_found : {O : Type 0} (found : Option O) (P : Type 0) → ((x : O) → found ≡ Some x → P) → IfSome found (λ _. P)
+if_found None P follows = tt
+if_found (Some x) P follows = follows x refl
 
 module _ {O : Type 0} where
   -- what the object at the place becomes is all that counts of a change
@@ -35,3 +42,13 @@ module _ {O : Type 0} where
   pub update_refill : (xs : List O) (place : ℕ) (object : O) → place < length xs → refill (length xs) xs (set xs place object) ≡ update_at place (λ _. object) xs
   update_refill xs place object l =
       items-with_items (record { items = xs }) (set xs place object) (length-set xs place object) ∙ update_set place xs object l
+
+-- ---- the port of a number
+
+pub change_found : (change : Port → Port) (number : ℕ) (ports : List Port) (p : Port) → port_numbered number ports ≡ Some p → change_port number (λ _. change p) ports ≡ change_port number change ports
+change_found change zero ports p s = refl
+change_found change (suc n) ports p s = update_found change n ports p s
+
+pub change_missing : (change : Port → Port) (number : ℕ) (ports : List Port) → port_numbered number ports ≡ None → change_port number change ports ≡ ports
+change_missing change zero ports s = refl
+change_missing change (suc n) ports s = update_missing change n ports s

@@ -1,3 +1,4 @@
 pub mod Tables
 pub mod Record
+pub mod Caack
 pub mod Ports

@@ -1,6 +1,49 @@
--- The tables of a load port (after SEMI E87, load port states; this tool's profile, tables 4 to 7).
+-- The tables of a load port (after SEMI E87, load port states; this tool's profile, tables 4 to 7). What a row wants and does
+-- besides the states of its port is told here by a word, and is said of ports and carriers together in shop_floor.
 use Rattle.std.specs.Prelude.{ℕ, List, [], ◌∷◌}
-use Rattle.gem_tables.specs.Table.{Line, line}
+use Rattle.gem_tables.specs.Table.{Row, by_input, by_itself}
+use Rattle.load_port.specs.declared.record.Transfer.{Transfer}
+use Rattle.load_port.specs.declared.record.Transfer.TheVariants.{OutOfService, TransferBlocked, ReadyToLoad, ReadyToUnload}
+use Rattle.load_port.specs.declared.record.Access.{Access}
+use Rattle.load_port.specs.declared.record.Access.TheVariants.{Manual, Auto}
+use Rattle.load_port.specs.declared.record.Reservation.{Reservation}
+use Rattle.load_port.specs.declared.record.Reservation.TheVariants.{NotReserved, Reserved}
+use Rattle.load_port.specs.declared.record.Association.{Association}
+use Rattle.load_port.specs.declared.record.Association.TheVariants.{NotAssociated, Associated}
+
+-- what a row wants besides the states of its port
+pub data PortWant : Type 0 where
+  nothing_more : PortWant
+  -- the carrier that is present is complete or stopped, or a verification of it failed
+  carrier_finished : PortWant
+  carrier_present : PortWant
+  -- a carrier waits to be bound to the port
+  carrier_directed : PortWant
+  carrier_came : PortWant
+  -- another came than that of the port
+  other_came : PortWant
+  -- that of the port came
+  own_came : PortWant
+  -- the port's carrier is present at another port
+  own_elsewhere : PortWant
+
+-- what a row does besides the state of its port
+pub data PortEffect : Type 0 where
+  no_more : PortEffect
+  -- the carrier that waits belongs to the port, and is bound to it
+  binds : PortEffect
+  -- the port's carrier is forgotten
+  forgets : PortEffect
+  -- what came belongs to the port, and is present there
+  arrives : PortEffect
+  -- what came does, and the port's carrier is forgotten
+  replaces : PortEffect
+  -- no carrier belongs to the port
+  frees : PortEffect
+
+-- a row of a table of a port over these states
+abbrev pub PortRow : Type 0 → Type 0
+PortRow S = Row S PortWant PortEffect
 
 -- ---- transfer
 --
@@ -14,35 +57,24 @@ use Rattle.gem_tables.specs.Table.{Line, line}
 --                                               +-----------------+
 
 -- the numbers of the states, as variables print them (after SEMI E87)
-abbrev pub out_of_service : ℕ
-out_of_service = 0
+abbrev pub transfer_number : Transfer → ℕ
+transfer_number OutOfService = 0
+transfer_number TransferBlocked = 1
+transfer_number ReadyToLoad = 2
+transfer_number ReadyToUnload = 3
 
--- a carrier is present, and may not be taken away
-abbrev pub transfer_blocked : ℕ
-transfer_blocked = 1
-
--- no carrier is present
-abbrev pub ready_to_load : ℕ
-ready_to_load = 2
-
--- a carrier is present, and may be taken away
-abbrev pub ready_to_unload : ℕ
-ready_to_unload = 3
-
--- Table 4. Row 4 fires by itself, where the carrier that is present is complete or stopped, or a verification of it failed;
--- the others are fired by inputs.
-abbrev pub transfer_table : List Line
+-- Table 4.
+abbrev pub transfer_table : List (PortRow Transfer)
 transfer_table =
     -- the operator puts the port in service
-    line 1 (out_of_service ∷ []) ready_to_load
+    by_input 1 (OutOfService ∷ []) nothing_more ReadyToLoad no_more
     -- and out of service
-    ∷ line 2 (ready_to_load ∷ []) out_of_service
+    ∷ by_input 2 (ReadyToLoad ∷ []) nothing_more OutOfService no_more
     -- a carrier is placed
-    ∷ line 3 (ready_to_load ∷ []) transfer_blocked
-    -- by itself
-    ∷ line 4 (transfer_blocked ∷ []) ready_to_unload
+    ∷ by_input 3 (ReadyToLoad ∷ []) nothing_more TransferBlocked no_more
+    ∷ by_itself 4 (TransferBlocked ∷ []) carrier_finished ReadyToUnload no_more
     -- the carrier is removed
-    ∷ line 5 (ready_to_unload ∷ []) ready_to_load
+    ∷ by_input 5 (ReadyToUnload ∷ []) nothing_more ReadyToLoad no_more
     ∷ []
 
 -- ---- access
@@ -52,19 +84,16 @@ transfer_table =
 --   +--------+ <----------- +------+
 --                2 manual
 
--- the operator hands carriers over
-abbrev pub manual : ℕ
-manual = 0
+abbrev pub access_number : Access → ℕ
+access_number Manual = 0
+access_number Auto = 1
 
--- the transport of the factory does
-abbrev pub auto : ℕ
-auto = 1
-
--- Table 5. Its rows are fired by S3F27 and by the operator.
-abbrev pub access_table : List Line
+-- Table 5. Its rows are fired by S3F27 and by the operator: in MANUAL the operator hands carriers over, and in AUTO the
+-- transport of the factory does.
+abbrev pub access_table : List (PortRow Access)
 access_table =
-    line 1 (manual ∷ []) auto
-    ∷ line 2 (auto ∷ []) manual
+    by_input 1 (Manual ∷ []) nothing_more Auto no_more
+    ∷ by_input 2 (Auto ∷ []) nothing_more Manual no_more
     ∷ []
 
 -- ---- reservation
@@ -75,22 +104,19 @@ access_table =
 --                      2 CancelBind, CancelReservationAtPort
 --                      3 by itself
 
-abbrev pub not_reserved : ℕ
-not_reserved = 0
-
+abbrev pub reservation_number : Reservation → ℕ
+reservation_number NotReserved = 0
 -- a carrier is expected
-abbrev pub reserved : ℕ
-reserved = 1
+reservation_number Reserved = 1
 
--- Table 6. Row 3 fires by itself, where a carrier is present; the others are fired by inputs.
-abbrev pub reservation_table : List Line
+-- Table 6.
+abbrev pub reservation_table : List (PortRow Reservation)
 reservation_table =
     -- Bind, ReserveAtPort
-    line 1 (not_reserved ∷ []) reserved
+    by_input 1 (NotReserved ∷ []) nothing_more Reserved no_more
     -- CancelBind, CancelReservationAtPort
-    ∷ line 2 (reserved ∷ []) not_reserved
-    -- by itself
-    ∷ line 3 (reserved ∷ []) not_reserved
+    ∷ by_input 2 (Reserved ∷ []) nothing_more NotReserved no_more
+    ∷ by_itself 3 (Reserved ∷ []) carrier_present NotReserved no_more
     ∷ []
 
 -- ---- association
@@ -103,28 +129,22 @@ reservation_table =
 --                         6 Removed
 --                         7 its carrier is present at another port
 
-abbrev pub not_associated : ℕ
-not_associated = 0
-
+abbrev pub association_number : Association → ℕ
+association_number NotAssociated = 0
 -- a carrier belongs to the port
-abbrev pub associated : ℕ
-associated = 1
+association_number Associated = 1
 
--- Table 7. Rows 3, 4, 5 and 7 fire by themselves; the others are fired by inputs.
-abbrev pub association_table : List Line
+-- Table 7.
+abbrev pub association_table : List (PortRow Association)
 association_table =
     -- Bind
-    line 1 (not_associated ∷ []) associated
+    by_input 1 (NotAssociated ∷ []) carrier_directed Associated binds
     -- CancelBind
-    ∷ line 2 (associated ∷ []) not_associated
-    -- by itself: a carrier came
-    ∷ line 3 (not_associated ∷ []) associated
-    -- by itself: another carrier came than that of the port
-    ∷ line 4 (associated ∷ []) associated
-    -- by itself: that of the port came
-    ∷ line 5 (associated ∷ []) associated
+    ∷ by_input 2 (Associated ∷ []) nothing_more NotAssociated forgets
+    ∷ by_itself 3 (NotAssociated ∷ []) carrier_came Associated arrives
+    ∷ by_itself 4 (Associated ∷ []) other_came Associated replaces
+    ∷ by_itself 5 (Associated ∷ []) own_came Associated arrives
     -- Removed
-    ∷ line 6 (associated ∷ []) not_associated
-    -- by itself: its carrier is present at another port
-    ∷ line 7 (associated ∷ []) not_associated
+    ∷ by_input 6 (Associated ∷ []) nothing_more NotAssociated forgets
+    ∷ by_itself 7 (Associated ∷ []) own_elsewhere NotAssociated frees
     ∷ []

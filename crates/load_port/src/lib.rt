@@ -6,11 +6,14 @@
 #![tactic(auto)]
 
 mod action;
+mod caack;
+pub mod laws;
 mod port;
 mod ports;
 mod record;
 
 pub use action::{PortAction, PortView};
+pub use caack::Caack;
 pub use port::{Arrival, Port};
 pub use ports::{MOST_PORTS, Ports};
 pub use record::{Access, Association, PortRecord, Reservation, Transfer};

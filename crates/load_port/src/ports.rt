@@ -1,11 +1,13 @@
 //! The load ports of a tool.
 
-ghost use Rattle.std.specs.Prelude.{◌≡◌, ◌≤◌, length, map, slice_get, option_map, Some, None};
+ghost use Rattle.std.specs.Prelude.{◌≡◌, ◌≤◌, length, map, slice_get, option_map, Some, None, IfSome};
 ghost use Rattle.std.specs.List.{list_any};
 ghost use Rattle.gem_tables.specs.Table.{update_at};
-ghost use Rattle.load_port.specs.Ports.{first_ports, most_ports, fires_row, starts_row, view_of, is_no_port, port_numbered, reserve_code, cancel_code, access_code, port_caack};
+ghost use Rattle.load_port.specs.Caack.{caack_number};
+ghost use Rattle.load_port.specs.Ports.{first_ports, most_ports, change_port, fires_row, starts_row, view_of, is_no_port, port_numbered, reserve_code, cancel_code, access_code, port_caack};
 
 use crate::action::{PortAction, PortView};
+use crate::caack::Caack;
 use crate::port::{Arrival, Port};
 use arrayvec::ArrayVec;
 use gem_ids::CarrierId;
@@ -14,8 +16,8 @@ use std::marker::Model;
 /// The most ports of a tool (this tool's profile, variables).
 pub const MOST_PORTS: usize = 4;
 
-/// The load ports of a tool in the order of their numbers, which contracts see as the list of them. A port's place is
-/// counted from 0, its number from 1. No call takes memory.
+/// The load ports of a tool in the order of their numbers, which contracts see as the list of them. A port is told by
+/// its number, counted from 1. No call takes memory.
 #[derive(Drop)]
 pub struct Ports {
     ports: ArrayVec<Port, MOST_PORTS>,
@@ -61,6 +63,19 @@ impl Ports {
         self.ports.as_slice().get(place).copied()
     }
 
+    /// The port of a number, counted from 1. `None` exactly where there is none.
+    pub fn numbered(&self, number: u64) -> Option<Port>
+        ensures value { result ≡ port_numbered number self.now }
+        ensures few { IfSome result (λ _. number ≤ most_ports) }
+    {
+        let _ = self.len();
+        if number == 0 {
+            None
+        } else {
+            self.get(number as usize - 1)
+        }
+    }
+
     /// What carriers are told of the port at a place, counted from 0. `None` exactly where there is none.
     pub fn view(&self, place: usize) -> Option<PortView>
         ensures { result ≡ option_map view_of (slice_get self.now place) }
@@ -84,39 +99,36 @@ impl Ports {
 
     // ---- what is asked of them
 
-    /// What the host is answered of an action on ports by the states before it, CAACK (SEMI E87, S3F26 and S3F28; this
-    /// tool's profile): 0 where it can be done, 1 for an unknown action, 3 for a port that isn't there and for a mode other
-    /// than 0 and 1, 5 where the port's states forbid it. Changes nothing.
+    /// What the host is answered of an action on ports by the states before it, CAACK, by its number (SEMI E87, S3F26 and S3F28;
+    /// this tool's profile): that of `code`. Changes nothing.
     pub fn verdict(&self, a: &PortAction) -> u8
+        ensures { result ≡ caack_number (port_caack self.now a.now) }
+    {
+        self.code(a).number()
+    }
+
+    /// What the host is answered of an action on ports by the states before it (SEMI E87, S3F26 and S3F28; this tool's
+    /// profile): that it is done where it can be, unknown for an unknown action, faulty for a port that isn't there and for a
+    /// mode other than 0 and 1, impossible where the port's states forbid it. Changes nothing.
+    pub fn code(&self, a: &PortAction) -> Caack
         ensures { result ≡ port_caack self.now a.now }
     {
         match a {
-            PortAction::Reserve(port) => reserve_code(self.numbered(*port)),
-            PortAction::CancelReserve(port) => cancel_code(self.numbered(*port)),
+            PortAction::Reserve(port) => reserve_code(self.numbered(*port as u64)),
+            PortAction::CancelReserve(port) => cancel_code(self.numbered(*port as u64)),
             PortAction::Access(mode, numbers) => self.access_code(*mode, numbers.as_slice()),
-            PortAction::Unknown => 1,
-        }
-    }
-
-    // The port of a number, counted from 1.
-    fn numbered(&self, number: u8) -> Option<Port>
-        ensures { result ≡ port_numbered number self.now }
-    {
-        if number == 0 {
-            None
-        } else {
-            self.get(number as usize - 1)
+            PortAction::Unknown => Caack::Unknown,
         }
     }
 
     // What the host is answered that sets the access mode of these ports.
-    fn access_code(&self, mode: u8, numbers: &[u8]) -> u8
+    fn access_code(&self, mode: u8, numbers: &[u8]) -> Caack
         ensures { result ≡ access_code mode numbers.now self.now }
     {
         if mode > 1 || self.any_no_port(numbers) {
-            3
+            Caack::Faulty
         } else {
-            0
+            Caack::Done
         }
     }
 
@@ -141,8 +153,8 @@ impl Ports {
 
     // ---- what happens to them
 
-    // The port at a place is this one; where there is none, nothing changes.
-    fn put(&mut self, place: usize, port: Port)
+    // The port at a place, counted from 0, is this one; where there is none, nothing changes.
+    fn put_at(&mut self, place: usize, port: Port)
         ensures { self.new ≡ update_at place (λ _. port) self.old }
     {
         if place < self.ports.len() {
@@ -150,41 +162,50 @@ impl Ports {
         }
     }
 
-    /// Fires a row of table 4, 5, 6 or 7 at the port of a place, counted from 0: true exactly where there is a port of that
-    /// place at whose states the row starts. The port's state in the row's table is then the row's end, and all else stays;
-    /// false changes nothing. What a row wants besides the states, and what it does besides, is for the caller.
-    pub fn fire(&mut self, place: usize, table: u8, row: u8) -> bool
-        ensures fires { result ≡ starts_row table row (slice_get self.old place) }
-        ensures after { self.new ≡ update_at place (fires_row table row) self.old }
+    // The port of a number is this one; where there is none, nothing changes.
+    fn put(&mut self, number: u64, port: Port)
+        ensures { self.new ≡ change_port number (λ _. port) self.old }
     {
-        match self.get(place) {
+        if number != 0 {
+            self.put_at(number as usize - 1, port);
+        }
+    }
+
+    /// Fires a row of table 4, 5, 6 or 7 at the port of a number, counted from 1: true exactly where there is a port of that
+    /// number at whose states the row starts. The port's state in the row's table is then the row's end, and all else stays;
+    /// false changes nothing. What a row wants besides the states, and what it does besides, is for the caller.
+    pub fn fire(&mut self, number: u64, table: u8, row: u8) -> bool
+        ensures fires { result ≡ starts_row table row (port_numbered number self.old) }
+        ensures after { self.new ≡ change_port number (fires_row table row) self.old }
+    {
+        match self.numbered(number) {
             None => false,
             Some(port) => {
                 let mut changed = port;
                 let fires = changed.states.fire(table, row);
-                self.put(place, changed);
+                self.put(number, changed);
                 fires
             }
         }
     }
 
-    /// This carrier, or none, belongs to the port of a place, counted from 0. Where there is no such port, nothing changes.
-    pub fn own(&mut self, place: usize, carrier: Option<CarrierId>)
-        ensures { self.new ≡ update_at place (λ p. record p { carrier = carrier }) self.old }
+    /// This carrier, or none, belongs to the port of a number, counted from 1. Where there is no such port, nothing changes.
+    pub fn own(&mut self, number: u64, carrier: Option<CarrierId>)
+        ensures { self.new ≡ change_port number (λ p. record p { carrier = carrier }) self.old }
     {
-        if let Some(port) = self.get(place) {
-            self.put(place, Port { carrier, ..port });
+        if let Some(port) = self.numbered(number) {
+            self.put(number, Port { carrier, ..port });
         }
     }
 
-    /// A carrier came to the port of a place, counted from 0, and isn't told of yet. Where there is no such port, nothing
+    /// A carrier came to the port of a number, counted from 1, and isn't told of yet. Where there is no such port, nothing
     /// changes.
-    pub fn come(&mut self, place: usize, arrival: Arrival)
-        ensures { self.new ≡ update_at place (λ p. record p { arrival = Some arrival }) self.old }
+    pub fn come(&mut self, number: u64, arrival: Arrival)
+        ensures { self.new ≡ change_port number (λ p. record p { arrival = Some arrival }) self.old }
     {
-        if let Some(port) = self.get(place) {
+        if let Some(port) = self.numbered(number) {
             self.put(
-                place,
+                number,
                 Port {
                     arrival: Some(arrival),
                     ..port
@@ -193,14 +214,14 @@ impl Ports {
         }
     }
 
-    /// This carrier belongs to the port of a place, counted from 0, and what came there is told of. Where there is no such
+    /// This carrier belongs to the port of a number, counted from 1, and what came there is told of. Where there is no such
     /// port, nothing changes.
-    pub fn settle(&mut self, place: usize, name: CarrierId)
-        ensures { self.new ≡ update_at place (λ p. record p { carrier = Some name; arrival = None }) self.old }
+    pub fn settle(&mut self, number: u64, name: CarrierId)
+        ensures { self.new ≡ change_port number (λ p. record p { carrier = Some name; arrival = None }) self.old }
     {
-        if let Some(port) = self.get(place) {
+        if let Some(port) = self.numbered(number) {
             self.put(
-                place,
+                number,
                 Port {
                     carrier: Some(name),
                     arrival: None,
@@ -212,36 +233,36 @@ impl Ports {
 }
 
 // What the host is answered that reserves a port.
-fn reserve_code(port: Option<Port>) -> u8
+fn reserve_code(port: Option<Port>) -> Caack
     ensures { result ≡ reserve_code port }
 {
     match port {
-        None => 3,
+        None => Caack::Faulty,
         Some(p) => {
             let transfer = p.states.transfer;
             if p.states.reservation.is_reserved()
                 || !transfer.is_in_service()
                 || transfer.is_occupied()
             {
-                5
+                Caack::Impossible
             } else {
-                0
+                Caack::Done
             }
         }
     }
 }
 
 // What the host is answered that cancels the reservation of a port.
-fn cancel_code(port: Option<Port>) -> u8
+fn cancel_code(port: Option<Port>) -> Caack
     ensures { result ≡ cancel_code port }
 {
     match port {
-        None => 3,
+        None => Caack::Faulty,
         Some(p) => {
             if p.states.reservation.is_reserved() {
-                0
+                Caack::Done
             } else {
-                5
+                Caack::Impossible
             }
         }
     }

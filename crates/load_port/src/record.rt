@@ -1,9 +1,9 @@
 //! The states of a load port (after SEMI E87, load port states; tables 4 to 7).
 
 ghost use Rattle.std.specs.Prelude.{◌≡◌, false};
-ghost use Rattle.gem_tables.specs.Table.{starts};
-ghost use Rattle.load_port.specs.Tables.{transfer_table, access_table, reservation_table, association_table};
-ghost use Rattle.load_port.specs.Record.{transfer_number, access_number, reservation_number, association_number, transfer_fired, access_fired, reservation_fired, association_fired, first_record, port_starts, port_fired, is_occupied, is_in_service, is_reserved};
+ghost use Rattle.gem_tables.specs.Table.{starts, after};
+ghost use Rattle.load_port.specs.Tables.{transfer_table, transfer_number, access_table, access_number, reservation_table, reservation_number, association_table, association_number};
+ghost use Rattle.load_port.specs.Record.{first_record, port_starts, port_fired, is_occupied, is_in_service, is_reserved};
 
 /// The transfer states: OUT OF SERVICE, TRANSFER BLOCKED, READY TO LOAD and READY TO UNLOAD.
 #[derive(Clone, Copy, Debug, PartialEq, Eq)]
@@ -74,8 +74,8 @@ impl Transfer {
 
     // Fires a row of table 4.
     fn fire(&mut self, row: u8) -> bool
-        ensures fires { result ≡ starts transfer_table row (transfer_number self.old) }
-        ensures after { self.new ≡ transfer_fired row self.old }
+        ensures fires { result ≡ starts transfer_number transfer_table row self.old }
+        ensures after { self.new ≡ after transfer_number transfer_table row self.old }
     {
         let end = match (row, *self) {
             (1, Transfer::OutOfService) => Transfer::ReadyToLoad,
@@ -103,8 +103,8 @@ impl Access {
 
     // Fires a row of table 5.
     fn fire(&mut self, row: u8) -> bool
-        ensures fires { result ≡ starts access_table row (access_number self.old) }
-        ensures after { self.new ≡ access_fired row self.old }
+        ensures fires { result ≡ starts access_number access_table row self.old }
+        ensures after { self.new ≡ after access_number access_table row self.old }
     {
         let end = match (row, *self) {
             (1, Access::Manual) => Access::Auto,
@@ -136,8 +136,8 @@ impl Reservation {
 
     // Fires a row of table 6.
     fn fire(&mut self, row: u8) -> bool
-        ensures fires { result ≡ starts reservation_table row (reservation_number self.old) }
-        ensures after { self.new ≡ reservation_fired row self.old }
+        ensures fires { result ≡ starts reservation_number reservation_table row self.old }
+        ensures after { self.new ≡ after reservation_number reservation_table row self.old }
     {
         let end = match (row, *self) {
             (1, Reservation::NotReserved) => Reservation::Reserved,
@@ -162,8 +162,8 @@ impl Association {
 
     // Fires a row of table 7.
     fn fire(&mut self, row: u8) -> bool
-        ensures fires { result ≡ starts association_table row (association_number self.old) }
-        ensures after { self.new ≡ association_fired row self.old }
+        ensures fires { result ≡ starts association_number association_table row self.old }
+        ensures after { self.new ≡ after association_number association_table row self.old }
     {
         let end = match (row, *self) {
             (1 | 3, Association::NotAssociated) => Association::Associated,

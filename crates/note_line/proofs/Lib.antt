@@ -5,6 +5,7 @@ pub mod Rows
 pub mod Keeps
 pub mod Falls
 pub mod Tells
+pub mod Standing
 pub mod Short
 pub mod Opens
 pub mod Stays

@@ -11,7 +11,11 @@ module _ {X : Type 0} where
   all_joined P [] b p q = q
   all_joined P (y ∷ a) b p q = (p.0, all_joined P a b p.1 q)
 
-  -- what is true of a joined list is true of its second part
+  -- what is true of a joined list is true of its first part, and of its second
+  pub all_first : (P : X → Type 0) (a b : List X) → AllByRecursion P (a ++ b) → AllByRecursion P a
+  all_first P [] b p = tt
+  all_first P (y ∷ a) b p = (p.0, all_first P a b p.1)
+
   pub all_second : (P : X → Type 0) (a b : List X) → AllByRecursion P (a ++ b) → AllByRecursion P b
   all_second P [] b p = p
   all_second P (y ∷ a) b p = all_second P a b p.1
@@ -54,6 +58,11 @@ pub data Loses {X : Type 0} : List X → List X → Option X → Type 0 where
   loses_one : (a b : List X) (x : X) → Loses (a ++ x ∷ b) (a ++ b) (Some x)
 
 module _ {X : Type 0} where
+  -- what is true of each element is true of those that are left
+  pub all_left : (P : X → Type 0) (xs ys : List X) (o : Option X) → Loses xs ys o → AllByRecursion P xs → AllByRecursion P ys
+  all_left P _ _ _ loses_none p = p
+  all_left P _ _ _ (loses_one a b x) p = all_without P a b x p
+
   pub first-loses : (xs : List X) → Loses xs (drop 1 xs) (slice_get xs 0)
   first-loses [] = loses_none
   first-loses (x ∷ xs) = loses_one [] xs x

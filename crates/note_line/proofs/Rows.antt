@@ -278,8 +278,8 @@ open-to-spool l overwrite note o k v =
 
 -- ---- the states of the spool
 
--- a row of the spool moves no note
-fired-notes : (row : ℕ) (s : Spool) → (spool_fired row s).notes ≡ s.notes
+-- a row of the spool moves no note, and no request of the host does
+pub fired-notes : (row : ℕ) (s : Spool) → (spool_fired row s).notes ≡ s.notes
 fired-notes row s = of (states.row_of row) refl where
   either : (b : Bool) (x y : Spool) → x.notes ≡ y.notes → (if b then x else y).notes ≡ y.notes
   either true x y e = e
@@ -289,6 +289,13 @@ fired-notes row s = of (states.row_of row) refl where
   of None q = refl
   of (Some r) q = either (r.when s) (r.effect s) s
       (find_gives (λ (x : states.Row). (x.effect s).notes ≡ s.notes) (λ x. x.number == row) spool_rows r (refl, (refl, (refl, (refl, (refl, (refl, (refl, tt))))))) q).0
+
+pub begun-notes : (rsdc : ℕ) (a : Around) (s : Spool) → (spool.begun rsdc a.most_sent s).notes ≡ s.notes
+begun-notes rsdc a s = of (spool.rsda s == 0) (rsdc == 0) where
+  of : (starts sends : Bool) → (if starts then (if sends then spool.transmits a.most_sent s else spool.purges s) else s).notes ≡ s.notes
+  of true true = refl
+  of true false = refl
+  of false sends = refl
 
 -- another spool with the same notes
 respooled : (l : Line) (s : Spool) → s.notes ≡ l.spool.notes → LineValid l → Goes l (record l { spool = s })
@@ -319,11 +326,7 @@ pub restated-goes : (row : ℕ) (l : Line) → LineValid l → Goes l (restated 
 restated-goes row l v = respooled l (spool_fired row l.spool) (fired-notes row l.spool) v
 
 pub begun-goes : (rsdc : ℕ) (a : Around) (l : Line) → LineValid l → Goes l (begun rsdc a l)
-begun-goes rsdc a l v = respooled l (spool.begun rsdc a.most_sent l.spool) (of (spool.rsda l.spool == 0) (rsdc == 0)) v where
-  of : (starts sends : Bool) → (if starts then (if sends then spool.transmits a.most_sent l.spool else spool.purges l.spool) else l.spool).notes ≡ l.spool.notes
-  of true true = refl
-  of true false = refl
-  of false sends = refl
+begun-goes rsdc a l v = respooled l (spool.begun rsdc a.most_sent l.spool) (begun-notes rsdc a l.spool) v
 
 -- ---- each effect
 

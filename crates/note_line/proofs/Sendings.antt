@@ -1,5 +1,5 @@
 -- A note that is open is not below one of its kind that was open before.
-use Rattle.std.proofs.Common.{◌≡◌, ℕ, ◌+◌, ◌<◌, ◌≤◌, ◌==◌, Bool, true, false, List, [], ◌∷◌, ◌++◌, Option, Some, None, IsSome, option_map, refl, sym, ap, subst, arith, ◌∙◌}
+use Rattle.std.proofs.Common.{◌≡◌, ℕ, ◌+◌, ◌<◌, ◌≤◌, ◌==◌, Bool, true, false, List, [], ◌∷◌, ◌++◌, Option, Some, None, IsSome, refl, sym, ap, subst, arith, ◌∙◌}
 use Rattle.std.specs.Prelude.{nat_lt}
 use Rattle.std.specs.List.{AllByRecursion, count_by}
 use Rattle.std.specs.Option.{option_to_list}
@@ -8,22 +8,13 @@ use Rattle.std.proofs.lemmas.Bool.Decides.{nat_tests}
 use Rattle.std.proofs.lemmas.List.Sums.{sum_by-cons}
 use Rattle.spool.specs.declared.note.Note.{Note}
 use Rattle.spool.specs.declared.note.Kind.{Kind}
-use Rattle.note_line.specs.declared.fate.Told.{Told}
 use Rattle.note_line.specs.declared.fate.Fate.{Fate}
 use Rattle.note_line.specs.declared.fate.Fate.TheVariants.{Answered, Open, Waiting, Spooled, Dropped}
-use Rattle.note_line.specs.Line.{Line, next, standing, told_of, fate_of}
+use Rattle.note_line.specs.Line.{Line, fate_of}
 use Rattle.note_line.specs.Order.{Pairwise, Before}
-use Rattle.note_line.specs.Fates.{is_waiting, is_spooled, is_open, tells, what_of, is_number, has_fate, one_if, IsTold, LineValid, KeepsFates}
+use Rattle.note_line.specs.Fates.{what_of, is_number, one_if, IsTold, LineValid, KeepsFates}
 use Rattle.note_line.proofs.Keeps.{open_is_open, has-fate}
-
--- two lists of notes of which one follows the other
-all_first : (P : Note → Type 0) (a b : List Note) → AllByRecursion P (a ++ b) → AllByRecursion P a
-all_first P [] b p = tt
-all_first P (y ∷ a) b p = (p.0, all_first P a b p.1)
-
-all_second : (P : Note → Type 0) (a b : List Note) → AllByRecursion P (a ++ b) → AllByRecursion P b
-all_second P [] b p = p
-all_second P (y ∷ a) b p = all_second P a b p.1
+use Rattle.note_line.proofs.Lists.{all_first, all_second}
 
 -- a number that stands among some notes is that of one of them
 pub counted : {Q : Type 0} (P : Note → Type 0) (number : ℕ) (notes : List Note) → count_by (is_number number) notes ≡ 1 → AllByRecursion P notes → ((note : Note) → note.number ≡ number → P note → Q) → Q

@@ -17,7 +17,8 @@
 --                                                 +---------+
 use Rattle.std.specs.Prelude.{ℕ, Bool, true, false, not, ◌&&◌, ◌||◌, ◌==◌, List, [], ◌∷◌, Option, Some, None, option_map, find, is_some}
 use Rattle.spool.specs.declared.note.Note.{Note}
-use Rattle.spool.specs.Spool.{is_inactive, is_not_full, is_full, is_active, is_no_output, is_transmit, is_purge, has_note, is_at_capacity, has_room, is_used_up}
+use Rattle.spool.specs.Spool.{is_inactive, is_active, is_no_output, is_transmit, is_purge, has_note}
+use Rattle.spool.specs.Table.{spool_starts}
 use Rattle.note_line.specs.declared.around.Around.{Around}
 use Rattle.note_line.specs.Line.{Line, in_kind, restated, spool_head, drop_head, open_head, open_oldest, purge_oldest, fail_open, begun}
 
@@ -61,15 +62,19 @@ has_open l = is_some l.opened
 abbrev pub may_begin : Line → Bool
 may_begin l = is_active l.spool && is_no_output l.spool.unload
 
+-- a row that changes the states of the spool alone, where it starts at them, as the spool's own table says
+abbrev pub restates : ℕ → Row
+restates number = automatic number (λ a l. spool_starts number l.spool) (λ a l. restated number l)
+
 -- Table 3, its rows in the order of their numbers.
 abbrev pub line_table : List Row
 line_table =
     -- INACTIVE, and the spool has a note: NOT FULL, NO OUTPUT
-    automatic 1 (λ a l. is_inactive l.spool.load && has_note l.spool) (λ a l. restated 1 l)
+    restates 1
     -- NOT FULL, and as many notes as there may be: FULL
-    ∷ automatic 2 (λ a l. is_not_full l.spool.load && is_at_capacity l.spool) (λ a l. restated 2 l)
+    ∷ restates 2
     -- FULL, and fewer: NOT FULL
-    ∷ automatic 3 (λ a l. is_full l.spool.load && has_room l.spool) (λ a l. restated 3 l)
+    ∷ restates 3
     -- S6F23 with RSDC 0: TRANSMIT, with MaxSpoolTransmit as its budget
     ∷ direct 4 (λ a l. may_begin l) (λ a l. begun 0 a l)
     -- S6F23 with RSDC 1: PURGE
@@ -77,11 +82,11 @@ line_table =
     -- PURGE, and the spool has a note: the oldest is dropped
     ∷ automatic 6 (λ a l. is_purge l.spool.unload && has_note l.spool) (λ a l. purge_oldest l)
     -- TRANSMIT, and the tool doesn't communicate: NO OUTPUT
-    ∷ automatic 7 (λ a l. is_transmit l.spool.unload && not a.communicates) (λ a l. restated 7 l)
+    ∷ automatic 7 (λ a l. spool_starts 7 l.spool && not a.communicates) (λ a l. restated 7 l)
     -- TRANSMIT, and a limited budget is used up: NO OUTPUT
-    ∷ automatic 8 (λ a l. is_transmit l.spool.unload && is_used_up l.spool.budget) (λ a l. restated 8 l)
+    ∷ restates 8
     -- ACTIVE, and the spool has no note: INACTIVE, NO OUTPUT
-    ∷ automatic 9 (λ a l. is_active l.spool && not (has_note l.spool)) (λ a l. restated 9 l)
+    ∷ restates 9
     -- a head that is spooled in kind, and ACTIVE or no communication: the head is pushed to the spool
     ∷ automatic 10 (λ a l. head_in_kind l && (is_active l.spool || not a.communicates)) spool_head
     -- a head that isn't spooled in kind, and no communication: the head is dropped

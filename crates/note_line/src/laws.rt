@@ -1,14 +1,16 @@
 //! Laws of the definitions, for proofs to cite. Each function is empty: what it ensures holds of the definitions.
 
-ghost use Rattle.std.specs.Prelude.{◌≡◌, ℕ, ◌+◌, ◌<◌, ◌≤◌, Bool, true, List, Some, None, IsSome};
+ghost use Rattle.std.specs.Prelude.{◌≡◌, ℕ, ◌+◌, ◌<◌, ◌≤◌, Bool, true, List, [], ◌∷◌, ◌++◌, Some, None, IsSome, All, Contains};
 ghost use Rattle.spool.specs.declared.note.Kind.{Kind};
 ghost use Rattle.spool.specs.declared.note.Note.{Note};
 ghost use Rattle.note_line.specs.declared.around.Around.{Around};
 ghost use Rattle.note_line.specs.declared.around.SpooledKinds.{SpooledKinds};
-ghost use Rattle.note_line.specs.Line.{Line, opening, next, noted, answered, with_kinds, fate_of};
+ghost use Rattle.note_line.specs.Line.{Line, opening, next, standing, noted, answered, with_kinds, fate_of};
 ghost use Rattle.note_line.specs.Table3.{least, line_starts, is_direct, row_effect};
 ghost use Rattle.note_line.specs.Left.{left, told_weight};
 ghost use Rattle.note_line.specs.Fates.{LineValid, KeepsFates};
+ghost use Rattle.note_line.specs.Limits.{most_text};
+ghost use Rattle.spool.specs.declared.note.TheConstants.{MOST_TEXT};
 
 /// The line is always valid: it is where no note was made, and stays so where a note is made, a row fires, the open note is
 /// answered, or other kinds of note are to be spooled.
@@ -36,6 +38,17 @@ pub fn fates_are_kept()
     ensures together { (g m h : Line) → KeepsFates g m → KeepsFates m h → KeepsFates g h }
 {}
 
+/// A note stays as it was made until it ends: each note that stands behind a row, an answer, or other kinds of note to spool,
+/// stood before, with the same number, kind, id and text. A new note is one more behind the others; it has the next number,
+/// and the kind, the id and the text that it is made with.
+pub fn a_note_stays_as_it_was_made()
+    ensures rows { (a : Around) (row : ℕ) (l : Line) → All (Contains (standing l)) (standing (row_effect a row l)) }
+    ensures answered { (l : Line) → All (Contains (standing l)) (standing (answered l)) }
+    ensures kinds { (kinds : SpooledKinds) (l : Line) → All (Contains (standing l)) (standing (with_kinds kinds l)) }
+    ensures noted { (kind : Kind) (id : ℕ) (text : List ℕ) (l : Line)
+        → standing (noted kind id text l) ≡ standing l ++ record { number = next l; kind = kind; id = id; text = text } ∷ [] }
+{}
+
 /// Each number below the next one has a fate.
 pub fn each_note_has_a_fate()
     ensures { (l : Line) (number : ℕ) → 1 ≤ number → number < next l → IsSome (fate_of number l.told) }
@@ -54,4 +67,9 @@ pub fn the_line_comes_to_rest()
 pub fn sendings_never_go_back()
     ensures { (g h : Line) (earlier later : Note) → LineValid g → LineValid h → KeepsFates g h
         → g.opened ≡ Some earlier → h.opened ≡ Some later → earlier.kind ≡ later.kind → earlier.number ≤ later.number }
+{}
+
+/// The limit of the code is that of the definitions.
+pub fn the_greatest_text_is_that_of_the_definitions()
+    ensures { MOST_TEXT ≡ most_text }
 {}

@@ -9,6 +9,7 @@ use link_subjects::{Communicates, Controls, Linked, Reads, Table};
 use message_subjects::{Acknowledge, Messages};
 use name_subjects::{Calendar, IdList, Names};
 use std::alloc::Global;
+use substrate_subjects::{PlacesOf, Planned, SubstrateStates};
 use test_lines::{Texts, answers};
 
 /// The parts of the tool below its core.
@@ -60,6 +61,18 @@ fn play_floor(alloc: Global, begins: &str, lines: &[Line<'_>]) -> Result<Option<
         "to two ports" => answers(alloc, &mut ToolPorts::new(), lines),
         "to a floor of 2 ports" => answers(alloc, &mut Floor::new(alloc, 2)?, lines),
         "to a floor of 4 ports" => answers(alloc, &mut Floor::new(alloc, 4)?, lines),
-        _ => bail!("there is no such subject"),
+        _ => play_substrates(alloc, begins, lines),
+    }
+}
+
+// Substrates and their places, modules and moves.
+fn play_substrates(alloc: Global, begins: &str, lines: &[Line<'_>]) -> Result<Option<String>> {
+    match begins {
+        "to the states of a substrate" => answers(alloc, &mut SubstrateStates, lines),
+        "to the modules of 2 chambers" => answers(alloc, &mut Planned::new(alloc, 2)?, lines),
+        _ => match begins.strip_prefix("to the places of ") {
+            Some(tool) => answers(alloc, &mut PlacesOf::named(alloc, tool)?, lines),
+            None => bail!("there is no such subject"),
+        },
     }
 }

@@ -120,11 +120,11 @@ apart_pushed (c ∷ cs) d new e =
     let rest = apart_pushed cs d others.1 parts.1 in
     rw (known_pushed c.name cs d (not-true _ parts.0) (names_agree d c false others.0), rest) refl
 
-pub apart_created : (name : List ℕ) (cs : List Carrier) → is_known name cs ≡ false → are_named_apart cs ≡ true → are_named_apart (with_created name cs) ≡ true
-apart_created name cs new e = apart_pushed cs (created name) new e
+pub apart_created : (number : ℕ) (name : List ℕ) (cs : List Carrier) → is_known name cs ≡ false → are_named_apart cs ≡ true → are_named_apart (with_created number name cs) ≡ true
+apart_created number name cs new e = apart_pushed cs (created number name) new e
 
-pub apart_found : (name : List ℕ) (cs : List Carrier) → are_named_apart cs ≡ true → are_named_apart (found_or_created name cs) ≡ true
-apart_found name cs e = cond_both (is_known name cs) _ _ (λ ds. are_named_apart ds ≡ true) (λ t. e) (λ t. apart_created name cs t e)
+pub apart_found : (number : ℕ) (name : List ℕ) (cs : List Carrier) → are_named_apart cs ≡ true → are_named_apart (found_or_created number name cs) ≡ true
+apart_found number name cs e = cond_both (is_known name cs) _ _ (λ ds. are_named_apart ds ≡ true) (λ t. e) (λ t. apart_created number name cs t e)
 
 -- ---- the one of a name
 
@@ -165,8 +165,8 @@ all_changed P Q name change (c ∷ cs) at others p =
     (cond_both (has_name name c) _ _ Q (λ t. at c t p.0) (λ t. others c t p.0), all_changed P Q name change cs at others p.1)
 
 -- of the one of a name, which is found or created
-pub all_found : (P : Carrier → Type 0) (name : List ℕ) (cs : List Carrier) → (is_known name cs ≡ false → P (created name)) → AllByRecursion P cs → AllByRecursion P (found_or_created name cs)
-all_found P name cs new p = cond_both (is_known name cs) _ _ (AllByRecursion P) (λ t. p) (λ t. all_pushed P cs (created name) p (new t))
+pub all_found : (P : Carrier → Type 0) (number : ℕ) (name : List ℕ) (cs : List Carrier) → (is_known name cs ≡ false → P (created number name)) → AllByRecursion P cs → AllByRecursion P (found_or_created number name cs)
+all_found P number name cs new p = cond_both (is_known name cs) _ _ (AllByRecursion P) (λ t. p) (λ t. all_pushed P cs (created number name) p (new t))
 
 -- ---- how many aren't present
 
@@ -203,23 +203,23 @@ absent_changed name change (c ∷ cs) less = of (has_name name c) (absent_change
   of false rest = omega (arith, absent_cons c cs, absent_cons c (change_named name change cs), rest)
 
 -- the one of a name comes, also one that is created
-absent_came : (name : List ℕ) (change : Carrier → Carrier) (cs : List Carrier) → ((c : Carrier) → (change c).present ≡ true) → absent_count (change_named name change (with_created name cs)) ≤ absent_count cs
-absent_came name change [] comes = of (has_name name (created name)) (has_its_name name (created name) refl) where
-  of : (b : Bool) → b ≡ true → absent_count (cond b (change (created name)) (created name) ∷ []) ≤ absent_count []
-  of true q = let k : one_absent (change (created name)).present ≡ 0 = ap one_absent (comes (created name)) in omega (arith, absent_cons (change (created name)) [], k)
+absent_came : (number : ℕ) (name : List ℕ) (change : Carrier → Carrier) (cs : List Carrier) → ((c : Carrier) → (change c).present ≡ true) → absent_count (change_named name change (with_created number name cs)) ≤ absent_count cs
+absent_came number name change [] comes = of (has_name name (created number name)) (has_its_name name (created number name) refl) where
+  of : (b : Bool) → b ≡ true → absent_count (cond b (change (created number name)) (created number name) ∷ []) ≤ absent_count []
+  of true q = let k : one_absent (change (created number name)).present ≡ 0 = ap one_absent (comes (created number name)) in omega (arith, absent_cons (change (created number name)) [], k)
   of false q = absurd (cc)
-absent_came name change (c ∷ cs) comes = of (has_name name c) (absent_came name change cs comes) where
-  of : (b : Bool) → absent_count (change_named name change (with_created name cs)) ≤ absent_count cs → absent_count (cond b (change c) c ∷ change_named name change (with_created name cs)) ≤ absent_count (c ∷ cs)
+absent_came number name change (c ∷ cs) comes = of (has_name name c) (absent_came number name change cs comes) where
+  of : (b : Bool) → absent_count (change_named name change (with_created number name cs)) ≤ absent_count cs → absent_count (cond b (change c) c ∷ change_named name change (with_created number name cs)) ≤ absent_count (c ∷ cs)
   of true rest =
       let k : one_absent (change c).present ≡ 0 = ap one_absent (comes c) in
-      omega (arith, absent_cons c cs, absent_cons (change c) (change_named name change (with_created name cs)), rest, k)
-  of false rest = omega (arith, absent_cons c cs, absent_cons c (change_named name change (with_created name cs)), rest)
+      omega (arith, absent_cons c cs, absent_cons (change c) (change_named name change (with_created number name cs)), rest, k)
+  of false rest = omega (arith, absent_cons c cs, absent_cons c (change_named name change (with_created number name cs)), rest)
 
 comes_less : (change : Carrier → Carrier) (c : Carrier) → (change c).present ≡ true → one_absent (change c).present ≤ one_absent c.present
 comes_less change c comes = let k : one_absent (change c).present ≡ 0 = ap one_absent comes in omega (arith, k)
 
-pub absent_comes : (name : List ℕ) (change : Carrier → Carrier) (cs : List Carrier) → ((c : Carrier) → (change c).present ≡ true) → absent_count (change_named name change (found_or_created name cs)) ≤ absent_count cs
-absent_comes name change cs comes =
+pub absent_comes : (number : ℕ) (name : List ℕ) (change : Carrier → Carrier) (cs : List Carrier) → ((c : Carrier) → (change c).present ≡ true) → absent_count (change_named name change (found_or_created number name cs)) ≤ absent_count cs
+absent_comes number name change cs comes =
     cond_both (is_known name cs) _ _ (λ ds. absent_count (change_named name change ds) ≤ absent_count cs)
     (λ t. absent_changed name change cs (λ c. comes_less change c (comes c)))
-    (λ t. absent_came name change cs comes)
+    (λ t. absent_came number name change cs comes)

@@ -1,116 +1,132 @@
 -- A row that creates a carrier finds room for it.
-use Rattle.std.proofs.Common.{◌≡◌, ℕ, suc, ◌==◌, ◌≤◌, Bool, true, false, not, cond, ◌&&◌, ◌||◌, List, [], ◌∷◌, length, Option, Some, None, is_some, slice_get, refl, sym, ap, subst, arith, ◌∙◌, ◌⊎◌, inl, inr}
-use Rattle.std.proofs.lemmas.Bool.{and_parts, or_parts, or_from, or_cases, both_ways, not-true}
-use Rattle.std.proofs.lemmas.Bool.Decides.{nat_tests}
-use Rattle.gem_tables.specs.Table.{Firing, firing}
+use Rattle.std.proofs.Common.{◌≡◌, ℕ, suc, ◌==◌, ◌≤◌, Bool, true, false, not, cond, ◌||◌, List, [], ◌∷◌, length, Option, Some, None, is_some, slice_get, refl, sym, ap, subst, arith, ◌∙◌, ◌⊎◌, inl, inr}
+use Rattle.std.specs.Str.{bytes_eq}
+use Rattle.std.proofs.lemmas.Bool.{true≢false, and_parts, or_parts, or_from, both_ways, not-true}
+use Rattle.gem_tables.specs.Table.{firing, row_of}
+use Rattle.gem_tables.specs.declared.firing.Firing.{Firing}
+use Rattle.gem_tables.proofs.Rows.{looked_for}
+use Rattle.gem_tables.proofs.Machines.{starts_cases}
+use Rattle.load_port.specs.declared.record.Association.{Association}
 use Rattle.load_port.specs.declared.port.Port.{Port}
-use Rattle.load_port.specs.Record.{port_starts}
 use Rattle.load_port.specs.declared.port.Arrival.{Arrival}
+use Rattle.load_port.specs.Tables.{PortRow, transfer_table, access_table, reservation_table, association_number, association_table}
+use Rattle.load_port.specs.Ports.{port_numbered}
 use Rattle.carrier.specs.declared.carrier.Carrier.{Carrier}
 use Rattle.carrier.specs.Carriers.{has_name, is_known, without, most_carriers}
-use Rattle.std.specs.Str.{bytes_eq}
 use Rattle.shop_floor.specs.Floor.{Floor}
-use Rattle.shop_floor.specs.Rows.{owner, forgets, is_own, may_associate, arrival_at, port_starts_at, floor_starts, is_new, is_arrival_row, creates}
+use Rattle.shop_floor.specs.Rows.{owner, forgets, is_own, arrival_at, is_new, found_creates, creation_of_arrival}
+use Rattle.shop_floor.specs.Machines.{floor_machines, floor_starts, is_some_row, creates}
 use Rattle.shop_floor.specs.Valid.{IsTold, IsFloor}
 use Rattle.shop_floor.proofs.Apart.{named_so}
 use Rattle.shop_floor.proofs.Belonging.{all_at}
-use Rattle.shop_floor.proofs.Association as association
+use Rattle.shop_floor.proofs.Association.{begins, stands}
+use Rattle.shop_floor.proofs.Cases.{starts_at_port}
 use Rattle.shop_floor.proofs.Keeps.{with_some, with_arrival, own_name, own_some}
 use Rattle.shop_floor.proofs.Room.{room_3, room_4, room_5}
 
--- what starts, and creates a carrier
-record Comes (row place : ℕ) (f : Floor) : Type 0 where
-  port : Port
-  stands : slice_get f.ports place ≡ Some port
-  starts : port_starts 7 row port.states ≡ true
-  may : may_associate row place port f.carriers ≡ true
-  arrives : is_arrival_row row ≡ true
-  new : is_new port.arrival f.carriers ≡ true
-  told : IsTold port
+-- ---- by the row
 
-comes_so : (x : Firing) (f : Floor) → floor_starts x f ≡ true → creates x f ≡ true → IsFloor f → Comes x.row x.object f
-comes_so x f starts makes valid = of (slice_get f.ports x.object) refl at_7 parts.1 where
-  parts : (((x.table == 7) && is_arrival_row x.row) ≡ true) × (is_new (arrival_at (slice_get f.ports x.object)) f.carriers ≡ true)
-  parts = and_parts _ _ makes
+-- only what isn't known is created
+new_so : (a : Option Arrival) (f : Floor) → is_some_row (creation_of_arrival a f) ≡ true → is_new a f.carriers ≡ true
+new_so a f e = of (is_new a f.carriers) e where
+  of : (b : Bool) → is_some_row (cond b (firing 8 f.next_carrier 1 ∷ []) []) ≡ true → b ≡ true
+  of true e = refl
+  of false e = absurd (true≢false (sym e))
 
-  rows : ((x.table == 7) ≡ true) × (is_arrival_row x.row ≡ true)
-  rows = and_parts _ _ parts.0
+-- row 5: what came is the port's carrier
+at_5 : (place : ℕ) (f : Floor) (p : Port) → IsFloor f → slice_get f.ports place ≡ Some p → is_own p.carrier p.arrival ≡ true → is_new p.arrival f.carriers ≡ true → suc (length f.carriers) ≤ most_carriers
+at_5 place f p valid s own new =
+    with_arrival p.arrival (own_some p.carrier p.arrival own)
+    (λ a is. room_5 place f p a.name valid s (own_name p.carrier a (ap (is_own p.carrier) (sym is) ∙ own)) (not-true _ (ap (λ o. is_new o f.carriers) (sym is) ∙ new)))
 
-  seven : x.table ≡ 7
-  seven = let t = rows.0 in grind (arith, nat_tests)
+-- row 4: the port's carrier is forgotten
+at_4 : (place : ℕ) (f : Floor) (p : Port) → IsFloor f → slice_get f.ports place ≡ Some p → is_some p.carrier ≡ true → suc (length (forgets (owner (slice_get f.ports place)) f.carriers)) ≤ most_carriers
+at_4 place f p valid s some =
+    with_some p.carrier some
+    (λ name its. subst (λ o. suc (length (forgets (owner o) f.carriers)) ≤ most_carriers) (sym s)
+    (subst (λ o. suc (length (forgets o f.carriers)) ≤ most_carriers) (sym its) (room_4 place f p name valid s its)))
 
-  at_7 : port_starts_at 7 x.row x.object (slice_get f.ports x.object) f.carriers ≡ true
-  at_7 = subst (λ t. floor_starts (firing t x.object x.row) f ≡ true) seven starts
+-- what there is room for, at a row that starts
+record HasRoom (f : Floor) (port row : ℕ) (o : Option (PortRow Association)) : Type 0 where
+  comes : is_some_row (found_creates o port f) ≡ true → (row == 4) ≡ false → suc (length f.carriers) ≤ most_carriers
+  replaces : (row == 4) ≡ true → suc (length (forgets (owner (port_numbered port f.ports)) f.carriers)) ≤ most_carriers
 
-  of : (o : Option Port) → slice_get f.ports x.object ≡ o → port_starts_at 7 x.row x.object o f.carriers ≡ true → is_new (arrival_at o) f.carriers ≡ true → Comes x.row x.object f
-  of None s w new = absurd (cc)
-  of (Some p) s w new =
-      let both = and_parts (port_starts 7 x.row p.states) (may_associate x.row x.object p f.carriers) w in
-      record { port = p; stands = s; starts = both.0; may = both.1; arrives = rows.1; new = new; told = all_at IsTold x.object f.ports p s valid.told }
+nothing : (f : Floor) (port row : ℕ) (o : Option (PortRow Association)) → is_some_row (found_creates o port f) ≡ false → (row == 4) ≡ false → HasRoom f port row o
+nothing f port row o none other = record { comes = λ e t. absurd (both_ways _ none e); replaces = λ t. absurd (both_ways _ other t) }
 
--- row 3
-at_3 : (place : ℕ) (f : Floor) → Comes 3 place f → IsFloor f → suc (length f.carriers) ≤ most_carriers
-at_3 place f c valid = room_3 place f c.port valid c.stands (association.row_3 c.port c.told c.starts).none
+arrives : (f : Floor) (port row : ℕ) (o : Option (PortRow Association)) → (row == 4) ≡ false → (is_some_row (found_creates o port f) ≡ true → suc (length f.carriers) ≤ most_carriers) → HasRoom f port row o
+arrives f port row o other room = record { comes = λ e t. room e; replaces = λ t. absurd (both_ways _ other t) }
 
--- row 5
-at_5 : (place : ℕ) (f : Floor) → Comes 5 place f → IsFloor f → suc (length f.carriers) ≤ most_carriers
-at_5 place f c valid =
-    with_arrival c.port.arrival (own_some c.port.carrier c.port.arrival c.may)
-    (λ a is. room_5 place f c.port a.name valid c.stands
-    (own_name c.port.carrier a (ap (is_own c.port.carrier) (sym is) ∙ c.may))
-    (not-true _ (ap (λ o. is_new o f.carriers) (sym is) ∙ c.new)))
+has_room : (f : Floor) (port row : ℕ) → IsFloor f → floor_starts (firing 7 port row) f ≡ true → HasRoom f port row (row_of association_table row)
+has_room f port row valid starts =
+    starts_at_port association_number association_table (λ s. s.association) (λ to s. record s { association = to }) (HasRoom f) f port row
+    (λ place p s. let told = all_at IsTold place f.ports p s valid.told in (
+      (λ among wants. nothing f (suc place) 1 _ refl refl),
+      (
+        (λ among wants. nothing f (suc place) 2 _ refl refl),
+        (
+          (λ among wants. arrives f (suc place) 3 _ refl (λ e. room_3 place f p valid s (begins 3 p told refl among).none)),
+          (
+            (λ among wants. record { comes = λ e t. absurd (true≢false t); replaces = λ t. at_4 place f p valid s (stands 4 true p told refl among).some }),
+            (
+              (λ among wants. arrives f (suc place) 5 _ refl (λ e. at_5 place f p valid s wants (ap (λ o. is_new (arrival_at o) f.carriers) (sym s) ∙ new_so (arrival_at (slice_get f.ports place)) f e))),
+              (
+                (λ among wants. nothing f (suc place) 6 _ refl refl),
+                ((λ among wants. nothing f (suc place) 7 _ refl refl), tt),
+              ),
+            ),
+          ),
+        ),
+      ),
+    ))
+    starts
 
--- row 4
-at_4 : (place : ℕ) (f : Floor) → Comes 4 place f → IsFloor f → suc (length (forgets (owner (slice_get f.ports place)) f.carriers)) ≤ most_carriers
-at_4 place f c valid =
-    with_some c.port.carrier (association.row_4 c.port c.told c.starts).some
-    (λ name its. subst (λ o. suc (length (forgets (owner o) f.carriers)) ≤ most_carriers) (sym c.stands)
-    (subst (λ o. suc (length (forgets o f.carriers)) ≤ most_carriers) (sym its) (room_4 place f c.port name valid c.stands its)))
+-- rows 3 and 5, where what came isn't known
+pub room-arrives : (row port : ℕ) (f : Floor) → (row ≡ 3) ⊎ (row ≡ 5) → floor_starts (firing 7 port row) f ≡ true → IsFloor f → is_new (arrival_at (port_numbered port f.ports)) f.carriers ≡ true → suc (length f.carriers) ≤ most_carriers
+room-arrives row port f (inl is) starts valid new = (has_room f port 3 valid (subst (λ r. floor_starts (firing 7 port r) f ≡ true) is starts)).comes (rw new refl) refl
+room-arrives row port f (inr is) starts valid new = (has_room f port 5 valid (subst (λ r. floor_starts (firing 7 port r) f ≡ true) is starts)).comes (rw new refl) refl
+
+-- row 4, whatever came
+pub room-forgets : (row port : ℕ) (f : Floor) → row ≡ 4 → floor_starts (firing 7 port row) f ≡ true → IsFloor f → suc (length (forgets (owner (port_numbered port f.ports)) f.carriers)) ≤ most_carriers
+room-forgets row port f is starts valid = (has_room f port 4 valid (subst (λ r. floor_starts (firing 7 port r) f ≡ true) is starts)).replaces refl
 
 -- ---- by the firing
 
-pub room-comes : (x : Firing) (f : Floor) → floor_starts x f ≡ true → creates x f ≡ true → (x.row == 4) ≡ false → IsFloor f → suc (length f.carriers) ≤ most_carriers
-room-comes x f starts makes other valid = by_row (or_cases _ _ comes.arrives) where
-  comes : Comes x.row x.object f
-  comes = comes_so x f starts makes valid
+-- the rows of the other tables create nothing
+transfer_none : (f : Floor) (port row : ℕ) → creates (firing 4 port row) f ≡ false
+transfer_none f port row = looked_for (λ o. is_some_row (found_creates o port f) ≡ false) transfer_table row refl (refl, (refl, (refl, (refl, (refl, tt)))))
 
-  later : ((x.row == 4) ≡ true) ⊎ ((x.row == 5) ≡ true) → suc (length f.carriers) ≤ most_carriers
-  later (inl t) = absurd (both_ways _ other t)
-  later (inr t) = let is : x.row ≡ 5 = grind (arith, nat_tests) in at_5 x.object f (subst (λ r. Comes r x.object f) is comes) valid
+access_none : (f : Floor) (port row : ℕ) → creates (firing 5 port row) f ≡ false
+access_none f port row = looked_for (λ o. is_some_row (found_creates o port f) ≡ false) access_table row refl (refl, (refl, tt))
 
-  by_row : ((x.row == 3) ≡ true) ⊎ (((x.row == 4) || (x.row == 5)) ≡ true) → suc (length f.carriers) ≤ most_carriers
-  by_row (inl t) = let is : x.row ≡ 3 = grind (arith, nat_tests) in at_3 x.object f (subst (λ r. Comes r x.object f) is comes) valid
-  by_row (inr t) = later (or_cases _ _ t)
+reservation_none : (f : Floor) (port row : ℕ) → creates (firing 6 port row) f ≡ false
+reservation_none f port row = looked_for (λ o. is_some_row (found_creates o port f) ≡ false) reservation_table row refl (refl, (refl, (refl, tt)))
 
-pub room-replaces : (x : Firing) (f : Floor) → floor_starts x f ≡ true → creates x f ≡ true → (x.row == 4) ≡ true → IsFloor f → suc (length (forgets (owner (slice_get f.ports x.object)) f.carriers)) ≤ most_carriers
-room-replaces x f starts makes t valid =
-    let is : x.row ≡ 4 = grind (arith, nat_tests) in
-    at_4 x.object f (subst (λ r. Comes r x.object f) is (comes_so x f starts makes valid)) valid
+-- a row that starts and creates is one of table 7
+of_creating : (P : Firing → Type 0) (x : Firing) (f : Floor) → (floor_starts (firing 7 x.object x.row.row) f ≡ true → creates (firing 7 x.object x.row.row) f ≡ true → P (firing 7 x.object x.row.row)) → floor_starts x f ≡ true → creates x f ≡ true → P x
+of_creating P x f at_7 starts makes =
+    starts_cases (λ (y : Firing). creates y f ≡ true → P y) f x floor_machines (
+      (λ s m. absurd (both_ways _ (transfer_none f x.object x.row.row) m)),
+      (
+        (λ s m. absurd (both_ways _ (access_none f x.object x.row.row) m)),
+        (
+          (λ s m. absurd (both_ways _ (reservation_none f x.object x.row.row) m)),
+          (
+            (λ s m. at_7 s m),
+            ((λ s m. absurd (true≢false (sym m))), ((λ s m. absurd (true≢false (sym m))), ((λ s m. absurd (true≢false (sym m))), tt))),
+          ),
+        ),
+      ),
+    )
+    starts makes
 
--- ---- by the row
+pub room-comes : (x : Firing) (f : Floor) → floor_starts x f ≡ true → creates x f ≡ true → (x.row.row == 4) ≡ false → IsFloor f → suc (length f.carriers) ≤ most_carriers
+room-comes x f starts makes other valid =
+    of_creating (λ (y : Firing). (y.row.row == 4) ≡ false → suc (length f.carriers) ≤ most_carriers) x f (λ s m. (has_room f x.object x.row.row valid s).comes m) starts makes other
 
--- rows 3 and 5, where what came isn't known
-pub room-arrives : (row place : ℕ) (f : Floor) → (row ≡ 3) ⊎ (row ≡ 5) → floor_starts (firing 7 place row) f ≡ true → IsFloor f → is_new (arrival_at (slice_get f.ports place)) f.carriers ≡ true → suc (length f.carriers) ≤ most_carriers
-room-arrives row place f either starts valid new = of either where
-  with : (n : ℕ) → is_arrival_row n ≡ true → (n == 4) ≡ false → row ≡ n → suc (length f.carriers) ≤ most_carriers
-  with n arrives other is =
-      let starts_n : floor_starts (firing 7 place n) f ≡ true = subst (λ r. floor_starts (firing 7 place r) f ≡ true) is starts in
-      room-comes (firing 7 place n) f starts_n (rw (arrives, new) refl) other valid
-
-  of : (row ≡ 3) ⊎ (row ≡ 5) → suc (length f.carriers) ≤ most_carriers
-  of (inl is) = with 3 refl refl is
-  of (inr is) = with 5 refl refl is
-
--- row 4, whatever came
-pub room-forgets : (row place : ℕ) (f : Floor) → row ≡ 4 → floor_starts (firing 7 place row) f ≡ true → IsFloor f → suc (length (forgets (owner (slice_get f.ports place)) f.carriers)) ≤ most_carriers
-room-forgets row place f is starts valid = of (slice_get f.ports place) refl (subst (λ r. floor_starts (firing 7 place r) f ≡ true) is starts) where
-  of : (o : Option Port) → slice_get f.ports place ≡ o → port_starts_at 7 4 place o f.carriers ≡ true → suc (length (forgets (owner o) f.carriers)) ≤ most_carriers
-  of None s w = absurd (cc)
-  of (Some p) s w =
-      let told : IsTold p = all_at IsTold place f.ports p s valid.told in
-      let both = and_parts (port_starts 7 4 p.states) (may_associate 4 place p f.carriers) w in
-      with_some p.carrier (association.row_4 p told both.0).some
-      (λ name its. subst (λ o. suc (length (forgets o f.carriers)) ≤ most_carriers) (sym its) (room_4 place f p name valid s its))
+pub room-replaces : (x : Firing) (f : Floor) → floor_starts x f ≡ true → creates x f ≡ true → (x.row.row == 4) ≡ true → IsFloor f → suc (length (forgets (owner (port_numbered x.object f.ports)) f.carriers)) ≤ most_carriers
+room-replaces x f starts makes is valid =
+    of_creating (λ (y : Firing). (y.row.row == 4) ≡ true → suc (length (forgets (owner (port_numbered y.object f.ports)) f.carriers)) ≤ most_carriers) x f (λ s m. (has_room f x.object x.row.row valid s).replaces) starts makes is
 
 -- ---- what isn't known behind row 4
 
@@ -128,10 +144,21 @@ new_kept (Some name) None cs other e = absurd (cc)
 new_kept (Some name) (Some a) cs other e = ap not (known_kept a.name name cs (not-true _ other) (not-true _ e))
 
 -- what came isn't known either where the port's carrier isn't forgotten yet
-pub new-replaced : (row place : ℕ) (f : Floor) → row ≡ 4 → floor_starts (firing 7 place row) f ≡ true → is_new (arrival_at (slice_get f.ports place)) (forgets (owner (slice_get f.ports place)) f.carriers) ≡ true → creates (firing 7 place row) f ≡ true
-new-replaced row place f is starts e = subst (λ r. creates (firing 7 place r) f ≡ true) (sym is) (of (slice_get f.ports place) (subst (λ r. floor_starts (firing 7 place r) f ≡ true) is starts) e) where
-  of : (o : Option Port) → port_starts_at 7 4 place o f.carriers ≡ true → is_new (arrival_at o) (forgets (owner o) f.carriers) ≡ true → is_new (arrival_at o) f.carriers ≡ true
-  of None w e = absurd (cc)
-  of (Some p) w e =
-      let both = and_parts (port_starts 7 4 p.states) (may_associate 4 place p f.carriers) w in
-      new_kept p.carrier p.arrival f.carriers (and_parts (is_some p.arrival) (not (is_own p.carrier p.arrival)) both.1).1 e
+pub new-replaced : (row port : ℕ) (f : Floor) → row ≡ 4 → floor_starts (firing 7 port row) f ≡ true → is_new (arrival_at (port_numbered port f.ports)) (forgets (owner (port_numbered port f.ports)) f.carriers) ≡ true → creates (firing 7 port row) f ≡ true
+new-replaced row port f is starts new =
+    starts_at_port association_number association_table (λ s. s.association) (λ to s. record s { association = to })
+    (λ (n r : ℕ) (o : Option (PortRow Association)). r ≡ 4 → is_new (arrival_at (port_numbered n f.ports)) (forgets (owner (port_numbered n f.ports)) f.carriers) ≡ true → is_some_row (found_creates o n f) ≡ true) f port row
+    (λ place p s. (
+      (λ among wants is new. absurd (omega (arith, is))),
+      (
+        (λ among wants is new. absurd (omega (arith, is))),
+        (
+          (λ among wants is new. absurd (omega (arith, is))),
+          (
+            (λ among wants is new. rw (subst (λ (o : Option Port). is_new (arrival_at o) (forgets (owner o) f.carriers) ≡ true → is_new (arrival_at o) f.carriers ≡ true) (sym s) (new_kept p.carrier p.arrival f.carriers (and_parts (is_some p.arrival) (not (is_own p.carrier p.arrival)) wants).1) new) refl),
+            ((λ among wants is new. absurd (omega (arith, is))), ((λ among wants is new. absurd (omega (arith, is))), ((λ among wants is new. absurd (omega (arith, is))), tt))),
+          ),
+        ),
+      ),
+    ))
+    starts is new

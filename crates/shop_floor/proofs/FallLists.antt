@@ -1,34 +1,14 @@
 -- What changes of lists of ports and carriers do to what is left.
-use Rattle.std.proofs.Common.{◌≡◌, ℕ, zero, suc, ◌+◌, ◌≤◌, Bool, true, false, not, cond, List, [], ◌∷◌, Option, Some, None, slice_get, refl, ap, arith}
+use Rattle.std.proofs.Common.{◌≡◌, ℕ, zero, suc, ◌+◌, ◌==◌, ◌≤◌, Bool, true, false, not, cond, List, [], ◌∷◌, Option, Some, None, slice_get, refl, ap, arith}
 use Rattle.std.specs.Prelude.{if◌then◌else◌}
 use Rattle.gem_tables.specs.Table.{update_at}
 use Rattle.load_port.specs.declared.port.Port.{Port}
 use Rattle.carrier.specs.declared.carrier.Carrier.{Carrier}
-use Rattle.carrier.specs.Carriers.{has_name, is_known, change_named, found_or_created, with_created, without, came_to}
-use Rattle.shop_floor.specs.Ready.{numbered}
+use Rattle.carrier.specs.Carriers.{has_name, is_known, carrier_numbered, change_numbered, change_named, found_or_created, with_created, without, came_to}
 use Rattle.shop_floor.specs.Left.{port_left, carrier_left, ports_left, carriers_left}
 use Rattle.shop_floor.specs.Rows.{forgets}
 
 -- ---- places
-
--- the port of a place among the numbered ones
-pub numbered_port : (n : ℕ) (ports : List Port) (place : ℕ) (one : ℕ × Port) → slice_get (numbered n ports) place ≡ Some one → slice_get ports place ≡ Some one.1
-numbered_port n [] place one e = absurd (cc)
-numbered_port n (p ∷ ps) zero one e = let same : (n, p) ≡ one = cc in ap (λ (k : ℕ × Port). Some k.1) same
-numbered_port n (p ∷ ps) (suc place) one e = numbered_port (n + 1) ps place one e
-
--- and its number
-pub numbered_number : (n : ℕ) (ports : List Port) (place : ℕ) (one : ℕ × Port) → slice_get (numbered n ports) place ≡ Some one → one.0 ≡ n + place
-numbered_number n [] place one e = absurd (cc)
-numbered_number n (p ∷ ps) zero one e = let same : (n, p) ≡ one = cc in let number : n ≡ one.0 = ap (λ (k : ℕ × Port). k.0) same in omega (arith, number)
-numbered_number n (p ∷ ps) (suc place) one e = let later = numbered_number (n + 1) ps place one e in omega (arith, later)
-
--- a change that changes nothing
-pub update_same : {O : Type 0} (place : ℕ) (objects : List O) → update_at place (λ o. o) objects ≡ objects
-update_same zero [] = refl
-update_same (suc place) [] = refl
-update_same zero (x ∷ xs) = refl
-update_same (suc place) (x ∷ xs) = ap (λ ys. x ∷ ys) (update_same place xs)
 
 -- two changes at one place are one
 pub update_twice : {O : Type 0} (first second : O → O) (place : ℕ) (objects : List O) → update_at place second (update_at place first objects) ≡ update_at place (λ o. second (first o)) objects
@@ -51,15 +31,16 @@ ports_fall change n (suc place) (q ∷ qs) p e falls =
     omega (arith, later)
 
 -- and so at a carrier
-pub carriers_fall : (change : Carrier → Carrier) (n place : ℕ) (carriers : List Carrier) (c : Carrier) → slice_get carriers place ≡ Some c → carrier_left (change c) + n ≤ carrier_left c → carriers_left (update_at place change carriers) + n ≤ carriers_left carriers
-carriers_fall change n place [] c e falls = absurd (cc)
-carriers_fall change n zero (d ∷ ds) c e falls =
-    let same : d ≡ c = cc in
-    let less : carrier_left (change d) + n ≤ carrier_left d = rw same falls in
-    omega (arith, less)
-carriers_fall change n (suc place) (d ∷ ds) c e falls =
-    let later = carriers_fall change n place ds c e falls in
-    omega (arith, later)
+pub carriers_fall : (change : Carrier → Carrier) (less n : ℕ) (carriers : List Carrier) (c : Carrier) → carrier_numbered n carriers ≡ Some c → carrier_left (change c) + less ≤ carrier_left c → carriers_left (change_numbered n change carriers) + less ≤ carriers_left carriers
+carriers_fall change less n [] c e falls = absurd (cc)
+carriers_fall change less n (d ∷ ds) c e falls = of (d.number == n) e (λ f. carriers_fall change less n ds c f falls) where
+  of : (b : Bool) → cond b (Some d) (carrier_numbered n ds) ≡ Some c → (carrier_numbered n ds ≡ Some c → carriers_left (change_numbered n change ds) + less ≤ carriers_left ds)
+      → carriers_left (cond b (change d ∷ ds) (d ∷ change_numbered n change ds)) + less ≤ carriers_left (d ∷ ds)
+  of true f later =
+      let same : d ≡ c = cc in
+      let here : carrier_left (change d) + less ≤ carrier_left d = rw same falls in
+      omega (arith, here)
+  of false f later = let rest = later f in omega (arith, rest)
 
 -- ---- what is left of carriers that come, are created and are forgotten
 
@@ -78,14 +59,14 @@ came-left name port is_read slots (c ∷ cs) =
     omega (arith, here, later)
 
 -- one that is created has its id and its map to be read
-created-left : (name : List ℕ) (carriers : List Carrier) → carriers_left (with_created name carriers) ≡ carriers_left carriers + 201
-created-left name [] = refl
-created-left name (c ∷ cs) = let later = created-left name cs in omega (arith, later)
+created-left : (number : ℕ) (name : List ℕ) (carriers : List Carrier) → carriers_left (with_created number name carriers) ≡ carriers_left carriers + 201
+created-left number name [] = refl
+created-left number name (c ∷ cs) = let later = created-left number name cs in omega (arith, later)
 
-pub found-left : (name : List ℕ) (carriers : List Carrier) → carriers_left (found_or_created name carriers) ≤ carriers_left carriers + 201
-found-left name carriers =
-    let more = created-left name carriers in
-    either_way (λ (cs : List Carrier). carriers_left cs ≤ carriers_left carriers + 201) (is_known name carriers) carriers (with_created name carriers)
+pub found-left : (number : ℕ) (name : List ℕ) (carriers : List Carrier) → carriers_left (found_or_created number name carriers) ≤ carriers_left carriers + 201
+found-left number name carriers =
+    let more = created-left number name carriers in
+    either_way (λ (cs : List Carrier). carriers_left cs ≤ carriers_left carriers + 201) (is_known name carriers) carriers (with_created number name carriers)
     (omega arith) (omega (arith, more))
 
 -- one that is forgotten leaves no more

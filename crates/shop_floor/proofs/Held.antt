@@ -1,19 +1,42 @@
 -- The port of a row that starts is there.
-use Rattle.std.proofs.Common.{◌≡◌, ◌<◌, Bool, true, false, cond, Option, Some, None, slice_get, refl, arith}
+use Rattle.std.proofs.Common.{◌≡◌, ℕ, zero, suc, ◌≤◌, Bool, true, false, [], ◌∷◌, Option, Some, None, refl, sym, arith}
+use Rattle.std.proofs.lemmas.Bool.{true≢false, both_ways}
 use Rattle.std.proofs.lemmas.Option.{slice_get_within}
-use Rattle.gem_tables.specs.Table.{Firing}
+use Rattle.gem_tables.specs.Table.{is_one_of}
+use Rattle.gem_tables.specs.declared.firing.Firing.{Firing}
+use Rattle.gem_tables.proofs.Machines.{starts_cases}
 use Rattle.load_port.specs.declared.port.Port.{Port}
-use Rattle.load_port.specs.Ports.{most_ports}
+use Rattle.load_port.specs.Ports.{most_ports, port_numbered}
+use Rattle.load_port.specs.Tables.{transfer_number, transfer_table, access_number, access_table, reservation_number, reservation_table, association_number, association_table}
 use Rattle.shop_floor.specs.Floor.{Floor}
-use Rattle.shop_floor.specs.Rows.{is_port_table, is_carrier_table, port_starts_at, carrier_starts_at, floor_starts}
+use Rattle.shop_floor.specs.Machines.{port_starts, floor_machines, floor_starts}
 use Rattle.shop_floor.specs.Valid.{IsFloor}
 
-pub port_within : (x : Firing) (f : Floor) → floor_starts x f ≡ true → is_port_table x.table ≡ true → IsFloor f → x.object < most_ports
-port_within x f starts of_port valid = by_table (is_port_table x.table) of_port starts where
-  there : (o : Option Port) → slice_get f.ports x.object ≡ o → port_starts_at x.table x.row x.object o f.carriers ≡ true → x.object < most_ports
-  there None s w = absurd (cc)
-  there (Some p) s w = let within = slice_get_within f.ports x.object p s in omega (arith, within, valid.few)
+-- a port of a number that is there
+there : (f : Floor) (port : ℕ) (p : Port) → IsFloor f → port_numbered port f.ports ≡ Some p → port ≤ most_ports
+there f zero p valid e = omega arith
+there f (suc place) p valid e = let within = slice_get_within f.ports place p e in omega (arith, within, valid.few)
 
-  by_table : (b : Bool) → b ≡ true → cond b (port_starts_at x.table x.row x.object (slice_get f.ports x.object) f.carriers) (cond (is_carrier_table x.table) (carrier_starts_at x.table x.row (slice_get f.carriers x.object)) false) ≡ true → x.object < most_ports
-  by_table true t w = there (slice_get f.ports x.object) refl w
-  by_table false t w = absurd (cc)
+-- where a test doesn't hold without one, the port is there
+tested : (f : Floor) (port : ℕ) (test : Option Port → Bool) → IsFloor f → test None ≡ false → test (port_numbered port f.ports) ≡ true → port ≤ most_ports
+tested f port test valid none e = of (port_numbered port f.ports) refl e where
+  of : (o : Option Port) → port_numbered port f.ports ≡ o → test o ≡ true → port ≤ most_ports
+  of None q t = absurd (both_ways _ none t)
+  of (Some p) q t = there f port p valid q
+
+pub port_within : (x : Firing) (f : Floor) → floor_starts x f ≡ true → is_one_of (4 ∷ 5 ∷ 6 ∷ 7 ∷ []) x.row.table ≡ true → IsFloor f → x.object ≤ most_ports
+port_within x f starts of_port valid =
+    starts_cases (λ (y : Firing). is_one_of (4 ∷ 5 ∷ 6 ∷ 7 ∷ []) y.row.table ≡ true → y.object ≤ most_ports) f x floor_machines (
+      (λ s t. tested f x.object (port_starts transfer_number transfer_table (λ r. r.transfer) (λ to r. record r { transfer = to }) x.row.row x.object f) valid refl s),
+      (
+        (λ s t. tested f x.object (port_starts access_number access_table (λ r. r.access) (λ to r. record r { access = to }) x.row.row x.object f) valid refl s),
+        (
+          (λ s t. tested f x.object (port_starts reservation_number reservation_table (λ r. r.reservation) (λ to r. record r { reservation = to }) x.row.row x.object f) valid refl s),
+          (
+            (λ s t. tested f x.object (port_starts association_number association_table (λ r. r.association) (λ to r. record r { association = to }) x.row.row x.object f) valid refl s),
+            ((λ s t. absurd (true≢false (sym t))), ((λ s t. absurd (true≢false (sym t))), ((λ s t. absurd (true≢false (sym t))), tt))),
+          ),
+        ),
+      ),
+    )
+    starts of_port

@@ -1,111 +1,80 @@
--- What a scan over the places of a list finds.
-use Rattle.std.proofs.Common.{◌≡◌, ℕ, zero, suc, ◌+◌, ◌≤◌, Bool, true, false, List, [], ◌∷◌, length, drop, find, Option, Some, None, slice_get, refl, sym, ap, ◌∙◌, add-one, arith}
-use Rattle.std.specs.List.{list_any}
-use Rattle.gem_tables.specs.Table.{firing, first_ready}
+-- What a scan for the first ready row finds.
+use Rattle.std.proofs.Common.{◌≡◌, ℕ, zero, suc, ◌+◌, ◌==◌, ◌<◌, ◌≤◌, true, false, List, [], ◌∷◌, length, map, drop, Option, Some, None, slice_get, refl, ap, subst, ◌∙◌, arith}
+use Rattle.std.proofs.lemmas.Bool.Decides.{nat_tests}
+use Rattle.gem_tables.specs.Table.{firing}
+use Rattle.gem_tables.specs.Machine.{first_ready}
 use Rattle.load_port.specs.declared.port.Port.{Port}
-use Rattle.shop_floor.specs.Ready.{numbered}
+use Rattle.carrier.specs.declared.carrier.Carrier.{Carrier}
+use Rattle.carrier.specs.Carriers.{carrier_numbered}
+use Rattle.carrier.proofs.Scans.{drop_here, drop_past, drop_end}
+use Rattle.shop_floor.specs.Floor.{numbers_from, number_of}
+use Rattle.shop_floor.specs.Valid.{RiseFrom}
 
-module _ {X : Type 0} where
-  drop_suc : (xs : List X) (place : ℕ) (x : X) → slice_get xs place ≡ Some x → drop place xs ≡ x ∷ drop (suc place) xs
-  drop_suc [] place x e = absurd (cc)
-  drop_suc (y ∷ ys) zero x e = let same : x ≡ y = cc in ap (λ z. z ∷ ys) (sym same)
-  drop_suc (y ∷ ys) (suc place) x e = drop_suc ys place x e
+-- ---- the first object at which a row is ready
 
-  -- the rest of a list begins with what has its place
-  pub drop_here : (xs : List X) (place : ℕ) (x : X) → slice_get xs place ≡ Some x → drop place xs ≡ x ∷ drop (place + 1) xs
-  drop_here xs place x e = drop_suc xs place x e ∙ ap (λ (n : ℕ). x ∷ drop n xs) (sym (add-one place))
+module _ (table : ℕ) (ready : ℕ → Option ℕ) (objects : List ℕ) (place : ℕ) where
+  pub ready_here : (object row : ℕ) → slice_get objects place ≡ Some object → ready object ≡ Some row → first_ready table ready (drop place objects) ≡ Some (firing table object row)
+  ready_here object row e r = rw (drop_here objects place object e, r) refl
 
-  drop_none : (xs : List X) (place : ℕ) → slice_get xs place ≡ None → drop place xs ≡ []
-  drop_none [] zero e = refl
-  drop_none [] (suc place) e = refl
-  drop_none (y ∷ ys) zero e = absurd (cc)
-  drop_none (y ∷ ys) (suc place) e = drop_none ys place e
+  pub ready_next : (object : ℕ) → slice_get objects place ≡ Some object → ready object ≡ None → first_ready table ready (drop place objects) ≡ first_ready table ready (drop (place + 1) objects)
+  ready_next object e r = rw (drop_here objects place object e, r) refl
 
-  get_later : (xs : List X) (place : ℕ) → slice_get xs place ≡ None → slice_get xs (suc place) ≡ None
-  get_later [] place e = refl
-  get_later (y ∷ ys) zero e = absurd (cc)
-  get_later (y ∷ ys) (suc place) e = get_later ys place e
+  pub ready_past : slice_get objects place ≡ None → first_ready table ready (drop place objects) ≡ first_ready table ready (drop (place + 1) objects)
+  ready_past e = ap (first_ready table ready) (drop_past objects place e)
 
-  -- nothing is left where a place has nothing
-  pub drop_past : (xs : List X) (place : ℕ) → slice_get xs place ≡ None → drop place xs ≡ drop (place + 1) xs
-  drop_past xs place e =
-      drop_none xs place e
-      ∙ sym (drop_none xs (suc place) (get_later xs place e))
-      ∙ ap (λ (n : ℕ). drop n xs) (sym (add-one place))
+  pub ready_end : length objects ≤ place → first_ready table ready (drop place objects) ≡ None
+  ready_end l = ap (first_ready table ready) (drop_end objects place l)
 
-  -- nothing is left behind the end
-  drop_end : (xs : List X) (place : ℕ) → length xs ≤ place → drop place xs ≡ []
-  drop_end [] zero l = refl
-  drop_end [] (suc place) l = refl
-  drop_end (y ∷ ys) zero l = absurd (omega arith)
-  drop_end (y ∷ ys) (suc place) l = drop_end ys place (omega arith)
+-- ---- the numbers of the ports
 
-  -- ---- the first that passes a test
+numbers_get : (n : ℕ) (ps : List Port) (place : ℕ) → place < length ps → slice_get (numbers_from n ps) place ≡ Some (n + place)
+numbers_get n [] place l = absurd (omega arith)
+numbers_get n (p ∷ ps) zero l = ap (λ (m : ℕ). Some m) (omega arith)
+numbers_get n (p ∷ ps) (suc place) l = numbers_get (n + 1) ps place (omega arith) ∙ ap (λ (m : ℕ). Some m) (omega arith)
 
-  pub find_here : (test : X → Bool) (xs : List X) (place : ℕ) (x : X) → slice_get xs place ≡ Some x → test x ≡ true → find test (drop place xs) ≡ Some x
-  find_here test xs place x e t = rw (drop_here xs place x e, t) refl
+pub number_at : (ps : List Port) (place number : ℕ) → place < length ps → number ≡ place + 1 → slice_get (numbers_from 1 ps) place ≡ Some number
+number_at ps place number l e = numbers_get 1 ps place l ∙ ap (λ (m : ℕ). Some m) (omega (arith, e))
 
-  pub find_next : (test : X → Bool) (xs : List X) (place : ℕ) (x : X) → slice_get xs place ≡ Some x → test x ≡ false → find test (drop place xs) ≡ find test (drop (place + 1) xs)
-  find_next test xs place x e t = rw (drop_here xs place x e, t) refl
+numbers_count : (n : ℕ) (ps : List Port) → length (numbers_from n ps) ≡ length ps
+numbers_count n [] = refl
+numbers_count n (p ∷ ps) = ap suc (numbers_count (n + 1) ps)
 
-  pub find_past : (test : X → Bool) (xs : List X) (place : ℕ) → slice_get xs place ≡ None → find test (drop place xs) ≡ find test (drop (place + 1) xs)
-  find_past test xs place e = ap (λ ys. find test ys) (drop_past xs place e)
+pub numbers_length : (ps : List Port) → length (numbers_from 1 ps) ≡ length ps
+numbers_length ps = numbers_count 1 ps
 
-  -- ---- whether one passes a test
+-- ---- the numbers of the carriers
 
-  pub any_here : (test : X → Bool) (xs : List X) (place : ℕ) (x : X) → slice_get xs place ≡ Some x → test x ≡ true → list_any test (drop place xs) ≡ true
-  any_here test xs place x e t = rw (drop_here xs place x e, t) refl
+pub carrier_number : (cs : List Carrier) (place : ℕ) (c : Carrier) → slice_get cs place ≡ Some c → slice_get (map number_of cs) place ≡ Some c.number
+carrier_number [] place c e = absurd (cc)
+carrier_number (d ∷ ds) zero c e = let same : d ≡ c = cc in ap (λ (x : Carrier). Some x.number) same
+carrier_number (d ∷ ds) (suc place) c e = carrier_number ds place c e
 
-  pub any_next : (test : X → Bool) (xs : List X) (place : ℕ) (x : X) → slice_get xs place ≡ Some x → test x ≡ false → list_any test (drop place xs) ≡ list_any test (drop (place + 1) xs)
-  any_next test xs place x e t = rw (drop_here xs place x e, t) refl
+pub no_carrier : (cs : List Carrier) (place : ℕ) → slice_get cs place ≡ None → slice_get (map number_of cs) place ≡ None
+no_carrier [] place e = refl
+no_carrier (d ∷ ds) zero e = absurd (cc)
+no_carrier (d ∷ ds) (suc place) e = no_carrier ds place e
 
-  pub any_past : (test : X → Bool) (xs : List X) (place : ℕ) → slice_get xs place ≡ None → list_any test (drop place xs) ≡ list_any test (drop (place + 1) xs)
-  any_past test xs place e = ap (λ ys. list_any test ys) (drop_past xs place e)
+pub carrier_numbers : (cs : List Carrier) → length (map number_of cs) ≡ length cs
+carrier_numbers [] = refl
+carrier_numbers (c ∷ cs) = ap suc (carrier_numbers cs)
 
-  -- ---- the first at which a row is ready
+-- the number of a carrier is at least the first
+rises_to : (first next : ℕ) (cs : List Carrier) (place : ℕ) (c : Carrier) → RiseFrom first next cs → slice_get cs place ≡ Some c → first ≤ c.number
+rises_to first next [] place c rise e = absurd (cc)
+rises_to first next (d ∷ ds) zero c rise e = let same : d ≡ c = cc in subst (λ (x : Carrier). first ≤ x.number) same rise.0
+rises_to first next (d ∷ ds) (suc place) c rise e =
+    let later = rises_to (d.number + 1) next ds place c rise.1 e in
+    omega (arith, later, rise.0)
 
-  pub ready_here : (table : ℕ) (row_at : X → Option ℕ) (xs : List X) (place : ℕ) (x : X) (row : ℕ) → slice_get xs place ≡ Some x → row_at x ≡ Some row → first_ready table row_at place (drop place xs) ≡ Some (firing table place row)
-  ready_here table row_at xs place x row e r = rw (drop_here xs place x e, r) refl
-
-  pub ready_next : (table : ℕ) (row_at : X → Option ℕ) (xs : List X) (place : ℕ) (x : X) → slice_get xs place ≡ Some x → row_at x ≡ None → first_ready table row_at place (drop place xs) ≡ first_ready table row_at (place + 1) (drop (place + 1) xs)
-  ready_next table row_at xs place x e r = rw (drop_here xs place x e, r) refl
-
-  pub ready_past : (table : ℕ) (row_at : X → Option ℕ) (xs : List X) (place : ℕ) → slice_get xs place ≡ None → first_ready table row_at place (drop place xs) ≡ first_ready table row_at (place + 1) (drop (place + 1) xs)
-  ready_past table row_at xs place e =
-      rw (drop_none xs place e, ap (λ (n : ℕ). drop n xs) (add-one place), drop_none xs (suc place) (get_later xs place e)) refl
-
-  pub ready_end : (table : ℕ) (row_at : X → Option ℕ) (xs : List X) (place : ℕ) → length xs ≤ place → first_ready table row_at place (drop place xs) ≡ None
-  ready_end table row_at xs place l = ap (λ ys. first_ready table row_at place ys) (drop_end xs place l)
-
--- ---- the ports with their numbers
-
-numbered_get : (n : ℕ) (ps : List Port) (place : ℕ) (p : Port) → slice_get ps place ≡ Some p → slice_get (numbered n ps) place ≡ Some (n + place, p)
-numbered_get n [] place p e = absurd (cc)
-numbered_get n (q ∷ qs) zero p e =
-    let same : q ≡ p = cc in
-    let here : n ≡ n + 0 = omega arith in
-    rw (same, ← here) refl
-numbered_get n (q ∷ qs) (suc place) p e =
-    let there : n + 1 + place ≡ n + suc place = omega arith in
-    numbered_get (n + 1) qs place p e ∙ ap (λ (m : ℕ). Some (m, p)) there
-
--- the port of a place has the next number
-pub numbered_at : (ps : List Port) (place : ℕ) (p : Port) → slice_get ps place ≡ Some p → slice_get (numbered 1 ps) place ≡ Some (place + 1, p)
-numbered_at ps place p e =
-    let same : 1 + place ≡ place + 1 = omega arith in
-    numbered_get 1 ps place p e ∙ ap (λ (m : ℕ). Some (m, p)) same
-
-numbered_missing : (n : ℕ) (ps : List Port) (place : ℕ) → slice_get ps place ≡ None → slice_get (numbered n ps) place ≡ None
-numbered_missing n [] place e = refl
-numbered_missing n (q ∷ qs) zero e = absurd (cc)
-numbered_missing n (q ∷ qs) (suc place) e = numbered_missing (n + 1) qs place e
-
-pub numbered_none : (ps : List Port) (place : ℕ) → slice_get ps place ≡ None → slice_get (numbered 1 ps) place ≡ None
-numbered_none ps place e = numbered_missing 1 ps place e
-
-numbered_count : (n : ℕ) (ps : List Port) → length (numbered n ps) ≡ length ps
-numbered_count n [] = refl
-numbered_count n (q ∷ qs) = ap suc (numbered_count (n + 1) qs)
-
-pub numbered_length : (ps : List Port) → length (numbered 1 ps) ≡ length ps
-numbered_length ps = numbered_count 1 ps
+-- the carrier at a place is that of its number
+pub numbered_at : (first next : ℕ) (cs : List Carrier) (place : ℕ) (c : Carrier) → RiseFrom first next cs → slice_get cs place ≡ Some c → carrier_numbered c.number cs ≡ Some c
+numbered_at first next [] place c rise e = absurd (cc)
+numbered_at first next (d ∷ ds) zero c rise e =
+    let same : d ≡ c = cc in
+    subst (λ (x : Carrier). carrier_numbered x.number (d ∷ ds) ≡ Some x) same (rw (own d.number) refl) where
+      own : (n : ℕ) → (n == n) ≡ true
+      own n = grind (arith, nat_tests)
+numbered_at first next (d ∷ ds) (suc place) c rise e =
+    let later = rises_to (d.number + 1) next ds place c rise.1 e in
+    let other : (d.number == c.number) ≡ false = grind (arith, nat_tests) in
+    rw other (numbered_at (d.number + 1) next ds place c rise.1 e)

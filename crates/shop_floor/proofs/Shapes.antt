@@ -1,143 +1,77 @@
--- What the least ready row is, and what it is ready by.
-use Rattle.std.proofs.Common.{◌≡◌, ℕ, ◌+◌, ◌==◌, Bool, true, false, not, ◌&&◌, List, [], ◌∷◌, Option, Some, None, is_some, slice_get, refl, sym, ◌∙◌, ap, subst, arith}
-use Rattle.std.specs.Prelude.{if◌then◌else◌}
+-- What the least ready row is.
+use Rattle.std.proofs.Common.{◌≡◌, ℕ, ◌==◌, true, false, [], ◌∷◌, map, Option, Some, None, refl, sym}
+use Rattle.std.specs.List.{AllByRecursion}
 use Rattle.std.specs.Option.{option_or}
 use Rattle.std.proofs.lemmas.Bool.{true≢false}
-use Rattle.gem_tables.specs.Table.{Firing, firing, is_one_of, first_ready}
-use Rattle.gem_tables.proofs.Ready.{ready_cases}
-use Rattle.load_port.specs.declared.port.Port.{Port}
-use Rattle.load_port.specs.Record.{is_blocked, is_reserved, is_associated}
-use Rattle.carrier.specs.declared.carrier.Carrier.{Carrier}
-use Rattle.carrier.specs.Record.{is_id_not_read, is_map_not_read}
-use Rattle.shop_floor.specs.Floor.{Floor}
-use Rattle.shop_floor.specs.Rows.{is_own, is_elsewhere}
-use Rattle.shop_floor.specs.Ready.{numbered, transfer_row, reservation_row, association_row, id_row, map_row, ready_transfer, ready_reservation, ready_association, ready_id, ready_map, floor_least}
-use Rattle.shop_floor.proofs.FallLists.{numbered_port, numbered_number}
+use Rattle.gem_tables.specs.Table.{is_one_of}
+use Rattle.gem_tables.specs.declared.firing.Firing.{Firing}
+use Rattle.gem_tables.proofs.Rows.{one_of_cases}
+use Rattle.gem_tables.specs.Machine.{first_ready, ready_in}
+use Rattle.gem_tables.proofs.Machines.{least_cases, none_ready}
+use Rattle.load_port.specs.Tables.{access_number as mode_number, access_table}
+use Rattle.carrier.specs.Tables.{access_number, accessing_table}
+use Rattle.shop_floor.specs.Floor.{Floor, numbers_from, number_of}
+use Rattle.shop_floor.specs.Machines.{floor_machines, access_machine, accessing_machine, floor_least}
+use Rattle.shop_floor.proofs.Cases.{ready_at_port, ready_at_carrier}
 
--- ---- tests
+-- no row of table 5 fires by itself
+pub no_access : (f : Floor) (port row : ℕ) {P : Type 0} → access_machine.ready port f ≡ Some row → P
+no_access f port row {P} e =
+    ready_at_port mode_number access_table (λ s. s.access) (λ to s. record s { access = to }) (λ n r. P) f port row
+    (λ place p s. ((λ itself. absurd (true≢false (sym itself))), ((λ itself. absurd (true≢false (sym itself))), tt))) e
 
-pub and_first : (a b : Bool) → (a && b) ≡ true → a ≡ true
-and_first true b e = refl
-and_first false b e = absurd (true≢false (sym e))
+-- nor does one of table 10, while no substrates are built
+pub no_accessing : (f : Floor) (carrier row : ℕ) {P : Type 0} → accessing_machine.ready carrier f ≡ Some row → P
+no_accessing f carrier row {P} e =
+    ready_at_carrier access_number accessing_table (λ s. s.access) (λ to s. record s { access = to }) (λ r. P) f carrier row
+    (λ c s. (
+      (λ itself among wants. absurd (true≢false (sym wants))),
+      (
+        (λ itself among wants. absurd (true≢false (sym wants))),
+        ((λ itself among wants. absurd (true≢false (sym wants))), ((λ itself. absurd (true≢false (sym itself))), tt)),
+      ),
+    )) e
 
-pub and_second : (a b : Bool) → (a && b) ≡ true → b ≡ true
-and_second true b e = e
-and_second false b e = absurd (true≢false (sym e))
+-- it is one of these tables
+pub least_table : (f : Floor) (x : Firing) → floor_least f ≡ Some x → is_one_of (4 ∷ 6 ∷ 7 ∷ 8 ∷ 9 ∷ []) x.row.table ≡ true
+least_table f x e =
+    least_cases (λ (y : Firing). is_one_of (4 ∷ 6 ∷ 7 ∷ 8 ∷ 9 ∷ []) y.row.table ≡ true) f x floor_machines
+    ((λ o r s. refl), ((λ o r s. no_access f o r s), ((λ o r s. refl), ((λ o r s. refl), ((λ o r s. refl), ((λ o r s. refl), ((λ o r s. no_accessing f o r s), tt))))))) e
 
--- ---- the rows of one object
+-- what is true of each of them is true of its table
+pub of_tables : (P : ℕ → Type 0) (f : Floor) (x : Firing) → AllByRecursion P (4 ∷ 6 ∷ 7 ∷ 8 ∷ 9 ∷ []) → floor_least f ≡ Some x → P x.row.table
+of_tables P f x all e = one_of_cases P (4 ∷ 6 ∷ 7 ∷ 8 ∷ 9 ∷ []) x.row.table all (least_table f x e)
 
--- the row of the first test that holds
-one_row : (P : ℕ → Type 0) (b : Bool) (n row : ℕ) (others : Option ℕ) → (b ≡ true → P n) → (others ≡ Some row → P row) → if b then Some n else others ≡ Some row → P row
-one_row P true n row others here later e = let same : n ≡ row = cc in subst P same (here refl)
-one_row P false n row others here later e = later e
+-- and so none of communication, control and notes
+pub not_table_1 : (f : Floor) (x : Firing) → floor_least f ≡ Some x → (x.row.table == 1) ≡ false
+not_table_1 f x e = of_tables (λ n. (n == 1) ≡ false) f x (refl, (refl, (refl, (refl, (refl, tt))))) e
 
-no_row : (P : ℕ → Type 0) (row : ℕ) → None ≡ Some row → P row
-no_row P row e = absurd (cc)
+pub not_table_2 : (f : Floor) (x : Firing) → floor_least f ≡ Some x → (x.row.table == 2) ≡ false
+not_table_2 f x e = of_tables (λ n. (n == 2) ≡ false) f x (refl, (refl, (refl, (refl, (refl, tt))))) e
 
--- table 4: row 4
-pub transfer_cases : (P : ℕ → Type 0) (carriers : List Carrier) (one : ℕ × Port) (row : ℕ)
-    → (is_blocked one.1.states.transfer ≡ true → P 4)
-    → transfer_row carriers one ≡ Some row → P row
-transfer_cases P carriers one row row_4 e = one_row P _ 4 row None (λ t. row_4 (and_first _ _ t)) (no_row P row) e
+pub not_table_3 : (f : Floor) (x : Firing) → floor_least f ≡ Some x → (x.row.table == 3) ≡ false
+not_table_3 f x e = of_tables (λ n. (n == 3) ≡ false) f x (refl, (refl, (refl, (refl, (refl, tt))))) e
 
--- table 6: row 3
-pub reservation_cases : (P : ℕ → Type 0) (one : ℕ × Port) (row : ℕ)
-    → (is_reserved one.1.states.reservation ≡ true → P 3)
-    → reservation_row one ≡ Some row → P row
-reservation_cases P one row row_3 e = one_row P _ 3 row None (λ t. row_3 (and_first _ _ t)) (no_row P row) e
+-- ---- where it is looked for
 
--- table 7: rows 3, 4, 5 and 7
-pub association_cases : (P : ℕ → Type 0) (carriers : List Carrier) (one : ℕ × Port) (row : ℕ)
-    → (is_some one.1.arrival ≡ true → not (is_associated one.1.states.association) ≡ true → P 3)
-    → (is_some one.1.arrival ≡ true → is_associated one.1.states.association ≡ true → not (is_own one.1.carrier one.1.arrival) ≡ true → P 4)
-    → (is_some one.1.arrival ≡ true → is_associated one.1.states.association ≡ true → is_own one.1.carrier one.1.arrival ≡ true → P 5)
-    → (is_associated one.1.states.association ≡ true → is_elsewhere one.0 one.1.carrier carriers ≡ true → P 7)
-    → association_row carriers one ≡ Some row → P row
-association_cases P carriers one row row_3 row_4 row_5 row_7 e =
-    one_row P _ 3 row _ (λ t. row_3 (and_first _ _ t) (and_second _ _ t))
-    (one_row P _ 4 row _ (λ t. row_4 (and_first _ _ t) (and_first _ _ (and_second _ _ t)) (and_second _ _ (and_second _ _ t)))
-    (one_row P _ 5 row _ (λ t. row_5 (and_first _ _ t) (and_first _ _ (and_second _ _ t)) (and_second _ _ (and_second _ _ t)))
-    (one_row P _ 7 row None (λ t. row_7 (and_first _ _ t) (and_second _ _ t)) (no_row P row)))) e
+-- the first of a table of ports, and of one of carriers
+abbrev pub first_port : ℕ → Floor → Option Firing
+first_port table f = first_ready table (λ port. ready_in floor_machines table port f) (numbers_from 1 f.ports)
 
--- table 8: rows 2 and 3
-pub id_cases : (P : ℕ → Type 0) (c : Carrier) (row : ℕ)
-    → (is_id_not_read c.states.id ≡ true → P 2)
-    → (is_id_not_read c.states.id ≡ true → P 3)
-    → id_row c ≡ Some row → P row
-id_cases P c row row_2 row_3 e =
-    one_row P _ 2 row _ (λ t. row_2 (and_first _ _ (and_first _ _ t)))
-    (one_row P _ 3 row None (λ t. row_3 (and_first _ _ t)) (no_row P row)) e
+abbrev pub first_carrier : ℕ → Floor → Option Firing
+first_carrier table f = first_ready table (λ carrier. ready_in floor_machines table carrier f) (map number_of f.carriers)
 
--- table 9: rows 1 and 2
-pub map_cases : (P : ℕ → Type 0) (c : Carrier) (row : ℕ)
-    → (is_map_not_read c.states.map ≡ true → P 1)
-    → (is_map_not_read c.states.map ≡ true → P 2)
-    → map_row c ≡ Some row → P row
-map_cases P c row row_1 row_2 e =
-    one_row P _ 1 row _ (λ t. row_1 (and_first _ _ (and_first _ _ t)))
-    (one_row P _ 2 row None (λ t. row_2 (and_first _ _ t)) (no_row P row)) e
+none_of : {A : Type 0} (o : Option A) → ((x : A) → o ≡ Some x → o ≡ None) → o ≡ None
+none_of None f = refl
+none_of (Some x) f = f x refl
 
--- ---- the least ready row
+or_none : {A : Type 0} (o : Option A) → option_or o None ≡ o
+or_none None = refl
+or_none (Some x) = refl
 
--- a ready row of a table of ports is that of a port, with its number
-of_port : (P : Firing → Type 0) (table : ℕ) (row_at : ℕ × Port → Option ℕ) (ports : List Port) (x : Firing)
-    → ((place : ℕ) (p : Port) (row : ℕ) → slice_get ports place ≡ Some p → row_at (place + 1, p) ≡ Some row → P (firing table place row))
-    → first_ready table row_at 0 (numbered 1 ports) ≡ Some x → P x
-of_port P table row_at ports x cases e =
-    let fires = ready_cases table row_at 0 (numbered 1 ports) x e in
-    let stands = numbered_port 1 ports fires.place fires.object fires.stands in
-    let number : fires.object.0 ≡ fires.place + 1 = numbered_number 1 ports fires.place fires.object fires.stands ∙ omega arith in
-    let ready : row_at (fires.place + 1, fires.object.1) ≡ Some x.row = subst (λ (n : ℕ). row_at (n, fires.object.1) ≡ Some x.row) number fires.ready in
-    let is : x ≡ firing table fires.place x.row = fires.is ∙ ap (λ (n : ℕ). firing table n x.row) (omega arith) in
-    subst P (sym is) (cases fires.place fires.object.1 x.row stands ready)
-
--- and one of a table of carriers that of a carrier
-of_carrier : (P : Firing → Type 0) (table : ℕ) (row_at : Carrier → Option ℕ) (carriers : List Carrier) (x : Firing)
-    → ((place : ℕ) (c : Carrier) (row : ℕ) → slice_get carriers place ≡ Some c → row_at c ≡ Some row → P (firing table place row))
-    → first_ready table row_at 0 carriers ≡ Some x → P x
-of_carrier P table row_at carriers x cases e =
-    let fires = ready_cases table row_at 0 carriers x e in
-    let is : x ≡ firing table fires.place x.row = fires.is ∙ ap (λ (n : ℕ). firing table n x.row) (omega arith) in
-    subst P (sym is) (cases fires.place fires.object x.row fires.stands fires.ready)
-
-either : {P A : Type 0} (first second : Option A) (x : A) → (first ≡ Some x → P) → (second ≡ Some x → P) → option_or first second ≡ Some x → P
-either (Some y) second x at_first at_second e = at_first e
-either None second x at_first at_second e = at_second e
-
--- what is true of each row that is ready at an object is true of the least
-pub least_cases : (P : Firing → Type 0) (f : Floor) (x : Firing)
-    → ((place : ℕ) (p : Port) (row : ℕ) → slice_get f.ports place ≡ Some p → transfer_row f.carriers (place + 1, p) ≡ Some row → P (firing 4 place row))
-    → ((place : ℕ) (p : Port) (row : ℕ) → slice_get f.ports place ≡ Some p → reservation_row (place + 1, p) ≡ Some row → P (firing 6 place row))
-    → ((place : ℕ) (p : Port) (row : ℕ) → slice_get f.ports place ≡ Some p → association_row f.carriers (place + 1, p) ≡ Some row → P (firing 7 place row))
-    → ((place : ℕ) (c : Carrier) (row : ℕ) → slice_get f.carriers place ≡ Some c → id_row c ≡ Some row → P (firing 8 place row))
-    → ((place : ℕ) (c : Carrier) (row : ℕ) → slice_get f.carriers place ≡ Some c → map_row c ≡ Some row → P (firing 9 place row))
-    → floor_least f ≡ Some x → P x
-least_cases P f x transfers reservations associations ids maps =
-    either (ready_transfer f) _ x (of_port P 4 (transfer_row f.carriers) f.ports x transfers)
-    (either (ready_reservation f) _ x (of_port P 6 reservation_row f.ports x reservations)
-    (either (ready_association f) _ x (of_port P 7 (association_row f.carriers) f.ports x associations)
-    (either (ready_id f) (ready_map f) x (of_carrier P 8 id_row f.carriers x ids) (of_carrier P 9 map_row f.carriers x maps))))
-
--- ---- its table
-
--- it is one of these
-pub least_table : (f : Floor) (x : Firing) → floor_least f ≡ Some x → is_one_of (4 ∷ 6 ∷ 7 ∷ 8 ∷ 9 ∷ []) x.table ≡ true
-least_table f x =
-    least_cases (λ (y : Firing). is_one_of (4 ∷ 6 ∷ 7 ∷ 8 ∷ 9 ∷ []) y.table ≡ true) f x (λ place p row s e. refl) (λ place p row s e. refl)
-    (λ place p row s e. refl) (λ place c row s e. refl) (λ place c row s e. refl)
-
--- and so none of the tables of communication, control and notes
-pub not_table_1 : (f : Floor) (x : Firing) → floor_least f ≡ Some x → (x.table == 1) ≡ false
-not_table_1 f x =
-    least_cases (λ (y : Firing). (y.table == 1) ≡ false) f x (λ place p row s e. refl) (λ place p row s e. refl) (λ place p row s e. refl)
-    (λ place c row s e. refl) (λ place c row s e. refl)
-
-pub not_table_2 : (f : Floor) (x : Firing) → floor_least f ≡ Some x → (x.table == 2) ≡ false
-not_table_2 f x =
-    least_cases (λ (y : Firing). (y.table == 2) ≡ false) f x (λ place p row s e. refl) (λ place p row s e. refl) (λ place p row s e. refl)
-    (λ place c row s e. refl) (λ place c row s e. refl)
-
-pub not_table_3 : (f : Floor) (x : Firing) → floor_least f ≡ Some x → (x.table == 3) ≡ false
-not_table_3 f x =
-    least_cases (λ (y : Firing). (y.table == 3) ≡ false) f x (λ place p row s e. refl) (λ place p row s e. refl) (λ place p row s e. refl)
-    (λ place c row s e. refl) (λ place c row s e. refl)
+-- tables 5 and 10 may be passed over
+pub least_so : (f : Floor) → floor_least f ≡ option_or (first_port 4 f) (option_or (first_port 6 f) (option_or (first_port 7 f) (option_or (first_carrier 8 f) (first_carrier 9 f))))
+least_so f =
+    let access : first_port 5 f ≡ None = none_ready 5 (λ port. access_machine.ready port f) (numbers_from 1 f.ports) (λ port. none_of (access_machine.ready port f) (λ row e. no_access f port row e)) in
+    let accessing : first_carrier 10 f ≡ None = none_ready 10 (λ carrier. accessing_machine.ready carrier f) (map number_of f.carriers) (λ carrier. none_of (accessing_machine.ready carrier f) (λ row e. no_accessing f carrier row e)) in
+    rw (access, accessing, or_none (first_carrier 9 f)) refl

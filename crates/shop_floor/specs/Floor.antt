@@ -2,29 +2,52 @@
 use Rattle.std.specs.Prelude.{ℕ, ◌+◌, Bool, true, false, not, ◌&&◌, if◌then◌else◌, List, [], ◌∷◌, ◌++◌, codes, Option, Some, None}
 use Rattle.std.specs.List.{list_any, starts_with}
 use Rattle.std.specs.Prelude.{nat_eq}
-use Rattle.gem_tables.specs.Table.{update_at}
 use Rattle.load_port.specs.declared.port.Port.{Port}
 use Rattle.load_port.specs.declared.port.Arrival.{Arrival}
-use Rattle.load_port.specs.Ports.{first_ports}
+use Rattle.load_port.specs.Record.{is_unloadable}
+use Rattle.load_port.specs.Ports.{first_ports, port_numbered, change_port}
 use Rattle.carrier.specs.declared.carrier.Carrier.{Carrier}
-use Rattle.carrier.specs.Carriers.{has_name}
+use Rattle.carrier.specs.Carriers.{has_name, change_numbered}
 
--- the ports in the order of their numbers, and the carriers in the order in which they were created
+-- the ports in the order of their numbers, the carriers in the order in which they were created, and the number that the next
+-- carrier gets
 pub record Floor : Type 0 where
   pub ports : List Port
   pub carriers : List Carrier
+  pub next_carrier : ℕ
 
--- so many ports, without a carrier
+-- the three together
+abbrev pub floor_of : List Port → List Carrier → ℕ → Floor
+floor_of ports carriers next = record { ports = ports; carriers = carriers; next_carrier = next }
+
+-- so many ports, without a carrier; the first one gets the number 1
 abbrev pub opening : ℕ → Floor
-opening ports = record { ports = first_ports ports; carriers = [] }
+opening ports = floor_of (first_ports ports) [] 1
 
--- a change of the port of a place, counted from 0
+-- a change of the port of a number, counted from 1
 abbrev pub with_port : ℕ → (Port → Port) → Floor → Floor
-with_port place change f = record f { ports = update_at place change f.ports }
+with_port number change f = record f { ports = change_port number change f.ports }
 
--- a change of the carrier of a place, counted from 0
+-- a change of the carrier of a number of creation
 abbrev pub with_carrier : ℕ → (Carrier → Carrier) → Floor → Floor
-with_carrier place change f = record f { carriers = update_at place change f.carriers }
+with_carrier number change f = record f { carriers = change_numbered number change f.carriers }
+
+-- the numbers of the ports, the first of which is given
+abbrev pub numbers_from : ℕ → List Port → List ℕ
+numbers_from n [] = []
+numbers_from n (p ∷ ps) = n ∷ numbers_from (n + 1) ps
+
+-- the number of a carrier
+abbrev pub number_of : Carrier → ℕ
+number_of c = c.number
+
+-- the port of a number is READY TO UNLOAD
+abbrev pub is_unloadable_port : ℕ → List Port → Bool
+is_unloadable_port number ports = of (port_numbered number ports)
+  where
+    of : Option Port → Bool
+    of None = false
+    of (Some p) = is_unloadable p.states.transfer
 
 -- ---- names
 
@@ -32,9 +55,15 @@ with_carrier place change f = record f { carriers = update_at place change f.car
 abbrev pub digit : ℕ → ℕ
 digit n = 48 + n
 
--- the name of a port, of which there are fewer than ten (this tool's profile, object names)
-abbrev pub port_name : ℕ → List ℕ
-port_name port = codes "P" ++ digit port ∷ []
+-- the name of a port, of which there are fewer than ten; empty where there is none (this tool's profile, object names)
+abbrev pub port_name : ℕ → Option Port → List ℕ
+port_name port None = []
+port_name port (Some p) = codes "P" ++ digit port ∷ []
+
+-- the name of a carrier, empty where there is none
+abbrev pub carrier_name : Option Carrier → List ℕ
+carrier_name None = []
+carrier_name (Some c) = c.name
 
 -- the names that the tool gives begin so (this tool's profile, carriers)
 abbrev pub unread : List ℕ

@@ -1,8 +1,7 @@
 pub mod Floor
 pub mod Rows
-pub mod Ready
+pub mod Machines
 pub mod Left
 pub mod Valid
 pub mod Requests
-pub mod Firings
 pub mod Kept

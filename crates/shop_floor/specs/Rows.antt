@@ -1,60 +1,29 @@
--- The rows of tables 4 to 10: where each starts, and what it does (after SEMI E87; this tool's profile, tables 4 to 10).
--- The printed lines stand in load_port and carrier; here stands what goes beyond the states of one object.
-use Rattle.std.specs.Prelude.{ℕ, ◌+◌, ◌-◌, ◌==◌, Bool, true, false, not, ◌&&◌, ◌||◌, nat_le, if◌then◌else◌, List, [], ◌∷◌, length, find, Option, Some, None, is_some, slice_get}
+-- What rows of ports want and do besides the states of their port (after SEMI E87; this tool's profile, tables 4 to 7). Their
+-- tables name it by a word, in load_port.
+use Rattle.std.specs.Prelude.{ℕ, ◌==◌, Bool, true, false, not, ◌&&◌, if◌then◌else◌, List, [], ◌∷◌, find, Option, Some, None, is_some}
 use Rattle.std.specs.List.{list_any}
 use Rattle.std.specs.Str.{bytes_eq}
-use Rattle.gem_tables.specs.Table.{Firing, firing}
+use Rattle.gem_tables.specs.Table.{row_of, firing}
+use Rattle.gem_tables.specs.declared.firing.Firing.{Firing}
+use Rattle.load_port.specs.Tables as word
+use Rattle.load_port.specs.Tables.{PortWant, PortEffect, PortRow, association_table}
 use Rattle.load_port.specs.declared.port.Port.{Port}
 use Rattle.load_port.specs.declared.port.Arrival.{Arrival}
-use Rattle.load_port.specs.Record.{port_starts}
-use Rattle.load_port.specs.Ports as ports
+use Rattle.load_port.specs.Record.{is_occupied}
+use Rattle.load_port.specs.Ports.{port_numbered, change_port}
 use Rattle.carrier.specs.declared.carrier.Carrier.{Carrier}
-use Rattle.carrier.specs.Record.{carrier_starts}
-use Rattle.carrier.specs.Carriers as carriers
-use Rattle.carrier.specs.Carriers.{has_name, is_known, is_port, change_named, found_or_created, without, came_to, binds}
-use Rattle.shop_floor.specs.Floor.{Floor, with_port, with_carrier, port_name}
+use Rattle.carrier.specs.Carriers.{has_name, is_known, is_port, is_present_at, is_finished, change_named, found_or_created, next_number, without, came_to, binds}
+use Rattle.shop_floor.specs.Floor.{Floor, with_port}
 
--- ---- table 7, association
+-- ---- what they want
 
--- no carrier belongs to the port
-abbrev pub freed : Port → Port
-freed p = record p { carrier = None }
-
--- this carrier belongs to the port, and what came there is told of
-abbrev pub taken_by : List ℕ → Port → Port
-taken_by name p = record p { carrier = Some name; arrival = None }
+-- the carrier at the port may be taken away
+abbrev pub has_finished : ℕ → List Carrier → Bool
+has_finished port carriers = list_any (λ c. is_present_at port c && is_finished c.states) carriers
 
 -- the carrier waits to be bound to this port
 abbrev pub is_directed : ℕ → Carrier → Bool
 is_directed port c = is_port port c.port && (not c.present && not c.bound)
-
--- the carrier that belongs to the port is bound to it
-abbrev pub bound_to : ℕ → Option Carrier → Floor → Floor
-bound_to place None f = f
-bound_to place (Some c) f =
-    record f {
-      ports = (with_port place (λ p. record p { carrier = Some c.name }) f).ports;
-      carriers = change_named c.name binds f.carriers;
-    }
-
--- row 1: the carrier that was directed to the port belongs to it
-abbrev pub binding : ℕ → Floor → Floor
-binding place f = bound_to place (find (is_directed (place + 1)) f.carriers) f
-
--- the carrier of a name is forgotten
-abbrev pub forgets : Option (List ℕ) → List Carrier → List Carrier
-forgets None cs = cs
-forgets (Some name) cs = without name cs
-
--- the carrier that belongs to a port
-abbrev pub owner : Option Port → Option (List ℕ)
-owner None = None
-owner (Some p) = p.carrier
-
--- the carrier that came to a port
-abbrev pub arrival_at : Option Port → Option Arrival
-arrival_at None = None
-arrival_at (Some p) = p.arrival
 
 -- what came is the port's carrier
 abbrev pub is_own : Option (List ℕ) → Option Arrival → Bool
@@ -66,109 +35,127 @@ abbrev pub is_elsewhere : ℕ → Option (List ℕ) → List Carrier → Bool
 is_elsewhere port None carriers = false
 is_elsewhere port (Some name) carriers = list_any (λ c. has_name name c && (c.present && not (is_port port c.port))) carriers
 
--- rows 2 and 6: the port's carrier is forgotten
+-- what a row wants is so of the port of this number
+abbrev pub port_wants : PortWant → ℕ → Port → List Carrier → Bool
+port_wants word.nothing_more port p carriers = true
+port_wants word.carrier_finished port p carriers = has_finished port carriers
+port_wants word.carrier_present port p carriers = is_occupied p.states.transfer
+port_wants word.carrier_directed port p carriers = is_some (find (is_directed port) carriers)
+port_wants word.carrier_came port p carriers = is_some p.arrival
+port_wants word.other_came port p carriers = is_some p.arrival && not (is_own p.carrier p.arrival)
+port_wants word.own_came port p carriers = is_own p.carrier p.arrival
+port_wants word.own_elsewhere port p carriers = is_elsewhere port p.carrier carriers
+
+-- ---- what they do
+
+-- no carrier belongs to the port
+abbrev pub freed : Port → Port
+freed p = record p { carrier = None }
+
+-- this carrier belongs to the port
+abbrev pub owned_by : List ℕ → Port → Port
+owned_by name p = record p { carrier = Some name }
+
+-- this carrier belongs to the port, and what came there is told of
+abbrev pub taken_by : List ℕ → Port → Port
+taken_by name p = record p { carrier = Some name; arrival = None }
+
+-- the carrier that belongs to a port
+abbrev pub owner : Option Port → Option (List ℕ)
+owner None = None
+owner (Some p) = p.carrier
+
+-- the carrier that came to a port
+abbrev pub arrival_at : Option Port → Option Arrival
+arrival_at None = None
+arrival_at (Some p) = p.arrival
+
+-- the carrier that waits belongs to the port, and is bound to it
+abbrev pub bound_to : ℕ → Option Carrier → Floor → Floor
+bound_to port None f = f
+bound_to port (Some c) f =
+    record f { ports = change_port port (owned_by c.name) f.ports; carriers = change_named c.name binds f.carriers }
+
+-- the first carrier that waits to be bound to the port is
+abbrev pub binding : ℕ → Floor → Floor
+binding port f = bound_to port (find (is_directed port) f.carriers) f
+
+-- the carrier of a name is forgotten
+abbrev pub forgets : Option (List ℕ) → List Carrier → List Carrier
+forgets None cs = cs
+forgets (Some name) cs = without name cs
+
+-- the port's carrier is forgotten, and goes on to belong to it
+abbrev pub without_owner : ℕ → Floor → Floor
+without_owner port f = record f { carriers = forgets (owner (port_numbered port f.ports)) f.carriers }
+
+-- the port's carrier is forgotten, and none belongs to it
 abbrev pub forgetting : ℕ → Floor → Floor
-forgetting place f =
-    record f { ports = (with_port place freed f).ports; carriers = forgets (owner (slice_get f.ports place)) f.carriers }
+forgetting port f =
+    record f { ports = change_port port freed f.ports; carriers = forgets (owner (port_numbered port f.ports)) f.carriers }
 
 -- what came to the port belongs to it, and is present there with its map; it is created where it isn't known
 abbrev pub arrived : ℕ → Option Arrival → Floor → Floor
-arrived place None f = f
-arrived place (Some a) f =
+arrived port None f = f
+arrived port (Some a) f =
     record f {
-      ports = (with_port place (taken_by a.name) f).ports;
-      carriers = change_named a.name (came_to (place + 1) a.is_read a.map) (found_or_created a.name f.carriers);
+      ports = change_port port (taken_by a.name) f.ports;
+      carriers = change_named a.name (came_to port a.is_read a.map) (found_or_created f.next_carrier a.name f.carriers);
+      next_carrier = next_number f.next_carrier a.name f.carriers;
     }
 
--- rows 3 and 5: what came belongs to the port
 abbrev pub arriving : ℕ → Floor → Floor
-arriving place f = arrived place (arrival_at (slice_get f.ports place)) f
+arriving port f = arrived port (arrival_at (port_numbered port f.ports)) f
 
--- row 4: what came belongs to the port, and the carrier that did is forgotten
-abbrev pub replacing : ℕ → Floor → Floor
-replacing place f = arriving place (record f { carriers = forgets (owner (slice_get f.ports place)) f.carriers })
+-- what a row does
+abbrev pub port_does : PortEffect → ℕ → Floor → Floor
+port_does word.no_more port f = f
+port_does word.binds port f = binding port f
+port_does word.forgets port f = forgetting port f
+port_does word.arrives port f = arriving port f
+port_does word.replaces port f = arriving port (without_owner port f)
+port_does word.frees port f = with_port port freed f
 
--- what a row of table 7 does besides the state of the port
-abbrev pub association_effect : ℕ → ℕ → Floor → Floor
-association_effect row place f =
-    if row == 1 then binding place f
-    else (if (row == 2) || (row == 6) then forgetting place f
-    else (if (row == 3) || (row == 5) then arriving place f
-    else (if row == 4 then replacing place f else (if row == 7 then with_port place freed f else f))))
-
--- ---- all tables
-
--- the tables of ports
-abbrev pub is_port_table : ℕ → Bool
-is_port_table table = nat_le 4 table && nat_le table 7
-
--- the tables of carriers
-abbrev pub is_carrier_table : ℕ → Bool
-is_carrier_table table = nat_le 8 table && nat_le table 10
-
--- What a row of table 7 wants besides the state of the port: 1 a carrier that was directed to it; 3 one that came, 4 another
--- than the port's, and 5 the port's; 7 that the port's carrier is present at another port.
-abbrev pub may_associate : ℕ → ℕ → Port → List Carrier → Bool
-may_associate row place p cs =
-    if row == 1 then is_some (find (is_directed (place + 1)) cs)
-    else (if row == 3 then is_some p.arrival
-    else (if row == 4 then is_some p.arrival && not (is_own p.carrier p.arrival)
-    else (if row == 5 then is_own p.carrier p.arrival else (if row == 7 then is_elsewhere (place + 1) p.carrier cs else true))))
-
--- a row of a port starts by the port's states; one of table 7 wants more
-abbrev pub port_starts_at : ℕ → ℕ → ℕ → Option Port → List Carrier → Bool
-port_starts_at table row place None cs = false
-port_starts_at table row place (Some p) cs =
-    port_starts table row p.states && (if table == 7 then may_associate row place p cs else true)
-
--- the row that creates a carrier is fired for one that was just made; every other row starts by the carrier's states
-abbrev pub carrier_starts_at : ℕ → ℕ → Option Carrier → Bool
-carrier_starts_at table row None = false
-carrier_starts_at table row (Some c) = ((table == 8) && (row == 1)) || carrier_starts table row c.states
-
--- the row of a firing starts
-abbrev pub floor_starts : Firing → Floor → Bool
-floor_starts x f =
-    if is_port_table x.table then port_starts_at x.table x.row x.object (slice_get f.ports x.object) f.carriers
-    else (if is_carrier_table x.table then carrier_starts_at x.table x.row (slice_get f.carriers x.object) else false)
-
--- the effect of a row besides the states of its object
-abbrev pub effect : Firing → Floor → Floor
-effect x f = if x.table == 7 then association_effect x.row x.object f else f
-
--- a row fires: the states of its object, and its effect
-abbrev pub floor_fired : Firing → Floor → Floor
-floor_fired x f =
-    if is_port_table x.table then with_port x.object (ports.fires_row x.table x.row) (effect x f)
-    else (if is_carrier_table x.table then with_carrier x.object (carriers.fires_row x.table x.row) f else f)
-
--- ---- creation
+-- ---- what they create
 
 -- a carrier came whose name isn't known
 abbrev pub is_new : Option Arrival → List Carrier → Bool
 is_new None cs = false
 is_new (Some a) cs = not (is_known a.name cs)
 
--- a row that lets a carrier come
-abbrev pub is_arrival_row : ℕ → Bool
-is_arrival_row row = (row == 3) || ((row == 4) || (row == 5))
+-- the creation row of what came, where it isn't known
+abbrev pub creation_of_arrival : Option Arrival → Floor → List Firing
+creation_of_arrival arrival f = if is_new arrival f.carriers then firing 8 f.next_carrier 1 ∷ [] else []
 
--- the firing creates a carrier
-abbrev pub creates : Firing → Floor → Bool
-creates x f = ((x.table == 7) && is_arrival_row x.row) && is_new (arrival_at (slice_get f.ports x.object)) f.carriers
+-- the rows of the carrier that a row creates (this tool's profile, settling)
+abbrev pub port_creates : PortEffect → ℕ → Floor → List Firing
+port_creates word.arrives port f = creation_of_arrival (arrival_at (port_numbered port f.ports)) f
+port_creates word.replaces port f = creation_of_arrival (arrival_at (port_numbered port f.ports)) f
+port_creates _ port f = []
 
--- the rows of the carrier that a firing creates, which is the last (this tool's profile, settling)
-abbrev pub creation_rows : Firing → Floor → List Firing
-creation_rows x f = if creates x f then firing 8 (length (floor_fired x f).carriers - 1) 1 ∷ [] else []
+-- what has changed where there was no memory for it: the carrier of the port is forgotten before another is created
+abbrev pub port_lacks : PortEffect → ℕ → Floor → Floor
+port_lacks word.replaces port f = without_owner port f
+port_lacks _ port f = f
 
--- ---- names of objects
+-- ---- of a row that was looked for
 
-abbrev pub name_of : Option Carrier → List ℕ
-name_of None = []
-name_of (Some c) = c.name
+module _ {S : Type 0} where
+  -- one that isn't there does nothing
+  abbrev pub found_does : Option (PortRow S) → ℕ → Floor → Floor
+  found_does None port f = f
+  found_does (Some r) port f = port_does r.does port f
 
--- the name of the object of a firing: a port's, or a carrier's (this tool's profile, object names)
-abbrev pub object_name : Firing → Floor → List ℕ
-object_name x f =
-    if is_port_table x.table then port_name (x.object + 1)
-    else (if is_carrier_table x.table then name_of (slice_get f.carriers x.object) else [])
+  -- it creates nothing
+  abbrev pub found_creates : Option (PortRow S) → ℕ → Floor → List Firing
+  found_creates None port f = []
+  found_creates (Some r) port f = port_creates r.does port f
+
+  abbrev pub found_lacks : Option (PortRow S) → ℕ → Floor → Floor
+  found_lacks None port f = f
+  found_lacks (Some r) port f = port_lacks r.does port f
+
+-- what is left of a row that found no memory for the carrier that it creates: row 7.4 has forgotten the port's carrier, and
+-- nothing else has changed
+abbrev pub without_memory : Firing → Floor → Floor
+without_memory x f = if x.row.table == 7 then found_lacks (row_of association_table x.row.row) x.object f else f

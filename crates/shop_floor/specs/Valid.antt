@@ -1,5 +1,5 @@
 -- Facts that hold of the ports and the carriers at every moment.
-use Rattle.std.specs.Prelude.{◌≡◌, ◌≤◌, true, ◌||◌, List, length, Option, Some, None, is_some}
+use Rattle.std.specs.Prelude.{◌≡◌, ℕ, ◌+◌, ◌≤◌, true, ◌||◌, List, [], ◌∷◌, length, Option, Some, None, is_some}
 use Rattle.std.specs.List.{AllByRecursion}
 use Rattle.gem_ids.specs.declared.numbers.PortNo.{PortNo}
 use Rattle.load_port.specs.declared.port.Port.{Port}
@@ -23,10 +23,16 @@ Belongs ports c = (c.present || c.bound) ≡ true → owner (port_of c.port port
 abbrev pub IsTold : Port → Type 0
 IsTold p = is_associated p.states.association ≡ is_some p.carrier
 
--- Each name is that of one carrier; at most twelve carriers are not present; each that is present or bound belongs to the port
+-- the numbers of the carriers rise from the first one that may be given on, and are below the next
+abbrev pub RiseFrom : ℕ → ℕ → List Carrier → Type 0
+RiseFrom first next [] = first ≤ next
+RiseFrom first next (c ∷ cs) = (first ≤ c.number) × RiseFrom (c.number + 1) next cs
+
+-- Each name is that of one carrier, and so is each number; at most twelve carriers are not present; each that is present or bound belongs to the port
 -- where it is; and there are at most four ports. So at most sixteen carriers are known.
 pub record IsFloor (f : Floor) : Type 0 where
   pub apart : are_named_apart f.carriers ≡ true
+  pub rising : RiseFrom 1 f.next_carrier f.carriers
   pub absent : absent_count f.carriers ≤ most_absent
   pub belong : AllByRecursion (Belongs f.ports) f.carriers
   pub told : AllByRecursion IsTold f.ports

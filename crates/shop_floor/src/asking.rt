@@ -1,42 +1,40 @@
 //! What is asked of the ports and the carriers together.
 
-ghost use Rattle.std.specs.Prelude.{◌≡◌, ◌+◌, ◌<◌, ◌&&◌, length, find, slice_get, Some};
+ghost use Rattle.std.specs.Prelude.{◌≡◌, ◌≤◌, ◌&&◌, find, Some};
+ghost use Rattle.load_port.specs.Ports.{most_ports, port_numbered};
 ghost use Rattle.carrier.specs.Carriers.{is_present_at, is_finished};
 ghost use Rattle.shop_floor.specs.Floor.{is_present};
-ghost use Rattle.shop_floor.specs.Rows.{is_directed, is_own, is_elsewhere, owner, arrival_at, is_new, is_arrival_row};
-ghost use Rattle.shop_floor.specs.Ready.{has_finished};
+ghost use Rattle.shop_floor.specs.Rows.{is_directed, is_own, is_elsewhere, owner, arrival_at, is_new, has_finished};
 
 use carrier::{Carrier, Carriers};
 use gem_ids::{CarrierId, PortNo, Text80};
 use load_port::{Arrival, Ports};
 
-// The number of the port of a place, counted from 0.
-pub(crate) fn number_at(place: usize, ports: &Ports) -> PortNo
-    requires { place < length ports.now }
-    ensures { result.0 ≡ place + 1 }
+// The number of a port.
+pub(crate) fn port_no(number: u64) -> PortNo
+    requires { number ≤ most_ports }
+    ensures { result.0 ≡ number }
 {
-    let count = ports.len();
-    prove!(place < count);
-    PortNo(place as u8 + 1)
+    PortNo(number as u8)
 }
 
 // ---- of a port
 
-// The carrier that belongs to the port of a place.
-pub(crate) fn owner_at(place: usize, ports: &Ports) -> Option<CarrierId>
-    ensures { result ≡ owner (slice_get ports.now place) }
+// The carrier that belongs to the port of a number.
+pub(crate) fn owner_at(number: u64, ports: &Ports) -> Option<CarrierId>
+    ensures { result ≡ owner (port_numbered number ports.now) }
 {
-    match ports.get(place) {
+    match ports.numbered(number) {
         Some(port) => port.carrier,
         None => None,
     }
 }
 
-// The carrier that came to the port of a place.
-pub(crate) fn arrival_at(place: usize, ports: &Ports) -> Option<Arrival>
-    ensures { result ≡ arrival_at (slice_get ports.now place) }
+// The carrier that came to the port of a number.
+pub(crate) fn arrival_at(number: u64, ports: &Ports) -> Option<Arrival>
+    ensures { result ≡ arrival_at (port_numbered number ports.now) }
 {
-    match ports.get(place) {
+    match ports.numbered(number) {
         Some(port) => port.arrival,
         None => None,
     }
@@ -128,19 +126,12 @@ fn is_directed(number: PortNo, carrier: &Carrier) -> bool
 
 // ---- what came
 
-// Whether a carrier came to the port of a place whose name isn't known.
-pub(crate) fn is_new_at(place: usize, ports: &Ports, carriers: &Carriers) -> bool
-    ensures { result ≡ is_new (arrival_at (slice_get ports.now place)) carriers.now }
+// Whether a carrier came to the port of a number whose name isn't known.
+pub(crate) fn is_new_at(number: u64, ports: &Ports, carriers: &Carriers) -> bool
+    ensures { result ≡ is_new (arrival_at (port_numbered number ports.now)) carriers.now }
 {
-    match arrival_at(place, ports) {
+    match arrival_at(number, ports) {
         Some(arrival) => !carriers.is_known(arrival.name.text()),
         None => false,
     }
-}
-
-// Whether it is a row of table 7 that lets a carrier come.
-pub(crate) fn is_arrival_row(row: u8) -> bool
-    ensures { result ≡ is_arrival_row row }
-{
-    row == 3 || row == 4 || row == 5
 }

@@ -1,16 +1,18 @@
 //! Laws of the definitions, for proofs to cite. Each function is empty: what it ensures holds of the definitions.
 
-ghost use Rattle.std.specs.Prelude.{◌≡◌, ℕ, suc, ◌+◌, ◌==◌, ◌<◌, ◌≤◌, true, false, List, [], ◌∷◌, length, slice_get, Some};
+ghost use Rattle.std.specs.Prelude.{◌≡◌, ℕ, suc, ◌+◌, ◌==◌, ◌<◌, ◌≤◌, true, false, List, [], ◌∷◌, length, Some};
 ghost use Rattle.std.specs.List.{AllByRecursion};
-ghost use Rattle.gem_tables.specs.Table.{Firing, firing, is_one_of};
+ghost use Rattle.gem_tables.specs.Table.{firing, is_one_of};
+ghost use Rattle.gem_tables.specs.declared.firing.Firing.{Firing};
 ghost use Rattle.load_port.specs.declared.port.Arrival.{Arrival};
-ghost use Rattle.load_port.specs.Ports.{most_ports};
+ghost use Rattle.load_port.specs.Caack.{is_done_code};
+ghost use Rattle.load_port.specs.Ports.{most_ports, port_numbered};
 ghost use Rattle.carrier.specs.declared.action.CarrierAction.{CarrierAction};
 ghost use Rattle.carrier.specs.declared.action.CarrierWord.TheVariants.{Bind, Notify};
 ghost use Rattle.carrier.specs.Carriers.{is_known, most_carriers};
 ghost use Rattle.shop_floor.specs.Floor.{Floor, opening};
-ghost use Rattle.shop_floor.specs.Rows.{is_port_table, floor_starts, floor_fired, creation_rows, creates, forgets, owner};
-ghost use Rattle.shop_floor.specs.Ready.{floor_least};
+ghost use Rattle.shop_floor.specs.Rows.{forgets, owner};
+ghost use Rattle.shop_floor.specs.Machines.{floor_starts, floor_fired, floor_least, creation_rows, creates};
 ghost use Rattle.shop_floor.specs.Left.{floor_left};
 ghost use Rattle.shop_floor.specs.Requests.{carrier_code, carrier_written, came};
 ghost use Rattle.shop_floor.specs.Valid.{IsFloor};
@@ -22,23 +24,27 @@ pub fn the_floor_comes_to_rest()
         → floor_least f ≡ Some x → floor_left (floor_fired x f) + length (creation_rows x f) < floor_left f }
     ensures follow { (f : Floor) (x : Firing)
         → AllByRecursion (λ (d : Firing). d ≡ firing 8 d.object 1) (creation_rows x f) }
-    ensures creation { (f : Floor) (place : ℕ) → floor_fired (firing 8 place 1) f ≡ f }
-    ensures no_more { (f : Floor) (place : ℕ) → creation_rows (firing 8 place 1) f ≡ [] }
+    ensures creation { (f : Floor) (carrier : ℕ) → floor_fired (firing 8 carrier 1) f ≡ f }
+    ensures no_more { (f : Floor) (carrier : ℕ) → creation_rows (firing 8 carrier 1) f ≡ [] }
 {}
 
-/// A row that fires by itself starts, and so do those that follow it, behind it. It is a row of table 4, 6, 7, 8 or 9.
+/// A row that fires by itself starts. It is a row of table 4, 6, 7, 8 or 9.
 pub fn a_ready_row_starts()
     ensures least { (f : Floor) (x : Firing) → floor_least f ≡ Some x → floor_starts x f ≡ true }
-    ensures follow { (f : Floor) (x : Firing) → floor_least f ≡ Some x
-        → AllByRecursion (λ (d : Firing). floor_starts d (floor_fired x f) ≡ true) (creation_rows x f) }
     ensures table { (f : Floor) (x : Firing)
-        → floor_least f ≡ Some x → is_one_of (4 ∷ 6 ∷ 7 ∷ 8 ∷ 9 ∷ []) x.table ≡ true }
+        → floor_least f ≡ Some x → is_one_of (4 ∷ 6 ∷ 7 ∷ 8 ∷ 9 ∷ []) x.row.table ≡ true }
 {}
 
-/// The port of a row that starts is there, so its place is below four.
+/// The rows that follow any row that starts do so behind it, too.
+pub fn a_creation_starts_behind_its_row()
+    ensures { (x : Firing) (f : Floor) → floor_starts x f ≡ true
+        → AllByRecursion (λ (d : Firing). floor_starts d (floor_fired x f) ≡ true) (creation_rows x f) }
+{}
+
+/// The port of a row that starts is there, so its number is at most four.
 pub fn a_row_of_a_port_that_starts_has_its_port()
     ensures { (x : Firing) (f : Floor)
-        → floor_starts x f ≡ true → is_port_table x.table ≡ true → IsFloor f → x.object < most_ports }
+        → floor_starts x f ≡ true → is_one_of (4 ∷ 5 ∷ 6 ∷ 7 ∷ []) x.row.table ≡ true → IsFloor f → x.object ≤ most_ports }
 {}
 
 /// What holds of the ports and the carriers holds at every moment: without a carrier at the beginning, behind each row that
@@ -47,7 +53,7 @@ pub fn the_floor_stays_valid()
     ensures opening { (ports : ℕ) → ports ≤ most_ports → IsFloor (opening ports) }
     ensures fired { (x : Firing) (f : Floor) → floor_starts x f ≡ true → IsFloor f → IsFloor (floor_fired x f) }
     ensures written { (a : CarrierAction) (f : Floor)
-        → carrier_code f a ≡ 0 → IsFloor f → IsFloor (carrier_written a f) }
+        → is_done_code (carrier_code f a) ≡ true → IsFloor f → IsFloor (carrier_written a f) }
     ensures came { (port : ℕ) (a : Arrival) (f : Floor) → IsFloor f → IsFloor (came port a f) }
 {}
 
@@ -55,12 +61,12 @@ pub fn the_floor_stays_valid()
 /// behind the port's carrier that is forgotten, and by Bind and CarrierNotification of one that isn't known.
 pub fn there_is_room_for_each_carrier()
     ensures few { (f : Floor) → IsFloor f → length f.carriers ≤ most_carriers }
-    ensures comes { (x : Firing) (f : Floor) → floor_starts x f ≡ true → creates x f ≡ true → (x.row == 4) ≡ false
+    ensures comes { (x : Firing) (f : Floor) → floor_starts x f ≡ true → creates x f ≡ true → (x.row.row == 4) ≡ false
         → IsFloor f → suc (length f.carriers) ≤ most_carriers }
-    ensures replaces { (x : Firing) (f : Floor) → floor_starts x f ≡ true → creates x f ≡ true → (x.row == 4) ≡ true
-        → IsFloor f → suc (length (forgets (owner (slice_get f.ports x.object)) f.carriers)) ≤ most_carriers }
-    ensures bind { (a : CarrierAction) (f : Floor) → a.word ≡ Bind → carrier_code f a ≡ 0
+    ensures replaces { (x : Firing) (f : Floor) → floor_starts x f ≡ true → creates x f ≡ true → (x.row.row == 4) ≡ true
+        → IsFloor f → suc (length (forgets (owner (port_numbered x.object f.ports)) f.carriers)) ≤ most_carriers }
+    ensures bind { (a : CarrierAction) (f : Floor) → a.word ≡ Bind → is_done_code (carrier_code f a) ≡ true
         → is_known a.id f.carriers ≡ false → IsFloor f → suc (length f.carriers) ≤ most_carriers }
-    ensures notify { (a : CarrierAction) (f : Floor) → a.word ≡ Notify → carrier_code f a ≡ 0
+    ensures notify { (a : CarrierAction) (f : Floor) → a.word ≡ Notify → is_done_code (carrier_code f a) ≡ true
         → IsFloor f → suc (length f.carriers) ≤ most_carriers }
 {}

@@ -6,7 +6,6 @@
 #![tactic(auto)]
 
 mod asking;
-mod firing;
 mod floor;
 pub mod laws;
 mod naming;
@@ -14,5 +13,5 @@ mod readiness;
 mod requests;
 mod rows;
 
-pub use firing::FloorFiring;
 pub use floor::ShopFloor;
+pub use rows::MOST_CREATED;

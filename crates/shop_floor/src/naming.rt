@@ -1,28 +1,33 @@
 //! Names of ports and of carriers (this tool's profile, object names and carriers).
 
-ghost use Rattle.std.specs.Prelude.{◌≡◌, ◌+◌, ◌<◌, slice_get};
-ghost use Rattle.shop_floor.specs.Floor.{port_name, is_taken_as_read, unread_name, arrival_of};
-ghost use Rattle.shop_floor.specs.Rows.{name_of};
+ghost use Rattle.std.specs.Prelude.{◌≡◌, ◌<◌};
+ghost use Rattle.load_port.specs.Ports.{port_numbered};
+ghost use Rattle.carrier.specs.Carriers.{carrier_numbered};
+ghost use Rattle.shop_floor.specs.Floor.{port_name, carrier_name, is_taken_as_read, unread_name, arrival_of};
 
 use crate::asking::is_present;
 use carrier::Carriers;
 use gem_ids::{CarrierId, PortNo, Text80};
-use load_port::Arrival;
+use load_port::{Arrival, Ports};
 
-// The name of the port of a place, counted from 0, which is below 9.
-pub(crate) fn port_name(place: usize) -> Text80
-    requires { place < 9 }
-    ensures { result ≡ port_name (place + 1) }
+// The name of the port of a number, or the empty text where there is none.
+pub(crate) fn port_name(number: u64, ports: &Ports) -> Text80
+    ensures { result ≡ port_name number (port_numbered number ports.now) }
 {
-    let digit = b'0' + (place as u8 + 1);
-    Text80::read(&[b'P', digit]).unwrap()
+    match ports.numbered(number) {
+        Some(_) => {
+            let digit = b'0' + number as u8;
+            Text80::read(&[b'P', digit]).unwrap()
+        }
+        None => Text80::empty(),
+    }
 }
 
-// The name of the carrier of a place, counted from 0, or the empty text where there is none.
-pub(crate) fn carrier_name(place: usize, carriers: &Carriers) -> Text80
-    ensures { result ≡ name_of (slice_get carriers.now place) }
+// The name of the carrier of a number of creation, or the empty text where there is none.
+pub(crate) fn carrier_name(number: u64, carriers: &Carriers) -> Text80
+    ensures { result ≡ carrier_name (carrier_numbered number carriers.now) }
 {
-    match carriers.get(place) {
+    match carriers.numbered(number) {
         Some(carrier) => carrier.name.text(),
         None => Text80::empty(),
     }

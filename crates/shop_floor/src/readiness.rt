@@ -1,23 +1,49 @@
-//! Which rows of tables 4 to 9 are ready by themselves, and which start (after SEMI E87; this tool's profile, tables 4 to 10).
+//! Which rows of tables 4 to 10 start, and which are ready by themselves (after SEMI E87; this tool's profile, tables 4 to 10).
 
-ghost use Rattle.std.specs.Prelude.{◌≡◌, ◌+◌, ◌&&◌, slice_get, option_map};
-ghost use Rattle.carrier.specs.Record.{is_id_verified, is_map_not_read};
-ghost use Rattle.gem_tables.specs.Table.{first_ready};
-ghost use Rattle.shop_floor.specs.Rows.{may_associate, port_starts_at, carrier_starts_at};
-ghost use Rattle.shop_floor.specs.Ready.{numbered, transfer_row, reservation_row, association_row, id_row, map_row};
-ghost use Rattle.shop_floor.specs.Firings.{firing_of, port_row, carrier_row};
+ghost use Rattle.std.specs.Prelude.{◌≡◌, true, [], ◌∷◌, map, Some};
+ghost use Rattle.load_port.specs.Tables.{transfer_number, transfer_table, access_table, reservation_number, reservation_table, association_number, association_table};
+ghost use Rattle.carrier.specs.Tables.{id_number, id_table, map_number, map_table, access_number, accessing_table};
+ghost use Rattle.carrier.specs.Wants.{carrier_wants, is_verified};
+ghost use Rattle.carrier.specs.Carriers.{carrier_numbered};
+ghost use Rattle.gem_tables.specs.Table.{first_itself, row_of, wants_found, is_one_of};
+ghost use Rattle.gem_tables.specs.Machine.{first_ready, ready_in};
+ghost use Rattle.shop_floor.specs.Floor.{Floor, numbers_from, number_of};
+ghost use Rattle.shop_floor.specs.Rows.{port_wants};
+ghost use Rattle.shop_floor.specs.Machines.{floor_machines, floor_starts};
 
-use crate::asking::{directed, has_finished, is_elsewhere, is_own, number_at};
-use crate::firing::FloorFiring;
+use crate::asking::{directed, has_finished, is_elsewhere, is_own, port_no};
+use crate::floor::ShopFloor;
 use carrier::{Carrier, Carriers, IdState, MapState};
 use gem_ids::PortNo;
-use load_port::{Association, Port, Ports, Transfer};
+use gem_tables::{Firing, RowId};
+use load_port::{Association, Port, Transfer};
 
-// ---- ports
+// ---- what a row wants
+
+// Whether what a row wants is so of the port of this number.
+fn port_wants(row: RowId, number: PortNo, port: &Port, carriers: &Carriers) -> bool
+    ensures transfer { row.table ≡ 4 → result ≡ wants_found (λ want. port_wants want number.0 port.now carriers.now) (row_of transfer_table row.row) }
+    ensures access { row.table ≡ 5 → result ≡ wants_found (λ want. port_wants want number.0 port.now carriers.now) (row_of access_table row.row) }
+    ensures reservation { row.table ≡ 6 → result ≡ wants_found (λ want. port_wants want number.0 port.now carriers.now) (row_of reservation_table row.row) }
+    ensures association { row.table ≡ 7 → result ≡ wants_found (λ want. port_wants want number.0 port.now carriers.now) (row_of association_table row.row) }
+{
+    match (row.table, row.row) {
+        (4, 4) => has_finished(number, carriers),
+        (6, 3) => port.states.transfer.is_occupied(),
+        (7, 1) => directed(number, carriers).is_some(),
+        (7, 3) => port.arrival.is_some(),
+        (7, 4) => port.arrival.is_some() && !is_own(port.carrier, port.arrival),
+        (7, 5) => is_own(port.carrier, port.arrival),
+        (7, 7) => is_elsewhere(number, port.carrier, carriers),
+        _ => true,
+    }
+}
+
+// ---- the ports
 
 // The row of table 4 that is ready at the port of this number.
 fn transfer_row(number: PortNo, port: &Port, carriers: &Carriers) -> Option<u8>
-    ensures { result ≡ transfer_row carriers.now (number.0, port.now) }
+    ensures { result ≡ first_itself transfer_number (λ want. port_wants want number.0 port.now carriers.now) transfer_table port.now.states.transfer }
 {
     if matches!(port.states.transfer, Transfer::TransferBlocked) && has_finished(number, carriers) {
         Some(4)
@@ -27,8 +53,8 @@ fn transfer_row(number: PortNo, port: &Port, carriers: &Carriers) -> Option<u8>
 }
 
 // The row of table 6 that is ready at a port.
-fn reservation_row(number: PortNo, port: &Port) -> Option<u8>
-    ensures { result ≡ reservation_row (number.0, port.now) }
+fn reservation_row(number: PortNo, port: &Port, carriers: &Carriers) -> Option<u8>
+    ensures { result ≡ first_itself reservation_number (λ want. port_wants want number.0 port.now carriers.now) reservation_table port.now.states.reservation }
 {
     if port.states.reservation.is_reserved() && port.states.transfer.is_occupied() {
         Some(3)
@@ -39,7 +65,7 @@ fn reservation_row(number: PortNo, port: &Port) -> Option<u8>
 
 // The row of table 7 that is ready at the port of this number.
 fn association_row(number: PortNo, port: &Port, carriers: &Carriers) -> Option<u8>
-    ensures { result ≡ association_row carriers.now (number.0, port.now) }
+    ensures { result ≡ first_itself association_number (λ want. port_wants want number.0 port.now carriers.now) association_table port.now.states.association }
 {
     let associated = matches!(port.states.association, Association::Associated);
     if port.arrival.is_some() {
@@ -57,37 +83,11 @@ fn association_row(number: PortNo, port: &Port, carriers: &Carriers) -> Option<u
     }
 }
 
-// The row of table 4, 6 or 7 that is ready at the port of this number.
-fn port_row(table: u8, number: PortNo, port: &Port, carriers: &Carriers) -> Option<u8>
-    ensures { result ≡ port_row table carriers.now (number.0, port.now) }
-{
-    match table {
-        4 => transfer_row(number, port, carriers),
-        6 => reservation_row(number, port),
-        _ => association_row(number, port, carriers),
-    }
-}
-
-// The row of table 4, 6 or 7 that is ready at the first port at which one is.
-pub(crate) fn ready_port(table: u8, ports: &Ports, carriers: &Carriers) -> Option<FloorFiring>
-    ensures { option_map firing_of result ≡ first_ready table (port_row table carriers.now) 0 (numbered 1 ports.now) }
-{
-    for object in 0..ports.len() {
-        if let Some(port) = ports.get(object) {
-            let number = number_at(object, ports);
-            if let Some(row) = port_row(table, number, &port, carriers) {
-                return Some(FloorFiring { table, object, row });
-            }
-        }
-    }
-    None
-}
-
-// ---- carriers
+// ---- the carriers
 
 // The row of table 8 that is ready at a carrier.
 fn id_row(carrier: &Carrier) -> Option<u8>
-    ensures { result ≡ id_row carrier.now }
+    ensures { result ≡ first_itself id_number (λ want. carrier_wants want carrier.now) id_table carrier.now.states.id }
 {
     if matches!(carrier.states.id, IdState::NotRead) && carrier.present {
         if carrier.bound && carrier.is_read {
@@ -102,9 +102,9 @@ fn id_row(carrier: &Carrier) -> Option<u8>
 
 // The row of table 9 that is ready at a carrier.
 fn map_row(carrier: &Carrier) -> Option<u8>
-    ensures { result ≡ map_row carrier.now }
+    ensures { result ≡ first_itself map_number (λ want. carrier_wants want carrier.now) map_table carrier.now.states.map }
 {
-    if is_map_due(carrier) {
+    if matches!(carrier.states.map, MapState::NotRead) && is_verified(carrier) {
         if carrier.is_usable() && carrier.is_host_map() {
             Some(1)
         } else {
@@ -115,80 +115,120 @@ fn map_row(carrier: &Carrier) -> Option<u8>
     }
 }
 
-// Whether the map of a carrier is NOT READ, and the carrier is present and ID VERIFIED.
-fn is_map_due(carrier: &Carrier) -> bool
-    ensures { result ≡ (is_map_not_read carrier.now.states.map && (carrier.now.present && is_id_verified carrier.now.states.id)) }
+// Whether the carrier is present, and its id is VERIFIED.
+fn is_verified(carrier: &Carrier) -> bool
+    ensures { result ≡ is_verified carrier.now }
 {
-    matches!(carrier.states.map, MapState::NotRead)
-        && carrier.present
-        && matches!(carrier.states.id, IdState::Verified)
+    carrier.present && matches!(carrier.states.id, IdState::Verified)
 }
 
 // The row of table 8 or 9 that is ready at a carrier.
 fn carrier_row(table: u8, carrier: &Carrier) -> Option<u8>
-    ensures { result ≡ carrier_row table carrier.now }
+    requires { is_one_of (8 ∷ 9 ∷ []) table ≡ true }
+    ensures { (f : Floor) → carrier_numbered carrier.now.number f.carriers ≡ Some carrier.now → result ≡ ready_in floor_machines table carrier.now.number f }
 {
-    match table {
-        8 => id_row(carrier),
-        _ => map_row(carrier),
+    if table == 8 {
+        id_row(carrier)
+    } else {
+        map_row(carrier)
     }
 }
 
-// The row of table 8 or 9 that is ready at the first carrier at which one is.
-pub(crate) fn ready_carrier(table: u8, carriers: &Carriers) -> Option<FloorFiring>
-    ensures { option_map firing_of result ≡ first_ready table (carrier_row table) 0 carriers.now }
+// Whether what a row wants is so of a carrier.
+fn carrier_wants(row: RowId, carrier: &Carrier) -> bool
+    ensures id { row.table ≡ 8 → result ≡ wants_found (λ want. carrier_wants want carrier.now) (row_of id_table row.row) }
+    ensures map { row.table ≡ 9 → result ≡ wants_found (λ want. carrier_wants want carrier.now) (row_of map_table row.row) }
+    ensures accessing { row.table ≡ 10 → result ≡ wants_found (λ want. carrier_wants want carrier.now) (row_of accessing_table row.row) }
 {
-    for object in 0..carriers.len() {
-        if let Some(carrier) = carriers.get(object) {
-            if let Some(row) = carrier_row(table, &carrier) {
-                return Some(FloorFiring { table, object, row });
-            }
-        }
-    }
-    None
-}
-
-// ---- rows that start
-
-// Whether the row of a port starts there.
-pub(crate) fn starts_at_port(x: FloorFiring, ports: &Ports, carriers: &Carriers) -> bool
-    ensures { result ≡ port_starts_at x.table x.row x.object (slice_get ports.now x.object) carriers.now }
-{
-    match ports.get(x.object) {
-        Some(port) => {
-            let number = number_at(x.object, ports);
-            let mut states = port.states;
-            states.fire(x.table, x.row)
-                && (x.table != 7 || may_associate(x, number, &port, carriers))
-        }
-        None => false,
-    }
-}
-
-// Whether what a row of table 7 wants is so, besides the states of the port, which has this number.
-fn may_associate(x: FloorFiring, number: PortNo, port: &Port, carriers: &Carriers) -> bool
-    requires { number.0 ≡ x.object + 1 }
-    ensures { result ≡ may_associate x.row x.object port.now carriers.now }
-{
-    match x.row {
-        1 => directed(number, carriers).is_some(),
-        3 => port.arrival.is_some(),
-        4 => port.arrival.is_some() && !is_own(port.carrier, port.arrival),
-        5 => is_own(port.carrier, port.arrival),
-        7 => is_elsewhere(number, port.carrier, carriers),
+    match (row.table, row.row) {
+        (8, 2) => carrier.present && carrier.bound && carrier.is_read,
+        (8, 3) => carrier.present,
+        (9, 1) => is_verified(carrier) && carrier.is_usable() && carrier.is_host_map(),
+        (9, 2) => is_verified(carrier),
+        // no substrate is outside its slot while none are built
+        (10, 1 | 2 | 3) => false,
         _ => true,
     }
 }
 
-// Whether the row of a carrier starts there.
-pub(crate) fn starts_at_carrier(x: FloorFiring, carriers: &Carriers) -> bool
-    ensures { result ≡ carrier_starts_at x.table x.row (slice_get carriers.now x.object) }
-{
-    match carriers.get(x.object) {
-        Some(carrier) => {
-            let mut states = carrier.states;
-            (x.table == 8 && x.row == 1) || states.fire(x.table, x.row)
+// ---- the floor
+
+impl ShopFloor {
+    // Whether a row of a table of ports starts.
+    pub(crate) fn starts_at_port(&self, x: Firing) -> bool
+        requires { is_one_of (4 ∷ 5 ∷ 6 ∷ 7 ∷ []) x.row.table ≡ true }
+        ensures { result ≡ floor_starts x self.now }
+    {
+        match self.ports.numbered(x.object) {
+            Some(port) => {
+                let number = port_no(x.object);
+                let mut states = port.states;
+                states.fire(x.row.table, x.row.row)
+                    && port_wants(x.row, number, &port, &self.carriers)
+            }
+            None => false,
         }
-        None => false,
+    }
+
+    // Whether a row of a table of carriers starts.
+    pub(crate) fn starts_at_carrier(&self, x: Firing) -> bool
+        requires { is_one_of (8 ∷ 9 ∷ 10 ∷ []) x.row.table ≡ true }
+        ensures { result ≡ floor_starts x self.now }
+    {
+        match self.carriers.numbered(x.object) {
+            Some(carrier) => {
+                let creates = x.row.table == 8 && x.row.row == 1;
+                let mut states = carrier.states;
+                (creates || states.fire(x.row.table, x.row.row)) && carrier_wants(x.row, &carrier)
+            }
+            None => false,
+        }
+    }
+
+    // The row of table 4, 6 or 7 that is ready at the port of this number.
+    fn port_row(&self, table: u8, number: u64) -> Option<u8>
+        requires { is_one_of (4 ∷ 6 ∷ 7 ∷ []) table ≡ true }
+        ensures { result ≡ ready_in floor_machines table number self.now }
+    {
+        match self.ports.numbered(number) {
+            Some(port) => {
+                let number = port_no(number);
+                match table {
+                    4 => transfer_row(number, &port, &self.carriers),
+                    6 => reservation_row(number, &port, &self.carriers),
+                    _ => association_row(number, &port, &self.carriers),
+                }
+            }
+            None => None,
+        }
+    }
+
+    // The row of table 4, 6 or 7 that is ready at the first port at which one is.
+    pub(crate) fn ready_port(&self, table: u8) -> Option<Firing>
+        requires { is_one_of (4 ∷ 6 ∷ 7 ∷ []) table ≡ true }
+        ensures { result ≡ first_ready table (λ port. ready_in floor_machines table port self.now) (numbers_from 1 self.now.ports) }
+    {
+        for place in 0..self.port_count() {
+            let number = place as u64 + 1;
+            if let Some(row) = self.port_row(table, number) {
+                return Some(Firing::new(table, number, row));
+            }
+        }
+        None
+    }
+
+    // The row of table 8 or 9 that is ready at the first carrier at which one is.
+    pub(crate) fn ready_carrier(&self, table: u8) -> Option<Firing>
+        requires { is_one_of (8 ∷ 9 ∷ []) table ≡ true }
+        ensures { result ≡ first_ready table (λ carrier. ready_in floor_machines table carrier self.now) (map number_of self.now.carriers) }
+    {
+        for place in 0..self.carrier_count() {
+            if let Some(carrier) = self.carrier(place) {
+                if let Some(row) = carrier_row(table, &carrier) {
+                    return Some(Firing::new(table, carrier.number, row));
+                }
+            }
+        }
+        None
     }
 }

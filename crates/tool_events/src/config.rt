@@ -1,3 +1,4 @@
+use crate::recipes::Recipes;
 use gem_ids::{Moment, Text80};
 
 /// The first state of communication (SEMI E30, communication states): DISABLED, WAIT DELAY with the delay over, or
@@ -29,11 +30,12 @@ pub struct SpoolStreams {
     pub six: bool,
 }
 
-/// What a configuration says (this tool's profile, configuration). It has the keys that are built by now. Times are in
-/// hundredths of a second. `overwrite`, `max_transmit` and the five times are the first values of equipment constants,
+/// What a configuration says (this tool's profile, configuration). Times are in hundredths of a second. `overwrite`, `max_transmit` and the five times are the first values of equipment constants,
 /// which the host may change.
 #[derive(Clone, Copy, Debug, PartialEq, Eq)]
 pub struct Config {
+    /// The version of the configuration's keys, 1.
+    pub version: u8,
     /// The session id of the tool's messages, at most 32,767.
     pub device: u16,
     /// The model, 1 to 20 bytes.
@@ -76,4 +78,8 @@ pub struct Config {
     /// The first moment, in hundredths of a second since the beginning of the year 2000, at most 25,245,561,599,999,
     /// the last of the year 9999.
     pub start_moment: Moment,
+    /// The recipes by which the chambers process, 1 to 32.
+    pub recipes: Recipes,
+    /// The port of TCP on which a tool that serves links listens, at least 1 (SEMI E37, connection).
+    pub tcp_port: u16,
 }

@@ -11,6 +11,7 @@ mod desk;
 mod entry;
 mod event;
 mod mem_desk;
+mod recipes;
 
 pub use answer::{Answer, Command, PostFault, Task};
 pub use config::{CommStart, Config, ControlStart, SpoolStreams};
@@ -18,3 +19,4 @@ pub use desk::Desk;
 pub use entry::{Entry, Post};
 pub use event::{Event, JobWord, OperCmd, SessionCause, SessionEnd, Signal};
 pub use mem_desk::MemDesk;
+pub use recipes::{Recipe, RecipeChambers, Recipes};

@@ -1,5 +1,5 @@
 use Rattle.std.proofs.Common.{◌≡◌, ◌++◌, drop}
-use Rattle.gem_model.specs.Verdict.{settings_of}
+use Rattle.gem_model.specs.Messages.{settings_of}
 use Rattle.core_state.proofs.host_data.settings_of.Given as goal
 
 -- what was found stands before what the others give

@@ -7,5 +7,5 @@ use Rattle.host_requests.proofs.remote.faulty.Given as goal
 abbrev pub invariant-loop-parameter : goal.invariant-loop-parameter
 invariant-loop-parameter l =
     (faulty (remote_view l.initial.command) l.initial.alarms [] l.initial.parameters
-    ≡ l.faults.items ++ faulty (remote_view l.initial.command) l.initial.alarms (take l.parameter-index l.initial.parameters) (drop l.parameter-index l.initial.parameters))
+    ≡ l.faults ++ faulty (remote_view l.initial.command) l.initial.alarms (take l.parameter-index l.initial.parameters) (drop l.parameter-index l.initial.parameters))
     × (l.alid_given ≡ was_given (take l.parameter-index l.initial.parameters) (codes "ALID"))

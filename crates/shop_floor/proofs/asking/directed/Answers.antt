@@ -1,6 +1,6 @@
 use Rattle.std.proofs.Common.{◌∙◌, sym}
 use Rattle.shop_floor.specs.Rows.{is_directed}
-use Rattle.shop_floor.proofs.Scans.{find_here, find_next, find_past}
+use Rattle.carrier.proofs.Scans.{find_here, find_next, find_past}
 use Rattle.shop_floor.proofs.asking.directed.Goals.{in-Some+else-is_directed, in_default}
 use Rattle.shop_floor.proofs.asking.directed.Goals as goal
 

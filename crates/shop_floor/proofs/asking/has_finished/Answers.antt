@@ -1,7 +1,7 @@
 use Rattle.std.proofs.Common.{Bool, ◌&&◌, ◌∙◌, sym, ℕ}
 use Rattle.carrier.specs.declared.carrier.Carrier.{Carrier}
 use Rattle.carrier.specs.Carriers.{is_present_at, is_finished}
-use Rattle.shop_floor.proofs.Scans.{any_here, any_next, any_past}
+use Rattle.carrier.proofs.Scans.{any_here, any_next, any_past}
 use Rattle.shop_floor.proofs.asking.has_finished.Goals.{in-Some+else-is_finished_at, in_default}
 use Rattle.shop_floor.proofs.asking.has_finished.Goals as goal
 

@@ -1,5 +1,5 @@
 use Rattle.std.proofs.Common.{◌≡◌, drop}
-use Rattle.shop_floor.specs.Ready.{has_finished}
+use Rattle.shop_floor.specs.Rows.{has_finished}
 use Rattle.shop_floor.proofs.asking.has_finished.Given as goal
 
 abbrev pub invariant-loop-place : goal.invariant-loop-place

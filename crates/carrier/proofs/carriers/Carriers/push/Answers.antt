@@ -17,19 +17,19 @@ pub invariant_of-self : goal.invariant_of-self
 invariant_of-self c = elim c.match-insert.branch [
   | in-Ok w ↦
       subst AreKept
-      (sym (w.in-Ok.ensures.entries ∙ inserted c.self.inside.by_name c.args.id c.text.result c.new.result c.self.invariant.keyed (unknown c) c.text.ensures.value c.new.ensures))
-      (kept_more c.args.id c.self.inside.by_name.entries c.self.invariant (unknown c) (few c))
+      (sym (w.in-Ok.ensures.entries ∙ inserted c.self.inside.by_name c.args.number c.args.id c.text.result c.new.result c.self.invariant.keyed (unknown c) c.text.ensures.value c.new.ensures))
+      (kept_more c.args.number c.args.id c.self.inside.by_name.entries c.self.invariant (unknown c) (few c))
   | in-Err w ↦ subst AreKept (sym w.in-Err.ensures.err) c.self.invariant
 ]
 
 pub returns-clause-created : goal.returns-clause-created
 returns-clause-created c = elim c.match-insert.branch [
   | in-Ok w ↦
-      subst (λ r. IfOk r (λ _. carriers_of c.insert.new.self.entries ≡ with_created c.args.id c.args.self.now)) (sym w.result-is)
+      subst (λ r. IfOk r (λ _. carriers_of c.insert.new.self.entries ≡ with_created c.args.number c.args.id c.args.self.now)) (sym w.result-is)
       (
-      ap carriers_of (w.in-Ok.ensures.entries ∙ inserted c.self.inside.by_name c.args.id c.text.result c.new.result c.self.invariant.keyed (unknown c) c.text.ensures.value c.new.ensures)
-      ∙ more_is c.self.inside.by_name.entries (new_entry c.args.id)
-      ∙ ap (λ (cs : List Carrier). with_created c.args.id cs) c.self.view_is
+      ap carriers_of (w.in-Ok.ensures.entries ∙ inserted c.self.inside.by_name c.args.number c.args.id c.text.result c.new.result c.self.invariant.keyed (unknown c) c.text.ensures.value c.new.ensures)
+      ∙ more_is c.self.inside.by_name.entries (new_entry c.args.number c.args.id)
+      ∙ ap (λ (cs : List Carrier). with_created c.args.number c.args.id cs) c.self.view_is
       )
-  | in-Err w ↦ subst (λ r. IfOk r (λ _. carriers_of c.insert.new.self.entries ≡ with_created c.args.id c.args.self.now)) (sym w.result-is) tt
+  | in-Err w ↦ subst (λ r. IfOk r (λ _. carriers_of c.insert.new.self.entries ≡ with_created c.args.number c.args.id c.args.self.now)) (sym w.result-is) tt
 ]

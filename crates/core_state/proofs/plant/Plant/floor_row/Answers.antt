@@ -1,9 +1,8 @@
 use Rattle.std.proofs.Common.{◌∙◌}
-use Rattle.shop_floor.specs.Firings.{firing_of}
 use Rattle.core_state.proofs.Floors.{row_fires}
 use Rattle.core_state.proofs.plant.Plant.floor_row.Goals as goal
 
 pub returns : goal.returns
 returns c =
     c.in_ok-note.ensures
-    ∙ rw (c.floor_object-object.ensures, c.is_online-online_before.ensures) (row_fires c.args.self.now c.fire_floor.new.self (firing_of c.args.firing) c.requires c.in_ok-fire_floor.ensures)
+    ∙ row_fires c.args.self.now c.fire_floor.new.self c.args.f _ _ c.requires c.floor_object-object.ensures c.is_online-online_before.ensures c.in_ok-fire_floor.ensures

@@ -1,5 +1,5 @@
 use Rattle.std.proofs.Common.{◌≡◌, ◌++◌, drop, map}
-use Rattle.gem_model.specs.Verdict.{status_name}
+use Rattle.gem_model.specs.Messages.{status_name}
 use Rattle.core_state.proofs.plant.Plant.names_of.Given as goal
 
 -- what was found stands before what the others give

@@ -1,5 +1,5 @@
 use Rattle.std.proofs.Common.{◌≡◌, ◌++◌, drop, map}
-use Rattle.gem_model.specs.Verdict.{alarm_part}
+use Rattle.gem_model.specs.Messages.{alarm_part}
 use Rattle.core_state.proofs.plant.Plant.parts_of.Given as goal
 
 -- what was found stands before what the others give

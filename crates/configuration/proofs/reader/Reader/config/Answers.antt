@@ -1,0 +1,125 @@
+use Rattle.std.proofs.Common.{◌≡◌, ℕ, List, codes, Option, refl, ap, ◌∙◌}
+use Rattle.std.specs.Option.{option_or}
+use Rattle.toml.specs.Data.{Members}
+use Rattle.toml.specs.View.{table_view}
+use Rattle.tool_events.specs.declared.recipes.Recipe.{Recipe}
+use Rattle.configuration.specs.declared.fault.ConfigFault.{ConfigFault}
+use Rattle.configuration.specs.Recipes.{recipe_for_all}
+use Rattle.configuration.specs.Rules.{rules, said_at, taken, broken_by, Noted, recipes, text}
+use Rattle.configuration.proofs.reader.Reader.config.Goals as goal
+
+-- what is noted behind one row more
+after : {A : Type 0} {b b' t : Option ConfigFault} {rule : ℕ} {key : List ℕ} {said : Option (Option A)} → Noted b b' rule key said → b ≡ t → b' ≡ option_or t (broken_by rule key said)
+after {rule} {key} {said} e before = e.noted ∙ ap (λ b. option_or b (broken_by rule key said)) before
+
+-- the recipes are noted, for the chambers that the table gives
+noted_for : {b b' : Option ConfigFault} {rule : ℕ} {key : List ℕ} (k : List ℕ) (ms : Members) (n m : ℕ) → n ≡ m → Noted b b' rule key (said_at (recipes n) k ms) → Noted b b' rule key (said_at (recipes m) k ms)
+noted_for k ms n m e h = rw (← e) h
+
+-- the recipes, for the chambers that the table gives
+for_plant : (n m : ℕ) (default taken_recipes : List Recipe) (key : List ℕ) (ms : Members) → n ≡ m → default ≡ recipe_for_all n → taken_recipes ≡ taken default (said_at (recipes n) key ms)
+    → taken_recipes ≡ taken (recipe_for_all m) (said_at (recipes m) key ms)
+for_plant n m default taken_recipes key ms e d r = rw (← e, ← d) r
+
+-- a text, for the default as the table has it
+text_taken : (default same taken_text key : List ℕ) (ms : Members) → default ≡ same → taken_text ≡ taken default (said_at (text 20) key ms) → taken_text ≡ taken same (said_at (text 20) key ms)
+text_taken default same taken_text key ms e t = rw (← e) t
+
+pub returns-clause-given : goal.returns-clause-given
+unfolding rules
+returns-clause-given c =
+    let rs = for_plant _ _ _ _ (codes "recipes") (table_view c.args.self.now.table.now) c.number-chambers.ensures.value c.recipe_for_all.ensures c.recipes-recipes.ensures.value in (
+      c.number-version.ensures.value,
+      (
+        c.number-device.ensures.value,
+        (
+          text_taken _ _ _ (codes "mdln") (table_view c.args.self.now.table.now) c.told.ensures c.text-mdln.ensures.value,
+          (
+            text_taken _ _ _ (codes "softrev") (table_view c.args.self.now.table.now) c.told-2.ensures c.text-softrev.ensures.value,
+            (
+              c.communication-communication.ensures.value,
+              (
+                c.control-control.ensures.value,
+                (
+                  c.number-chambers.ensures.value,
+                  (
+                    c.number-ports.ensures.value,
+                    (
+                      c.number-spool_capacity.ensures.value,
+                      (
+                        c.streams-spool_streams.ensures.value,
+                        (
+                          c.truth-overwrite.ensures.value,
+                          (
+                            c.number-max_transmit.ensures.value,
+                            (
+                              c.number-t3.ensures.value,
+                              (
+                                c.number-t6.ensures.value,
+                                (
+                                  c.number-t7.ensures.value,
+                                  (
+                                    c.number-establish.ensures.value,
+                                    (
+                                      c.number-linktest.ensures.value,
+                                      (
+                                        c.number-max_entries.ensures.value,
+                                        (
+                                          c.number-max_bytes.ensures.value,
+                                          (
+                                            c.number-start_moment.ensures.value,
+                                            (
+                                              rs,
+                                              (
+                                                c.number-tcp_port.ensures.value,
+                                                tt,
+                                              ),
+                                            ),
+                                          ),
+                                        ),
+                                      ),
+                                    ),
+                                  ),
+                                ),
+                              ),
+                            ),
+                          ),
+                        ),
+                      ),
+                    ),
+                  ),
+                ),
+              ),
+            ),
+          ),
+        ),
+      ),
+    )
+
+pub returns-clause-broken : goal.returns-clause-broken
+unfolding rules
+returns-clause-broken c =
+    let rs = noted_for (codes "recipes") (table_view c.args.self.now.table.now) _ _ c.number-chambers.ensures.value c.recipes-recipes.ensures.broken in
+    (after c.number-tcp_port.ensures.broken
+    (after rs
+    (after c.number-start_moment.ensures.broken
+    (after c.number-max_bytes.ensures.broken
+    (after c.number-max_entries.ensures.broken
+    (after c.number-linktest.ensures.broken
+    (after c.number-establish.ensures.broken
+    (after c.number-t7.ensures.broken
+    (after c.number-t6.ensures.broken
+    (after c.number-t3.ensures.broken
+    (after c.number-max_transmit.ensures.broken
+    (after c.truth-overwrite.ensures.broken
+    (after c.streams-spool_streams.ensures.broken
+    (after c.number-spool_capacity.ensures.broken
+    (after c.number-ports.ensures.broken
+    (after c.number-chambers.ensures.broken
+    (after c.control-control.ensures.broken
+    (after c.communication-communication.ensures.broken
+    (after c.text-softrev.ensures.broken
+    (after c.text-mdln.ensures.broken
+    (after c.number-device.ensures.broken
+    (after c.number-version.ensures.broken
+    refl))))))))))))))))))))))

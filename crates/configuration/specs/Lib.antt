@@ -1,0 +1,4 @@
+pub mod Values
+pub mod Recipes
+pub mod Rules
+pub mod Reading

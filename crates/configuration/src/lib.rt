@@ -1,0 +1,17 @@
+//! The configuration of the tool: which text says which `Config` (this tool's profile, configuration).
+//!
+//! The text is a table of TOML, which the kit's `toml` reads. The eighteen rules stand as one table in `specs/Rules.antt`, as the
+//! profile prints them; `specs/Reading.antt` says by it what a text says, and which rule it breaks. This crate reads no file, and
+//! knows nothing of the tool that is configured. Begin with `read_config`.
+#![tactic(auto)]
+
+mod fault;
+mod keys;
+pub mod laws;
+mod read;
+mod reader;
+mod recipes;
+mod values;
+
+pub use fault::ConfigFault;
+pub use read::{CONFIGURATION_BYTES, read_config};

@@ -1,0 +1,90 @@
+//! The rows that an input lists (this tool's profile, direct rows).
+ghost use Rattle.std.specs.Prelude.{◌≡◌, ◌≤◌, ◌∷◌, ◌++◌, [], length};
+ghost use Rattle.std.specs.Option.{option_to_list};
+ghost use Rattle.gem_model.specs.Direct.{by_comm, by_control, note_fails, attempt_fails, all_fail, session_end_rows, operator_rows};
+ghost use Rattle.tool_events.specs.declared.event.OperCmd.TheVariants as oper;
+ghost use Rattle.gem_model.specs.Spooling.{unload_rows};
+
+use crate::plant::Plant;
+use arrayvec::ArrayVec;
+use gem_states::{CommTrigger, ControlTrigger};
+use gem_tables::Firing;
+
+// The numbers of the tables, as the definitions have them.
+const COMMUNICATION: u8 = 1;
+
+const CONTROL: u8 = 2;
+
+const LINE: u8 = 3;
+
+/// The row of communication that a trigger fires.
+pub fn by_comm(trigger: CommTrigger) -> Firing
+    ensures { by_comm trigger ≡ result ∷ [] }
+{
+    Firing::new(COMMUNICATION, 0, trigger.row())
+}
+
+/// The row by which the transaction of the open note fails.
+pub fn note_fails() -> Firing
+    ensures { note_fails ≡ result ∷ [] }
+{
+    Firing::new(LINE, 0, 14)
+}
+
+/// The row of RSDC: 0 lets the spooled notes be sent, and any other drops them (SEMI E5, S6F23).
+pub fn unload_row(rsdc: u8) -> Firing
+    ensures { unload_rows rsdc ≡ result ∷ [] }
+{
+    Firing::new(LINE, 0, if rsdc == 0 { 4 } else { 5 })
+}
+
+impl Plant {
+    /// The row of control that a trigger fires, by the operator's switch.
+    pub fn by_control(&self, trigger: ControlTrigger) -> Firing
+        ensures { by_control trigger self.now ≡ result ∷ [] }
+    {
+        Firing::new(CONTROL, 0, trigger.row(self.switch_local))
+    }
+
+    /// The row of the tool's S1F1, which fails where it is open.
+    fn attempt_fails(&self) -> Option<Firing>
+        ensures { option_to_list result ≡ attempt_fails self.now }
+    {
+        if self.is_attempting() {
+            Some(self.by_control(ControlTrigger::Failed))
+        } else {
+            None
+        }
+    }
+
+    /// The rows of every open transaction that fails.
+    fn add_failing(&self, rows: &mut ArrayVec<Firing, 3>)
+        requires room { length rows.old.items ≤ 1 }
+        ensures { rows.new.items ≡ rows.old.items ++ all_fail self.now }
+    {
+        if let Some(row) = self.attempt_fails() {
+            rows.push(row);
+        }
+        rows.push(note_fails());
+    }
+
+    /// The rows of a session's end.
+    pub fn session_end_rows(&self) -> ArrayVec<Firing, 3>
+        ensures { result.items ≡ session_end_rows self.now }
+    {
+        let mut rows = ArrayVec::new();
+        rows.push(by_comm(CommTrigger::SessionEnd));
+        self.add_failing(&mut rows);
+        rows
+    }
+
+    /// The rows of the operator's `disable`.
+    pub fn disable_rows(&self) -> ArrayVec<Firing, 3>
+        ensures { result.items ≡ operator_rows oper.Disable self.now }
+    {
+        let mut rows = ArrayVec::new();
+        rows.push(by_comm(CommTrigger::Disable));
+        self.add_failing(&mut rows);
+        rows
+    }
+}

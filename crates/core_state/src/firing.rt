@@ -1,0 +1,215 @@
+//! Rows fire: those that an input lists, and those that are ready by themselves (this tool's profile, direct rows and settling).
+ghost use Rattle.std.specs.Prelude.{◌≡◌, ◌∷◌, [], ◌&&◌, not, true, OnOk, IfOk, is_some};
+ghost use Rattle.std.specs.Option.{option_or};
+ghost use Rattle.gem_tables.specs.Table.{firing};
+ghost use Rattle.gem_states.specs.Communication.{comm_starts};
+ghost use Rattle.gem_states.specs.Control.{control_starts};
+ghost use Rattle.note_line.specs.Table3.{line_starts, is_direct};
+ghost use Rattle.gem_model.specs.State.{around, can_ask, is_selected};
+ghost use Rattle.gem_model.specs.Wants.{delay_is_over, is_attempt};
+ghost use Rattle.gem_model.specs.Machines.{row_starts, creations, least};
+ghost use Rattle.gem_model.specs.Fire.{fire, fire_all, advanced, fire_listed};
+ghost use Rattle.gem_model.specs.Direct.{Are, IsListed};
+ghost use Rattle.gem_model.specs.Ready.{ready_line, ready_floor};
+ghost use Rattle.core_state.specs.Firing.{fire_first, AreCreated};
+
+use crate::plant::Plant;
+use arrayvec::ArrayVec;
+use gem_states::Control;
+use gem_tables::Firing;
+use shop_floor::MOST_CREATED;
+use std::alloc::{AllocError, Global};
+
+impl Plant {
+    // ---- whether a row starts
+
+    /// Whether a row of communication starts.
+    fn comm_starts(&self, row: u8) -> bool
+        ensures { result ≡ comm_starts row self.now.comm }
+    {
+        let mut comm = self.comm;
+        comm.fire(row, 0)
+    }
+
+    /// Whether a row of control starts.
+    fn control_starts(&self, row: u8) -> bool
+        ensures { result ≡ control_starts row self.now.control }
+    {
+        let mut control = self.control;
+        control.fire(row)
+    }
+
+    /// Whether a row of the line of notes starts that inputs fire.
+    #[tactic(auto, using(crate::proofs::LineRows::may_unload, crate::proofs::LineRows::not_direct))]
+    fn line_starts(&self, row: u8) -> bool
+        requires { is_direct row ≡ true }
+        ensures { result ≡ line_starts (around self.now) row self.now.line }
+    {
+        match row {
+            4 | 5 => self.line.rsda() == 0,
+            14 => self.line.open_note().is_some(),
+            _ => false,
+        }
+    }
+
+    /// Whether the row of a firing that an input lists starts at the present state.
+    pub fn row_starts(&self, f: Firing) -> bool
+        requires { IsListed f }
+        ensures { result ≡ row_starts self.now f }
+    {
+        match f.row.table {
+            1 => self.comm_starts(f.row.row),
+            2 => self.control_starts(f.row.row),
+            3 => self.line_starts(f.row.row),
+            _ => self.floor.starts(f),
+        }
+    }
+
+    // ---- rows that an input lists
+
+    /// A row of the line of notes fires that inputs fire, and that starts.
+    fn line_direct(&mut self, row: u8)
+        requires direct { is_direct row ≡ true }
+        requires starts { line_starts (around self.old) row self.old.line ≡ true }
+        ensures { self.new ≡ fire self.old (firing 3 0 row) }
+    {
+        let around = self.around();
+        match row {
+            4 => {
+                self.line.begin_unload(0, around);
+            }
+            5 => {
+                self.line.begin_unload(1, around);
+            }
+            _ => self.line.fail_open(around),
+        }
+    }
+
+    /// A row fires that an input lists or that is created, and that starts, and makes its note.
+    fn fire(&mut self, alloc: Global, f: Firing) -> Result<(), AllocError>
+        requires listed { IsListed f }
+        requires starts { row_starts self.old f ≡ true }
+        ensures { OnOk result (self.new ≡ fire self.old f) }
+    {
+        match f.row.table {
+            1 => self.comm_row(alloc, f.row.row),
+            2 => self.control_row(alloc, f.row.row),
+            3 => {
+                self.line_direct(f.row.row);
+                Ok(())
+            }
+            _ => self.floor_row(alloc, f),
+        }
+    }
+
+    /// The rows of the objects that a row creates.
+    fn creations(&self, f: Firing) -> ArrayVec<Firing, MOST_CREATED>
+        ensures { result.items ≡ creations self.now f }
+    {
+        self.floor.creations(f)
+    }
+
+    /// The rows of created objects fire, one after another.
+    fn fire_created(&mut self, alloc: Global, created: &[Firing]) -> Result<(), AllocError>
+        requires { AreCreated self.old.floor created.now }
+        ensures { OnOk result (self.new ≡ fire_all created.now self.old) }
+    {
+        for f in created {
+            self.floor_row(alloc, *f)?;
+        }
+        Ok(())
+    }
+
+    /// A row fires that starts, of an input or by itself, and then the rows of the objects that it creates.
+    fn advance(&mut self, alloc: Global, f: Firing) -> Result<(), AllocError>
+        requires listed { IsListed f }
+        requires starts { row_starts self.old f ≡ true }
+        ensures { OnOk result (self.new ≡ advanced self.old f) }
+    {
+        let created = self.creations(f);
+        self.fire(alloc, f)?;
+        self.fire_created(alloc, created.as_slice())
+    }
+
+    /// The rows that an input lists fire in order, each followed by the rows of what it creates; one that does not start at the
+    /// state then reached is left out (this tool's profile, direct rows). `AllocError`: memory ran out.
+    pub fn fire_listed(&mut self, alloc: Global, firings: &[Firing]) -> Result<(), AllocError>
+        requires { Are IsListed firings.now }
+        ensures { OnOk result (self.new ≡ fire_listed firings.now self.old) }
+    {
+        for f in firings {
+            self.listed_row(alloc, *f)?;
+        }
+        Ok(())
+    }
+
+    /// A row that is listed fires where it starts, with those of what it creates.
+    fn listed_row(&mut self, alloc: Global, f: Firing) -> Result<(), AllocError>
+        requires { IsListed f }
+        ensures { OnOk result (self.new ≡ fire_listed (f ∷ []) self.old) }
+    {
+        if self.row_starts(f) {
+            self.advance(alloc, f)?;
+        }
+        Ok(())
+    }
+
+    // ---- rows that are ready by themselves
+
+    /// Fires the least row of the load ports and the carriers that is ready by itself, with those of what it creates, and tells
+    /// whether there was one.
+    fn fire_least_of_floor(&mut self, alloc: Global) -> Result<bool, AllocError>
+        ensures fired { IfOk result (λ fired. fired ≡ is_some (ready_floor self.old)) }
+        ensures after { OnOk result (self.new ≡ fire_first (ready_floor self.old) self.old) }
+    {
+        let Some(f) = self.least_of_floor() else {
+            return Ok(false);
+        };
+        self.advance(alloc, f)?;
+        Ok(true)
+    }
+
+    /// Fires the row of the line of notes that is ready, or else the least of the load ports and the carriers, and tells whether
+    /// there was one.
+    fn fire_line_or_floor(&mut self, alloc: Global) -> Result<bool, AllocError>
+        ensures fired { IfOk result (λ fired. fired ≡ is_some (option_or (ready_line self.old) (ready_floor self.old))) }
+        ensures after { OnOk result (self.new ≡ fire_first (option_or (ready_line self.old) (ready_floor self.old)) self.old) }
+    {
+        if self.line_row(alloc)? {
+            return Ok(true);
+        }
+        let fired = self.fire_least_of_floor(alloc)?;
+        Ok(fired)
+    }
+
+    /// Whether row 3 of communication is ready: the delay is over, and the link is selected.
+    fn asks_host(&self) -> bool
+        ensures { result ≡ (delay_is_over self.now.moment self.now.comm && is_selected self.now) }
+    {
+        self.delay_is_over() && self.is_selected()
+    }
+
+    /// Whether row 2 of control is ready: it is ATTEMPT ON-LINE, and the tool cannot ask.
+    fn gives_up(&self) -> bool
+        ensures { result ≡ (is_attempt self.now.control && not (can_ask self.now)) }
+    {
+        matches!(self.control, Control::Attempt) && !self.can_ask()
+    }
+
+    /// Fires the least row that is ready by itself, with those of the objects that it creates, and tells whether there was one
+    /// (this tool's profile, settling). `AllocError`: memory ran out.
+    pub fn fire_least(&mut self, alloc: Global) -> Result<bool, AllocError>
+        ensures fired { IfOk result (λ fired. fired ≡ is_some (least self.old)) }
+        ensures after { OnOk result (self.new ≡ fire_first (least self.old) self.old) }
+    {
+        if self.asks_host() {
+            self.comm_row(alloc, 3)?;
+            return Ok(true);
+        }
+        if self.gives_up() {
+            self.control_row(alloc, 2)?;
+            return Ok(true);
+        }
+        self.fire_line_or_floor(alloc)
+    }
+}

@@ -1,0 +1,24 @@
+-- Messages of the host that are read, and what they are answered, of all streams (SEMI E5, messages).
+use Rattle.std.specs.Prelude.{ℕ, List}
+use Rattle.secs_items.specs.Plain.{plain}
+use Rattle.gem_primaries.specs.declared.primary.GemMsg.{GemMsg}
+use Rattle.gem_replies.specs.declared.reply.GemReply.{GemReply}
+use Rattle.gem_replies.specs.Replies.{reply_body}
+use Rattle.msgs_300.specs.Primaries.{Message}
+use Rattle.msgs_300.specs.declared.reply.ShopReply.{ShopReply}
+use Rattle.msgs_300.specs.Replies.{shop_reply_body}
+
+-- a primary of the host: of streams 1, 2, 5 and 6, or of carriers and ports
+pub data HostMessage : Type 0 where
+  Gem : GemMsg → HostMessage
+  Shop : Message → HostMessage
+
+-- a reply of the tool
+pub data HostReply : Type 0 where
+  GemTold : GemReply → HostReply
+  ShopTold : ShopReply → HostReply
+
+-- its text
+abbrev pub reply_text : HostReply → List ℕ
+reply_text (GemTold r) = plain (reply_body r)
+reply_text (ShopTold r) = plain (shop_reply_body r)

@@ -1,0 +1,100 @@
+//! What the program tells of itself.
+ghost use Rattle.std.specs.Prelude.{◌≡◌};
+ghost use Rattle.program_words.specs.Questions.{question_asked, question_of};
+
+use clap::{Arg, ArgAction, Command};
+use gem_ids::Text80;
+use std::alloc::{AllocError, Global};
+
+/// What words may ask for beside a command.
+#[derive(Clone, Copy, Debug, PartialEq, Eq)]
+pub enum Question {
+    /// `--help`: how the program is called.
+    Help,
+    /// `--version`: its name and version.
+    Version,
+}
+
+fn question_of(word: &Text80) -> Option<Question>
+    ensures { result ≡ question_of word.now }
+{
+    if word.as_bytes() == b"--help".as_slice() {
+        Some(Question::Help)
+    } else if word.as_bytes() == b"--version".as_slice() {
+        Some(Question::Version)
+    } else {
+        None
+    }
+}
+
+/// What the words ask for: `--help` or `--version`, which stand alone. The text goes to standard output, with status 0. Such words
+/// are no command.
+pub fn asked(words: &[Text80]) -> Option<Question>
+    ensures { result ≡ question_asked words.now }
+{
+    match words {
+        [word] => question_of(word),
+        _ => None,
+    }
+}
+
+// What stands below the commands in the usage text.
+const MORE: &str = "\
+Words:
+  CONFIG    a file: a configuration, a table of TOML of at most 65,536 bytes
+  SEED      a number from 0 to 18446744073709551615
+  CARRIERS  a number from 1 to 10000
+
+Standard error tells why the program ends. Its status is:
+  0  the input was read to its end, or `quit` came, and all was written
+  1  words at N              the word N, counted from 0, fits no command
+  2  config rule N key K     the configuration breaks rule N at key K
+  3  read fault              a file or the input could not be read
+  4  write fault             standard output took no more
+  5  full E B I              the history is full: entries, bytes, bytes of input
+  6  line N at P             line N of the input is none from byte P on
+  7  no memory
+
+docs/profile has all of it: words.md, configuration.md, lines.md.";
+
+// The program's commands, for its usage text.
+fn program<'a>(alloc: Global) -> Result<Command<'a>, AllocError> {
+    let feed = Command::new(alloc, "feed").about(
+        "Reads lines from standard input and prints lines: feed CONFIG",
+    );
+    let batch = Command::new(alloc, "batch").about(
+        "Processes carriers, reads no input and prints a summary: batch SEED CARRIERS CONFIG",
+    );
+    let help = Arg::new(alloc, "help")
+        .long("help")
+        .action(ArgAction::SetTrue)
+        .help("Prints this text");
+    let version = Arg::new(alloc, "version")
+        .long("version")
+        .action(ArgAction::SetTrue)
+        .help("Prints the name and the version");
+    Command::new(alloc, "gem300_tool")
+        .version("1.0.00")
+        .about("A GEM300 equipment controller, after SEMI E5, E30, E37 and E87")
+        .override_usage(
+            "gem300_tool feed CONFIG\n       gem300_tool batch SEED CARRIERS CONFIG\n       gem300_tool --help | --version",
+        )
+        .after_help(MORE)
+        .disable_help_flag(true)
+        .disable_version_flag(true)
+        .disable_help_subcommand(true)
+        .subcommand(feed)?
+        .subcommand(batch)?
+        .arg(help)?
+        .arg(version)
+}
+
+/// The text of `--help`: the commands, what each reads and writes, the statuses, and where the documentation is.
+pub fn help_text(alloc: Global) -> Result<String, AllocError> {
+    program(alloc)?.render_help()
+}
+
+/// The text of `--version`: the program's name and version.
+pub fn version_text(alloc: Global) -> Result<String, AllocError> {
+    program(alloc)?.render_version()
+}

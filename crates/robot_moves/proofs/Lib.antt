@@ -1,0 +1,5 @@
+pub mod Picks
+pub mod First
+pub mod Numbers
+pub mod Ending
+pub mod Best

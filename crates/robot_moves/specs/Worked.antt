@@ -1,0 +1,59 @@
+-- A substrate and modules for worked moves.
+use Rattle.std.specs.Prelude.{ℕ, true, false, List, [], ◌∷◌, codes}
+use Rattle.gem_ids.specs.declared.numbers.LocId.{LocId}
+use Rattle.gem_ids.specs.declared.numbers.LocId.TheVariants as loc
+use Rattle.tool_events.specs.declared.answer.Task.TheVariants as task
+use Rattle.robot_moves.specs.declared.module.Module.{Module}
+use Rattle.robot_moves.specs.declared.module.Module.TheVariants.{Idle, Busy, Down}
+use Rattle.robot_moves.specs.declared.view.PlaceView.{PlaceView}
+
+-- slot k at port 1
+abbrev pub slot : ℕ → LocId
+slot k = loc.Slot (record { 0 = 1 }) (record { 0 = k })
+
+-- the first substrate of CAR01, in its slot, unfinished and not aligned, with its job PROCESSING; both chambers are in its recipe
+abbrev pub first_wafer : PlaceView
+first_wafer = record {
+  sub = codes "CAR01.01";
+  number = 1;
+  at = slot 1;
+  slot = slot 1;
+  aligned = false;
+  finished = false;
+  in_process = false;
+  may_start = true;
+  chambers = 3;
+  recipe = codes "R1";
+}
+
+-- it is aligned, on the arm
+abbrev pub on_arm : PlaceView
+on_arm = record first_wafer { at = loc.Arm; aligned = true }
+
+-- the second, aligned, at the aligner
+abbrev pub at_aligner : PlaceView
+at_aligner = record first_wafer { sub = codes "CAR01.02"; number = 2; at = loc.Aligner; slot = slot 2; aligned = true }
+
+-- the third, in a chamber
+abbrev pub in_chamber : ℕ → PlaceView
+in_chamber c = record first_wafer { sub = codes "CAR01.03"; number = 3; at = loc.Chamber c; slot = slot 3; aligned = true }
+
+-- the third, in a chamber, finished
+abbrev pub finished_in : ℕ → PlaceView
+finished_in c = record (in_chamber c) { finished = true }
+
+-- a module that is Busy with some command
+abbrev pub busy : Module
+busy = Busy (record { number = record { 0 = 9 }; task = task.Align (codes "CAR01.09") }) true
+
+-- robot, aligner and two chambers, each Idle
+abbrev pub all_idle : List Module
+all_idle = Idle ∷ Idle ∷ Idle ∷ Idle ∷ []
+
+-- the aligner is Down
+abbrev pub aligner_down : List Module
+aligner_down = Idle ∷ Down ∷ Idle ∷ Idle ∷ []
+
+-- chamber 1 is Busy
+abbrev pub first_chamber_busy : List Module
+first_chamber_busy = Idle ∷ Idle ∷ busy ∷ Idle ∷ []

@@ -1,0 +1,36 @@
+//! Worked moves, computed from the definitions. Each function is a statement about them, and has no code.
+
+ghost use Rattle.std.specs.Prelude.{◌≡◌, [], ◌∷◌, Some, None, codes};
+ghost use Rattle.gem_ids.specs.declared.numbers.LocId.TheVariants as loc;
+ghost use Rattle.tool_events.specs.declared.answer.Task.TheVariants as task;
+ghost use Rattle.robot_moves.specs.Modules.{first_modules};
+ghost use Rattle.robot_moves.specs.Moves.{move_by, next_move};
+ghost use Rattle.robot_moves.specs.Worked.{slot, first_wafer, on_arm, at_aligner, in_chamber, finished_in, all_idle, aligner_down, first_chamber_busy};
+
+/// A substrate alone in its slot, whose job is PROCESSING, is picked where all modules are Idle; it is not where the aligner is
+/// Down, since its target is not free then.
+pub fn a_substrate_is_picked()
+    ensures idle { next_move (first_wafer ∷ []) (first_modules 2) ≡ Some (move_by 1 2 (task.Pick (codes "CAR01.01") (slot 1))) }
+    ensures down { next_move (first_wafer ∷ []) aligner_down ≡ None }
+{}
+
+/// What the arm holds goes to the least numbered chamber of its recipe that is empty and Idle.
+pub fn a_substrate_goes_on_from_the_arm()
+    ensures idle { next_move (on_arm ∷ []) all_idle ≡ Some (move_by 1 1 (task.Place (codes "CAR01.01") (loc.Chamber 1))) }
+    ensures busy { next_move (on_arm ∷ []) first_chamber_busy ≡ Some (move_by 1 1 (task.Place (codes "CAR01.01") (loc.Chamber 2))) }
+    ensures occupied { next_move (on_arm ∷ finished_in 1 ∷ []) all_idle ≡ Some (move_by 1 1 (task.Place (codes "CAR01.01") (loc.Chamber 2))) }
+{}
+
+/// What is finished in a chamber is picked before what is aligned at the aligner, whatever their numbers, and that before what is
+/// in its slot.
+pub fn the_fullest_stage_goes_first()
+    ensures chamber { next_move (first_wafer ∷ at_aligner ∷ finished_in 2 ∷ []) all_idle ≡ Some (move_by 1 2 (task.Pick (codes "CAR01.03") (loc.Chamber 2))) }
+    ensures aligner { next_move (first_wafer ∷ at_aligner ∷ []) all_idle ≡ Some (move_by 1 2 (task.Pick (codes "CAR01.02") loc.Aligner)) }
+{}
+
+/// A chamber processes what it holds; the aligner aligns what it holds.
+pub fn a_module_begins_with_what_it_holds()
+    ensures chamber { next_move (in_chamber 2 ∷ []) all_idle ≡ Some (move_by 4 4 (task.Process (codes "CAR01.03") (codes "R1"))) }
+    ensures aligner { next_move (record first_wafer { at = loc.Aligner } ∷ []) all_idle ≡ Some (move_by 2 3 (task.Align (codes "CAR01.01"))) }
+    ensures nothing { next_move [] all_idle ≡ None }
+{}

@@ -1,0 +1,9 @@
+pub mod Texts
+pub mod Truth
+pub mod Apart
+pub mod Entries
+pub mod Sites
+pub mod Written
+pub mod Standing
+pub mod Tying
+pub mod Faults

@@ -1,0 +1,139 @@
+-- Which substrate has which place (after SEMI E90; this tool's profile, substrates).
+use Rattle.std.specs.Prelude.{◌≡◌, ℕ, ◌+◌, ◌≤◌, ◌<◌, nat_lt, Bool, true, false, not, ◌&&◌, if◌then◌else◌, List, [], ◌∷◌, ◌++◌, length, map, filter, find, Option, Some, None, option_map}
+use Rattle.std.specs.List.{list_any, list_all}
+use Rattle.std.specs.Str.{bytes_eq}
+use Rattle.gem_ids.specs.declared.numbers.LocId.{LocId}
+use Rattle.substrate.specs.Locations.{is_same, is_location}
+use Rattle.substrate.specs.declared.registered.Registered.{Registered}
+use Rattle.substrate.specs.declared.fault.PlaceFault.{PlaceFault}
+use Rattle.substrate.specs.declared.fault.PlaceFault.TheVariants.{Taken, NameTaken, NoSpace}
+
+-- The places of a tool: how many load ports and chambers it has, the substrates that have a place, in the order of their
+-- registration, and the last number of registration that was given, 0 where none was.
+pub record PlaceMap : Type 0 where
+  pub ports : ℕ
+  pub chambers : ℕ
+  pub held : List Registered
+  pub given : ℕ
+
+-- no substrate has a place (this tool's profile, substrates)
+abbrev pub no_places : ℕ → ℕ → PlaceMap
+no_places ports chambers = record { ports = ports; chambers = chambers; held = []; given = 0 }
+
+-- ---- substrates
+
+-- the substrate has this name
+abbrev pub has_name : List ℕ → Registered → Bool
+has_name sub r = bytes_eq r.sub sub
+
+-- the substrate of a name
+abbrev pub substrate_named : List ℕ → List Registered → Option Registered
+substrate_named sub held = find (has_name sub) held
+
+-- a substrate of the name has a place
+abbrev pub is_known : List ℕ → List Registered → Bool
+is_known sub held = list_any (has_name sub) held
+
+-- the substrate is at this place
+abbrev pub stands_at : LocId → Registered → Bool
+stands_at loc r = is_same r.at loc
+
+-- a substrate is there
+abbrev pub is_taken : LocId → List Registered → Bool
+is_taken loc held = list_any (stands_at loc) held
+
+-- the name of the substrate there
+abbrev pub substrate_at : LocId → List Registered → Option (List ℕ)
+substrate_at loc held = option_map (λ r. r.sub) (find (stands_at loc) held)
+
+-- there is one, and it is at this place
+abbrev pub is_there : LocId → Option Registered → Bool
+is_there loc None = false
+is_there loc (Some r) = stands_at loc r
+
+-- the substrate of this name is at this place
+abbrev pub has_place : List ℕ → LocId → List Registered → Bool
+has_place sub loc held = is_there loc (substrate_named sub held)
+
+-- the place in the list of the first substrate of a name, of which the given one has this place
+abbrev pub index_from : ℕ → List ℕ → List Registered → Option ℕ
+index_from n sub [] = None
+index_from n sub (r ∷ rs) = if has_name sub r then Some n else index_from (n + 1) sub rs
+
+-- the place in the list of the substrate of a name, counted from 0
+abbrev pub index_of : List ℕ → List Registered → Option ℕ
+index_of sub held = index_from 0 sub held
+
+-- ---- what happens to them
+
+-- a change of the substrate of a name
+abbrev pub change_named : List ℕ → (Registered → Registered) → List Registered → List Registered
+change_named sub change held = map (λ r. if has_name sub r then change r else r) held
+
+-- a substrate goes to a place
+abbrev pub moves_to : LocId → Registered → Registered
+moves_to to r = record r { at = to }
+
+-- the substrate of a name goes to a place
+abbrev pub moved : List ℕ → LocId → List Registered → List Registered
+moved sub to held = change_named sub (moves_to to) held
+
+-- the substrates without that of a name
+abbrev pub without : List ℕ → List Registered → List Registered
+without sub held = filter (λ r. not (has_name sub r)) held
+
+-- a substrate is registered: it gets the next number, and goes behind the others
+abbrev pub registered : List ℕ → LocId → PlaceMap → PlaceMap
+registered sub loc p =
+    record p { held = p.held ++ record { sub = sub; number = p.given + 1; at = loc } ∷ []; given = p.given + 1 }
+
+-- the most substrates that have a place (this tool's profile, limits)
+abbrev pub most_substrates : ℕ
+most_substrates = 400
+
+-- why one can't be registered, by who is at the place, whether its name is known, and whether there is room
+abbrev pub fault_of : Option (List ℕ) → Bool → Bool → Option PlaceFault
+fault_of (Some who) known room = Some (Taken who)
+fault_of None known room = if known then Some NameTaken else (if room then None else Some (NoSpace most_substrates))
+
+-- why one can't be registered, whatever memory there is: a substrate is there, one of its name has a place, or 400 have one
+abbrev pub register_fault : List ℕ → LocId → List Registered → Option PlaceFault
+register_fault sub loc held = fault_of (substrate_at loc held) (is_known sub held) (nat_lt (length held) most_substrates)
+
+-- a substrate can go from a place to another: it is at the one, and the other is empty
+abbrev pub can_shift : List ℕ → LocId → LocId → List Registered → Bool
+can_shift sub from to held = has_place sub from held && not (is_taken to held)
+
+-- what becomes of the places: it goes there, or nothing changes
+abbrev pub shifted : List ℕ → LocId → LocId → PlaceMap → PlaceMap
+shifted sub from to p = if can_shift sub from to p.held then record p { held = moved sub to p.held } else p
+
+-- the substrate of a name has no place any more
+abbrev pub removed : List ℕ → PlaceMap → PlaceMap
+removed sub p = record p { held = without sub p.held }
+
+-- ---- rules that the places keep
+
+-- each name is that of one substrate
+abbrev pub are_named_apart : List Registered → Bool
+are_named_apart [] = true
+are_named_apart (r ∷ rs) = not (is_known r.sub rs) && are_named_apart rs
+
+-- each place is that of one substrate
+abbrev pub are_placed_apart : List Registered → Bool
+are_placed_apart [] = true
+are_placed_apart (r ∷ rs) = not (is_taken r.at rs) && are_placed_apart rs
+
+-- their numbers rise, from behind one number to another
+abbrev pub AreNumbered : ℕ → ℕ → List Registered → Type 0
+AreNumbered last given [] = last ≤ given
+AreNumbered last given (r ∷ rs) = (last < r.number) × AreNumbered r.number given rs
+
+-- Each name and each place is that of one substrate, each place is one of the tool, the numbers rise, the last that was given
+-- is the greatest of them or is past them, and there are at most 400 substrates.
+pub record ArePlaces (p : PlaceMap) : Type 0 where
+  pub named_apart : are_named_apart p.held ≡ true
+  pub placed_apart : are_placed_apart p.held ≡ true
+  pub within : list_all (λ r. is_location p.ports p.chambers r.at) p.held ≡ true
+  pub numbered : AreNumbered 0 p.given p.held
+  pub few : length p.held ≤ most_substrates

@@ -1,4 +1,5 @@
-//! The program: `gem300_tool feed CONFIG` reads lines from standard input and prints lines (docs/profile/lines.md).
+//! The program: `gem300_tool feed CONFIG` reads lines from standard input and prints lines (docs/profile/lines.md), and
+//! `--help` and `--version` tell of it (docs/profile/words.md).
 //!
 //! It hands the file, standard input and standard output to `top_calls::feed`, whose contract is the promise of the whole
 //! program, says why the run ended on standard error, and ends with its status.
@@ -6,10 +7,11 @@
 
 use gem_ids::Text80;
 use outside::{FileSource, StdinSource, StdoutSink};
+use program_words::{Question, asked, help_text, version_text};
 use std::alloc::{AllocError, Global};
 use std::process::ExitCode;
 use std::{env, io};
-use top_calls::feed;
+use top_calls::{Cause, feed};
 
 /// The words behind the program's name. One that is no text of at most 80 bytes that print is handed in as an empty
 /// word, which fits no command.
@@ -36,10 +38,20 @@ fn arguments(rt: &HostRuntime) -> Result<Vec<String>, AllocError> {
     }
 }
 
+/// Prints what the words ask for, and tells why that ends.
+fn answer(rt: &HostRuntime, question: Question) -> Result<Cause, AllocError> {
+    let text = match question {
+        Question::Help => help_text(rt.alloc())?,
+        Question::Version => version_text(rt.alloc())?,
+    };
+    match rt.print(text.as_str()) {
+        Ok(()) => Ok(Cause::Done),
+        Err(_) => Ok(Cause::WriteFault),
+    }
+}
+
 /// Calls `feed` on the file that the words name, standard input and standard output, and tells why it ended.
-fn run(rt: &HostRuntime) -> Result<u8, AllocError> {
-    let args = arguments(rt)?;
-    let words = texts_of(rt.alloc(), &args)?;
+fn run_feed(rt: &HostRuntime, args: &[String], words: &[Text80]) -> Cause {
     let path = match args.get(2) {
         Some(path) => path.as_str(),
         None => "",
@@ -47,11 +59,21 @@ fn run(rt: &HostRuntime) -> Result<u8, AllocError> {
     let mut config = FileSource::new(rt, path);
     let mut input = StdinSource::new(rt);
     let mut out = StdoutSink::new(rt);
-    let ended = feed(rt.alloc(), &words, &mut config, &mut input, &mut out);
-    if let Some(text) = ended.cause.text(rt.alloc())? {
+    feed(rt.alloc(), words, &mut config, &mut input, &mut out).cause
+}
+
+/// Does what the words say, tells on standard error why it ended, and answers its status.
+fn run(rt: &HostRuntime) -> Result<u8, AllocError> {
+    let args = arguments(rt)?;
+    let words = texts_of(rt.alloc(), &args)?;
+    let cause = match asked(&words) {
+        Some(question) => answer(rt, question)?,
+        None => run_feed(rt, &args, &words),
+    };
+    if let Some(text) = cause.text(rt.alloc())? {
         let _ = rt.eprintln(text.as_str());
     }
-    Ok(ended.status)
+    Ok(cause.status())
 }
 
 fn main(rt: HostRuntime) -> ExitCode {

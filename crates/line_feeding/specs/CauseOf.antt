@@ -3,6 +3,8 @@ use Rattle.std.specs.Prelude.{ℕ, ⊤, List, length}
 use Rattle.outside.specs.Counts.{Rose}
 use Rattle.tool_events.specs.declared.entry.Entry.{Entry}
 use Rattle.gem_model.specs.Sizes.{bytes_of}
+use Rattle.configuration.specs.declared.fault.ConfigFault.TheVariants as fault
+use Rattle.configuration.specs.Reading.{Breaks}
 use Rattle.line_feeding.specs.declared.ended.Cause.{Cause}
 use Rattle.line_feeding.specs.declared.ended.Cause.TheVariants as cause
 use Rattle.line_feeding.specs.declared.halt.Halt.TheVariants as halt
@@ -20,6 +22,17 @@ cause_after (input.Halted halt.Quit) count history number = cause.Done
 cause_after (input.Halted halt.Full) count history number = cause.Full (length history) (bytes_of history) count
 cause_after (input.Halted halt.Write) count history number = cause.WriteFault
 cause_after (input.Halted halt.NoMemory) count history number = cause.NoMemory
+
+-- why a text that was read says no configuration
+abbrev pub Unsaid : List ℕ → Cause → Type 0
+Unsaid text (cause.Config rule key) = Breaks text (fault.Rule rule key)
+Unsaid text cause.NoMemory = ⊤
+Unsaid text cause.Done = ⊥
+Unsaid text cause.ReadFault = ⊥
+Unsaid text (cause.Words place) = ⊥
+Unsaid text cause.WriteFault = ⊥
+Unsaid text (cause.Full entries bytes input) = ⊥
+Unsaid text (cause.Line number place) = ⊥
 
 -- why no configuration was taken
 abbrev pub Refuses : Cause → SourceView → SourceView → Type 0

@@ -1,12 +1,15 @@
 -- What a run of feed did, by how it ended.
-use Rattle.std.specs.Prelude.{◌≡◌, ◌≢◌, ◌⊎◌, ℕ, ◌<◌, ◌≤◌, List, [], length, Option}
+use Rattle.std.specs.Prelude.{◌≡◌, ◌⊎◌, ℕ, ◌+◌, ◌≤◌, List, [], length, Option}
 use Rattle.outside.specs.Counts.{Rose}
 use Rattle.outside.specs.Told.{Taken, Written}
 use Rattle.tool_events.specs.declared.entry.Entry.{Entry}
 use Rattle.tool_events.specs.declared.config.Config.{Config}
+use Rattle.configuration.specs.declared.fault.ConfigFault.TheVariants as fault
+use Rattle.configuration.specs.Reading.{configuration_bytes, Says, Breaks}
 use Rattle.gem_model.specs.State.{opening}
 use Rattle.gem_model.specs.Sizes.{bytes_of}
-use Rattle.gem_model.specs.Command.{known_configuration, configuration_bytes}
+use Rattle.gem_model.specs.Run.{after_all}
+use Rattle.gem_model.specs.Recorded.{Recorded}
 use Rattle.gem_model.specs.Lines.{whole_lines}
 use Rattle.gem_model.specs.Feed.{AllRead, OutsideGrammar, QuitAt, feed_entries}
 use Rattle.gem_model.specs.Printed.{printed}
@@ -70,30 +73,44 @@ Shown c (cause.Line number place) held held' history = Written held held' (print
 Shown c (cause.Words place) held held' history = Written held held' (printed (opening c) history)
 Shown c (cause.Config rule key) held held' history = Written held held' (printed (opening c) history)
 
--- the configuration was read to its end, and is the one that is known
-pub record IsKnown (config config' : SourceView) : Type 0 where
-  pub text : Taken config.left config'.left known_configuration
-  pub whole : Whole config.left known_configuration
-  pub end : Rose config.ends config'.ends
-
--- another text was read, to its end or to as many bytes as are read of one at most; it breaks rule 0, which has no key
-pub record IsRefused (config config' : SourceView) (rule : ℕ) (key : List ℕ) : Type 0 where
-  pub rule_is : rule ≡ 0
-  pub key_is : key ≡ []
+-- the configuration was read to its end, and says this (this tool's profile, configuration)
+pub record IsRead (config config' : SourceView) (c : Config) : Type 0 where
   pub text : List ℕ
   pub taken : Taken config.left config'.left text
-  pub other : text ≢ known_configuration
-  pub whole : length text < configuration_bytes → Whole config.left text
-  pub most : length text ≤ configuration_bytes
+  pub says : Says text c
+  pub whole : Whole config.left text
+  pub end : Rose config.ends config'.ends
 
--- What was read of the configuration: nothing where the words are refused; where it wasn't read to its end the history
--- is empty.
-abbrev pub Configured : Cause → SourceView → SourceView → List Entry → Type 0
-Configured (cause.Words place) config config' history = config' ≡ config
-Configured (cause.Config rule key) config config' history = IsRefused config config' rule key
-Configured cause.ReadFault config config' history = IsKnown config config' ⊎ (history ≡ [])
-Configured cause.NoMemory config config' history = IsKnown config config' ⊎ (history ≡ [])
-Configured cause.WriteFault config config' history = IsKnown config config'
-Configured cause.Done config config' history = IsKnown config config'
-Configured (cause.Full entries bytes input) config config' history = IsKnown config config'
-Configured (cause.Line number place) config config' history = IsKnown config config'
+-- The text that was read is no configuration: this is the least rule that it breaks, with its key. It was read to its end, or
+-- to one byte more than a configuration may have (this tool's profile, configuration).
+pub record IsRefused (config config' : SourceView) (rule : ℕ) (key : List ℕ) : Type 0 where
+  pub text : List ℕ
+  pub taken : Taken config.left config'.left text
+  pub breaks : Breaks text (fault.Rule rule key)
+  pub whole : length text ≤ configuration_bytes → Whole config.left text
+  pub most : length text ≤ configuration_bytes + 1
+
+-- What was read of the configuration: nothing where the words are refused; a text that is none; or this one, to its end. Where
+-- a read failed or memory ran out before that, the history is empty.
+abbrev pub Configured : Config → Cause → SourceView → SourceView → List Entry → Type 0
+Configured c (cause.Words place) config config' history = config' ≡ config
+Configured c (cause.Config rule key) config config' history = IsRefused config config' rule key
+Configured c cause.ReadFault config config' history = IsRead config config' c ⊎ (history ≡ [])
+Configured c cause.NoMemory config config' history = IsRead config config' c ⊎ (history ≡ [])
+Configured c cause.WriteFault config config' history = IsRead config config' c
+Configured c cause.Done config config' history = IsRead config config' c
+Configured c (cause.Full entries bytes input) config config' history = IsRead config config' c
+Configured c (cause.Line number place) config config' history = IsRead config config' c
+
+-- what a run did under a configuration
+pub record RanUnder (c : Config) (why : Cause) (input input' : SourceView) (held held' : Option (List ℕ)) (history : List Entry) (notes : List SessionNote) : Type 0 where
+  -- All that is recorded holds of the history: it is a run of the tables from the first state, its notes are those that were
+  -- reported, each with one fate and sent in order, and so on.
+  pub recorded : Recorded c history (after_all (opening c) history)
+  -- It is within the limits.
+  pub entries_fit : length history ≤ c.max_entries
+  pub bytes_fit : bytes_of history ≤ c.max_bytes
+  -- It is what the text gave that was read of the input, and so are the notes, one for each session.
+  pub fed : Fed c why input input' history notes
+  -- Its lines are written, and no others.
+  pub printed : Shown c why held held' history

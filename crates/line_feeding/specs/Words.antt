@@ -1,14 +1,9 @@
--- What the values of the words' types say.
-use Rattle.std.specs.Prelude.{ℕ, List}
-use Rattle.line_feeding.specs.declared.words.Words.{Words}
-use Rattle.line_feeding.specs.declared.words.Words.TheVariants.{Feed}
-use Rattle.line_feeding.specs.declared.words.WordsFault.{WordsFault}
-use Rattle.line_feeding.specs.declared.words.WordsFault.TheVariants.{Place}
+-- Which words are refused as the command `feed`.
+use Rattle.std.specs.Prelude.{ℕ, List, Option}
+use Rattle.std.specs.Option.{option_or}
+use Rattle.program_words.specs.Commands.{feed_places, misfit, misfit_of}
 
--- the word that names the configuration
-abbrev pub file_of : Words → List ℕ
-file_of (Feed file) = file
-
--- the place of the first word that does not fit
-abbrev pub place_of : WordsFault → ℕ
-place_of (Place place) = place
+-- the place at which words are refused: where they are no command, the first that fits none; and where they are another
+-- command, the first that does not fit `feed CONFIG` (this tool's profile, the program's words)
+abbrev pub refused_at : List (List ℕ) → Option ℕ
+refused_at words = option_or (misfit words) (misfit_of 0 feed_places words)

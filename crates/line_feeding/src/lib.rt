@@ -3,10 +3,10 @@
 //! docs/profile/lines.md).
 //!
 //! The definitions of all that `feed` promises stand here too, with what follows from them alone. It posts no event: the reader
-//! of lines and `feed` itself stand in `top_calls`. Begin with `command_of` and `Ended`.
+//! of lines and `feed` itself stand in `top_calls`. Begin with `check_words` and `Ended`.
 #![tactic(auto)]
 
-mod configuration;
+mod configured;
 mod cuts;
 mod ended;
 mod halt;
@@ -15,11 +15,11 @@ mod read;
 mod words;
 mod write;
 
-pub use configuration::{check_configuration, known_config};
+pub use configured::read_configuration;
 pub use cuts::{cut_bytes, ends_run, quit_behind};
 pub use ended::{Cause, Ended, Notes, Panels, SessionNote};
 pub use halt::{Halt, InputEnd, InputRead};
 pub use print::outcome_text;
 pub use read::{TextFault, front, read_front, read_text};
-pub use words::{Words, WordsFault, command_of};
+pub use words::check_words;
 pub use write::{WriteFault, write_all};

@@ -319,15 +319,8 @@ fn a_line_of_over_six_hundred_thousand_bytes_is_refused(rt: HostRuntime) -> Resu
     Ok(())
 }
 
-// Words, the text of the configuration, why the run ends, and its status.
-const REFUSED: [(&[&str], &[u8], Cause, u8); 6] = [
-    (&[], KNOWN, Cause::Words(0), 1),
-    (&["feed"], KNOWN, Cause::Words(1), 1),
-    (&["feed", ""], KNOWN, Cause::Words(1), 1),
-    (&["feed", "-c"], KNOWN, Cause::Words(1), 1),
-    (&["fed", "c"], KNOWN, Cause::Words(0), 1),
-    (&["feed", "c", "d"], KNOWN, Cause::Words(2), 1),
-];
+// Texts that are no configuration and can stand in no file of conversations, since they are no text, or have no lines.
+const NO_TABLES: [&[u8]; 3] = [b"mdln = \"\xFF\"\n", b"mdln", b"\0"];
 
 // How a run of these words on a selected link ends, where the configuration has this text and its reads of these numbers
 // fail, and what it writes.
@@ -344,40 +337,53 @@ fn run_words(
     Ok((ended, out.into_bytes()))
 }
 
-// Whether these words and this text end the run so, before a session and with nothing printed.
-fn ends_so(
-    alloc: Global,
-    typed: &[&str],
-    text: &[u8],
-    cause: Cause,
-    status: u8,
-) -> Result<bool, Fail> {
-    let (ended, out) = run_words(alloc, typed, text, &[])?;
-    let is_so = ended.cause == cause && ended.status == status;
+// Whether this text is refused as no table of TOML, before a session and with nothing printed.
+fn is_no_table(alloc: Global, text: &[u8]) -> Result<bool, Fail> {
+    let (ended, out) = run_words(alloc, &["feed", "c"], text, &[])?;
+    let is_so = ended.cause == Cause::Config(0, Text80::empty()) && ended.status == 2;
     Ok(is_so && ended.sessions.as_slice().is_empty() && out.is_empty())
 }
 
-// The place of the first of these that end the run in another way.
-fn false_refusal(
-    alloc: Global,
-    all: &[(&[&str], &[u8], Cause, u8)],
-) -> Result<Option<usize>, Fail> {
-    for (place, (typed, text, cause, status)) in all.iter().enumerate() {
-        if !ends_so(alloc, typed, text, *cause, *status)? {
-            return Ok(Some(place));
-        }
+// A comment of so many bytes.
+fn comment(alloc: Global, length: usize) -> Result<Vec<u8>, Fail> {
+    let mut text = Vec::new(alloc);
+    for _ in 0..length {
+        text.push(b'#')?;
     }
-    Ok(None)
+    Ok(text)
+}
+
+// What a run on a selected link prints, and its status, where the configuration has this text.
+fn configured(alloc: Global, text: &[u8]) -> Result<(u8, Vec<u8>), Fail> {
+    let (ended, out) = run_words(alloc, &["feed", "c"], text, &[])?;
+    Ok((ended.status, out))
 }
 
 #[test]
-fn words_and_configurations_are_refused(rt: HostRuntime) -> Result<(), Fail> {
-    assert_eq!(rt; false_refusal(rt.alloc(), &REFUSED)?, None);
-    let typed = ["feed", "c"].as_slice();
-    for text in [b"".as_slice(), b"chambers = 3\n".as_slice()] {
-        let cause = Cause::Config(0, Text80::empty());
-        assert!(rt; ends_so(rt.alloc(), typed, text, cause, 2)?, "at {text:?}");
+fn texts_that_are_no_table_are_refused(rt: HostRuntime) -> Result<(), Fail> {
+    let alloc = rt.alloc();
+    for text in NO_TABLES {
+        assert!(rt; is_no_table(alloc, text)?, "at {text:?}");
     }
+    let long = comment(alloc, 65_537)?;
+    assert!(rt; is_no_table(alloc, long.as_slice())?);
+    Ok(())
+}
+
+// What a tool prints on a selected link that asks the host for communication: the select response, and S1F13 with GEM300 and
+// 1.0.00.
+const ASKED: &[u8] = b"+ 1\n> 0000000AFFFF0000000200000001\n> 0000001C0000810D0000000000010102410647454D3330304106312E302E3030\n";
+
+#[test]
+fn an_empty_configuration_has_each_default(rt: HostRuntime) -> Result<(), Fail> {
+    let alloc = rt.alloc();
+    let (status, out) = configured(alloc, b"")?;
+    assert_eq!(rt; status, 0);
+    assert_eq!(rt; out.as_slice(), ASKED);
+    let greatest = comment(alloc, 65_536)?;
+    let (status, out) = configured(alloc, greatest.as_slice())?;
+    assert_eq!(rt; status, 0);
+    assert_eq!(rt; out.as_slice(), ASKED);
     Ok(())
 }
 

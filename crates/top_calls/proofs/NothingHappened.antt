@@ -1,5 +1,5 @@
 -- What is recorded where nothing happened.
-use Rattle.std.proofs.Common.{◌≡◌, List, [], arith}
+use Rattle.std.proofs.Common.{◌≡◌, ◌≢◌, ℕ, List, [], Option, inl, inr, refl, arith}
 use Rattle.tool_events.specs.declared.config.Config.{Config}
 use Rattle.tool_events.specs.declared.entry.Entry.{Entry}
 use Rattle.tool_events.specs.Configs.{IsConfig}
@@ -8,13 +8,20 @@ use Rattle.gem_model.specs.Run.{after_all}
 use Rattle.gem_model.specs.Recorded.{Recorded}
 use Rattle.gem_model.specs.Command.{known_config}
 use Rattle.gem_model.proofs.Recording.{recorded-none}
+use Rattle.line_feeding.specs.declared.ended.Cause.{Cause}
+use Rattle.line_feeding.specs.declared.ended.Cause.TheVariants as cause
+use Rattle.line_feeding.specs.CauseOf.{Refuses}
+use Rattle.line_feeding.specs.Fed.{SourceView, Fed, Shown, IsRead, Configured, RanUnder}
+use Rattle.line_feeding.proofs.Reading.{Taken-nothing}
+use Rattle.line_feeding.proofs.Writing.{Written-nothing}
+use Rattle.top_calls.proofs.Ending.{Fed-refused, Shown-refused}
 
 pub recorded_none : (c : Config) (history : List Entry) → IsConfig c → history ≡ [] → Recorded c history (after_all (opening c) history)
 recorded_none c history bounds none = recorded-none c history bounds none
 
--- the known configuration keeps its bounds
-known_is : IsConfig known_config
-known_is = record {
+-- the worked configuration keeps its bounds
+worked_is : IsConfig known_config
+worked_is = record {
   device = omega arith;
   mdln_some = omega arith;
   mdln = omega arith;
@@ -42,5 +49,42 @@ known_is = record {
   start = omega arith;
 }
 
-pub recorded_known : (history : List Entry) → history ≡ [] → Recorded known_config history (after_all (opening known_config) history)
-recorded_known history none = recorded-none known_config history known_is none
+-- a run that reads no input does nothing under a configuration
+ran-nothing : (why : Cause) (input : SourceView) (held : Option (List ℕ)) → Fed known_config why input input [] [] → Shown known_config why held held [] → RanUnder known_config why input input held held [] []
+ran-nothing why input held fed printed = record {
+  recorded = recorded-none known_config [] worked_is refl;
+  entries_fit = omega arith;
+  bytes_fit = omega arith;
+  fed = fed;
+  printed = printed;
+}
+
+-- what was read of a configuration that was not taken
+configured-refused : (why : Cause) (config config' : SourceView) → Refuses why config config' → Configured known_config why config config' []
+configured-refused (cause.Config rule key) config config' h = h
+configured-refused cause.ReadFault config config' h = inr refl
+configured-refused cause.NoMemory config config' h = inr refl
+configured-refused cause.Done config config' h = absurd h
+configured-refused (cause.Words place) config config' h = absurd h
+configured-refused cause.WriteFault config config' h = absurd h
+configured-refused (cause.Full entries bytes number) config config' h = absurd h
+configured-refused (cause.Line number place) config config' h = absurd h
+
+-- a run that took no configuration
+pub ran_refused : (why : Cause) (config config' input : SourceView) (held : Option (List ℕ)) → Refuses why config config' → (c : Config) × Configured c why config config' [] × RanUnder c why input input held held [] []
+ran_refused why config config' input held h = (known_config, configured-refused why config config' h, ran-nothing why input held (Fed-refused known_config why config config' input h) (Shown-refused known_config why config config' held h))
+
+-- a run whose words are refused
+pub ran_unfit : (place : ℕ) (config input : SourceView) (held : Option (List ℕ)) → (c : Config) × Configured c (cause.Words place) config config [] × RanUnder c (cause.Words place) input input held held [] []
+ran_unfit place config input held = (known_config, refl, ran-nothing (cause.Words place) input held ([], Taken-nothing input.left, (refl, refl), refl) (Written-nothing held))
+
+-- what was read of a configuration that was taken, by how the run under it ended
+pub configured-read : (c : Config) (why : Cause) (config config' : SourceView) (history : List Entry) → IsRead config config' c → ((place : ℕ) → why ≢ cause.Words place) → ((rule : ℕ) (key : List ℕ) → why ≢ cause.Config rule key) → Configured c why config config' history
+configured-read c cause.Done config config' history read words rules = read
+configured-read c cause.ReadFault config config' history read words rules = inl read
+configured-read c cause.WriteFault config config' history read words rules = read
+configured-read c cause.NoMemory config config' history read words rules = inl read
+configured-read c (cause.Full entries bytes number) config config' history read words rules = read
+configured-read c (cause.Line number place) config config' history read words rules = read
+configured-read c (cause.Words place) config config' history read words rules = absurd (words place refl)
+configured-read c (cause.Config rule key) config config' history read words rules = absurd (rules rule key refl)

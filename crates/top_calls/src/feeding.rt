@@ -2,15 +2,16 @@
 ghost use Rattle.std.specs.Prelude.{◌≡◌, ◌≢◌, ◌≤◌, ◌↔◌, ◌⊎◌, ℕ, Some, [], List, length, map, Err};
 ghost use Rattle.outside.specs.Counts.{Rose};
 ghost use Rattle.tool_events.specs.Configs.{IsConfig};
+ghost use Rattle.tool_events.specs.declared.config.Config.{Config};
 ghost use Rattle.gem_model.specs.State.{opening};
 ghost use Rattle.gem_model.specs.Run.{after_all};
 ghost use Rattle.gem_model.specs.Recorded.{Recorded};
 ghost use Rattle.gem_model.specs.Sizes.{bytes_of};
-ghost use Rattle.gem_model.specs.Command.{misfit, known_config};
 ghost use Rattle.line_feeding.specs.declared.ended.Cause.TheVariants as cause;
 ghost use Rattle.line_feeding.specs.Counts.{Failed};
 ghost use Rattle.line_feeding.specs.Status.{status_of};
-ghost use Rattle.line_feeding.specs.Fed.{looked, Fed, Shown, Configured};
+ghost use Rattle.line_feeding.specs.Fed.{looked, Fed, Shown, Configured, RanUnder};
+ghost use Rattle.line_feeding.specs.Words.{refused_at};
 ghost use Rattle.line_feeding.specs.CauseOf.{cause_after};
 
 use crate::input::read_lines;
@@ -18,8 +19,7 @@ use crate::notes::session_notes;
 use crate::reader::Reader;
 use gem_ids::Text80;
 use line_feeding::{
-    Cause, Ended, Halt, InputEnd, InputRead, Notes, WordsFault, check_configuration, command_of,
-    known_config,
+    Cause, Ended, Halt, InputEnd, InputRead, Notes, check_words, read_configuration,
 };
 use outside::{Sink, Source};
 use std::alloc::Global;
@@ -95,10 +95,10 @@ pub fn feed_config<S: Source, K: Sink>(
 
 /// Does the command `feed`: reads the configuration, then lines of the input, and writes the lines of what happens.
 ///
-/// The words are checked first, then the configuration is read and checked, then the input is read. The returned value
+/// The words are checked first, then the configuration is read to its end, then the input is read. The returned value
 /// has the history and a note of each session, and says by its status and cause why the run ended (this tool's profile,
 /// docs/profile/lines.md).
-#[tactic(auto, using(crate::proofs::NothingHappened::recorded_known))]
+#[tactic(auto, using(crate::proofs::NothingHappened::ran_refused, crate::proofs::NothingHappened::ran_unfit))]
 pub fn feed<C: Source, S: Source, K: Sink>(
     alloc: Global,
     words: &[Text80],
@@ -106,21 +106,14 @@ pub fn feed<C: Source, S: Source, K: Sink>(
     input: &mut S,
     out: &mut K,
 ) -> Ended
-    // All that is recorded holds of the history: it is a run of the tables from the first state, its notes are those that were
-    // reported, each with one fate and sent in order, and so on.
-    ensures recorded { Recorded known_config result.history (after_all (opening known_config) result.history) }
-    // It is within the limits.
-    ensures entries_fit { length result.history ≤ known_config.max_entries }
-    ensures bytes_fit { bytes_of result.history ≤ known_config.max_bytes }
-    // It is what the text gave that was read of the input, and so are the notes, one for each session.
-    ensures fed { Fed known_config result.cause (looked S.left S.faults S.ends input.old) (looked S.left S.faults S.ends input.new) result.history result.sessions }
-    // Its lines are written, and no others.
-    ensures printed { Shown known_config result.cause (K.held out.old) (K.held out.new) result.history }
-    ensures configured { Configured result.cause (looked C.left C.faults C.ends config.old) (looked C.left C.faults C.ends config.new) result.history }
+    // It ran under the configuration that was read, which is the one that its text says; where none was read, nothing happened.
+    ensures ran { (c : Config)
+        × Configured c result.cause (looked C.left C.faults C.ends config.old) (looked C.left C.faults C.ends config.new) result.history
+        × RanUnder c result.cause (looked S.left S.faults S.ends input.old) (looked S.left S.faults S.ends input.new) (K.held out.old) (K.held out.new) result.history result.sessions }
 
     // When each cause comes.
     ensures status { result.status ≡ status_of result.cause }
-    ensures words { (place : ℕ) → (result.cause ≡ cause.Words place) ↔ (misfit words.now ≡ Some place) }
+    ensures words { (place : ℕ) → (result.cause ≡ cause.Words place) ↔ (refused_at words.now ≡ Some place) }
     ensures read_fault { result.cause ≡ cause.ReadFault
         → Rose (C.faults config.old) (C.faults config.new) ⊎ Rose (S.faults input.old) (S.faults input.new) }
     ensures write_fault { result.cause ≡ cause.WriteFault
@@ -134,11 +127,11 @@ pub fn feed<C: Source, S: Source, K: Sink>(
     // Until they are built.
     ensures no_panels { result.panels ≡ [] }
 {
-    if let Err(WordsFault::Place(place)) = command_of(words) {
+    if let Err(place) = check_words(words) {
         return Ended::without_history(alloc, Cause::Words(place));
     }
-    match check_configuration(alloc, config) {
-        Ok(()) => feed_config(alloc, &known_config(), input, out),
+    match read_configuration(alloc, config) {
+        Ok(config) => feed_config(alloc, &config, input, out),
         Err(cause) => Ended::without_history(alloc, cause),
     }
 }

@@ -13,4 +13,4 @@ mod notes;
 mod reader;
 
 pub use feeding::{feed, feed_config};
-pub use line_feeding::{Cause, Ended, Notes, Panels, SessionNote, known_config};
+pub use line_feeding::{Cause, Ended, Notes, Panels, SessionNote};

@@ -1,0 +1,44 @@
+//! How the configuration of `feed` is read.
+ghost use Rattle.std.specs.Prelude.{◌≡◌, ◌≢◌, Err, IfOk, IfErr};
+ghost use Rattle.tool_events.specs.Configs.{IsConfig};
+ghost use Rattle.line_feeding.specs.Fed.{looked, IsRead};
+ghost use Rattle.configuration.specs.Reading.{Says};
+ghost use Rattle.line_feeding.specs.CauseOf.{Refuses, Unsaid};
+
+use crate::ended::Cause;
+use crate::read::{TextFault, read_text};
+use configuration::{CONFIGURATION_BYTES, ConfigFault, read_config};
+use outside::Source;
+use std::alloc::Global;
+use tool_events::Config;
+
+/// So many bytes are read at most: one more than a configuration may have.
+const MOST_READ: usize = CONFIGURATION_BYTES + 1;
+
+/// What a text says, or why there is none.
+fn config_of(alloc: Global, text: &[u8]) -> Result<Config, Cause>
+    ensures says { IfOk result (λ c. Says text.now c) }
+    ensures bounds { IfOk result IsConfig }
+    ensures refused { IfErr result (Unsaid text.now) }
+{
+    match read_config(alloc, text) {
+        Ok(config) => Ok(config),
+        Err(ConfigFault::Rule { rule, key }) => Err(Cause::Config(rule, key)),
+        Err(ConfigFault::NoMemory) => Err(Cause::NoMemory),
+    }
+}
+
+/// Reads a configuration to its end, or to its 65,537th byte, and answers what it says (this tool's profile, configuration).
+/// `Config` is the least rule that it breaks, with its key; `ReadFault` comes where a read failed.
+pub fn read_configuration<C: Source>(alloc: Global, config: &mut C) -> Result<Config, Cause>
+    ensures read { IfOk result (λ c. IsRead (looked C.left C.faults C.ends config.old) (looked C.left C.faults C.ends config.new) c) }
+    ensures bounds { IfOk result IsConfig }
+    ensures unfailed { result ≢ Err Cause.ReadFault → C.faults config.new ≡ C.faults config.old }
+    ensures refused { IfErr result (λ cause. Refuses cause (looked C.left C.faults C.ends config.old) (looked C.left C.faults C.ends config.new)) }
+{
+    match read_text(alloc, config, MOST_READ) {
+        Ok(text) => config_of(alloc, text.as_slice()),
+        Err(TextFault::Read) => Err(Cause::ReadFault),
+        Err(TextFault::NoMemory) => Err(Cause::NoMemory),
+    }
+}

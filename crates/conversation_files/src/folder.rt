@@ -45,20 +45,43 @@ fn play_all<P: Player>(
     Ok((count, failed))
 }
 
-/// The sections of a file of this name and text. One whose name ends in `.lines` is what the tool itself is given.
-fn sections<'a>(alloc: Global, file: &'a str, text: &'a str) -> Result<Vec<Section<'a>>> {
+/// The text of the configuration that stands beside a file: `NAME.toml` beside `NAME.lines`. It is empty where there is none.
+fn configuration_beside(rt: &HostRuntime, names: &[String], file: &str) -> Result<String> {
+    if let Some(name) = file.strip_suffix(".lines") {
+        let beside = format!(in rt.alloc(); "{name}.toml")?;
+        if names.iter().any(|other| other.as_str() == beside.as_str()) {
+            return Ok(fs::read_to_string(rt, beside.as_str())?);
+        }
+    }
+    Ok(String::new(rt.alloc()))
+}
+
+/// The sections of a file of this name and text. One whose name ends in `.lines` is what the tool itself is given, under this
+/// configuration.
+fn sections<'a>(
+    alloc: Global,
+    file: &'a str,
+    text: &'a str,
+    configuration: &'a str,
+) -> Result<Vec<Section<'a>>> {
     if !file.ends_with(".lines") {
         return read(alloc, text);
     }
     let mut sections = Vec::new(alloc);
-    sections.push(read_input(alloc, file, text)?)?;
+    sections.push(read_input(alloc, file, text, configuration)?)?;
     Ok(sections)
 }
 
 /// Plays the conversations of a file, and tells whether all of them went as they are written.
-fn play_file<P: Player>(rt: &HostRuntime, player: &P, file: &str) -> Result<bool> {
+fn play_file<P: Player>(
+    rt: &HostRuntime,
+    player: &P,
+    names: &[String],
+    file: &str,
+) -> Result<bool> {
     let text = fs::read_to_string(rt, file)?;
-    let sections = sections(rt.alloc(), file, text.as_str())?;
+    let configuration = configuration_beside(rt, names, file)?;
+    let sections = sections(rt.alloc(), file, text.as_str(), configuration.as_str())?;
     let (count, failed) = play_all(rt, player, file, sections.as_slice())?;
     ensure!(count > 0, "no conversation");
     let noun = if count == 1 {
@@ -75,8 +98,13 @@ fn play_file<P: Player>(rt: &HostRuntime, player: &P, file: &str) -> Result<bool
 }
 
 /// The same, where a file that cannot be read counts as one of which a conversation failed.
-fn is_well<P: Player>(rt: &HostRuntime, player: &P, file: &str) -> Result<bool> {
-    match play_file(rt, player, file) {
+fn is_well<P: Player>(
+    rt: &HostRuntime,
+    player: &P,
+    names: &[String],
+    file: &str,
+) -> Result<bool> {
+    match play_file(rt, player, names, file) {
         Ok(well) => Ok(well),
         Err(why) => {
             eprintln!(rt; "{file}: {why:#}")?;
@@ -90,7 +118,8 @@ fn run<P: Player>(rt: &HostRuntime, player: &P) -> Result<bool> {
     let names = names(rt)?;
     let mut well = !names.is_empty();
     for name in names.iter() {
-        if !is_well(rt, player, name.as_str())? {
+        let is_configuration = name.as_str().ends_with(".toml");
+        if !is_configuration && !is_well(rt, player, names.as_slice(), name.as_str())? {
             well = false;
         }
     }
@@ -99,7 +128,7 @@ fn run<P: Player>(rt: &HostRuntime, player: &P) -> Result<bool> {
 
 /// Plays each file of the folder in which a program is run, in the order of their names, and prints a line for each: its
 /// name, and how many conversations it has. A file whose name ends in `.lines` is what the tool itself is given, and one
-/// conversation. Where a file cannot be read, or has no conversation, or one of them goes otherwise than it is written,
+/// conversation; one of the same name that ends in `.toml` is its configuration. Where a file cannot be read, or has no conversation, or one of them goes otherwise than it is written,
 /// standard error tells which and where, and the status is 1; so it is where there is no file.
 pub fn play_folder<P: Player>(rt: &HostRuntime, player: &P) -> ExitCode {
     match run(rt, player) {

@@ -28,8 +28,12 @@ fn is_communication(line: &Line<'_>) -> bool {
     line.kind == Kind::Key && line.text.starts_with("communication ")
 }
 
-/// The text of the configuration. The tool begins COMMUNICATING where no line says how communication begins.
+/// The text of the configuration: that of a file, where there is one, and else of the lines of keys. The tool begins
+/// COMMUNICATING where none of these says how communication begins.
 pub fn configuration_of(alloc: Global, lines: &[Line<'_>]) -> Result<String, AllocError> {
+    if lines.iter().any(|line| line.kind == Kind::Configured) {
+        return text_of(alloc, lines, Kind::Configured);
+    }
     let keys = text_of(alloc, lines, Kind::Key)?;
     if lines.iter().any(is_communication) {
         return Ok(keys);

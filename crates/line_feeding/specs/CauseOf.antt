@@ -3,6 +3,7 @@ use Rattle.std.specs.Prelude.{ℕ, ⊤, List, length}
 use Rattle.outside.specs.Counts.{Rose}
 use Rattle.tool_events.specs.declared.entry.Entry.{Entry}
 use Rattle.gem_model.specs.Sizes.{bytes_of}
+use Rattle.configuration.specs.declared.fault.ConfigFault.{ConfigFault}
 use Rattle.configuration.specs.declared.fault.ConfigFault.TheVariants as fault
 use Rattle.configuration.specs.Reading.{Breaks}
 use Rattle.line_feeding.specs.declared.ended.Cause.{Cause}
@@ -22,6 +23,11 @@ cause_after (input.Halted halt.Quit) count history number = cause.Done
 cause_after (input.Halted halt.Full) count history number = cause.Full (length history) (bytes_of history) count
 cause_after (input.Halted halt.Write) count history number = cause.WriteFault
 cause_after (input.Halted halt.NoMemory) count history number = cause.NoMemory
+
+-- why a run ended, by why the text of its configuration says none (this tool's profile, statuses)
+abbrev pub cause_for : ConfigFault → Cause
+cause_for (fault.Rule rule key) = cause.Config rule key
+cause_for fault.NoMemory = cause.NoMemory
 
 -- why a text that was read says no configuration
 abbrev pub Unsaid : List ℕ → Cause → Type 0

@@ -3,7 +3,7 @@ ghost use Rattle.std.specs.Prelude.{◌≡◌, ◌≢◌, Err, IfOk, IfErr};
 ghost use Rattle.tool_events.specs.Configs.{IsConfig};
 ghost use Rattle.line_feeding.specs.Fed.{looked, IsRead};
 ghost use Rattle.configuration.specs.Reading.{Says};
-ghost use Rattle.line_feeding.specs.CauseOf.{Refuses, Unsaid};
+ghost use Rattle.line_feeding.specs.CauseOf.{Refuses, Unsaid, cause_for};
 
 use crate::ended::Cause;
 use crate::read::{TextFault, read_text};
@@ -15,7 +15,18 @@ use tool_events::Config;
 /// So many bytes are read at most: one more than a configuration may have.
 const MOST_READ: usize = CONFIGURATION_BYTES + 1;
 
-/// What a text says, or why there is none.
+/// Why a text says no configuration.
+fn cause_of(fault: ConfigFault) -> Cause
+    ensures { result ≡ cause_for fault }
+{
+    match fault {
+        ConfigFault::Rule { rule, key } => Cause::Config(rule, key),
+        ConfigFault::NoMemory => Cause::NoMemory,
+    }
+}
+
+/// What a text says, or why it says nothing.
+#[tactic(auto, using(crate::proofs::Configured::unsaid))]
 fn config_of(alloc: Global, text: &[u8]) -> Result<Config, Cause>
     ensures says { IfOk result (λ c. Says text.now c) }
     ensures bounds { IfOk result IsConfig }
@@ -23,13 +34,13 @@ fn config_of(alloc: Global, text: &[u8]) -> Result<Config, Cause>
 {
     match read_config(alloc, text) {
         Ok(config) => Ok(config),
-        Err(ConfigFault::Rule { rule, key }) => Err(Cause::Config(rule, key)),
-        Err(ConfigFault::NoMemory) => Err(Cause::NoMemory),
+        Err(fault) => Err(cause_of(fault)),
     }
 }
 
 /// Reads a configuration to its end, or to its 65,537th byte, and answers what it says (this tool's profile, configuration).
 /// `Config` is the least rule that it breaks, with its key; `ReadFault` comes where a read failed.
+#[tactic(auto, using(crate::proofs::Configured::is_read, crate::proofs::Configured::refuses))]
 pub fn read_configuration<C: Source>(alloc: Global, config: &mut C) -> Result<Config, Cause>
     ensures read { IfOk result (λ c. IsRead (looked C.left C.faults C.ends config.old) (looked C.left C.faults C.ends config.new) c) }
     ensures bounds { IfOk result IsConfig }

@@ -98,12 +98,7 @@ fn play_file<P: Player>(
 }
 
 /// The same, where a file that cannot be read counts as one of which a conversation failed.
-fn is_well<P: Player>(
-    rt: &HostRuntime,
-    player: &P,
-    names: &[String],
-    file: &str,
-) -> Result<bool> {
+fn is_well<P: Player>(rt: &HostRuntime, player: &P, names: &[String], file: &str) -> Result<bool> {
     match play_file(rt, player, names, file) {
         Ok(well) => Ok(well),
         Err(why) => {

@@ -5,4 +5,4 @@ pub mod Cutting
 pub mod Counting
 pub mod Reading
 pub mod Noting
-pub mod Configured
+pub mod Configuration

@@ -26,7 +26,7 @@ fn cause_of(fault: ConfigFault) -> Cause
 }
 
 /// What a text says, or why it says nothing.
-#[tactic(auto, using(crate::proofs::Configured::unsaid))]
+#[tactic(auto, using(crate::proofs::Configuration::unsaid))]
 fn config_of(alloc: Global, text: &[u8]) -> Result<Config, Cause>
     ensures says { IfOk result (λ c. Says text.now c) }
     ensures bounds { IfOk result IsConfig }
@@ -40,7 +40,7 @@ fn config_of(alloc: Global, text: &[u8]) -> Result<Config, Cause>
 
 /// Reads a configuration to its end, or to its 65,537th byte, and answers what it says (this tool's profile, configuration).
 /// `Config` is the least rule that it breaks, with its key; `ReadFault` comes where a read failed.
-#[tactic(auto, using(crate::proofs::Configured::is_read, crate::proofs::Configured::refuses))]
+#[tactic(auto, using(crate::proofs::Configuration::is_read, crate::proofs::Configuration::refuses))]
 pub fn read_configuration<C: Source>(alloc: Global, config: &mut C) -> Result<Config, Cause>
     ensures read { IfOk result (λ c. IsRead (looked C.left C.faults C.ends config.old) (looked C.left C.faults C.ends config.new) c) }
     ensures bounds { IfOk result IsConfig }

@@ -372,7 +372,8 @@ fn texts_that_are_no_table_are_refused(rt: HostRuntime) -> Result<(), Fail> {
 
 // What a tool prints on a selected link that asks the host for communication: the select response, and S1F13 with GEM300 and
 // 1.0.00.
-const ASKED: &[u8] = b"+ 1\n> 0000000AFFFF0000000200000001\n> 0000001C0000810D0000000000010102410647454D3330304106312E302E3030\n";
+const ASKED: &[u8] =
+    b"+ 1\n> 0000000AFFFF0000000200000001\n> 0000001C0000810D0000000000010102410647454D3330304106312E302E3030\n";
 
 #[test]
 fn an_empty_configuration_has_each_default(rt: HostRuntime) -> Result<(), Fail> {

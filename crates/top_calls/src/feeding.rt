@@ -98,7 +98,6 @@ pub fn feed_config<S: Source, K: Sink>(
 /// The words are checked first, then the configuration is read to its end, then the input is read. The returned value
 /// has the history and a note of each session, and says by its status and cause why the run ended (this tool's profile,
 /// docs/profile/lines.md).
-#[tactic(auto, using(crate::proofs::NothingHappened::ran_refused, crate::proofs::NothingHappened::ran_unfit))]
 pub fn feed<C: Source, S: Source, K: Sink>(
     alloc: Global,
     words: &[Text80],

@@ -1,5 +1,5 @@
 -- The values of variables are small, and so are the texts of notes.
-use Rattle.std.proofs.Common.{◌≡◌, ℕ, suc, ◌+◌, ◌*◌, ◌^◌, ◌<◌, ◌≤◌, ◌==◌, Bool, true, false, if◌then◌else◌, List, [], ◌∷◌, ◌++◌, length, map, filter, slice_get, Option, Some, None, option_map, unwrap_or, refl, sym, ◌∙◌, ap, subst, arith, length-append}
+use Rattle.std.proofs.Common.{◌≡◌, ℕ, zero, suc, ◌≤◌, ◌==◌, Bool, true, false, if◌then◌else◌, List, [], ◌∷◌, length, map, filter, slice_get, Option, Some, None, is_some, IfSome, option_map, unwrap_or, refl, ap, subst, arith}
 use Rattle.std.specs.List.{All}
 use Rattle.gem_ids.specs.Texts.{IsText}
 use Rattle.gem_ids.specs.Civil.{time_digits}
@@ -29,10 +29,12 @@ use Rattle.gem_states.specs.Communication.{comm_number}
 use Rattle.gem_states.specs.Control.{control_number}
 use Rattle.gem_model.specs.State.{State, clock_now}
 use Rattle.core_state.proofs.MomentTexts.{clock_text}
-use Rattle.gem_model.specs.Values.{Occasion, no_firing, svids, port_vids, Valued, tool_variables, port_values, transfers, accesses, port_carriers, event_variables, value_among, status_value, constant_value, or_else, value_of}
+use Rattle.gem_rows.specs.Variables.{status_variable, status_vids}
+use Rattle.gem_rows.specs.declared.variables.StatusVariable.{StatusVariable}
+use Rattle.gem_rows.specs.declared.variables.StatusVariable.TheVariants as status
+use Rattle.gem_model.specs.Values.{Occasion, no_firing, port_value, variable_value, value_by, event_value, status_value, svids, constant_value, or_else, value_of}
 use Rattle.load_port.specs.declared.port.Port.{Port}
 use Rattle.load_port.specs.Tables.{transfer_number, access_number}
-use Rattle.load_port.specs.Ports.{most_ports}
 use Rattle.core_state.specs.Named.{AreNamed}
 
 -- a value within the bounds of a variable
@@ -66,48 +68,46 @@ constant_small : (v : Val) → Small (value_item v)
 constant_small (Number n) = record { depth = omega arith; size = omega arith; bodies = omega arith }
 constant_small (Truth t) = record { depth = omega arith; size = omega arith; bodies = omega arith }
 
--- each of these has a small value
-abbrev AllSmall : List Valued → Type 0
-AllSmall [] = Unit {0}
-AllSmall (v ∷ vs) = Small v.value × AllSmall vs
+-- what a port shows
+port_small : (g : State) (number : ℕ) (value : Port → Data) → ((place : ℕ) (p : Port) → slice_get g.floor.ports place ≡ Some p → Small (value p)) → IfSome (port_value g number value) Small
+port_small g zero value each = tt
+port_small g (suc place) value each = by_port (slice_get g.floor.ports place) refl
+  where
+    by_port : (o : Option Port) → slice_get g.floor.ports place ≡ o → IfSome (option_map value o) Small
+    by_port None is = tt
+    by_port (Some p) is = each place p is
 
-this_small : (b : Bool) (x d : Data) (o : Option Data) → Small x → (o ≡ Some d → Small d) → (if b then Some x else o) ≡ Some d → Small d
-this_small true x d o small others here = let same : x ≡ d = cc in subst (λ (e : Data). Small e) same small
-this_small false x d o small others here = others here
+-- each variable has a small value, or none
+variable_small : (g : State) → length g.alarms ≤ most_alarms → AreNamed g.floor.ports → (variable : StatusVariable) → IfSome (variable_value g variable) Small
+variable_small g few named status.Clock = text_small (time_digits (clock_now g)) (clock_text g)
+variable_small g few named status.CommState = number_small (comm_number g.comm)
+variable_small g few named status.ControlState = number_small (control_number g.control)
+variable_small g few named status.SpoolCountActual = count_small (length g.line.spool.notes)
+variable_small g few named status.SpoolCountTotal = count_small g.line.spool.total
+variable_small g few named status.SpoolLoad = number_small (load_number g.line.spool.load)
+variable_small g few named status.SpoolUnload = number_small (unload_number g.line.spool.unload)
+variable_small g few named status.AlarmsSet = alarms_small g.alarms few
+variable_small g few named (status.PortTransfer n) = port_small g n (λ p. u1 (transfer_number p.states.transfer ∷ [])) (λ i p there. number_small (transfer_number p.states.transfer))
+variable_small g few named (status.PortAccess n) = port_small g n (λ p. u1 (access_number p.states.access ∷ [])) (λ i p there. number_small (access_number p.states.access))
+variable_small g few named (status.PortCarrier n) = port_small g n (λ p. ascii (unwrap_or p.carrier [])) (λ i p there. text_small (unwrap_or p.carrier []) (named i p there))
+variable_small g few named status.ProcessJobCount = tt
+variable_small g few named status.ControlJobCount = tt
+variable_small g few named status.ArmSubstrate = tt
+variable_small g few named status.AlignerSubstrate = tt
+variable_small g few named (status.ChamberSubstrate n) = tt
 
-among_small : (vs : List Valued) → AllSmall vs → AreSmallValues (value_among vs)
-among_small [] small vid d is = absurd (cc)
-among_small (v ∷ vs) small vid d is = this_small (v.vid == vid) v.value d (value_among vs vid) small.0 (among_small vs small.1 vid d) is
+-- a value that is there is small
+small_there : (o : Option Data) (d : Data) → IfSome o Small → o ≡ Some d → Small d
+small_there None d small here = absurd (cc)
+small_there (Some e) d small here = let same : e ≡ d = cc in subst (λ (x : Data). Small x) same small
 
-tool_small : (g : State) → length g.alarms ≤ most_alarms → AreSmallValues (value_among (tool_variables g))
-tool_small g few =
-    among_small (tool_variables g) (
-      text_small (time_digits (clock_now g)) (clock_text g),
-      (
-        number_small (comm_number g.comm),
-        (
-          number_small (control_number g.control),
-          (
-            count_small (length g.line.spool.notes),
-            (
-              count_small g.line.spool.total,
-              (
-                number_small (load_number g.line.spool.load),
-                (
-                  number_small (unload_number g.line.spool.unload),
-                  (alarms_small g.alarms few, tt),
-                ),
-              ),
-            ),
-          ),
-        ),
-      ),
-    )
-
--- the variables of the ports
-ports_small : (base : ℕ) (value : Port → Data) (n : ℕ) (ports : List Port) → ((i : ℕ) (p : Port) → slice_get ports i ≡ Some p → Small (value p)) → AllSmall (port_values base value n ports)
-ports_small base value n [] each = tt
-ports_small base value n (p ∷ ps) each = (each 0 p refl, ports_small base value (n + 1) ps (λ i q is. each (suc i) q is))
+event_small : (o : Occasion) (vid : ℕ) → IsText o.object → IfSome (event_value o vid) Small
+event_small o vid is = by_test (vid == 100) (vid == 101)
+  where
+    by_test : (object row : Bool) → IfSome (if object then Some (ascii o.object) else (if row then Some (u2 (o.row ∷ [])) else None)) Small
+    by_test true row = text_small o.object is
+    by_test false true = row_small o.row
+    by_test false false = tt
 
 pub constants_small : (g : State) → AreSmallValues (constant_value g)
 constants_small g vid d is = by_value (constants.value_of vid g.constants) is
@@ -121,23 +121,19 @@ either_small None y d first next is = next is
 either_small (Some e) y d first next is = first is
 
 pub status_small : (g : State) → length g.alarms ≤ most_alarms → AreNamed g.floor.ports → AreSmallValues (status_value g)
-status_small g few named vid d is =
-    either_small (value_among (tool_variables g) vid) (or_else (value_among (transfers g) vid) (or_else (value_among (accesses g) vid) (value_among (port_carriers g) vid))) d
-    (tool_small g few vid d)
-    (either_small (value_among (transfers g) vid) (or_else (value_among (accesses g) vid) (value_among (port_carriers g) vid)) d
-    (among_small (transfers g) (ports_small 30 (λ p. u1 (transfer_number p.states.transfer ∷ [])) 1 g.floor.ports (λ i p there. number_small (transfer_number p.states.transfer))) vid d)
-    (either_small (value_among (accesses g) vid) (value_among (port_carriers g) vid) d
-    (among_small (accesses g) (ports_small 40 (λ p. u1 (access_number p.states.access ∷ [])) 1 g.floor.ports (λ i p there. number_small (access_number p.states.access))) vid d)
-    (among_small (port_carriers g) (ports_small 50 (λ p. ascii (unwrap_or p.carrier [])) 1 g.floor.ports (λ i p there. text_small (unwrap_or p.carrier []) (named i p there))) vid d)))
-    is
+status_small g few named vid d is = by_variable (status_variable vid) is
+  where
+    by_variable : (o : Option StatusVariable) → value_by g o ≡ Some d → Small d
+    by_variable None here = absurd (cc)
+    by_variable (Some variable) here = small_there (variable_value g variable) d (variable_small g few named variable) here
 
 -- each variable has a small value
 pub all_small : (o : Occasion) (g : State) → IsText o.object → length g.alarms ≤ most_alarms → AreNamed g.floor.ports → AreSmallValues (value_of o g)
 all_small o g object few named vid d is =
-    either_small (status_value g vid) (or_else (value_among (event_variables o) vid) (constant_value g vid)) d
+    either_small (status_value g vid) (or_else (event_value o vid) (constant_value g vid)) d
     (status_small g few named vid d)
-    (either_small (value_among (event_variables o) vid) (constant_value g vid) d
-    (among_small (event_variables o) (text_small o.object object, (row_small o.row, tt)) vid d)
+    (either_small (event_value o vid) (constant_value g vid) d
+    (small_there (event_value o vid) d (event_small o vid object))
     (constants_small g vid d))
     is
 
@@ -171,23 +167,19 @@ length-map : {A B : Type 0} (f : A → B) (xs : List A) → length (map f xs) �
 length-map f [] = refl
 length-map f (x ∷ xs) = ap suc (length-map f xs)
 
-port_vids_are : (base n : ℕ) (ports : List Port) → length (port_vids base n ports) ≡ length ports
-port_vids_are base n [] = refl
-port_vids_are base n (p ∷ ps) = ap suc (port_vids_are base (n + 1) ps)
+filter_few : {A : Type 0} (p : A → Bool) (xs : List A) → length (filter p xs) ≤ length xs
+filter_few p [] = omega arith
+filter_few p (x ∷ xs) = by_test (p x) refl (filter_few p xs)
+  where
+    by_test : (b : Bool) → p x ≡ b → length (filter p xs) ≤ length xs → length (filter p (x ∷ xs)) ≤ length (x ∷ xs)
+    by_test true is rest = rw is (omega (arith, rest))
+    by_test false is rest = rw is (omega (arith, rest))
 
-few_svids : (g : State) → length g.floor.ports ≤ most_ports → length (svids g) ≤ 1024
-few_svids g few =
-    let ps = g.floor.ports in
-    let all = length-append (map (λ (v : Valued). v.vid) (tool_variables g)) (port_vids 30 1 ps ++ (port_vids 40 1 ps ++ port_vids 50 1 ps)) in
-    let ports = length-append (port_vids 30 1 ps) (port_vids 40 1 ps ++ port_vids 50 1 ps) in
-    let rest = length-append (port_vids 40 1 ps) (port_vids 50 1 ps) in
-    let transfer = port_vids_are 30 1 ps in
-    let access = port_vids_are 40 1 ps in
-    let carrier = port_vids_are 50 1 ps in
-    omega (arith, all, ports, rest, transfer, access, carrier, few)
+few_svids : (g : State) → length (svids g) ≤ 1024
+few_svids g = let less = filter_few (λ (n : ℕ). is_some (status_value g n)) status_vids in omega (arith, less)
 
-pub few_status : (g : State) (ids : List ℕ) → length g.alarms ≤ most_alarms → length g.floor.ports ≤ most_ports → AreNamed g.floor.ports → length ids ≤ 1024 → AreFew 1024 1 84 (value_items (status_value g) (or_all (svids g) ids))
-few_status g ids alarms ports named few = few_values_of (status_value g) (or_all (svids g) ids) (status_small g alarms named) (few_or_all (svids g) ids (few_svids g ports) few)
+pub few_status : (g : State) (ids : List ℕ) → length g.alarms ≤ most_alarms → AreNamed g.floor.ports → length ids ≤ 1024 → AreFew 1024 1 84 (value_items (status_value g) (or_all (svids g) ids))
+few_status g ids alarms named few = few_values_of (status_value g) (or_all (svids g) ids) (status_small g alarms named) (few_or_all (svids g) ids (few_svids g) few)
 
 pub few_constants : (g : State) (ids : List ℕ) → length ids ≤ 1024 → AreFew 1024 1 84 (value_items (constant_value g) (or_all constant_ids ids))
 few_constants g ids few = few_values_of (constant_value g) (or_all constant_ids ids) (constants_small g) (few_or_all constant_ids ids (omega arith) few)
@@ -196,8 +188,8 @@ pub few_names : (ids : List ℕ) → length ids ≤ 1024 → AreFew 1024 1 210 (
 few_names ids few =
     (let count = names_counted (or_all constant_ids ids) in let less = few_or_all constant_ids ids (omega arith) few in omega arith, names_bounded (or_all constant_ids ids))
 
-pub few_status_names : (g : State) (ids : List ℕ) → length g.floor.ports ≤ most_ports → length ids ≤ 1024 → length (map (status_name g) (or_all (svids g) ids)) ≤ 1024
-few_status_names g ids ports few = let same = length-map (status_name g) (or_all (svids g) ids) in let less = few_or_all (svids g) ids (few_svids g ports) few in omega arith
+pub few_status_names : (g : State) (ids : List ℕ) → length ids ≤ 1024 → length (map (status_name g) (or_all (svids g) ids)) ≤ 1024
+few_status_names g ids few = let same = length-map (status_name g) (or_all (svids g) ids) in let less = few_or_all (svids g) ids (few_svids g) few in omega arith
 
 pub few_alarm_parts : (g : State) (ids : List ℕ) → length g.alarms ≤ most_alarms → length ids ≤ 1024 → length (map (alarm_part g) (or_all (alids_of g) ids)) ≤ 1024
 few_alarm_parts g ids alarms few =
@@ -205,14 +197,6 @@ few_alarm_parts g ids alarms few =
     let all = length-map (λ (a : AlarmLine). a.alid) g.alarms in
     let less = few_or_all (alids_of g) ids (omega arith) few in
     omega arith
-
-filter_few : (p : AlarmLine → Bool) (alarms : List AlarmLine) → length (filter p alarms) ≤ length alarms
-filter_few p [] = omega arith
-filter_few p (a ∷ alarms) = by_test (p a) refl (filter_few p alarms)
-  where
-    by_test : (b : Bool) → p a ≡ b → length (filter p alarms) ≤ length alarms → length (filter p (a ∷ alarms)) ≤ length (a ∷ alarms)
-    by_test true is rest = rw is (omega (arith, rest))
-    by_test false is rest = rw is (omega (arith, rest))
 
 pub few_enabled_parts : (g : State) → length g.alarms ≤ most_alarms → length (map (alarm_part g) (enabled_alids g)) ≤ 1024
 few_enabled_parts g alarms =

@@ -1,5 +1,5 @@
 //! What the host asks of the tool's data, and what it sets (SEMI E5, streams 1, 2, 5 and 6).
-ghost use Rattle.std.specs.Prelude.{◌≡◌, ◌≤◌, ◌++◌, [], length, map, OnOk, IfOk};
+ghost use Rattle.std.specs.Prelude.{◌≡◌, ◌≤◌, [], length, map, OnOk, IfOk};
 ghost use Rattle.data_variables.specs.Bodies.{name_item};
 ghost use Rattle.data_variables.specs.Table.{constant_ids};
 ghost use Rattle.data_variables.specs.Setting.{eac, set_all_after};
@@ -8,7 +8,7 @@ ghost use Rattle.event_reports.specs.Alarms.{is_set, ackc5, alarms_enabled};
 ghost use Rattle.event_reports.specs.Reports.{value_items, report_items, one_items, drack, defined, lrack, linked, erack, enabled};
 ghost use Rattle.gem_replies.specs.Replies.{items as items_data};
 ghost use Rattle.gem_replies.specs.Sendable.{AreFew};
-ghost use Rattle.gem_model.specs.Values.{no_firing, status_value, constant_value, value_of, port_vids, svids};
+ghost use Rattle.gem_model.specs.Values.{no_firing, status_value, constant_value, value_of, svids};
 ghost use Rattle.gem_model.specs.Messages.{or_all, status_name, settings_of, alarm_part, alids_of, enabled_alids};
 
 use crate::noting::{alcd, text_of_alarm};
@@ -16,7 +16,7 @@ use crate::plant::Plant;
 use data_variables::{Val, ids as constant_ids, set_of};
 use event_reports::{NoMemory, Values, values_of};
 use gem_ids::{Ids, Listed, Text80};
-use gem_rows::vid_name;
+use gem_rows::{status_vids, vid_name};
 use msgs_gem::{AlarmPart, Setting, VariableName};
 use secs_items::{Item, Items};
 use std::alloc::{AllocError, Global};
@@ -53,9 +53,6 @@ impl Values for Equipment<'_> {
     }
 }
 
-// The numbers of the status variables of the tool itself.
-const SVIDS: [u32; 8] = [1, 2, 3, 4, 5, 6, 7, 8];
-
 // These ids, or all where there are none.
 fn or_all<'a>(all: &'a [u32], ids: &'a [u32]) -> &'a [u32]
     ensures { result.now ≡ or_all all.now ids.now }
@@ -64,26 +61,17 @@ fn or_all<'a>(all: &'a [u32], ids: &'a [u32]) -> &'a [u32]
 }
 
 impl Plant {
-    /// The numbers of the variables of the ports behind a base, behind these.
-    fn add_port_vids(&self, base: u32, vids: &mut Vec<u32>) -> Result<(), AllocError>
-        requires { base ≤ 50 }
-        ensures { OnOk result (vids.new.items ≡ vids.old.items ++ port_vids base 1 self.now.floor.ports) }
-    {
-        let count = self.floor.port_count();
-        for place in 0..count {
-            vids.push(base + 1 + place as u32)?;
-        }
-        Ok(())
-    }
-
     /// The numbers of the status variables that are built, rising.
     fn svids(&self, alloc: Global) -> Result<Vec<u32>, AllocError>
         ensures { IfOk result (λ vids. vids.items ≡ svids self.now) }
     {
-        let mut vids = Vec::from_slice(alloc, &SVIDS)?;
-        self.add_port_vids(30, &mut vids)?;
-        self.add_port_vids(40, &mut vids)?;
-        self.add_port_vids(50, &mut vids)?;
+        let all = status_vids();
+        let mut vids = Vec::new(alloc);
+        for vid in all.as_slice() {
+            if self.is_status(*vid) {
+                vids.push(*vid)?;
+            }
+        }
         Ok(vids)
     }
 
@@ -95,7 +83,6 @@ impl Plant {
         ensures few { length ids.now ≤ 1024 → AreFew 1024 1 84 (value_items (status_value self.now) (or_all (svids self.now) ids.now)) }
     {
         self.few_alarms();
-        self.few_ports();
         self.named_ports();
         let svids = self.svids(alloc)?;
         values_of(alloc, &Status { plant: self }, or_all(&svids, ids))
@@ -147,7 +134,6 @@ impl Plant {
         ensures names { IfOk result (λ names. names ≡ map (status_name self.now) (or_all (svids self.now) ids.now)) }
         ensures few { length ids.now ≤ 1024 → length (map (status_name self.now) (or_all (svids self.now) ids.now)) ≤ 1024 }
     {
-        self.few_ports();
         let svids = self.svids(alloc)?;
         self.names_of(alloc, or_all(&svids, ids))
     }

@@ -1,5 +1,5 @@
 //! The values of variables (SEMI E5, S1F3 and S2F13).
-ghost use Rattle.std.specs.Prelude.{◌≡◌, ◌∷◌, ◌≤◌, ◌-◌, ◌||◌, [], length, IfOk, option_map, map, is_some, unwrap_or};
+ghost use Rattle.std.specs.Prelude.{◌≡◌, ◌∷◌, ◌≤◌, [], length, IfOk, option_map, map, is_some, unwrap_or};
 ghost use Rattle.std.specs.List.{filter};
 ghost use Rattle.secs_items.specs.Data.{ascii, u1, u2, u4};
 ghost use Rattle.secs_items.specs.View.{view};
@@ -9,15 +9,16 @@ ghost use Rattle.gem_ids.specs.Civil.{time_digits};
 ghost use Rattle.event_reports.specs.Alarms.{set_alids};
 ghost use Rattle.gem_model.specs.State.{clock_now};
 ghost use Rattle.spool.specs.Spool.{load_number, unload_number};
-ghost use Rattle.load_port.specs.Ports.{port_numbered, most_ports};
+ghost use Rattle.load_port.specs.Ports.{port_numbered};
 ghost use Rattle.core_state.specs.Named.{AreNamed};
-ghost use Rattle.gem_model.specs.Values.{value_among, tool_variables, transfers, accesses, port_carriers, status_value, constant_value, value_of};
+ghost use Rattle.gem_model.specs.Values.{variable_value, status_value, constant_value, value_of};
 
 use crate::plant::Plant;
 use crate::rows::part;
 use data_variables::item_of;
 use event_reports::{NoMemory, Values};
 use gem_ids::{Text80, time16};
+use gem_rows::{StatusVariable, status_variable};
 use load_port::Port;
 use secs_items::{Bytes, Item, U8s, U16s, U32s};
 use spool::{Load, Unload};
@@ -121,13 +122,6 @@ impl Plant {
         self.alarms.lines();
     }
 
-    /// The ports of a tool are few: what is known of them, for proofs.
-    pub(crate) fn few_ports(&self)
-        ensures { length self.now.floor.ports ≤ most_ports }
-    {
-        self.floor.port_count();
-    }
-
     /// The names of the carriers that belong to ports are texts: what is known of them, for proofs.
     pub(crate) fn named_ports(&self)
         ensures { AreNamed self.now.floor.ports }
@@ -161,113 +155,90 @@ impl Plant {
         Ok(Item::U4(U32s::from_vec(alids)))
     }
 
-    /// The value of a status variable of the tool itself. `None`: the number is none of one.
-    fn tool_value(&self, alloc: Global, vid: u32) -> Result<Option<Item>, AllocError>
-        ensures { IfOk result (λ value. option_map view value ≡ value_among (tool_variables self.now) vid) }
+    /// The port of a number, counted from 1. `None`: the tool lacks it.
+    fn port_numbered(&self, number: u8) -> Option<Port>
+        ensures { result ≡ port_numbered number self.now.floor.ports }
     {
-        let value = match vid {
-            1 => Item::Ascii(self.time_text(alloc)?),
-            2 => small_number(alloc, self.comm.number())?,
-            3 => small_number(alloc, self.control.number())?,
-            4 => count(alloc, self.line.spooled_len() as u32)?,
-            5 => count(alloc, self.line.spooled_total())?,
-            6 => small_number(alloc, load_number(self.line.load()))?,
-            7 => small_number(alloc, unload_number(self.line.unload()))?,
-            8 => self.set_alarms(alloc)?,
-            _ => return Ok(None),
-        };
-        Ok(Some(value))
-    }
-
-    /// The port whose variable has this number, where those of the ports stand behind this base. `None`: there is none.
-    fn port_for(&self, base: u32, vid: u32) -> Option<Port>
-        ensures { result ≡ port_numbered (vid - base) self.now.floor.ports }
-    {
-        let number = vid.saturating_sub(base);
         if number == 0 {
             return None;
         }
         self.floor.port((number - 1) as usize)
     }
 
-    /// PortTransfer of a port. `None`: the number is none of one.
-    #[tactic(auto, using(crate::proofs::PortValues::transfer_is))]
-    fn transfer_value(&self, alloc: Global, vid: u32) -> Result<Option<Item>, AllocError>
-        ensures { IfOk result (λ value. option_map view value ≡ value_among (transfers self.now) vid) }
+    /// The value of a status variable. `None`: it is not built, or the tool lacks its port.
+    fn variable_value(
+        &self,
+        alloc: Global,
+        variable: StatusVariable,
+    ) -> Result<Option<Item>, AllocError>
+        ensures { IfOk result (λ value. option_map view value ≡ variable_value self.now variable) }
     {
-        match self.port_for(30, vid) {
-            Some(port) => Ok(Some(small_number(alloc, port.states.transfer.number())?)),
-            None => Ok(None),
+        let value = match variable {
+            StatusVariable::Clock => Item::Ascii(self.time_text(alloc)?),
+            StatusVariable::CommState => small_number(alloc, self.comm.number())?,
+            StatusVariable::ControlState => small_number(alloc, self.control.number())?,
+            StatusVariable::SpoolCountActual => count(alloc, self.line.spooled_len() as u32)?,
+            StatusVariable::SpoolCountTotal => count(alloc, self.line.spooled_total())?,
+            StatusVariable::SpoolLoad => small_number(alloc, load_number(self.line.load()))?,
+            StatusVariable::SpoolUnload => small_number(alloc, unload_number(self.line.unload()))?,
+            StatusVariable::AlarmsSet => self.set_alarms(alloc)?,
+            StatusVariable::PortTransfer(number) => match self.port_numbered(number) {
+                Some(port) => small_number(alloc, port.states.transfer.number())?,
+                None => return Ok(None),
+            },
+            StatusVariable::PortAccess(number) => match self.port_numbered(number) {
+                Some(port) => small_number(alloc, port.states.access.number())?,
+                None => return Ok(None),
+            },
+            StatusVariable::PortCarrier(number) => match self.port_numbered(number) {
+                Some(port) => Item::Ascii(part(alloc, carrier_text(&port))?),
+                None => return Ok(None),
+            },
+            StatusVariable::ProcessJobCount
+            | StatusVariable::ControlJobCount
+            | StatusVariable::ArmSubstrate
+            | StatusVariable::AlignerSubstrate
+            | StatusVariable::ChamberSubstrate(_) => return Ok(None),
+        };
+        Ok(Some(value))
+    }
+
+    /// Whether a status variable is built, and the tool has its port.
+    #[tactic(auto, using(crate::proofs::PortValues::some_shown))]
+    fn has_variable(&self, variable: StatusVariable) -> bool
+        ensures { result ≡ is_some (variable_value self.now variable) }
+    {
+        match variable {
+            StatusVariable::PortTransfer(number)
+            | StatusVariable::PortAccess(number)
+            | StatusVariable::PortCarrier(number) => self.port_numbered(number).is_some(),
+            StatusVariable::ProcessJobCount
+            | StatusVariable::ControlJobCount
+            | StatusVariable::ArmSubstrate
+            | StatusVariable::AlignerSubstrate
+            | StatusVariable::ChamberSubstrate(_) => false,
+            _ => true,
         }
     }
 
-    /// PortAccess of a port. `None`: the number is none of one.
-    #[tactic(auto, using(crate::proofs::PortValues::access_is))]
-    fn access_value(&self, alloc: Global, vid: u32) -> Result<Option<Item>, AllocError>
-        ensures { IfOk result (λ value. option_map view value ≡ value_among (accesses self.now) vid) }
-    {
-        match self.port_for(40, vid) {
-            Some(port) => Ok(Some(small_number(alloc, port.states.access.number())?)),
-            None => Ok(None),
-        }
-    }
-
-    /// PortCarrier of a port, which is empty where no carrier belongs to it. `None`: the number is none of one.
-    #[tactic(auto, using(crate::proofs::PortValues::carrier_is))]
-    fn carrier_value(&self, alloc: Global, vid: u32) -> Result<Option<Item>, AllocError>
-        ensures { IfOk result (λ value. option_map view value ≡ value_among (port_carriers self.now) vid) }
-    {
-        match self.port_for(50, vid) {
-            Some(port) => Ok(Some(Item::Ascii(part(alloc, carrier_text(&port))?))),
-            None => Ok(None),
-        }
-    }
-
-    /// The value of a status variable. `None`: the number is none of a status variable that is built.
+    /// The value of the status variable of a number. `None`: the number is none of a status variable that is built.
     pub fn status_value(&self, alloc: Global, vid: u32) -> Result<Option<Item>, AllocError>
         ensures { IfOk result (λ value. option_map view value ≡ status_value self.now vid) }
     {
-        if let Some(value) = self.tool_value(alloc, vid)? {
-            return Ok(Some(value));
+        match status_variable(vid) {
+            Some(variable) => self.variable_value(alloc, variable),
+            None => Ok(None),
         }
-        if let Some(value) = self.transfer_value(alloc, vid)? {
-            return Ok(Some(value));
-        }
-        if let Some(value) = self.access_value(alloc, vid)? {
-            return Ok(Some(value));
-        }
-        self.carrier_value(alloc, vid)
-    }
-
-    /// Whether a number is that of a status variable of the tool itself.
-    fn is_tool_status(&self, vid: u32) -> bool
-        ensures { result ≡ is_some (value_among (tool_variables self.now) vid) }
-    {
-        matches!(vid, 1 | 2 | 3 | 4 | 5 | 6 | 7 | 8)
-    }
-
-    /// Whether a number is that of a variable of a port.
-    fn is_port_status(&self, vid: u32) -> bool
-        ensures { result ≡ (is_some (port_numbered (vid - 30) self.now.floor.ports) || (is_some (port_numbered (vid - 40) self.now.floor.ports) || is_some (port_numbered (vid - 50) self.now.floor.ports))) }
-    {
-        if self.port_for(30, vid).is_some() {
-            return true;
-        }
-        if self.port_for(40, vid).is_some() {
-            return true;
-        }
-        self.port_for(50, vid).is_some()
     }
 
     /// Whether a number is that of a status variable that is built.
-    #[tactic(auto, using(crate::proofs::PortValues::known_tool, crate::proofs::PortValues::known_port))]
     pub(crate) fn is_status(&self, vid: u32) -> bool
         ensures { result ≡ is_some (status_value self.now vid) }
     {
-        if self.is_tool_status(vid) {
-            return true;
+        match status_variable(vid) {
+            Some(variable) => self.has_variable(variable),
+            None => false,
         }
-        self.is_port_status(vid)
     }
 
     /// The value of an equipment constant. `None`: the number is none of a constant.

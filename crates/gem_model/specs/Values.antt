@@ -1,5 +1,5 @@
 -- The values of variables: what S1F3, S2F13 and reports give (SEMI E5, S1F3 and S2F13; this tool's profile, variables).
-use Rattle.std.specs.Prelude.{ℕ, ◌+◌, ◌==◌, if◌then◌else◌, List, [], ◌∷◌, ◌++◌, length, map, Option, Some, None, option_map, unwrap_or}
+use Rattle.std.specs.Prelude.{ℕ, ◌==◌, if◌then◌else◌, List, [], ◌∷◌, length, filter, Option, Some, None, is_some, option_map, unwrap_or}
 use Rattle.gem_ids.specs.Civil.{time_digits}
 use Rattle.gem_states.specs.Communication.{comm_number}
 use Rattle.gem_states.specs.Control.{control_number}
@@ -10,6 +10,10 @@ use Rattle.event_reports.specs.Alarms.{set_alids}
 use Rattle.spool.specs.Spool.{load_number, unload_number}
 use Rattle.load_port.specs.declared.port.Port.{Port}
 use Rattle.load_port.specs.Tables.{transfer_number, access_number}
+use Rattle.load_port.specs.Ports.{port_numbered}
+use Rattle.gem_rows.specs.Variables.{status_variable, status_vids}
+use Rattle.gem_rows.specs.declared.variables.StatusVariable.{StatusVariable}
+use Rattle.gem_rows.specs.declared.variables.StatusVariable.TheVariants as status
 use Rattle.gem_model.specs.State.{State, clock_now}
 
 -- what is happening while a value is asked: the object and the row of a firing, which EventObject and EventRow tell; the row
@@ -22,52 +26,48 @@ pub record Occasion : Type 0 where
 abbrev pub no_firing : Occasion
 no_firing = record { object = []; row = 0 }
 
--- a variable and its value
-pub record Valued : Type 0 where
-  pub vid : ℕ
-  pub value : Data
+-- what the port of a number shows, where the tool has it
+abbrev pub port_value : State → ℕ → (Port → Data) → Option Data
+port_value g number value = option_map value (port_numbered number g.floor.ports)
 
-abbrev valued : ℕ → Data → Valued
-valued vid value = record { vid = vid; value = value }
+-- the value of a status variable; none for one of a port that the tool lacks, and for one that is not built (this tool's
+-- profile, variables)
+abbrev pub variable_value : State → StatusVariable → Option Data
+variable_value g status.Clock = Some (ascii (time_digits (clock_now g)))
+variable_value g status.CommState = Some (u1 (comm_number g.comm ∷ []))
+variable_value g status.ControlState = Some (u1 (control_number g.control ∷ []))
+variable_value g status.SpoolCountActual = Some (u4 (length g.line.spool.notes ∷ []))
+variable_value g status.SpoolCountTotal = Some (u4 (g.line.spool.total ∷ []))
+variable_value g status.SpoolLoad = Some (u1 (load_number g.line.spool.load ∷ []))
+variable_value g status.SpoolUnload = Some (u1 (unload_number g.line.spool.unload ∷ []))
+variable_value g status.AlarmsSet = Some (u4 (set_alids g.alarms))
+variable_value g (status.PortTransfer port) = port_value g port (λ p. u1 (transfer_number p.states.transfer ∷ []))
+variable_value g (status.PortAccess port) = port_value g port (λ p. u1 (access_number p.states.access ∷ []))
+-- empty where no carrier belongs to the port
+variable_value g (status.PortCarrier port) = port_value g port (λ p. ascii (unwrap_or p.carrier []))
+-- not built
+variable_value g status.ProcessJobCount = None
+variable_value g status.ControlJobCount = None
+variable_value g status.ArmSubstrate = None
+variable_value g status.AlignerSubstrate = None
+variable_value g (status.ChamberSubstrate chamber) = None
 
--- the status variables of the tool itself, in order: Clock, CommState, ControlState; SpoolCountActual, SpoolCountTotal,
--- SpoolLoad, SpoolUnload; and AlarmsSet (this tool's profile, variables)
-abbrev pub tool_variables : State → List Valued
-tool_variables g =
-    valued 1 (ascii (time_digits (clock_now g)))
-    ∷ valued 2 (u1 (comm_number g.comm ∷ []))
-    ∷ valued 3 (u1 (control_number g.control ∷ []))
-    ∷ valued 4 (u4 (length g.line.spool.notes ∷ []))
-    ∷ valued 5 (u4 (g.line.spool.total ∷ []))
-    ∷ valued 6 (u1 (load_number g.line.spool.load ∷ []))
-    ∷ valued 7 (u1 (unload_number g.line.spool.unload ∷ []))
-    ∷ valued 8 (u4 (set_alids g.alarms))
-    ∷ []
+-- the value of the variable that a number is, where it is one
+abbrev pub value_by : State → Option StatusVariable → Option Data
+value_by g None = None
+value_by g (Some variable) = variable_value g variable
 
--- a variable of each port, the first of which has this number: the number of the variable is that of the port behind a base
-abbrev pub port_values : ℕ → (Port → Data) → ℕ → List Port → List Valued
-port_values base value n [] = []
-port_values base value n (p ∷ ps) = valued (base + n) (value p) ∷ port_values base value (n + 1) ps
+-- the value of the status variable of a number; none for a number that is none of one that is built (SEMI E5, S1F3)
+abbrev pub status_value : State → ℕ → Option Data
+status_value g vid = value_by g (status_variable vid)
 
--- PortTransfer, PortAccess, and PortCarrier, which is empty where no carrier belongs to the port (this tool's profile,
--- variables)
-abbrev pub transfers : State → List Valued
-transfers g = port_values 30 (λ p. u1 (transfer_number p.states.transfer ∷ [])) 1 g.floor.ports
+-- the numbers of the status variables that have a value, as printed
+abbrev pub svids : State → List ℕ
+svids g = filter (λ vid. is_some (status_value g vid)) status_vids
 
-abbrev pub accesses : State → List Valued
-accesses g = port_values 40 (λ p. u1 (access_number p.states.access ∷ [])) 1 g.floor.ports
-
-abbrev pub port_carriers : State → List Valued
-port_carriers g = port_values 50 (λ p. ascii (unwrap_or p.carrier [])) 1 g.floor.ports
-
--- EventObject and EventRow (this tool's profile, variables)
-abbrev pub event_variables : Occasion → List Valued
-event_variables o = valued 100 (ascii o.object) ∷ valued 101 (u2 (o.row ∷ [])) ∷ []
-
--- the value of a variable of a list
-abbrev pub value_among : List Valued → ℕ → Option Data
-value_among [] vid = None
-value_among (v ∷ vs) vid = if v.vid == vid then Some v.value else value_among vs vid
+-- EventObject and EventRow: what the data variable of a number shows (this tool's profile, variables)
+abbrev pub event_value : Occasion → ℕ → Option Data
+event_value o vid = if vid == 100 then Some (ascii o.object) else (if vid == 101 then Some (u2 (o.row ∷ [])) else None)
 
 -- the value of a constant (this tool's profile, constants)
 abbrev pub constant_value : State → ℕ → Option Data
@@ -78,24 +78,7 @@ abbrev pub or_else : Option Data → Option Data → Option Data
 or_else None other = other
 or_else (Some d) other = Some d
 
--- the value of a status variable; none for a number that is none (SEMI E5, S1F3)
-abbrev pub status_value : State → ℕ → Option Data
-status_value g vid =
-    or_else (value_among (tool_variables g) vid)
-    (or_else (value_among (transfers g) vid) (or_else (value_among (accesses g) vid) (value_among (port_carriers g) vid)))
-
 -- the value of each variable that a report may name; none for one that is not built, or not known
 -- (this tool's profile, variables)
 abbrev pub value_of : Occasion → State → ℕ → Option Data
-value_of o g vid = or_else (status_value g vid) (or_else (value_among (event_variables o) vid) (constant_value g vid))
-
--- the numbers of the variables of the ports behind a base, the first of which has this number
-abbrev pub port_vids : ℕ → ℕ → List Port → List ℕ
-port_vids base n [] = []
-port_vids base n (p ∷ ps) = (base + n) ∷ port_vids base (n + 1) ps
-
--- the numbers of the status variables, in order
-abbrev pub svids : State → List ℕ
-svids g =
-    map (λ v. v.vid) (tool_variables g)
-    ++ (port_vids 30 1 g.floor.ports ++ (port_vids 40 1 g.floor.ports ++ port_vids 50 1 g.floor.ports))
+value_of o g vid = or_else (status_value g vid) (or_else (event_value o vid) (constant_value g vid))

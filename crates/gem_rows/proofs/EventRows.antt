@@ -11,7 +11,7 @@ abbrev is_in : List ℕ → ℕ → Bool
 is_in numbers n = list_any (λ m. m == n) numbers
 
 -- numbers that follow one another are those between the first and the last
-among_numbers : (first count n : ℕ) → is_in (numbers_from first count) n ≡ (nat_le first n && nat_lt n (first + count))
+pub among_numbers : (first count n : ℕ) → is_in (numbers_from first count) n ≡ (nat_le first n && nat_lt n (first + count))
 among_numbers first zero n = grind (arith, nat_tests)
 among_numbers first (suc count) n = rw (among_numbers (first + 1) count n) (grind (arith, nat_tests))
 

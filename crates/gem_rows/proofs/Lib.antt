@@ -2,3 +2,4 @@ pub mod Numbers
 pub mod Printable
 pub mod EventRows
 pub mod NamedLines
+pub mod StatusRows

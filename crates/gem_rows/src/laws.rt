@@ -4,7 +4,7 @@ ghost use Rattle.std.specs.Prelude.{◌≡◌, ℕ, ◌==◌, ◌≤◌, ◌&&�
 ghost use Rattle.std.specs.List.{list_any, list_all};
 ghost use Rattle.gem_ids.specs.Texts.{IsText};
 ghost use Rattle.gem_rows.specs.Events.{ceid_of, ceids, is_ceid, row_of, numbers_from};
-ghost use Rattle.gem_rows.specs.Variables.{vid_name, is_vid};
+ghost use Rattle.gem_rows.specs.Variables.{vid_name, is_vid, status_variable, status_vids};
 ghost use Rattle.gem_rows.specs.Alarms.{alarm_text, alids};
 ghost use Rattle.gem_rows.specs.Rising.{rises};
 ghost use Rattle.gem_tables.specs.declared.firing.RowId.{RowId};
@@ -19,6 +19,12 @@ pub fn a_row_and_its_ceid_name_each_other()
 pub fn the_list_has_each_ceid_once()
     ensures rising { rises ceids ≡ true }
     ensures each { (number : ℕ) → list_any (λ ceid. ceid == number) ceids ≡ is_ceid number }
+{}
+
+/// The list of the numbers of status variables rises, and has each of them and no other number.
+pub fn the_list_has_each_status_variable_once()
+    ensures rising { rises status_vids ≡ true }
+    ensures each { (number : ℕ) → list_any (λ vid. vid == number) status_vids ≡ is_some (status_variable number) }
 {}
 
 /// The names of variables and the texts of alarms are texts of at most 80 bytes that print.

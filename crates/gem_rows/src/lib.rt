@@ -16,7 +16,8 @@ pub use alarms::{alarm_text, alids};
 pub use gem_tables::RowId;
 pub use laws::{
     a_row_and_its_ceid_name_each_other, alarms_of_a_plant_rise_and_have_texts, names_are_texts,
-    the_list_has_each_ceid_once, variables_of_a_plant_have_names,
+    the_list_has_each_ceid_once, the_list_has_each_status_variable_once,
+    variables_of_a_plant_have_names,
 };
 pub use rows::{ceid_of, ceids, is_ceid, row_of};
-pub use variables::{is_vid, vid_name};
+pub use variables::{StatusVariable, is_vid, status_variable, status_vids, vid_name};

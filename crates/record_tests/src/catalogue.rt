@@ -3,7 +3,10 @@
 ghost use Rattle.std.specs.Prelude.{◌<◌};
 
 use gem_ids::Text80;
-use gem_rows::{RowId, alarm_text, alids, ceid_of, ceids, is_ceid, is_vid, row_of, vid_name};
+use gem_rows::{
+    RowId, StatusVariable, alarm_text, alids, ceid_of, ceids, is_ceid, is_vid, row_of,
+    status_variable, status_vids, vid_name,
+};
 use std::alloc::Global;
 use std::test::Fail;
 
@@ -165,6 +168,31 @@ fn false_name(names: &[(u32, &'static [u8])]) -> Option<u32> {
 fn each_variable_has_its_name(rt: HostRuntime) {
     assert_eq!(rt; false_name(NAMES.as_slice()), None);
     assert_eq!(rt; vid_name(4_294_967_295), None);
+}
+
+// The first number below 400 that is a status variable and has no name among theirs, or the other way round, or of which the
+// list of their numbers says something else.
+fn false_status(names: &[(u32, &'static [u8])]) -> Option<u32> {
+    let vids = status_vids();
+    for vid in 0..400 {
+        let wanted = vid < 100 && !listed(names, vid).is_empty();
+        if status_variable(vid).is_some() != wanted || vids.contains(&vid) != wanted {
+            return Some(vid);
+        }
+    }
+    None
+}
+
+#[test]
+fn each_status_variable_is_listed(rt: HostRuntime) {
+    assert_eq!(rt; false_status(NAMES.as_slice()), None);
+    assert_eq!(rt; status_variable(8), Some(StatusVariable::AlarmsSet));
+    assert_eq!(rt;
+        status_variable(28),
+        Some(StatusVariable::ChamberSubstrate(8))
+    );
+    assert_eq!(rt; status_variable(31), Some(StatusVariable::PortTransfer(1)));
+    assert_eq!(rt; status_variable(54), Some(StatusVariable::PortCarrier(4)));
 }
 
 // The texts of alarms.

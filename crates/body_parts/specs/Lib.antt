@@ -2,5 +2,5 @@ pub mod Bodies
 pub mod Codes
 pub mod Functions
 pub mod Given
-pub mod Lines
+pub mod MessageTable
 pub mod Printed

@@ -3,7 +3,7 @@ use Rattle.std.proofs.Common.{◌≡◌, ℕ, Bool, true, false, if◌then◌els
 use Rattle.hsms_frame.specs.declared.frame.Header.{Header}
 use Rattle.hsms_link.specs.declared.state.LinkState.{LinkState}
 use Rattle.hsms_link.specs.Links.{is_up, is_selected}
-use Rattle.hsms_link.specs.LinkTable.{Line, stays, selects, closes_linktest, link_table, first_next, link_after}
+use Rattle.hsms_link.specs.LinkTable.{LinkRow, stays, selects, closes_linktest, link_table, first_next, link_after}
 use Rattle.hsms_link.specs.declared.state.Phase.{Phase}
 use Rattle.hsms_link.specs.declared.state.Phase.TheVariants.{Down, NotSelected, Selected}
 use Rattle.hsms_link.specs.declared.state.Ping.{Ping}
@@ -29,12 +29,12 @@ one_of : (b : Bool) (link x y : LinkState) → Keeps link x → Keeps link y →
 one_of true link x y at_x at_y = at_x
 one_of false link x y at_x at_y = at_y
 
--- each line of a table keeps the session
-abbrev AllKeep : List Line → Type 0
+-- each row of a table keeps the session
+abbrev AllKeep : List LinkRow → Type 0
 AllKeep [] = Unit {0}
 AllKeep (l ∷ lines) = ((at : ℕ) (link : LinkState) → Keeps link (l.next at link)) × AllKeep lines
 
-first_next-keeps : (lines : List Line) → AllKeep lines → (h : Header) (at : ℕ) (link : LinkState) → Keeps link (first_next lines h at link)
+first_next-keeps : (lines : List LinkRow) → AllKeep lines → (h : Header) (at : ℕ) (link : LinkState) → Keeps link (first_next lines h at link)
 first_next-keeps [] all h at link = keeps_stays at link
 first_next-keeps (l ∷ lines) all h at link = one_of (l.fits h link) link (l.next at link) (first_next lines h at link) (all.0 at link) (first_next-keeps lines all.1 h at link)
 

@@ -2,7 +2,7 @@
 use Rattle.std.specs.Prelude.{ℕ, Bool, List, [], ◌∷◌, Option, Result}
 use Rattle.secs_items.specs.Data.{Data}
 use Rattle.body_parts.specs.Bodies.{Form, of, any, byte, characters, each, flag, group, id, id_or_empty, ids, l2, named_value, numbers_or_ids, small_id, text, zero_or_one}
-use Rattle.body_parts.specs.Lines.{Line, line, ignored, printed, by_line, line_of, takes_any}
+use Rattle.body_parts.specs.MessageTable.{MessageRow, row, ignored, printed, by_row, row_of, takes_any}
 use Rattle.body_parts.specs.declared.fault.BodyFault.{BodyFault}
 use Rattle.gem_primaries.specs.declared.primary.GemMsg.{GemMsg}
 use Rattle.gem_primaries.specs.declared.primary.GemMsg.TheVariants as msg
@@ -17,35 +17,35 @@ abbrev pub spooled_stream : Form SpooledStream
 spooled_stream = l2 (λ stream functions. record { stream = stream; functions = functions }) small_id (each small_id)
 
 -- the host's messages (SEMI E5, streams 1, 2, 5 and 6; this tool's profile, messages)
-abbrev pub lines : List (Line GemMsg)
-lines =
-    line 1 1 (ignored msg.S1F1) ∷
-    (line 1 3 (printed (of msg.S1F3 ids)) ∷
-    (line 1 11 (printed (of msg.S1F11 ids)) ∷
-    (line 1 13 (ignored msg.S1F13) ∷
-    (line 1 15 (ignored msg.S1F15) ∷
-    (line 1 17 (ignored msg.S1F17) ∷
-    (line 2 13 (printed (of msg.S2F13 ids)) ∷
-    (line 2 15 (printed (of msg.S2F15 (each setting))) ∷
-    (line 2 17 (ignored msg.S2F17) ∷
-    (line 2 29 (printed (of msg.S2F29 ids)) ∷
-    (line 2 31 (printed (of msg.S2F31 characters)) ∷
-    (line 2 33 (printed (l2 msg.S2F33 id (each group))) ∷
-    (line 2 35 (printed (l2 msg.S2F35 id (each group))) ∷
-    (line 2 37 (printed (l2 msg.S2F37 flag ids)) ∷
-    (line 2 41 (printed (l2 msg.S2F41 text (each named_value))) ∷
-    (line 2 43 (printed (of msg.S2F43 (each spooled_stream))) ∷
-    (line 5 3 (printed (l2 msg.S5F3 byte id_or_empty)) ∷
-    (line 5 5 (printed (of msg.S5F5 numbers_or_ids)) ∷
-    (line 5 7 (ignored msg.S5F7) ∷
-    (line 6 15 (printed (of msg.S6F15 id)) ∷
-    (line 6 19 (printed (of msg.S6F19 id)) ∷
-    (line 6 23 (printed (of msg.S6F23 zero_or_one)) ∷ [])))))))))))))))))))))
+abbrev pub primaries : List (MessageRow GemMsg)
+primaries =
+    row 1 1 (ignored msg.S1F1) ∷
+    (row 1 3 (printed (of msg.S1F3 ids)) ∷
+    (row 1 11 (printed (of msg.S1F11 ids)) ∷
+    (row 1 13 (ignored msg.S1F13) ∷
+    (row 1 15 (ignored msg.S1F15) ∷
+    (row 1 17 (ignored msg.S1F17) ∷
+    (row 2 13 (printed (of msg.S2F13 ids)) ∷
+    (row 2 15 (printed (of msg.S2F15 (each setting))) ∷
+    (row 2 17 (ignored msg.S2F17) ∷
+    (row 2 29 (printed (of msg.S2F29 ids)) ∷
+    (row 2 31 (printed (of msg.S2F31 characters)) ∷
+    (row 2 33 (printed (l2 msg.S2F33 id (each group))) ∷
+    (row 2 35 (printed (l2 msg.S2F35 id (each group))) ∷
+    (row 2 37 (printed (l2 msg.S2F37 flag ids)) ∷
+    (row 2 41 (printed (l2 msg.S2F41 text (each named_value))) ∷
+    (row 2 43 (printed (of msg.S2F43 (each spooled_stream))) ∷
+    (row 5 3 (printed (l2 msg.S5F3 byte id_or_empty)) ∷
+    (row 5 5 (printed (of msg.S5F5 numbers_or_ids)) ∷
+    (row 5 7 (ignored msg.S5F7) ∷
+    (row 6 15 (printed (of msg.S6F15 id)) ∷
+    (row 6 19 (printed (of msg.S6F19 id)) ∷
+    (row 6 23 (printed (of msg.S6F23 zero_or_one)) ∷ [])))))))))))))))))))))
 
 -- what a message of the host is read as; its item is None where its text is not one item, or there is none
 abbrev pub reading : ℕ → ℕ → Option Data → Result GemMsg BodyFault
-reading = by_line lines
+reading = by_row primaries
 
 -- the text of the message is ignored: it is not read, and need not be one item
 abbrev pub ignores : ℕ → ℕ → Bool
-ignores stream function = takes_any (line_of lines stream function)
+ignores stream function = takes_any (row_of primaries stream function)

@@ -4,36 +4,36 @@ use Rattle.std.specs.List.{find, list_all}
 use Rattle.std.proofs.lemmas.Bool.{and_parts, eqb-true, ltb-true}
 use Rattle.secs_items.specs.Data.{Data}
 use Rattle.gem_primaries.specs.declared.primary.GemMsg.{GemMsg}
-use Rattle.body_parts.specs.Lines.{Line, line_of, has_stream, by_found}
-use Rattle.gem_primaries.specs.Primaries.{lines, reading}
-use Rattle.msgs_300.specs.Primaries.{Message, lines as shop_lines, reading as shop_reading}
+use Rattle.body_parts.specs.MessageTable.{MessageRow, row_of, has_stream, by_found}
+use Rattle.gem_primaries.specs.Primaries.{primaries, reading}
+use Rattle.msgs_300.specs.Primaries.{Message, primaries as shop_primaries, reading as shop_reading}
 
 -- its function has one behind it
-abbrev has_next : {M : Type 0} → Line M → Bool
-has_next l = nat_lt l.function 255
+abbrev has_next : {M : Type 0} → MessageRow M → Bool
+has_next r = nat_lt r.function 255
 
-abbrev is_line : {M : Type 0} → ℕ → ℕ → Line M → Bool
-is_line stream function l = (l.stream == stream) && (l.function == function)
+abbrev is_row : {M : Type 0} → ℕ → ℕ → MessageRow M → Bool
+is_row stream function r = (r.stream == stream) && (r.function == function)
 
-first_or_rest : {M : Type 0} (b : Bool) (stream function : ℕ) (first l : Line M) (ls : List (Line M)) → is_line stream function first ≡ b → has_next first ≡ true → (find (is_line stream function) ls ≡ Some l → function < 255) → (if b then Some first else find (is_line stream function) ls) ≡ Some l → function < 255
-first_or_rest true stream function first l ls is next rest found =
+first_or_rest : {M : Type 0} (b : Bool) (stream function : ℕ) (first r : MessageRow M) (rows : List (MessageRow M)) → is_row stream function first ≡ b → has_next first ≡ true → (find (is_row stream function) rows ≡ Some r → function < 255) → (if b then Some first else find (is_row stream function) rows) ≡ Some r → function < 255
+first_or_rest true stream function first r rows is next rest found =
     subst (λ n. n < 255) (eqb-true first.function function (and_parts (first.stream == stream) _ is).1) (ltb-true first.function 255 next)
-first_or_rest false stream function first l ls is next rest found = rest found
+first_or_rest false stream function first r rows is next rest found = rest found
 
-line_next : {M : Type 0} (ls : List (Line M)) (stream function : ℕ) (l : Line M) → list_all has_next ls ≡ true → find (is_line stream function) ls ≡ Some l → function < 255
-line_next [] stream function l all found = absurd (cc)
-line_next (first ∷ ls) stream function l all found =
-    let parts = and_parts (has_next first) (list_all has_next ls) all in
-    first_or_rest (is_line stream function first) stream function first l ls refl parts.0 (line_next ls stream function l parts.1) found
+row_next : {M : Type 0} (rows : List (MessageRow M)) (stream function : ℕ) (r : MessageRow M) → list_all has_next rows ≡ true → find (is_row stream function) rows ≡ Some r → function < 255
+row_next [] stream function r all found = absurd (cc)
+row_next (first ∷ rows) stream function r all found =
+    let parts = and_parts (has_next first) (list_all has_next rows) all in
+    first_or_rest (is_row stream function first) stream function first r rows refl parts.0 (row_next rows stream function r parts.1) found
 
-found_next : {M : Type 0} (ls : List (Line M)) (stream function : ℕ) (item : Option Data) (l : Option (Line M)) (m : M) → list_all has_next ls ≡ true → line_of ls stream function ≡ l → by_found (has_stream ls stream) l item ≡ Ok m → function < 255
-found_next ls stream function item None m all is read = absurd (cc)
-found_next ls stream function item (Some l) m all is read = line_next ls stream function l all is
+found_next : {M : Type 0} (rows : List (MessageRow M)) (stream function : ℕ) (item : Option Data) (found : Option (MessageRow M)) (m : M) → list_all has_next rows ≡ true → row_of rows stream function ≡ found → by_found (has_stream rows stream) found item ≡ Ok m → function < 255
+found_next rows stream function item None m all is read = absurd (cc)
+found_next rows stream function item (Some r) m all is read = row_next rows stream function r all is
 
 -- a message that is read has a function behind it
 pub read_function : (stream function : ℕ) (item : Option Data) (m : GemMsg) → reading stream function item ≡ Ok m → function < 255
-read_function stream function item m read = found_next lines stream function item (line_of lines stream function) m refl refl read
+read_function stream function item m read = found_next primaries stream function item (row_of primaries stream function) m refl refl read
 
 -- and so has one of carriers and ports
 pub shop_function : (stream function : ℕ) (item : Option Data) (m : Message) → shop_reading stream function item ≡ Ok m → function < 255
-shop_function stream function item m read = found_next shop_lines stream function item (line_of shop_lines stream function) m refl refl read
+shop_function stream function item m read = found_next shop_primaries stream function item (row_of shop_primaries stream function) m refl refl read

@@ -8,17 +8,17 @@ use Rattle.hsms_link.specs.declared.table.LinkAct.{LinkAct}
 use Rattle.hsms_link.specs.declared.table.LinkAct.TheVariants.{Reply, Data, Ended, Nothing}
 use Rattle.hsms_link.specs.Links.{is_selected, is_asked}
 
--- a line of the table: where it fits, what is done, and from the header's moment and the state the state after it
-pub record Line : Type 0 where
+-- a row of the table: where it fits, what is done, and from the header's moment and the state the state after it
+pub record LinkRow : Type 0 where
   pub fits : Header → LinkState → Bool
   pub act : Header → LinkAct
   pub next : ℕ → LinkState → LinkState
 
--- a line, as the table writes it
-abbrev pub line : (Header → LinkState → Bool) → (Header → LinkAct) → (ℕ → LinkState → LinkState) → Line
-line fits act next = record { fits = fits; act = act; next = next }
+-- a row, as the table writes it
+abbrev pub row : (Header → LinkState → Bool) → (Header → LinkAct) → (ℕ → LinkState → LinkState) → LinkRow
+row fits act next = record { fits = fits; act = act; next = next }
 
--- ---- where a line fits
+-- ---- where a row fits
 
 -- a presentation type other than SECS-II
 abbrev pub other_ptype : Header → LinkState → Bool
@@ -72,35 +72,35 @@ selects at link = record link { phase = Selected; ping = Quiet (record { 0 = at 
 abbrev pub closes_linktest : ℕ → LinkState → LinkState
 closes_linktest at link = record link { ping = Quiet (record { 0 = at }) }
 
--- The table, of which the first line that fits is taken. Session types: 0 data, 1 select request, 2 select response,
+-- The table, of which the first row that fits is taken. Session types: 0 data, 1 select request, 2 select response,
 -- 5 linktest request, 6 linktest response, 7 reject, 9 separate. Reasons of a reject: 1 session type, 2 presentation
 -- type, 3 no open transaction, 4 not selected.
-abbrev pub link_table : List Line
+abbrev pub link_table : List LinkRow
 link_table =
-    line other_ptype (λ h. reject 2 h.ptype h) stays
-    ∷ line (stype_unselected 0) (reject 4 0) stays
-    ∷ line (stype_selected 0) (does Data) stays
-    ∷ line (stype_unselected 1) (response 2 0) selects
-    ∷ line (stype_selected 1) (response 2 1) stays
-    ∷ line (stype 5) (response 6 0) stays
-    ∷ line answers_linktest (does Nothing) closes_linktest
-    ∷ line (stype 2) (reject 3 2) stays
-    ∷ line (stype 6) (reject 3 6) stays
-    ∷ line (stype 7) (does Nothing) stays
-    ∷ line (stype_selected 9) (does Ended) stays
-    ∷ line (stype_unselected 9) (does Nothing) stays
-    ∷ line any (λ h. reject 1 h.stype h) stays
+    row other_ptype (λ h. reject 2 h.ptype h) stays
+    ∷ row (stype_unselected 0) (reject 4 0) stays
+    ∷ row (stype_selected 0) (does Data) stays
+    ∷ row (stype_unselected 1) (response 2 0) selects
+    ∷ row (stype_selected 1) (response 2 1) stays
+    ∷ row (stype 5) (response 6 0) stays
+    ∷ row answers_linktest (does Nothing) closes_linktest
+    ∷ row (stype 2) (reject 3 2) stays
+    ∷ row (stype 6) (reject 3 6) stays
+    ∷ row (stype 7) (does Nothing) stays
+    ∷ row (stype_selected 9) (does Ended) stays
+    ∷ row (stype_unselected 9) (does Nothing) stays
+    ∷ row any (λ h. reject 1 h.stype h) stays
     ∷ []
 
--- what the first line that fits does
-abbrev pub first_act : List Line → Header → LinkState → LinkAct
+-- what the first row that fits does
+abbrev pub first_act : List LinkRow → Header → LinkState → LinkAct
 first_act [] h link = Nothing
-first_act (l ∷ lines) h link = if l.fits h link then l.act h else first_act lines h link
+first_act (r ∷ rows) h link = if r.fits h link then r.act h else first_act rows h link
 
--- the state after the first line that fits
-abbrev pub first_next : List Line → Header → ℕ → LinkState → LinkState
+-- the state after the first row that fits
+abbrev pub first_next : List LinkRow → Header → ℕ → LinkState → LinkState
 first_next [] h at link = link
-first_next (l ∷ lines) h at link = if l.fits h link then l.next at link else first_next lines h at link
+first_next (r ∷ rows) h at link = if r.fits h link then r.next at link else first_next rows h at link
 
 -- what a header does on a link
 abbrev pub link_act : Header → LinkState → LinkAct

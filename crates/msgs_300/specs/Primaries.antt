@@ -3,7 +3,7 @@ use Rattle.std.specs.Prelude.{ℕ, Bool, List, [], ◌∷◌, Option, Result}
 use Rattle.secs_items.specs.Data.{Data}
 use Rattle.secs_items.specs.View.{view}
 use Rattle.body_parts.specs.Bodies.{any, each, id, l2, l3, l5, named_value, small_id, text}
-use Rattle.body_parts.specs.Lines.{Line, line, printed, by_line, has_stream}
+use Rattle.body_parts.specs.MessageTable.{MessageRow, row, printed, by_row, has_stream}
 use Rattle.body_parts.specs.declared.fault.BodyFault.{BodyFault}
 use Rattle.msgs_300.specs.declared.primary.ShopMsg.{ShopMsg}
 use Rattle.msgs_300.specs.declared.primary.ShopMsg.TheVariants as msg
@@ -21,16 +21,16 @@ said (msg.S3F25 action port value) = S3F25 action port (view value)
 said (msg.S3F27 mode ports) = S3F27 mode ports
 
 -- the host's messages (after SEMI E87, stream 3; this tool's profile, messages)
-abbrev pub lines : List (Line Message)
-lines =
-    line 3 17 (printed (l5 S3F17 id text text small_id (each named_value))) ∷
-    (line 3 25 (printed (l3 S3F25 text small_id any)) ∷
-    (line 3 27 (printed (l2 S3F27 small_id (each small_id))) ∷ []))
+abbrev pub primaries : List (MessageRow Message)
+primaries =
+    row 3 17 (printed (l5 S3F17 id text text small_id (each named_value))) ∷
+    (row 3 25 (printed (l3 S3F25 text small_id any)) ∷
+    (row 3 27 (printed (l2 S3F27 small_id (each small_id))) ∷ []))
 
 -- what a message of the host is read as; its item is None where its text is not one item, or there is none
 abbrev pub reading : ℕ → ℕ → Option Data → Result Message BodyFault
-reading = by_line lines
+reading = by_row primaries
 
--- a line has the stream, so that its messages are read here
+-- a row has the stream, so that its messages are read here
 abbrev pub is_shop_stream : ℕ → Bool
-is_shop_stream = has_stream lines
+is_shop_stream = has_stream primaries

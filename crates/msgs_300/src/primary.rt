@@ -3,7 +3,7 @@
 ghost use Rattle.std.specs.Prelude.{◌≡◌, option_map};
 ghost use Rattle.body_parts.specs.Bodies.{any, each, id as id_form, l2, l3, l5, named_value, small_id as small_id_form, text as text_form};
 ghost use Rattle.body_parts.specs.Given.{AnswersAs, Gives};
-ghost use Rattle.msgs_300.specs.Primaries.{S3F17, S3F25, S3F27, is_shop_stream as is_stream_of_lines, reading, said};
+ghost use Rattle.msgs_300.specs.Primaries.{S3F17, S3F25, S3F27, is_shop_stream as is_stream_of_table, reading, said};
 ghost use Rattle.secs_items.specs.View.{view};
 
 use body_parts::reading::{copied, id, list_of, one, parts, small_id, text};
@@ -88,7 +88,7 @@ fn access_change(alloc: Global, item: &Item) -> Result<ShopMsg, BodyFault>
 /// Whether a message here has the stream: of these `read_shop` tells other faults than `UnknownStream` (after SEMI E87;
 /// this tool's profile, messages).
 pub fn is_shop_stream(stream: u8) -> bool
-    ensures { result ≡ is_stream_of_lines stream }
+    ensures { result ≡ is_stream_of_table stream }
 {
     stream == 3
 }

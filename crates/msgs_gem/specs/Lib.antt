@@ -1,7 +1,7 @@
 pub use Rattle.body_parts.specs.Bodies
 pub use Rattle.body_parts.specs.Functions
 pub use Rattle.body_parts.specs.Given
-pub use Rattle.body_parts.specs.Lines
+pub use Rattle.body_parts.specs.MessageTable
 pub use Rattle.body_parts.specs.Printed
 pub use Rattle.gem_primaries.specs.Few
 pub use Rattle.gem_primaries.specs.Primaries

@@ -1,35 +1,64 @@
 -- A conversation with the tool: lines in, lines out.
-use Rattle.std.specs.Prelude.{ℕ, ◌+◌, List, map}
+use Rattle.std.specs.Prelude.{ℕ, ◌+◌, true, false, List, [], ◌∷◌, codes, map}
 use Rattle.hsms_frame.specs.declared.frame.Header.{Header}
 use Rattle.hsms_frame.specs.declared.frame.Arrival.TheVariants as arrival
 use Rattle.tool_events.specs.declared.event.Event.{Event}
 use Rattle.tool_events.specs.declared.event.Event.TheVariants as event
 use Rattle.tool_events.specs.declared.config.Config.{Config}
+use Rattle.tool_events.specs.declared.config.CommStart.TheVariants as start
+use Rattle.tool_events.specs.declared.config.ControlStart.TheVariants as begin
 use Rattle.tool_events.specs.declared.entry.Entry.{Entry}
 use Rattle.gem_model.specs.State.{opening}
-use Rattle.gem_model.specs.Command.{known_config}
 use Rattle.gem_model.specs.Feed.{Stop, entry_of, feed_entries}
 use Rattle.gem_model.specs.Printed.{printed}
+
+-- the configuration of the worked conversations: the tool begins COMMUNICATING, and each other key has its default (this tool's
+-- profile, configuration)
+abbrev pub worked_config : Config
+worked_config = record {
+  version = 1;
+  device = 0;
+  mdln = codes "GEM300";
+  softrev = codes "1.0.00";
+  communication = start.Communicating;
+  control = begin.OnlineRemote;
+  chambers = 2;
+  ports = 2;
+  spool_capacity = 1000;
+  spool_streams = record { five = false; six = false };
+  overwrite = false;
+  max_transmit = 0;
+  t3 = 4500;
+  t6 = 500;
+  t7 = 1000;
+  establish = 1000;
+  linktest = 0;
+  max_entries = 4000000;
+  max_bytes = 536870912;
+  start_moment = record { 0 = 0 };
+  recipes = record { name = codes "R1"; chambers = record { one = true; two = true } } ∷ [];
+  tcp_port = 5000;
+}
 
 -- what the tool prints for a text of lines, under a configuration (this tool's profile, input and output lines)
 abbrev pub answers_under : Config → List ℕ → List ℕ
 answers_under c text = printed (opening c) (feed_entries c text).entries
 
--- the same under the known configuration
+-- the same under the worked configuration
 abbrev pub answer_to : List ℕ → List ℕ
-answer_to text = answers_under known_config text
+answer_to text = answers_under worked_config text
 
 -- where it stops reading the text (this tool's profile, statuses)
 abbrev pub stop_of : List ℕ → Stop
-stop_of text = (feed_entries known_config text).stop
+stop_of text = (feed_entries worked_config text).stop
 
 -- the history of these events, of which each is posted with the moment 0
 abbrev pub posted : List Event → List Entry
 posted events = map (λ event. entry_of 0 event) events
 
--- what the tool prints for these events, under the known configuration
+-- what the tool prints for these events, under the worked configuration
 abbrev pub answer_to_events : List Event → List ℕ
-answer_to_events events = printed (opening known_config) (posted events)
+answer_to_events events = printed (opening worked_config) (posted events)
 
 -- a message of the host in session 1, with this text
 abbrev pub message_of : Header → List ℕ → Event

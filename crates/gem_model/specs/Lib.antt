@@ -27,7 +27,6 @@ pub mod OpenNotes
 pub mod Reported
 pub mod Sessions
 pub mod Sizes
-pub mod Command
 pub mod Lines
 pub mod Feed
 pub mod SessionBytes

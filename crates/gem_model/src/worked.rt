@@ -11,10 +11,9 @@ ghost use Rattle.tool_events.specs.declared.config.CommStart.TheVariants.{Enable
 ghost use Rattle.tool_events.specs.declared.config.ControlStart.TheVariants.{HostOffline};
 ghost use Rattle.gem_model.specs.State.{opening};
 ghost use Rattle.gem_model.specs.Reported.{told_as, reported_in};
-ghost use Rattle.gem_model.specs.Command.{known_config};
 ghost use Rattle.gem_model.specs.Sizes.{is_full};
 ghost use Rattle.gem_model.specs.Feed.{AllRead, OutsideGrammar, QuitAt};
-ghost use Rattle.gem_model.specs.Conversation.{answers_under, answer_to, stop_of, answer_to_events, posted, message_of, too_long_of, take_one, select_request, request};
+ghost use Rattle.gem_model.specs.Conversation.{worked_config, answers_under, answer_to, stop_of, answer_to_events, posted, message_of, too_long_of, take_one, select_request, request};
 
 /// Where nothing comes, nothing is printed.
 pub fn no_lines()
@@ -165,42 +164,42 @@ pub fn a_text_that_is_too_long_is_told()
 /// A tool that begins in WAIT DELAY asks for communication once a link is selected. S1F14 with COMMACK 0 accepts, and then
 /// S1F1 is answered.
 pub fn communication_is_established_by_the_tool()
-    ensures asked { answers_under (record known_config { communication = Enabled }) (codes "L+\nH 0000000AFFFF0000000100000001\n")
+    ensures asked { answers_under (record worked_config { communication = Enabled }) (codes "L+\nH 0000000AFFFF0000000100000001\n")
         ≡ codes "+ 1\n> 0000000AFFFF0000000200000001\n> 0000001C0000810D0000000000010102410647454D3330304106312E302E3030\n" }
-    ensures accepted { answers_under (record known_config { communication = Enabled }) (codes "L+\nH 0000000AFFFF0000000100000001\nH 000000110000010E00000000000101022101000100\nH 0000000A00008101000000000002\n")
+    ensures accepted { answers_under (record worked_config { communication = Enabled }) (codes "L+\nH 0000000AFFFF0000000100000001\nH 000000110000010E00000000000101022101000100\nH 0000000A00008101000000000002\n")
         ≡ codes "+ 1\n> 0000000AFFFF0000000200000001\n> 0000001C0000810D0000000000010102410647454D3330304106312E302E3030\n> 0000001C000001020000000000020102410647454D3330304106312E302E3030\n" }
 {}
 
 /// Until then all but S1F13 and its answer is discarded. An S1F13 of the host establishes communication too, and the tool's
 /// own is forgotten: the host's answer to it is discarded.
 pub fn communication_is_established_by_the_host()
-    ensures { answers_under (record known_config { communication = Enabled }) (codes "L+\nH 0000000AFFFF0000000100000001\nH 0000000A00008101000000000002\nH 0000000A0000810D000000000003\nH 000000110000010E00000000000101022101010100\nH 0000000A00008101000000000004\n")
+    ensures { answers_under (record worked_config { communication = Enabled }) (codes "L+\nH 0000000AFFFF0000000100000001\nH 0000000A00008101000000000002\nH 0000000A0000810D000000000003\nH 000000110000010E00000000000101022101010100\nH 0000000A00008101000000000004\n")
         ≡ codes "+ 1\n> 0000000AFFFF0000000200000001\n> 0000001C0000810D0000000000010102410647454D3330304106312E302E3030\n> 000000210000010E00000000000301022101000102410647454D3330304106312E302E3030\n> 0000001C000001020000000000040102410647454D3330304106312E302E3030\n" }
 {}
 
 /// T3 of the tool's S1F13 is over after 4,500 hundredths: S9F9 tells its header. The tool asks again 1,000 later, and not
 /// before.
 pub fn an_s1f13_that_is_not_answered_is_sent_again()
-    ensures before { answers_under (record known_config { communication = Enabled }) (codes "L+\nH 0000000AFFFF0000000100000001\nT 4500\nT 5499\n")
+    ensures before { answers_under (record worked_config { communication = Enabled }) (codes "L+\nH 0000000AFFFF0000000100000001\nT 4500\nT 5499\n")
         ≡ codes "+ 1\n> 0000000AFFFF0000000200000001\n> 0000001C0000810D0000000000010102410647454D3330304106312E302E3030\n> 0000001600000909000000000002210A0000810D000000000001\n" }
-    ensures at { answers_under (record known_config { communication = Enabled }) (codes "L+\nH 0000000AFFFF0000000100000001\nT 4500\nT 5499\nT 5500\n")
+    ensures at { answers_under (record worked_config { communication = Enabled }) (codes "L+\nH 0000000AFFFF0000000100000001\nT 4500\nT 5499\nT 5500\n")
         ≡ codes "+ 1\n> 0000000AFFFF0000000200000001\n> 0000001C0000810D0000000000010102410647454D3330304106312E302E3030\n> 0000001600000909000000000002210A0000810D000000000001\n> 0000001C0000810D0000000000030102410647454D3330304106312E302E3030\n" }
 {}
 
 /// A linktest of the tool goes out after its period, here 200, and T6 ends the session where it is not answered.
 pub fn a_linktest_of_the_tool_is_answered_or_ends_the_session()
-    ensures asked { answers_under (record known_config { linktest = 200 }) (codes "L+\nH 0000000AFFFF0000000100000001\nT 200\n")
+    ensures asked { answers_under (record worked_config { linktest = 200 }) (codes "L+\nH 0000000AFFFF0000000100000001\nT 200\n")
         ≡ codes "+ 1\n> 0000000AFFFF0000000200000001\n> 0000000AFFFF0000000500000001\n" }
-    ensures ended { answers_under (record known_config { linktest = 200 }) (codes "L+\nH 0000000AFFFF0000000100000001\nT 200\nT 700\n")
+    ensures ended { answers_under (record worked_config { linktest = 200 }) (codes "L+\nH 0000000AFFFF0000000100000001\nT 200\nT 700\n")
         ≡ codes "+ 1\n> 0000000AFFFF0000000200000001\n> 0000000AFFFF0000000500000001\n- 1 T6\n" }
-    ensures answered { answers_under (record known_config { linktest = 200 }) (codes "L+\nH 0000000AFFFF0000000100000001\nT 200\nH 0000000AFFFF0000000600000001\nT 300\n")
+    ensures answered { answers_under (record worked_config { linktest = 200 }) (codes "L+\nH 0000000AFFFF0000000100000001\nT 200\nH 0000000AFFFF0000000600000001\nT 300\n")
         ≡ codes "+ 1\n> 0000000AFFFF0000000200000001\n> 0000000AFFFF0000000500000001\n" }
 {}
 
 /// In HOST OFF-LINE a message is answered by function 0 of its stream, and S1F17 takes the tool on-line: ONLACK 0. A second
 /// one is answered by 2, and S1F15 takes the tool off-line again.
 pub fn the_host_takes_the_tool_on_line()
-    ensures { answers_under (record known_config { control = HostOffline }) (codes "L+\nH 0000000AFFFF0000000100000001\nH 0000000A00008101000000000007\nH 0000000A00008111000000000008\nH 0000000A00008111000000000009\nH 0000000A0000810F00000000000A\nH 0000000A0000821100000000000B\n")
+    ensures { answers_under (record worked_config { control = HostOffline }) (codes "L+\nH 0000000AFFFF0000000100000001\nH 0000000A00008101000000000007\nH 0000000A00008111000000000008\nH 0000000A00008111000000000009\nH 0000000A0000810F00000000000A\nH 0000000A0000821100000000000B\n")
         ≡ codes "+ 1\n> 0000000AFFFF0000000200000001\n> 0000000A00000100000000000007\n> 0000000D00000112000000000008210100\n> 0000000D00000112000000000009210102\n> 0000000D0000011000000000000A210100\n> 0000000A0000020000000000000B\n" }
 {}
 
@@ -228,17 +227,17 @@ pub fn the_operator_quits()
 
 /// A history is full once it has its greatest number of entries, here 2, and not one before.
 pub fn a_history_is_full_at_its_greatest_number_of_entries()
-    ensures room { is_full (record known_config { max_entries = 2 }) (posted (LinkUp ∷ [])) Tick ≡ false }
-    ensures full { is_full (record known_config { max_entries = 2 }) (posted (LinkUp ∷ Tick ∷ [])) Tick ≡ true }
+    ensures room { is_full (record worked_config { max_entries = 2 }) (posted (LinkUp ∷ [])) Tick ≡ false }
+    ensures full { is_full (record worked_config { max_entries = 2 }) (posted (LinkUp ∷ Tick ∷ [])) Tick ≡ true }
 {}
 
 /// A history takes its greatest number of bytes of text, here 3, and not one more. A text that is too long counts 0.
 pub fn a_history_takes_its_greatest_number_of_bytes()
-    ensures room { is_full (record known_config { max_bytes = 3 })
+    ensures room { is_full (record worked_config { max_bytes = 3 })
         (posted (LinkUp ∷ message_of (request 1 1 1) (65 ∷ 66 ∷ []) ∷ [])) (message_of (request 1 1 2) (67 ∷ [])) ≡ false }
-    ensures full { is_full (record known_config { max_bytes = 3 })
+    ensures full { is_full (record worked_config { max_bytes = 3 })
         (posted (LinkUp ∷ message_of (request 1 1 1) (65 ∷ 66 ∷ []) ∷ [])) (message_of (request 1 1 2) (67 ∷ 68 ∷ [])) ≡ true }
-    ensures too_long { is_full (record known_config { max_bytes = 3 })
+    ensures too_long { is_full (record worked_config { max_bytes = 3 })
         (posted (LinkUp ∷ message_of (request 1 1 1) (65 ∷ 66 ∷ 67 ∷ []) ∷ [])) (too_long_of (request 1 1 2) 262155) ≡ false }
 {}
 
@@ -265,11 +264,11 @@ pub fn an_event_that_is_not_enabled_is_not_reported()
 /// With all events enabled the change to ON-LINE LOCAL is reported, and that to EQUIPMENT OFF-LINE, since control was
 /// on-line before it. The attempt to go on-line again is not. Without the S2F37 nothing is reported.
 pub fn what_is_reported_of_changes_of_control()
-    ensures enabled { map told_as (reported_in (opening known_config)
+    ensures enabled { map told_as (reported_in (opening worked_config)
         (posted (LinkUp ∷ message_of (select_request 1) [] ∷ message_of (request 2 37 10) (1 ∷ 2 ∷ 37 ∷ 1 ∷ 1 ∷ 1 ∷ 0 ∷ [])
         ∷ Oper Local ∷ Oper Offline ∷ Oper Online ∷ [])))
         ≡ (Event, 211) ∷ (Event, 206) ∷ [] }
-    ensures not_enabled { reported_in (opening known_config)
+    ensures not_enabled { reported_in (opening worked_config)
         (posted (LinkUp ∷ message_of (select_request 1) [] ∷ Oper Local ∷ Oper Offline ∷ Oper Online ∷ [])) ≡ [] }
 {}
 
@@ -285,10 +284,10 @@ pub fn a_note_tells_the_values_behind_its_own_firing()
 /// a new link until the host asks by S6F23; then the oldest is sent, with the DATAID that it had, and the other behind its
 /// answer.
 pub fn events_are_spooled_over_a_lost_link()
-    ensures lost { answers_under (record known_config { spool_streams = record { five = false; six = true } })
+    ensures lost { answers_under (record worked_config { spool_streams = record { five = false; six = true } })
         (codes "L+\nH 0000000AFFFF0000000100000001\nH 000000170000822500000000000A01022501010101B104000000D3\nO local\nL-\nO remote\nO local\n")
         ≡ codes "+ 1\n> 0000000AFFFF0000000200000001\n> 0000000D0000022600000000000A210100\n= ok\n> 0000001E0000860B0000000000010103A1080000000000000001B104000000D30100\n- 1 PeerEnd\n= ok\n= ok\n" }
-    ensures given_back { answers_under (record known_config { spool_streams = record { five = false; six = true } })
+    ensures given_back { answers_under (record worked_config { spool_streams = record { five = false; six = true } })
         (codes "L+\nH 0000000AFFFF0000000100000001\nH 000000170000822500000000000A01022501010101B104000000D3\nO local\nL-\nO remote\nO local\nL+\nH 0000000AFFFF0000000100000002\nH 000000110000010E00000000000201022101000100\nH 0000000D0000861700000000000BA50100\nH 0000000D0000060C000000000003210100\n")
         ≡ codes "+ 1\n> 0000000AFFFF0000000200000001\n> 0000000D0000022600000000000A210100\n= ok\n> 0000001E0000860B0000000000010103A1080000000000000001B104000000D30100\n- 1 PeerEnd\n= ok\n= ok\n+ 2\n> 0000000AFFFF0000000200000002\n> 0000001C0000810D0000000000020102410647454D3330304106312E302E3030\n> 0000000D0000061800000000000B210100\n> 0000001E0000860B0000000000030103A1080000000000000001B104000000D30100\n> 0000001E0000860B0000000000040103A1080000000000000002B104000000D30100\n" }
 {}
@@ -296,7 +295,7 @@ pub fn events_are_spooled_over_a_lost_link()
 /// The host has the spooled notes dropped, by S6F23 with RSDC 1: SpoolCountActual is 0 behind it, and a second S6F23 finds the
 /// spool INACTIVE.
 pub fn spooled_notes_are_purged()
-    ensures { answers_under (record known_config { spool_streams = record { five = false; six = true } })
+    ensures { answers_under (record worked_config { spool_streams = record { five = false; six = true } })
         (codes "L+\nH 0000000AFFFF0000000100000001\nH 000000170000822500000000000A01022501010101B104000000D3\nO local\nL-\nL+\nH 0000000AFFFF0000000100000002\nH 000000110000010E00000000000201022101000100\nH 0000000D0000861700000000000BA50101\nH 000000120000810300000000000C0101B10400000004\nH 0000000D0000861700000000000DA50100\n")
         ≡ codes "+ 1\n> 0000000AFFFF0000000200000001\n> 0000000D0000022600000000000A210100\n= ok\n> 0000001E0000860B0000000000010103A1080000000000000001B104000000D30100\n- 1 PeerEnd\n+ 2\n> 0000000AFFFF0000000200000002\n> 0000001C0000810D0000000000020102410647454D3330304106312E302E3030\n> 0000000D0000061800000000000B210100\n> 000000120000010400000000000C0101B10400000000\n> 0000000D0000061800000000000D210102\n" }
 {}

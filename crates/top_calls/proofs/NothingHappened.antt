@@ -6,7 +6,7 @@ use Rattle.tool_events.specs.Configs.{IsConfig}
 use Rattle.gem_model.specs.State.{opening}
 use Rattle.gem_model.specs.Run.{after_all}
 use Rattle.gem_model.specs.Recorded.{Recorded}
-use Rattle.gem_model.specs.Command.{known_config}
+use Rattle.gem_model.specs.Conversation.{worked_config}
 use Rattle.gem_model.proofs.Recording.{recorded-none}
 use Rattle.line_feeding.specs.declared.ended.Cause.{Cause}
 use Rattle.line_feeding.specs.declared.ended.Cause.TheVariants as cause
@@ -20,7 +20,7 @@ pub recorded_none : (c : Config) (history : List Entry) → IsConfig c → histo
 recorded_none c history bounds none = recorded-none c history bounds none
 
 -- the worked configuration keeps its bounds
-worked_is : IsConfig known_config
+worked_is : IsConfig worked_config
 worked_is = record {
   device = omega arith;
   mdln_some = omega arith;
@@ -50,9 +50,9 @@ worked_is = record {
 }
 
 -- a run that reads no input does nothing under a configuration
-ran-nothing : (why : Cause) (input : SourceView) (held : Option (List ℕ)) → Fed known_config why input input [] [] → Shown known_config why held held [] → RanUnder known_config why input input held held [] []
+ran-nothing : (why : Cause) (input : SourceView) (held : Option (List ℕ)) → Fed worked_config why input input [] [] → Shown worked_config why held held [] → RanUnder worked_config why input input held held [] []
 ran-nothing why input held fed printed = record {
-  recorded = recorded-none known_config [] worked_is refl;
+  recorded = recorded-none worked_config [] worked_is refl;
   entries_fit = omega arith;
   bytes_fit = omega arith;
   fed = fed;
@@ -60,7 +60,7 @@ ran-nothing why input held fed printed = record {
 }
 
 -- what was read of a configuration that was not taken
-configured-refused : (why : Cause) (config config' : SourceView) → Refuses why config config' → Configured known_config why config config' []
+configured-refused : (why : Cause) (config config' : SourceView) → Refuses why config config' → Configured worked_config why config config' []
 configured-refused (cause.Config rule key) config config' h = h
 configured-refused cause.ReadFault config config' h = inr refl
 configured-refused cause.NoMemory config config' h = inr refl
@@ -72,11 +72,11 @@ configured-refused (cause.Line number place) config config' h = absurd h
 
 -- a run that took no configuration
 pub ran_refused : (why : Cause) (config config' input : SourceView) (held : Option (List ℕ)) → Refuses why config config' → (c : Config) × Configured c why config config' [] × RanUnder c why input input held held [] []
-ran_refused why config config' input held h = (known_config, configured-refused why config config' h, ran-nothing why input held (Fed-refused known_config why config config' input h) (Shown-refused known_config why config config' held h))
+ran_refused why config config' input held h = (worked_config, configured-refused why config config' h, ran-nothing why input held (Fed-refused worked_config why config config' input h) (Shown-refused worked_config why config config' held h))
 
 -- a run whose words are refused
 pub ran_unfit : (place : ℕ) (config input : SourceView) (held : Option (List ℕ)) → (c : Config) × Configured c (cause.Words place) config config [] × RanUnder c (cause.Words place) input input held held [] []
-ran_unfit place config input held = (known_config, refl, ran-nothing (cause.Words place) input held ([], Taken-nothing input.left, (refl, refl), refl) (Written-nothing held))
+ran_unfit place config input held = (worked_config, refl, ran-nothing (cause.Words place) input held ([], Taken-nothing input.left, (refl, refl), refl) (Written-nothing held))
 
 -- what was read of a configuration that was taken, by how the run under it ended
 pub configured-read : (c : Config) (why : Cause) (config config' : SourceView) (history : List Entry) → IsRead config config' c → ((place : ℕ) → why ≢ cause.Words place) → ((rule : ℕ) (key : List ℕ) → why ≢ cause.Config rule key) → Configured c why config config' history

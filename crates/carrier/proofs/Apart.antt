@@ -8,7 +8,7 @@ use Rattle.carrier.proofs.Names.{same_name, own_name, turned}
 
 -- ---- truth values
 
-or_false : (a b : Bool) → (a || b) ≡ false → (a ≡ false) × (b ≡ false)
+pub or_false : (a b : Bool) → (a || b) ≡ false → (a ≡ false) × (b ≡ false)
 or_false true b h = absurd (true≢false h)
 or_false false b h = (refl, h)
 
@@ -194,7 +194,7 @@ names_update zero (c ∷ cs) carrier h = ap (λ (n : List ℕ). n ∷ names cs) 
 names_update (suc place) (c ∷ cs) carrier h = ap (λ (ns : List (List ℕ)). c.name ∷ ns) (names_update place cs carrier h)
 
 -- fewer carriers
-known_fewer : (test : Carrier → Bool) (name : List ℕ) (cs : List Carrier) → is_known name cs ≡ false → is_known name (filter test cs) ≡ false
+pub known_fewer : (test : Carrier → Bool) (name : List ℕ) (cs : List Carrier) → is_known name cs ≡ false → is_known name (filter test cs) ≡ false
 known_fewer test name [] h = refl
 known_fewer test name (c ∷ cs) h =
     let parts = or_false (has_name name c) (is_known name cs) h in
@@ -211,7 +211,7 @@ apart_fewer test (c ∷ cs) h = by_test (test c) (apart_fewer test cs (rest_apar
   by_test true later = rw (known_fewer test c.name cs (first_apart c cs h), later) refl
   by_test false later = later
 
-length_fewer : (test : Carrier → Bool) (cs : List Carrier) → length (filter test cs) ≤ length cs
+pub length_fewer : (test : Carrier → Bool) (cs : List Carrier) → length (filter test cs) ≤ length cs
 length_fewer test [] = omega arith
 length_fewer test (c ∷ cs) = by_test (test c) (length_fewer test cs) where
   by_test : (b : Bool) → length (filter test cs) ≤ length cs → length (cond b (c ∷ filter test cs) (filter test cs)) ≤ length (c ∷ cs)
@@ -232,27 +232,27 @@ without_none name (c ∷ cs) h =
     rw (parts.0, without_none name cs parts.1) refl
 
 -- one more carrier, behind the others
-known_more : (number : ℕ) (name other : List ℕ) (cs : List Carrier) → is_known name cs ≡ false → bytes_eq other name ≡ false → is_known name (cs ++ created number other ∷ []) ≡ false
-known_more number name other [] h e = rw e refl
-known_more number name other (c ∷ cs) h e =
+known_more : (name : List ℕ) (other : Carrier) (cs : List Carrier) → is_known name cs ≡ false → has_name name other ≡ false → is_known name (cs ++ other ∷ []) ≡ false
+known_more name other [] h e = rw e refl
+known_more name other (c ∷ cs) h e =
     let parts = or_false (has_name name c) (is_known name cs) h in
-    rw (parts.0, known_more number name other cs parts.1 e) refl
+    rw (parts.0, known_more name other cs parts.1 e) refl
 
-apart_more : (number : ℕ) (name : List ℕ) (cs : List Carrier) → are_named_apart cs ≡ true → is_known name cs ≡ false → are_named_apart (with_created number name cs) ≡ true
-apart_more number name [] h e = refl
-apart_more number name (c ∷ cs) h e =
-    let parts = or_false (has_name name c) (is_known name cs) e in
-    let other : bytes_eq name c.name ≡ false = turned name c.name ∙ parts.0 in
-    rw (known_more number c.name name cs (first_apart c cs h) other, apart_more number name cs (rest_apart c cs h) parts.1) refl
+apart_more : (carrier : Carrier) (cs : List Carrier) → are_named_apart cs ≡ true → is_known carrier.name cs ≡ false → are_named_apart (cs ++ carrier ∷ []) ≡ true
+apart_more carrier [] h e = refl
+apart_more carrier (c ∷ cs) h e =
+    let parts = or_false (has_name carrier.name c) (is_known carrier.name cs) e in
+    let other : has_name c.name carrier ≡ false = turned carrier.name c.name ∙ parts.0 in
+    rw (known_more c.name carrier cs (first_apart c cs h) other, apart_more carrier cs (rest_apart c cs h) parts.1) refl
 
-length_more : (number : ℕ) (name : List ℕ) (cs : List Carrier) → length (with_created number name cs) ≡ suc (length cs)
-length_more number name [] = refl
-length_more number name (c ∷ cs) = ap suc (length_more number name cs)
+length_more : (carrier : Carrier) (cs : List Carrier) → length (cs ++ carrier ∷ []) ≡ suc (length cs)
+length_more carrier [] = refl
+length_more carrier (c ∷ cs) = ap suc (length_more carrier cs)
 
-pub carriers_more : (number : ℕ) (name : List ℕ) (cs : List Carrier) → AreCarriers cs → is_known name cs ≡ false → length cs < most_carriers → AreCarriers (with_created number name cs)
-carriers_more number name cs h e l =
-    let longer = length_more number name cs in
-    record { apart = apart_more number name cs h.apart e; few = omega arith }
+pub carriers_more : (carrier : Carrier) (cs : List Carrier) → AreCarriers cs → is_known carrier.name cs ≡ false → length cs < most_carriers → AreCarriers (cs ++ carrier ∷ [])
+carriers_more carrier cs h e l =
+    let longer = length_more carrier cs in
+    record { apart = apart_more carrier cs h.apart e; few = omega arith }
 
 -- ---- the carrier of a number
 

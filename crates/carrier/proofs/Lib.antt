@@ -3,3 +3,4 @@ pub mod Apart
 pub mod Entries
 pub mod Absent
 pub mod Scans
+pub mod Others

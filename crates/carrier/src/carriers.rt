@@ -1,9 +1,9 @@
 //! The carriers that the tool knows.
 
-ghost use Rattle.std.specs.Prelude.{◌≡◌, ◌≤◌, ◌<◌, false, [], length, slice_get, option_map, Some, None, Err, IfOk, IfErr, IfSome};
+ghost use Rattle.std.specs.Prelude.{◌≡◌, ◌≤◌, ◌<◌, ◌∷◌, ◌++◌, false, [], length, take, slice_get, option_map, Some, None, Err, IsOk, IfOk, IfErr, IfSome};
 ghost use Rattle.gem_tables.specs.Table.{update_at};
 ghost use Rattle.load_port.specs.Caack.{caack_number};
-ghost use Rattle.carrier.specs.Carriers.{carrier_named, carrier_numbered, is_known, place_of, change_named, change_numbered, without, with_created, fires_row, starts_row, came_to, directed_to, binds, told_map, read_map, is_absent_at, absent_count, most_carriers, view_of, AreCarriers};
+ghost use Rattle.carrier.specs.Carriers.{has_name, carrier_named, carrier_numbered, is_known, place_of, change_named, change_numbered, without, with_created, fires_row, starts_row, came_to, directed_to, binds, told_map, read_map, is_absent_at, absent_count, most_carriers, view_of, AreCarriers};
 ghost use Rattle.carrier.specs.Creating.{create_fault};
 ghost use Rattle.carrier.specs.Verdict.{is_carrier_name, view_numbered, bind_carrier_code, bind_code, cancel_bind_code, proceed_code, can_be_stopped, cancel_code, notify_code, cancel_notify_code, word_code, carrier_caack};
 ghost use Rattle.carrier.specs.declared.fault.CarrierFault.{CarrierFault};
@@ -26,8 +26,8 @@ pub const MOST_CARRIERS: usize = 16;
 pub const MOST_ABSENT: usize = 12;
 
 /// The carriers that the tool knows, which contracts see as the list of them in the order in which they were created. Each
-/// name is that of one carrier, and there are at most 16. A carrier's place is counted from 0. Only `new` and `create` take
-/// memory.
+/// name is that of one carrier, and there are at most 16. A carrier's place is counted from 0. Only `new` takes memory: it
+/// takes room for all 16, which they keep.
 #[derive(Drop)]
 pub struct Carriers {
     by_name: IndexMap<Key, Carrier>,
@@ -39,11 +39,12 @@ impl Model for Carriers {
 
     ghost Value = { List Carrier };
 
+    ghost use Rattle.indexmap.specs.IndexMap.{spare};
     ghost use Rattle.carrier.specs.Kept.{carriers_of, AreKept};
 
     ghost view = { λ c. carriers_of c.by_name.entries };
 
-    ghost invariant = { λ c. AreKept c.by_name.entries };
+    ghost invariant = { λ c. AreKept c.by_name.entries (spare c.by_name) };
 }
 
 impl Carriers {
@@ -242,13 +243,13 @@ impl Carriers {
     // ---- what happens to them
 
     /// A carrier of this name is known from now on, behind the others, with its number of creation. That no other has the
-    /// number is for the caller. `NameTaken` comes exactly where one of the name is
-    /// known, and else `NoSpace(16)` exactly where 16 carriers are known; `NoMemory` comes for want of memory alone. Any
-    /// fault changes nothing.
+    /// number is for the caller. `NameTaken` comes exactly where one of the name is known, and else `NoSpace(16)` exactly
+    /// where 16 carriers are known; `NoMemory` never comes, since `new` took the room. A fault changes nothing.
     pub fn create(&mut self, number: u64, id: CarrierId) -> Result<(), CarrierFault>
         ensures created { IfOk result (λ _. self.new ≡ with_created number id self.old) }
         ensures unchanged { IfErr result (λ _. self.new ≡ self.old) }
         ensures refused { (fault : CarrierFault) → create_fault id self.old ≡ Some fault → result ≡ Err fault }
+        ensures succeeds { create_fault id self.old ≡ None → IsOk result }
         ensures memory { create_fault id self.old ≡ None → IfErr result (λ fault. fault ≡ NoMemory) }
     {
         if self.is_known(id.text()) {
@@ -257,21 +258,22 @@ impl Carriers {
         if self.len() >= MOST_CARRIERS {
             return Err(CarrierFault::NoSpace(MOST_CARRIERS as u32));
         }
-        self.push(number, id)
+        self.add(Carrier::new(number, id));
+        Ok(())
     }
 
-    // A carrier of a name that isn't known comes behind the others, which are fewer than 16.
-    fn push(&mut self, number: u64, id: CarrierId) -> Result<(), CarrierFault>
-        requires unknown { is_known id self.old ≡ false }
+    // A carrier of a name that isn't known comes behind the others, which are fewer than 16: there is room for it.
+    fn add(&mut self, carrier: Carrier)
+        requires unknown { is_known carrier.name self.old ≡ false }
         requires few { length self.old < most_carriers }
-        ensures created { IfOk result (λ _. self.new ≡ with_created number id self.old) }
-        ensures unchanged { IfErr result (λ _. self.new ≡ self.old) }
-        ensures memory { IfErr result (λ fault. fault ≡ NoMemory) }
+        ensures { self.new ≡ self.old ++ carrier ∷ [] }
     {
-        let key = Key { name: id.text() };
-        match self.by_name.insert(key, Carrier::new(number, id)) {
-            Ok(_) => Ok(()),
-            Err(_) => Err(CarrierFault::NoMemory),
+        let key = Key {
+            name: carrier.name.text(),
+        };
+        match self.by_name.insert(key, carrier) {
+            Ok(_) => {}
+            Err(_) => unreachable!(),
         }
     }
 
@@ -280,7 +282,34 @@ impl Carriers {
     pub fn forget(&mut self, id: CarrierId)
         ensures { self.new ≡ without id self.old }
     {
-        self.by_name.shift_remove(&Key { name: id.text() });
+        self.keep_others(self.len(), id);
+    }
+
+    // So many carriers from the first on stay, but for that of a name. All are taken out, and put in again in their order:
+    // a map that lost a single one may lack the room of it.
+    fn keep_others(&mut self, count: usize, name: CarrierId)
+        requires { count ≤ length self.old }
+        ensures { self.new ≡ without name (take count self.old) }
+    {
+        let _ = &self.by_name;
+        if count == 0 {
+            self.clear();
+            return;
+        }
+        let last = self.get(count - 1);
+        self.keep_others(count - 1, name);
+        if let Some(carrier) = last {
+            if !is_named(&carrier, name) {
+                self.add(carrier);
+            }
+        }
+    }
+
+    // No carrier is known any more.
+    fn clear(&mut self)
+        ensures { self.new ≡ [] }
+    {
+        self.by_name.clear();
     }
 
     // The carrier of a place is this one, which has the name of the one that was.
@@ -380,6 +409,16 @@ impl Carriers {
             });
         }
     }
+}
+
+// Whether the carrier has this name.
+fn is_named(carrier: &Carrier, name: CarrierId) -> bool
+    ensures { result ≡ has_name name carrier.now }
+{
+    let key = Key {
+        name: carrier.name.text(),
+    };
+    key == Key { name: name.text() }
 }
 
 // Whether a text is the name of a carrier.

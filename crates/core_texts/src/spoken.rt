@@ -2,13 +2,16 @@
 //!
 //! `at 5 up` posts an event at a moment, and `waits 5 up` asks whether it has to wait. Without a moment stand `up`, which
 //! session is up; `sessions`, how many came; `end 1` and `bytes 1`, why a session ended and how many bytes went out in it;
-//! `entries` and `entry 0`, how many the history has, and one of them; and `fate 1`, what became of a note. `close` takes
-//! the core apart, and tells how many entries it hands out; nothing can be asked of it then.
+//! `entries` and `entry 0`, how many the history has, and one of them; `fate 1`, what became of a note; and `value 2`, the
+//! value of a variable outside a firing, as `U1 [3]`, or `none`. `close` takes the core apart, and tells how many entries it
+//! hands out; nothing can be asked of it then.
 //!
 //! The contracts of a core are long, so each of its calls stands in one function without a clause, that gives back words.
 
 use crate::posted::{answer_text, event, fault_text, moment};
 use anyhow::{Result, bail};
+use event_reports::Values;
+use secs_items::Item;
 use std::alloc::Global;
 use test_lines::{Subject, number, word, words};
 use tool_core::Core;
@@ -53,6 +56,7 @@ fn answer_of(alloc: Global, core: &mut Core, words: &[&str]) -> Result<String> {
         "at" => post(alloc, core, words),
         "waits" => waits(alloc, core, words),
         "fate" => fate(alloc, core, number(words, 1)?),
+        "value" => item_text(alloc, &value(alloc, core, word(words, 1)?.parse::<u32>()?)?),
         "end" | "bytes" => of_session(alloc, core, words),
         "entry" => entry(alloc, core, number(words, 1)? as usize),
         what => counted(alloc, core, what),
@@ -90,6 +94,27 @@ fn fate(alloc: Global, core: &Core, number: u64) -> Result<String> {
     }
     let fate = core.fate(number);
     Ok(format!(in alloc; "{fate:?}")?)
+}
+
+// The value of a variable.
+fn value(alloc: Global, core: &Core, vid: u32) -> Result<Option<Item>> {
+    Ok(core.value(alloc, vid)?)
+}
+
+// The value of a variable in words.
+fn item_text(alloc: Global, item: &Option<Item>) -> Result<String> {
+    match item {
+        Some(Item::Ascii(text)) => {
+            let text = String::from_utf8_lossy(alloc, text.as_slice())?;
+            Ok(format!(in alloc; "A {:?}", text.as_str())?)
+        }
+        Some(Item::Bool(truths)) => Ok(format!(in alloc; "BOOL {:?}", truths.as_slice())?),
+        Some(Item::U1(numbers)) => Ok(format!(in alloc; "U1 {:?}", numbers.as_slice())?),
+        Some(Item::U2(numbers)) => Ok(format!(in alloc; "U2 {:?}", numbers.as_slice())?),
+        Some(Item::U4(numbers)) => Ok(format!(in alloc; "U4 {:?}", numbers.as_slice())?),
+        Some(_) => bail!("no variable has such a value"),
+        None => Ok(format!(in alloc; "none")?),
+    }
 }
 
 fn of_session(alloc: Global, core: &Core, words: &[&str]) -> Result<String> {

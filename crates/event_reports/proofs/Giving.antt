@@ -1,42 +1,61 @@
 -- Items that are added one by one.
-use Rattle.std.proofs.Common.{◌≡◌, ◌<◌, ◌≤◌, ◌+◌, ℕ, List, length, drop, get_or, Option, refl, sym, ◌∙◌, ap, add-one, drop-cons}
-use Rattle.std.proofs.lemmas.List.{drop_all}
+use Rattle.std.proofs.Common.{◌≡◌, ◌<◌, ◌≤◌, ◌+◌, ◌++◌, ℕ, List, [], ◌∷◌, length, take, get_or, Option, refl, sym, ◌∙◌, ap}
+use Rattle.std.proofs.lemmas.List.{take_all, take_more}
 use Rattle.std.specs.Option.{unwrap_or}
 use Rattle.secs_items.specs.Data.{Data, DataList, list, no_items, item, added}
 use Rattle.event_reports.specs.Values.{joined}
 use Rattle.event_reports.specs.Reports.{Reports, value_items, report_item, items_of_reports}
 
-joined-added : (ds more : DataList) (d : Data) → joined (added ds d) more ≡ joined ds (item d more)
-joined-added no_items more d = refl
-joined-added (item e ds) more d = ap (item e) (joined-added ds more d)
-
 -- nothing is added at the end
-joined-none : (ds : DataList) → joined ds no_items ≡ ds
+pub joined-none : (ds : DataList) → joined ds no_items ≡ ds
 joined-none no_items = refl
 joined-none (item d ds) = ap (item d) (joined-none ds)
 
+-- one is added behind what was added
+added-joined : (ds more : DataList) (d : Data) → added (joined ds more) d ≡ joined ds (added more d)
+added-joined no_items more d = refl
+added-joined (item e ds) more d = ap (item e) (added-joined ds more d)
+
+-- ---- values
+
+values-added : (value : ℕ → Option Data) (vids : List ℕ) (vid : ℕ) → value_items value (vids ++ vid ∷ []) ≡ added (value_items value vids) (unwrap_or (value vid) (list no_items))
+values-added value [] vid = refl
+values-added value (v ∷ vids) vid = ap (item (unwrap_or (value v) (list no_items))) (values-added value vids vid)
+
 -- the value of one variable more
 pub values_more : (value : ℕ → Option Data) (vids : List ℕ) (i : ℕ) (start out pushed : DataList) →
-    i < length vids → start ≡ joined out (value_items value (drop i vids)) → pushed ≡ added out (unwrap_or (value (get_or vids i 0)) (list no_items)) →
-    start ≡ joined pushed (value_items value (drop (i + 1) vids))
+    i < length vids → out ≡ joined start (value_items value (take i vids)) → pushed ≡ added out (unwrap_or (value (get_or vids i 0)) (list no_items)) →
+    pushed ≡ joined start (value_items value (take (i + 1) vids))
 values_more value vids i start out pushed less so_far more =
-    let next = joined-added out (value_items value (drop (i + 1) vids)) (unwrap_or (value (get_or vids i 0)) (list no_items)) in
-    rw (more, next) (rw add-one (rw (drop-cons vids i 0 less) at so_far))
+    let d = unwrap_or (value (get_or vids i 0)) (list no_items) in
+    more
+    ∙ ap (λ ds. added ds d) so_far
+    ∙ added-joined start (value_items value (take i vids)) d
+    ∙ sym (ap (joined start) (ap (value_items value) (take_more vids i 0 less) ∙ values-added value (take i vids) (get_or vids i 0)))
 
 -- the values of all variables
 pub values_all : (value : ℕ → Option Data) (vids : List ℕ) (i : ℕ) (start out : DataList) →
-    length vids ≤ i → start ≡ joined out (value_items value (drop i vids)) → out ≡ start
-values_all value vids i start out all so_far = sym (so_far ∙ rw (drop_all i vids all) (joined-none out))
+    length vids ≤ i → out ≡ joined start (value_items value (take i vids)) → out ≡ joined start (value_items value vids)
+values_all value vids i start out all so_far = so_far ∙ ap (λ vs. joined start (value_items value vs)) (take_all i vids all)
+
+-- ---- reports
+
+reports-added : (value : ℕ → Option Data) (r : Reports) (rptids : List ℕ) (rptid : ℕ) → items_of_reports value (rptids ++ rptid ∷ []) r ≡ added (items_of_reports value rptids r) (report_item value rptid r)
+reports-added value r [] rptid = refl
+reports-added value r (p ∷ rptids) rptid = ap (item (report_item value p r)) (reports-added value r rptids rptid)
 
 -- one report more
 pub reports_more : (value : ℕ → Option Data) (r : Reports) (rptids : List ℕ) (i : ℕ) (start out pushed : DataList) →
-    i < length rptids → start ≡ joined out (items_of_reports value (drop i rptids) r) → pushed ≡ added out (report_item value (get_or rptids i 0) r) →
-    start ≡ joined pushed (items_of_reports value (drop (i + 1) rptids) r)
+    i < length rptids → out ≡ joined start (items_of_reports value (take i rptids) r) → pushed ≡ added out (report_item value (get_or rptids i 0) r) →
+    pushed ≡ joined start (items_of_reports value (take (i + 1) rptids) r)
 reports_more value r rptids i start out pushed less so_far more =
-    let next = joined-added out (items_of_reports value (drop (i + 1) rptids) r) (report_item value (get_or rptids i 0) r) in
-    rw (more, next) (rw add-one (rw (drop-cons rptids i 0 less) at so_far))
+    let d = report_item value (get_or rptids i 0) r in
+    more
+    ∙ ap (λ ds. added ds d) so_far
+    ∙ added-joined start (items_of_reports value (take i rptids) r) d
+    ∙ sym (ap (joined start) (ap (λ ps. items_of_reports value ps r) (take_more rptids i 0 less) ∙ reports-added value r (take i rptids) (get_or rptids i 0)))
 
 -- all reports
 pub reports_all : (value : ℕ → Option Data) (r : Reports) (rptids : List ℕ) (i : ℕ) (start out : DataList) →
-    length rptids ≤ i → start ≡ joined out (items_of_reports value (drop i rptids) r) → out ≡ start
-reports_all value r rptids i start out all so_far = sym (so_far ∙ rw (drop_all i rptids all) (joined-none out))
+    length rptids ≤ i → out ≡ joined start (items_of_reports value (take i rptids) r) → out ≡ joined start (items_of_reports value rptids r)
+reports_all value r rptids i start out all so_far = so_far ∙ ap (λ ps. joined start (items_of_reports value ps r)) (take_all i rptids all)

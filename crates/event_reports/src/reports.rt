@@ -1,6 +1,6 @@
 //! Reports, their links to collection events, and which events are enabled.
 
-ghost use Rattle.std.specs.Prelude.{length, ◌≡◌, ◌≤◌, map, IfOk, OnOk, option_map};
+ghost use Rattle.std.specs.Prelude.{ℕ, length, take, ◌≡◌, ◌≤◌, map, IfOk, OnOk, OnErr, option_map};
 ghost use Rattle.std.specs.Option.{unwrap_or};
 ghost use Rattle.std.specs.List.{list_all};
 ghost use Rattle.secs_items.specs.Data.{list, no_items, added};
@@ -157,7 +157,8 @@ impl Reports {
         v: &V,
         out: &mut Items,
     ) -> Result<(), NoMemory>
-        ensures { OnOk result (out.new ≡ joined out.old (items_of_reports (V.value_of v.now) rptids.now self.now)) }
+        ensures reports { OnOk result (out.new ≡ joined out.old (items_of_reports (V.value_of v.now) rptids.now self.now)) }
+        ensures first { OnErr result ((n : ℕ) × (out.new ≡ joined out.old (items_of_reports (V.value_of v.now) (take n rptids.now) self.now))) }
     {
         for rptid in rptids {
             out.push(self.report_item(alloc, *rptid, v)?)?;
@@ -167,7 +168,8 @@ impl Reports {
 
     /// Adds the reports of an event at the end, in the order of its link, each as a list of its RPTID and the list of its
     /// values (SEMI E5, S6F11). A variable without a value stands as an empty list. An event without a link and an
-    /// unknown one add nothing. After `NoMemory` some of them may have been added.
+    /// unknown one add nothing. After `NoMemory` the first of them may have been added, whole and in order, and what stood
+    /// before stays.
     pub fn report<V: Values>(
         &self,
         alloc: Global,
@@ -177,6 +179,9 @@ impl Reports {
     ) -> Result<(), NoMemory>
         ensures reports { OnOk result (out.new ≡ joined out.old (report_items (V.value_of v.now) ceid self.now)) }
 
+        // Else the first n reports of the link were added, for some n.
+        ensures first { OnErr result ((n : ℕ) × (out.new ≡ joined out.old (items_of_reports (V.value_of v.now) (take n (link_of ceid self.now)) self.now))) }
+
         // Few reports are added, and each is small where the values are.
         ensures few { count_of (report_items (V.value_of v.now) ceid self.now) ≤ most_linked }
         ensures bounded { AreSmallValues (V.value_of v.now) → AreBounded 3 5392 (report_items (V.value_of v.now) ceid self.now) }
@@ -185,7 +190,8 @@ impl Reports {
     }
 
     /// Adds the values of a report at the end, in its order (SEMI E5, S6F19). A variable without a value stands as an
-    /// empty list. An unknown report adds nothing. After `NoMemory` some of them may have been added.
+    /// empty list. An unknown report adds nothing. After `NoMemory` the first of them may have been added, in order, and
+    /// what stood before stays.
     pub fn one<V: Values>(
         &self,
         alloc: Global,
@@ -194,6 +200,9 @@ impl Reports {
         out: &mut Items,
     ) -> Result<(), NoMemory>
         ensures values { OnOk result (out.new ≡ joined out.old (one_items (V.value_of v.now) rptid self.now)) }
+
+        // Else the first n values of the report were added, for some n.
+        ensures first { OnErr result ((n : ℕ) × (out.new ≡ joined out.old (value_items (V.value_of v.now) (take n (vids_of rptid self.now))))) }
 
         // Few values are added, and each is small.
         ensures few { count_of (one_items (V.value_of v.now) rptid self.now) ≤ most_vids }
@@ -244,7 +253,8 @@ fn push_values<V: Values>(
     v: &V,
     out: &mut Items,
 ) -> Result<(), NoMemory>
-    ensures { OnOk result (out.new ≡ joined out.old (value_items (V.value_of v.now) vids.now)) }
+    ensures values { OnOk result (out.new ≡ joined out.old (value_items (V.value_of v.now) vids.now)) }
+    ensures first { OnErr result ((n : ℕ) × (out.new ≡ joined out.old (value_items (V.value_of v.now) (take n vids.now)))) }
 {
     for vid in vids {
         push_value(alloc, v.value(alloc, *vid)?, out)?;
@@ -254,7 +264,8 @@ fn push_values<V: Values>(
 
 // Adds the value of a variable at the end, an empty list where it has none.
 fn push_value(alloc: Global, value: Option<Item>, out: &mut Items) -> Result<(), NoMemory>
-    ensures { OnOk result (out.new ≡ added out.old (unwrap_or (option_map view value) (list no_items))) }
+    ensures no_memory { OnErr result (out.new ≡ out.old) }
+    ensures pushed { OnOk result (out.new ≡ added out.old (unwrap_or (option_map view value) (list no_items))) }
 {
     match value {
         Some(item) => out.push(item),

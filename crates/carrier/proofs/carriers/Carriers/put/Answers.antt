@@ -1,4 +1,5 @@
 use Rattle.std.proofs.Common.{◌≡◌, ◌∙◌, ◌≤◌, ap, sym, subst, List, length, IfSome, slice_get, arith}
+use Rattle.indexmap.specs.IndexMap.{spare}
 use Rattle.gem_tables.specs.Table.{update_at}
 use Rattle.load_port.proofs.Places.{update_none}
 use Rattle.carrier.specs.declared.carrier.Carrier.{Carrier}
@@ -7,7 +8,7 @@ use Rattle.carrier.proofs.carriers.Carriers.put.Goals as goal
 
 pub invariant_of-self : goal.invariant_of-self
 invariant_of-self c =
-    kept_set c.self.inside.by_name.entries c.args.place c.args.carrier c.self.invariant
+    kept_set c.self.inside.by_name.entries (spare c.self.inside.by_name) c.args.place c.args.carrier c.self.invariant
     (subst (λ (cs : List Carrier). IfSome (slice_get cs c.args.place) (λ d. d.name ≡ c.args.carrier.name)) (sym c.self.view_is) c.requires)
 
 pub returns-then-place-len : goal.returns-then-place-len

@@ -1,6 +1,6 @@
-# What the measures of `feed` share: where the program is, and how a run of it is measured. It is sourced, at the top of the
-# repository, and leaves a folder in $work that goes when the script ends.
-program=crates/gem300_tool/out/gem300_tool
+# What the measures of `feed` share: where the program is, unless $program names one already, and how a run of it is measured.
+# It is sourced, at the top of the repository, and leaves a folder in $work that goes when the script ends.
+program=${program:-crates/gem300_tool/out/gem300_tool}
 config=examples/first.toml
 work=$(mktemp -d)
 trap 'rm -rf "$work"' EXIT

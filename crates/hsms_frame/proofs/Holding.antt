@@ -253,6 +253,24 @@ passes_some old mid new piece rest after fills filled mid_max mid_fits rest_fits
       next.2,
     )
 
+-- what is held with no byte skips none
+pub held_fresh : (k : Kept) → IsHeld k → k.bytes ≡ [] → k ≡ record { max = k.max; bytes = []; skipped = 0 }
+held_fresh k held none =
+    let skipped : k.skipped ≡ 0 = elim (cases_lt 0 k.skipped) [ inl some ↦ absurd (omega (arith, (held.part.skips some).0, ap length none)) | inr none ↦ omega arith ] in
+    ap (λ (xs : List ℕ). record { max = k.max; bytes = xs; skipped = k.skipped }) none ∙ ap (λ (n : ℕ). record { max = k.max; bytes = []; skipped = n }) skipped
+
+-- nothing is kept: what is whole in the piece arrives
+pub passes_fresh : (old new : Kept) (piece after : List ℕ) → old ≡ record { max = old.max; bytes = []; skipped = 0 } → IsBytes piece
+    → Fills (record { max = old.max; bytes = []; skipped = 0 }) (behind_of piece) new after → IsHeld new → Passes old piece (arrivals_of old.max piece) new
+passes_fresh old new piece after fresh fits later held text size =
+    let no_text : text ≡ [] = nil_from_length text (size ∙ ap (λ (k : Kept). k.skipped) fresh) in
+    let same : old.bytes ++ text ++ piece ≡ piece = rw (ap (λ (k : Kept). k.bytes) fresh, no_text) refl in
+    let next = passes_none (record { max = old.max; bytes = []; skipped = 0 }) new (behind_of piece) after later held [] refl in (
+      next.0,
+      subst (λ (xs : List ℕ). Cut old.max xs (arrivals_of old.max piece) (new.bytes ++ next.0)) (sym same) (cut_through (length piece) old.max piece (new.bytes ++ next.0) fits next.1),
+      next.2,
+    )
+
 -- behind a length below 10 nothing arrives
 pub passes_short : (k : Kept) (piece : List ℕ) → IsHeld k → is_short k.bytes ≡ true → Passes k piece [] k
 passes_short k piece held short text size =

@@ -1,6 +1,6 @@
 //! What a cutter keeps of a frame while it comes.
 
-ghost use Rattle.std.specs.Prelude.{◌≡◌, ◌+◌, ◌-◌, ◌<◌, ◌≤◌, ◌++◌, min, length, take, drop, IfOk, OnOk, OnErr};
+ghost use Rattle.std.specs.Prelude.{◌≡◌, ◌+◌, ◌-◌, ◌<◌, ◌≤◌, [], ◌++◌, min, length, take, drop, IfOk, OnOk, OnErr};
 ghost use Rattle.hsms_frame.specs.Cut.{length_field};
 ghost use Rattle.hsms_frame.specs.Held.{kept, IsHeld, is_filled, Fills, Passes};
 
@@ -95,13 +95,24 @@ impl Held {
         self.fill_frame(rest)
     }
 
-    // Takes the next piece. After `NoMemory` what was kept before and what arrived before are at the front.
-    fn advance(
-        &mut self,
-        alloc: Global,
-        piece: &[u8],
-        out: &mut Vec<Arrival>,
-    ) -> Result<(), NoMemory>
+    // Takes the next piece where nothing is kept: each frame that is whole in it is cut off it where it lies. After `NoMemory`
+    // what arrived before is at the front.
+    fn begin(&mut self, alloc: Global, piece: &[u8], out: &mut Vec<Arrival>) -> Result<(), NoMemory>
+        requires held { IsHeld (kept self.old) }
+        requires none { self.old.bytes.items ≡ [] }
+        ensures passes { OnOk result
+            (Passes (kept self.old) piece.now (drop (length out.old.items) out.new.items) (kept self.new)) }
+        ensures held { OnOk result (IsHeld (kept self.new)) }
+        ensures appended { take (length out.old.items) out.new.items ≡ out.old.items }
+        ensures max { self.new.max ≡ self.old.max }
+    {
+        let rest = cut_whole(alloc, self.max, piece, out)?;
+        self.fill(rest)?;
+        Ok(())
+    }
+
+    // Takes the next piece behind what is kept. After `NoMemory` what was kept before and what arrived before are at the front.
+    fn go_on(&mut self, alloc: Global, piece: &[u8], out: &mut Vec<Arrival>) -> Result<(), NoMemory>
         requires { IsHeld (kept self.old) }
         ensures passes { OnOk result
             (Passes (kept self.old) piece.now (drop (length out.old.items) out.new.items) (kept self.new)) }
@@ -124,6 +135,28 @@ impl Held {
         next.fill(rest)?;
         *self = next;
         Ok(())
+    }
+
+    // Takes the next piece. After `NoMemory` what was kept before and what arrived before are at the front.
+    fn advance(
+        &mut self,
+        alloc: Global,
+        piece: &[u8],
+        out: &mut Vec<Arrival>,
+    ) -> Result<(), NoMemory>
+        requires { IsHeld (kept self.old) }
+        ensures passes { OnOk result
+            (Passes (kept self.old) piece.now (drop (length out.old.items) out.new.items) (kept self.new)) }
+        ensures held { OnOk result (IsHeld (kept self.new)) }
+        ensures prefix { OnErr result (take (length self.old.bytes.items) self.new.bytes.items ≡ self.old.bytes.items) }
+        ensures appended { take (length out.old.items) out.new.items ≡ out.old.items }
+        ensures max { self.new.max ≡ self.old.max }
+    {
+        if self.bytes.is_empty() {
+            self.begin(alloc, piece, out)
+        } else {
+            self.go_on(alloc, piece, out)
+        }
     }
 
     /// Takes the next piece: adds what became whole, and keeps the bytes of the frame that isn't. After `NoMemory`

@@ -1,5 +1,5 @@
 //! A reader over one line.
-ghost use Rattle.std.specs.Prelude.{◌≡◌, ℕ, ◌-◌, ◌≤◌, ◌==◌, length, IfOk, IfSome, ◌<◌, MatchResult, Ok, Err, List};
+ghost use Rattle.std.specs.Prelude.{◌≡◌, ℕ, ◌-◌, ◌≤◌, ◌==◌, length, slice_get, IfOk, IfSome, ◌<◌, MatchResult, Ok, Err, List};
 ghost use Rattle.std.specs.List.{position};
 ghost use Rattle.line_grammar.specs.Reading.{end_at, literal_at, before_space, from_space, number_at, run_at, word_at, hex_at, Gives};
 ghost use Rattle.line_grammar.specs.Words.{run, least, most, has, hex_digit};
@@ -31,10 +31,20 @@ impl<'a> Cursor<'a> {
     }
 
     // The place of the next byte.
-    fn place(&self) -> usize
+    pub(crate) fn place(&self) -> usize
         ensures { result ≡ self.now.total - length self.now.rest.now }
     {
         self.total.saturating_sub(self.rest.len())
+    }
+
+    // The next byte, where there is one.
+    pub(crate) fn first(&self) -> Option<u8>
+        ensures { result ≡ slice_get self.now.rest.now 0 }
+    {
+        match self.rest {
+            [] => None,
+            [byte, ..] => Some(*byte),
+        }
     }
 
     // The line ends here.
@@ -152,7 +162,9 @@ impl<'a> Cursor<'a> {
         if self.rest.is_empty() {
             return Err(LineFault::Place(self.total as u64));
         }
-        let mut bytes = Vec::new(alloc);
+        let Ok(mut bytes) = Vec::with_capacity(alloc, self.rest.len() / 2) else {
+            return Err(LineFault::NoMemory);
+        };
         let mut left = self;
         while let [high, low, rest @ ..] = left.rest {
             let Some(high) = hex_digit(*high) else {

@@ -16,8 +16,27 @@ pub fn print_out_line(alloc: Global, o: &OutLine, out: &mut Vec<u8>) -> Result<(
     ensures ok { OnOk result (out.new.items ≡ out.old.items ++ out_line_bytes o.now) }
     ensures err { OnErr result (out.new.items ≡ out.old.items) }
 {
-    let line = line_bytes(alloc, o)?;
-    out.extend_from_slice(line.as_slice())
+    match o {
+        OutLine::Frame(frame) => print_frame(alloc, frame.as_slice(), out),
+        _ => {
+            let line = line_bytes(alloc, o)?;
+            out.extend_from_slice(line.as_slice())
+        }
+    }
+}
+
+/// Appends the line of a frame that was taken, with its line feed (this tool's profile, output lines). After want of memory
+/// `out` is as before.
+pub fn print_frame(alloc: Global, frame: &[u8], out: &mut Vec<u8>) -> Result<(), NoMemory>
+    ensures ok { OnOk result (out.new.items ≡ out.old.items ++ frame_line frame.now) }
+    ensures err { OnErr result (out.new.items ≡ out.old.items) }
+{
+    let digits = hex::encode_upper(alloc, frame)?;
+    let digits = digits.as_bytes();
+    out.reserve(digits.len() + 3)?;
+    out.extend_from_slice(b"> ")?;
+    out.extend_from_slice(digits)?;
+    out.extend_from_slice(b"\n")
 }
 
 // The line, with its line feed.

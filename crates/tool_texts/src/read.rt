@@ -1,7 +1,7 @@
-ghost use Rattle.std.specs.Prelude.{◌≢◌, ◌≡◌, ℕ, ◌<◌, ◌≤◌, length, codes, Ok, Err};
+ghost use Rattle.std.specs.Prelude.{◌≢◌, ◌≡◌, ℕ, ◌-◌, ◌<◌, ◌≤◌, length, codes, Ok, Err};
 ghost use Rattle.line_grammar.specs.Grammar.{Reads, gives, says, ◌or◌};
 ghost use Rattle.line_grammar.specs.Lines.{skipped_line, comment_line, moment_line, operator_line, signal_line, watch_line, common_lines, hex_line, link_lines, feed_lines, all_lines, operator_words};
-ghost use Rattle.line_grammar.specs.Reading.{read, Gives, feed_line_of};
+ghost use Rattle.line_grammar.specs.Reading.{read, either_of, Gives, feed_line_of};
 
 use crate::cursor::Cursor;
 use crate::operator::{either, operator, says};
@@ -69,9 +69,42 @@ fn any(alloc: Global, text: Cursor) -> Result<Line, LineFault>
     }
 }
 
-// A line that `feed` takes.
-#[tactic(auto, unfolding(line_grammar::specs::Lines::feed_lines))]
+// A line that `feed` takes. The first letter of most lines tells which they may be.
 fn feed(alloc: Global, text: Cursor) -> Result<Line, LineFault>
+    ensures { Gives result (read feed_lines text.entry.total text.entry.rest.now) }
+{
+    match text.first() {
+        Some(b'H') => host_bytes(alloc, text),
+        Some(b'O') => behind_letter(text, said(text)),
+        Some(b'S') => behind_letter(text, told(text)),
+        _ => any_fed(alloc, text),
+    }
+}
+
+// A line that begins with `H`.
+fn host_bytes(alloc: Global, text: Cursor) -> Result<Line, LineFault>
+    ensures { Gives result (either_of (Err (text.entry.total - length text.entry.rest.now)) (read hex_line text.entry.total text.entry.rest.now)) }
+{
+    match hex(alloc, text) {
+        Ok(line) => Ok(line),
+        Err(LineFault::Place(place)) => Err(LineFault::Place((text.place() as u64).max(place))),
+        Err(LineFault::NoMemory) => Err(LineFault::NoMemory),
+    }
+}
+
+// What a line is read as that no other begins like: a place is no less than that of its first byte.
+fn behind_letter(text: Cursor, read: Result<Line, usize>) -> Result<Line, LineFault>
+    ensures { Gives result (either_of (Err (text.entry.total - length text.entry.rest.now)) read) }
+{
+    match read {
+        Ok(line) => Ok(line),
+        Err(place) => Err(LineFault::Place(text.place().max(place) as u64)),
+    }
+}
+
+// A line that `feed` takes, whatever it begins with.
+#[tactic(auto, unfolding(line_grammar::specs::Lines::feed_lines))]
+fn any_fed(alloc: Global, text: Cursor) -> Result<Line, LineFault>
     ensures { Gives result (read feed_lines text.entry.total text.entry.rest.now) }
 {
     match common(text) {

@@ -29,11 +29,11 @@ next front total (a ∷ b ∷ bs) h l low high_is low_is =
     rw (size, take-length bs) (rw (high_is, low_is) (onto front (16 * h + l) (pairs_at total bs)))
 
 pub loop-left-init : goal.loop-left-init
-loop-left-init c = record { read = first c.args.self.total c.new-bytes.result.items c.args.self.rest.now c.new-bytes.ensures.items (λ none. let empty : (length c.args.self.rest.now == 0) ≡ true = eq-eqb (length c.args.self.rest.now) 0 (ap length none) in cc); total = refl }
+loop-left-init c = record { read = first c.args.self.total c.in-Ok.bytes.items c.args.self.rest.now c.in-Ok.ensures.items (λ none. let empty : (length c.args.self.rest.now == 0) ≡ true = eq-eqb (length c.args.self.rest.now) 0 (ap length none) in cc); total = refl }
 
 pub loop-left-preserved : goal.loop-left-preserved
 loop-left-preserved c = record {
-  read = rw c.in-Ok.ensures.items (next c.loop-left.bytes.items c.loop-left.left.total c.loop-left.left.rest.now c.in-Some.high c.in-Some-hex_digit.low
+  read = rw c.in-Ok-push.ensures.items (next c.loop-left.bytes.items c.loop-left.left.total c.loop-left.left.rest.now c.in-Some.high c.in-Some-hex_digit.low
       c.in-len2-up.len_at_least (sym c.in-Some.ensures.value) (sym c.in-Some-hex_digit.ensures.value) ∙ c.loop-left.invariant.read);
   total = c.loop-left.invariant.total;
 }

@@ -6,7 +6,7 @@ use Rattle.hsms_frame.specs.Cut.{arrival_at, arrivals_of, behind_of}
 use Rattle.hsms_frame.specs.Held.{kept, IsHeld, is_filled, Fills, Passes}
 use Rattle.hsms_frame.proofs.Headers.{IsBytes-drop}
 use Rattle.hsms_frame.proofs.Holding.{unfilled_held, passes_none, passes_some, rest_held, appended_twice, added, none_added}
-use Rattle.hsms_frame.proofs.held.Held.advance.Goals as goal
+use Rattle.hsms_frame.proofs.held.Held.go_on.Goals as goal
 
 pub returns-then-not-is_filled-clause-passes : goal.returns-then-not-is_filled-clause-passes
 returns-then-not-is_filled-clause-passes c =

@@ -10,8 +10,7 @@ use Rattle.hsms_frame.specs.declared.frame.Arrival.{Arrival}
 use Rattle.hsms_link.specs.declared.table.LinkAct.{LinkAct}
 use Rattle.hsms_link.specs.declared.table.LinkAct.TheVariants as link
 use Rattle.hsms_link.specs.declared.state.LinkState.{LinkState}
-use Rattle.hsms_link.specs.LinkTable as link_lines
-use Rattle.hsms_link.specs.LinkTable.{link_act, link_table, first_act}
+use Rattle.hsms_link.specs.LinkTable.{LinkRow, link_act, link_table, first_act}
 use Rattle.hsms_frame.specs.Spelling.{message_bytes}
 use Rattle.secs_items.specs.Data.{Data}
 use Rattle.gem_primaries.specs.declared.primary.GemMsg.{GemMsg}
@@ -439,14 +438,14 @@ abbrev IsOfLink : LinkAct → Type 0
 IsOfLink act = (k : Header) → act ≡ link.Reply k → sends_note k ≡ false
 
 link_replies : (h : Header) (l : LinkState) → IsOfLink (link_act h l)
-link_replies h l = of link_table lines where
+link_replies h l = of link_table rows where
   reply_is : (k m : Header) → sends_note k ≡ false → link.Reply k ≡ link.Reply m → sends_note m ≡ false
   reply_is k m other same = let it : k ≡ m = cc in subst (λ (x : Header). sends_note x ≡ false) it other
 
-  lines : AllByRecursion (λ (one : link_lines.Line). IsOfLink (one.act h)) link_table
-  lines = ((λ k e. reply_is _ k refl e), ((λ k e. reply_is _ k refl e), ((λ k e. absurd (cc)), ((λ k e. reply_is _ k refl e), ((λ k e. reply_is _ k refl e), ((λ k e. reply_is _ k refl e), ((λ k e. absurd (cc)), ((λ k e. reply_is _ k refl e), ((λ k e. reply_is _ k refl e), ((λ k e. absurd (cc)), ((λ k e. absurd (cc)), ((λ k e. absurd (cc)), ((λ k e. reply_is _ k refl e), tt)))))))))))))
+  rows : AllByRecursion (λ (one : LinkRow). IsOfLink (one.act h)) link_table
+  rows = ((λ k e. reply_is _ k refl e), ((λ k e. reply_is _ k refl e), ((λ k e. absurd (cc)), ((λ k e. reply_is _ k refl e), ((λ k e. reply_is _ k refl e), ((λ k e. reply_is _ k refl e), ((λ k e. absurd (cc)), ((λ k e. reply_is _ k refl e), ((λ k e. reply_is _ k refl e), ((λ k e. absurd (cc)), ((λ k e. absurd (cc)), ((λ k e. absurd (cc)), ((λ k e. reply_is _ k refl e), tt)))))))))))))
 
-  of : (all : List link_lines.Line) → AllByRecursion (λ (one : link_lines.Line). IsOfLink (one.act h)) all → IsOfLink (first_act all h l)
+  of : (all : List LinkRow) → AllByRecursion (λ (one : LinkRow). IsOfLink (one.act h)) all → IsOfLink (first_act all h l)
   of [] are k e = absurd (cc)
   of (one ∷ others) are k e = either_way IsOfLink (one.fits h l) (one.act h) (first_act others h l) are.0 (of others are.1) k e
 

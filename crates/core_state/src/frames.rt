@@ -53,7 +53,7 @@ fn text_of(alloc: Global, item: &Item) -> Result<Bytes, AllocError>
     requires { IsSendable (view item.now) }
     ensures { IfOk result (λ text. text ≡ plain (view item.now)) }
 {
-    let mut text = Vec::new(alloc);
+    let mut text = Vec::with_capacity(alloc, 32)?;
     encode(item, &mut text)?;
     Ok(Bytes::from_vec(text))
 }

@@ -1,28 +1,51 @@
 //! The output lines of an answer.
-ghost use Rattle.std.specs.Prelude.{◌≡◌, ◌++◌, IfOk};
+ghost use Rattle.std.specs.Prelude.{◌≡◌, ◌++◌, Some, IfOk, OnOk};
+ghost use Rattle.line_grammar.specs.declared.out_line.OutLine.TheVariants as out_line;
 ghost use Rattle.gem_model.specs.Printed.{answer_line, end_line, line_bytes};
 
+use hsms_frame::Bytes;
 use std::alloc::{AllocError, Global};
 use tool_events::{Answer, SessionEnd};
 use tool_texts::{OutLine, print_out_line};
 
-/// The line of an answer, where it has one.
-fn answer_line(answer: Answer) -> Option<OutLine>
-    ensures { result ≡ answer_line answer }
+/// Appends the line of a session that came up.
+fn print_up(alloc: Global, session: u64, text: &mut Vec<u8>) -> Result<(), AllocError>
+    ensures { OnOk result (text.new.items ≡ text.old.items ++ line_bytes (Some (out_line.Up session))) }
 {
-    match answer {
-        Answer::Session(session) => Some(OutLine::Up(session)),
-        Answer::Frame(frame) => Some(OutLine::Frame(frame)),
-        Answer::Oper(accepted) => Some(OutLine::Oper(accepted)),
-        Answer::Command(_) | Answer::Done | Answer::Ended => None,
-    }
+    print_out_line(alloc, &OutLine::Up(session), text)
 }
 
-/// The line of a session that ended, where one did.
-fn end_line(ended: Option<SessionEnd>) -> Option<OutLine>
-    ensures { result ≡ end_line ended }
+/// Appends the line of an operator's command, by whether it was accepted.
+fn print_accepted(alloc: Global, accepted: bool, text: &mut Vec<u8>) -> Result<(), AllocError>
+    ensures { OnOk result (text.new.items ≡ text.old.items ++ line_bytes (Some (out_line.Oper accepted))) }
 {
-    ended.map(|end| OutLine::Ended(end.session, end.cause))
+    print_out_line(alloc, &OutLine::Oper(accepted), text)
+}
+
+/// Appends the line of a session that ended.
+fn print_end(alloc: Global, end: SessionEnd, text: &mut Vec<u8>) -> Result<(), AllocError>
+    ensures { OnOk result (text.new.items ≡ text.old.items ++ line_bytes (end_line (Some end))) }
+{
+    print_out_line(alloc, &OutLine::Ended(end.session, end.cause), text)
+}
+
+/// Appends the line of a frame that was taken.
+fn print_taken(alloc: Global, frame: Bytes, text: &mut Vec<u8>) -> Result<(), AllocError>
+    ensures { OnOk result (text.new.items ≡ text.old.items ++ line_bytes (Some (out_line.Frame frame))) }
+{
+    print_out_line(alloc, &OutLine::Frame(frame), text)
+}
+
+/// Appends the line of an answer, where it has one.
+fn print_answer(alloc: Global, answer: Answer, text: &mut Vec<u8>) -> Result<(), AllocError>
+    ensures { OnOk result (text.new.items ≡ text.old.items ++ line_bytes (answer_line answer)) }
+{
+    match answer {
+        Answer::Session(session) => print_up(alloc, session, text),
+        Answer::Frame(frame) => print_taken(alloc, frame, text),
+        Answer::Oper(accepted) => print_accepted(alloc, accepted, text),
+        Answer::Command(_) | Answer::Done | Answer::Ended => Ok(()),
+    }
 }
 
 /// The lines of an answer, and of the session that ended with it, if one did.
@@ -34,11 +57,9 @@ pub fn outcome_text(
     ensures { IfOk result (λ text. text.items ≡ line_bytes (answer_line answer) ++ line_bytes (end_line ended)) }
 {
     let mut text = Vec::new(alloc);
-    if let Some(line) = answer_line(answer) {
-        print_out_line(alloc, &line, &mut text)?;
-    }
-    if let Some(line) = end_line(ended) {
-        print_out_line(alloc, &line, &mut text)?;
+    print_answer(alloc, answer, &mut text)?;
+    if let Some(end) = ended {
+        print_end(alloc, end, &mut text)?;
     }
     Ok(text)
 }

@@ -24,6 +24,11 @@ use Rattle.shop_floor.proofs.Cases.{starts_at_port}
 use Rattle.shop_floor.proofs.Keeps.{with_some, with_arrival, own_name, own_some}
 use Rattle.shop_floor.proofs.Room.{room_3, room_4, room_5}
 
+-- there is a row where the list isn't empty
+pub some_row : (xs : List Firing) → not (length xs == 0) ≡ is_some_row xs
+some_row [] = refl
+some_row (x ∷ xs) = refl
+
 -- ---- by the row
 
 -- only what isn't known is created

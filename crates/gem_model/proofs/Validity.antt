@@ -1,5 +1,5 @@
 -- Every state that a history leads to is valid.
-use Rattle.std.proofs.Common.{◌≡◌, ℕ, Bool, true, false, ◌&&◌, if◌then◌else◌, List, [], ◌∷◌, ◌++◌, ◌≤◌, length, arith, Option, Some, None, option_map, refl, sym, ◌∙◌, ap, subst}
+use Rattle.std.proofs.Common.{◌≡◌, ◌==◌, ℕ, Bool, true, false, ◌&&◌, if◌then◌else◌, List, [], ◌∷◌, ◌++◌, ◌≤◌, length, arith, Option, Some, None, option_map, refl, sym, ◌∙◌, ap, subst}
 use Rattle.std.specs.List.{AllByRecursion}
 use Rattle.std.specs.Option.{option_or, option_to_list}
 use Rattle.hsms_link.specs.declared.state.Phase.{Phase}
@@ -15,13 +15,16 @@ use Rattle.tool_events.specs.declared.config.ControlStart.{ControlStart}
 use Rattle.tool_events.specs.declared.config.ControlStart.TheVariants as begin
 use Rattle.tool_events.specs.declared.entry.Entry.{Entry}
 use Rattle.tool_events.specs.declared.event.Event.{Event}
-use Rattle.note_line.specs.Fates.{LineValid, KeepsFates}
+use Rattle.std.proofs.lemmas.Bool.Decides.{nat_tests}
+use Rattle.note_line.specs.declared.fate.Fate.{Fate}
+use Rattle.note_line.specs.declared.fate.Fate.TheVariants.{Open}
+use Rattle.note_line.specs.Fates.{LineValid, KeepsFates, is_ended}
 use Rattle.spool.specs.declared.note.Note.{Note}
 use Rattle.spool.specs.Spool.{is_inactive, has_note}
 use Rattle.note_line.specs.Table3 as table
-use Rattle.note_line.specs.Line.{Line}
+use Rattle.note_line.specs.Line.{Line, fate_of}
 use Rattle.note_line.specs.Order.{Pairwise}
-use Rattle.note_line.proofs.Keeps.{Keeps, fates-same, fates-trans, opening-valid, quiet_first}
+use Rattle.note_line.proofs.Keeps.{Keeps, fates-same, fates-trans, opening-valid, quiet_first, open_is_open}
 use Rattle.note_line.proofs.Sendings.{never-back}
 use Rattle.gem_model.specs.State.{State, opening, around, is_up, is_selected, raised, first_control, first_kinds}
 use Rattle.gem_model.specs.Fire.{fire}
@@ -31,7 +34,7 @@ use Rattle.gem_model.specs.Ready.{ready_line, ready_floor}
 use Rattle.gem_model.proofs.Effects.{asks_host, gives_up, least_is}
 use Rattle.gem_model.specs.Settle.{Path, settled, settling, Along}
 use Rattle.gem_model.specs.Step.{Outcome, step, step_from, acts, settles}
-use Rattle.gem_model.specs.OpenNotes.{NotBelow, NeverBack, open_behind}
+use Rattle.gem_model.specs.OpenNotes.{NotBelow, NeverBack, IsOther, open_behind}
 use Rattle.gem_model.specs.Run.{Run}
 use Rattle.gem_model.specs.Valid.{Valid}
 use Rattle.shop_floor.proofs.Quiet.{opening_quiet}
@@ -245,3 +248,35 @@ never_back g (e ∷ entries) h line run =
 
 pub run-sendings : (c : Config) (entries : List Entry) (h : State) → Run (opening c) entries h → NeverBack (opening c) entries
 run-sendings c entries h run = never_back (opening c) entries h (opening_valid c).line run
+
+-- ---- a note that ended is not sent again
+
+-- the open note is another one than a note that has ended
+other_open : (l : Line) (number : ℕ) (fate : Fate) → LineValid l → fate_of number l.told ≡ Some fate → is_ended fate ≡ true → (later : Note) → l.opened ≡ Some later → IsOther number later
+other_open l number fate valid was ended later is = by_test (later.number == number) refl where
+  by_test : (b : Bool) → (later.number == number) ≡ b → IsOther number later
+  by_test false q = q
+  by_test true q =
+      let same : later.number ≡ number = grind (arith, nat_tests) in
+      let opened : fate_of number l.told ≡ Some Open = subst (λ (n : ℕ). fate_of n l.told ≡ Some Open) same (open_is_open l later is valid) in
+      let both : Some fate ≡ Some Open = sym was ∙ opened in
+      let open_is : fate ≡ Open = cc in
+      absurd (let no : is_ended Open ≡ true = subst (λ (f : Fate). is_ended f ≡ true) open_is ended in cc)
+
+others_with : (number : ℕ) (opened : Option Note) (notes : List Note) → ((later : Note) → opened ≡ Some later → IsOther number later) → AllByRecursion (IsOther number) notes → AllByRecursion (IsOther number) (option_to_list opened ++ notes)
+others_with number None notes is rest = rest
+others_with number (Some later) notes is rest = (is later refl, rest)
+
+never_again : (l : Line) (number : ℕ) (fate : Fate) → fate_of number l.told ≡ Some fate → is_ended fate ≡ true → (g : State) (entries : List Entry) (h : State) → LineValid g.line → KeepsFates l g.line → Run g entries h → AllByRecursion (IsOther number) (open_behind g entries)
+never_again l number fate was ended g [] h line keeps run = tt
+never_again l number fate was ended g (e ∷ entries) h line keeps run =
+    let one = lined-step-at g e.at.0 e.event run.0 run.1 line in
+    let all = fates-trans l g.line run.0.after.line keeps one.fates in
+    subst (λ (k : State). AllByRecursion (IsOther number) (option_to_list k.line.opened ++ open_behind k entries)) (sym (after-step g e.at.0 e.event run.0 run.1))
+    (others_with number run.0.after.line.opened (open_behind run.0.after entries)
+    (λ later is. other_open run.0.after.line number fate one.valid (all.ended number fate was ended) ended later is)
+    (never_again l number fate was ended run.0.after entries h one.valid all run.2))
+
+pub run-ended : (c : Config) (front behind : List Entry) (g h : State) (number : ℕ) (fate : Fate) → Run (opening c) front g → Run g behind h → fate_of number g.line.told ≡ Some fate → is_ended fate ≡ true → AllByRecursion (IsOther number) (open_behind g behind)
+run-ended c front behind g h number fate before run was ended =
+    never_again g.line number fate was ended g behind h (run-line c front g before) (fates-same g.line) run

@@ -73,6 +73,10 @@ NotBelow earlier later = earlier.kind ≡ later.kind → earlier.number ≤ late
 abbrev pub NeverBack : State → List Entry → Type 0
 NeverBack g entries = Pairwise NotBelow (open_behind g entries)
 
+-- a note has another number than this
+abbrev pub IsOther : ℕ → Note → Type 0
+IsOther number note = (note.number == number) ≡ false
+
 -- the frames that wait for the writer behind each of these entries: each that goes out is among them, since what a Take hands
 -- out waited behind the entry before it
 abbrev pub frames_behind : State → List Entry → List (List ℕ)

@@ -14,13 +14,14 @@ ghost use Rattle.gem_model.specs.Run.{Run};
 ghost use Rattle.gem_model.specs.Recorded.{Recorded};
 ghost use Rattle.tool_events.specs.Configs.{IsConfig};
 ghost use Rattle.gem_model.specs.Reported.{told_as, reported_in, IsOf};
-ghost use Rattle.gem_model.specs.OpenNotes.{note_numbers, open_number, Carries, IsSent, open_behind, frames_behind, NeverBack};
+ghost use Rattle.gem_model.specs.OpenNotes.{note_numbers, open_number, Carries, IsSent, IsOther, open_behind, frames_behind, NeverBack};
 ghost use Rattle.gem_model.specs.Fire.{fire};
 ghost use Rattle.gem_tables.specs.Table.{firing};
 ghost use Rattle.spool.specs.declared.note.Note.{Note};
 ghost use Rattle.spool.specs.Spool.{is_inactive, has_note};
-ghost use Rattle.note_line.specs.Line.{standing};
-ghost use Rattle.note_line.specs.Fates.{LineValid, KeepsFates, tells};
+ghost use Rattle.note_line.specs.declared.fate.Fate.{Fate};
+ghost use Rattle.note_line.specs.Line.{standing, fate_of};
+ghost use Rattle.note_line.specs.Fates.{LineValid, KeepsFates, is_ended, tells};
 ghost use Rattle.load_port.specs.Ports.{most_ports};
 ghost use Rattle.carrier.specs.Carriers.{most_carriers};
 ghost use Rattle.shop_floor.specs.Valid.{IsFloor};
@@ -112,6 +113,16 @@ pub fn an_inactive_spool_is_empty()
 /// below an earlier one of its kind. It has the same number where a note was sent again.
 pub fn sendings_never_go_back()
     ensures { (c : Config) (entries : List Entry) (h : State) → Run (opening c) entries h → NeverBack (opening c) entries }
+{}
+
+/// A report is sent again, with its number, only where no answer to it came: where a history leads, a note that has ended,
+/// answered or dropped, is open behind no later entry. So what goes out a second time was sent in a transaction that ended
+/// without an answer, by T3, with the session, or by the operator's `disable`; while that is open, no note is sent (law
+/// `an_open_note_has_its_transaction`).
+pub fn a_note_that_ended_is_not_sent_again()
+    ensures { (c : Config) (front behind : List Entry) (g h : State) (number : ℕ) (fate : Fate)
+        → Run (opening c) front g → Run g behind h → fate_of number g.line.told ≡ Some fate → is_ended fate ≡ true
+        → AllByRecursion (IsOther number) (open_behind g behind) }
 {}
 
 /// What each public call says of a history that it hands out holds of every run under a configuration that keeps its bounds.

@@ -1,7 +1,7 @@
 -- A row that creates a carrier finds room for it.
 use Rattle.std.proofs.Common.{◌≡◌, ℕ, suc, ◌==◌, ◌≤◌, Bool, true, false, not, cond, ◌||◌, List, [], ◌∷◌, length, Option, Some, None, is_some, slice_get, refl, sym, ap, subst, arith, ◌∙◌, ◌⊎◌, inl, inr}
 use Rattle.std.specs.Str.{bytes_eq}
-use Rattle.std.proofs.lemmas.Bool.{true≢false, and_parts, or_parts, or_from, both_ways, not-true}
+use Rattle.std.proofs.lemmas.Bool.{true≢false, and_parts, or_parts, or_from, both_ways, not-true, eqb-true}
 use Rattle.gem_tables.specs.Table.{firing, row_of}
 use Rattle.gem_tables.specs.declared.firing.Firing.{Firing}
 use Rattle.gem_tables.proofs.Rows.{looked_for}
@@ -23,6 +23,14 @@ use Rattle.shop_floor.proofs.Association.{begins, stands}
 use Rattle.shop_floor.proofs.Cases.{starts_at_port}
 use Rattle.shop_floor.proofs.Keeps.{with_some, with_arrival, own_name, own_some}
 use Rattle.shop_floor.proofs.Room.{room_3, room_4, room_5}
+
+-- there is a row where the list isn't empty
+pub some_row : (xs : List Firing) → not (length xs == 0) ≡ is_some_row xs
+some_row [] = refl
+some_row (x ∷ xs) = of (suc (length xs) == 0) refl where
+  of : (b : Bool) → (suc (length xs) == 0) ≡ b → not b ≡ true
+  of true e = let no = eqb-true (suc (length xs)) 0 e in absurd (omega (arith, no))
+  of false e = refl
 
 -- ---- by the row
 

@@ -16,6 +16,10 @@ pub record Floor : Type 0 where
   pub carriers : List Carrier
   pub next_carrier : ℕ
 
+-- the number behind which there is no other
+abbrev pub last_number : ℕ
+last_number = 18446744073709551615
+
 -- the three together
 abbrev pub floor_of : List Port → List Carrier → ℕ → Floor
 floor_of ports carriers next = record { ports = ports; carriers = carriers; next_carrier = next }

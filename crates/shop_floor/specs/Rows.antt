@@ -133,11 +133,6 @@ port_creates word.arrives port f = creation_of_arrival (arrival_at (port_numbere
 port_creates word.replaces port f = creation_of_arrival (arrival_at (port_numbered port f.ports)) f
 port_creates _ port f = []
 
--- what has changed where there was no memory for it: the carrier of the port is forgotten before another is created
-abbrev pub port_lacks : PortEffect → ℕ → Floor → Floor
-port_lacks word.replaces port f = without_owner port f
-port_lacks _ port f = f
-
 -- ---- of a row that was looked for
 
 module _ {S : Type 0} where
@@ -150,12 +145,3 @@ module _ {S : Type 0} where
   abbrev pub found_creates : Option (PortRow S) → ℕ → Floor → List Firing
   found_creates None port f = []
   found_creates (Some r) port f = port_creates r.does port f
-
-  abbrev pub found_lacks : Option (PortRow S) → ℕ → Floor → Floor
-  found_lacks None port f = f
-  found_lacks (Some r) port f = port_lacks r.does port f
-
--- what is left of a row that found no memory for the carrier that it creates: row 7.4 has forgotten the port's carrier, and
--- nothing else has changed
-abbrev pub without_memory : Firing → Floor → Floor
-without_memory x f = if x.row.table == 7 then found_lacks (row_of association_table x.row.row) x.object f else f

@@ -5,7 +5,6 @@ ghost use Rattle.load_port.specs.Caack.{is_done_code};
 ghost use Rattle.load_port.specs.Ports.{most_ports, is_no_port};
 ghost use Rattle.carrier.specs.Carriers.{carrier_named, is_known};
 ghost use Rattle.shop_floor.specs.Floor.{opening, arrival_of, is_unloadable_port};
-ghost use Rattle.shop_floor.specs.Rows.{without_memory};
 ghost use Rattle.shop_floor.specs.Machines.{floor_starts, floor_fired, floor_least, creates, creation_rows, object_name};
 ghost use Rattle.shop_floor.specs.Requests.{carrier_code, carrier_written, carrier_rows, port_code, came};
 ghost use Rattle.shop_floor.specs.Valid.{IsFloor};
@@ -170,12 +169,12 @@ impl ShopFloor {
     }
 
     /// A row fires that starts: the state of its object in the row's table is the row's end, and a row of table 7 says besides
-    /// which carrier belongs to the port, and lets come, binds or forgets it. `AllocError`: there is no memory for the carrier
-    /// that it creates, or the last number was given; then row 7.4 has forgotten the carrier of the port, and nothing else has changed.
+    /// which carrier belongs to the port, and lets come, binds or forgets it. `AllocError`: no number is left for the carrier
+    /// that it creates; then nothing has changed.
     pub fn fire(&mut self, x: Firing) -> Result<(), AllocError>
         requires { floor_starts x self.old ≡ true }
         ensures ok { IfOk result (λ _. self.new ≡ floor_fired x self.old) }
-        ensures err { IfErr result (λ _. self.new ≡ without_memory x self.old) }
+        ensures err { IfErr result (λ _. self.new ≡ self.old) }
         ensures needed { IfErr result (λ _. creates x self.old ≡ true) }
     {
         rows::fire(

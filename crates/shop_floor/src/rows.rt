@@ -6,14 +6,14 @@ ghost use Rattle.gem_tables.specs.Table.{firing, row_of, is_one_of};
 ghost use Rattle.load_port.specs.Tables.{association_table};
 ghost use Rattle.load_port.specs.Ports.{most_ports, port_numbered};
 ghost use Rattle.carrier.specs.Carriers.{is_known, with_created, found_or_created, next_number, most_carriers};
-ghost use Rattle.shop_floor.specs.Floor.{Floor, floor_of};
-ghost use Rattle.shop_floor.specs.Rows.{binding, forgetting, forgets, arriving, without_owner, owner, arrival_at, is_new, found_does, found_creates, creation_of_arrival, found_lacks, without_memory};
+ghost use Rattle.shop_floor.specs.Floor.{Floor, floor_of, last_number};
+ghost use Rattle.shop_floor.specs.Rows.{binding, forgetting, forgets, arriving, without_owner, owner, arrival_at, is_new, found_does, found_creates, creation_of_arrival};
 ghost use Rattle.shop_floor.specs.Machines.{floor_starts, floor_fired, creates, creation_rows};
 ghost use Rattle.shop_floor.specs.Valid.{IsFloor};
 
 use crate::asking::{arrival_at, directed, is_new_at, owner_at, port_no};
 use arrayvec::ArrayVec;
-use carrier::{CarrierFault, Carriers};
+use carrier::Carriers;
 use gem_ids::CarrierId;
 use gem_tables::Firing;
 use load_port::Ports;
@@ -24,8 +24,8 @@ pub const MOST_CREATED: usize = 1;
 
 // ---- the carriers
 
-// A carrier that isn't known is created with the next number. On want of memory nothing has changed; the last number counts as
-// such, since no other follows it.
+// A carrier that isn't known is created with the next number. On want of memory nothing has changed: it comes where that is
+// the last number alone, since no other follows it.
 pub(crate) fn create(
     name: CarrierId,
     carriers: &mut Carriers,
@@ -37,6 +37,7 @@ pub(crate) fn create(
     ensures counted { IfOk result (λ _. next.new ≡ next.old + 1) }
     ensures err { IfErr result (λ _. carriers.new ≡ carriers.old) }
     ensures uncounted { IfErr result (λ _. next.new ≡ next.old) }
+    ensures used_up { IfErr result (λ _. next.old ≡ last_number) }
 {
     if *next == u64::MAX {
         return Err(AllocError);
@@ -46,7 +47,6 @@ pub(crate) fn create(
             *next += 1;
             Ok(())
         }
-        Err(CarrierFault::NoMemory) => Err(AllocError),
         Err(_) => unreachable!(),
     }
 }
@@ -63,6 +63,7 @@ pub(crate) fn find_or_create(
     ensures err { IfErr result (λ _. carriers.new ≡ carriers.old) }
     ensures uncounted { IfErr result (λ _. next.new ≡ next.old) }
     ensures needed { IfErr result (λ _. is_known name carriers.old ≡ false) }
+    ensures used_up { IfErr result (λ _. next.old ≡ last_number) }
 {
     if carriers.is_known(name.text()) {
         return Ok(());
@@ -114,6 +115,7 @@ fn arrive(
     ensures ok { IfOk result (λ _. floor_of ports.new carriers.new next.new ≡ arriving port (floor_of ports.old carriers.old next.old)) }
     ensures err { IfErr result (λ _. floor_of ports.new carriers.new next.new ≡ floor_of ports.old carriers.old next.old) }
     ensures needed { IfErr result (λ _. is_new (arrival_at (port_numbered port ports.old)) carriers.old ≡ true) }
+    ensures used_up { IfErr result (λ _. next.old ≡ last_number) }
 {
     match arrival_at(port, ports) {
         Some(arrival) => {
@@ -129,8 +131,7 @@ fn arrive(
     }
 }
 
-// Row 4: what came to the port of a number belongs to it, and the carrier that did is forgotten. On want of memory that one
-// is forgotten all the same, and nothing else has changed.
+// Row 4: what came to the port of a number belongs to it, and the carrier that did is forgotten.
 fn replace(
     port: u64,
     ports: &mut Ports,
@@ -140,15 +141,14 @@ fn replace(
     requires there { port ≤ most_ports }
     requires room { suc (length (forgets (owner (port_numbered port ports.old)) carriers.old)) ≤ most_carriers }
     ensures ok { IfOk result (λ _. floor_of ports.new carriers.new next.new ≡ arriving port (without_owner port (floor_of ports.old carriers.old next.old))) }
-    ensures err { IfErr result (λ _. floor_of ports.new carriers.new next.new ≡ without_owner port (floor_of ports.old carriers.old next.old)) }
     ensures needed { IfErr result (λ _. is_new (arrival_at (port_numbered port ports.old)) (forgets (owner (port_numbered port ports.old)) carriers.old) ≡ true) }
+    ensures used_up { IfErr result (λ _. next.old ≡ last_number) }
 {
     forget(owner_at(port, ports), carriers);
     arrive(port, ports, carriers, next)
 }
 
-// What a row of table 7 does besides the state of its port. On want of memory, row 4 has forgotten the carrier of the port, and
-// nothing else has changed.
+// What a row of table 7 does besides the state of its port.
 fn associate(
     row: u8,
     port: u64,
@@ -159,8 +159,8 @@ fn associate(
     requires valid { IsFloor (floor_of ports.old carriers.old next.old) }
     requires starts { floor_starts (firing 7 port row) (floor_of ports.old carriers.old next.old) ≡ true }
     ensures ok { IfOk result (λ _. floor_of ports.new carriers.new next.new ≡ found_does (row_of association_table row) port (floor_of ports.old carriers.old next.old)) }
-    ensures err { IfErr result (λ _. floor_of ports.new carriers.new next.new ≡ found_lacks (row_of association_table row) port (floor_of ports.old carriers.old next.old)) }
     ensures needed { IfErr result (λ _. creates (firing 7 port row) (floor_of ports.old carriers.old next.old) ≡ true) }
+    ensures used_up { IfErr result (λ _. next.old ≡ last_number) }
 {
     match row {
         1 => bind(port, ports, carriers),
@@ -201,8 +201,20 @@ fn is_arrival_row(row: u8) -> bool
 
 // ---- all tables
 
-// A row fires that starts. Memory is wanted where it creates a carrier; for want of it, row 7.4 has forgotten the carrier of the
-// port, and nothing else has changed.
+// Whether a row creates a carrier for which no number is left.
+#[tactic(auto, using(crate::proofs::Comes::some_row))]
+fn lacks_number(x: Firing, ports: &Ports, carriers: &Carriers, next: u64) -> bool
+    ensures yes { IsTrue result → creates x (floor_of ports.now carriers.now next) ≡ true }
+    ensures no { IsFalse result → creates x (floor_of ports.now carriers.now next) ≡ true → suc next ≤ last_number }
+{
+    if next != u64::MAX {
+        return false;
+    }
+    !creations(x, ports, carriers, next).is_empty()
+}
+
+// A row fires that starts. On want of memory nothing has changed: it comes where the row creates a carrier for which no number
+// is left.
 pub(crate) fn fire(
     x: Firing,
     ports: &mut Ports,
@@ -212,13 +224,16 @@ pub(crate) fn fire(
     requires valid { IsFloor (floor_of ports.old carriers.old next.old) }
     requires starts { floor_starts x (floor_of ports.old carriers.old next.old) ≡ true }
     ensures ok { IfOk result (λ _. floor_of ports.new carriers.new next.new ≡ floor_fired x (floor_of ports.old carriers.old next.old)) }
-    ensures err { IfErr result (λ _. floor_of ports.new carriers.new next.new ≡ without_memory x (floor_of ports.old carriers.old next.old)) }
+    ensures err { IfErr result (λ _. floor_of ports.new carriers.new next.new ≡ floor_of ports.old carriers.old next.old) }
     ensures needed { IfErr result (λ _. creates x (floor_of ports.old carriers.old next.old) ≡ true) }
 {
+    if lacks_number(x, ports, carriers, *next) {
+        return Err(AllocError);
+    }
     if x.row.table == 7 {
         match associate(x.row.row, x.object, ports, carriers, next) {
             Ok(()) => {}
-            Err(fault) => return Err(fault),
+            Err(_) => unreachable!(),
         }
         ports.fire(x.object, 7, x.row.row);
     } else if is_of_port(x.row.table) {

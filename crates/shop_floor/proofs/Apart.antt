@@ -1,5 +1,5 @@
 -- The names of the carriers, and how many of them aren't present, where one is found, created, changed or forgotten.
-use Rattle.std.proofs.Common.{◌≡◌, ℕ, ◌+◌, ◌≤◌, Bool, true, false, not, ◌||◌, List, [], ◌∷◌, ◌++◌, length, find, Some, None, cond, refl, sym, ap, arith, ◌∙◌}
+use Rattle.std.proofs.Common.{◌≡◌, ℕ, suc, ◌+◌, ◌≤◌, Bool, true, false, not, ◌||◌, List, [], ◌∷◌, ◌++◌, length, find, Contains, Some, None, cond, refl, sym, ap, arith, ◌∙◌}
 use Rattle.std.specs.List.{AllByRecursion, list_any, filter}
 use Rattle.std.proofs.lemmas.Bool.{and_parts, or_parts, or_from, not-true, cond_both}
 use Rattle.std.proofs.lemmas.Slice.Eq.{bytes_eq-Decides}
@@ -45,6 +45,14 @@ none_passes test (y ∷ ys) e = of (test y) e (none_passes test ys) where
   of : (b : Bool) → cond b (Some y) (find test ys) ≡ None → (find test ys ≡ None → list_any test ys ≡ false) → (b || list_any test ys) ≡ false
   of true f later = absurd (cc)
   of false f later = later f
+
+-- it is one of the list
+pub found_contained : {X : Type 0} (test : X → Bool) (xs : List X) (x : X) → find test xs ≡ Some x → Contains xs x
+found_contained test [] x e = absurd (cc)
+found_contained test (y ∷ ys) x e = of (test y) e (found_contained test ys x) where
+  of : (b : Bool) → cond b (Some y) (find test ys) ≡ Some x → (find test ys ≡ Some x → Contains ys x) → Contains (y ∷ ys) x
+  of true f later = let same : y ≡ x = cc in (0, omega arith, same)
+  of false f later = let rest = later f in (suc rest.0, omega (arith, rest.1), rest.2)
 
 -- ---- names
 
@@ -155,6 +163,18 @@ found_only test (d ∷ ds) c e f = of (test d) f (and_parts (not (is_known d.nam
       let other : has_name d.name c ≡ false = known_found d.name test ds c g (not-true _ parts.0) in
       let back : has_name c.name d ≡ false = names_agree d c false other in
       ((λ is. absurd (cc)), rest parts.1 g)
+
+-- so is each carrier of the list
+pub all_only : (cs : List Carrier) → are_named_apart cs ≡ true → AllByRecursion (λ c. AllByRecursion (IsOnly c) cs) cs
+all_only [] e = tt
+all_only (x ∷ xs) e =
+    let parts = and_parts (not (is_known x.name xs)) (are_named_apart xs) e in
+    let others = unknown_all x.name xs (not-true _ parts.0) in (
+      ((λ is. refl), all_follows (λ d. has_name x.name d ≡ false) (IsOnly x) xs (λ d other is. absurd (cc)) others),
+      all_follows (λ c. (has_name x.name c ≡ false) × AllByRecursion (IsOnly c) xs) (λ c. AllByRecursion (IsOnly c) (x ∷ xs)) xs
+          (λ c b. ((λ is. let back = names_agree x c false b.0 in absurd (cc)), b.1))
+          (all_both (λ c. has_name x.name c ≡ false) (λ c. AllByRecursion (IsOnly c) xs) xs others (all_only xs parts.1)),
+    )
 
 -- ---- what is true of each
 

@@ -18,7 +18,7 @@ use Rattle.carrier.specs.Carriers.{has_name, is_known, carrier_named, change_nam
 use Rattle.carrier.specs.Verdict.{has_room, view_numbered, bind_carrier_code, bind_code, notify_code}
 use Rattle.shop_floor.specs.Floor.{Floor}
 use Rattle.shop_floor.specs.Requests.{carrier_code, carrier_written, created as made, directed, maps_told}
-use Rattle.shop_floor.specs.Valid.{Belongs, IsFloor}
+use Rattle.shop_floor.specs.Valid.{Belongs, ReadWherePresent, IsFloor}
 use Rattle.shop_floor.proofs.Belonging.{is_held}
 use Rattle.shop_floor.proofs.Apart.{IsOnly, all_both, all_follows, all_pushed, all_filtered, all_changed, all_found, found_only, found_passes, none_passes, unknown_all, named_so, has_its_name, known_found, apart_changed, apart_without, apart_created, absent_pushed, absent_without, absent_changed}
 use Rattle.shop_floor.proofs.Numbers.{rise_changed, rise_without, rise_created}
@@ -60,6 +60,7 @@ notified-valid name f new room valid = record {
   rising = rise_created 1 f.next_carrier name f.carriers valid.rising;
   absent = let k = absent_pushed f.carriers (new_carrier f.next_carrier name) in let r = room_so f.carriers room in omega (arith, k, r);
   belong = all_pushed (Belongs f.ports) f.carriers (new_carrier f.next_carrier name) valid.belong (λ held. absurd (cc));
+  read = all_pushed ReadWherePresent f.carriers (new_carrier f.next_carrier name) valid.read (λ was. absurd (cc));
   told = valid.told;
   few = valid.few;
 }
@@ -95,6 +96,7 @@ directed-valid name port f loose valid = record {
   absent = let less = absent_changed name (directed_to port) f.carriers (λ c. omega arith) in omega (arith, less, valid.absent);
   belong = all_changed (λ c. Belongs f.ports c × IsLoose name c) (Belongs f.ports) name (directed_to port) f.carriers
       (λ c is b held. never c (b.1 is) held) (λ c other b. b.0) (all_both (Belongs f.ports) (IsLoose name) f.carriers valid.belong loose);
+  read = all_changed ReadWherePresent ReadWherePresent name (directed_to port) f.carriers (λ c is r. r) (λ c other r. r) valid.read;
   told = valid.told;
   few = valid.few;
 } where
@@ -130,6 +132,7 @@ forgotten-so name f valid = record {
   rising = rise_without 1 f.next_carrier name f.carriers valid.rising;
   absent = let less = absent_without name f.carriers in omega (arith, less, valid.absent);
   belong = all_filtered (Belongs f.ports) (Belongs f.ports) (λ c. not (has_name name c)) f.carriers (λ c t b. b) valid.belong;
+  read = all_filtered ReadWherePresent ReadWherePresent (λ c. not (has_name name c)) f.carriers (λ c t r. r) valid.read;
   told = valid.told;
   few = valid.few;
 }
@@ -141,6 +144,7 @@ maps-so (Some slots) name f valid = record {
   rising = rise_changed 1 f.next_carrier name (told_map slots) f.carriers (λ c. refl) valid.rising;
   absent = let less = absent_changed name (told_map slots) f.carriers (λ c. omega arith) in omega (arith, less, valid.absent);
   belong = all_changed (Belongs f.ports) (Belongs f.ports) name (told_map slots) f.carriers (λ c is b. b) (λ c other b. b) valid.belong;
+  read = all_changed ReadWherePresent ReadWherePresent name (told_map slots) f.carriers (λ c is r. r) (λ c other r. r) valid.read;
   told = valid.told;
   few = valid.few;
 }

@@ -15,7 +15,7 @@ use Rattle.carrier.specs.Wants.{carrier_wants}
 use Rattle.carrier.specs.Carriers.{carrier_numbered}
 use Rattle.shop_floor.specs.Floor.{Floor}
 use Rattle.shop_floor.specs.Rows.{port_wants}
-use Rattle.shop_floor.specs.Machines.{port_starts, port_ready, carrier_ready}
+use Rattle.shop_floor.specs.Machines.{port_starts, port_ready, carrier_starts, carrier_ready}
 
 module _ {S : Type 0} (number : S → ℕ) (rows : List (PortRow S)) (state : PortRecord → S) (put : S → PortRecord → PortRecord) where
   -- a row that is ready is so at a port that is there
@@ -48,6 +48,18 @@ module _ {S : Type 0} (number : S → ℕ) (rows : List (PortRow S)) (state : Po
     by_port (Some p) s w = by_row p s (row_of rows row) refl w
 
 module _ {S : Type 0} (number : S → ℕ) (rows : List (CarrierRow S)) (state : CarrierRecord → S) (put : S → CarrierRecord → CarrierRecord) where
+  -- a row that starts at a carrier
+  pub starts_at_carrier : (P : ℕ → Type 0) (c : Carrier) (row : ℕ)
+      → AllByRecursion (λ (r : CarrierRow S). (is_creation r.by || is_among number r.from (state c.states)) ≡ true → carrier_wants r.wants c ≡ true → P r.number) rows
+      → carrier_starts number rows state put row (Some c) ≡ true → P row
+  starts_at_carrier P c row all e = by_row (row_of rows row) refl e where
+    by_row : (o : Option (CarrierRow S)) → row_of rows row ≡ o → found_starts number (λ want. carrier_wants want c) (state c.states) o ≡ true → P row
+    by_row None q w = absurd (true≢false (sym w))
+    by_row (Some r) q w =
+        let parts = and_parts (is_creation r.by || is_among number r.from (state c.states)) (carrier_wants r.wants c) w in
+        let here = found_row (λ (one : CarrierRow S). (is_creation one.by || is_among number one.from (state c.states)) ≡ true → carrier_wants one.wants c ≡ true → P one.number) rows row r all q in
+        subst P here.1 (here.0 parts.0 parts.1)
+
   pub ready_at_carrier : (P : ℕ → Type 0) (f : Floor) (carrier row : ℕ)
       → ((c : Carrier) → carrier_numbered carrier f.carriers ≡ Some c
       → AllByRecursion (λ (r : CarrierRow S). is_itself r.by ≡ true → is_among number r.from (state c.states) ≡ true → carrier_wants r.wants c ≡ true → P r.number) rows)

@@ -19,17 +19,18 @@ use Rattle.load_port.specs.Ports.{first_ports, most_ports, change_port}
 use Rattle.load_port.specs.Record.{port_fired, is_associated}
 use Rattle.carrier.specs.declared.carrier.Carrier.{Carrier}
 use Rattle.carrier.specs.Carriers as carriers
-use Rattle.carrier.specs.Carriers.{has_name, without}
+use Rattle.carrier.specs.Carriers.{has_name, carrier_numbered, without}
 use Rattle.shop_floor.specs.Floor.{Floor, opening, with_port, with_carrier}
 use Rattle.shop_floor.specs.Rows.{freed, is_directed, bound_to, binding, owner, forgets, is_own, is_elsewhere, forgetting, without_owner, arrival_at, arrived, arriving, found_does}
 use Rattle.shop_floor.specs.Machines.{floor_machines, floor_starts, floor_fired}
-use Rattle.shop_floor.specs.Valid.{Belongs, IsTold, IsFloor}
+use Rattle.shop_floor.specs.Valid.{Belongs, ReadWherePresent, IsTold, IsFloor}
 use Rattle.shop_floor.specs.Requests.{came}
 use Rattle.shop_floor.proofs.Belonging.{all_at, all_ports, ports_length, owner_changed}
 use Rattle.shop_floor.proofs.Apart.{all_follows, all_filtered, has_its_name, apart_without, absent_without}
-use Rattle.shop_floor.proofs.Numbers.{LeavesCarrier, rise_without, rise_numbered, apart_numbered, absent_numbered, all_numbered}
+use Rattle.shop_floor.proofs.Numbers.{LeavesCarrier, rise_without, rise_numbered, apart_numbered, absent_numbered, all_numbered, all_at_number}
 use Rattle.shop_floor.proofs.Association.{Begins, Stands, begins, stands}
 use Rattle.shop_floor.proofs.Cases.{starts_at_port}
+use Rattle.shop_floor.proofs.Reading.{reads_id, reads_map, reads_accessing}
 use Rattle.shop_floor.proofs.Moving.{IsFree, binding-keeps, forgetting-keeps, arrived-keeps, freed-keeps}
 
 -- ---- the beginning
@@ -48,6 +49,7 @@ opening-valid n few = record {
   rising = omega arith;
   absent = omega arith;
   belong = tt;
+  read = tt;
   told = first_told n;
   few = rw (first_length n) few;
 }
@@ -65,23 +67,25 @@ port-keeps number change f leaves valid = record {
   rising = valid.rising;
   absent = valid.absent;
   belong = all_follows (Belongs f.ports) (Belongs (change_port number change f.ports)) f.carriers (λ c b held. owner_changed c.port number change f.ports leaves.carrier ∙ b held) valid.belong;
+  read = valid.read;
   told = all_ports IsTold number change f.ports (λ p told. ap is_associated (leaves.association p) ∙ told ∙ ap is_some (sym (leaves.carrier p))) valid.told;
   few = let k = ports_length number change f.ports in rw k valid.few;
 }
 
--- ---- a carrier changes, but not in what holds of it
+-- ---- a carrier changes, but not in what holds of it, or it is read where it is present
 
 belongs_left : (ps : List Port) (change : Carrier → Carrier) (c : Carrier) → LeavesCarrier change → Belongs ps c → Belongs ps (change c)
 belongs_left ps change c leaves b held =
     let same : ((change c).present || (change c).bound) ≡ (c.present || c.bound) = rw (leaves.present c, leaves.bound c) refl in
     rw (leaves.port c, leaves.name c) (b (sym same ∙ held))
 
-pub carrier-keeps : (number : ℕ) (change : Carrier → Carrier) (f : Floor) → LeavesCarrier change → IsFloor f → IsFloor (with_carrier number change f)
-carrier-keeps number change f leaves valid = record {
+pub carrier-keeps : (number : ℕ) (change : Carrier → Carrier) (f : Floor) → LeavesCarrier change → ((c : Carrier) → carrier_numbered number f.carriers ≡ Some c → ReadWherePresent c → ReadWherePresent (change c)) → IsFloor f → IsFloor (with_carrier number change f)
+carrier-keeps number change f leaves reads valid = record {
   apart = apart_numbered number change f.carriers leaves ∙ valid.apart;
   rising = rise_numbered 1 f.next_carrier number change f.carriers leaves valid.rising;
   absent = rw (absent_numbered number change f.carriers leaves) valid.absent;
   belong = all_numbered (Belongs f.ports) number change f.carriers (λ c b. belongs_left f.ports change c leaves b) valid.belong;
+  read = all_at_number ReadWherePresent number change f.carriers reads valid.read;
   told = valid.told;
   few = valid.few;
 }
@@ -167,6 +171,7 @@ forgotten-valid f name valid = record {
   rising = rise_without 1 f.next_carrier name f.carriers valid.rising;
   absent = let less = absent_without name f.carriers in omega (arith, less, valid.absent);
   belong = all_filtered (Belongs f.ports) (Belongs f.ports) (λ c. not (has_name name c)) f.carriers (λ c t b. b) valid.belong;
+  read = all_filtered ReadWherePresent ReadWherePresent (λ c. not (has_name name c)) f.carriers (λ c t r. r) valid.read;
   told = valid.told;
   few = valid.few;
 }
@@ -249,10 +254,10 @@ row-keeps x f starts valid =
           (
             (λ s. association-keeps f x.object x.row.row valid s),
             (
-              (λ s. carrier-keeps x.object (carriers.fires_row 8 x.row.row) f (states_left 8 x.row.row) valid),
+              (λ s. carrier-keeps x.object (carriers.fires_row 8 x.row.row) f (states_left 8 x.row.row) (reads_id f x.object x.row.row s) valid),
               (
-                (λ s. carrier-keeps x.object (carriers.fires_row 9 x.row.row) f (states_left 9 x.row.row) valid),
-                ((λ s. carrier-keeps x.object (carriers.fires_row 10 x.row.row) f (states_left 10 x.row.row) valid), tt),
+                (λ s. carrier-keeps x.object (carriers.fires_row 9 x.row.row) f (states_left 9 x.row.row) (reads_map f x.object x.row.row s) valid),
+                ((λ s. carrier-keeps x.object (carriers.fires_row 10 x.row.row) f (states_left 10 x.row.row) (reads_accessing f x.object x.row.row) valid), tt),
               ),
             ),
           ),

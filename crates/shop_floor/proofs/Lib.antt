@@ -6,8 +6,10 @@ pub mod Association
 pub mod Cases
 pub mod Belonging
 pub mod Moving
+pub mod Reading
 pub mod Keeps
 pub mod Room
+pub mod Present
 pub mod Comes
 pub mod Asked
 pub mod Held

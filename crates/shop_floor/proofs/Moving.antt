@@ -13,7 +13,7 @@ use Rattle.carrier.specs.declared.carrier.Carrier.{Carrier}
 use Rattle.carrier.specs.Carriers.{has_name, is_port, change_named, found_or_created, next_number, without, came_to, binds, are_named_apart, absent_count, most_absent}
 use Rattle.shop_floor.specs.Floor.{Floor, with_port}
 use Rattle.shop_floor.specs.Rows.{freed, owned_by, taken_by, is_directed, bound_to, is_elsewhere, arrived}
-use Rattle.shop_floor.specs.Valid.{RiseFrom, Belongs, IsTold, IsFloor}
+use Rattle.shop_floor.specs.Valid.{RiseFrom, Belongs, ReadWherePresent, IsTold, IsFloor}
 use Rattle.shop_floor.proofs.Belonging.{is_held, still, now_here, owner_kept, all_updated_twice}
 use Rattle.shop_floor.proofs.Apart.{IsOnly, all_both, all_follows, all_filtered, all_changed, all_found, found_only, found_one, found_passes, named_so, has_its_name, apart_changed, apart_without, apart_found, absent_changed, absent_without, absent_comes}
 use Rattle.shop_floor.proofs.Association.{Begins, Stands}
@@ -22,12 +22,13 @@ use Rattle.shop_floor.proofs.Numbers.{rise_changed, rise_without, rise_found}
 -- ---- a change of the carriers and of one port
 
 -- a port of a place that is changed, with these carriers, fires a row of table 7
-pub row_keeps : (row place : ℕ) (f : Floor) (p : Port) (change : Port → Port) (cs : List Carrier) (next : ℕ) → IsFloor f → slice_get f.ports place ≡ Some p → is_associated (port_fired 7 row (change p).states).association ≡ is_some (change p).carrier → are_named_apart cs ≡ true → RiseFrom 1 next cs → absent_count cs ≤ most_absent → AllByRecursion (Belongs (update_at place change f.ports)) cs → IsFloor (with_port (suc place) (ports.fires_row 7 row) (record { ports = update_at place change f.ports; carriers = cs; next_carrier = next }))
-row_keeps row place f p change cs next valid s told apart rise absent belong = record {
+pub row_keeps : (row place : ℕ) (f : Floor) (p : Port) (change : Port → Port) (cs : List Carrier) (next : ℕ) → IsFloor f → slice_get f.ports place ≡ Some p → is_associated (port_fired 7 row (change p).states).association ≡ is_some (change p).carrier → are_named_apart cs ≡ true → RiseFrom 1 next cs → absent_count cs ≤ most_absent → AllByRecursion (Belongs (update_at place change f.ports)) cs → AllByRecursion ReadWherePresent cs → IsFloor (with_port (suc place) (ports.fires_row 7 row) (record { ports = update_at place change f.ports; carriers = cs; next_carrier = next }))
+row_keeps row place f p change cs next valid s told apart rise absent belong read = record {
   apart = apart;
   rising = rise;
   absent = absent;
   belong = all_follows (Belongs (update_at place change f.ports)) (Belongs (update_at place (ports.fires_row 7 row) (update_at place change f.ports))) cs (λ c b held. owner_kept c.port place (ports.fires_row 7 row) (update_at place change f.ports) (λ q. refl) ∙ b held) belong;
+  read = read;
   told = all_updated_twice IsTold place change (ports.fires_row 7 row) f.ports p s told valid.told;
   few = let k = length_update (ports.fires_row 7 row) place (update_at place change f.ports) in let j = length_update change place f.ports in rw (k, j) valid.few;
 }
@@ -46,7 +47,8 @@ binding-keeps place f p c valid s begins found =
     (all_changed (λ d. Belongs f.ports d × IsOnly c d) (Belongs (update_at place (owned_by c.name) f.ports)) c.name binds f.carriers
     (λ d named b. at_it d (b.1 named))
     (λ d other b. still place (owned_by c.name) f.ports p d s (λ held here is. not_none p.carrier d.name begins.none is) b.0)
-    (all_both (Belongs f.ports) (IsOnly c) f.carriers valid.belong (found_only (is_directed (suc place)) f.carriers c valid.apart found))) where
+    (all_both (Belongs f.ports) (IsOnly c) f.carriers valid.belong (found_only (is_directed (suc place)) f.carriers c valid.apart found)))
+    (all_changed ReadWherePresent ReadWherePresent c.name binds f.carriers (λ d named r. r) (λ d other r. r) valid.read) where
       is_here : is_port (suc place) c.port ≡ true
       is_here = (and_parts (is_port (suc place) c.port) (not c.present && not c.bound) (found_passes (is_directed (suc place)) f.carriers c found)).0
 
@@ -63,7 +65,8 @@ forgetting-keeps row place f p name valid s stands is =
     (let less = absent_without name f.carriers in omega (arith, less, valid.absent))
     (all_filtered (Belongs f.ports) (Belongs (update_at place freed f.ports)) (λ c. not (has_name name c)) f.carriers
     (λ c other b. still place freed f.ports p c s (λ held here its. another c (not-true _ other) its) b)
-    valid.belong) where
+    valid.belong)
+    (all_filtered ReadWherePresent ReadWherePresent (λ c. not (has_name name c)) f.carriers (λ c other r. r) valid.read) where
       another : {P : Type 0} (c : Carrier) → has_name name c ≡ false → p.carrier ≡ Some c.name → P
       another c other its = let same : c.name ≡ name = cc in let named = has_its_name name c same in absurd (cc)
 
@@ -85,6 +88,9 @@ arrived-keeps row place f p a valid s ends free =
     (all_found (λ d. Belongs f.ports d × IsFree place p a.name d) f.next_carrier a.name f.carriers
     (λ new. ((λ held. absurd (cc)), (λ held. absurd (cc))))
     (all_both (Belongs f.ports) (IsFree place p a.name) f.carriers valid.belong free)))
+    (all_changed ReadWherePresent ReadWherePresent a.name (came_to (suc place) a.is_read a.map) (found_or_created f.next_carrier a.name f.carriers)
+    (λ d named r was. refl) (λ d other r. r)
+    (all_found ReadWherePresent f.next_carrier a.name f.carriers (λ new was. absurd (cc)) valid.read))
 
 -- ---- row 7: the carrier of a port is at another one
 
@@ -93,7 +99,8 @@ freed-keeps place f p name valid s stands is elsewhere =
     row_keeps 7 place f p freed f.carriers f.next_carrier valid s stands.ends valid.apart valid.rising valid.absent
     (all_follows (λ d. Belongs f.ports d × IsOnly at.0 d) (Belongs (update_at place freed f.ports)) f.carriers
     (λ d b. still place freed f.ports p d s (λ held here its. never d here its b.1) b.0)
-    (all_both (Belongs f.ports) (IsOnly at.0) f.carriers valid.belong (found_only _ f.carriers at.0 valid.apart at.1))) where
+    (all_both (Belongs f.ports) (IsOnly at.0) f.carriers valid.belong (found_only _ f.carriers at.0 valid.apart at.1)))
+    valid.read where
       test : Carrier → Bool
       test c = has_name name c && (c.present && not (is_port (suc place) c.port))
 

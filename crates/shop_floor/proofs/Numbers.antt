@@ -78,6 +78,16 @@ all_numbered P n change [] f p = tt
 all_numbered P n change (c ∷ cs) f p =
     cond_both (c.number == n) _ _ (AllByRecursion P) (λ t. (f c p.0, p.1)) (λ t. (p.0, all_numbered P n change cs f p.1))
 
+-- also where only the changed one is known to go on so
+pub all_at_number : (P : Carrier → Type 0) (n : ℕ) (change : Carrier → Carrier) (cs : List Carrier) → ((c : Carrier) → carrier_numbered n cs ≡ Some c → P c → P (change c)) → AllByRecursion P cs → AllByRecursion P (change_numbered n change cs)
+all_at_number P n change [] f p = tt
+all_at_number P n change (c ∷ cs) f p = of (c.number == n) f (all_at_number P n change cs) where
+  of : (b : Bool) → ((d : Carrier) → cond b (Some c) (carrier_numbered n cs) ≡ Some d → P d → P (change d))
+      → (((d : Carrier) → carrier_numbered n cs ≡ Some d → P d → P (change d)) → AllByRecursion P cs → AllByRecursion P (change_numbered n change cs))
+      → AllByRecursion P (cond b (change c ∷ cs) (c ∷ change_numbered n change cs))
+  of true g later = (g c refl p.0, p.1)
+  of false g later = (p.0, later g p.1)
+
 -- a change that changes nothing
 pub numbered_same : (n : ℕ) (cs : List Carrier) → change_numbered n (λ c. c) cs ≡ cs
 numbered_same n [] = refl

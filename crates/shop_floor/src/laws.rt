@@ -1,6 +1,6 @@
 //! Laws of the definitions, for proofs to cite. Each function is empty: what it ensures holds of the definitions.
 
-ghost use Rattle.std.specs.Prelude.{◌≡◌, ℕ, suc, ◌+◌, ◌==◌, ◌<◌, ◌≤◌, true, false, List, [], ◌∷◌, length, Some};
+ghost use Rattle.std.specs.Prelude.{◌≡◌, ℕ, suc, ◌+◌, ◌==◌, ◌<◌, ◌≤◌, true, false, List, [], ◌∷◌, length, Contains, Some, IsSomeAnd};
 ghost use Rattle.std.specs.List.{AllByRecursion};
 ghost use Rattle.gem_tables.specs.Table.{firing, is_one_of};
 ghost use Rattle.gem_tables.specs.declared.firing.Firing.{Firing};
@@ -9,7 +9,9 @@ ghost use Rattle.load_port.specs.Caack.{is_done_code};
 ghost use Rattle.load_port.specs.Ports.{most_ports, port_numbered};
 ghost use Rattle.carrier.specs.declared.action.CarrierAction.{CarrierAction};
 ghost use Rattle.carrier.specs.declared.action.CarrierWord.TheVariants.{Bind, Notify};
-ghost use Rattle.carrier.specs.Carriers.{is_known, most_carriers};
+ghost use Rattle.carrier.specs.declared.carrier.Carrier.{Carrier};
+ghost use Rattle.carrier.specs.Record.{is_id_not_read, is_map_not_read, is_map_verified};
+ghost use Rattle.carrier.specs.Carriers.{is_known, is_present_at, carrier_numbered, most_carriers};
 ghost use Rattle.shop_floor.specs.Floor.{Floor, opening};
 ghost use Rattle.shop_floor.specs.Rows.{forgets, owner};
 ghost use Rattle.shop_floor.specs.Machines.{floor_starts, floor_fired, floor_least, creation_rows, creates};
@@ -69,4 +71,35 @@ pub fn there_is_room_for_each_carrier()
         → is_known a.id f.carriers ≡ false → IsFloor f → suc (length f.carriers) ≤ most_carriers }
     ensures notify { (a : CarrierAction) (f : Floor) → a.word ≡ Notify → is_done_code (carrier_code f a) ≡ true
         → IsFloor f → suc (length f.carriers) ≤ most_carriers }
+{}
+
+/// A carrier that is found by its number of creation is one of the list.
+pub fn a_carrier_that_is_found_is_of_the_list()
+    ensures { (n : ℕ) (carriers : List Carrier) (c : Carrier) → carrier_numbered n carriers ≡ Some c → Contains carriers c }
+{}
+
+/// At each port one carrier is present at most: two of the list that are present at the same port are one and the same, with
+/// one name and one number of creation.
+pub fn one_carrier_a_port()
+    ensures same { (f : Floor) (port : ℕ) (c d : Carrier)
+        → Contains f.carriers c → Contains f.carriers d → is_present_at port c ≡ true → is_present_at port d ≡ true → IsFloor f → c ≡ d }
+    ensures number { (f : Floor) (port n m : ℕ) (c d : Carrier)
+        → carrier_numbered n f.carriers ≡ Some c → carrier_numbered m f.carriers ≡ Some d
+        → is_present_at port c ≡ true → is_present_at port d ≡ true → IsFloor f → n ≡ m }
+{}
+
+/// A carrier of the list that is present is at a port that is there, and belongs to it. The number of the port is 1 to that of
+/// the ports, of which there are at most four.
+pub fn a_present_carrier_has_a_port()
+    ensures port { (f : Floor) (c : Carrier) → Contains f.carriers c → c.present ≡ true → IsFloor f
+        → IsSomeAnd c.port (λ n. IsSomeAnd (port_numbered n.0 f.ports) (λ p. p.carrier ≡ Some c.name)) }
+    ensures number { (f : Floor) (c : Carrier) → Contains f.carriers c → c.present ≡ true → IsFloor f
+        → IsSomeAnd c.port (λ n. (1 ≤ n.0) × (n.0 ≤ length f.ports)) }
+{}
+
+/// A carrier of the list is present where its slot map was read, so also where it is VERIFIED, and where its id was read.
+pub fn a_carrier_whose_map_is_read_is_present()
+    ensures map { (f : Floor) (c : Carrier) → Contains f.carriers c → is_map_not_read c.states.map ≡ false → IsFloor f → c.present ≡ true }
+    ensures verified { (f : Floor) (c : Carrier) → Contains f.carriers c → is_map_verified c.states.map ≡ true → IsFloor f → c.present ≡ true }
+    ensures id { (f : Floor) (c : Carrier) → Contains f.carriers c → is_id_not_read c.states.id ≡ false → IsFloor f → c.present ≡ true }
 {}

@@ -73,7 +73,7 @@ fn port_rows(
     action: &PortAction,
     code: Caack,
 ) -> Result<Vec<Firing>, AllocError>
-    ensures { IfOk result (λ rows. rows.items ≡ (if is_done_code code then port_rows action.now plant.now.floor else [])) }
+    ensures { IfOk result (λ rows. rows.items ≡ (if is_done_code code then port_rows action.now plant.now.floor.shop else [])) }
 {
     if code.is_done() {
         plant.port_rows(alloc, action)

@@ -6,24 +6,29 @@ ghost use Rattle.gem_tables.specs.Table.{firing};
 ghost use Rattle.gem_model.specs.State.{is_up};
 ghost use Rattle.gem_model.specs.Fire.{fires};
 ghost use Rattle.gem_model.specs.Direct.{Are, IsListed, operator_rows};
-ghost use Rattle.gem_model.specs.Step.{answered, is_accepted, can_fire, can_clear, switched, operated, quits};
+ghost use Rattle.gem_model.specs.Step.{answered, is_accepted, can_fire, can_clear, can_come_up, switched, operated, quits};
+ghost use Rattle.gem_model.specs.Noting.{clears_alarm};
+ghost use Rattle.gem_model.specs.Signals.{module_alarm};
 ghost use Rattle.core_shop.specs.Reactions.{outcome_of};
 ghost use Rattle.tool_events.specs.declared.answer.Answer.TheVariants as answer;
 
 use crate::clock::end_for;
 use crate::reaction::Reaction;
+use crate::signals::module_alarm;
 use arrayvec::ArrayVec;
 use core_state::{Plant, by_comm};
-use gem_ids::PortNo;
+use gem_ids::{ModuleId, PortNo};
 use gem_states::{CommTrigger, ControlTrigger};
 use gem_tables::Firing;
 use std::alloc::{AllocError, Global};
 use tool_events::{Answer, OperCmd, SessionCause};
 
-// The numbers of the tables of a port's transfer and access, as the definitions have them.
+// The numbers of the tables of a port's transfer and access and of moves, as the definitions have them.
 const TRANSFER: u8 = 4;
 
 const ACCESS: u8 = 5;
+
+const MOVES: u8 = 16;
 
 // One row, or none.
 fn one(row: Option<Firing>) -> ArrayVec<Firing, 3>
@@ -57,6 +62,7 @@ fn operator_rows(plant: &Plant, command: &OperCmd) -> ArrayVec<Firing, 3>
         OperCmd::Remote => one(Some(plant.by_control(ControlTrigger::Remote))),
         OperCmd::Service(port, on) => one(Some(at_port(TRANSFER, *on, *port))),
         OperCmd::Access(port, auto) => one(Some(at_port(ACCESS, *auto, *port))),
+        OperCmd::Up(m) => one(Some(Firing::new(MOVES, u64::from(m.0), 10))),
         _ => one(None),
     }
 }
@@ -108,7 +114,18 @@ fn first_starts(plant: &Plant, command: &OperCmd) -> bool
     can_fire(plant, rows.as_slice())
 }
 
-/// What a command changes besides its rows: the operator's switch is set, or an alarm is cleared.
+/// The alarm of a module is cleared that can come up.
+fn come_up(plant: &mut Plant, alloc: Global, m: ModuleId) -> Result<(), AllocError>
+    ensures { OnOk result (plant.new ≡ (if can_come_up m.0 plant.old then clears_alarm (module_alarm m.0) plant.old else plant.old)) }
+{
+    if !plant.can_come_up(m) {
+        return Ok(());
+    }
+    plant.clear_alarm(alloc, module_alarm(m))
+}
+
+/// What a command changes besides its rows: the operator's switch is set, or an alarm is cleared, that of a module which comes up
+/// among them.
 fn switch(plant: &mut Plant, alloc: Global, command: &OperCmd) -> Result<(), AllocError>
     ensures { OnOk result (plant.new ≡ switched command.now plant.old) }
 {
@@ -116,6 +133,7 @@ fn switch(plant: &mut Plant, alloc: Global, command: &OperCmd) -> Result<(), All
         OperCmd::Local => plant.set_switch(true),
         OperCmd::Remote => plant.set_switch(false),
         OperCmd::Clear(alid) if can_clear(plant, *alid) => plant.clear_alarm(alloc, *alid)?,
+        OperCmd::Up(m) => come_up(plant, alloc, *m)?,
         _ => {}
     }
     Ok(())

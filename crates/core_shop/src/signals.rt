@@ -1,13 +1,17 @@
-//! What the equipment tells of the load ports (SEMI E87).
+//! What the equipment tells of the load ports (SEMI E87) and of the modules (this tool's profile, moves).
 
-ghost use Rattle.std.specs.Prelude.{◌≡◌, OnOk, false};
+ghost use Rattle.std.specs.Prelude.{◌≡◌, OnOk, true, false};
+ghost use Rattle.std.specs.Option.{option_to_list};
 ghost use Rattle.gem_tables.specs.Table.{firing};
 ghost use Rattle.shop_floor.specs.Requests.{at_port, removal};
 ghost use Rattle.gem_model.specs.Fire.{fire_listed};
-ghost use Rattle.gem_model.specs.Signals.{lacks_port, port_row_starts, with_arrival, placed, removed, signalled};
+ghost use Rattle.robot_moves.specs.Modules.{is_open, is_up};
+ghost use Rattle.tool_floor.specs.Signals.{at_module, done_rows};
+ghost use Rattle.gem_model.specs.Noting.{sets_alarm};
+ghost use Rattle.gem_model.specs.Signals.{lacks_port, port_row_starts, with_arrival, placed, removed, module_of, module_alarm, module_done, module_failed, module_down, signalled};
 
 use core_state::Plant;
-use gem_ids::{CarrierId, PortNo};
+use gem_ids::{CarrierId, CmdNo, ModuleId, PortNo};
 use gem_tables::Firing;
 use std::alloc::{AllocError, Global};
 use tool_events::Signal;
@@ -15,10 +19,18 @@ use tool_events::Signal;
 // The alarm of a carrier signal that a port doesn't expect, which is that of the port behind this number.
 const UNEXPECTED: u32 = 30;
 
+// The alarm of an answer to a command that isn't open.
+const UNEXPECTED_ANSWER: u32 = 50;
+
+// The alarm of a module that is down, which is that of the module behind this number.
+const MODULE_DOWN: u32 = 10;
+
 // The numbers of the tables, as the definitions have them.
 const TRANSFER: u8 = 4;
 
 const ASSOCIATION: u8 = 7;
+
+const MOVES: u8 = 16;
 
 // A row of a table at a port.
 fn at_port(table: u8, row: u8, port: PortNo) -> Firing
@@ -91,9 +103,84 @@ fn remove(plant: &mut Plant, alloc: Global, port: PortNo) -> Result<(), AllocErr
     remove_there(plant, alloc, port)
 }
 
-/// What the equipment tells: a carrier was placed at a port, or taken away from one. A signal of a port that the tool lacks
-/// changes nothing, and neither do those of modules, which are not built yet (docs/profile/carriers.md). `AllocError`: memory
-/// ran out.
+// ---- modules
+
+/// The row of Done of the open command of a module fires.
+fn finish(plant: &mut Plant, alloc: Global, m: ModuleId) -> Result<(), AllocError>
+    ensures { OnOk result (plant.new ≡ fire_listed (done_rows m.0 (module_of m.0 plant.old)) plant.old) }
+{
+    if let Some(row) = plant.done_row(m) {
+        plant.fire_listed(alloc, &[row])?;
+    }
+    Ok(())
+}
+
+/// A module did a command: the row of its task fires where the command is its open one, and else the alarm of the answer is set.
+fn done(plant: &mut Plant, alloc: Global, m: ModuleId, n: CmdNo) -> Result<(), AllocError>
+    ensures { OnOk result (plant.new ≡ module_done m.0 n.0 plant.old) }
+{
+    if !plant.is_open(m, n) {
+        return plant.set_alarm(alloc, UNEXPECTED_ANSWER);
+    }
+    finish(plant, alloc, m)
+}
+
+/// The alarm of a module that is down.
+pub(crate) fn module_alarm(m: ModuleId) -> u32
+    ensures { result ≡ module_alarm m.0 }
+{
+    MODULE_DOWN + u32::from(m.0)
+}
+
+// A row of the table of moves at a module.
+fn at_module(row: u8, m: ModuleId) -> Firing
+    ensures { result ≡ firing 16 m.0 row }
+{
+    Firing::new(MOVES, u64::from(m.0), row)
+}
+
+/// A row of the table of moves fires at a module, where it starts.
+fn fire_at(plant: &mut Plant, alloc: Global, row: u8, m: ModuleId) -> Result<(), AllocError>
+    ensures { OnOk result (plant.new ≡ fire_listed (at_module row m.0) plant.old) }
+{
+    plant.fire_listed(alloc, &[at_module(row, m)])?;
+    Ok(())
+}
+
+/// The alarm of a module is set, and then a row of the table of moves fires there.
+fn take_down(plant: &mut Plant, alloc: Global, row: u8, m: ModuleId) -> Result<(), AllocError>
+    ensures { OnOk result (plant.new ≡ fire_listed (at_module row m.0) (sets_alarm (module_alarm m.0) plant.old)) }
+{
+    plant.set_alarm(alloc, module_alarm(m))?;
+    fire_at(plant, alloc, row, m)
+}
+
+/// A module failed at a command: its alarm is set and it goes down where the command is its open one, and else the alarm of the
+/// answer is set.
+fn fail(plant: &mut Plant, alloc: Global, m: ModuleId, n: CmdNo) -> Result<(), AllocError>
+    ensures { OnOk result (plant.new ≡ module_failed m.0 n.0 plant.old) }
+{
+    if !plant.is_open(m, n) {
+        return plant.set_alarm(alloc, UNEXPECTED_ANSWER);
+    }
+    take_down(plant, alloc, 8, m)
+}
+
+/// A module went down: its alarm is set, and it goes down, where it was not Down.
+fn go_down(plant: &mut Plant, alloc: Global, m: ModuleId) -> Result<(), AllocError>
+    ensures { OnOk result (plant.new ≡ module_down m.0 plant.old) }
+{
+    if !plant.is_module_up(m) {
+        return Ok(());
+    }
+    take_down(plant, alloc, 9, m)
+}
+
+// ---- all of them
+
+/// What the equipment tells: a carrier was placed at a port, or taken away from one; a module did a command, failed at one, or
+/// went down. A signal of a port or a module that the tool lacks changes nothing (docs/profile/carriers.md and moves.md).
+/// `AllocError`: memory ran out.
 pub fn signal(plant: &mut Plant, alloc: Global, told: &Signal) -> Result<(), AllocError>
     ensures { OnOk result (plant.new ≡ signalled told.now plant.old) }
 {
@@ -110,8 +197,23 @@ pub fn signal(plant: &mut Plant, alloc: Global, told: &Signal) -> Result<(), All
             }
             remove(plant, alloc, *port)
         }
-        Signal::Done(_, _) => Ok(()),
-        Signal::Failed(_, _) => Ok(()),
-        Signal::Down(_) => Ok(()),
+        Signal::Done(m, n) => {
+            if !plant.has_module(*m) {
+                return Ok(());
+            }
+            done(plant, alloc, *m, *n)
+        }
+        Signal::Failed(m, n) => {
+            if !plant.has_module(*m) {
+                return Ok(());
+            }
+            fail(plant, alloc, *m, *n)
+        }
+        Signal::Down(m) => {
+            if !plant.has_module(*m) {
+                return Ok(());
+            }
+            go_down(plant, alloc, *m)
+        }
     }
 }

@@ -1,4 +1,4 @@
--- The rows of the load ports and the carriers, as the plant fires them.
+-- The rows of the load ports, the carriers and the modules, as the plant fires them.
 use Rattle.std.proofs.Common.{drop, get_or, drop-cons, add-one, append_assoc, ◌++◌, ◌+◌, ◌<◌, zero, suc, ◌≡◌, ℕ, ◌==◌, ◌≤◌, ◌&&◌, not, length, take, Bool, true, false, if◌then◌else◌, List, [], ◌∷◌, Option, Some, None, is_some, refl, sym, ◌∙◌, ap, subst, arith}
 use Rattle.std.specs.Option.{option_or}
 use Rattle.std.proofs.lemmas.List.{append-nil}
@@ -7,9 +7,9 @@ use Rattle.std.proofs.lemmas.Bool.Decides.{nat_tests}
 use Rattle.gem_tables.specs.Table.{firing}
 use Rattle.gem_tables.specs.Machine.{starts_in}
 use Rattle.gem_tables.specs.declared.firing.Firing.{Firing}
-use Rattle.shop_floor.specs.Floor.{Floor}
-use Rattle.shop_floor.specs.Machines.{floor_machines, floor_starts, floor_fired, creation_rows, floor_least, object_name as floor_object}
-use Rattle.shop_floor.proofs.Creations.{creation_same, creations as floor_creations, creations_start}
+use Rattle.tool_floor.specs.Floor.{ToolFloor}
+use Rattle.tool_floor.specs.Machines.{floor_machines, floor_starts, floor_fired, creation_rows, is_creation, floor_least, object_name as floor_object}
+use Rattle.tool_floor.proofs.Keeping.{creation_same, creations as floor_creations, creations_start, AreCreations, not_table_3, least_starts}
 use Rattle.gem_model.specs.State.{State, is_online}
 use Rattle.gem_model.specs.Noting.{noted_as}
 use Rattle.gem_model.specs.Machines.{row_starts, takes_effect, creations, object_name, fire_floor}
@@ -21,8 +21,6 @@ use Rattle.gem_model.proofs.FloorRows.{IsFloorRow, effect_is, starts_is, creatio
 use Rattle.gem_model.proofs.OnFloor.{creations_as}
 use Rattle.load_port.specs.declared.port.Port.{Port}
 use Rattle.shop_floor.specs.Floor.{numbers_from}
-use Rattle.shop_floor.proofs.Shapes.{not_table_3}
-use Rattle.shop_floor.proofs.Starts.{least_starts}
 use Rattle.gem_model.specs.State.{is_selected, can_ask}
 use Rattle.gem_model.specs.Wants.{delay_is_over, is_attempt}
 use Rattle.gem_model.specs.Machines.{least}
@@ -31,8 +29,8 @@ use Rattle.gem_model.proofs.Effects.{gives_up, least_is}
 use Rattle.gem_model.proofs.FloorRows.{ready_is}
 use Rattle.core_state.specs.Firing.{fire_first, AreCreated}
 
--- a row that starts on the floor is of tables 4 to 10
-pub starts_high : (x : Firing) (f : Floor) → floor_starts x f ≡ true → IsFloorRow x
+-- a row that starts on the floor is of tables 4 to 10 and 16
+pub starts_high : (x : Firing) (f : ToolFloor) → floor_starts x f ≡ true → IsFloorRow x
 starts_high x f starts = record {
   not_1 = other 1 refl;
   not_2 = other 2 refl;
@@ -65,10 +63,10 @@ row_floor g x starts = ap (λ (k : State). k.floor) (effect_is g x (starts_high 
 -- ---- what a row creates
 
 -- creation rows that start, and leave the floor as it is
-are_created : (f : Floor) (ds : List Firing) → AllByRecursion (λ (d : Firing). d ≡ firing 8 d.object 1) ds → AllByRecursion (λ (d : Firing). floor_starts d f ≡ true) ds → AreCreated f ds
+are_created : (f : ToolFloor) (ds : List Firing) → AreCreations ds → AllByRecursion (λ (d : Firing). floor_starts d f ≡ true) ds → AreCreated f ds
 are_created f [] follow start = tt
 are_created f (d ∷ ds) follow start =
-    ((start.0, subst (λ (x : Firing). floor_fired x f ≡ f) (sym follow.0) (creation_same f d.object)), are_created f ds follow.1 start.1)
+    ((start.0, creation_same f d follow.0), are_created f ds follow.1 start.1)
 
 -- those behind a row that starts
 pub created_are : (g h : State) (x : Firing) → row_starts g x ≡ true → h ≡ fire g x → AreCreated h.floor (creations g x)
@@ -80,7 +78,7 @@ created_are g h x starts is = of (x.row.table == 1) (x.row.table == 2) (x.row.ta
   on_floor high =
       let floor : h.floor ≡ floor_fired x g.floor = ap (λ (k : State). k.floor) (is ∙ refl) ∙ ap (λ (k : State). k.floor) (effect_is g x high) in
       let all = are_created (floor_fired x g.floor) (creation_rows x g.floor) (floor_creations g.floor x) (creations_start g.floor x) in
-      subst (λ (f : Floor). AreCreated f (creations g x)) (sym floor) (subst (AreCreated (floor_fired x g.floor)) (sym (creations_is g x high)) all)
+      subst (λ (f : ToolFloor). AreCreated f (creations g x)) (sym floor) (subst (AreCreated (floor_fired x g.floor)) (sym (creations_is g x high)) all)
 
   of : (first second third : Bool) → (x.row.table == 1) ≡ first → (x.row.table == 2) ≡ second → (x.row.table == 3) ≡ third → AreCreated h.floor (creations g x)
   of true second third one two three = none (creations_as g x ∙ rw one refl)

@@ -69,16 +69,16 @@ constant_small (Number n) = record { depth = omega arith; size = omega arith; bo
 constant_small (Truth t) = record { depth = omega arith; size = omega arith; bodies = omega arith }
 
 -- what a port shows
-port_small : (g : State) (number : ℕ) (value : Port → Data) → ((place : ℕ) (p : Port) → slice_get g.floor.ports place ≡ Some p → Small (value p)) → IfSome (port_value g number value) Small
+port_small : (g : State) (number : ℕ) (value : Port → Data) → ((place : ℕ) (p : Port) → slice_get g.floor.shop.ports place ≡ Some p → Small (value p)) → IfSome (port_value g number value) Small
 port_small g zero value each = tt
-port_small g (suc place) value each = by_port (slice_get g.floor.ports place) refl
+port_small g (suc place) value each = by_port (slice_get g.floor.shop.ports place) refl
   where
-    by_port : (o : Option Port) → slice_get g.floor.ports place ≡ o → IfSome (option_map value o) Small
+    by_port : (o : Option Port) → slice_get g.floor.shop.ports place ≡ o → IfSome (option_map value o) Small
     by_port None is = tt
     by_port (Some p) is = each place p is
 
 -- each variable has a small value, or none
-variable_small : (g : State) → length g.alarms ≤ most_alarms → AreNamed g.floor.ports → (variable : StatusVariable) → IfSome (variable_value g variable) Small
+variable_small : (g : State) → length g.alarms ≤ most_alarms → AreNamed g.floor.shop.ports → (variable : StatusVariable) → IfSome (variable_value g variable) Small
 variable_small g few named status.Clock = text_small (time_digits (clock_now g)) (clock_text g)
 variable_small g few named status.CommState = number_small (comm_number g.comm)
 variable_small g few named status.ControlState = number_small (control_number g.control)
@@ -120,7 +120,7 @@ either_small : (x y : Option Data) (d : Data) → (x ≡ Some d → Small d) →
 either_small None y d first next is = next is
 either_small (Some e) y d first next is = first is
 
-pub status_small : (g : State) → length g.alarms ≤ most_alarms → AreNamed g.floor.ports → AreSmallValues (status_value g)
+pub status_small : (g : State) → length g.alarms ≤ most_alarms → AreNamed g.floor.shop.ports → AreSmallValues (status_value g)
 status_small g few named vid d is = by_variable (status_variable vid) is
   where
     by_variable : (o : Option StatusVariable) → value_by g o ≡ Some d → Small d
@@ -128,7 +128,7 @@ status_small g few named vid d is = by_variable (status_variable vid) is
     by_variable (Some variable) here = small_there (variable_value g variable) d (variable_small g few named variable) here
 
 -- each variable has a small value
-pub all_small : (o : Occasion) (g : State) → IsText o.object → length g.alarms ≤ most_alarms → AreNamed g.floor.ports → AreSmallValues (value_of o g)
+pub all_small : (o : Occasion) (g : State) → IsText o.object → length g.alarms ≤ most_alarms → AreNamed g.floor.shop.ports → AreSmallValues (value_of o g)
 all_small o g object few named vid d is =
     either_small (status_value g vid) (or_else (event_value o vid) (constant_value g vid)) d
     (status_small g few named vid d)
@@ -178,7 +178,7 @@ filter_few p (x ∷ xs) = by_test (p x) refl (filter_few p xs)
 few_svids : (g : State) → length (svids g) ≤ 1024
 few_svids g = let less = filter_few (λ (n : ℕ). is_some (status_value g n)) status_vids in omega (arith, less)
 
-pub few_status : (g : State) (ids : List ℕ) → length g.alarms ≤ most_alarms → AreNamed g.floor.ports → length ids ≤ 1024 → AreFew 1024 1 84 (value_items (status_value g) (or_all (svids g) ids))
+pub few_status : (g : State) (ids : List ℕ) → length g.alarms ≤ most_alarms → AreNamed g.floor.shop.ports → length ids ≤ 1024 → AreFew 1024 1 84 (value_items (status_value g) (or_all (svids g) ids))
 few_status g ids alarms named few = few_values_of (status_value g) (or_all (svids g) ids) (status_small g alarms named) (few_or_all (svids g) ids (few_svids g) few)
 
 pub few_constants : (g : State) (ids : List ℕ) → length ids ≤ 1024 → AreFew 1024 1 84 (value_items (constant_value g) (or_all constant_ids ids))
@@ -206,5 +206,5 @@ few_enabled_parts g alarms =
     omega arith
 
 -- outside a firing
-pub quiet_small : (g : State) → IsText [] → length g.alarms ≤ most_alarms → AreNamed g.floor.ports → AreSmallValues (value_of no_firing g)
+pub quiet_small : (g : State) → IsText [] → length g.alarms ≤ most_alarms → AreNamed g.floor.shop.ports → AreSmallValues (value_of no_firing g)
 quiet_small g none alarms named = all_small no_firing g none alarms named

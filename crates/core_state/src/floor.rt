@@ -1,10 +1,11 @@
-//! The load ports and the carriers: their rows, and what the host, the operator and the equipment do to them (SEMI E87; tables
-//! 4 to 10).
+//! The load ports, the carriers and the modules: their rows, and what the host, the operator and the equipment do to them (SEMI
+//! E87; tables 4 to 10 and 16).
 ghost use Rattle.std.specs.Prelude.{◌≡◌, ◌≤◌, true, false, not, length, OnOk, IfOk};
 ghost use Rattle.load_port.specs.Caack.{is_done_code};
 ghost use Rattle.shop_floor.specs.Floor.{numbers_from};
 ghost use Rattle.shop_floor.specs.Requests.{carrier_code, carrier_written, carrier_rows, port_code, port_rows, at_ports, mode_row, or_all};
-ghost use Rattle.shop_floor.specs.Machines.{floor_starts, object_name};
+ghost use Rattle.tool_floor.specs.Floor.{with_shop};
+ghost use Rattle.tool_floor.specs.Machines.{floor_starts, object_name};
 ghost use Rattle.gem_model.specs.Ready.{ready_floor};
 ghost use Rattle.gem_model.specs.Fire.{fire};
 ghost use Rattle.gem_model.specs.Machines.{fire_floor};
@@ -36,17 +37,17 @@ impl Plant {
     pub fn has_port(&self, port: PortNo) -> bool
         ensures has { result ≡ not (lacks_port port.0 self.now) }
     {
-        self.floor.has_port(port)
+        self.floor.shop().has_port(port)
     }
 
     /// Whether the port of this number is READY TO UNLOAD.
     pub fn is_ready_to_unload(&self, port: PortNo) -> bool
         ensures { result ≡ is_ready_to_unload port.0 self.now }
     {
-        self.floor.is_ready_to_unload(port)
+        self.floor.shop().is_ready_to_unload(port)
     }
 
-    /// What a row of a load port or a carrier does, which starts, but for its note.
+    /// What a row of a load port, a carrier or a module does, which starts, but for its note.
     fn fire_floor(&mut self, f: Firing) -> Result<(), AllocError>
         requires { floor_starts f self.old.floor ≡ true }
         ensures { OnOk result (self.new ≡ fire_floor f self.old) }
@@ -55,21 +56,21 @@ impl Plant {
         Ok(())
     }
 
-    /// The name of the object of a row of a port or a carrier.
+    /// The name of the object of a row of a port, a carrier or a module.
     fn floor_object(&self, f: Firing) -> Text80
         ensures { result ≡ object_name f self.now.floor }
     {
         self.floor.object_name(f)
     }
 
-    /// The least row of the load ports and the carriers that is ready by itself.
+    /// The least row of the load ports, the carriers and the modules that is ready by itself.
     pub(crate) fn least_of_floor(&self) -> Option<Firing>
         ensures { result ≡ ready_floor self.now }
     {
         self.floor.least()
     }
 
-    /// A row of a load port or a carrier fires, which starts, and makes its note.
+    /// A row of a load port, a carrier or a module fires, which starts, and makes its note.
     #[tactic(auto, using(crate::proofs::Floors::row_fires))]
     pub(crate) fn floor_row(&mut self, alloc: Global, f: Firing) -> Result<(), AllocError>
         requires { floor_starts f self.old.floor ≡ true }
@@ -92,28 +93,28 @@ impl Plant {
         requires { lacks_port port.0 self.old ≡ false }
         ensures { self.new ≡ with_arrival port.0 id map self.old }
     {
-        let arrival = self.floor.arrival(port, id, map);
+        let arrival = self.floor.shop().arrival(port, id, map);
         self.floor.come(port, arrival);
     }
 
     /// CAACK of an action on a carrier (SEMI E87, S3F18), where the host commands.
     pub fn carrier_code(&self, action: &CarrierAction) -> Caack
-        ensures { result ≡ carrier_code self.now.floor action.now }
+        ensures { result ≡ carrier_code self.now.floor.shop action.now }
     {
-        self.floor.carrier_code(action)
+        self.floor.shop().carrier_code(action)
     }
 
     /// CAACK of an action on ports (SEMI E87, S3F26 and S3F28), where the host commands.
     pub fn port_code(&self, action: &PortAction) -> Caack
-        ensures { result ≡ port_code self.now.floor action.now }
+        ensures { result ≡ port_code self.now.floor.shop action.now }
     {
-        self.floor.port_code(action)
+        self.floor.shop().port_code(action)
     }
 
     /// An action on a carrier that is accepted writes.
     pub fn write_action(&mut self, action: &CarrierAction) -> Result<(), AllocError>
-        requires { is_done_code (carrier_code self.old.floor action.now) ≡ true }
-        ensures { OnOk result (self.new ≡ record self.old { floor = carrier_written action.now self.old.floor }) }
+        requires { is_done_code (carrier_code self.old.floor.shop action.now) ≡ true }
+        ensures { OnOk result (self.new ≡ record self.old { floor = with_shop (carrier_written action.now self.old.floor.shop) self.old.floor }) }
     {
         self.floor.write(action)?;
         Ok(())
@@ -125,9 +126,9 @@ impl Plant {
         alloc: Global,
         action: &CarrierAction,
     ) -> Result<Vec<Firing>, AllocError>
-        ensures { IfOk result (λ rows. rows.items ≡ carrier_rows action.now self.now.floor) }
+        ensures { IfOk result (λ rows. rows.items ≡ carrier_rows action.now self.now.floor.shop) }
     {
-        Vec::from_slice(alloc, self.floor.carrier_rows(action).as_slice())
+        Vec::from_slice(alloc, self.floor.shop().carrier_rows(action).as_slice())
     }
 
     /// A row of a table at each of these ports.
@@ -143,7 +144,7 @@ impl Plant {
 
     /// The numbers of the ports.
     fn port_numbers(&self) -> ArrayVec<u8, 4>
-        ensures { result.items ≡ numbers_from 1 self.now.floor.ports }
+        ensures { result.items ≡ numbers_from 1 self.now.floor.shop.ports }
     {
         let mut numbers = ArrayVec::from([1, 2, 3, 4]);
         numbers.truncate(self.port_count());
@@ -152,15 +153,15 @@ impl Plant {
 
     /// How many ports there are.
     fn port_count(&self) -> usize
-        ensures count { result ≡ length self.now.floor.ports }
+        ensures count { result ≡ length self.now.floor.shop.ports }
         ensures few { result ≤ 4 }
     {
-        self.floor.port_count()
+        self.floor.shop().port_count()
     }
 
     /// The rows by which the access mode of these ports changes, or that of all where there is none.
     fn access_rows(&self, alloc: Global, mode: u8, ports: &[u8]) -> Result<Vec<Firing>, AllocError>
-        ensures { IfOk result (λ rows. rows.items ≡ at_ports 5 (mode_row mode) (or_all ports.now self.now.floor)) }
+        ensures { IfOk result (λ rows. rows.items ≡ at_ports 5 (mode_row mode) (or_all ports.now self.now.floor.shop)) }
     {
         if ports.is_empty() {
             let numbers = self.port_numbers();
@@ -172,7 +173,7 @@ impl Plant {
 
     /// The direct rows of an action on ports that is accepted.
     pub fn port_rows(&self, alloc: Global, action: &PortAction) -> Result<Vec<Firing>, AllocError>
-        ensures { IfOk result (λ rows. rows.items ≡ port_rows action.now self.now.floor) }
+        ensures { IfOk result (λ rows. rows.items ≡ port_rows action.now self.now.floor.shop) }
     {
         match action {
             PortAction::Reserve(port) => Plant::at_ports(alloc, RESERVATION, 1, &[*port]),

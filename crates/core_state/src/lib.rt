@@ -16,6 +16,7 @@ mod floor;
 mod frames;
 mod host_data;
 mod link;
+mod modules;
 mod notes;
 mod noting;
 mod open_transactions;

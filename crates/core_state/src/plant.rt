@@ -13,11 +13,11 @@ use gem_states::{Comm, Control};
 use hsms_frame::Bytes;
 use hsms_link::{LinkState, Phase, Ping};
 use note_line::{Around, NoteLine, SpooledKinds};
-use shop_floor::ShopFloor;
 use std::alloc::{AllocError, Global};
 use std::collections::VecDeque;
 use std::marker::Model;
 use tool_events::{CommStart, Config, ControlStart, SpoolStreams};
+use tool_floor::ToolFloor;
 use transactions::Transactions;
 
 // The ECIDs of how many spooled notes are sent at the host's request, and of what a full spool drops.
@@ -43,7 +43,7 @@ pub struct Plant {
     pub(crate) reports: Reports,
     pub(crate) alarms: Alarms,
     pub(crate) line: NoteLine,
-    pub(crate) floor: ShopFloor,
+    pub(crate) floor: ToolFloor,
     pub(crate) waiting: VecDeque<Bytes>,
 }
 
@@ -166,7 +166,7 @@ impl Plant {
                 config.spool_capacity,
                 first_kinds(config.spool_streams),
             )?,
-            floor: ShopFloor::new(alloc, config.ports)?,
+            floor: ToolFloor::new(alloc, config.ports, config.chambers)?,
             waiting: VecDeque::new(alloc),
         })
     }

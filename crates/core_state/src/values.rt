@@ -124,10 +124,10 @@ impl Plant {
 
     /// The names of the carriers that belong to ports are texts: what is known of them, for proofs.
     pub(crate) fn named_ports(&self)
-        ensures { AreNamed self.now.floor.ports }
+        ensures { AreNamed self.now.floor.shop.ports }
     {
-        for place in 0..self.floor.port_count() {
-            if let Some(port) = self.floor.port(place) {
+        for place in 0..self.floor.shop().port_count() {
+            if let Some(port) = self.floor.shop().port(place) {
                 prints(&carrier_text(&port));
             }
         }
@@ -157,12 +157,12 @@ impl Plant {
 
     /// The port of a number, counted from 1. `None`: the tool lacks it.
     fn port_numbered(&self, number: u8) -> Option<Port>
-        ensures { result ≡ port_numbered number self.now.floor.ports }
+        ensures { result ≡ port_numbered number self.now.floor.shop.ports }
     {
         if number == 0 {
             return None;
         }
-        self.floor.port((number - 1) as usize)
+        self.floor.shop().port((number - 1) as usize)
     }
 
     /// The value of a status variable. `None`: it is not built, or the tool lacks its port.

@@ -18,6 +18,8 @@ use Rattle.transactions.specs.declared.transaction.Open.{Open}
 use Rattle.transactions.specs.declared.transaction.What.{What}
 use Rattle.transactions.specs.declared.transaction.What.TheVariants as what
 use Rattle.transactions.specs.Table.{Table}
+use Rattle.tool_floor.specs.Machines.{is_creation}
+use Rattle.tool_floor.specs.Floor.{with_shop}
 use Rattle.gem_model.specs.State.{State, Clock, none_asked, without_session}
 use Rattle.gem_model.specs.Values.{Occasion}
 use Rattle.gem_model.specs.Noting.{line_behind, line_with_alarm}
@@ -47,10 +49,10 @@ pub record EachInner (P : State → Type 0) : Type 1 where
   pub kinds : (g : State) (k : SpooledKinds) → P g → P (record g { line = with_kinds k g.line })
   pub answer : (g : State) → P g → P (record g { line = answered_line g.line })
   pub came : (g : State) (port : ℕ) (name : Option (List ℕ)) (slots : List ℕ) → P g → P (with_arrival port name slots g)
-  pub written : (g : State) (a : CarrierAction) → is_done_code (carrier_code g.floor a) ≡ true → P g → P (record g { floor = carrier_written a g.floor })
+  pub written : (g : State) (a : CarrierAction) → is_done_code (carrier_code g.floor.shop a) ≡ true → P g → P (record g { floor = with_shop (carrier_written a g.floor.shop) g.floor })
   pub row : (g : State) (f : Firing) → IsListed f → row_starts g f ≡ true → P g → P (takes_effect g f)
   pub ready : (g : State) (f : Firing) → least g ≡ Some f → P g → P (fire g f)
-  pub created : (g : State) (n : ℕ) → P g → P (fire g (firing 8 n 1))
+  pub created : (g : State) (d : Firing) → is_creation d ≡ true → P g → P (fire g d)
 
 -- the same of all that a step changes
 pub record Each (P : State → Type 0) : Type 1 where

@@ -5,6 +5,7 @@ use Rattle.gem_tables.specs.declared.firing.Firing.{Firing}
 use Rattle.gem_rows.specs.Events.{ceid_of}
 use Rattle.load_port.specs.Ports.{is_no_port}
 use Rattle.shop_floor.specs.Floor.{Floor}
+use Rattle.tool_floor.specs.Floor.{ToolFloor}
 use Rattle.shop_floor.specs.Requests.{at_port, at_ports, creation_of, unbinding, proceeding, cancelling, port_number_of, word_rows, carrier_rows, port_rows, mode_row, or_all, removal}
 use Rattle.carrier.specs.declared.carrier.Carrier.{Carrier}
 use Rattle.carrier.specs.declared.action.CarrierAction.{CarrierAction}
@@ -21,19 +22,22 @@ use Rattle.msgs_300.specs.declared.reply.ShopReply.{ShopReply}
 use Rattle.msgs_300.specs.declared.reply.ShopReply.TheVariants as reply
 use Rattle.gem_model.specs.Shop.{carrier_action, port_word, carrier_caack, port_caack}
 use Rattle.gem_model.specs.Messages.{carrier_done, port_done, shop_done}
-use Rattle.shop_floor.proofs.Shapes.{not_table_1, not_table_2, not_table_3}
 use Rattle.gem_model.specs.State.{State, is_online}
 use Rattle.gem_model.specs.Values.{Occasion}
 use Rattle.gem_model.specs.Machines.{creations, fire_floor, object_name, row_starts, takes_effect}
 use Rattle.gem_model.specs.Noting.{line_behind}
 use Rattle.gem_model.specs.Fire.{fire, fire_all, advanced}
 use Rattle.std.specs.List.{AllByRecursion}
-use Rattle.shop_floor.proofs.Creations.{creations as floor_creations}
-use Rattle.shop_floor.specs.Machines.{floor_starts, creation_rows, floor_least, object_name as floor_object}
+use Rattle.tool_floor.specs.Signals.{at_module, done_rows, done_row}
+use Rattle.tool_floor.specs.Machines.{floor_starts, creation_rows, is_creation, floor_least, object_name as floor_object}
+use Rattle.tool_floor.proofs.Keeping as keeping
+use Rattle.tool_floor.proofs.Keeping.{AreCreations, creation_not, creation_last, not_table_1, not_table_2, not_table_3}
+use Rattle.robot_moves.specs.declared.module.Module.{Module}
+use Rattle.robot_moves.specs.declared.module.Module.TheVariants.{Idle, Busy, Down}
 use Rattle.gem_model.proofs.OnFloor.{starts_as, effect_as, creations_as, object_as}
 use Rattle.gem_model.proofs.Tests.{either_way}
 
--- a row of tables 4 to 10
+-- a row of tables 4 to 10 and 16
 pub record IsFloorRow (f : Firing) : Type 0 where
   pub not_1 : (f.row.table == 1) ≡ false
   pub not_2 : (f.row.table == 2) ≡ false
@@ -135,21 +139,35 @@ action_are (ask.Access mode numbers) f = ports_are (mode_row mode) (or_all numbe
 action_are ask.Unknown f = tt
 
 pub carrier_are : (a : CarrierAction) (g : State) (code : Caack) → AreFloorRows (carrier_done g a code).rows
-carrier_are a g code = either_way AreFloorRows (is_done_code code) (carrier_rows a g.floor) [] (word_are a.word a g.floor) tt
+carrier_are a g code = either_way AreFloorRows (is_done_code code) (carrier_rows a g.floor.shop) [] (word_are a.word a g.floor.shop) tt
 
 pub port_are : (a : PortAction) (g : State) (r : ShopReply) (code : Caack) → AreFloorRows (port_done g a r code).rows
-port_are a g r code = either_way AreFloorRows (is_done_code code) (port_rows a g.floor) [] (action_are a g.floor) tt
+port_are a g r code = either_way AreFloorRows (is_done_code code) (port_rows a g.floor.shop) [] (action_are a g.floor.shop) tt
 
 pub shop_are : (m : Message) (g : State) → AreFloorRows (shop_done g m).rows
 shop_are (S3F17 dataid action carrier number attributes) g = carrier_are (carrier_action action carrier number attributes) g (carrier_caack (carrier_action action carrier number attributes) g)
 shop_are (S3F25 action number value) g = port_are (port_word action number) g (reply.S3F26 (caack_number (port_caack (port_word action number) g))) (port_caack (port_word action number) g)
 shop_are (S3F27 mode numbers) g = port_are (ask.Access mode numbers) g (reply.S3F28 (caack_number (port_caack (ask.Access mode numbers) g))) (port_caack (ask.Access mode numbers) g)
 
+-- ---- modules
+
+is_16 : (n row : ℕ) → IsFloorRow (firing 16 n row)
+is_16 n row = record { not_1 = refl; not_2 = refl; not_3 = refl }
+
+pub module_are : (row number : ℕ) → AreFloorRows (at_module row number)
+module_are row number = (is_16 number row, tt)
+
+pub done_are : (number : ℕ) (m : Option Module) → AreFloorRows (done_rows number m)
+done_are number None = tt
+done_are number (Some Idle) = tt
+done_are number (Some (Busy command fetched)) = module_are (done_row command.task) number
+done_are number (Some Down) = tt
+
 -- ---- what a firing creates
 
--- each row of a created object is row 1 of table 8
-abbrev pub AreCreations : List Firing → Type 0
-AreCreations ds = AllByRecursion (λ (d : Firing). d ≡ firing 8 d.object 1) ds
+-- a row of a created object is one of the floor
+pub creation_is : (d : Firing) → is_creation d ≡ true → IsFloorRow d
+creation_is d is = record { not_1 = creation_not 1 refl d is; not_2 = creation_not 2 refl d is; not_3 = creation_not 3 refl d is }
 
 pub created_are : (g : State) (f : Firing) → AreCreations (creations g f)
 created_are g f = subst AreCreations (sym (creations_as g f)) (of (f.row.table == 1) (f.row.table == 2) (f.row.table == 3)) where
@@ -157,26 +175,26 @@ created_are g f = subst AreCreations (sym (creations_as g f)) (of (f.row.table =
   of true second third = tt
   of false true third = tt
   of false false true = tt
-  of false false false = floor_creations g.floor f
+  of false false false = keeping.creations g.floor f
 
 -- such a row creates no more
-pub creates_no_more : (g : State) (d : Firing) → d ≡ firing 8 d.object 1 → creations g d ≡ []
-creates_no_more g d is = subst (λ (x : Firing). creations g x ≡ []) (sym is) refl
+pub creates_no_more : (g : State) (d : Firing) → is_creation d ≡ true → creations g d ≡ []
+creates_no_more g d is = creations_is g d (creation_is d is) ∙ creation_last g.floor d is
 
 -- what holds of a state behind a firing holds behind what that creates
-pub created_keeps : (P : State → Type 0) → ((g : State) (n : ℕ) → P g → P (fire g (firing 8 n 1))) → (ds : List Firing) → AreCreations ds → (g : State) → P g → P (fire_all ds g)
+pub created_keeps : (P : State → Type 0) → ((g : State) (d : Firing) → is_creation d ≡ true → P g → P (fire g d)) → (ds : List Firing) → AreCreations ds → (g : State) → P g → P (fire_all ds g)
 created_keeps P creates [] are g here = here
 created_keeps P creates (d ∷ ds) are g here =
-    created_keeps P creates ds are.1 (fire g d) (subst (λ (x : Firing). P (fire g x)) (sym are.0) (creates g d.object here))
+    created_keeps P creates ds are.1 (fire g d) (creates g d are.0 here)
 
-pub advanced_keeps : (P : State → Type 0) → ((g : State) (n : ℕ) → P g → P (fire g (firing 8 n 1))) → (g : State) (f : Firing) → P (fire g f) → P (advanced g f)
+pub advanced_keeps : (P : State → Type 0) → ((g : State) (d : Firing) → is_creation d ≡ true → P g → P (fire g d)) → (g : State) (f : Firing) → P (fire g f) → P (advanced g f)
 advanced_keeps P creates g f here = created_keeps P creates (creations g f) (created_are g f) (fire g f) here
 
 -- ---- what the floor leaves alone
 
 -- a fact of states that no change of the floor touches, and no note of an event
 pub record LeftAlone (P : State → Type 0) : Type 1 where
-  pub floor : (g : State) (x : Floor) → P g → P (record g { floor = x })
+  pub floor : (g : State) (x : ToolFloor) → P g → P (record g { floor = x })
   pub noted : (g : State) (event : Option ℕ) (o : Occasion) (online : Bool) → P g → P (record g { line = line_behind event o online g })
 
 pub alone_fire : (P : State → Type 0) → LeftAlone P → (g : State) (f : Firing) → IsFloorRow f → P g → P (fire g f)

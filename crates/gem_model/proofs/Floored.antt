@@ -1,5 +1,5 @@
 -- The load ports and the carriers stay valid, whatever comes: so at most sixteen carriers are known.
-use Rattle.std.proofs.Common.{◌≡◌, ℕ, ◌==◌, ◌≤◌, Bool, true, false, if◌then◌else◌, List, [], ◌∷◌, length, Option, Some, None, option_map, refl, sym, ◌∙◌, subst}
+use Rattle.std.proofs.Common.{◌≡◌, ℕ, ◌==◌, ◌≤◌, Bool, true, false, if◌then◌else◌, List, [], ◌∷◌, length, Option, Some, None, option_map, refl, sym, ◌∙◌, ap, subst}
 use Rattle.std.specs.Option.{option_or}
 use Rattle.gem_tables.specs.Table.{firing, row_of}
 use Rattle.gem_states.specs.Communication.{communication_table, comm_starts}
@@ -14,13 +14,13 @@ use Rattle.spool.specs.declared.note.Note.{Note}
 use Rattle.load_port.specs.Ports.{most_ports}
 use Rattle.carrier.specs.Carriers.{most_carriers}
 use Rattle.shop_floor.specs.Floor.{arrival_of}
-use Rattle.shop_floor.specs.Machines.{floor_starts}
+use Rattle.tool_floor.specs.Machines.{floor_starts, is_creation}
 use Rattle.shop_floor.specs.Valid.{IsFloor}
-use Rattle.shop_floor.proofs.Keeps.{opening-valid, row-keeps, came-keeps}
+use Rattle.shop_floor.proofs.Keeps.{opening-valid, came-keeps}
+use Rattle.tool_floor.specs.Floor.{ToolFloor}
+use Rattle.tool_floor.proofs.Keeping.{row-keeps, creation_same, least_starts}
 use Rattle.shop_floor.proofs.Asked.{written-keeps}
 use Rattle.shop_floor.proofs.Room.{few-carriers}
-use Rattle.shop_floor.proofs.Starts.{least_starts}
-use Rattle.shop_floor.proofs.Creations.{creation_same}
 use Rattle.tool_events.specs.declared.config.Config.{Config}
 use Rattle.tool_events.specs.declared.entry.Entry.{Entry}
 use Rattle.tool_events.specs.declared.event.Event.{Event}
@@ -37,21 +37,21 @@ use Rattle.gem_model.specs.Step.{Outcome, acts}
 use Rattle.gem_model.specs.Run.{Run}
 use Rattle.gem_model.proofs.OnFloor.{effect_as, starts_as}
 use Rattle.gem_model.proofs.Tests.{went, either_way, or_went, none_some}
-use Rattle.gem_model.proofs.FloorRows.{effect_is, ready_is}
+use Rattle.gem_model.proofs.FloorRows.{creation_is, effect_is, ready_is}
 use Rattle.gem_model.proofs.Each.{Each, each_kept}
 use Rattle.gem_model.proofs.Walk.{kept_acts, kept_step}
 use Rattle.gem_model.proofs.Settling.{settled_keeps, settled_along}
 
 -- the ports and the carriers of a state are valid
 abbrev pub Sound : State → Type 0
-Sound g = IsFloor g.floor
+Sound g = IsFloor g.floor.shop
 
 -- the ports and the carriers of a state are those of another
 abbrev SameFloor : State → State → Type 0
 SameFloor g h = h.floor ≡ g.floor
 
 sound_same : (g h : State) → SameFloor g h → Sound g → Sound h
-sound_same g h same valid = subst IsFloor (sym same) valid
+sound_same g h same valid = subst (λ (f : ToolFloor). IsFloor f.shop) (sym same) valid
 
 -- what holds where a test went one way, and of the other way, holds of the way that was taken
 where_true : {A : Type 0} (P : A → Type 0) (b : Bool) (x y : A) → (b ≡ true → P x) → P y → P (if b then x else y)
@@ -113,8 +113,9 @@ sound_automatic g f ready valid =
     (λ _ last. or_went (ready_line g) (ready_floor g) f (λ at. sound_line g (table.least (around g) g.line) f at valid) (λ _ at. sound_ready g f at valid) last) behind)
     (sym (least_is g) ∙ ready)
 
-sound_creation : (g : State) (n : ℕ) → Sound g → Sound (fire g (firing 8 n 1))
-sound_creation g n valid = subst IsFloor (sym (creation_same g.floor n)) valid
+sound_creation : (g : State) (d : Firing) → is_creation d ≡ true → Sound g → Sound (fire g d)
+sound_creation g d is valid =
+    subst (λ (f : ToolFloor). IsFloor f.shop) (sym (ap (λ (k : State). k.floor) (effect_is g d (creation_is d is)) ∙ creation_same g.floor d is)) valid
 
 sound_settled : (g : State) → Sound g → Sound (settled g)
 sound_settled g valid = settled_keeps Sound sound_automatic sound_creation g valid
@@ -138,11 +139,11 @@ sound_each = record {
     alarm = λ g alid valid. valid;
     kinds = λ g k valid. valid;
     answer = λ g valid. valid;
-    came = λ g port name slots valid. came-keeps port (arrival_of port name slots g.floor.carriers) g.floor valid;
-    written = λ g a is valid. written-keeps a g.floor is valid;
+    came = λ g port name slots valid. came-keeps port (arrival_of port name slots g.floor.shop.carriers) g.floor.shop valid;
+    written = λ g a is valid. written-keeps a g.floor.shop is valid;
     row = λ g f listed is valid. subst Sound (sym (effect_as g f)) (by_tables (f.row.table == 1) (f.row.table == 2) (f.row.table == 3) f f.row.row g (sym (starts_as g f) ∙ is) valid);
     ready = λ g f ready valid. sound_automatic g f ready valid;
-    created = λ g n valid. sound_creation g n valid;
+    created = λ g d is valid. sound_creation g d is valid;
   };
   moment = λ g m valid. valid;
   quitting = λ g valid. valid;
@@ -156,13 +157,13 @@ run_sound g [] h valid run = subst Sound (sym run) valid
 run_sound g (e ∷ entries) h valid run = run_sound run.0.after entries h (kept_step Sound (each_kept Sound sound_each) g e.at.0 e.event run.0 valid run.1) run.2
 
 -- where a history leads, the ports and the carriers are valid
-pub run-floor : (c : Config) (entries : List Entry) (h : State) → c.ports ≤ most_ports → Run (opening c) entries h → IsFloor h.floor
+pub run-floor : (c : Config) (entries : List Entry) (h : State) → c.ports ≤ most_ports → Run (opening c) entries h → IsFloor h.floor.shop
 run-floor c entries h ports run = run_sound (opening c) entries h (opening-valid c.ports ports) run
 
 -- so at most sixteen carriers are known
-pub run-carriers : (c : Config) (entries : List Entry) (h : State) → c.ports ≤ most_ports → Run (opening c) entries h → length h.floor.carriers ≤ most_carriers
-run-carriers c entries h ports run = few-carriers h.floor (run-floor c entries h ports run)
+pub run-carriers : (c : Config) (entries : List Entry) (h : State) → c.ports ≤ most_ports → Run (opening c) entries h → length h.floor.shop.carriers ≤ most_carriers
+run-carriers c entries h ports run = few-carriers h.floor.shop (run-floor c entries h ports run)
 
 -- and they are valid in each state that the tool passes while it settles behind an event
-pub run-floor-along : (c : Config) (entries : List Entry) (h : State) (at : ℕ) (e : Event) (o : Outcome) → c.ports ≤ most_ports → Run (opening c) entries h → acts h.moment (raised h at) e ≡ Some o → Along (λ (g : State). IsFloor g.floor) o.after (settling o.after)
+pub run-floor-along : (c : Config) (entries : List Entry) (h : State) (at : ℕ) (e : Event) (o : Outcome) → c.ports ≤ most_ports → Run (opening c) entries h → acts h.moment (raised h at) e ≡ Some o → Along (λ (g : State). IsFloor g.floor.shop) o.after (settling o.after)
 run-floor-along c entries h at e o ports run here = sound_along o.after (kept_acts Sound (each_kept Sound sound_each) h.moment (raised h at) e o (run-floor c entries h ports run) here)

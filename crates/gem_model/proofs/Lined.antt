@@ -28,8 +28,8 @@ use Rattle.gem_model.proofs.Effects.{asks_host, gives_up, least_is}
 use Rattle.gem_model.specs.Step.{Outcome, step, step_from}
 use Rattle.gem_model.proofs.OnFloor.{effect_as, starts_as}
 use Rattle.gem_model.proofs.Tests.{went, either_way, or_went, none_some}
-use Rattle.shop_floor.specs.Machines.{floor_starts}
-use Rattle.gem_model.proofs.FloorRows.{LeftAlone, alone_fire, ready_is, is_8}
+use Rattle.tool_floor.specs.Machines.{floor_starts, is_creation}
+use Rattle.gem_model.proofs.FloorRows.{LeftAlone, alone_fire, ready_is, creation_is}
 use Rattle.gem_model.proofs.Each.{Each, each_kept}
 use Rattle.gem_model.proofs.Walk.{kept_step_from}
 
@@ -123,8 +123,8 @@ lined_automatic g f ready =
     (λ _ last. or_went (ready_line g) (ready_floor g) f (λ at. lined_ready g f _ refl at) (λ _ at. alone_fire (Lined g) (lined_alone g) g f (ready_is g f at) (lined_at g)) last) behind)
     (sym (least_is g) ∙ ready)
 
-lined_creation : (g : State) (n : ℕ) → Lined g (fire g (firing 8 n 1))
-lined_creation g n = alone_fire (Lined g) (lined_alone g) g (firing 8 n 1) (is_8 n 1) (lined_at g)
+lined_creation : (g : State) (d : Firing) → is_creation d ≡ true → Lined g (fire g d)
+lined_creation g d is = alone_fire (Lined g) (lined_alone g) g d (creation_is d is) (lined_at g)
 
 -- ---- a step
 
@@ -149,7 +149,7 @@ lined_each g = record {
     written = λ h a is lined. lined;
     row = λ h f listed is lined. lined_then g h (takes_effect h f) lined (subst (Lined h) (sym (effect_as h f)) (by_tables (f.row.table == 1) (f.row.table == 2) (f.row.table == 3) f f.row.row h listed (sym (starts_as h f) ∙ is)));
     ready = λ h f ready lined. lined_then g h (fire h f) lined (lined_automatic h f ready);
-    created = λ h n lined. lined_then g h (fire h (firing 8 n 1)) lined (lined_creation h n);
+    created = λ h d is lined. lined_then g h (fire h d) lined (lined_creation h d is);
   };
   moment = λ h m lined. lined;
   quitting = λ h lined. lined;

@@ -28,8 +28,11 @@ use Rattle.gem_model.specs.Messages.{done, gem_done, shop_done, remote_done}
 use Rattle.gem_model.specs.Spooling.{unload_rows}
 use Rattle.gem_model.specs.Direct.{Are, IsListed, by_comm, by_control, note_fails, attempt_fails, all_fail, operator_rows, answer_rows, timeout_rows, session_end_rows, establish_answer, attempt_answer}
 use Rattle.gem_model.proofs.Tests.{either_way}
-use Rattle.gem_model.proofs.FloorRows.{IsFloorRow, AreFloorRows, placing_are, removal_are, shop_are, service_are, access_are, advanced_keeps}
+use Rattle.gem_model.proofs.FloorRows.{IsFloorRow, AreFloorRows, module_are, done_are, placing_are, removal_are, shop_are, service_are, access_are, advanced_keeps}
 use Rattle.shop_floor.specs.Requests.{at_port, removal}
+use Rattle.robot_moves.specs.declared.module.Module.{Module}
+use Rattle.tool_floor.specs.Machines.{is_creation}
+use Rattle.tool_floor.specs.Signals.{at_module, done_rows}
 
 pub are_both : (Is : Firing → Type 0) (fs gs : List Firing) → Are Is fs → Are Is gs → Are Is (fs ++ gs)
 are_both Is [] gs first next = next
@@ -59,7 +62,7 @@ where_starts Q false x y at_x at_y = at_y
 module _ (P : State → Type 0) (Is : Firing → Type 0)
     (noted : (g : State) (e : Option ℕ) (o : Occasion) (online : Bool) → P g → P (record g { line = line_behind e o online g }))
     (row : (g : State) (f : Firing) → Is f → row_starts g f ≡ true → P g → P (takes_effect g f))
-    (created : (g : State) (n : ℕ) → P g → P (fire g (firing 8 n 1)))
+    (created : (g : State) (d : Firing) → is_creation d ≡ true → P g → P (fire g d))
   where
     fired_keeps : (g : State) (f : Firing) → Is f → row_starts g f ≡ true → P g → P (fire g f)
     fired_keeps g f is starts at =
@@ -176,3 +179,9 @@ free_placing port g = of_floor (at_port 4 3 port) (placing_are port)
 
 pub free_removal : (port : ℕ) (g : State) → AreFree (removal port)
 free_removal port g = of_floor (removal port) (removal_are port)
+
+pub free_module : (row number : ℕ) → AreFree (at_module row number)
+free_module row number = of_floor (at_module row number) (module_are row number)
+
+pub free_done : (number : ℕ) (m : Option Module) → AreFree (done_rows number m)
+free_done number m = of_floor (done_rows number m) (done_are number m)

@@ -55,7 +55,8 @@ use Rattle.gem_model.proofs.OnFloor.{effect_as}
 use Rattle.gem_model.proofs.Tests.{went, either_way, or_went, none_some}
 use Rattle.gem_model.proofs.LineRows.{line_went, opened_by, oldest_opened, head_opened}
 use Rattle.gem_model.specs.Noting.{line_behind}
-use Rattle.gem_model.proofs.FloorRows.{advanced_keeps, LeftAlone, alone_fire, effect_is, ready_is, is_8}
+use Rattle.tool_floor.specs.Machines.{is_creation}
+use Rattle.gem_model.proofs.FloorRows.{advanced_keeps, LeftAlone, alone_fire, effect_is, ready_is, creation_is}
 use Rattle.gem_model.proofs.Lined.{line_comm, line_control}
 use Rattle.gem_model.proofs.Room.{Few, same_open, same_alarm, same_kinds, no_talk, cannot_note, few-room, few_kept}
 use Rattle.gem_model.proofs.Listed.{IsFree, free_enabled, free_met, free_attempted, free_off_line, free_elsewhere, free_unload, free_purge, free_floor}
@@ -215,8 +216,10 @@ with_control ns g row is =
 abbrev IsQuiet : Firing → Type 0
 IsQuiet f = ((f.row.table == 3) ≡ false) × ((f.row.table == 1) ≡ true → spares (row_of (communication_table 0) f.row.row) ≡ true)
 
-quiet_8 : (n : ℕ) → IsQuiet (firing 8 n 1)
-quiet_8 n = (refl, λ is. absurd (cc))
+quiet_creation : (d : Firing) → is_creation d ≡ true → IsQuiet d
+quiet_creation d made =
+    let is = creation_is d made in
+    (is.not_3, λ first. absurd (let clash : true ≡ false = sym first ∙ is.not_1 in cc))
 
 with_fire : (ns : List ℕ) (g : State) (f : Firing) → IsQuiet f → With ns g.transactions.opened → With ns (fire g f).transactions.opened
 with_fire ns g f quiet is = subst (λ (h : State). With ns h.transactions.opened) (sym (effect_as g f)) (of (f.row.table == 1) (f.row.table == 2) (f.row.table == 3) quiet.0 quiet.1) where
@@ -248,14 +251,14 @@ with_listed ns [] quiet g is = is
 with_listed ns (f ∷ fs) quiet g is =
     with_listed ns fs quiet.1 (if row_starts g f then advanced g f else g)
     (either_way (λ (h : State). With ns h.transactions.opened) (row_starts g f) (advanced g f) g
-    (advanced_keeps (λ (h : State). With ns h.transactions.opened) (λ h n is. with_fire ns h (firing 8 n 1) (quiet_8 n) is) g f (with_fire ns g f quiet.0 is)) is)
+    (advanced_keeps (λ (h : State). With ns h.transactions.opened) (λ h d made is. with_fire ns h d (quiet_creation d made) is) g f (with_fire ns g f quiet.0 is)) is)
 
 open_listed : (fs : List Firing) → AreQuiet fs → (g : State) → (fire_listed fs g).line.opened ≡ g.line.opened
 open_listed [] quiet g = refl
 open_listed (f ∷ fs) quiet g =
     open_listed fs quiet.1 (if row_starts g f then advanced g f else g)
     ∙ either_way (λ (h : State). h.line.opened ≡ g.line.opened) (row_starts g f) (advanced g f) g
-    (advanced_keeps (λ (h : State). h.line.opened ≡ g.line.opened) (λ h n same. open_fire h (firing 8 n 1) (quiet_8 n) ∙ same) g f (open_fire g f quiet.0)) refl
+    (advanced_keeps (λ (h : State). h.line.opened ≡ g.line.opened) (λ h d made same. open_fire h d (quiet_creation d made) ∙ same) g f (open_fire g f quiet.0)) refl
 
 quiet_control : (rows : List ℕ) → AreQuiet (of_control rows)
 quiet_control [] = tt
@@ -467,7 +470,7 @@ both_kept = record {
     written = λ g a is both. both;
     row = λ g f free is both. (few_kept.inner.row g f free is both.0, own_row g f free both.1);
     ready = λ g f ready both. (few_kept.inner.ready g f ready both.0, own_automatic g f ready both.0 both.1);
-    created = λ g n both. (few_kept.inner.created g n both.0, alone_fire Own own_alone g (firing 8 n 1) (is_8 n 1) both.1);
+    created = λ g d is both. (few_kept.inner.created g d is both.0, alone_fire Own own_alone g d (creation_is d is) both.1);
     answered = λ g h item test one found both. (few_kept.inner.answered g h item test one found both.0, own_closed g h item test (Some one) found both.1);
     failed = λ g test one found both. (few_kept.inner.failed g test one found both.0, own_timed_out g test one found both.1);
     disabled = λ g both. (few_kept.inner.disabled g both.0, own_disabled g both.0 both.1);

@@ -1,4 +1,4 @@
--- The tables of the shop floor as tables of the tool, and the words of all tables as tests of the table's number.
+-- The tables of the floor of the tool as tables of the tool, and the words of all tables as tests of the table's number.
 use Rattle.std.proofs.Common.{◌≡◌, ℕ, ◌==◌, Bool, true, false, if◌then◌else◌, List, [], ◌∷◌, map, Option, Some, None, option_map, refl, sym, ◌∙◌, ap}
 use Rattle.std.specs.Option.{option_or}
 use Rattle.gem_tables.specs.Table.{firing}
@@ -7,33 +7,33 @@ use Rattle.gem_tables.specs.declared.firing.Firing.{Firing}
 use Rattle.gem_states.specs.Communication.{comm_starts}
 use Rattle.gem_states.specs.Control.{control_starts}
 use Rattle.note_line.specs.Table3.{line_starts}
-use Rattle.shop_floor.specs.Floor.{Floor}
-use Rattle.shop_floor.specs.Machines.{floor_machines, floor_starts, floor_fired, creation_rows, floor_least, object_name as floor_object}
+use Rattle.tool_floor.specs.Floor.{ToolFloor}
+use Rattle.tool_floor.specs.Machines.{floor_machines, floor_starts, floor_fired, creation_rows, floor_least, object_name as floor_object}
 use Rattle.gem_model.specs.State.{State, around}
 use Rattle.gem_model.specs.Effects.{fire_comm, fire_control, fire_line}
 use Rattle.gem_model.specs.Machines.{on_floor, row_starts, takes_effect, creations, object_name, fire_floor}
 
 module _ (f : Firing) (g : State) where
-  starts_there : (ms : List (Machine Floor)) → starts_in (map on_floor ms) f g ≡ starts_in ms f g.floor
+  starts_there : (ms : List (Machine ToolFloor)) → starts_in (map on_floor ms) f g ≡ starts_in ms f g.floor
   starts_there [] = refl
   starts_there (m ∷ ms) = ap (λ (b : Bool). if f.row.table == m.table then m.starts f.row.row f.object g.floor else b) (starts_there ms)
 
-  creates_there : (ms : List (Machine Floor)) → creates_in (map on_floor ms) f g ≡ creates_in ms f g.floor
+  creates_there : (ms : List (Machine ToolFloor)) → creates_in (map on_floor ms) f g ≡ creates_in ms f g.floor
   creates_there [] = refl
   creates_there (m ∷ ms) = ap (λ (xs : List Firing). if f.row.table == m.table then m.creates f.row.row f.object g.floor else xs) (creates_there ms)
 
-  object_there : (ms : List (Machine Floor)) → object_in (map on_floor ms) f g ≡ object_in ms f g.floor
+  object_there : (ms : List (Machine ToolFloor)) → object_in (map on_floor ms) f g ≡ object_in ms f g.floor
   object_there [] = refl
   object_there (m ∷ ms) = ap (λ (xs : List ℕ). if f.row.table == m.table then m.name f.object g.floor else xs) (object_there ms)
 
-  fired_there : (ms : List (Machine Floor)) → fired_in (map on_floor ms) f g ≡ record g { floor = fired_in ms f g.floor }
+  fired_there : (ms : List (Machine ToolFloor)) → fired_in (map on_floor ms) f g ≡ record g { floor = fired_in ms f g.floor }
   fired_there [] = refl
   fired_there (m ∷ ms) = of (f.row.table == m.table) (fired_there ms) where
     of : (b : Bool) → fired_in (map on_floor ms) f g ≡ record g { floor = fired_in ms f g.floor } → (if b then record g { floor = m.fired f.row.row f.object g.floor } else fired_in (map on_floor ms) f g) ≡ record g { floor = if b then m.fired f.row.row f.object g.floor else fired_in ms f g.floor }
     of true rest = refl
     of false rest = rest
 
-pub least_there : (g : State) (ms : List (Machine Floor)) → least_in (map on_floor ms) g ≡ least_in ms g.floor
+pub least_there : (g : State) (ms : List (Machine ToolFloor)) → least_in (map on_floor ms) g ≡ least_in ms g.floor
 least_there g [] = refl
 least_there g (m ∷ ms) = ap (λ (x : Option Firing). option_or (first_ready m.table (λ object. m.ready object g.floor) (m.objects g.floor)) x) (least_there g ms)
 

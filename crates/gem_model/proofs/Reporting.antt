@@ -28,7 +28,10 @@ use Rattle.msgs_300.specs.Primaries.{Message, S3F17, S3F25, S3F27}
 use Rattle.shop_floor.specs.Requests.{carrier_written}
 use Rattle.load_port.specs.Caack.{is_done_code}
 use Rattle.gem_model.specs.Shop.{carrier_action, carrier_caack}
-use Rattle.gem_model.specs.Signals.{lacks_port, port_row_starts, port_alarm, with_arrival, placed, removed, signalled, is_ready_to_unload}
+use Rattle.gem_model.specs.Signals.{lacks_port, port_row_starts, port_alarm, with_arrival, placed, removed, lacks_module, module_of, module_alarm, answer_alarm, module_done, module_failed, module_down, signalled, is_ready_to_unload}
+use Rattle.robot_moves.specs.Modules.{is_open, is_up as is_up_module}
+use Rattle.tool_floor.specs.Floor.{with_shop}
+use Rattle.tool_floor.specs.Signals.{at_module, done_rows}
 use Rattle.spool.specs.declared.note.Kind.{Kind}
 use Rattle.spool.specs.declared.note.Kind.TheVariants.{Event, Alarm}
 use Rattle.spool.specs.declared.note.Note.{Note}
@@ -71,10 +74,10 @@ use Rattle.gem_model.specs.Act.{note_answered, replied, taken, closed_by, data_a
 use Rattle.gem_model.specs.Due.{Due, EndOfSession, Linktest, Timeout, dues, is_due, due_done, all_done}
 use Rattle.gem_model.specs.Settle.{settling, settled}
 use Rattle.gem_model.specs.Step as steps
-use Rattle.gem_model.specs.Step.{Outcome, answered, ends, ended_by, step, step_from, acts, linked, hosted, can_clear, operated, switched, quits, settles}
+use Rattle.gem_model.specs.Step.{Outcome, answered, ends, ended_by, step, step_from, acts, linked, hosted, can_clear, can_come_up, operated, switched, quits, settles}
 use Rattle.gem_model.specs.Run.{Run, entry_after}
 use Rattle.gem_model.specs.OpenNotes.{sends_note, Carries, of_other, of_note, open_behind, frames_behind}
-use Rattle.gem_model.specs.Reported.{Reported, told_as, event_report, occasion, alarm_report, by_change, IsOf, by_event, by_firing, by_firings, by_advance, by_listed, by_rows, by_settling, by_clearing, by_setting, by_placed, by_removed, by_signal, by_decision, by_message, by_message_rows, by_taken, by_closing, by_data, by_session_end, by_host, by_switched, by_operator, by_due, by_dues, by_act, by_settling_behind, by_step_from, by_step, reported_in}
+use Rattle.gem_model.specs.Reported.{Reported, told_as, event_report, occasion, alarm_report, by_change, IsOf, by_event, by_firing, by_firings, by_advance, by_listed, by_rows, by_settling, by_clearing, by_setting, by_placed, by_removed, by_done, by_failed, by_down, by_signal, by_decision, by_message, by_message_rows, by_taken, by_closing, by_data, by_session_end, by_host, by_switched, by_operator, by_due, by_dues, by_act, by_settling_behind, by_step_from, by_step, reported_in}
 use Rattle.gem_model.proofs.Tests.{went, either_way, none_some}
 use Rattle.gem_model.proofs.Effects.{comm_effect_case, control_effect_case}
 use Rattle.gem_model.proofs.Lined.{line_comm, line_control}
@@ -294,10 +297,36 @@ tells_removed g port =
     (by_listed (removal port) g) (by_setting (port_alarm port) g)
     (tells_listed (removal port) g) (tells_set g (port_alarm port))
 
+tells_module_done : (g : State) (number command : ℕ) → Tells g (by_done number command g) (module_done number command g)
+tells_module_done g number command =
+    both_ways g (is_open command (module_of number g)) (fire_listed (done_rows number (module_of number g)) g) (sets_alarm answer_alarm g)
+    (by_listed (done_rows number (module_of number g)) g) (by_setting answer_alarm g)
+    (tells_listed (done_rows number (module_of number g)) g) (tells_set g answer_alarm)
+
+-- the alarm of a module is set, and then a row fires
+tells_alarm_row : (g : State) (row number : ℕ) → Tells g (by_setting (module_alarm number) g ++ by_listed (at_module row number) (sets_alarm (module_alarm number) g)) (fire_listed (at_module row number) (sets_alarm (module_alarm number) g))
+tells_alarm_row g row number =
+    tells_then g (sets_alarm (module_alarm number) g) (fire_listed (at_module row number) (sets_alarm (module_alarm number) g)) _ _
+    (tells_set g (module_alarm number)) (tells_listed (at_module row number) (sets_alarm (module_alarm number) g))
+
+tells_module_failed : (g : State) (number command : ℕ) → Tells g (by_failed number command g) (module_failed number command g)
+tells_module_failed g number command =
+    both_ways g (is_open command (module_of number g)) (fire_listed (at_module 8 number) (sets_alarm (module_alarm number) g)) (sets_alarm answer_alarm g)
+    (by_setting (module_alarm number) g ++ by_listed (at_module 8 number) (sets_alarm (module_alarm number) g)) (by_setting answer_alarm g)
+    (tells_alarm_row g 8 number) (tells_set g answer_alarm)
+
+tells_module_down : (g : State) (number : ℕ) → Tells g (by_down number g) (module_down number g)
+tells_module_down g number =
+    both_ways g (is_up_module (module_of number g)) (fire_listed (at_module 9 number) (sets_alarm (module_alarm number) g)) g
+    (by_setting (module_alarm number) g ++ by_listed (at_module 9 number) (sets_alarm (module_alarm number) g)) []
+    (tells_alarm_row g 9 number) (tells_at g)
+
 tells_signalled : (s : Signal) (g : State) → Tells g (by_signal s g) (signalled s g)
 tells_signalled (equipment.Placed port name slots) g = both_ways g (lacks_port port.0 g) g (placed port.0 name slots g) [] (by_placed port.0 name slots g) (tells_at g) (tells_placed g port.0 name slots)
 tells_signalled (equipment.Removed port) g = both_ways g (lacks_port port.0 g) g (removed port.0 g) [] (by_removed port.0 g) (tells_at g) (tells_removed g port.0)
-tells_signalled _ g = tells_at g
+tells_signalled (equipment.Done number command) g = both_ways g (lacks_module number.0 g) g (module_done number.0 command.0 g) [] (by_done number.0 command.0 g) (tells_at g) (tells_module_done g number.0 command.0)
+tells_signalled (equipment.Failed number command) g = both_ways g (lacks_module number.0 g) g (module_failed number.0 command.0 g) [] (by_failed number.0 command.0 g) (tells_at g) (tells_module_failed g number.0 command.0)
+tells_signalled (equipment.Down number) g = both_ways g (lacks_module number.0 g) g (module_down number.0 g) [] (by_down number.0 g) (tells_at g) (tells_module_down g number.0)
 
 -- ---- data messages
 
@@ -328,7 +357,7 @@ tells_gem g _ = tells_at g
 tells_shop : (g : State) (m : Message) → Tells g [] (shop_done g m).after
 tells_shop g (S3F17 dataid action carrier number attributes) =
     let a = carrier_action action carrier number attributes in
-    either_way (Tells g []) (is_done_code (carrier_caack a g)) (record g { floor = carrier_written a g.floor }) g (tells_at g) (tells_at g)
+    either_way (Tells g []) (is_done_code (carrier_caack a g)) (record g { floor = with_shop (carrier_written a g.floor.shop) g.floor }) g (tells_at g) (tells_at g)
 tells_shop g (S3F25 action number value) = tells_at g
 tells_shop g (S3F27 mode numbers) = tells_at g
 
@@ -389,6 +418,7 @@ tells_ended g =
 
 tells_switched : (command : OperCmd) (g : State) → Tells g (by_switched command g) (switched command g)
 tells_switched (oper.Clear n) g = both_ways g (can_clear n g) (clears_alarm n g) g (by_clearing n g) [] (tells_cleared g n) (tells_at g)
+tells_switched (oper.Up number) g = both_ways g (can_come_up number.0 g) (clears_alarm (module_alarm number.0) g) g (by_clearing (module_alarm number.0) g) [] (tells_cleared g (module_alarm number.0)) (tells_at g)
 tells_switched _ g = tells_at g
 
 -- to the state of an outcome, notes of these are made

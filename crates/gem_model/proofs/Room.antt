@@ -37,6 +37,7 @@ use Rattle.transactions.specs.declared.transaction.What.TheVariants as what
 use Rattle.transactions.specs.Table.{Table, is_full, taken_out}
 use Rattle.transactions.specs.SystemBytes.{drawn, with_started}
 use Rattle.transactions.specs.Endings.{same_kind, first_of}
+use Rattle.tool_floor.specs.Machines.{is_creation}
 use Rattle.gem_model.specs.State.{State, t3, is_selected, is_communicating, is_online, around, can_ask, without_session, with_frame}
 use Rattle.gem_model.specs.Sending.{asks, identity_text, data_frame}
 use Rattle.gem_model.specs.Fire.{fire, advanced, fires, fire_listed, of_control}
@@ -57,7 +58,7 @@ use Rattle.gem_model.specs.Step.{Outcome, step_from, acts}
 use Rattle.gem_model.specs.Valid.{is_wait_cra, establishes, attempts, is_note, notes, count_of}
 use Rattle.gem_model.proofs.Tests.{went, either_way, or_went, and_parts_of, none_some}
 use Rattle.gem_model.proofs.LineRows.{line_went, opened_by, oldest_opened, head_opened}
-use Rattle.gem_model.proofs.FloorRows.{LeftAlone, alone_fire, effect_is, ready_is, is_8, advanced_keeps}
+use Rattle.gem_model.proofs.FloorRows.{LeftAlone, alone_fire, effect_is, ready_is, creation_is, advanced_keeps}
 use Rattle.gem_model.proofs.Settling.{settled_along, waits, fired_3}
 use Rattle.gem_model.proofs.Listed.{IsFree, free_enabled, free_met, free_attempted, free_off_line, free_elsewhere, free_unload, free_purge, free_floor}
 use Rattle.gem_model.proofs.Walk.{Kept, out_of, told_of, kept_acts, kept_step_from}
@@ -249,8 +250,8 @@ few_alone = record {
   noted = λ g event o online few. few-line g (line_behind event o online g) (same_open event o online g) few;
 }
 
-pub few_creation : (g : State) (n : ℕ) → Few g → Few (fire g (firing 8 n 1))
-few_creation g n few = alone_fire Few few_alone g (firing 8 n 1) (is_8 n 1) few
+pub few_creation : (g : State) (d : Firing) → is_creation d ≡ true → Few g → Few (fire g d)
+few_creation g d is few = alone_fire Few few_alone g d (creation_is d is) few
 
 few-one : (f : Firing) (g : State) → Few g → (row_starts g f ≡ true → Few (takes_effect g f)) → Few (fire_listed (f ∷ []) g)
 few-one f g few fired = few_where (row_starts g f) (advanced g f) g (λ is. advanced_keeps Few few_creation g f (few_fire g f (fired is))) (λ _. few)

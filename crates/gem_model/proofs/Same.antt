@@ -1,5 +1,5 @@
 -- What a change of the state leaves alone: the configuration, the link, and whether the run was ended.
-use Rattle.std.proofs.Common.{◌≡◌, ℕ, ◌==◌, Bool, if◌then◌else◌, List, [], ◌∷◌, refl, sym, subst, ◌∙◌}
+use Rattle.std.proofs.Common.{◌≡◌, ℕ, ◌==◌, Bool, true, if◌then◌else◌, List, [], ◌∷◌, refl, sym, subst, ◌∙◌}
 use Rattle.hsms_frame.specs.declared.frame.Arrival.{Arrival}
 use Rattle.tool_events.specs.declared.event.OperCmd.{OperCmd}
 use Rattle.transactions.specs.declared.transaction.What.{What}
@@ -10,6 +10,7 @@ use Rattle.transactions.specs.declared.transaction.Open.{Open}
 use Rattle.gem_tables.specs.Table.{firing, row_of}
 use Rattle.gem_states.specs.Communication.{communication_table}
 use Rattle.gem_states.specs.Control.{control_table}
+use Rattle.tool_floor.specs.Machines.{is_creation}
 use Rattle.gem_model.proofs.Effects.{comm_effect_case, control_effect_case}
 use Rattle.gem_model.proofs.FloorRows.{advanced_keeps}
 use Rattle.gem_tables.specs.declared.firing.Firing.{Firing}
@@ -91,8 +92,8 @@ same_effect g f =
 pub same_fire : (g : State) (f : Firing) → Same g (fire g f)
 same_fire g f = let effect = same_effect g f in record { config = effect.config; link = effect.link; quitting = effect.quitting }
 
-same_created : (g h : State) (n : ℕ) → Same g h → Same g (fire h (firing 8 n 1))
-same_created g h n same = same_then g h (fire h (firing 8 n 1)) same (same_fire h (firing 8 n 1))
+same_created : (g h : State) (d : Firing) → is_creation d ≡ true → Same g h → Same g (fire h d)
+same_created g h d is same = same_then g h (fire h d) same (same_fire h d)
 
 same_advanced : (g : State) (f : Firing) → Same g (advanced g f)
 same_advanced g f = advanced_keeps (Same g) (same_created g) g f (same_fire g f)

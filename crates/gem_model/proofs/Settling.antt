@@ -23,10 +23,9 @@ use Rattle.gem_model.specs.State.{State, is_online, around}
 use Rattle.gem_model.specs.Values.{Occasion, value_of}
 use Rattle.gem_model.specs.Machines.{object_name, fire_floor, takes_effect, creations, least}
 use Rattle.gem_model.specs.Noting.{line_with_event, line_behind, is_event_reported, event_text}
-use Rattle.shop_floor.specs.Machines.{floor_least, floor_fired, creation_rows}
-use Rattle.shop_floor.specs.Left.{floor_left}
-use Rattle.shop_floor.proofs.Falls.{least_falls as floor_falls}
-use Rattle.shop_floor.proofs.Creations.{creation_same}
+use Rattle.tool_floor.specs.Machines.{floor_least, floor_fired, creation_rows, is_creation}
+use Rattle.tool_floor.specs.Left.{floor_left}
+use Rattle.tool_floor.proofs.Keeping.{AreCreations, least_falls as floor_falls, creation_same}
 use Rattle.gem_model.specs.Fire.{fire, fire_all, advanced}
 use Rattle.gem_model.specs.Effects.{asks_first, line_effect}
 use Rattle.gem_model.specs.Ready.{ready_line, ready_floor}
@@ -35,7 +34,7 @@ use Rattle.gem_model.proofs.Effects.{asks_host, gives_up, least_is}
 use Rattle.gem_model.specs.Measure.{left, is_wait_delay, one_if}
 use Rattle.gem_model.specs.Settle.{Path, Settles, settling, settling_by, settled, Along}
 use Rattle.gem_model.proofs.LineRows.{line_went, event_weight, told_enough}
-use Rattle.gem_model.proofs.FloorRows.{AreCreations, effect_is, creations_is, ready_is, created_are, creates_no_more, advanced_keeps}
+use Rattle.gem_model.proofs.FloorRows.{creation_is, effect_is, creations_is, ready_is, created_are, creates_no_more, advanced_keeps}
 use Rattle.gem_model.proofs.Tests.{went, either_way, or_went, and_parts_of, none_some}
 
 -- ---- the measure falls
@@ -178,8 +177,9 @@ record MovedBy (g h : State) (n : ℕ) : Type 0 where
 moved_all : (ds : List Firing) → AreCreations ds → (g : State) → MovedBy g (fire_all ds g) (length ds)
 moved_all [] are g = record { comm = refl; control = refl; floor = refl; line = omega arith }
 moved_all (d ∷ ds) are g =
-    let one : Moved g (fire g d) = subst (λ (x : Firing). Moved g (fire g x)) (sym are.0) (moved_fire g (firing 8 d.object 1) refl) in
-    let floor : (fire g d).floor ≡ g.floor = subst (λ (x : Firing). (fire g x).floor ≡ g.floor) (sym are.0) (creation_same g.floor d.object) in
+    let is = effect_is g d (creation_is d are.0) in
+    let one : Moved g (fire g d) = moved_fire g d is in
+    let floor : (fire g d).floor ≡ g.floor = ap (λ (k : State). k.floor) is ∙ creation_same g.floor d are.0 in
     let rest = moved_all ds are.1 (fire g d) in
     record {
       comm = rest.comm ∙ one.comm;
@@ -258,16 +258,16 @@ settled_within P keeps (suc n) g (Some f) is fits here =
     (settled_within P keeps n (advanced g f) (least (advanced g f)) refl (omega (arith, left_falls g f is)) (keeps g f is here))
 
 -- what holds of a state, of each that an automatic firing leads to, and behind each creation, holds of the settled one
-pub settled_keeps : (P : State → Type 0) → ((g : State) (f : Firing) → least g ≡ Some f → P g → P (fire g f)) → ((g : State) (n : ℕ) → P g → P (fire g (firing 8 n 1))) → (g : State) → P g → P (settled g)
+pub settled_keeps : (P : State → Type 0) → ((g : State) (f : Firing) → least g ≡ Some f → P g → P (fire g f)) → ((g : State) (d : Firing) → is_creation d ≡ true → P g → P (fire g d)) → (g : State) → P g → P (settled g)
 settled_keeps P keeps creates g here =
     settled_within P (λ h f ready at. advanced_keeps P creates h f (keeps h f ready at)) (left g) g (least g) refl (omega arith) here
 
-along_made : (P Q : State → Type 0) → ((h : State) → P h → Q h) → ((g : State) (n : ℕ) → P g → P (fire g (firing 8 n 1))) → (ds : List Firing) → AreCreations ds → (g : State) (fs : List Firing) → P g → Along Q (fire_all ds g) fs → Along Q g (ds ++ fs)
+along_made : (P Q : State → Type 0) → ((h : State) → P h → Q h) → ((g : State) (d : Firing) → is_creation d ≡ true → P g → P (fire g d)) → (ds : List Firing) → AreCreations ds → (g : State) (fs : List Firing) → P g → Along Q (fire_all ds g) fs → Along Q g (ds ++ fs)
 along_made P Q says creates [] are g fs here rest = rest
 along_made P Q says creates (d ∷ ds) are g fs here rest =
-    (says g here, along_made P Q says creates ds are.1 (fire g d) fs (subst (λ (x : Firing). P (fire g x)) (sym are.0) (creates g d.object here)) rest)
+    (says g here, along_made P Q says creates ds are.1 (fire g d) fs (creates g d are.0 here) rest)
 
-along_within : (P Q : State → Type 0) → ((h : State) → P h → Q h) → ((g : State) (f : Firing) → least g ≡ Some f → P g → P (fire g f)) → ((g : State) (n : ℕ) → P g → P (fire g (firing 8 n 1))) → (n : ℕ) (g : State) (f : Option Firing) → least g ≡ f → P g → Along Q g (settling_by n g f)
+along_within : (P Q : State → Type 0) → ((h : State) → P h → Q h) → ((g : State) (f : Firing) → least g ≡ Some f → P g → P (fire g f)) → ((g : State) (d : Firing) → is_creation d ≡ true → P g → P (fire g d)) → (n : ℕ) (g : State) (f : Option Firing) → least g ≡ f → P g → Along Q g (settling_by n g f)
 along_within P Q says keeps creates n g None is here = says g here
 along_within P Q says keeps creates zero g (Some f) is here = says g here
 along_within P Q says keeps creates (suc n) g (Some f) is here =
@@ -275,11 +275,11 @@ along_within P Q says keeps creates (suc n) g (Some f) is here =
     (says g here, along_made P Q says creates (creations g f) (created_are g f) (fire g f) (settling_by n (advanced g f) (least (advanced g f))) next (along_within P Q says keeps creates n (advanced g f) (least (advanced g f)) refl (advanced_keeps P creates g f next)))
 
 -- what each firing keeps holds on the way to the settled state
-pub settled_along : (P Q : State → Type 0) → ((h : State) → P h → Q h) → ((g : State) (f : Firing) → least g ≡ Some f → P g → P (fire g f)) → ((g : State) (n : ℕ) → P g → P (fire g (firing 8 n 1))) → (g : State) → P g → Along Q g (settling g)
+pub settled_along : (P Q : State → Type 0) → ((h : State) → P h → Q h) → ((g : State) (f : Firing) → least g ≡ Some f → P g → P (fire g f)) → ((g : State) (d : Firing) → is_creation d ≡ true → P g → P (fire g d)) → (g : State) → P g → Along Q g (settling g)
 settled_along P Q says keeps creates g here = along_within P Q says keeps creates (left g) g (least g) refl here
 
 -- the rows that are due behind such a row are those that were due behind it
-due_behind : (g : State) (d : Firing) (ds : List Firing) → d ≡ firing 8 d.object 1 → creations g d ++ ds ≡ ds
+due_behind : (g : State) (d : Firing) (ds : List Firing) → is_creation d ≡ true → creations g d ++ ds ≡ ds
 due_behind g d ds is = ap (λ (cs : List Firing). cs ++ ds) (creates_no_more g d is)
 
 -- a path goes on behind what a firing creates

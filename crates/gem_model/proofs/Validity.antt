@@ -37,7 +37,7 @@ use Rattle.gem_model.specs.Step.{Outcome, step, step_from, acts, settles}
 use Rattle.gem_model.specs.OpenNotes.{NotBelow, NeverBack, IsOther, open_behind}
 use Rattle.gem_model.specs.Run.{Run}
 use Rattle.gem_model.specs.Valid.{Valid}
-use Rattle.shop_floor.proofs.Quiet.{opening_quiet}
+use Rattle.tool_floor.proofs.Keeping.{opening_quiet}
 use Rattle.gem_model.proofs.Tests.{went, none_some}
 use Rattle.gem_model.proofs.Settling.{settles_so}
 use Rattle.gem_model.proofs.Runs.{after-step}
@@ -152,7 +152,7 @@ opening_valid c = record {
   settled = least_is (opening c)
       ∙ ap (λ (x : Option Firing). option_or x (option_or (gives_up (opening c)) (ready_floor (opening c)))) (never _ false _ refl)
       ∙ ap (λ (x : Option Firing). option_or x (ready_floor (opening c))) (never_first (is_attempt (first_control c.control)) _ _ (no_attempt c.control))
-      ∙ opening_quiet c.ports;
+      ∙ opening_quiet c.ports c.chambers;
   quit = λ _. refl;
   establish = omega arith;
   attempt = omega arith;

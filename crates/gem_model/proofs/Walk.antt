@@ -49,17 +49,21 @@ use Rattle.gem_model.specs.HostMessages.{HostMessage, Gem, Shop, reply_text}
 use Rattle.gem_model.specs.Messages.{done, gem_done, shop_done, remote_done, carrier_action_done, clock_set}
 use Rattle.gem_model.specs.Spooling.{rspack}
 use Rattle.gem_model.specs.Shop.{is_local, carrier_caack, carrier_action}
-use Rattle.gem_model.specs.Signals.{lacks_port, port_row_starts, port_alarm, with_arrival, placed, removed, signalled, is_ready_to_unload}
+use Rattle.gem_model.specs.Signals.{lacks_port, port_row_starts, port_alarm, with_arrival, placed, removed, lacks_module, module_of, module_alarm, answer_alarm, module_done, module_failed, module_down, signalled, is_ready_to_unload}
+use Rattle.robot_moves.specs.Modules.{is_open, is_up as is_up_module}
+use Rattle.tool_floor.specs.Floor.{with_shop}
+use Rattle.tool_floor.specs.Machines.{is_creation}
+use Rattle.tool_floor.specs.Signals.{at_module, done_rows}
 use Rattle.gem_model.specs.Direct.{operator_rows, timeout_rows}
 use Rattle.gem_model.specs.Verdict.{Verdict, Discarded, Stream9, Aborted, Answers, Taken, verdict, header_of, item_of, wants_reply, stream_of, function_of}
 use Rattle.gem_model.specs.Act.{replied, taken, closed_by, data_act, session_ended}
 use Rattle.gem_model.specs.Due.{Timeout, dues_with, timeouts, expired_from, link_times, is_due, all_done, asks_linktest, timed_out}
 use Rattle.gem_model.specs.Settle.{settled}
 use Rattle.gem_model.specs.Step as steps
-use Rattle.gem_model.specs.Step.{Outcome, step, step_from, acts, linked, hosted, can_clear, operated, switched, quits, settles}
+use Rattle.gem_model.specs.Step.{Outcome, step, step_from, acts, linked, hosted, can_clear, can_come_up, operated, switched, quits, settles}
 use Rattle.gem_model.proofs.Tests.{went, either_way, none_some}
 use Rattle.gem_model.specs.Direct.{Are}
-use Rattle.gem_model.proofs.Listed.{IsFree, listed_keeps, free_message, free_enable, free_online, free_offline, free_local, free_remote, free_service, free_access, free_placing, free_removal}
+use Rattle.gem_model.proofs.Listed.{IsFree, listed_keeps, free_module, free_done, free_message, free_enable, free_online, free_offline, free_local, free_remote, free_service, free_access, free_placing, free_removal}
 use Rattle.gem_model.proofs.Settling.{settled_keeps}
 use Rattle.hsms_link.specs.declared.state.LinkState.{LinkState}
 use Rattle.event_reports.specs.Reports.{Reports}
@@ -87,10 +91,10 @@ pub record Inner (P : State → Type 0) : Type 1 where
   pub alarm : (g : State) (alid : ℕ) → P g → P (record g { line = line_with_alarm alid g })
   pub kinds : (g : State) (k : SpooledKinds) → P g → P (record g { line = with_kinds k g.line })
   pub came : (g : State) (port : ℕ) (name : Option (List ℕ)) (slots : List ℕ) → P g → P (with_arrival port name slots g)
-  pub written : (g : State) (a : CarrierAction) → is_done_code (carrier_code g.floor a) ≡ true → P g → P (record g { floor = carrier_written a g.floor })
+  pub written : (g : State) (a : CarrierAction) → is_done_code (carrier_code g.floor.shop a) ≡ true → P g → P (record g { floor = with_shop (carrier_written a g.floor.shop) g.floor })
   pub row : (g : State) (f : Firing) → IsFree f → row_starts g f ≡ true → P g → P (takes_effect g f)
   pub ready : (g : State) (f : Firing) → least g ≡ Some f → P g → P (fire g f)
-  pub created : (g : State) (n : ℕ) → P g → P (fire g (firing 8 n 1))
+  pub created : (g : State) (d : Firing) → is_creation d ≡ true → P g → P (fire g d)
   pub answered : (g : State) (h : Header) (item : Option Data) (test : Open → Bool) (one : Open) → find test g.transactions.opened ≡ Some one → P g → P (closed_by h item (Some one) g)
   pub failed : (g : State) (test : Open → Bool) (one : Open) → find test g.transactions.opened ≡ Some one → P g → P (timed_out one g)
   pub disabled : (g : State) → P g → P (fires (operator_rows oper.Disable) g)
@@ -167,8 +171,8 @@ module _ (P : State → Type 0) (inner : Inner P) where
 
   kept_action : (a : CarrierAction) (g : State) → P g → P (carrier_action_done g a).after
   kept_action a g at =
-      where_true P (is_done_code (carrier_caack a g)) (record g { floor = carrier_written a g.floor }) g
-      (λ is. inner.written g a (done_code (is_unknown a.word) (is_local g.control) (carrier_code g.floor a) is) at) at
+      where_true P (is_done_code (carrier_caack a g)) (record g { floor = with_shop (carrier_written a g.floor.shop) g.floor }) g
+      (λ is. inner.written g a (done_code (is_unknown a.word) (is_local g.control) (carrier_code g.floor.shop a) is) at) at
 
   kept_shop : (m : Message) (g : State) → P g → P (shop_done g m).after
   kept_shop (S3F17 dataid action carrier number attributes) g at = kept_action (carrier_action action carrier number attributes) g at
@@ -207,6 +211,7 @@ module _ (P : State → Type 0) (inner : Inner P) where
   kept_switched oper.Local g at = inner.switch g true at
   kept_switched oper.Remote g at = inner.switch g false at
   kept_switched (oper.Clear n) g at = either_way P (can_clear n g) (clears_alarm n g) g (kept_cleared g n at) at
+  kept_switched (oper.Up number) g at = either_way P (can_come_up number.0 g) (clears_alarm (module_alarm number.0) g) g (kept_cleared g (module_alarm number.0) at) at
   kept_switched _ g at = at
 
   pub kept_by_rows : (command : OperCmd) (g : State) → Are IsFree (operator_rows command (switched command g)) → P g → P (fires (operator_rows command) (switched command g))
@@ -223,10 +228,27 @@ module _ (P : State → Type 0) (inner : Inner P) where
       either_way P (port_row_starts 5 port g) (fire_listed (removal port) g) (sets_alarm (port_alarm port) g)
       (kept_listed (removal port) (free_removal port g) g at) (kept_set g (port_alarm port) at)
 
+  kept_module_done : (number command : ℕ) (g : State) → P g → P (module_done number command g)
+  kept_module_done number command g at =
+      either_way P (is_open command (module_of number g)) (fire_listed (done_rows number (module_of number g)) g) (sets_alarm answer_alarm g)
+      (kept_listed (done_rows number (module_of number g)) (free_done number (module_of number g)) g at) (kept_set g answer_alarm at)
+
+  kept_module_failed : (number command : ℕ) (g : State) → P g → P (module_failed number command g)
+  kept_module_failed number command g at =
+      either_way P (is_open command (module_of number g)) (fire_listed (at_module 8 number) (sets_alarm (module_alarm number) g)) (sets_alarm answer_alarm g)
+      (kept_listed (at_module 8 number) (free_module 8 number) (sets_alarm (module_alarm number) g) (kept_set g (module_alarm number) at)) (kept_set g answer_alarm at)
+
+  kept_module_down : (number : ℕ) (g : State) → P g → P (module_down number g)
+  kept_module_down number g at =
+      either_way P (is_up_module (module_of number g)) (fire_listed (at_module 9 number) (sets_alarm (module_alarm number) g)) g
+      (kept_listed (at_module 9 number) (free_module 9 number) (sets_alarm (module_alarm number) g) (kept_set g (module_alarm number) at)) at
+
   pub kept_signalled : (s : Signal) (g : State) → P g → P (signalled s g)
   kept_signalled (signal.Placed port name slots) g at = either_way P (lacks_port port.0 g) g (placed port.0 name slots g) at (kept_placed port.0 name slots g at)
   kept_signalled (signal.Removed port) g at = either_way P (lacks_port port.0 g) g (removed port.0 g) at (kept_removed port.0 g at)
-  kept_signalled _ g at = at
+  kept_signalled (signal.Done number command) g at = either_way P (lacks_module number.0 g) g (module_done number.0 command.0 g) at (kept_module_done number.0 command.0 g at)
+  kept_signalled (signal.Failed number command) g at = either_way P (lacks_module number.0 g) g (module_failed number.0 command.0 g) at (kept_module_failed number.0 command.0 g at)
+  kept_signalled (signal.Down number) g at = either_way P (lacks_module number.0 g) g (module_down number.0 g) at (kept_module_down number.0 g at)
 
   -- the transactions whose T3 is over, one after the other
   kept_timeouts : (n moment : ℕ) (opened : List Open) (first : Option Open) (g : State) → g.transactions.opened ≡ opened → first_expired moment opened ≡ first → P g → P (all_done (map (λ one. Timeout one) (expired_from n moment opened first)) g)
@@ -259,6 +281,7 @@ module _ (P : State → Type 0) (kept : Kept P) where
   kept_operated (oper.Service p on) g at = kept_by_rows P kept.inner (oper.Service p on) g (free_service p.0 on g) at
   kept_operated (oper.Access p on) g at = kept_by_rows P kept.inner (oper.Access p on) g (free_access p.0 on g) at
   kept_operated (oper.Clear n) g at = kept_switched P kept.inner (oper.Clear n) g at
+  kept_operated (oper.Up number) g at = kept_by_rows P kept.inner (oper.Up number) g (free_module 10 number.0) at
   kept_operated _ g at = at
 
   kept_linktest : (g : State) → P g → P (asks_linktest g)

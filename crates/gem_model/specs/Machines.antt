@@ -1,5 +1,5 @@
 -- The tables of the tool at work, one machine for each (this tool's profile, transition tables and settling). A further table is
--- one machine more in a list: here, or in that of the shop floor.
+-- one machine more in a list: here, or in that of the floor of the tool.
 use Rattle.std.specs.Prelude.{ℕ, Bool, List, [], ◌∷◌, map, Option}
 use Rattle.gem_tables.specs.Table.{first_itself}
 use Rattle.gem_tables.specs.Machine.{Machine, starts_in, fired_in, creates_in, object_in, least_in}
@@ -8,8 +8,8 @@ use Rattle.gem_states.specs.Communication.{communication_table, comm_number, com
 use Rattle.gem_states.specs.Control.{control_table, control_number, control_starts}
 use Rattle.note_line.specs.Table3.{line_starts}
 use Rattle.note_line.specs.Table3 as line
-use Rattle.shop_floor.specs.Floor.{Floor}
-use Rattle.shop_floor.specs.Machines.{floor_machines, floor_fired}
+use Rattle.tool_floor.specs.Floor.{ToolFloor}
+use Rattle.tool_floor.specs.Machines.{floor_machines, floor_fired}
 use Rattle.gem_model.specs.State.{State, around}
 use Rattle.gem_model.specs.Effects.{fire_comm, fire_control, fire_line}
 use Rattle.gem_model.specs.Wants.{comm_finds, control_finds}
@@ -62,8 +62,8 @@ line_machine = record {
   name = nameless;
 }
 
--- a table of the shop floor, in the tool
-abbrev pub on_floor : Machine Floor → Machine State
+-- a table of the floor of the tool, in the tool
+abbrev pub on_floor : Machine ToolFloor → Machine State
 on_floor m = record {
   table = m.table;
   objects = λ g. m.objects g.floor;
@@ -98,6 +98,6 @@ object_name g f = object_in machines f g
 abbrev pub least : State → Option Firing
 least g = least_in machines g
 
--- what a row of a table of the shop floor does
+-- what a row of a table of the floor of the tool does
 abbrev pub fire_floor : Firing → State → State
 fire_floor f g = record g { floor = floor_fired f g.floor }

@@ -3,7 +3,7 @@ use Rattle.std.specs.Prelude.{ℕ, ◌+◌, ◌*◌, Bool, true, false, if◌the
 use Rattle.gem_states.specs.declared.communication.Comm.{Comm}
 use Rattle.gem_states.specs.declared.communication.Comm.TheVariants as comm
 use Rattle.note_line.specs.Left.{left as left_line}
-use Rattle.shop_floor.specs.Left.{floor_left}
+use Rattle.tool_floor.specs.Left.{floor_left}
 use Rattle.gem_model.specs.State.{State}
 use Rattle.gem_model.specs.Wants.{is_attempt}
 
@@ -16,7 +16,7 @@ is_wait_delay _ = false
 abbrev pub one_if : Bool → ℕ
 one_if b = if b then 1 else 0
 
--- what is left to fire by itself: WAIT DELAY, ATTEMPT ON-LINE and what is left of the ports and carriers count 7 each, which is
+-- what is left to fire by itself: WAIT DELAY, ATTEMPT ON-LINE and what is left of the ports, the carriers and the modules count 7 each, which is
 -- more than the note weighs that may tell of their end, and then what is left in the line of notes, the states of the spool
 -- included
 abbrev pub left : State → ℕ

@@ -33,6 +33,7 @@ use Rattle.load_port.specs.declared.action.PortAction.{PortAction}
 use Rattle.load_port.specs.declared.action.PortAction.TheVariants as port
 use Rattle.carrier.specs.declared.action.CarrierAction.{CarrierAction}
 use Rattle.shop_floor.specs.Requests.{carrier_written, carrier_rows, port_rows}
+use Rattle.tool_floor.specs.Floor.{with_shop}
 use Rattle.spool.specs.Spool.{rsda}
 use Rattle.gem_model.specs.State.{State, clock_now}
 use Rattle.gem_model.specs.Values.{no_firing, status_value, constant_value, value_of, svids}
@@ -151,13 +152,13 @@ abbrev pub carrier_done : State → CarrierAction → Caack → Done
 carrier_done g a code =
     record {
       reply = ShopTold (shop.S3F18 (caack_number code));
-      after = if is_done_code code then record g { floor = carrier_written a g.floor } else g;
-      rows = if is_done_code code then carrier_rows a g.floor else [];
+      after = if is_done_code code then record g { floor = with_shop (carrier_written a g.floor.shop) g.floor } else g;
+      rows = if is_done_code code then carrier_rows a g.floor.shop else [];
     }
 
 -- an action on ports, by its code: where it is done it fires its rows
 abbrev pub port_done : State → PortAction → ShopReply → Caack → Done
-port_done g a r code = record { reply = ShopTold r; after = g; rows = if is_done_code code then port_rows a g.floor else [] }
+port_done g a r code = record { reply = ShopTold r; after = g; rows = if is_done_code code then port_rows a g.floor.shop else [] }
 
 abbrev pub port_action_done : State → PortAction → (ℕ → ShopReply) → Done
 port_action_done g a r = port_done g a (r (caack_number (port_caack a g))) (port_caack a g)

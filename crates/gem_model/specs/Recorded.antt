@@ -35,8 +35,8 @@ pub record Recorded (c : Config) (history : List Entry) (g : State) : Type 0 whe
   -- an INACTIVE spool is empty
   pub spool : is_inactive g.line.spool.load ≡ true → has_note g.line.spool ≡ false
   -- each carrier has a name of its own, and one that is present or bound belongs to the port where it is
-  pub floor : IsFloor g.floor
+  pub floor : IsFloor g.floor.shop
   -- at most 16 carriers are known
-  pub carriers : length g.floor.carriers ≤ 16
+  pub carriers : length g.floor.shop.carriers ≤ 16
   -- there is room to start a transaction
   pub room : is_full g.transactions ≡ false

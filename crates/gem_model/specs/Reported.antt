@@ -17,7 +17,9 @@ use Rattle.event_reports.specs.Alarms.{is_alarm, is_set, set_alarm, clear_alarm}
 use Rattle.shop_floor.specs.Requests.{at_port, removal}
 use Rattle.tool_events.specs.declared.event.Signal.{Signal}
 use Rattle.tool_events.specs.declared.event.Signal.TheVariants as equipment
-use Rattle.gem_model.specs.Signals.{lacks_port, port_row_starts, port_alarm, with_arrival}
+use Rattle.robot_moves.specs.Modules.{is_open, is_up as is_up_module}
+use Rattle.tool_floor.specs.Signals.{at_module, done_rows}
+use Rattle.gem_model.specs.Signals.{lacks_port, port_row_starts, port_alarm, with_arrival, lacks_module, module_of, module_alarm, answer_alarm}
 use Rattle.spool.specs.declared.note.Kind.{Kind}
 use Rattle.spool.specs.declared.note.Kind.TheVariants.{Event, Alarm}
 use Rattle.spool.specs.declared.note.Note.{Note}
@@ -33,7 +35,7 @@ use Rattle.transactions.specs.Endings.{answered}
 use Rattle.gem_model.specs.State.{State, is_up, is_session_up, is_online, without_session, raised}
 use Rattle.gem_model.specs.Sending.{data_header, sends_stream9}
 use Rattle.gem_model.specs.Values.{Occasion, value_of}
-use Rattle.gem_model.specs.Noting.{is_event_reported, event_text, is_alarm_reported, change_text}
+use Rattle.gem_model.specs.Noting.{is_event_reported, event_text, is_alarm_reported, change_text, sets_alarm}
 use Rattle.gem_model.specs.Machines.{row_starts, takes_effect, creations, object_name}
 use Rattle.gem_model.specs.Fire.{fire, advanced}
 use Rattle.gem_model.specs.Direct.{answer_rows, session_end_rows, timeout_rows, operator_rows}
@@ -44,7 +46,7 @@ use Rattle.gem_model.specs.Settle.{settling}
 use Rattle.gem_model.specs.Verdict.{Verdict, Answers, Taken, verdict, header_of, item_of, stream_of, function_of}
 use Rattle.gem_model.specs.Act.{replied, note_answered}
 use Rattle.gem_model.specs.Due.{Due, EndOfSession, Linktest, Timeout, dues, is_due, due_done}
-use Rattle.gem_model.specs.Step.{Outcome, linked, can_clear, switched, acts}
+use Rattle.gem_model.specs.Step.{Outcome, linked, can_clear, can_come_up, switched, acts}
 use Rattle.gem_model.specs.Run.{entry_after}
 
 -- what is reported: an event by its CEID, or a change of an alarm by its ALID; and the text of the message that tells of it
@@ -130,11 +132,30 @@ by_placed port name slots g =
 abbrev pub by_removed : ℕ → State → List Reported
 by_removed port g = if port_row_starts 5 port g then by_listed (removal port) g else by_setting (port_alarm port) g
 
+-- a module did a command, or failed at it: the rows, or the alarm
+abbrev pub by_done : ℕ → ℕ → State → List Reported
+by_done number command g =
+    if is_open command (module_of number g) then by_listed (done_rows number (module_of number g)) g else by_setting answer_alarm g
+
+abbrev pub by_failed : ℕ → ℕ → State → List Reported
+by_failed number command g =
+    if is_open command (module_of number g)
+    then by_setting (module_alarm number) g ++ by_listed (at_module 8 number) (sets_alarm (module_alarm number) g)
+    else by_setting answer_alarm g
+
+-- a module went down: its alarm, and then the row
+abbrev pub by_down : ℕ → State → List Reported
+by_down number g =
+    if is_up_module (module_of number g)
+    then by_setting (module_alarm number) g ++ by_listed (at_module 9 number) (sets_alarm (module_alarm number) g) else []
+
 -- the equipment tells of something
 abbrev pub by_signal : Signal → State → List Reported
 by_signal (equipment.Placed port name slots) g = if lacks_port port.0 g then [] else by_placed port.0 name slots g
 by_signal (equipment.Removed port) g = if lacks_port port.0 g then [] else by_removed port.0 g
-by_signal _ g = []
+by_signal (equipment.Done number command) g = if lacks_module number.0 g then [] else by_done number.0 command.0 g
+by_signal (equipment.Failed number command) g = if lacks_module number.0 g then [] else by_failed number.0 command.0 g
+by_signal (equipment.Down number) g = if lacks_module number.0 g then [] else by_down number.0 g
 
 -- ---- data messages
 
@@ -183,6 +204,7 @@ by_host g arrival _ = []
 -- an operator's command changes something
 abbrev pub by_switched : OperCmd → State → List Reported
 by_switched (oper.Clear alid) g = if can_clear alid g then by_clearing alid g else []
+by_switched (oper.Up number) g = if can_come_up number.0 g then by_clearing (module_alarm number.0) g else []
 by_switched _ g = []
 
 -- an operator's command

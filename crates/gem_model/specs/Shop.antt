@@ -77,7 +77,7 @@ is_unknown_action _ = false
 
 -- CAACK: an unknown action is told first, and in ON-LINE LOCAL all others are not done now (this tool's profile, messages)
 abbrev pub carrier_caack : CarrierAction → State → Caack
-carrier_caack a g = if is_unknown a.word then Unknown else (if is_local g.control then NotNow else carrier_code g.floor a)
+carrier_caack a g = if is_unknown a.word then Unknown else (if is_local g.control then NotNow else carrier_code g.floor.shop a)
 
 abbrev pub port_caack : PortAction → State → Caack
-port_caack a g = if is_unknown_action a then Unknown else (if is_local g.control then NotNow else port_code g.floor a)
+port_caack a g = if is_unknown_action a then Unknown else (if is_local g.control then NotNow else port_code g.floor.shop a)

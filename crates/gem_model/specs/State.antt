@@ -25,7 +25,7 @@ use Rattle.tool_events.specs.declared.config.ControlStart.{ControlStart}
 use Rattle.tool_events.specs.declared.config.ControlStart.TheVariants as begin
 use Rattle.tool_events.specs.declared.config.SpoolStreams.{SpoolStreams}
 use Rattle.transactions.specs.Table.{Table, none_open}
-use Rattle.shop_floor.specs.Floor as floors
+use Rattle.tool_floor.specs.Floor as floors
 
 -- the clock that the host sees: what it showed, and the moment at which it did (this tool's profile, time)
 pub record Clock : Type 0 where
@@ -59,8 +59,8 @@ pub record State : Type 0 where
   pub alarms : List AlarmLine
   -- the line of notes: what waits, what is spooled, what is open, and what became of each (SEMI E30, spooling)
   pub line : notes.Line
-  -- the load ports and the carriers (SEMI E87)
-  pub floor : floors.Floor
+  -- the load ports, the carriers (SEMI E87) and the modules
+  pub floor : floors.ToolFloor
   -- the frames that wait for the writer, the oldest first
   pub waiting : List (List ℕ)
 
@@ -118,7 +118,7 @@ opening c = record {
   reports = no_reports c.ports c.chambers;
   alarms = no_alarms c.ports c.chambers;
   line = notes.opening c.spool_capacity (first_kinds c.spool_streams);
-  floor = floors.opening c.ports;
+  floor = floors.opening c.ports c.chambers;
   waiting = [];
 }
 

@@ -24,7 +24,8 @@ use Rattle.gem_model.specs.Machines.{row_starts}
 use Rattle.gem_model.specs.Fire.{fires}
 use Rattle.gem_model.specs.Noting.{clears_alarm}
 use Rattle.gem_model.specs.Direct.{operator_rows}
-use Rattle.gem_model.specs.Signals.{lacks_port, signalled, is_ready_to_unload}
+use Rattle.robot_moves.specs.Modules.{is_down}
+use Rattle.gem_model.specs.Signals.{lacks_port, module_of, module_alarm, signalled, is_ready_to_unload}
 use Rattle.gem_model.specs.Verdict.{header_of}
 use Rattle.gem_model.specs.Act.{data_done, session_ended}
 use Rattle.gem_model.specs.Due.{Due, EndOfSession, dues, is_due, all_done}
@@ -92,11 +93,16 @@ is_accepted (oper.Access port auto) g = not (lacks_port port.0 g)
 is_accepted (oper.Clear alid) g = can_clear alid g
 is_accepted command g = can_fire g (operator_rows command g)
 
--- what a command changes: `local` and `remote` set the switch, and `clear` clears an alarm
+-- a module can come up: it is Down
+abbrev pub can_come_up : ℕ → State → Bool
+can_come_up number g = is_down (module_of number g)
+
+-- what a command changes: `local` and `remote` set the switch, `clear` clears an alarm, and `up` that of its module
 abbrev pub switched : OperCmd → State → State
 switched oper.Local g = record g { switch_local = true }
 switched oper.Remote g = record g { switch_local = false }
 switched (oper.Clear alid) g = if can_clear alid g then clears_alarm alid g else g
+switched (oper.Up number) g = if can_come_up number.0 g then clears_alarm (module_alarm number.0) g else g
 switched _ g = g
 
 -- `quit` ends the session, where one is up, and the run
@@ -126,7 +132,7 @@ ticked before g =
 
 -- What an event does before the tool settles, in a state whose moment is raised from the one before. There is none where
 -- the event has to wait: a Take that finds no frame, a Tick that finds nothing due, a Listen, a Watch of a port that isn't
--- READY TO UNLOAD; and a Fetch, since the tool has no modules yet. (This tool's profile, states of the link, what a header
+-- READY TO UNLOAD; and a Fetch, since no command is issued yet. (This tool's profile, states of the link, what a header
 -- does, and time.)
 abbrev pub acts : ℕ → State → Event → Option Outcome
 acts before g event.LinkUp =

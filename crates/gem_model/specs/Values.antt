@@ -28,7 +28,7 @@ no_firing = record { object = []; row = 0 }
 
 -- what the port of a number shows, where the tool has it
 abbrev pub port_value : State → ℕ → (Port → Data) → Option Data
-port_value g number value = option_map value (port_numbered number g.floor.ports)
+port_value g number value = option_map value (port_numbered number g.floor.shop.ports)
 
 -- the value of a status variable; none for one of a port that the tool lacks, and for one that is not built (this tool's
 -- profile, variables)

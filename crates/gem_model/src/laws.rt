@@ -94,12 +94,12 @@ pub fn an_open_note_has_its_transaction()
 /// passes while it settles behind an event. So at most sixteen carriers are known; and since each row that lets a carrier come
 /// starts in such a state, it finds room (law `there_is_room_for_each_carrier` of `shop_floor`).
 pub fn the_floor_stays_valid_in_a_history()
-    ensures valid { (c : Config) (entries : List Entry) (h : State) → c.ports ≤ most_ports → Run (opening c) entries h → IsFloor h.floor }
+    ensures valid { (c : Config) (entries : List Entry) (h : State) → c.ports ≤ most_ports → Run (opening c) entries h → IsFloor h.floor.shop }
     ensures few { (c : Config) (entries : List Entry) (h : State)
-        → c.ports ≤ most_ports → Run (opening c) entries h → length h.floor.carriers ≤ most_carriers }
+        → c.ports ≤ most_ports → Run (opening c) entries h → length h.floor.shop.carriers ≤ most_carriers }
     ensures settling { (c : Config) (entries : List Entry) (h : State) (at : ℕ) (e : Event) (o : Outcome)
         → c.ports ≤ most_ports → Run (opening c) entries h → acts h.moment (raised h at) e ≡ Some o
-        → Along (λ (g : State). IsFloor g.floor) o.after (settling o.after) }
+        → Along (λ (g : State). IsFloor g.floor.shop) o.after (settling o.after) }
 {}
 
 /// Where a history leads, an INACTIVE spool is empty. So the kinds of note that are spooled change wherever the host sets

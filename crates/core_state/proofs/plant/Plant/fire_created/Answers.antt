@@ -1,6 +1,6 @@
 use Rattle.std.proofs.Common.{◌≡◌, ◌∷◌, ◌+◌, ◌∙◌, List, drop, get_or, refl, sym, ap, subst}
 use Rattle.gem_tables.specs.declared.firing.Firing.{Firing}
-use Rattle.shop_floor.specs.Floor.{Floor}
+use Rattle.tool_floor.specs.Floor.{ToolFloor}
 use Rattle.gem_model.specs.State.{State}
 use Rattle.gem_model.specs.Fire.{fire_all}
 use Rattle.core_state.specs.Firing.{AreCreated}
@@ -26,7 +26,7 @@ loop-f-preserved c =
     record {
       leads = ap (fire_all (drop (c.loop-f.f-index + 1) c.args.created.now)) c.in_ok-floor_row.ensures
           ∙ sym (ap (λ (ds : List Firing). fire_all ds c.loop-f.self) more) ∙ c.loop-f.invariant.leads;
-      created = subst (λ (f : Floor). AreCreated f (drop (c.loop-f.f-index + 1) c.args.created.now)) (sym floor) here.1;
+      created = subst (λ (f : ToolFloor). AreCreated f (drop (c.loop-f.f-index + 1) c.args.created.now)) (sym floor) here.1;
     }
 
 pub returns : goal.returns

@@ -7,4 +7,4 @@ returns c =
     c.truncate.ensures.items
     ∙ ap (λ (ns : List ℕ). take c.port_count.result ns) c.from-numbers.ensures.0
     ∙ ap (λ (n : ℕ). take n (1 ∷ 2 ∷ 3 ∷ 4 ∷ [])) c.port_count.ensures.count
-    ∙ all_numbers c.args.self.now.floor.ports (subst (λ (n : ℕ). n ≤ 4) c.port_count.ensures.count c.port_count.ensures.few)
+    ∙ all_numbers c.args.self.now.floor.shop.ports (subst (λ (n : ℕ). n ≤ 4) c.port_count.ensures.count c.port_count.ensures.few)

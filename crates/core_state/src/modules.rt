@@ -1,0 +1,48 @@
+//! The modules, as the equipment and the operator see them (this tool's profile, moves).
+ghost use Rattle.std.specs.Prelude.{◌≡◌, not};
+ghost use Rattle.std.specs.Option.{option_to_list};
+ghost use Rattle.robot_moves.specs.Modules.{is_open, is_up};
+ghost use Rattle.tool_floor.specs.Signals.{done_rows};
+ghost use Rattle.gem_model.specs.Signals.{lacks_module, module_of};
+ghost use Rattle.gem_model.specs.Step.{can_come_up};
+
+use crate::plant::Plant;
+use gem_ids::{CmdNo, ModuleId};
+use gem_tables::Firing;
+
+impl Plant {
+    /// Whether the tool has a module of this number.
+    pub fn has_module(&self, m: ModuleId) -> bool
+        ensures { result ≡ not (lacks_module m.0 self.now) }
+    {
+        self.floor.has_module(m)
+    }
+
+    /// Whether the command of this number is the open one of the module.
+    pub fn is_open(&self, m: ModuleId, n: CmdNo) -> bool
+        ensures { result ≡ is_open n.0 (module_of m.0 self.now) }
+    {
+        self.floor.is_open(m, n)
+    }
+
+    /// Whether the tool has a module of this number that is not Down.
+    pub fn is_module_up(&self, m: ModuleId) -> bool
+        ensures { result ≡ is_up (module_of m.0 self.now) }
+    {
+        self.floor.is_up(m)
+    }
+
+    /// Whether the tool has a module of this number that is Down.
+    pub fn can_come_up(&self, m: ModuleId) -> bool
+        ensures { result ≡ can_come_up m.0 self.now }
+    {
+        self.floor.is_down(m)
+    }
+
+    /// The row that Done of the open command of a module fires. `None` exactly where it has none.
+    pub fn done_row(&self, m: ModuleId) -> Option<Firing>
+        ensures { option_to_list result ≡ done_rows m.0 (module_of m.0 self.now) }
+    {
+        self.floor.done_row(m)
+    }
+}

@@ -16,6 +16,9 @@ use secs_items::{Item, NoMemory};
 use std::alloc::Global;
 use std::marker::Model;
 
+// The least ECID.
+const FIRST: u32 = 201;
+
 /// The equipment constants with their values, which contracts see as pairs of ECID and value in the printed order. Each
 /// value is of its constant's kind and in its range.
 #[derive(Drop)]
@@ -54,6 +57,17 @@ impl Constants {
     pub fn get(&self, ecid: u32) -> Option<Val>
         ensures value { result ≡ value_of ecid self.now }
         ensures constants { AreConstants self.now }
+    {
+        // The constants stand in the order of their ECIDs, so that each is found at its place.
+        match self.values.get_index(ecid.saturating_sub(FIRST) as usize) {
+            Some((key, value)) if *key == ecid => Some(*value),
+            _ => self.search(ecid),
+        }
+    }
+
+    // The value of a constant, by a search.
+    fn search(&self, ecid: u32) -> Option<Val>
+        ensures { result ≡ value_of ecid self.now }
     {
         self.values.get(&ecid).copied()
     }

@@ -1,5 +1,6 @@
 pub mod Counts
 pub mod Within
+pub mod Places
 pub mod Giving
 pub mod Small
 pub mod SamePlant

@@ -1,12 +1,23 @@
 -- No message changes the plant.
-use Rattle.std.proofs.Common.{◌≡◌, ◌==◌, ℕ, Bool, true, false, if◌then◌else◌, List, [], ◌∷◌, length, map, refl, ◌∙◌}
-use Rattle.event_reports.specs.Reports.{EventLine, Reports, link_without, unlinked, with_link, is_named, with_enabled, without_report, after_report, after_link, after_all, drack, defined, lrack, linked, erack, enabled}
+use Rattle.std.proofs.Common.{◌≡◌, ◌==◌, ◌<◌, ℕ, zero, suc, Bool, true, false, if◌then◌else◌, List, [], ◌∷◌, length, map, get_or, set, refl, ◌∙◌, arith}
+use Rattle.event_reports.specs.Reports.{EventLine, Reports, silent, link_without, unlinked, with_link, is_named, with_enabled, without_report, after_report, after_link, after_all, drack, defined, lrack, linked, erack, enabled}
 use Rattle.event_reports.specs.Sound.{IsSamePlant}
 
 -- events that keep their CEIDs
-map-ceids : (f : EventLine → EventLine) → ((e : EventLine) → (f e).ceid ≡ e.ceid) → (events : List EventLine) → map (λ (e : EventLine). e.ceid) (map f events) ≡ map (λ (e : EventLine). e.ceid) events
+pub map-ceids : (f : EventLine → EventLine) → ((e : EventLine) → (f e).ceid ≡ e.ceid) → (events : List EventLine) → map (λ (e : EventLine). e.ceid) (map f events) ≡ map (λ (e : EventLine). e.ceid) events
 map-ceids f same [] = refl
 map-ceids f same (e ∷ events) = rw (same e, map-ceids f same events) refl
+
+-- events that are made of CEIDs have these
+pub silent-ceids : (ids : List ℕ) → map (λ (e : EventLine). e.ceid) (map silent ids) ≡ ids
+silent-ceids [] = refl
+silent-ceids (id ∷ ids) = rw (silent-ceids ids) refl
+
+-- an event of the same CEID at its place
+pub set-ceids : (events : List EventLine) (i : ℕ) (e d : EventLine) → i < length events → e.ceid ≡ (get_or events i d).ceid → map (λ (x : EventLine). x.ceid) (set events i e) ≡ map (λ (x : EventLine). x.ceid) events
+set-ceids [] i e d less same = absurd (omega arith)
+set-ceids (x ∷ events) zero e d less same = rw same refl
+set-ceids (x ∷ events) (suc i) e d less same = rw (set-ceids events i e d (omega arith) same) refl
 
 same-plant : (r : Reports) → IsSamePlant r r
 same-plant r = record { ports = refl; chambers = refl; events = refl }
@@ -14,13 +25,13 @@ same-plant r = record { ports = refl; chambers = refl; events = refl }
 same-both : (r s t : Reports) → IsSamePlant r s → IsSamePlant s t → IsSamePlant r t
 same-both r s t one two = record { ports = two.ports ∙ one.ports; chambers = two.chambers ∙ one.chambers; events = two.events ∙ one.events }
 
-link-ceid : (ceid : ℕ) (rptids : List ℕ) (e : EventLine) → (with_link ceid rptids e).ceid ≡ e.ceid
+pub link-ceid : (ceid : ℕ) (rptids : List ℕ) (e : EventLine) → (with_link ceid rptids e).ceid ≡ e.ceid
 link-ceid ceid rptids e = by_name (e.ceid == ceid) where
   by_name : (b : Bool) → (if b then record e { reports = rptids } else e).ceid ≡ e.ceid
   by_name true = refl
   by_name false = refl
 
-enabled-ceid : (on : Bool) (ceids : List ℕ) (e : EventLine) → (with_enabled on ceids e).ceid ≡ e.ceid
+pub enabled-ceid : (on : Bool) (ceids : List ℕ) (e : EventLine) → (with_enabled on ceids e).ceid ≡ e.ceid
 enabled-ceid on ceids e = by_name (is_named ceids e.ceid) where
   by_name : (b : Bool) → (if b then record e { enabled = on } else e).ceid ≡ e.ceid
   by_name true = refl

@@ -1,6 +1,7 @@
 -- What is always true of the reports of a plant: no more than can be (this tool's profile, limits).
-use Rattle.std.specs.Prelude.{◌≤◌, length}
+use Rattle.std.specs.Prelude.{◌≡◌, ◌≤◌, length, map}
 use Rattle.std.specs.List.{AllByRecursion}
+use Rattle.gem_rows.specs.Events.{ceids}
 use Rattle.event_reports.specs.Reports.{Report, EventLine, Reports}
 use Rattle.event_reports.specs.Limits.{most_reports, most_vids, most_linked}
 
@@ -12,8 +13,10 @@ IsShort p = length p.vids ≤ most_vids
 abbrev pub HasShortLink : EventLine → Type 0
 HasShortLink e = length e.reports ≤ most_linked
 
--- no more reports, VIDs of a report and linked reports of an event than there can be
+-- no more reports, VIDs of a report and linked reports of an event than there can be, and the events of the tables in their
+-- order, which is rising by CEID
 pub record AreWithin (r : Reports) : Type 0 where
   pub count : length r.reports ≤ most_reports
   pub vids : AllByRecursion IsShort r.reports
   pub links : AllByRecursion HasShortLink r.events
+  pub events : map (λ e. e.ceid) r.events ≡ ceids

@@ -1,8 +1,8 @@
 //! Reports, their links to collection events, and which events are enabled.
 
-ghost use Rattle.std.specs.Prelude.{ℕ, length, take, ◌≡◌, ◌≤◌, map, IfOk, OnOk, OnErr, option_map};
+ghost use Rattle.std.specs.Prelude.{ℕ, length, take, ◌≡◌, ◌<◌, ◌≤◌, false, map, IfOk, OnOk, OnErr, IfSome, IfNone, option_map};
 ghost use Rattle.std.specs.Option.{unwrap_or};
-ghost use Rattle.std.specs.List.{list_all};
+ghost use Rattle.std.specs.List.{list_all, HoldsAt};
 ghost use Rattle.secs_items.specs.Data.{list, no_items, added};
 ghost use Rattle.secs_items.specs.View.{view};
 ghost use Rattle.secs_items.specs.Plain.{count_of};
@@ -110,9 +110,23 @@ impl Reports {
     pub fn is_enabled(&self, ceid: u32) -> bool
         ensures { result ≡ is_enabled ceid self.now }
     {
+        match self.place_of(ceid) {
+            Some(place) => self.events[place].enabled,
+            None => false,
+        }
+    }
+
+    // The place of an event. `None` exactly where the tool lacks it.
+    fn place_of(&self, ceid: u32) -> Option<usize>
+        ensures within_list { IfSome result (λ place. place < length self.now.events) }
+        ensures place { IfSome result (HoldsAt (λ e. e.ceid ≡ ceid) self.now.events) }
+        ensures none { IfNone result (is_event ceid self.now ≡ false) }
+        ensures within { AreWithin self.now }
+    {
+        // The events stand rising by CEID.
         self.events
-            .iter()
-            .any(|event| event.ceid == ceid && event.enabled)
+            .binary_search_by_key(&ceid, |event| event.ceid)
+            .ok()
     }
 
     // The VIDs of a report; an unknown one has none.

@@ -84,12 +84,13 @@ impl Reports {
     }
 }
 
-// Links the event of this CEID. No link gets longer than it may be, after `NoMemory` neither.
+// Links the event of this CEID. No link gets longer than it may be, and the events stay the same, after `NoMemory` too.
 fn link_lines(events: &mut [EventLine], ceid: u32, rptids: &Ids) -> Result<(), NoMemory>
     requires link { length rptids.now ≤ most_linked }
     requires links { AllByRecursion HasShortLink events.old }
     ensures linked { OnOk result (events.new ≡ map (with_link ceid rptids.now) events.old) }
     ensures links { AllByRecursion HasShortLink events.new }
+    ensures ceids { map (λ e. e.ceid) events.new ≡ map (λ e. e.ceid) events.old }
 {
     for event in events {
         event.link(ceid, rptids)?;

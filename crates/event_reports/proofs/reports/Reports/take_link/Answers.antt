@@ -9,4 +9,5 @@ invariant_of-self c =
       count = c.self.invariant.count;
       vids = c.self.invariant.vids;
       links = rw same c.link_lines.ensures.links;
+      events = rw (same, c.link_lines.ensures.ceids, c.deref_mut.ensures.value) c.self.invariant.events;
     }

@@ -16,6 +16,7 @@ ghost use Rattle.gem_model.specs.Sizes.{bytes_of, counted, is_full};
 ghost use Rattle.core_view.specs.Counts.{count_of, taker};
 
 use crate::react::{must_wait, react};
+use core_shop::Reaction;
 use core_state::Plant;
 use core_view::{Entries, SessionCounts};
 use event_reports::{NoMemory, Values};
@@ -276,12 +277,13 @@ impl Core {
         };
         // What an event that finds no memory leaves of the plant counts for nothing.
         self.is_whole = false;
-        let Ok(reacted) = react(&mut self.plant, alloc, at, &event) else {
+        let mut reaction = Reaction::answered(Answer::Done);
+        let Ok(goes) = react(&mut self.plant, alloc, at, &event, &mut reaction) else {
             return Err(PostFault::NoMemory);
         };
-        let Some(reaction) = reacted else {
+        if !goes {
             return Err(PostFault::Again);
-        };
+        }
         add_taken(&mut self.written, &event, &reaction.answer);
         self.bytes += event_bytes(&event);
         self.sessions = self.plant.session_count();

@@ -12,8 +12,8 @@ invariant_of-self-3 c =
     let k = c.self.inside in
     let i = c.self.invariant in
     let whole : k.is_whole ≡ true = ap (λ (v : CoreView). v.is_whole) c.self.view_is ∙ c.requires.whole in
-    let o : Outcome = record { answer = c.in-Some.reaction.answer; ended = c.in-Some.reaction.ended; after = c.react.new.plant } in
-    let reacted : step k.plant c.args.at.0 c.args.event ≡ Some o = rw c.in-Some.is at c.in-Ok-react.ensures.some in
+    let o : Outcome = record { answer = c.react.new.reaction.answer; ended = c.react.new.reaction.ended; after = c.react.new.plant } in
+    let reacted : step k.plant c.args.at.0 c.args.event ≡ Some o = c.in-Ok-react.ensures.steps c.if-not-goes.false in
     let here : step (state_of k.config k.entries.items) c.args.at.0 c.args.event ≡ Some o = subst (λ (g : State). step g c.args.at.0 c.args.event ≡ Some o) (i.plant_is whole) reacted in
     let before : GoesOn k.config k.entries.items k.ends.items k.written k.bytes = record { config = i.config; run = i.run; sessions = rw i.sessions_are at i.sessions; ended = i.ended; written = i.written; bytes_are = i.bytes_are; entries_fit = i.entries_fit; bytes_fit = i.bytes_fit } in
     let entry : Entry = record { seat = c.args.seat; at = c.args.at; event = c.args.event } in
@@ -38,8 +38,8 @@ returns-clause-step c =
     let k = c.self.inside in
     let i = c.self.invariant in
     let whole : k.is_whole ≡ true = ap (λ (v : CoreView). v.is_whole) c.self.view_is ∙ c.requires.whole in
-    let o : Outcome = record { answer = c.in-Some.reaction.answer; ended = c.in-Some.reaction.ended; after = c.react.new.plant } in
-    let reacted : step k.plant c.args.at.0 c.args.event ≡ Some o = rw c.in-Some.is at c.in-Ok-react.ensures.some in
+    let o : Outcome = record { answer = c.react.new.reaction.answer; ended = c.react.new.reaction.ended; after = c.react.new.plant } in
+    let reacted : step k.plant c.args.at.0 c.args.event ≡ Some o = c.in-Ok-react.ensures.steps c.if-not-goes.false in
     let here : step (state_of k.config k.entries.items) c.args.at.0 c.args.event ≡ Some o = subst (λ (g : State). step g c.args.at.0 c.args.event ≡ Some o) (i.plant_is whole) reacted in
     let entry : Entry = record { seat = c.args.seat; at = c.args.at; event = c.args.event } in (
       o,

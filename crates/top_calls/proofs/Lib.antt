@@ -1,6 +1,7 @@
 pub mod LineParts
 pub mod AtText
 pub mod Stopping
+pub mod LineEnds
 pub mod Standing
 pub mod Progress
 pub mod Ending

@@ -1,7 +1,8 @@
--- The reader of a text, byte by byte.
-use Rattle.std.proofs.Common.{◌≡◌, ◌≢◌, ◌⊎◌, inl, inr, ℕ, ◌+◌, ◌<◌, ◌≤◌, List, [], ◌∷◌, ◌++◌, length, Bool, true, false, if◌then◌else◌, Option, Result, Ok, Err, refl, sym, ◌∙◌, ap, subst, append_assoc, arith, length-append}
+-- The reader of a text, part by part.
+use Rattle.std.proofs.Common.{◌≡◌, ◌≢◌, ◌==◌, ◌⊎◌, inl, inr, ℕ, ◌+◌, ◌<◌, List, [], ◌∷◌, ◌++◌, length, Bool, true, false, if◌then◌else◌, Option, Result, Ok, Err, refl, sym, ◌∙◌, ap, subst, append_assoc, arith, length-append}
 use Rattle.std.specs.Prelude.{⊤}
 use Rattle.std.proofs.lemmas.List.{append-nil}
+use Rattle.std.proofs.lemmas.Bool.Decides.{nat_tests}
 use Rattle.tool_events.specs.declared.entry.Entry.{Entry}
 use Rattle.tool_events.specs.declared.config.Config.{Config}
 use Rattle.gem_model.specs.Front.{IsFront}
@@ -12,7 +13,7 @@ use Rattle.line_grammar.proofs.Public.{long_line as too-long}
 use Rattle.gem_model.specs.Feed.{Given, Reading, Told, AllRead, OutsideGrammar, QuitAt, is_quit, line_given, line_told, told_behind, feed_lines, feed_entries, reading_after, first_reading}
 use Rattle.gem_model.specs.Sizes.{counted}
 use Rattle.gem_model.specs.SessionBytes.{line_and_more, line_bytes_in, lines_bytes_in, session_in}
-use Rattle.gem_model.proofs.Texts.{IsOneLine-more, lines-line, whole-feed, whole-none, first-long}
+use Rattle.gem_model.proofs.Texts.{lines-line, whole-feed, whole-none, first-long}
 use Rattle.core_view.specs.Counts.{count_of}
 use Rattle.core_view.specs.CoreView.{CoreView}
 use Rattle.line_feeding.specs.declared.halt.Halt.{Halt}
@@ -233,12 +234,20 @@ Stands-open c reader line number history config is none = record {
   reads_on = λ more session. rw config (omega arith);
 }
 
-pub Stands-push : (text : List ℕ) (byte : ℕ) (old new : Reader) → byte ≢ 10 → Stands text old → new.line.items ≡ old.line.items ++ byte ∷ [] → new.feeder ≡ old.feeder → new.number ≡ old.number → Stands (text ++ byte ∷ []) new
-Stands-push text byte old new other stands line feeder number = record {
+-- two parts without a line feed have none together
+IsOneLine-both : (front part : List ℕ) → IsOneLine front → IsOneLine part → IsOneLine (front ++ part)
+IsOneLine-both [] part none one = one
+IsOneLine-both (b ∷ front) part none one =
+    let here : (b == 10) ≡ false = grind (arith, nat_tests) in
+    let others : IsOneLine front = grind (arith, nat_tests) in
+    rw here (IsOneLine-both front part others one)
+
+pub Stands-push : (text : List ℕ) (part : List ℕ) (old new : Reader) → IsOneLine part → Stands text old → new.line.items ≡ old.line.items ++ part → new.feeder ≡ old.feeder → new.number ≡ old.number → Stands (text ++ part) new
+Stands-push text part old new one stands line feeder number = record {
   whole = stands.whole;
   reading = stands.reading;
-  text_is = ap (λ (t : List ℕ). t ++ byte ∷ []) stands.text_is ∙ append_assoc stands.whole old.line.items (byte ∷ []) ∙ ap (λ (l : List ℕ). stands.whole ++ l) (sym line);
-  line = rw line (IsOneLine-more old.line.items byte stands.line other);
+  text_is = ap (λ (t : List ℕ). t ++ part) stands.text_is ∙ append_assoc stands.whole old.line.items part ∙ ap (λ (l : List ℕ). stands.whole ++ l) (sym line);
+  line = rw line (IsOneLine-both old.line.items part stands.line one);
   ends = stands.ends;
   count = λ more. rw number (stands.count more);
   goes_on = λ more. ap (λ (f : Feeder). feed_entries f.core.config (stands.whole ++ more)) feeder ∙ stands.goes_on more ∙ ap (λ (n : ℕ). told_behind old.feeder.core.history (feed_lines n stands.reading (lines_of more))) (sym number) ∙ ap (λ (f : Feeder). told_behind f.core.history (feed_lines new.number stands.reading (lines_of more))) (sym feeder);
@@ -279,39 +288,39 @@ long_counts text all (b ∷ front) rest reader stands one long goes =
     (λ session. goes session ∙ ap (λ (ls : List (List ℕ)). session_in reader.feeder.core.config stands.whole session + lines_bytes_in stands.reading ls session) f.lines)
     line_bytes (too-long f.first (omega (arith, f.long, long))) refl
 
-long_text_is : (text : List ℕ) (byte : ℕ) (reader : Reader) (stands : Stands text reader) → text ++ byte ∷ [] ≡ stands.whole ++ (reader.line.items ++ byte ∷ [])
-long_text_is text byte reader stands = ap (λ (t : List ℕ). t ++ byte ∷ []) stands.text_is ∙ append_assoc stands.whole reader.line.items (byte ∷ [])
+long_text_is : (text : List ℕ) (part : List ℕ) (reader : Reader) (stands : Stands text reader) → text ++ part ≡ stands.whole ++ (reader.line.items ++ part)
+long_text_is text part reader stands = ap (λ (t : List ℕ). t ++ part) stands.text_is ∙ append_assoc stands.whole reader.line.items part
 
-long_line : (text : List ℕ) (byte : ℕ) (more : List ℕ) (reader : Reader) (stands : Stands text reader) → IsOneLine (reader.line.items ++ byte ∷ []) → line_bytes < length (reader.line.items ++ byte ∷ []) → IsLong ((text ++ byte ∷ []) ++ more) (text ++ byte ∷ [])
-long_line text byte more reader stands one size =
-    let is = long_text_is text byte reader stands in
+long_line : (text : List ℕ) (part : List ℕ) (more : List ℕ) (reader : Reader) (stands : Stands text reader) → IsOneLine (reader.line.items ++ part) → line_bytes < length (reader.line.items ++ part) → IsLong ((text ++ part) ++ more) (text ++ part)
+long_line text part more reader stands one size =
+    let is = long_text_is text part reader stands in
     record {
       front = record { behind = more; joined = refl };
-      line = reader.line.items ++ byte ∷ [];
-      is = is ∙ ap (λ (t : List ℕ). t ++ (reader.line.items ++ byte ∷ [])) (sym (ap whole_lines is ∙ stands.ends (reader.line.items ++ byte ∷ []) one));
+      line = reader.line.items ++ part;
+      is = is ∙ ap (λ (t : List ℕ). t ++ (reader.line.items ++ part)) (sym (ap whole_lines is ∙ stands.ends (reader.line.items ++ part) one));
       long = size;
     }
 
-long_number : (text : List ℕ) (byte : ℕ) (reader : Reader) (stands : Stands text reader) → IsOneLine (reader.line.items ++ byte ∷ []) → length (lines_of (text ++ byte ∷ [])) ≡ reader.number
-long_number text byte reader stands one =
-    let all = ap (λ (t : List ℕ). length (lines_of t)) (long_text_is text byte reader stands) in
-    let last = ap length (last_line (reader.line.items ++ byte ∷ []) one (λ e. absurd (omega (arith, ap length e, length-append reader.line.items (byte ∷ []))))) in
-    omega (arith, all, last, stands.count (reader.line.items ++ byte ∷ []))
+long_number : (text : List ℕ) (part : List ℕ) (reader : Reader) (stands : Stands text reader) → IsOneLine (reader.line.items ++ part) → line_bytes < length (reader.line.items ++ part) → length (lines_of (text ++ part)) ≡ reader.number
+long_number text part reader stands one size =
+    let all = ap (λ (t : List ℕ). length (lines_of t)) (long_text_is text part reader stands) in
+    let last = ap length (last_line (reader.line.items ++ part) one (λ e. absurd (omega (arith, ap length e, size)))) in
+    omega (arith, all, last, stands.count (reader.line.items ++ part))
 
-pub Stands-long : (text : List ℕ) (byte : ℕ) (more : List ℕ) (reader : Reader) → byte ≢ 10 → line_bytes ≤ length reader.line.items → Stands text reader → StopsAt ⊥ ((text ++ byte ∷ []) ++ more) reader (halt.Line line_bytes)
-Stands-long text byte more reader other long stands =
-    let goes = ap (feed_entries reader.feeder.core.config) (append_assoc text (byte ∷ []) more) ∙ text_goes text reader stands ((byte ∷ []) ++ more) in
-    let regrouped = ap (λ (t : List ℕ). told_behind reader.feeder.core.history (feed_lines reader.number stands.reading (lines_of t))) (sym (append_assoc reader.line.items (byte ∷ []) more)) in
-    let size : line_bytes < length (reader.line.items ++ byte ∷ []) = omega (arith, length-append reader.line.items (byte ∷ []), long) in
-    let one = IsOneLine-more reader.line.items byte stands.line other in
+pub Stands-long : (text : List ℕ) (part : List ℕ) (more : List ℕ) (reader : Reader) → IsOneLine part → line_bytes < length reader.line.items + length part → Stands text reader → StopsAt ⊥ ((text ++ part) ++ more) reader (halt.Line line_bytes)
+Stands-long text part more reader one-part long stands =
+    let goes = ap (feed_entries reader.feeder.core.config) (append_assoc text part more) ∙ text_goes text reader stands (part ++ more) in
+    let regrouped = ap (λ (t : List ℕ). told_behind reader.feeder.core.history (feed_lines reader.number stands.reading (lines_of t))) (sym (append_assoc reader.line.items part more)) in
+    let size : line_bytes < length (reader.line.items ++ part) = omega (arith, length-append reader.line.items part, long) in
+    let one = IsOneLine-both reader.line.items part stands.line one-part in
     record {
-      told = goes ∙ regrouped ∙ long_text reader.number stands.reading reader.feeder.core.history (reader.line.items ++ byte ∷ []) more one size;
-      at_line = (text ++ byte ∷ [], inr (inl (long_line text byte more reader stands one size)), long_number text byte reader stands one);
-      given = given_before ⊥ text ((text ++ byte ∷ []) ++ more) reader reader.feeder.core.history stands (front_of text (byte ∷ []) more) refl;
-      counts = long_counts text ((text ++ byte ∷ []) ++ more) (reader.line.items ++ byte ∷ []) more reader stands one size
-          (λ session. ap (λ (t : List ℕ). session_in reader.feeder.core.config t session) (append_assoc text (byte ∷ []) more)
-          ∙ text_in text reader stands ((byte ∷ []) ++ more) session
-          ∙ ap (λ (t : List ℕ). session_in reader.feeder.core.config stands.whole session + lines_bytes_in stands.reading (lines_of t) session) (sym (append_assoc reader.line.items (byte ∷ []) more)));
+      told = goes ∙ regrouped ∙ long_text reader.number stands.reading reader.feeder.core.history (reader.line.items ++ part) more one size;
+      at_line = (text ++ part, inr (inl (long_line text part more reader stands one size)), long_number text part reader stands one size);
+      given = given_before ⊥ text ((text ++ part) ++ more) reader reader.feeder.core.history stands (front_of text part more) refl;
+      counts = long_counts text ((text ++ part) ++ more) (reader.line.items ++ part) more reader stands one size
+          (λ session. ap (λ (t : List ℕ). session_in reader.feeder.core.config t session) (append_assoc text part more)
+          ∙ text_in text reader stands (part ++ more) session
+          ∙ ap (λ (t : List ℕ). session_in reader.feeder.core.config stands.whole session + lines_bytes_in stands.reading (lines_of t) session) (sym (append_assoc reader.line.items part more)));
     }
 
 -- a line feed comes

@@ -1,10 +1,12 @@
 //! The input as lines: bytes are gathered to lines, and each line is taken at its line feed.
-ghost use Rattle.std.specs.Prelude.{◌≡◌, ◌+◌, ◌<◌, ◌≤◌, ◌≢◌, ◌^◌, ℕ, List, [], ◌∷◌, ◌++◌, length, true, Err, IfOk, OnOk};
+ghost use Rattle.std.specs.Prelude.{◌≡◌, ◌+◌, ◌<◌, ◌≤◌, ◌≢◌, ◌^◌, ◌==◌, ℕ, List, [], ◌∷◌, ◌++◌, length, take, drop, true, false, Err, IfOk, IfSome, IfNone, OnOk};
+ghost use Rattle.std.specs.List.{list_any};
 ghost use Rattle.tool_events.specs.Configs.{IsConfig};
 ghost use Rattle.line_feeding.specs.Going.{seen};
 
 use crate::feeder::Feeder;
 use line_feeding::Halt;
+use memchr::memchr;
 use outside::Sink;
 use std::alloc::{AllocError, Global};
 use tool_events::Config;
@@ -21,7 +23,7 @@ pub struct Reader {
 }
 
 impl Reader {
-    ghost use Rattle.top_calls.specs.Standing.{Stands, StandsOrStopped, Takes, Finishes};
+    ghost use Rattle.top_calls.specs.Standing.{IsOneLine, Stands, StandsOrStopped, Takes, Finishes};
 
     /// A reader before the first byte.
     pub fn open(alloc: Global, config: &Config) -> Result<Reader, AllocError>
@@ -58,36 +60,36 @@ impl Reader {
         Ok(())
     }
 
-    /// A byte of the line that isn't whole comes. A line of over 600,000 bytes is refused.
-    fn push_byte(&mut self, byte: u8) -> Result<(), Halt>
-        requires { byte ≢ 10 }
-        ensures stands { (text : List ℕ) → Stands text self.old → StandsOrStopped (text ++ byte ∷ []) self.new result }
+    /// Bytes of the line that isn't whole come, of which none is a line feed. A line of over 600,000 bytes is refused.
+    fn push_part(&mut self, part: &[u8]) -> Result<(), Halt>
+        requires { IsOneLine part.now }
+        ensures stands { (text : List ℕ) → Stands text self.old → StandsOrStopped (text ++ part.now) self.new result }
         ensures core_stays { self.new.feeder.core ≡ self.old.feeder.core }
         ensures fault { result ≢ Err Halt.Write }
         ensures number { self.new.number ≡ self.old.number }
     {
-        if self.line.len() >= LINE_BYTES {
+        if part.len() > LINE_BYTES.saturating_sub(self.line.len()) {
             return Err(Halt::Line(LINE_BYTES as u64));
         }
-        match self.line.push(byte) {
+        match self.line.extend_from_slice(part) {
             Ok(()) => Ok(()),
             Err(_) => Err(Halt::NoMemory),
         }
     }
 
-    /// The next byte of the text comes.
-    fn take_byte<K: Sink>(&mut self, alloc: Global, byte: u8, out: &mut K) -> Result<(), Halt>
+    /// What was left of the line comes, and its line feed.
+    fn take_rest<K: Sink>(&mut self, alloc: Global, rest: &[u8], out: &mut K) -> Result<(), Halt>
         requires number { self.old.number + 1 < 2 ^ 64 }
         requires whole { self.old.feeder.core.is_whole ≡ true }
+        requires line { IsOneLine rest.now }
         ensures takes { (text : List ℕ) → Stands text self.old
-            → Takes text (byte ∷ []) self.old self.new (seen K.held K.faults K.refusals out.old) (seen K.held K.faults K.refusals out.new) result }
+            → Takes text (rest.now ++ 10 ∷ []) self.old self.new (seen K.held K.faults K.refusals out.old) (seen K.held K.faults K.refusals out.new) result }
         ensures number { self.new.number ≤ self.old.number + 1 }
         ensures whole { OnOk result (self.new.feeder.core.is_whole ≡ true) }
     {
-        if byte == b'\n' {
-            self.end_line(alloc, out)
-        } else {
-            self.push_byte(byte)
+        match self.push_part(rest) {
+            Ok(()) => self.end_line(alloc, out),
+            Err(halt) => Err(halt),
         }
     }
 
@@ -105,13 +107,15 @@ impl Reader {
         ensures number { self.new.number ≤ self.old.number + length piece.now }
         ensures whole { OnOk result (self.new.feeder.core.is_whole ≡ true) }
     {
-        for byte in piece {
-            match self.take_byte(alloc, *byte, out) {
+        let mut left = piece;
+        while let Some(end) = line_end(left) {
+            match self.take_rest(alloc, &left[..end], out) {
                 Ok(()) => {}
                 Err(halt) => return Err(halt),
             }
+            left = &left[end + 1..];
         }
-        Ok(())
+        self.push_part(left)
     }
 
     /// The text ends: what came of its last line is a line too.
@@ -126,4 +130,14 @@ impl Reader {
         }
         self.feeder.take_line(alloc, &self.line, out)
     }
+}
+
+// The place of the first line feed.
+fn line_end(bytes: &[u8]) -> Option<usize>
+    ensures within { IfSome result (λ end. end < length bytes.now) }
+    ensures feed { IfSome result (λ end. bytes.now ≡ take end bytes.now ++ 10 ∷ drop (end + 1) bytes.now) }
+    ensures line { IfSome result (λ end. list_any (λ b. b == 10) (take end bytes.now) ≡ false) }
+    ensures none { IfNone result (list_any (λ b. b == 10) bytes.now ≡ false) }
+{
+    memchr(b'\n', bytes)
 }

@@ -16,6 +16,9 @@ use secs_items::{Item, encode};
 use std::alloc::{AllocError, Global};
 use tool_events::Config;
 
+// Room for a short text, as most are, which is taken at once.
+const TEXT_ROOM: usize = 32;
+
 /// A frame without text.
 pub fn header_frame(alloc: Global, header: Header) -> Result<Bytes, AllocError>
     ensures { IfOk result (λ frame. frame ≡ message_bytes header []) }
@@ -53,7 +56,7 @@ fn text_of(alloc: Global, item: &Item) -> Result<Bytes, AllocError>
     requires { IsSendable (view item.now) }
     ensures { IfOk result (λ text. text ≡ plain (view item.now)) }
 {
-    let mut text = Vec::new(alloc);
+    let mut text = Vec::with_capacity(alloc, TEXT_ROOM)?;
     encode(item, &mut text)?;
     Ok(Bytes::from_vec(text))
 }

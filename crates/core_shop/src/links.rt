@@ -8,7 +8,7 @@ ghost use Rattle.core_shop.specs.Reactions.{outcome_of, Acts, IsLinkEvent};
 use crate::clock::{end_for, is_due, look};
 use crate::reaction::Reaction;
 use core_state::Plant;
-use gem_ids::Moment;
+use gem_ids::{ModuleId, Moment};
 use std::alloc::{AllocError, Global};
 use tool_events::{Answer, Event, SessionCause};
 
@@ -56,6 +56,21 @@ fn take(plant: &mut Plant, session: u64) -> Option<Reaction>
     }
 }
 
+/// A module fetches its open command. None: it has none that was not fetched, and nothing has changed.
+fn fetch(plant: &mut Plant, m: ModuleId) -> Option<Reaction>
+    ensures some { IfSome result (λ reaction. Acts plant.old.moment plant.old (event.Fetch m) reaction plant.new) }
+    ensures none { IfNone result (acts plant.old.moment plant.old (event.Fetch m) ≡ None) }
+    ensures stays { IfNone result (plant.new ≡ plant.old) }
+{
+    if !plant.has_command(m) {
+        return None;
+    }
+    match plant.fetch(m) {
+        Some(command) => Some(Reaction::answered(Answer::Command(command))),
+        None => None,
+    }
+}
+
 /// The clock is looked at, and the moment was raised from this one. None: nothing is due.
 fn tick(plant: &mut Plant, alloc: Global, before: Moment) -> Result<Option<Reaction>, AllocError>
     ensures some { IfOk result (λ r. IfSome r (λ reaction. ticked before.0 plant.old ≡ Some (outcome_of reaction plant.new))) }
@@ -92,7 +107,8 @@ pub fn link_event(
         Event::LinkDown { session, cause } => Ok(Some(link_down(plant, alloc, *session, *cause)?)),
         Event::Take { session } => Ok(take(plant, *session)),
         Event::Tick => tick(plant, alloc, before),
-        Event::Fetch(_) | Event::Listen | Event::Watch(_) => Ok(None),
+        Event::Fetch(m) => Ok(fetch(plant, *m)),
+        Event::Listen | Event::Watch(_) => Ok(None),
         Event::Host { .. } | Event::Oper(_) | Event::Signal(_) => Ok(None),
     }
 }

@@ -1,7 +1,8 @@
 //! The modules, as the equipment and the operator see them (this tool's profile, moves).
-ghost use Rattle.std.specs.Prelude.{◌≡◌, not};
+ghost use Rattle.std.specs.Prelude.{◌≡◌, ◌≤◌, not, is_some, length};
 ghost use Rattle.std.specs.Option.{option_to_list};
-ghost use Rattle.robot_moves.specs.Modules.{is_open, is_up};
+ghost use Rattle.robot_moves.specs.Modules.{is_open, is_up, unfetched};
+ghost use Rattle.tool_floor.specs.Floor.{fetched};
 ghost use Rattle.tool_floor.specs.Signals.{done_rows};
 ghost use Rattle.gem_model.specs.Signals.{lacks_module, module_of};
 ghost use Rattle.gem_model.specs.Step.{can_come_up};
@@ -9,6 +10,7 @@ ghost use Rattle.gem_model.specs.Step.{can_come_up};
 use crate::plant::Plant;
 use gem_ids::{CmdNo, ModuleId};
 use gem_tables::Firing;
+use tool_events::Command;
 
 impl Plant {
     /// Whether the tool has a module of this number.
@@ -37,6 +39,30 @@ impl Plant {
         ensures { result ≡ can_come_up m.0 self.now }
     {
         self.floor.is_down(m)
+    }
+
+    /// Whether a module has an open command that was not fetched.
+    pub fn has_command(&self, m: ModuleId) -> bool
+        ensures { result ≡ is_some (unfetched (module_of m.0 self.now)) }
+    {
+        self.floor.has_command(m)
+    }
+
+    /// The open command of a module that was not fetched yet; it is fetched then, and stays open. `None` exactly where there is
+    /// none, and nothing changes.
+    pub fn fetch(&mut self, m: ModuleId) -> Option<Command>
+        ensures command { result ≡ unfetched (module_of m.0 self.old) }
+        ensures after { self.new ≡ record self.old { floor = fetched m.0 self.old.floor } }
+    {
+        self.floor.fetch(m)
+    }
+
+    /// How many modules the tool has, 2 to 255.
+    pub fn module_count(&self) -> usize
+        ensures count { result ≡ length self.now.floor.modules }
+        ensures few { result ≤ 255 }
+    {
+        self.floor.module_count()
     }
 
     /// The row that Done of the open command of a module fires. `None` exactly where it has none.

@@ -19,7 +19,7 @@ use Rattle.transactions.specs.declared.transaction.What.{What}
 use Rattle.transactions.specs.declared.transaction.What.TheVariants as what
 use Rattle.transactions.specs.Table.{Table}
 use Rattle.tool_floor.specs.Machines.{is_creation}
-use Rattle.tool_floor.specs.Floor.{with_shop}
+use Rattle.tool_floor.specs.Floor.{with_shop, fetched}
 use Rattle.gem_model.specs.State.{State, Clock, none_asked, without_session}
 use Rattle.gem_model.specs.Values.{Occasion}
 use Rattle.gem_model.specs.Noting.{line_behind, line_with_alarm}
@@ -48,6 +48,7 @@ pub record EachInner (P : State → Type 0) : Type 1 where
   pub alarm : (g : State) (alid : ℕ) → P g → P (record g { line = line_with_alarm alid g })
   pub kinds : (g : State) (k : SpooledKinds) → P g → P (record g { line = with_kinds k g.line })
   pub answer : (g : State) → P g → P (record g { line = answered_line g.line })
+  pub fetched : (g : State) (number : ℕ) → P g → P (record g { floor = fetched number g.floor })
   pub came : (g : State) (port : ℕ) (name : Option (List ℕ)) (slots : List ℕ) → P g → P (with_arrival port name slots g)
   pub written : (g : State) (a : CarrierAction) → is_done_code (carrier_code g.floor.shop a) ≡ true → P g → P (record g { floor = with_shop (carrier_written a g.floor.shop) g.floor })
   pub row : (g : State) (f : Firing) → IsListed f → row_starts g f ≡ true → P g → P (takes_effect g f)
@@ -95,6 +96,7 @@ module _ (P : State → Type 0) (each : EachInner P) where
     event = each.event;
     alarm = each.alarm;
     kinds = each.kinds;
+    fetched = each.fetched;
     came = each.came;
     written = each.written;
     row = λ g f free starts at. each.row g f (free_listed f free) starts at;

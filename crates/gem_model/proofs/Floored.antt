@@ -139,6 +139,7 @@ sound_each = record {
     alarm = λ g alid valid. valid;
     kinds = λ g k valid. valid;
     answer = λ g valid. valid;
+    fetched = λ g number valid. valid;
     came = λ g port name slots valid. came-keeps port (arrival_of port name slots g.floor.shop.carriers) g.floor.shop valid;
     written = λ g a is valid. written-keeps a g.floor.shop is valid;
     row = λ g f listed is valid. subst Sound (sym (effect_as g f)) (by_tables (f.row.table == 1) (f.row.table == 2) (f.row.table == 3) f f.row.row g (sym (starts_as g f) ∙ is) valid);

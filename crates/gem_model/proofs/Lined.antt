@@ -145,6 +145,7 @@ lined_each g = record {
     alarm = λ h alid lined. lined_then g h (record h { line = line_with_alarm alid h }) lined (lined_alarm h alid);
     kinds = λ h k lined. lined_then g h (record h { line = with_kinds k h.line }) lined (kinds-keeps k h.line);
     answer = λ h lined. lined_then g h (record h { line = answered h.line }) lined (answered-keeps h.line);
+    fetched = λ h number lined. lined;
     came = λ h port name slots lined. lined;
     written = λ h a is lined. lined;
     row = λ h f listed is lined. lined_then g h (takes_effect h f) lined (subst (Lined h) (sym (effect_as h f)) (by_tables (f.row.table == 1) (f.row.table == 2) (f.row.table == 3) f f.row.row h listed (sym (starts_as h f) ∙ is)));

@@ -466,6 +466,7 @@ both_kept = record {
     event = λ g e o online both. (few_kept.inner.event g e o online both.0, own_line g (line_behind e o online g) (same_open e o online g) both.1);
     alarm = λ g alid both. (few_kept.inner.alarm g alid both.0, own_line g (line_with_alarm alid g) (same_alarm alid g) both.1);
     kinds = λ g k both. (few_kept.inner.kinds g k both.0, own_line g (with_kinds k g.line) (same_kinds k g.line) both.1);
+    fetched = λ g number both. both;
     came = λ g port name slots both. both;
     written = λ g a is both. both;
     row = λ g f free is both. (few_kept.inner.row g f free is both.0, own_row g f free both.1);

@@ -29,7 +29,8 @@ use Rattle.shop_floor.specs.Requests.{carrier_written}
 use Rattle.load_port.specs.Caack.{is_done_code}
 use Rattle.gem_model.specs.Shop.{carrier_action, carrier_caack}
 use Rattle.gem_model.specs.Signals.{lacks_port, port_row_starts, port_alarm, with_arrival, placed, removed, lacks_module, module_of, module_alarm, answer_alarm, module_done, module_failed, module_down, signalled, is_ready_to_unload}
-use Rattle.robot_moves.specs.Modules.{is_open, is_up as is_up_module}
+use Rattle.tool_events.specs.declared.answer.Command.{Command}
+use Rattle.robot_moves.specs.Modules.{is_open, unfetched, is_up as is_up_module}
 use Rattle.tool_floor.specs.Floor.{with_shop}
 use Rattle.tool_floor.specs.Signals.{at_module, done_rows}
 use Rattle.spool.specs.declared.note.Kind.{Kind}
@@ -74,7 +75,7 @@ use Rattle.gem_model.specs.Act.{note_answered, replied, taken, closed_by, data_a
 use Rattle.gem_model.specs.Due.{Due, EndOfSession, Linktest, Timeout, dues, is_due, due_done, all_done}
 use Rattle.gem_model.specs.Settle.{settling, settled}
 use Rattle.gem_model.specs.Step as steps
-use Rattle.gem_model.specs.Step.{Outcome, answered, ends, ended_by, step, step_from, acts, linked, hosted, can_clear, can_come_up, operated, switched, quits, settles}
+use Rattle.gem_model.specs.Step.{Outcome, answered, ends, ended_by, step, step_from, acts, command_out, linked, hosted, can_clear, can_come_up, operated, switched, quits, settles}
 use Rattle.gem_model.specs.Run.{Run, entry_after}
 use Rattle.gem_model.specs.OpenNotes.{sends_note, Carries, of_other, of_note, open_behind, frames_behind}
 use Rattle.gem_model.specs.Reported.{Reported, told_as, event_report, occasion, alarm_report, by_change, IsOf, by_event, by_firing, by_firings, by_advance, by_listed, by_rows, by_settling, by_clearing, by_setting, by_placed, by_removed, by_done, by_failed, by_down, by_signal, by_decision, by_message, by_message_rows, by_taken, by_closing, by_data, by_session_end, by_host, by_switched, by_operator, by_due, by_dues, by_act, by_settling_behind, by_step_from, by_step, reported_in}
@@ -491,6 +492,10 @@ tells_frame g [] o are here = none_some o here
 tells_frame g (frame ∷ frames) o are here =
     the_told g [] _ o (tells_same g (record g { waiting = frames }) refl (λ P all waits. (subst (AllByRecursion (Carries P)) are waits).1)) here
 
+tells_command : (g : State) (number : ℕ) (command : Option Command) (o : Outcome) → command_out g number command ≡ Some o → TellsTo g [] o
+tells_command g number None o here = none_some o here
+tells_command g number (Some command) o here = the_told g [] _ o (tells_at g) here
+
 tells_acts : (before : ℕ) (g : State) (e : Posted) (o : Outcome) → acts before g e ≡ Some o → TellsTo g (by_act before g e) o
 tells_acts before g event.LinkUp o here = went (is_up g) _ _ _ (λ _ e. the_told g [] _ o (tells_at g) e) (λ _ e. the_told g [] _ o (tells_at g) e) here
 tells_acts before g (event.LinkDown session cause) o here = told_way g (is_session_up g session) (ends answer.Done cause g) (by_session_end g) o (tells_ended g) here
@@ -501,7 +506,7 @@ tells_acts before g (event.Host session arrival) o here =
 tells_acts before g (event.Take session) o here = went (is_session_up g session) _ _ _ (λ _ e. tells_frame g g.waiting o refl e) (λ _ e. the_told g [] _ o (tells_at g) e) here
 tells_acts before g (event.Oper command) o here = the_told g _ (operated command g) o (tells_operated command g) here
 tells_acts before g (event.Signal signal) o here = the_told g (by_signal signal g) _ o (tells_signalled signal g) here
-tells_acts before g (event.Fetch m) o here = none_some o here
+tells_acts before g (event.Fetch m) o here = tells_command g m.0 (unfetched (module_of m.0 g)) o here
 tells_acts before g event.Tick o here = of (is_due before g) here where
   of : (b : Bool) → (if b then Some (record { answer = answer.Done; ended = ended_by (dues g) g; after = all_done (dues g) g }) else None) ≡ Some o → TellsTo g (if b then by_dues (dues g) g else []) o
   of true here = the_told g (by_dues (dues g) g) _ o (tells_all (dues g) g) here

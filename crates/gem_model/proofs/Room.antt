@@ -565,6 +565,7 @@ few_kept = record {
     event = λ g e o online few. few-line g (line_behind e o online g) (same_open e o online g) few;
     alarm = λ g alid few. few-line g (line_with_alarm alid g) (same_alarm alid g) few;
     kinds = λ g k few. few-line g (with_kinds k g.line) (same_kinds k g.line) few;
+    fetched = λ g number few. few;
     came = λ g port name slots few. few;
     written = λ g a is few. few;
     row = few_row;

@@ -123,6 +123,7 @@ same_each g = record {
   alarm = λ h alid same. record { config = same.config; link = same.link; quitting = same.quitting };
   kinds = λ h k same. record { config = same.config; link = same.link; quitting = same.quitting };
   answer = λ h same. record { config = same.config; link = same.link; quitting = same.quitting };
+  fetched = λ h number same. record { config = same.config; link = same.link; quitting = same.quitting };
   came = λ h port name slots same. record { config = same.config; link = same.link; quitting = same.quitting };
   written = λ h a is same. record { config = same.config; link = same.link; quitting = same.quitting };
   row = λ h f listed is same. same_then g h (takes_effect h f) same (same_effect h f);

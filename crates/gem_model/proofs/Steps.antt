@@ -31,10 +31,13 @@ use Rattle.gem_model.specs.Verdict.{header_of}
 use Rattle.gem_model.specs.Act.{session_ended}
 use Rattle.gem_model.specs.Due.{Due, EndOfSession, Linktest, Timeout, dues, dues_with, timeouts, expired, link_times, is_due, all_done, asks_linktest, timed_out}
 use Rattle.gem_model.specs.Settle.{settled}
-use Rattle.gem_model.specs.Step.{Outcome, step, step_from, answered, end_now, hosted, linked, handed_out, operated, is_accepted, switched, quits, ticked, ended_by, acts, settles}
+use Rattle.gem_model.specs.Step.{Outcome, step, step_from, answered, end_now, hosted, linked, handed_out, command_out, operated, is_accepted, switched, quits, ticked, ended_by, acts, settles}
 use Rattle.gem_model.proofs.Links.{link_after-keeps, due-down}
 use Rattle.gem_model.proofs.Tests.{went, none_some}
-use Rattle.gem_model.specs.Signals.{signalled, is_ready_to_unload}
+use Rattle.tool_events.specs.declared.answer.Command.{Command}
+use Rattle.robot_moves.specs.Modules.{unfetched}
+use Rattle.tool_floor.specs.Floor.{fetched}
+use Rattle.gem_model.specs.Signals.{signalled, module_of, is_ready_to_unload}
 use Rattle.gem_model.proofs.Same.{Same, same_at, same_then, same_listed, same_settled, same_data, same_timeout, same_switched, same_signal}
 
 -- 1 for a session that is up
@@ -265,6 +268,10 @@ keeps_up g down = record {
 keeps_ended : (g : State) → Keeping g (answered answer.Ended g)
 keeps_ended g = keeps_same g g _ (same_at g)
 
+keeps_fetched : (g : State) (number : ℕ) (command : Option Command) (o : Outcome) → command_out g number command ≡ Some o → Keeping g o
+keeps_fetched g number None o here = none_some o here
+keeps_fetched g number (Some command) o here = the_some g _ o (keeps_same g (record g { floor = fetched number g.floor }) _ (record { config = refl; link = refl; quitting = refl })) here
+
 keeps_acts : (before : ℕ) (g : State) (e : Event) (o : Outcome) → acts before g e ≡ Some o → Keeping g o
 keeps_acts before g event.LinkUp o here = went (is_up g) _ _ _ (λ _ e. the_some g _ o (keeps_ended g) e) (λ down e. the_some g _ o (keeps_up g down) e) here
 keeps_acts before g (event.LinkDown session cause) o here = went (is_session_up g session) _ _ _ (λ up e. the_some g _ o (keeps_end g _ _ _ (up_at g session up) (ends_as _)) e) (λ _ e. the_some g _ o (keeps_ended g) e) here
@@ -272,7 +279,7 @@ keeps_acts before g (event.Host session arrival) o here = went (is_session_up g 
 keeps_acts before g (event.Take session) o here = went (is_session_up g session) _ _ _ (λ _ e. keeps_taken g g.waiting o e) (λ _ e. the_some g _ o (keeps_ended g) e) here
 keeps_acts before g (event.Oper command) o here = the_some g _ o (keeps_operated g command) here
 keeps_acts before g (event.Signal signal) o here = the_some g _ o (keeps_same g (signalled signal g) _ (same_signal g signal)) here
-keeps_acts before g (event.Fetch m) o here = none_some o here
+keeps_acts before g (event.Fetch m) o here = keeps_fetched g m.0 (unfetched (module_of m.0 g)) o here
 keeps_acts before g event.Tick o here = keeps_ticked before g o here
 keeps_acts before g event.Listen o here = none_some o here
 keeps_acts before g (event.Watch port) o here = went (is_ready_to_unload port.0 g) _ _ _ (λ _ e. the_some g _ o (keeps_same g g _ (same_at g)) e) (λ _ e. none_some o e) here

@@ -50,8 +50,9 @@ use Rattle.gem_model.specs.Messages.{done, gem_done, shop_done, remote_done, car
 use Rattle.gem_model.specs.Spooling.{rspack}
 use Rattle.gem_model.specs.Shop.{is_local, carrier_caack, carrier_action}
 use Rattle.gem_model.specs.Signals.{lacks_port, port_row_starts, port_alarm, with_arrival, placed, removed, lacks_module, module_of, module_alarm, answer_alarm, module_done, module_failed, module_down, signalled, is_ready_to_unload}
-use Rattle.robot_moves.specs.Modules.{is_open, is_up as is_up_module}
-use Rattle.tool_floor.specs.Floor.{with_shop}
+use Rattle.tool_events.specs.declared.answer.Command.{Command}
+use Rattle.robot_moves.specs.Modules.{is_open, unfetched, is_up as is_up_module}
+use Rattle.tool_floor.specs.Floor.{with_shop, fetched}
 use Rattle.tool_floor.specs.Machines.{is_creation}
 use Rattle.tool_floor.specs.Signals.{at_module, done_rows}
 use Rattle.gem_model.specs.Direct.{operator_rows, timeout_rows}
@@ -90,6 +91,7 @@ pub record Inner (P : State → Type 0) : Type 1 where
   pub event : (g : State) (e : Option ℕ) (o : Occasion) (online : Bool) → P g → P (record g { line = line_behind e o online g })
   pub alarm : (g : State) (alid : ℕ) → P g → P (record g { line = line_with_alarm alid g })
   pub kinds : (g : State) (k : SpooledKinds) → P g → P (record g { line = with_kinds k g.line })
+  pub fetched : (g : State) (number : ℕ) → P g → P (record g { floor = fetched number g.floor })
   pub came : (g : State) (port : ℕ) (name : Option (List ℕ)) (slots : List ℕ) → P g → P (with_arrival port name slots g)
   pub written : (g : State) (a : CarrierAction) → is_done_code (carrier_code g.floor.shop a) ≡ true → P g → P (record g { floor = with_shop (carrier_written a g.floor.shop) g.floor })
   pub row : (g : State) (f : Firing) → IsFree f → row_starts g f ≡ true → P g → P (takes_effect g f)
@@ -306,6 +308,10 @@ module _ (P : State → Type 0) (kept : Kept P) where
   kept_frame g [] o at here = none_some o here
   kept_frame g (frame ∷ frames) o at here = the_kept _ o (kept.inner.waiting g frames at) here
 
+  kept_command : (g : State) (number : ℕ) (command : Option Command) (o : Outcome) → P g → steps.command_out g number command ≡ Some o → KeptTo o
+  kept_command g number None o at here = none_some o here
+  kept_command g number (Some command) o at here = the_kept _ o (kept.inner.fetched g number at) here
+
   pub kept_acts : (before : ℕ) (g : State) (e : Event) (o : Outcome) → P g → acts before g e ≡ Some o → KeptTo o
   kept_acts before g event.LinkUp o at here = went (is_up g) _ _ _ (λ _ e. the_kept _ o at e) (λ down e. the_kept _ o (kept.link g _ (λ is. absurd (true≢false (sym is ∙ not_selected g.link.phase down))) at) e) here
   kept_acts before g (event.LinkDown session cause) o at here = went (is_session_up g session) _ _ _ (λ _ e. the_kept _ o (kept.ended g at) e) (λ _ e. the_kept _ o at e) here
@@ -316,7 +322,7 @@ module _ (P : State → Type 0) (kept : Kept P) where
   kept_acts before g (event.Take session) o at here = went (is_session_up g session) _ _ _ (λ _ e. kept_frame g g.waiting o at e) (λ _ e. the_kept _ o at e) here
   kept_acts before g (event.Oper command) o at here = the_kept (operated command g) o (kept_operated command g at) here
   kept_acts before g (event.Signal signal) o at here = the_kept _ o (kept_signalled P kept.inner signal g at) here
-  kept_acts before g (event.Fetch m) o at here = none_some o here
+  kept_acts before g (event.Fetch m) o at here = kept_command g m.0 (unfetched (module_of m.0 g)) o at here
   kept_acts before g event.Tick o at here = went (is_due before g) _ _ _ (λ _ e. the_kept _ o (kept_due g (due_at (link_times g) g.link g.moment) at) e) (λ _ e. none_some o e) here
   kept_acts before g event.Listen o at here = none_some o here
   kept_acts before g (event.Watch port) o at here = went (is_ready_to_unload port.0 g) _ _ _ (λ _ e. the_kept _ o at e) (λ _ e. none_some o e) here

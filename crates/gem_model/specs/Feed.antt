@@ -9,6 +9,7 @@ use Rattle.tool_events.specs.declared.event.SessionCause.TheVariants.{PeerEnd, S
 use Rattle.tool_events.specs.declared.config.Config.{Config}
 use Rattle.gem_model.specs.State.{State, opening, is_up, is_session_up}
 use Rattle.gem_model.specs.Step.{step, after}
+use Rattle.tool_floor.specs.Floor.{module_numbers}
 use Rattle.gem_model.specs.Run.{after_all}
 use Rattle.gem_model.specs.Lines.{lines_of}
 use Rattle.line_grammar.specs.declared.line.Line.{Line}
@@ -28,11 +29,6 @@ entry_of at event = record { seat = 0; at = record { 0 = at }; event = event }
 abbrev pub takes : State → List Entry
 takes g = if is_up g then map (λ _. entry_of 0 (event.Take g.link.session)) g.waiting else []
 
--- what one input gives, which has a step: its entry, and then the frames are taken (this tool's profile, what an input
--- line does)
-abbrev pub given : State → ℕ → Event → List Entry
-given g at event = entry_of at event ∷ takes (after g at event)
-
 -- what a line gives: its entries, and the state after them
 pub record Given : Type 0 where
   pub entries : List Entry
@@ -42,9 +38,9 @@ pub record Given : Type 0 where
 abbrev pub nothing : State → Given
 nothing g = record { entries = []; state = g }
 
--- the entries of one input, and the state that they lead to
-abbrev pub input : State → ℕ → Event → Given
-input g at event = record { entries = given g at event; state = after_all g (given g at event) }
+-- one entry, and the state that it leads to
+abbrev pub entered : State → ℕ → Event → Given
+entered g at event = record { entries = entry_of at event ∷ []; state = after g at event }
 
 -- all frames that wait are taken
 abbrev pub taken_all : State → Given
@@ -57,6 +53,25 @@ behind entries more = record more { entries = entries ++ more.entries }
 -- one part, and the next in the state after it
 abbrev pub and_then : Given → (State → Given) → Given
 and_then first more = behind first.entries (more first.state)
+
+-- the module of a number fetches, where it has a command that was not fetched
+abbrev pub fetched_one : ℕ → State → Given
+fetched_one m g =
+    if is_some (step g 0 (event.Fetch (record { 0 = m }))) then entered g 0 (event.Fetch (record { 0 = m })) else nothing g
+
+-- the modules of these numbers fetch, one after another (this tool's profile, what an input line does)
+abbrev pub fetched_by : List ℕ → State → Given
+fetched_by [] g = nothing g
+fetched_by (m ∷ ms) g = and_then (fetched_one m g) (fetched_by ms)
+
+-- all modules fetch, in the order of their numbers; none does once the operator ended the run
+abbrev pub fetched_all : State → Given
+fetched_all g = if g.quitting then nothing g else fetched_by (module_numbers 1 g.floor.modules) g
+
+-- What one input gives, which has a step: its entry; then all frames that wait are taken; and then the modules fetch their
+-- commands (this tool's profile, what an input line does).
+abbrev pub input : State → ℕ → Event → Given
+input g at event = and_then (and_then (entered g at event) taken_all) fetched_all
 
 -- one message of a session
 abbrev pub message : State → ℕ → Arrival → Given

@@ -24,7 +24,9 @@ use Rattle.gem_model.specs.Machines.{row_starts}
 use Rattle.gem_model.specs.Fire.{fires}
 use Rattle.gem_model.specs.Noting.{clears_alarm}
 use Rattle.gem_model.specs.Direct.{operator_rows}
-use Rattle.robot_moves.specs.Modules.{is_down}
+use Rattle.tool_events.specs.declared.answer.Command.{Command}
+use Rattle.robot_moves.specs.Modules.{is_down, unfetched}
+use Rattle.tool_floor.specs.Floor.{fetched}
 use Rattle.gem_model.specs.Signals.{lacks_port, module_of, module_alarm, signalled, is_ready_to_unload}
 use Rattle.gem_model.specs.Verdict.{header_of}
 use Rattle.gem_model.specs.Act.{data_done, session_ended}
@@ -67,6 +69,13 @@ hosted g arrival link.Nothing = answered answer.Done g
 abbrev pub handed_out : State → List (List ℕ) → Option Outcome
 handed_out g [] = None
 handed_out g (frame ∷ frames) = Some (answered (answer.Frame frame) (record g { waiting = frames }))
+
+-- ---- modules
+
+-- the open command of the module of a number that was not fetched yet is handed out; it stays open (this tool's profile, moves)
+abbrev pub command_out : State → ℕ → Option Command → Option Outcome
+command_out g number None = None
+command_out g number (Some command) = Some (answered (answer.Command command) (record g { floor = fetched number g.floor }))
 
 -- ---- operators
 
@@ -131,9 +140,9 @@ ticked before g =
 -- ---- all events
 
 -- What an event does before the tool settles, in a state whose moment is raised from the one before. There is none where
--- the event has to wait: a Take that finds no frame, a Tick that finds nothing due, a Listen, a Watch of a port that isn't
--- READY TO UNLOAD; and a Fetch, since no command is issued yet. (This tool's profile, states of the link, what a header
--- does, and time.)
+-- the event has to wait: a Take that finds no frame, a Fetch of a module that finds no command, a Tick that finds nothing due, a
+-- Listen, and a Watch of a port that isn't READY TO UNLOAD. (This tool's profile, states of the link, what a header does, moves,
+-- and time.)
 abbrev pub acts : ℕ → State → Event → Option Outcome
 acts before g event.LinkUp =
     if is_up g then Some (answered answer.Ended g)
@@ -148,7 +157,7 @@ acts before g (event.Take session) =
     if is_session_up g session then handed_out g g.waiting else Some (answered answer.Ended g)
 acts before g (event.Oper command) = Some (operated command g)
 acts before g (event.Signal signal) = Some (answered answer.Done (signalled signal g))
-acts before g (event.Fetch m) = None
+acts before g (event.Fetch m) = command_out g m.0 (unfetched (module_of m.0 g))
 acts before g event.Tick = ticked before g
 acts before g event.Listen = None
 acts before g (event.Watch port) = if is_ready_to_unload port.0 g then Some (answered answer.Done g) else None

@@ -12,12 +12,13 @@ use Rattle.gem_model.specs.Printed.{printed, outcome_lines}
 use Rattle.gem_model.proofs.Runs.{after-step}
 use Rattle.gem_model.specs.State.{is_up}
 use Rattle.gem_model.specs.Sessions.{session_end}
-use Rattle.gem_model.specs.Printed.{answer_line, end_line, line_bytes}
+use Rattle.gem_model.specs.Printed.{fetches, answer_line, end_line, line_bytes}
 use Rattle.gem_model.proofs.Ends.{session_end-now}
 use Rattle.gem_model.proofs.Steps.{step_keeps}
 use Rattle.gem_model.specs.Sizes.{is_full}
 use Rattle.tool_events.specs.declared.config.Config.{Config}
 use Rattle.gem_model.proofs.Printing.{printed-snoc}
+use Rattle.gem_ids.specs.declared.numbers.ModuleId.{ModuleId}
 use Rattle.tool_events.specs.declared.answer.Answer.{Answer}
 use Rattle.tool_events.specs.declared.event.SessionEnd.{SessionEnd}
 use Rattle.core_view.specs.CoreView.{CoreView}
@@ -92,14 +93,14 @@ abbrev pub one : CoreView → Entry → Given
 one core entry = record { entries = entry ∷ []; state = entry_after core.state entry }
 
 -- the lines of a history to which an entry was added
-added_lines : (core core' : CoreView) (entry : Entry) (o : Outcome) → Added core core' entry o → printed (opening core'.config) core'.history ≡ printed (opening core.config) core.history ++ outcome_lines o
+added_lines : (core core' : CoreView) (entry : Entry) (o : Outcome) → Added core core' entry o → printed (opening core'.config) core'.history ≡ printed (opening core.config) core.history ++ outcome_lines entry.event o
 added_lines core core' entry o added =
     ap (λ (c : Config). printed (opening c) core'.history) added.config ∙ ap (printed (opening core.config)) added.history ∙ printed-snoc (opening core.config) core.history core.state entry o added.ran added.here
 
 added_grows : (core core' : CoreView) (entry : Entry) (o : Outcome) → Added core core' entry o → IsFront core.history core'.history
 added_grows core core' entry o added = record { behind = entry ∷ []; joined = added.history }
 
-pub Goes-added : (core core' : CoreView) (out out' : SinkView) (entry : Entry) (o : Outcome) (lines : List ℕ) → Added core core' entry o → lines ≡ outcome_lines o → Written out.held out'.held lines → (out'.faults ≡ out.faults) × (out'.refusals ≡ out.refusals) → Goes core core' out out' (one core entry) (Ok tt)
+pub Goes-added : (core core' : CoreView) (out out' : SinkView) (entry : Entry) (o : Outcome) (lines : List ℕ) → Added core core' entry o → lines ≡ outcome_lines entry.event o → Written out.held out'.held lines → (out'.faults ≡ out.faults) × (out'.refusals ≡ out.refusals) → Goes core core' out out' (one core entry) (Ok tt)
 Goes-added core core' out out' entry o lines added is written stay = record {
   config = added.config;
   went = (added.history, added.state ∙ sym (after-step core.state entry.at.0 entry.event o added.here));
@@ -112,7 +113,7 @@ Goes-added core core' out out' entry o lines added is written stay = record {
   refusals_stay = omega (arith, stay.1);
 }
 
-pub Goes-added-write : (core core' : CoreView) (out out' : SinkView) (entry : Entry) (o : Outcome) (lines : List ℕ) → Added core core' entry o → lines ≡ outcome_lines o → WrittenFront out.held out'.held lines → Failed out.faults out'.faults out.refusals out'.refusals → out.faults ≤ out'.faults → out.refusals ≤ out'.refusals → Goes core core' out out' (one core entry) (Err halt.Write)
+pub Goes-added-write : (core core' : CoreView) (out out' : SinkView) (entry : Entry) (o : Outcome) (lines : List ℕ) → Added core core' entry o → lines ≡ outcome_lines entry.event o → WrittenFront out.held out'.held lines → Failed out.faults out'.faults out.refusals out'.refusals → out.faults ≤ out'.faults → out.refusals ≤ out'.refusals → Goes core core' out out' (one core entry) (Err halt.Write)
 Goes-added-write core core' out out' entry o lines added is written cause faults refusals = record {
   config = added.config;
   went = rw added.history (record { behind = []; joined = sym (append-nil (core.history ++ entry ∷ [])) });
@@ -131,7 +132,7 @@ Goes-added-memory core core' out entry o added = record {
   went = rw added.history (record { behind = []; joined = sym (append-nil (core.history ++ entry ∷ [])) });
   grows = added_grows core core' entry o added;
   wrote = λ e. absurd (cc);
-  shows = λ start shows. rw (added_lines core core' entry o added) (WrittenFront-wider start out.held (printed (opening core.config) core.history) (outcome_lines o) (WrittenFront-all start out.held (printed (opening core.config) core.history) shows));
+  shows = λ start shows. rw (added_lines core core' entry o added) (WrittenFront-wider start out.held (printed (opening core.config) core.history) (outcome_lines entry.event o) (WrittenFront-all start out.held (printed (opening core.config) core.history) shows));
   cause = λ e. absurd (cc);
   unfailed = λ other. (refl, refl);
   faults_stay = omega arith;
@@ -156,11 +157,12 @@ ends_shown core core' entry o added false down =
     sym ((step_keeps core.state entry.at.0 entry.event o added.here).none down)
 
 -- the lines of an outcome are those of its answer and of the session that ended
-pub outcome_shown : (core core' : CoreView) (entry : Entry) (o : Outcome) → Added core core' entry o → (answer : Answer) → o.answer ≡ answer → (before : Option ℕ) → before ≡ if is_up core.state then Some core.state.link.session else None → (ended : Option SessionEnd) → ended ≡ end_after core' before → (text : List ℕ) → text ≡ line_bytes (answer_line answer) ++ line_bytes (end_line ended) → text ≡ outcome_lines o
-outcome_shown core core' entry o added answer is before was ended now text made =
+pub outcome_shown : (core core' : CoreView) (entry : Entry) (o : Outcome) → Added core core' entry o → (answer : Answer) → o.answer ≡ answer → (before : Option ℕ) → before ≡ if is_up core.state then Some core.state.link.session else None → (ended : Option SessionEnd) → ended ≡ end_after core' before → (m : Option ModuleId) → m ≡ fetches entry.event → (text : List ℕ) → text ≡ line_bytes (answer_line m answer) ++ line_bytes (end_line ended) → text ≡ outcome_lines entry.event o
+outcome_shown core core' entry o added answer is before was ended now m fetched text made =
     made
-    ∙ ap (λ (a : Answer). line_bytes (answer_line a) ++ line_bytes (end_line ended)) (sym is)
-    ∙ ap (λ (e : Option SessionEnd). line_bytes (answer_line o.answer) ++ line_bytes (end_line e))
+    ∙ ap (λ (k : Option ModuleId). line_bytes (answer_line k answer) ++ line_bytes (end_line ended)) fetched
+    ∙ ap (λ (a : Answer). line_bytes (answer_line (fetches entry.event) a) ++ line_bytes (end_line ended)) (sym is)
+    ∙ ap (λ (e : Option SessionEnd). line_bytes (answer_line (fetches entry.event) o.answer) ++ line_bytes (end_line e))
     (now ∙ ap (end_after core') was ∙ ends_shown core core' entry o added (is_up core.state) refl)
 
 pub Failed-wider : (f1 f2 f3 r1 r2 r3 : ℕ) → f1 ≤ f2 → f2 ≤ f3 → r1 ≤ r2 → r2 ≤ r3 → Failed f2 f3 r2 r3 → Failed f1 f3 r1 r3

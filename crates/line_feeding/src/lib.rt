@@ -19,7 +19,7 @@ pub use configured::read_configuration;
 pub use cuts::{cut_bytes, ends_run, quit_behind};
 pub use ended::{Cause, Ended, Notes, Panels, SessionNote};
 pub use halt::{Halt, InputEnd, InputRead};
-pub use print::outcome_text;
+pub use print::{fetches, outcome_text};
 pub use read::{TextFault, front, read_front, read_text};
 pub use words::check_words;
 pub use write::{WriteFault, write_all};

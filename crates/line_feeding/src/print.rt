@@ -1,11 +1,12 @@
 //! The output lines of an answer.
 ghost use Rattle.std.specs.Prelude.{◌≡◌, ◌++◌, Some, IfOk, OnOk};
 ghost use Rattle.line_grammar.specs.declared.out_line.OutLine.TheVariants as out_line;
-ghost use Rattle.gem_model.specs.Printed.{answer_line, end_line, line_bytes};
+ghost use Rattle.gem_model.specs.Printed.{fetches, command_line, answer_line, end_line, line_bytes};
 
+use gem_ids::ModuleId;
 use hsms_frame::Bytes;
 use std::alloc::{AllocError, Global};
-use tool_events::{Answer, SessionEnd};
+use tool_events::{Answer, Command, Event, SessionEnd};
 use tool_texts::{OutLine, print_out_line};
 
 /// Appends the line of a session that came up.
@@ -36,28 +37,60 @@ fn print_taken(alloc: Global, frame: Bytes, text: &mut Vec<u8>) -> Result<(), Al
     print_out_line(alloc, &OutLine::Frame(frame), text)
 }
 
-/// Appends the line of an answer, where it has one.
-fn print_answer(alloc: Global, answer: Answer, text: &mut Vec<u8>) -> Result<(), AllocError>
-    ensures { OnOk result (text.new.items ≡ text.old.items ++ line_bytes (answer_line answer)) }
+/// Appends the line of a command, by the module that fetched it.
+fn print_command(
+    alloc: Global,
+    m: Option<ModuleId>,
+    command: Command,
+    text: &mut Vec<u8>,
+) -> Result<(), AllocError>
+    ensures { OnOk result (text.new.items ≡ text.old.items ++ line_bytes (command_line m command)) }
+{
+    match m {
+        Some(m) => print_out_line(alloc, &OutLine::Command(m, command), text),
+        None => Ok(()),
+    }
+}
+
+/// The module that an event lets fetch, where it is such an event.
+pub fn fetches(event: &Event) -> Option<ModuleId>
+    ensures { result ≡ fetches event.now }
+{
+    match event {
+        Event::Fetch(m) => Some(*m),
+        _ => None,
+    }
+}
+
+/// Appends the line of an answer to an event that lets this module fetch, or none, where it has one.
+fn print_answer(
+    alloc: Global,
+    m: Option<ModuleId>,
+    answer: Answer,
+    text: &mut Vec<u8>,
+) -> Result<(), AllocError>
+    ensures { OnOk result (text.new.items ≡ text.old.items ++ line_bytes (answer_line m answer)) }
 {
     match answer {
         Answer::Session(session) => print_up(alloc, session, text),
         Answer::Frame(frame) => print_taken(alloc, frame, text),
         Answer::Oper(accepted) => print_accepted(alloc, accepted, text),
-        Answer::Command(_) | Answer::Done | Answer::Ended => Ok(()),
+        Answer::Command(command) => print_command(alloc, m, command, text),
+        Answer::Done | Answer::Ended => Ok(()),
     }
 }
 
-/// The lines of an answer, and of the session that ended with it, if one did.
+/// The lines of an answer to an event that lets this module fetch, or none, and of the session that ended with it, if one did.
 pub fn outcome_text(
     alloc: Global,
+    m: Option<ModuleId>,
     answer: Answer,
     ended: Option<SessionEnd>,
 ) -> Result<Vec<u8>, AllocError>
-    ensures { IfOk result (λ text. text.items ≡ line_bytes (answer_line answer) ++ line_bytes (end_line ended)) }
+    ensures { IfOk result (λ text. text.items ≡ line_bytes (answer_line m answer) ++ line_bytes (end_line ended)) }
 {
     let mut text = Vec::new(alloc);
-    print_answer(alloc, answer, &mut text)?;
+    print_answer(alloc, m, answer, &mut text)?;
     if let Some(end) = ended {
         print_end(alloc, end, &mut text)?;
     }

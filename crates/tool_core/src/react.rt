@@ -181,8 +181,8 @@ pub fn react(
     step(plant, alloc, before, event, reaction)
 }
 
-/// Whether an event has to wait at this moment: a take that finds no frame, a look at the clock that finds nothing
-/// due, a watch of a port that isn't READY TO UNLOAD, and those for which nothing is built. Once the operator ended the run none has to.
+/// Whether an event has to wait at this moment: a take that finds no frame, a fetch that finds no command, a look at the clock
+/// that finds nothing due, a watch of a port that isn't READY TO UNLOAD, and a listen. Once the operator ended the run none has to.
 pub fn must_wait(plant: &Plant, at: Moment, event: &Event) -> bool
     ensures { IsTrue result ↔ (step plant.now at.0 event.now ≡ None) }
 {
@@ -193,7 +193,8 @@ pub fn must_wait(plant: &Plant, at: Moment, event: &Event) -> bool
         Event::Take { session } => plant.is_session_up(*session) && !plant.has_waiting(),
         Event::Tick => !is_due(plant, plant.moment(), plant.raised(at)),
         Event::Watch(port) => !plant.is_ready_to_unload(*port),
-        Event::Fetch(_) | Event::Listen => true,
+        Event::Fetch(m) => !plant.has_command(*m),
+        Event::Listen => true,
         Event::LinkUp
         | Event::LinkDown { .. }
         | Event::Host { .. }

@@ -188,6 +188,23 @@ impl Core {
         self.is_up && self.sessions == session
     }
 
+    /// Whether the operator ended the run. The core is whole.
+    pub fn is_quitting(&self) -> bool
+        requires { self.now.is_whole ≡ true }
+        ensures { result ≡ self.now.state.quitting }
+    {
+        self.plant.is_quitting()
+    }
+
+    /// How many modules the tool has, 2 to 255. The core is whole.
+    pub fn module_count(&self) -> usize
+        requires { self.now.is_whole ≡ true }
+        ensures count { result ≡ length self.now.state.floor.modules }
+        ensures few { result ≤ 255 }
+    {
+        self.plant.module_count()
+    }
+
     /// Why a session ended. None: it is up, or never came.
     pub fn session_end(&self, session: u64) -> Option<SessionCause>
         ensures { result ≡ session_end (opening self.now.config) self.now.history session }

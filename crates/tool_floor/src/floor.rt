@@ -1,6 +1,6 @@
 //! The floor of the tool.
 
-ghost use Rattle.std.specs.Prelude.{◌≡◌, ◌≤◌, ◌==◌, true, false, not, IfOk, IfErr};
+ghost use Rattle.std.specs.Prelude.{◌≡◌, ◌≤◌, ◌==◌, true, false, not, is_some, length, IfOk, IfErr};
 ghost use Rattle.std.specs.Option.{option_to_list};
 ghost use Rattle.load_port.specs.Caack.{is_done_code};
 ghost use Rattle.load_port.specs.Ports.{most_ports, is_no_port};
@@ -95,6 +95,24 @@ impl ToolFloor {
         ensures { result ≡ is_down (module_at m.0 self.now.modules) }
     {
         matches!(self.modules.get(m), Some(Module::Down))
+    }
+
+    /// Whether a module has an open command that was not fetched.
+    pub fn has_command(&self, m: ModuleId) -> bool
+        ensures { result ≡ is_some (unfetched (module_at m.0 self.now.modules)) }
+    {
+        matches!(
+            self.modules.get(m),
+            Some(Module::Busy { fetched: false, .. })
+        )
+    }
+
+    /// How many modules there are, 2 to 255.
+    pub fn module_count(&self) -> usize
+        ensures count { result ≡ length self.now.modules }
+        ensures few { result ≤ 255 }
+    {
+        self.modules.len()
     }
 
     /// The row that Done of the open command of a module fires. `None` exactly where it has none.

@@ -51,10 +51,10 @@ fn done_row(task: &Task) -> u8
 // ---- rows
 
 // Whether the row of a number starts at a module.
-pub(crate) fn starts(row: u8, module: &Module) -> bool
-    ensures { result ≡ move_starts row (Some module.now) }
+pub(crate) fn starts(row: u8, one: &Module) -> bool
+    ensures { result ≡ move_starts row (Some one.now) }
 {
-    match (row, module) {
+    match (row, one) {
         (5, Module::Busy { command, .. }) => is_transfer(&command.task),
         (6, Module::Busy { command, .. }) => is_align(&command.task),
         (7, Module::Busy { command, .. }) => is_process(&command.task),

@@ -1,14 +1,15 @@
 //! One input after another: events are posted to the core, and the lines of their answers are written.
-ghost use Rattle.std.specs.Prelude.{◌≡◌, ◌≢◌, [], ◌∷◌, Some, None, true, OnOk, option_map, option_and_then};
+ghost use Rattle.std.specs.Prelude.{◌≡◌, ◌≢◌, [], Some, None, true, OnOk, option_map, option_and_then};
+ghost use Rattle.tool_floor.specs.Floor.{module_numbers};
 ghost use Rattle.gem_model.specs.State.{opening, is_session_up};
 ghost use Rattle.gem_model.specs.Sessions.{session_end};
-ghost use Rattle.gem_model.specs.Step.{step, after};
-ghost use Rattle.gem_model.specs.Feed.{entry_of, taken_all, input, message, messages};
+ghost use Rattle.gem_model.specs.Step.{step};
+ghost use Rattle.gem_model.specs.Feed.{and_then, entered, taken_all, fetched_one, fetched_by, fetched_all, input, message, messages};
 ghost use Rattle.line_feeding.specs.Going.{Goes, seen};
 
-use gem_ids::Moment;
+use gem_ids::{ModuleId, Moment};
 use hsms_frame::Arrival;
-use line_feeding::{Halt, outcome_text, write_all};
+use line_feeding::{Halt, fetches, outcome_text, write_all};
 use outside::Sink;
 use std::alloc::Global;
 use tool_core::Core;
@@ -28,10 +29,11 @@ fn post<K: Sink>(
     requires step { step core.old.state at.0 event ≢ None }
     requires whole { core.old.is_whole ≡ true }
     ensures goes { Goes core.old core.new (seen K.held K.faults K.refusals out.old) (seen K.held K.faults K.refusals out.new)
-        (record { entries = entry_of at.0 event ∷ []; state = after core.old.state at.0 event }) result }
+        (entered core.old.state at.0 event) result }
     ensures whole { OnOk result (core.new.is_whole ≡ true) }
 {
     let before = core.session_up();
+    let fetching = fetches(&event);
     let answer = match core.apply(alloc, 0, at, event) {
         Ok(answer) => answer,
         Err(PostFault::Full(_)) => return Err(Halt::Full),
@@ -39,7 +41,7 @@ fn post<K: Sink>(
         Err(PostFault::Again | PostFault::NoMemory) => return Err(Halt::NoMemory),
     };
     let ended = ended_now(core, before);
-    let Ok(text) = outcome_text(alloc, answer, ended) else {
+    let Ok(text) = outcome_text(alloc, fetching, answer, ended) else {
         return Err(Halt::NoMemory);
     };
     match write_all(out, &text) {
@@ -93,6 +95,69 @@ fn take_waiting<K: Sink>(alloc: Global, core: &mut Core, out: &mut K) -> Result<
 }
 
 /// Posts an event at a moment, and then the writer takes each frame that waits.
+fn post_and_take<K: Sink>(
+    alloc: Global,
+    core: &mut Core,
+    at: Moment,
+    event: Event,
+    out: &mut K,
+) -> Result<(), Halt>
+    requires step { step core.old.state at.0 event ≢ None }
+    requires whole { core.old.is_whole ≡ true }
+    ensures goes { Goes core.old core.new (seen K.held K.faults K.refusals out.old) (seen K.held K.faults K.refusals out.new)
+        (and_then (entered core.old.state at.0 event) taken_all) result }
+    ensures whole { OnOk result (core.new.is_whole ≡ true) }
+{
+    match post(alloc, core, at, event, out) {
+        Ok(()) => take_waiting(alloc, core, out),
+        Err(halt) => Err(halt),
+    }
+}
+
+/// A module fetches, where it has a command that was not fetched.
+fn fetch_one<K: Sink>(alloc: Global, core: &mut Core, m: ModuleId, out: &mut K) -> Result<(), Halt>
+    requires whole { core.old.is_whole ≡ true }
+    ensures goes { Goes core.old core.new (seen K.held K.faults K.refusals out.old) (seen K.held K.faults K.refusals out.new)
+        (fetched_one m.0 core.old.state) result }
+    ensures whole { OnOk result (core.new.is_whole ≡ true) }
+{
+    if core.idle(AT_ONCE, &Event::Fetch(m)) {
+        return Ok(());
+    }
+    post(alloc, core, AT_ONCE, Event::Fetch(m), out)
+}
+
+/// All modules fetch, in the order of their numbers; none does once the operator ended the run.
+fn fetch_all<K: Sink>(alloc: Global, core: &mut Core, out: &mut K) -> Result<(), Halt>
+    requires { core.old.is_whole ≡ true }
+    ensures goes { Goes core.old core.new (seen K.held K.faults K.refusals out.old) (seen K.held K.faults K.refusals out.new)
+        (fetched_all core.old.state) result }
+    ensures whole { OnOk result (core.new.is_whole ≡ true) }
+{
+    if core.is_quitting() {
+        return Ok(());
+    }
+    fetch_each(alloc, core, out)
+}
+
+/// Each module fetches, in the order of their numbers.
+fn fetch_each<K: Sink>(alloc: Global, core: &mut Core, out: &mut K) -> Result<(), Halt>
+    requires { core.old.is_whole ≡ true }
+    ensures goes { Goes core.old core.new (seen K.held K.faults K.refusals out.old) (seen K.held K.faults K.refusals out.new)
+        (fetched_by (module_numbers 1 core.old.state.floor.modules) core.old.state) result }
+    ensures whole { OnOk result (core.new.is_whole ≡ true) }
+{
+    let count = core.module_count();
+    for index in 0..count {
+        match fetch_one(alloc, core, ModuleId(index as u8 + 1), out) {
+            Ok(()) => {}
+            Err(halt) => return Err(halt),
+        }
+    }
+    Ok(())
+}
+
+/// Posts an event at a moment; then the writer takes each frame that waits, and the modules fetch their commands.
 pub fn input<K: Sink>(
     alloc: Global,
     core: &mut Core,
@@ -106,8 +171,8 @@ pub fn input<K: Sink>(
         (input core.old.state at.0 event) result }
     ensures whole { OnOk result (core.new.is_whole ≡ true) }
 {
-    match post(alloc, core, at, event, out) {
-        Ok(()) => take_waiting(alloc, core, out),
+    match post_and_take(alloc, core, at, event, out) {
+        Ok(()) => fetch_all(alloc, core, out),
         Err(halt) => Err(halt),
     }
 }

@@ -7,3 +7,4 @@ pub mod Written
 pub mod Standing
 pub mod Tying
 pub mod Faults
+pub mod Numbering

@@ -1,5 +1,5 @@
 -- How the places are kept: one behind the other, each with the name of the substrate that is there.
-use Rattle.std.specs.Prelude.{◌≡◌, ℕ, ◌+◌, ◌-◌, ◌*◌, List, Option, slice_get, set, length}
+use Rattle.std.specs.Prelude.{◌≡◌, ℕ, zero, suc, ◌+◌, ◌-◌, ◌*◌, ◌/◌, ◌%◌, ◌==◌, nat_lt, if◌then◌else◌, List, Option, slice_get, set, length}
 use Rattle.gem_ids.specs.declared.numbers.LocId.{LocId}
 use Rattle.gem_ids.specs.declared.numbers.LocId.TheVariants.{Slot, Aligner, Arm, Chamber}
 
@@ -19,6 +19,14 @@ spot_of ports (Chamber c) = ports * 25 + 1 + c
 -- how many places there are
 abbrev pub spot_count : ℕ → ℕ → ℕ
 spot_count ports chambers = ports * 25 + 2 + chambers
+
+-- the place of a number, counted from 1 (this tool's profile, settling): the slots port by port, of 25 each, then the aligner, the arm
+-- and the chambers
+abbrev pub location_numbered : ℕ → ℕ → LocId
+location_numbered ports zero = Chamber 0
+location_numbered ports (suc n) =
+    if nat_lt n (ports * 25) then Slot (record { 0 = 1 + n / 25 }) (record { 0 = 1 + n % 25 })
+    else (if n == ports * 25 then Aligner else (if n == ports * 25 + 1 then Arm else Chamber (n - (ports * 25 + 1))))
 
 -- who is at a place
 abbrev pub name_at : LocId → Spots → Option (Option (List ℕ))

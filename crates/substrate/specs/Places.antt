@@ -1,9 +1,10 @@
 -- Which substrate has which place (after SEMI E90; this tool's profile, substrates).
-use Rattle.std.specs.Prelude.{◌≡◌, ℕ, ◌+◌, ◌≤◌, ◌<◌, nat_lt, Bool, true, false, not, ◌&&◌, if◌then◌else◌, List, [], ◌∷◌, ◌++◌, length, map, filter, find, Option, Some, None, option_map}
+use Rattle.std.specs.Prelude.{◌≡◌, ℕ, ◌+◌, ◌==◌, ◌≤◌, ◌<◌, nat_lt, nat_le, Bool, true, false, not, ◌&&◌, if◌then◌else◌, List, [], ◌∷◌, ◌++◌, length, map, filter, find, Option, Some, None, option_map}
 use Rattle.std.specs.List.{list_any, list_all}
 use Rattle.std.specs.Str.{bytes_eq}
 use Rattle.gem_ids.specs.declared.numbers.LocId.{LocId}
 use Rattle.substrate.specs.Locations.{is_same, is_location}
+use Rattle.substrate.specs.Board.{spot_of, spot_count, location_numbered}
 use Rattle.substrate.specs.declared.registered.Registered.{Registered}
 use Rattle.substrate.specs.declared.fault.PlaceFault.{PlaceFault}
 use Rattle.substrate.specs.declared.fault.PlaceFault.TheVariants.{Taken, NameTaken, NoSpace}
@@ -45,6 +46,24 @@ is_taken loc held = list_any (stands_at loc) held
 -- the name of the substrate there
 abbrev pub substrate_at : LocId → List Registered → Option (List ℕ)
 substrate_at loc held = option_map (λ r. r.sub) (find (stands_at loc) held)
+
+-- the number of a place, counted from 1: the slots port by port, then the aligner, the arm and the chambers (this tool's profile,
+-- settling)
+abbrev pub location_number : ℕ → LocId → ℕ
+location_number ports loc = spot_of ports loc + 1
+
+-- the substrate is at the place of this number
+abbrev pub has_number : ℕ → ℕ → Registered → Bool
+has_number ports number r = location_number ports r.at == number
+
+-- a substrate is at the place of this number
+abbrev pub is_taken_at : ℕ → PlaceMap → Bool
+is_taken_at number p = list_any (has_number p.ports number) p.held
+
+-- the place of a number, where the tool has one
+abbrev pub found_location : ℕ → PlaceMap → Option LocId
+found_location number p =
+    if nat_le 1 number && nat_le number (spot_count p.ports p.chambers) then Some (location_numbered p.ports number) else None
 
 -- there is one, and it is at this place
 abbrev pub is_there : LocId → Option Registered → Bool

@@ -1,10 +1,10 @@
 //! Who is at each place.
 
-ghost use Rattle.std.specs.Prelude.{◌≡◌, ◌<◌, true, length, replicate, Some, None, IfOk, option_map};
+ghost use Rattle.std.specs.Prelude.{◌≡◌, ◌<◌, ◌≤◌, true, slice_get, length, replicate, Some, None, IfOk, option_map};
 ghost use Rattle.substrate.specs.Locations.{is_location};
-ghost use Rattle.substrate.specs.Board.{spot_of, spot_count, name_at, with_name, HasSpots};
+ghost use Rattle.substrate.specs.Board.{spot_of, spot_count, location_numbered, name_at, with_name, HasSpots};
 
-use gem_ids::{LocId, SubstrateId};
+use gem_ids::{LocId, PortNo, SlotNo, SubstrateId};
 use std::alloc::{AllocError, Global};
 use std::marker::Model;
 
@@ -55,6 +55,45 @@ impl Board {
         ensures { name_at loc self.now ≡ Some result }
     {
         self.names[self.spot_of(loc)]
+    }
+
+    // How many places there are.
+    pub(crate) fn len(&self) -> usize
+        ensures { result ≡ spot_count self.now.ports self.now.chambers }
+    {
+        self.names.len()
+    }
+
+    // Who is at the place of a spot, counted from 0.
+    pub(crate) fn name_of(&self, spot: usize) -> Option<SubstrateId>
+        requires { spot < spot_count self.now.ports self.now.chambers }
+        ensures { slice_get self.now.names spot ≡ Some result }
+    {
+        self.names[spot]
+    }
+
+    // The place of a number, counted from 1.
+    pub(crate) fn location(&self, number: usize) -> LocId
+        requires there { 1 ≤ number }
+        requires within { number ≤ spot_count self.now.ports self.now.chambers }
+        ensures { result ≡ location_numbered self.now.ports number }
+    {
+        let spot = number - 1;
+        let slots = self.ports as usize * 25;
+        if spot < slots {
+            LocId::Slot(
+                PortNo((1 + spot / 25) as u8),
+                SlotNo((1 + spot % 25) as u8),
+            )
+        } else if spot == slots {
+            LocId::Aligner
+        } else if spot == slots + 1 {
+            LocId::Arm
+        } else {
+            let chamber = spot - (slots + 1);
+            prove!(chamber <= self.chambers as usize);
+            LocId::Chamber(chamber as u8)
+        }
     }
 
     // This one is at a place of the tool now, or none.

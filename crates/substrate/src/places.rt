@@ -2,7 +2,8 @@
 
 ghost use Rattle.std.specs.Prelude.{◌≡◌, ◌+◌, ◌<◌, [], length, slice_get, nat_lt, true, Some, None, Err, IfOk, IfErr};
 ghost use Rattle.substrate.specs.Locations.{is_location};
-ghost use Rattle.substrate.specs.Places.{PlaceMap, substrate_named, substrate_at, is_known, is_taken, has_place, registered, fault_of, register_fault, can_shift, shifted, removed, most_substrates, no_places, ArePlaces};
+ghost use Rattle.substrate.specs.Board.{spot_count};
+ghost use Rattle.substrate.specs.Places.{PlaceMap, is_taken_at, found_location, substrate_named, substrate_at, is_known, is_taken, has_place, registered, fault_of, register_fault, can_shift, shifted, removed, most_substrates, no_places, ArePlaces};
 ghost use Rattle.substrate.specs.declared.fault.PlaceFault.{PlaceFault};
 ghost use Rattle.substrate.specs.declared.fault.PlaceFault.TheVariants.{NoMemory};
 
@@ -90,6 +91,36 @@ impl Places {
             self.board.name_at(loc)
         } else {
             None
+        }
+    }
+
+    /// How many locations the tool has.
+    pub fn location_count(&self) -> usize
+        ensures { result ≡ spot_count self.now.ports self.now.chambers }
+    {
+        self.board.len()
+    }
+
+    /// The location of a number, counted from 1: the slots port by port, then the aligner, the arm and the chambers (this tool's
+    /// profile, settling). `None` exactly where there is none.
+    pub fn location(&self, number: usize) -> Option<LocId>
+        ensures { result ≡ found_location number self.now }
+    {
+        if 1 <= number && number <= self.board.len() {
+            Some(self.board.location(number))
+        } else {
+            None
+        }
+    }
+
+    /// Whether a substrate is at the location of a number, counted from 1.
+    pub fn is_taken_at(&self, number: usize) -> bool
+        ensures { result ≡ is_taken_at number self.now }
+    {
+        if 1 <= number && number <= self.board.len() {
+            self.board.name_of(number - 1).is_some()
+        } else {
+            false
         }
     }
 

@@ -1,18 +1,65 @@
--- The floor of the tool: its load ports and carriers, and its modules (after SEMI E87; this tool's profile, carriers and moves).
-use Rattle.std.specs.Prelude.{ℕ, ◌+◌, List, [], ◌∷◌}
+-- The floor of the tool: its load ports and carriers, its modules, and its substrates with their places (after SEMI E87 and SEMI E90;
+-- this tool's profile, carriers, substrates and moves).
+use Rattle.std.specs.Prelude.{ℕ, zero, suc, ◌+◌, ◌==◌, nat_lt, ◌&&◌, if◌then◌else◌, List, [], ◌∷◌, ◌++◌, codes, find, Option, Some, None, slice_get}
+use Rattle.gem_tables.specs.Table.{update_at}
+use Rattle.gem_ids.specs.declared.numbers.LocId.{LocId}
+use Rattle.gem_ids.specs.declared.numbers.LocId.TheVariants.{Slot, Aligner, Arm, Chamber}
+use Rattle.gem_ids.specs.Names.{two_digits}
 use Rattle.robot_moves.specs.declared.module.Module.{Module}
 use Rattle.robot_moves.specs.Modules.{first_modules, change_module, taken}
-use Rattle.shop_floor.specs.Floor.{Floor}
+use Rattle.shop_floor.specs.Floor.{Floor, digit}
 use Rattle.shop_floor.specs.Floor as shop
+use Rattle.substrate.specs.Places.{PlaceMap, no_places}
+use Rattle.substrate.specs.Record.{first_location}
+use Rattle.tool_floor.specs.declared.location.Location.{Location}
+use Rattle.tool_floor.specs.declared.substrate.Substrate.{Substrate}
 
--- the load ports with the carriers, and the modules by their numbers: 1 is the robot, 2 the aligner, and 2 + c chamber c
+-- the load ports with the carriers; the modules by their numbers: 1 is the robot, 2 the aligner, and 2 + c chamber c; which
+-- substrate has which place; the locations in the order of their numbers: slots port by port, then aligner, arm and chambers; and
+-- the substrates of the carriers that are here, in the order of their registration
 pub record ToolFloor : Type 0 where
   pub shop : Floor
   pub modules : List Module
+  pub places : PlaceMap
+  pub locations : List Location
+  pub substrates : List Substrate
 
--- so many ports without a carrier, and so many chambers; each module is Idle
+-- ---- at the beginning
+
+-- a location as it begins
+abbrev pub location : LocId → Location
+location loc = record { at = loc; states = first_location }
+
+-- so many slots of a port, from the slot of this number on
+abbrev pub slots_from : ℕ → ℕ → ℕ → List Location
+slots_from port slot zero = []
+slots_from port slot (suc count) = location (Slot (record { 0 = port }) (record { 0 = slot })) ∷ slots_from port (slot + 1) count
+
+-- the slots of so many ports, from the port of this number on
+abbrev pub ports_from : ℕ → ℕ → List Location
+ports_from port zero = []
+ports_from port (suc count) = slots_from port 1 25 ++ ports_from (port + 1) count
+
+-- so many chambers, from the chamber of this number on
+abbrev pub chambers_from : ℕ → ℕ → List Location
+chambers_from chamber zero = []
+chambers_from chamber (suc count) = location (Chamber chamber) ∷ chambers_from (chamber + 1) count
+
+-- the locations of a tool with so many load ports and chambers (this tool's profile, settling)
+abbrev pub first_locations : ℕ → ℕ → List Location
+first_locations ports chambers = ports_from 1 ports ++ (location Aligner ∷ location Arm ∷ chambers_from 1 chambers)
+
+-- so many ports without a carrier, and so many chambers; each module is Idle, and no substrate has a place
 abbrev pub opening : ℕ → ℕ → ToolFloor
-opening ports chambers = record { shop = shop.opening ports; modules = first_modules chambers }
+opening ports chambers = record {
+  shop = shop.opening ports;
+  modules = first_modules chambers;
+  places = no_places ports chambers;
+  locations = first_locations ports chambers;
+  substrates = [];
+}
+
+-- ---- what changes
 
 -- the load ports and the carriers are these now
 abbrev pub with_shop : Floor → ToolFloor → ToolFloor
@@ -26,7 +73,54 @@ with_module number change f = record f { modules = change_module number change f
 abbrev pub fetched : ℕ → ToolFloor → ToolFloor
 fetched number f = with_module number taken f
 
--- the numbers of modules, the first of which is given
+-- the location of a number, counted from 1
+abbrev pub location_at : ℕ → List Location → Option Location
+location_at zero locations = None
+location_at (suc n) locations = slice_get locations n
+
+-- a change of the location of a number
+abbrev pub change_location : ℕ → (Location → Location) → List Location → List Location
+change_location zero change locations = locations
+change_location (suc n) change locations = update_at n change locations
+
+-- the substrate of a number of registration
+abbrev pub substrate_numbered : ℕ → List Substrate → Option Substrate
+substrate_numbered n substrates = find (λ s. s.number == n) substrates
+
+-- a change of the substrate of a number of registration; where there is none, nothing changes
+abbrev pub change_numbered : ℕ → (Substrate → Substrate) → List Substrate → List Substrate
+change_numbered n change [] = []
+change_numbered n change (s ∷ ss) = if s.number == n then change s ∷ ss else s ∷ change_numbered n change ss
+
+-- ---- objects and their names
+
+-- the numbers of objects, the first of which is given
 abbrev pub module_numbers : ℕ → List Module → List ℕ
 module_numbers n [] = []
 module_numbers n (m ∷ ms) = n ∷ module_numbers (n + 1) ms
+
+abbrev pub location_numbers : ℕ → List Location → List ℕ
+location_numbers n [] = []
+location_numbers n (l ∷ ls) = n ∷ location_numbers (n + 1) ls
+
+-- the number of a substrate
+abbrev pub number_of : Substrate → ℕ
+number_of s = s.number
+
+-- the name of a place: a slot's is that of its port, a point and two digits, as P1.01; a tool has fewer than ten ports and
+-- chambers, and one that no tool has has no name (this tool's profile, object names)
+abbrev pub place_name : LocId → List ℕ
+place_name (Slot p k) = if nat_lt p.0 10 && nat_lt k.0 100 then codes "P" ++ digit p.0 ∷ 46 ∷ two_digits k.0 else []
+place_name Aligner = codes "AL"
+place_name Arm = codes "ARM"
+place_name (Chamber c) = if nat_lt c 10 then codes "C" ++ digit c ∷ [] else []
+
+-- the name of a location, empty where there is none
+abbrev pub location_name : Option Location → List ℕ
+location_name None = []
+location_name (Some l) = place_name l.at
+
+-- the name of a substrate, empty where there is none
+abbrev pub substrate_name : Option Substrate → List ℕ
+substrate_name None = []
+substrate_name (Some s) = s.sub

@@ -1,0 +1,117 @@
+-- The numbers of the locations.
+use Rattle.std.proofs.Common.{◌≡◌, ℕ, zero, suc, ◌+◌, ◌-◌, ◌*◌, ◌/◌, ◌%◌, ◌==◌, ◌<◌, ◌≤◌, nat_le, nat_lt, Bool, true, false, ◌&&◌, List, [], ◌∷◌, Option, Some, None, is_some, slice_get, refl, sym, ap, subst, ◌∙◌, arith}
+use Rattle.std.specs.Prelude.{if◌then◌else◌}
+use Rattle.std.specs.List.{list_any, list_all}
+use Rattle.std.proofs.lemmas.Bool.Decides.{nat_tests}
+use Rattle.gem_ids.specs.declared.numbers.LocId.{LocId}
+use Rattle.gem_ids.specs.declared.numbers.LocId.TheVariants.{Slot, Aligner, Arm, Chamber}
+use Rattle.substrate.specs.Locations.{is_same, is_location}
+use Rattle.substrate.specs.Board.{Spots, spot_of, spot_count, location_numbered, name_at}
+use Rattle.substrate.specs.Places.{PlaceMap, has_number, is_taken_at, is_taken, stands_at, substrate_at, location_number}
+use Rattle.substrate.specs.declared.registered.Registered.{Registered}
+use Rattle.substrate.proofs.Sites.{same_is, same_spot, spot_within, own_place}
+use Rattle.substrate.proofs.Truth.{and_true}
+
+-- what is known of the place of a number
+pub record Stands (ports chambers number : ℕ) (loc : LocId) : Type 0 where
+  pub inside : is_location ports chambers loc ≡ true
+  pub spot : spot_of ports loc + 1 ≡ number
+
+le : (m n : ℕ) → m ≤ n → nat_le m n ≡ true
+le m n h = grind (arith, nat_tests)
+
+slot_stands : (ports chambers n : ℕ) → n < ports * 25 → Stands ports chambers (suc n) (Slot (record { 0 = 1 + n / 25 }) (record { 0 = 1 + n % 25 }))
+slot_stands ports chambers n h =
+    let port : 1 + n / 25 ≤ ports = omega (arith, h) in
+    let slot : 1 + n % 25 ≤ 25 = omega arith in
+    let first : 1 ≤ 1 + n / 25 = omega arith in
+    let least : 1 ≤ 1 + n % 25 = omega arith in
+    record {
+      inside = rw (le 1 (1 + n / 25) first, le (1 + n / 25) ports port, le 1 (1 + n % 25) least, le (1 + n % 25) 25 slot) refl;
+      spot = omega arith;
+    }
+
+-- the place of a number is one of the tool, and has the number
+pub location_stands : (ports chambers number : ℕ) → 1 ≤ number → number ≤ spot_count ports chambers → Stands ports chambers number (location_numbered ports number)
+location_stands ports chambers zero first last = absurd (omega (arith, first))
+location_stands ports chambers (suc n) first last = by_slot (nat_lt n (ports * 25)) refl where
+  of_chamber : (nat_lt n (ports * 25)) ≡ false → (n == ports * 25) ≡ false → (n == ports * 25 + 1) ≡ false → Stands ports chambers (suc n) (Chamber (n - (ports * 25 + 1)))
+  of_chamber slots aligner arm =
+      let past : ports * 25 + 1 < n = grind (arith, nat_tests) in
+      let least : 1 ≤ n - (ports * 25 + 1) = omega (arith, past) in
+      let most : n - (ports * 25 + 1) ≤ chambers = omega (arith, past, last) in
+      record { inside = rw (le 1 (n - (ports * 25 + 1)) least, le (n - (ports * 25 + 1)) chambers most) refl; spot = omega (arith, past) }
+
+  by_arm : (b : Bool) → (n == ports * 25 + 1) ≡ b → nat_lt n (ports * 25) ≡ false → (n == ports * 25) ≡ false → Stands ports chambers (suc n) (if b then Arm else Chamber (n - (ports * 25 + 1)))
+  by_arm true is slots aligner = let same : n ≡ ports * 25 + 1 = grind (arith, nat_tests, is) in record { inside = refl; spot = omega (arith, same) }
+  by_arm false is slots aligner = of_chamber slots aligner is
+
+  by_aligner : (b : Bool) → (n == ports * 25) ≡ b → nat_lt n (ports * 25) ≡ false → Stands ports chambers (suc n) (if b then Aligner else (if n == ports * 25 + 1 then Arm else Chamber (n - (ports * 25 + 1))))
+  by_aligner true is slots = let same : n ≡ ports * 25 = grind (arith, nat_tests, is) in record { inside = refl; spot = omega (arith, same) }
+  by_aligner false is slots = by_arm (n == ports * 25 + 1) refl slots is
+
+  by_slot : (b : Bool) → nat_lt n (ports * 25) ≡ b → Stands ports chambers (suc n) (if b then Slot (record { 0 = 1 + n / 25 }) (record { 0 = 1 + n % 25 }) else (if n == ports * 25 then Aligner else (if n == ports * 25 + 1 then Arm else Chamber (n - (ports * 25 + 1)))))
+  by_slot true is = let less : n < ports * 25 = grind (arith, nat_tests, is) in slot_stands ports chambers n less
+  by_slot false is = by_aligner (n == ports * 25) refl is
+
+-- ---- who is there
+
+same_test : (a b : Bool) → (a ≡ true → b ≡ true) → (b ≡ true → a ≡ true) → a ≡ b
+same_test true true f g = refl
+same_test true false f g = sym (f refl)
+same_test false true f g = g refl
+same_test false false f g = refl
+
+-- a substrate at a place of the tool is at a number exactly where it is at the place of the number
+one_there : (ports chambers number : ℕ) (loc : LocId) (r : Registered) → Stands ports chambers number loc → is_location ports chambers r.at ≡ true → has_number ports number r ≡ stands_at loc r
+one_there ports chambers number loc r stands inside =
+    same_test (location_number ports r.at == number) (is_same r.at loc)
+    (λ e. same_spot ports chambers r.at loc inside stands.inside (let same : spot_of ports r.at + 1 ≡ number = grind (arith, nat_tests, e) in let there = stands.spot in omega (arith, same, there)))
+    (λ e. let same : spot_of ports r.at ≡ spot_of ports loc = ap (spot_of ports) (same_is r.at loc e) in let there = stands.spot in grind (arith, nat_tests, same, there))
+
+-- so one is there
+pub any_there : (ports chambers number : ℕ) (loc : LocId) (rs : List Registered) → Stands ports chambers number loc → list_all (λ r. is_location ports chambers r.at) rs ≡ true
+    → list_any (has_number ports number) rs ≡ is_taken loc rs
+any_there ports chambers number loc [] stands all = refl
+any_there ports chambers number loc (r ∷ rs) stands all =
+    let parts = and_true (is_location ports chambers r.at) (list_all (λ (s : Registered). is_location ports chambers s.at) rs) all in
+    rw (one_there ports chambers number loc r stands parts.0, any_there ports chambers number loc rs stands parts.1) refl
+
+-- no substrate is at a number that is none of a place
+one_past : (ports chambers number : ℕ) (r : Registered) → is_location ports chambers r.at ≡ true → ((1 ≤ number) → number ≤ spot_count ports chambers → ⊥) → has_number ports number r ≡ false
+one_past ports chambers number r inside none = of (location_number ports r.at == number) refl where
+  of : (b : Bool) → (location_number ports r.at == number) ≡ b → b ≡ false
+  of true e =
+      let same : spot_of ports r.at + 1 ≡ number = grind (arith, nat_tests, e) in
+      let there = spot_within ports chambers r.at inside in
+      absurd (none (omega (arith, same)) (omega (arith, same, there)))
+  of false e = refl
+
+pub none_there : (ports chambers number : ℕ) (rs : List Registered) → list_all (λ r. is_location ports chambers r.at) rs ≡ true → ((1 ≤ number) → number ≤ spot_count ports chambers → ⊥)
+    → list_any (has_number ports number) rs ≡ false
+none_there ports chambers number [] all none = refl
+none_there ports chambers number (r ∷ rs) all none =
+    let parts = and_true (is_location ports chambers r.at) (list_all (λ (s : Registered). is_location ports chambers s.at) rs) all in
+    rw (one_past ports chambers number r parts.0 none, none_there ports chambers number rs parts.1 none) refl
+
+-- who is shown at a place tells whether one is there
+taken_shown : (loc : LocId) (rs : List Registered) → is_some (substrate_at loc rs) ≡ is_taken loc rs
+taken_shown loc [] = refl
+taken_shown loc (r ∷ rs) = of (stands_at loc r) refl (taken_shown loc rs) where
+  of : (b : Bool) → stands_at loc r ≡ b → is_some (substrate_at loc rs) ≡ is_taken loc rs → is_some (substrate_at loc (r ∷ rs)) ≡ is_taken loc (r ∷ rs)
+  of true e rest = rw e refl
+  of false e rest = rw e rest
+
+-- so the board tells it by the number
+pub shown_there : (b : Spots) (rs : List Registered) (number : ℕ) (name : Option (List ℕ)) → 1 ≤ number → number ≤ spot_count b.ports b.chambers
+    → list_all (λ r. is_location b.ports b.chambers r.at) rs ≡ true
+    → ((loc : LocId) → is_location b.ports b.chambers loc ≡ true → name_at loc b ≡ Some (substrate_at loc rs))
+    → slice_get b.names (number - 1) ≡ Some name → is_some name ≡ list_any (has_number b.ports number) rs
+shown_there b rs number name first last all shown is =
+    let loc : LocId = location_numbered b.ports number in
+    let stands = location_stands b.ports b.chambers number first last in
+    let there = stands.spot in
+    let spot : number - 1 ≡ spot_of b.ports loc = omega (arith, there) in
+    let same : Some name ≡ Some (substrate_at loc rs) = sym is ∙ ap (slice_get b.names) spot ∙ shown loc stands.inside in
+    let named : name ≡ substrate_at loc rs = cc in
+    ap is_some named ∙ taken_shown loc rs ∙ sym (any_there b.ports b.chambers number loc rs stands all)

@@ -1,0 +1,186 @@
+-- What the rows of carriers, locations and substrates want of each other, and what they do (after SEMI E87 and SEMI E90; this tool's
+-- profile, tables 9 to 13). The tables are in carrier and substrate.
+use Rattle.std.specs.Prelude.{ℕ, zero, suc, ◌+◌, ◌==◌, Bool, true, false, not, ◌&&◌, ◌||◌, if◌then◌else◌, List, [], ◌∷◌, ◌++◌, drop, length, filter, Option, Some, None, is_some, option_map}
+use Rattle.std.specs.List.{list_any, list_all}
+use Rattle.std.specs.Str.{bytes_eq}
+use Rattle.gem_tables.specs.Table.{firing}
+use Rattle.gem_tables.specs.declared.firing.Firing.{Firing}
+use Rattle.gem_ids.specs.declared.numbers.LocId.{LocId}
+use Rattle.gem_ids.specs.declared.numbers.LocId.TheVariants.{Slot, Aligner, Arm, Chamber}
+use Rattle.gem_ids.specs.declared.numbers.PortNo.{PortNo}
+use Rattle.gem_ids.specs.Names.{name_in_slot}
+use Rattle.tool_events.specs.declared.answer.Task.{Task}
+use Rattle.tool_events.specs.declared.answer.Task.TheVariants as task
+use Rattle.robot_moves.specs.declared.module.Module.{Module}
+use Rattle.robot_moves.specs.declared.module.Module.TheVariants.{Idle, Busy, Down}
+use Rattle.load_port.specs.Ports.{port_numbered}
+use Rattle.carrier.specs.Tables as carrier_want
+use Rattle.carrier.specs.Tables.{CarrierWant}
+use Rattle.carrier.specs.Wants.{carrier_wants}
+use Rattle.carrier.specs.Carriers.{carrier_named}
+use Rattle.carrier.specs.declared.carrier.Carrier.{Carrier}
+use Rattle.shop_floor.specs.Floor.{Floor}
+use Rattle.shop_floor.specs.Floor as shop
+use Rattle.shop_floor.specs.Rows.{owner}
+use Rattle.substrate.specs.Tables as want
+use Rattle.substrate.specs.Tables.{SubstrateWant}
+use Rattle.substrate.specs.Locations.{is_same, is_location}
+use Rattle.substrate.specs.Places.{PlaceMap, substrate_named, is_taken, is_there, registered, register_fault, removed}
+use Rattle.substrate.specs.Record.{first_record}
+use Rattle.substrate.specs.declared.registered.Registered.{Registered}
+use Rattle.tool_floor.specs.declared.location.Location.{Location}
+use Rattle.tool_floor.specs.declared.substrate.Substrate.{Substrate}
+use Rattle.tool_floor.specs.Floor.{ToolFloor, with_shop, number_of}
+
+-- ---- where a substrate is
+
+-- the place is the aligner, the arm or a chamber
+abbrev pub is_work_place : LocId → Bool
+is_work_place (Slot p k) = false
+is_work_place Aligner = true
+is_work_place Arm = true
+is_work_place (Chamber c) = true
+
+-- there is one, and it is at the aligner, on the arm or in a chamber
+abbrev pub is_at_work : Option Registered → Bool
+is_at_work None = false
+is_at_work (Some r) = is_work_place r.at
+
+-- the substrate is outside: at the aligner, on the arm or in a chamber (this tool's profile, table 13)
+abbrev pub is_outside : Substrate → PlaceMap → Bool
+is_outside s p = is_at_work (substrate_named s.sub p.held)
+
+-- it is in its slot
+abbrev pub is_in_slot : Substrate → PlaceMap → Bool
+is_in_slot s p = is_there s.slot (substrate_named s.sub p.held)
+
+-- it has no place any more
+abbrev pub is_removed : Substrate → PlaceMap → Bool
+is_removed s p = not (is_some (substrate_named s.sub p.held))
+
+-- it is of the carrier of this number of creation
+abbrev pub is_of : ℕ → Substrate → Bool
+is_of carrier s = s.carrier == carrier
+
+-- ---- what rows want
+
+-- a substrate of the carrier of this number is outside
+abbrev pub has_outside : ℕ → ToolFloor → Bool
+has_outside carrier f = list_any (λ s. is_of carrier s && is_outside s f.places) f.substrates
+
+-- the substrate is in its slot, or removed, where it is of the carrier of this number
+abbrev pub is_back : ℕ → PlaceMap → Substrate → Bool
+is_back carrier p s = not (is_of carrier s) || (is_in_slot s p || is_removed s p)
+
+-- a carrier is quiet: each of its substrates is in its slot or removed; no process job names it yet (this tool's profile, table 10)
+abbrev pub is_quiet : ℕ → ToolFloor → Bool
+is_quiet carrier f = list_all (is_back carrier f.places) f.substrates
+
+-- what a row of accessing wants; no carrier is marked stopped yet
+abbrev pub accessing_wants : CarrierWant → Carrier → ToolFloor → Bool
+accessing_wants carrier_want.substrate_outside c f = has_outside c.number f
+accessing_wants carrier_want.quiet c f = is_quiet c.number f
+accessing_wants other c f = carrier_wants other c
+
+-- what a row of a location wants: a substrate is there, or none is
+abbrev pub location_wants : SubstrateWant → Location → PlaceMap → Bool
+location_wants want.nothing_more l p = true
+location_wants want.substrate_there l p = is_taken l.at p.held
+location_wants want.none_there l p = not (is_taken l.at p.held)
+location_wants _ l p = false
+
+-- a task processes the substrate of this name
+abbrev pub task_processes : List ℕ → Task → Bool
+task_processes sub (task.Process name recipe) = bytes_eq name sub
+task_processes sub _ = false
+
+-- a module has an open command that does
+abbrev pub processes : List ℕ → Module → Bool
+processes sub (Busy command fetched) = task_processes sub command.task
+processes sub _ = false
+
+-- what a row of a substrate wants; it is of no job yet
+abbrev pub substrate_wants : SubstrateWant → Substrate → ToolFloor → Bool
+substrate_wants want.nothing_more s f = true
+substrate_wants want.outside s f = is_outside s f.places
+substrate_wants want.in_slot s f = is_in_slot s f.places
+substrate_wants want.process_names_it s f = list_any (processes s.sub) f.modules
+substrate_wants _ s f = false
+
+-- ---- registration
+
+-- a substrate of this name can be registered at this place: it is one of the tool, and no fault stands against it
+abbrev pub can_register : List ℕ → LocId → PlaceMap → Bool
+can_register sub loc p = is_location p.ports p.chambers loc && not (is_some (register_fault sub loc p.held))
+
+-- a substrate that is registered, in its slot, of the carrier of this number
+abbrev pub first_substrate : ℕ → List ℕ → ℕ → LocId → Substrate
+first_substrate number sub carrier loc =
+    record { number = number; sub = sub; carrier = carrier; slot = loc; states = first_record; aligned = false }
+
+-- a substrate is registered at a place, behind the others, where it can be
+abbrev pub registers_at : List ℕ → ℕ → LocId → ToolFloor → ToolFloor
+registers_at sub carrier loc f =
+    if can_register sub loc f.places then
+      record f {
+        places = registered sub loc f.places;
+        substrates = f.substrates ++ first_substrate (f.places.given + 1) sub carrier loc ∷ [];
+      }
+    else f
+
+-- a slot of a carrier at a port is correctly occupied, code 3: its substrate is registered
+abbrev pub registers_slot : Carrier → PortNo → ℕ → ℕ → ToolFloor → ToolFloor
+registers_slot c port slot code f =
+    if code == 3 then registers_at (name_in_slot c.name slot) c.number (Slot port (record { 0 = slot })) f else f
+
+-- so many slots, from the slot of this number on, with their codes in order
+abbrev pub registers_slots : Carrier → PortNo → ℕ → ℕ → List ℕ → ToolFloor → ToolFloor
+registers_slots c port slot zero slots f = f
+registers_slots c port slot (suc count) [] f = f
+registers_slots c port slot (suc count) (code ∷ slots) f =
+    registers_slots c port (slot + 1) count slots (registers_slot c port slot code f)
+
+-- the substrates of a carrier at its port are registered, in the order of its 25 slots (SEMI E87, slot map; this tool's profile,
+-- carriers)
+abbrev pub registers_at_port : Option PortNo → Carrier → ToolFloor → ToolFloor
+registers_at_port None c f = f
+registers_at_port (Some port) c f = registers_slots c port 1 25 c.map f
+
+abbrev pub registers_found : Option Carrier → ToolFloor → ToolFloor
+registers_found None f = f
+registers_found (Some c) f = registers_at_port c.port c f
+
+-- rows 1 and 3 of the table of the slot map reach VERIFIED
+abbrev pub reaches_verified : ℕ → Bool
+reaches_verified row = (row == 1) || (row == 3)
+
+-- the rows that follow the registration of these substrates: of each its row 1 of transport, then that of processing
+abbrev pub registration_rows : List Substrate → List Firing
+registration_rows [] = []
+registration_rows (s ∷ ss) = firing 12 s.number 1 ∷ firing 13 s.number 1 ∷ registration_rows ss
+
+-- the rows of the substrates that are new
+abbrev pub new_rows : ToolFloor → ToolFloor → List Firing
+new_rows before behind = registration_rows (drop (length before.substrates) behind.substrates)
+
+-- ---- removal
+
+-- of these substrates, those of the carrier of a number have no place any more
+abbrev pub removed_of : ℕ → List Substrate → PlaceMap → PlaceMap
+removed_of carrier [] p = p
+removed_of carrier (s ∷ ss) p = removed_of carrier ss (if is_of carrier s then removed s.sub p else p)
+
+-- the substrates of the carrier of a number are removed and forgotten
+abbrev pub without_carrier : Option ℕ → ToolFloor → ToolFloor
+without_carrier None f = f
+without_carrier (Some carrier) f =
+    record f { places = removed_of carrier f.substrates f.places; substrates = filter (λ s. not (is_of carrier s)) f.substrates }
+
+-- the number of a carrier that may be named
+abbrev pub number_named : Option (List ℕ) → Floor → Option ℕ
+number_named None s = None
+number_named (Some name) s = option_map shop.number_of (carrier_named name s.carriers)
+
+-- the number of the carrier that belongs to the port of a number
+abbrev pub owner_number : ℕ → Floor → Option ℕ
+owner_number port s = number_named (owner (port_numbered port s.ports)) s

@@ -58,15 +58,15 @@ came-left name port is_read slots (c ∷ cs) =
     let later = came-left name port is_read slots cs in
     omega (arith, here, later)
 
--- one that is created has its id and its map to be read
-created-left : (number : ℕ) (name : List ℕ) (carriers : List Carrier) → carriers_left (with_created number name carriers) ≡ carriers_left carriers + 201
+-- one that is created has its id and its map to be read, and is not accessed
+created-left : (number : ℕ) (name : List ℕ) (carriers : List Carrier) → carriers_left (with_created number name carriers) ≡ carriers_left carriers + 203
 created-left number name [] = refl
 created-left number name (c ∷ cs) = let later = created-left number name cs in omega (arith, later)
 
-pub found-left : (number : ℕ) (name : List ℕ) (carriers : List Carrier) → carriers_left (found_or_created number name carriers) ≤ carriers_left carriers + 201
+pub found-left : (number : ℕ) (name : List ℕ) (carriers : List Carrier) → carriers_left (found_or_created number name carriers) ≤ carriers_left carriers + 203
 found-left number name carriers =
     let more = created-left number name carriers in
-    either_way (λ (cs : List Carrier). carriers_left cs ≤ carriers_left carriers + 201) (is_known name carriers) carriers (with_created number name carriers)
+    either_way (λ (cs : List Carrier). carriers_left cs ≤ carriers_left carriers + 203) (is_known name carriers) carriers (with_created number name carriers)
     (omega arith) (omega (arith, more))
 
 -- one that is forgotten leaves no more

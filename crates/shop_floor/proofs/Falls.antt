@@ -27,7 +27,7 @@ use Rattle.carrier.specs.Carriers.{carrier_numbered, found_or_created}
 use Rattle.shop_floor.specs.Floor.{Floor, with_port}
 use Rattle.shop_floor.specs.Rows.{freed, taken_by, owner, without_owner, arrival_at, arrived, arriving}
 use Rattle.shop_floor.specs.Machines.{floor_machines, floor_fired, floor_least, creation_rows}
-use Rattle.shop_floor.specs.Left.{weighs, port_left, carrier_left, floor_left}
+use Rattle.shop_floor.specs.Left.{weighs, port_left, carrier_left, floor_left, map_falls}
 use Rattle.shop_floor.proofs.FallLists.{update_twice, ports_fall, carriers_fall, came-left, found-left, forgotten-left}
 use Rattle.shop_floor.proofs.Cases.{ready_at_port, ready_at_carrier}
 use Rattle.shop_floor.proofs.Keeps.{own_some}
@@ -36,7 +36,7 @@ use Rattle.shop_floor.proofs.Creations.{few_creations}
 
 -- what is left falls, and the rows of a carrier that is created are counted too
 abbrev pub Falls : Floor → Firing → Type 0
-Falls f x = floor_left (floor_fired x f) + length (creation_rows x f) < floor_left f
+Falls f x = floor_left (floor_fired x f) + (map_falls x + length (creation_rows x f)) < floor_left f
 
 -- ---- the states
 
@@ -76,7 +76,7 @@ asks_id id.Verified e = absurd (cc)
 asks_id id.VerificationFailed e = absurd (cc)
 
 verifies_map : (s : MapState) → is_among map_number (slots.NotRead ∷ []) s ≡ true
-    → weighs 200 (is_map_not_read (after map_number map_table 1 s)) + 1 ≤ weighs 200 (is_map_not_read s)
+    → weighs 200 (is_map_not_read (after map_number map_table 1 s)) + 200 ≤ weighs 200 (is_map_not_read s)
 verifies_map slots.NotRead e = omega arith
 verifies_map slots.WaitingForHost e = absurd (cc)
 verifies_map slots.Verified e = absurd (cc)
@@ -111,7 +111,7 @@ takes-left row name p came =
     omega (arith, arrival, held)
 
 arrived-left : (f : Floor) (row place : ℕ) (p : Port) (a : Option Arrival) → slice_get f.ports place ≡ Some p → p.arrival ≡ a → is_some a ≡ true
-    → floor_left (with_port (suc place) (ports.fires_row 7 row) (arrived (suc place) a f)) + 98 ≤ floor_left f
+    → floor_left (with_port (suc place) (ports.fires_row 7 row) (arrived (suc place) a f)) + 96 ≤ floor_left f
 arrived-left f row place p None s is came = absurd (cc)
 arrived-left f row place p (Some a) s is came =
     let twice = update_twice (taken_by a.name) (ports.fires_row 7 row) place f.ports in
@@ -121,9 +121,9 @@ arrived-left f row place p (Some a) s is came =
     rw twice (omega (arith, less, found, came))
 
 arriving-left : (f : Floor) (row place : ℕ) (p : Port) → slice_get f.ports place ≡ Some p → is_some p.arrival ≡ true
-    → floor_left (with_port (suc place) (ports.fires_row 7 row) (arriving (suc place) f)) + 98 ≤ floor_left f
+    → floor_left (with_port (suc place) (ports.fires_row 7 row) (arriving (suc place) f)) + 96 ≤ floor_left f
 arriving-left f row place p s came =
-    subst (λ (one : Option Port). floor_left (with_port (suc place) (ports.fires_row 7 row) (arrived (suc place) (arrival_at one) f)) + 98 ≤ floor_left f) (sym s)
+    subst (λ (one : Option Port). floor_left (with_port (suc place) (ports.fires_row 7 row) (arrived (suc place) (arrival_at one) f)) + 96 ≤ floor_left f) (sym s)
     (arrived-left f row place p p.arrival s refl came)
 
 falls_7_3 : (f : Floor) (place : ℕ) (p : Port) → slice_get f.ports place ≡ Some p → is_some p.arrival ≡ true → Falls f (firing 7 (suc place) 3)
@@ -159,10 +159,10 @@ falls_8 f row carrier c s state =
     let less = carriers_fall (carriers.fires_row 8 row) 1 carrier f.carriers c s state in
     omega (arith, less)
 
-falls_9 : (f : Floor) (row carrier : ℕ) (c : Carrier) → carrier_numbered carrier f.carriers ≡ Some c → carrier_left (carriers.fires_row 9 row c) + 1 ≤ carrier_left c → Falls f (firing 9 carrier row)
-falls_9 f row carrier c s state =
-    let less = carriers_fall (carriers.fires_row 9 row) 1 carrier f.carriers c s state in
-    omega (arith, less)
+falls_9 : (f : Floor) (row less carrier : ℕ) (c : Carrier) → carrier_numbered carrier f.carriers ≡ Some c → carrier_left (carriers.fires_row 9 row c) + less ≤ carrier_left c → map_falls (firing 9 carrier row) < less → Falls f (firing 9 carrier row)
+falls_9 f row less carrier c s state more =
+    let falls = carriers_fall (carriers.fires_row 9 row) less carrier f.carriers c s state in
+    omega (arith, falls, more)
 
 -- ---- the least
 
@@ -171,7 +171,7 @@ never : {P : Type 0} → false ≡ true → P
 never e = absurd (true≢false (sym e))
 
 -- what is left falls where a row fires by itself
-pub least_falls : (f : Floor) (x : Firing) → floor_least f ≡ Some x → floor_left (floor_fired x f) + length (creation_rows x f) < floor_left f
+pub least_falls : (f : Floor) (x : Firing) → floor_least f ≡ Some x → floor_left (floor_fired x f) + (map_falls x + length (creation_rows x f)) < floor_left f
 least_falls f x e =
     least_cases (Falls f) f x floor_machines (
       (λ port row. ready_at_port transfer_number transfer_table (λ s. s.transfer) (λ to s. record s { transfer = to }) (λ (n r : ℕ). Falls f (firing 4 n r)) f port row
@@ -211,8 +211,8 @@ least_falls f x e =
               (
                 (λ carrier row. ready_at_carrier map_number map_table (λ s. s.map) (λ to s. record s { map = to }) (λ (r : ℕ). Falls f (firing 9 carrier r)) f carrier row
                     (λ c s. (
-                      (λ _ among _. let state = verifies_map c.states.map among in falls_9 f 1 carrier c s (omega (arith, state))),
-                      ((λ _ among _. let state = asks_map c.states.map among in falls_9 f 2 carrier c s (omega (arith, state))), ((λ i _ _. never i), ((λ i _ _. never i), tt))),
+                      (λ _ among _. let state = verifies_map c.states.map among in falls_9 f 1 200 carrier c s (omega (arith, state)) (omega arith)),
+                      ((λ _ among _. let state = asks_map c.states.map among in falls_9 f 2 1 carrier c s (omega (arith, state)) (omega arith)), ((λ i _ _. never i), ((λ i _ _. never i), tt))),
                     ))),
                 ((λ carrier row r. no_accessing f carrier row r), tt),
               ),

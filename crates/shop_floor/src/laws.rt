@@ -15,7 +15,7 @@ ghost use Rattle.carrier.specs.Carriers.{is_known, is_present_at, carrier_number
 ghost use Rattle.shop_floor.specs.Floor.{Floor, opening};
 ghost use Rattle.shop_floor.specs.Rows.{forgets, owner};
 ghost use Rattle.shop_floor.specs.Machines.{floor_starts, floor_fired, floor_least, creation_rows, creates};
-ghost use Rattle.shop_floor.specs.Left.{floor_left};
+ghost use Rattle.shop_floor.specs.Left.{floor_left, map_falls};
 ghost use Rattle.shop_floor.specs.Requests.{carrier_code, carrier_written, came};
 ghost use Rattle.shop_floor.specs.Valid.{IsFloor};
 
@@ -23,7 +23,7 @@ ghost use Rattle.shop_floor.specs.Valid.{IsFloor};
 /// of rows that follow it. Those are rows of a carrier that it created, which change nothing and which no row follows.
 pub fn the_floor_comes_to_rest()
     ensures falls { (f : Floor) (x : Firing)
-        → floor_least f ≡ Some x → floor_left (floor_fired x f) + length (creation_rows x f) < floor_left f }
+        → floor_least f ≡ Some x → floor_left (floor_fired x f) + (map_falls x + length (creation_rows x f)) < floor_left f }
     ensures follow { (f : Floor) (x : Firing)
         → AllByRecursion (λ (d : Firing). d ≡ firing 8 d.object 1) (creation_rows x f) }
     ensures creation { (f : Floor) (carrier : ℕ) → floor_fired (firing 8 carrier 1) f ≡ f }

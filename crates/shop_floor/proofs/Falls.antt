@@ -1,6 +1,8 @@
 -- Each row that fires by itself lets what is left fall, by more than the rows count of the carrier that it may create.
 use Rattle.std.proofs.Common.{◌≡◌, ℕ, suc, ◌+◌, ◌<◌, ◌≤◌, Bool, true, false, List, [], ◌∷◌, length, Option, Some, None, is_some, slice_get, refl, sym, ap, subst, arith}
 use Rattle.std.proofs.lemmas.Bool.{true≢false, and_parts}
+use Rattle.std.specs.List.{AllByRecursion}
+use Rattle.gem_tables.specs.Machine.{Machine}
 use Rattle.gem_tables.specs.Table.{firing, is_among, after}
 use Rattle.gem_tables.specs.declared.firing.Firing.{Firing}
 use Rattle.gem_tables.proofs.Machines.{least_cases}
@@ -170,10 +172,9 @@ falls_9 f row less carrier c s state more =
 never : {P : Type 0} → false ≡ true → P
 never e = absurd (true≢false (sym e))
 
--- what is left falls where a row fires by itself
-pub least_falls : (f : Floor) (x : Firing) → floor_least f ≡ Some x → floor_left (floor_fired x f) + (map_falls x + length (creation_rows x f)) < floor_left f
-least_falls f x e =
-    least_cases (Falls f) f x floor_machines (
+-- what is left falls where a row is ready by itself, table by table
+pub all_fall : (f : Floor) → AllByRecursion (λ (m : Machine Floor). (object row : ℕ) → m.ready object f ≡ Some row → Falls f (firing m.table object row)) floor_machines
+all_fall f = (
       (λ port row. ready_at_port transfer_number transfer_table (λ s. s.transfer) (λ to s. record s { transfer = to }) (λ (n r : ℕ). Falls f (firing 4 n r)) f port row
           (λ place p s. ((λ i _ _. never i), ((λ i _ _. never i), ((λ i _ _. never i), ((λ _ among _. falls_4 f place p s among), ((λ i _ _. never i), tt))))))),
       (
@@ -220,4 +221,8 @@ least_falls f x e =
           ),
         ),
       ),
-    ) e
+    )
+
+-- so it falls with the least
+pub least_falls : (f : Floor) (x : Firing) → floor_least f ≡ Some x → floor_left (floor_fired x f) + (map_falls x + length (creation_rows x f)) < floor_left f
+least_falls f x e = least_cases (Falls f) f x floor_machines (all_fall f) e

@@ -243,6 +243,9 @@ reservation-keeps f port row valid =
 states_left : (table row : ℕ) → LeavesCarrier (carriers.fires_row table row)
 states_left table row = record { number = λ c. refl; name = λ c. refl; port = λ c. refl; present = λ c. refl; bound = λ c. refl }
 
+pub accessing-keeps : (f : Floor) (carrier row : ℕ) → IsFloor f → IsFloor (floor_fired (firing 10 carrier row) f)
+accessing-keeps f carrier row valid = carrier-keeps carrier (carriers.fires_row 10 row) f (states_left 10 row) (reads_accessing f carrier row) valid
+
 pub row-keeps : (x : Firing) (f : Floor) → floor_starts x f ≡ true → IsFloor f → IsFloor (floor_fired x f)
 row-keeps x f starts valid =
     starts_cases (λ (y : Firing). IsFloor (floor_fired y f)) f x floor_machines (

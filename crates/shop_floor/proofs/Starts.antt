@@ -1,7 +1,8 @@
 -- The row that is ready by itself starts.
 use Rattle.std.proofs.Common.{◌≡◌, ℕ, true, List, Option, Some, None, refl}
 use Rattle.std.specs.List.{AllByRecursion}
-use Rattle.gem_tables.specs.Table.{row_of}
+use Rattle.gem_tables.specs.Machine.{Machine}
+use Rattle.gem_tables.specs.Table.{row_of, firing}
 use Rattle.gem_tables.specs.declared.firing.Firing.{Firing}
 use Rattle.gem_tables.proofs.Rows.{ready_may_fire}
 use Rattle.gem_tables.proofs.Machines.{least_cases}
@@ -28,10 +29,9 @@ module _ {S : Type 0} (number : S → ℕ) (rows : List (CarrierRow S)) (state :
   at_carrier row None apart e = absurd (cc)
   at_carrier row (Some c) apart e = ready_may_fire number (λ want. carrier_wants want c) rows row (state c.states) apart e
 
--- the least row that is ready by itself starts
-pub least_starts : (f : Floor) (x : Firing) → floor_least f ≡ Some x → floor_starts x f ≡ true
-least_starts f x e =
-    least_cases (λ (y : Firing). floor_starts y f ≡ true) f x floor_machines (
+-- a row that is ready by itself starts, table by table
+pub all_start : (f : Floor) → AllByRecursion (λ (m : Machine Floor). (object row : ℕ) → m.ready object f ≡ Some row → floor_starts (firing m.table object row) f ≡ true) floor_machines
+all_start f = (
       (λ o r s. at_port transfer_number transfer_table (λ s. s.transfer) (λ to s. record s { transfer = to }) f o r (port_numbered o f.ports) (refl, (refl, (refl, (refl, (refl, tt))))) s),
       (
         (λ o r s. at_port mode_number access_table (λ s. s.access) (λ to s. record s { access = to }) f o r (port_numbered o f.ports) (refl, (refl, tt)) s),
@@ -49,4 +49,8 @@ least_starts f x e =
           ),
         ),
       ),
-    ) e
+    )
+
+-- so the least does
+pub least_starts : (f : Floor) (x : Firing) → floor_least f ≡ Some x → floor_starts x f ≡ true
+least_starts f x e = least_cases (λ (y : Firing). floor_starts y f ≡ true) f x floor_machines (all_start f) e

@@ -5,3 +5,4 @@ pub mod Left
 pub mod Valid
 pub mod Requests
 pub mod Kept
+pub mod Owning

@@ -1,14 +1,17 @@
 //! The load ports and the carriers together.
 
-ghost use Rattle.std.specs.Prelude.{◌≡◌, ◌≤◌, true, false, not, length, slice_get, IfOk, IfErr};
+ghost use Rattle.std.specs.Prelude.{◌≡◌, ◌≤◌, true, false, not, length, slice_get, Some, IfOk, IfErr};
+ghost use Rattle.gem_tables.specs.Table.{firing};
 ghost use Rattle.load_port.specs.Caack.{is_done_code};
 ghost use Rattle.load_port.specs.Ports.{most_ports, is_no_port};
-ghost use Rattle.carrier.specs.Carriers.{carrier_named, is_known};
+ghost use Rattle.carrier.specs.Carriers.{carrier_named, carrier_numbered, is_known};
 ghost use Rattle.shop_floor.specs.Floor.{opening, arrival_of, is_unloadable_port};
 ghost use Rattle.shop_floor.specs.Machines.{floor_starts, floor_fired, floor_least, creates, creation_rows, object_name};
 ghost use Rattle.shop_floor.specs.Requests.{carrier_code, carrier_written, carrier_rows, port_code, came};
+ghost use Rattle.shop_floor.specs.Owning.{number_named, owner_number};
 ghost use Rattle.shop_floor.specs.Valid.{IsFloor};
 
+use crate::asking::owner_at;
 use crate::rows::MOST_CREATED;
 use crate::{naming, requests, rows};
 use arrayvec::ArrayVec;
@@ -90,6 +93,27 @@ impl ShopFloor {
         }
     }
 
+    /// The number of creation of the carrier that belongs to the port of a number. `None` exactly where there is no such port, or none
+    /// belongs to it.
+    pub fn owner_number(&self, port: u64) -> Option<u64>
+        ensures { result ≡ owner_number port self.now }
+    {
+        match owner_at(port, &self.ports) {
+            Some(name) => self.number_named(name.text()),
+            None => None,
+        }
+    }
+
+    // The number of creation of the carrier of a name.
+    fn number_named(&self, name: Text80) -> Option<u64>
+        ensures { result ≡ number_named (Some name) self.now }
+    {
+        match self.carriers.named(name) {
+            Some(carrier) => Some(carrier.number),
+            None => None,
+        }
+    }
+
     /// The carrier of a name. `None` exactly where none of that name is known.
     pub fn carrier_named(&self, name: Text80) -> Option<Carrier>
         ensures { result ≡ carrier_named name self.now.carriers }
@@ -97,16 +121,23 @@ impl ShopFloor {
         self.carriers.named(name)
     }
 
-    // How many carriers are known.
-    pub(crate) fn carrier_count(&self) -> usize
+    /// How many carriers are known.
+    pub fn carrier_count(&self) -> usize
         ensures count { result ≡ length self.now.carriers }
         ensures valid { IsFloor self.now }
     {
         self.carriers.len()
     }
 
-    // The carrier of a place, counted from 0.
-    pub(crate) fn carrier(&self, place: usize) -> Option<Carrier>
+    /// The carrier of a number of creation. `None` exactly where none of that number is known.
+    pub fn carrier_numbered(&self, number: u64) -> Option<Carrier>
+        ensures { result ≡ carrier_numbered number self.now.carriers }
+    {
+        self.carriers.numbered(number)
+    }
+
+    /// The carrier of a place, counted from 0, in the order of creation. `None` exactly where there is none.
+    pub fn carrier(&self, place: usize) -> Option<Carrier>
         ensures { result ≡ slice_get self.now.carriers place }
     {
         self.carriers.get(place)
@@ -183,6 +214,14 @@ impl ShopFloor {
             &mut self.carriers,
             &mut self.next_carrier,
         )
+    }
+
+    /// A row of table 10 fires at the carrier of a number, whatever it wants besides, where it starts at the carrier's state. What it wants
+    /// of the carrier's substrates is for the caller.
+    pub fn fire_accessing(&mut self, carrier: u64, row: u8)
+        ensures { self.new ≡ floor_fired (firing 10 carrier row) self.old }
+    {
+        self.carriers.fire(carrier, 10, row);
     }
 
     // ---- what the host asks

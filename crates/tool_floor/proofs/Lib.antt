@@ -1,3 +1,3 @@
 pub mod Tables
-pub mod Keeping
 pub mod Behind
+pub mod Scans

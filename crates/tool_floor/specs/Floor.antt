@@ -1,6 +1,6 @@
 -- The floor of the tool: its load ports and carriers, its modules, and its substrates with their places (after SEMI E87 and SEMI E90;
 -- this tool's profile, carriers, substrates and moves).
-use Rattle.std.specs.Prelude.{ℕ, zero, suc, ◌+◌, ◌==◌, nat_lt, ◌&&◌, if◌then◌else◌, List, [], ◌∷◌, ◌++◌, codes, find, Option, Some, None, slice_get}
+use Rattle.std.specs.Prelude.{ℕ, zero, suc, ◌+◌, ◌==◌, nat_lt, ◌&&◌, if◌then◌else◌, List, [], ◌∷◌, ◌++◌, codes, find, replicate, Option, Some, None, slice_get}
 use Rattle.gem_tables.specs.Table.{update_at}
 use Rattle.gem_ids.specs.declared.numbers.LocId.{LocId}
 use Rattle.gem_ids.specs.declared.numbers.LocId.TheVariants.{Slot, Aligner, Arm, Chamber}
@@ -10,44 +10,20 @@ use Rattle.robot_moves.specs.Modules.{first_modules, change_module, taken}
 use Rattle.shop_floor.specs.Floor.{Floor, digit}
 use Rattle.shop_floor.specs.Floor as shop
 use Rattle.substrate.specs.Places.{PlaceMap, no_places}
+use Rattle.substrate.specs.Board.{spot_count}
 use Rattle.substrate.specs.Record.{first_location}
-use Rattle.tool_floor.specs.declared.location.Location.{Location}
-use Rattle.tool_floor.specs.declared.substrate.Substrate.{Substrate}
+use Rattle.substrate.specs.declared.record.LocationRecord.{LocationRecord}
+use Rattle.tool_floor.specs.declared.tracking.Substrate.{Substrate}
 
 -- the load ports with the carriers; the modules by their numbers: 1 is the robot, 2 the aligner, and 2 + c chamber c; which
--- substrate has which place; the locations in the order of their numbers: slots port by port, then aligner, arm and chambers; and
+-- substrate has which place; the states of the locations by their numbers: slots port by port, then aligner, arm and chambers; and
 -- the substrates of the carriers that are here, in the order of their registration
 pub record ToolFloor : Type 0 where
   pub shop : Floor
   pub modules : List Module
   pub places : PlaceMap
-  pub locations : List Location
+  pub locations : List LocationRecord
   pub substrates : List Substrate
-
--- ---- at the beginning
-
--- a location as it begins
-abbrev pub location : LocId → Location
-location loc = record { at = loc; states = first_location }
-
--- so many slots of a port, from the slot of this number on
-abbrev pub slots_from : ℕ → ℕ → ℕ → List Location
-slots_from port slot zero = []
-slots_from port slot (suc count) = location (Slot (record { 0 = port }) (record { 0 = slot })) ∷ slots_from port (slot + 1) count
-
--- the slots of so many ports, from the port of this number on
-abbrev pub ports_from : ℕ → ℕ → List Location
-ports_from port zero = []
-ports_from port (suc count) = slots_from port 1 25 ++ ports_from (port + 1) count
-
--- so many chambers, from the chamber of this number on
-abbrev pub chambers_from : ℕ → ℕ → List Location
-chambers_from chamber zero = []
-chambers_from chamber (suc count) = location (Chamber chamber) ∷ chambers_from (chamber + 1) count
-
--- the locations of a tool with so many load ports and chambers (this tool's profile, settling)
-abbrev pub first_locations : ℕ → ℕ → List Location
-first_locations ports chambers = ports_from 1 ports ++ (location Aligner ∷ location Arm ∷ chambers_from 1 chambers)
 
 -- so many ports without a carrier, and so many chambers; each module is Idle, and no substrate has a place
 abbrev pub opening : ℕ → ℕ → ToolFloor
@@ -55,7 +31,7 @@ opening ports chambers = record {
   shop = shop.opening ports;
   modules = first_modules chambers;
   places = no_places ports chambers;
-  locations = first_locations ports chambers;
+  locations = replicate (spot_count ports chambers) first_location;
   substrates = [];
 }
 
@@ -74,12 +50,12 @@ abbrev pub fetched : ℕ → ToolFloor → ToolFloor
 fetched number f = with_module number taken f
 
 -- the location of a number, counted from 1
-abbrev pub location_at : ℕ → List Location → Option Location
+abbrev pub location_at : ℕ → List LocationRecord → Option LocationRecord
 location_at zero locations = None
 location_at (suc n) locations = slice_get locations n
 
 -- a change of the location of a number
-abbrev pub change_location : ℕ → (Location → Location) → List Location → List Location
+abbrev pub change_location : ℕ → (LocationRecord → LocationRecord) → List LocationRecord → List LocationRecord
 change_location zero change locations = locations
 change_location (suc n) change locations = update_at n change locations
 
@@ -99,7 +75,7 @@ abbrev pub module_numbers : ℕ → List Module → List ℕ
 module_numbers n [] = []
 module_numbers n (m ∷ ms) = n ∷ module_numbers (n + 1) ms
 
-abbrev pub location_numbers : ℕ → List Location → List ℕ
+abbrev pub location_numbers : ℕ → List LocationRecord → List ℕ
 location_numbers n [] = []
 location_numbers n (l ∷ ls) = n ∷ location_numbers (n + 1) ls
 
@@ -115,10 +91,10 @@ place_name Aligner = codes "AL"
 place_name Arm = codes "ARM"
 place_name (Chamber c) = if nat_lt c 10 then codes "C" ++ digit c ∷ [] else []
 
--- the name of a location, empty where there is none
-abbrev pub location_name : Option Location → List ℕ
-location_name None = []
-location_name (Some l) = place_name l.at
+-- the name of the place of a number, empty where there is none
+abbrev pub name_of_place : Option LocId → List ℕ
+name_of_place None = []
+name_of_place (Some loc) = place_name loc
 
 -- the name of a substrate, empty where there is none
 abbrev pub substrate_name : Option Substrate → List ℕ

@@ -1,18 +1,17 @@
 -- The number that falls at each firing by itself, which is why the floor of the tool comes to rest.
-use Rattle.std.specs.Prelude.{ℕ, ◌+◌, ◌&&◌, ◌||◌, not, Bool, List, [], ◌∷◌, Some}
+use Rattle.std.specs.Prelude.{ℕ, ◌+◌, not, Bool, List, [], ◌∷◌, Some}
 use Rattle.robot_moves.specs.Modules.{is_idle}
 use Rattle.robot_moves.specs.declared.module.Module.{Module}
 use Rattle.shop_floor.specs.Left.{weighs, floor_left as shop_left}
-use Rattle.substrate.specs.Places.{PlaceMap, is_taken}
-use Rattle.substrate.specs.Record.{is_at_source, is_needing, is_in_process}
+use Rattle.substrate.specs.Places.{PlaceMap, is_taken_at}
 use Rattle.substrate.specs.declared.record.Occupancy.{Occupancy}
 use Rattle.substrate.specs.declared.record.Occupancy.TheVariants.{Unoccupied, Occupied}
 use Rattle.substrate.specs.declared.record.Transport.{Transport}
 use Rattle.substrate.specs.declared.record.Transport.TheVariants.{AtSource, AtWork, AtDestination}
 use Rattle.substrate.specs.declared.record.Processing.{Processing}
 use Rattle.substrate.specs.declared.record.Processing.TheVariants.{NeedsProcessing, InProcess}
-use Rattle.tool_floor.specs.declared.location.Location.{Location}
-use Rattle.tool_floor.specs.declared.substrate.Substrate.{Substrate}
+use Rattle.substrate.specs.declared.record.LocationRecord.{LocationRecord}
+use Rattle.tool_floor.specs.declared.tracking.Substrate.{Substrate}
 use Rattle.tool_floor.specs.Floor.{ToolFloor}
 
 -- an Idle module counts 1
@@ -25,10 +24,10 @@ abbrev pub disagrees : Occupancy → Bool → Bool
 disagrees Unoccupied taken = taken
 disagrees Occupied taken = not taken
 
--- a location counts 1 where its state disagrees with what is there
-abbrev pub locations_left : PlaceMap → List Location → ℕ
-locations_left p [] = 0
-locations_left p (l ∷ ls) = weighs 1 (disagrees l.states.occupancy (is_taken l.at p.held)) + locations_left p ls
+-- a location counts 1 where its state disagrees with what is there; the first has this number
+abbrev pub locations_left : ℕ → PlaceMap → List LocationRecord → ℕ
+locations_left number p [] = 0
+locations_left number p (l ∷ ls) = weighs 1 (disagrees l.occupancy (is_taken_at number p)) + locations_left (number + 1) p ls
 
 -- AT SOURCE counts 2, AT WORK 1
 abbrev pub transport_left : Transport → ℕ
@@ -52,4 +51,4 @@ substrates_left (s ∷ ss) = substrate_left s + substrates_left ss
 
 -- what is left to fire by itself
 abbrev pub floor_left : ToolFloor → ℕ
-floor_left f = shop_left f.shop + (locations_left f.places f.locations + (substrates_left f.substrates + modules_left f.modules))
+floor_left f = shop_left f.shop + (locations_left 1 f.places f.locations + (substrates_left f.substrates + modules_left f.modules))

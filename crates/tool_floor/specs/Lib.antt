@@ -1,5 +1,7 @@
 pub mod Floor
 pub mod Modules
+pub mod Substrates
 pub mod Machines
 pub mod Left
 pub mod Signals
+pub mod Kept

@@ -1,6 +1,6 @@
 -- Tables 4 to 13 and 16 at work on the floor of the tool (after SEMI E87 and SEMI E90; this tool's profile, tables 4 to 13 and 16,
 -- and settling).
-use Rattle.std.specs.Prelude.{ℕ, ◌==◌, Bool, ◌&&◌, if◌then◌else◌, List, [], ◌∷◌, map, Option, Some, None}
+use Rattle.std.specs.Prelude.{ℕ, ◌==◌, Bool, false, ◌&&◌, if◌then◌else◌, List, [], ◌∷◌, map, Option, Some, None}
 use Rattle.gem_tables.specs.Table.{is_one_of, may_fire, first_itself, after}
 use Rattle.gem_tables.specs.Machine.{Machine, starts_in, fired_in, creates_in, object_in, least_in}
 use Rattle.gem_tables.specs.declared.firing.Firing.{Firing}
@@ -9,15 +9,17 @@ use Rattle.carrier.specs.declared.carrier.Carrier.{Carrier}
 use Rattle.carrier.specs.Tables.{access_number, accessing_table}
 use Rattle.carrier.specs.Carriers.{carrier_numbered}
 use Rattle.shop_floor.specs.Floor.{Floor}
+use Rattle.shop_floor.specs.Owning.{owner_number}
 use Rattle.shop_floor.specs.Machines.{transfer_machine, access_machine, reservation_machine, association_machine, id_machine, map_machine, accessing_machine}
 use Rattle.substrate.specs.Tables.{SubstrateRow, occupancy_number, occupancy_table, transport_number, transport_table, processing_number, processing_table}
 use Rattle.substrate.specs.Record.{location_fired, substrate_fired}
 use Rattle.substrate.specs.declared.record.SubstrateRecord.{SubstrateRecord}
-use Rattle.tool_floor.specs.declared.location.Location.{Location}
-use Rattle.tool_floor.specs.declared.substrate.Substrate.{Substrate}
-use Rattle.tool_floor.specs.Floor.{ToolFloor, with_shop, with_module, module_numbers, location_at, change_location, location_numbers, location_name, substrate_numbered, change_numbered, substrate_name, number_of}
+use Rattle.substrate.specs.declared.record.LocationRecord.{LocationRecord}
+use Rattle.substrate.specs.Places.{found_location}
+use Rattle.tool_floor.specs.declared.tracking.Substrate.{Substrate}
+use Rattle.tool_floor.specs.Floor.{ToolFloor, with_shop, with_module, module_numbers, location_at, change_location, location_numbers, name_of_place, substrate_numbered, change_numbered, substrate_name, number_of}
 use Rattle.tool_floor.specs.Modules.{move_starts, move_ready, module_behind}
-use Rattle.tool_floor.specs.Substrates.{accessing_wants, location_wants, substrate_wants, reaches_verified, registers_found, new_rows, without_carrier, owner_number}
+use Rattle.tool_floor.specs.Substrates.{accessing_wants, location_wants, substrate_wants, reaches_verified, registers_found, new_rows, without_carrier}
 
 -- ---- the load ports and the carriers
 
@@ -74,30 +76,26 @@ carrier_machine =
 
 -- ---- the locations
 
--- a row of table 11 starts at a location
-abbrev pub location_starts : ℕ → Option Location → ToolFloor → Bool
-location_starts row None f = false
-location_starts row (Some l) f = may_fire occupancy_number (λ want. location_wants want l f.places) occupancy_table row l.states.occupancy
+-- a row of table 11 starts at the location of a number
+abbrev pub location_starts : ℕ → ℕ → Option LocationRecord → ToolFloor → Bool
+location_starts row number None f = false
+location_starts row number (Some l) f = may_fire occupancy_number (λ want. location_wants want number f.places) occupancy_table row l.occupancy
 
--- the row that is ready by itself at a location
-abbrev pub location_ready : Option Location → ToolFloor → Option ℕ
-location_ready None f = None
-location_ready (Some l) f = first_itself occupancy_number (λ want. location_wants want l f.places) occupancy_table l.states.occupancy
-
--- a location behind the row of a number
-abbrev pub location_moves : ℕ → Location → Location
-location_moves row l = record l { states = location_fired row l.states }
+-- the row that is ready by itself at the location of a number
+abbrev pub location_ready : ℕ → Option LocationRecord → ToolFloor → Option ℕ
+location_ready number None f = None
+location_ready number (Some l) f = first_itself occupancy_number (λ want. location_wants want number f.places) occupancy_table l.occupancy
 
 -- table 11, location
 abbrev pub location_machine : Machine ToolFloor
 location_machine = record {
   table = 11;
   objects = λ f. location_numbers 1 f.locations;
-  starts = λ row number f. location_starts row (location_at number f.locations) f;
-  ready = λ number f. location_ready (location_at number f.locations) f;
-  fired = λ row number f. record f { locations = change_location number (location_moves row) f.locations };
+  starts = λ row number f. location_starts row number (location_at number f.locations) f;
+  ready = λ number f. location_ready number (location_at number f.locations) f;
+  fired = λ row number f. record f { locations = change_location number (location_fired row) f.locations };
   creates = λ row number f. [];
-  name = λ number f. location_name (location_at number f.locations);
+  name = λ number f. name_of_place (found_location number f.places);
 }
 
 -- ---- the substrates: a table of theirs, of which each has one of these states

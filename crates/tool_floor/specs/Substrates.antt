@@ -13,24 +13,18 @@ use Rattle.tool_events.specs.declared.answer.Task.{Task}
 use Rattle.tool_events.specs.declared.answer.Task.TheVariants as task
 use Rattle.robot_moves.specs.declared.module.Module.{Module}
 use Rattle.robot_moves.specs.declared.module.Module.TheVariants.{Idle, Busy, Down}
-use Rattle.load_port.specs.Ports.{port_numbered}
 use Rattle.carrier.specs.Tables as carrier_want
 use Rattle.carrier.specs.Tables.{CarrierWant}
 use Rattle.carrier.specs.Wants.{carrier_wants}
-use Rattle.carrier.specs.Carriers.{carrier_named}
 use Rattle.carrier.specs.declared.carrier.Carrier.{Carrier}
-use Rattle.shop_floor.specs.Floor.{Floor}
-use Rattle.shop_floor.specs.Floor as shop
-use Rattle.shop_floor.specs.Rows.{owner}
 use Rattle.substrate.specs.Tables as want
 use Rattle.substrate.specs.Tables.{SubstrateWant}
 use Rattle.substrate.specs.Locations.{is_same, is_location}
-use Rattle.substrate.specs.Places.{PlaceMap, substrate_named, is_taken, is_there, registered, register_fault, removed}
+use Rattle.substrate.specs.Places.{PlaceMap, substrate_named, is_taken_at, is_there, registered, register_fault, removed}
 use Rattle.substrate.specs.Record.{first_record}
 use Rattle.substrate.specs.declared.registered.Registered.{Registered}
-use Rattle.tool_floor.specs.declared.location.Location.{Location}
-use Rattle.tool_floor.specs.declared.substrate.Substrate.{Substrate}
-use Rattle.tool_floor.specs.Floor.{ToolFloor, with_shop, number_of}
+use Rattle.tool_floor.specs.declared.tracking.Substrate.{Substrate}
+use Rattle.tool_floor.specs.Floor.{ToolFloor}
 
 -- ---- where a substrate is
 
@@ -82,12 +76,12 @@ accessing_wants carrier_want.substrate_outside c f = has_outside c.number f
 accessing_wants carrier_want.quiet c f = is_quiet c.number f
 accessing_wants other c f = carrier_wants other c
 
--- what a row of a location wants: a substrate is there, or none is
-abbrev pub location_wants : SubstrateWant → Location → PlaceMap → Bool
-location_wants want.nothing_more l p = true
-location_wants want.substrate_there l p = is_taken l.at p.held
-location_wants want.none_there l p = not (is_taken l.at p.held)
-location_wants _ l p = false
+-- what a row of the location of a number wants: a substrate is there, or none is
+abbrev pub location_wants : SubstrateWant → ℕ → PlaceMap → Bool
+location_wants want.nothing_more number p = true
+location_wants want.substrate_there number p = is_taken_at number p
+location_wants want.none_there number p = not (is_taken_at number p)
+location_wants _ number p = false
 
 -- a task processes the substrate of this name
 abbrev pub task_processes : List ℕ → Task → Bool
@@ -175,12 +169,3 @@ abbrev pub without_carrier : Option ℕ → ToolFloor → ToolFloor
 without_carrier None f = f
 without_carrier (Some carrier) f =
     record f { places = removed_of carrier f.substrates f.places; substrates = filter (λ s. not (is_of carrier s)) f.substrates }
-
--- the number of a carrier that may be named
-abbrev pub number_named : Option (List ℕ) → Floor → Option ℕ
-number_named None s = None
-number_named (Some name) s = option_map shop.number_of (carrier_named name s.carriers)
-
--- the number of the carrier that belongs to the port of a number
-abbrev pub owner_number : ℕ → Floor → Option ℕ
-owner_number port s = number_named (owner (port_numbered port s.ports)) s

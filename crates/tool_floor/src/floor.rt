@@ -1,42 +1,62 @@
 //! The floor of the tool.
 
-ghost use Rattle.std.specs.Prelude.{◌≡◌, ◌≤◌, ◌==◌, true, false, not, is_some, length, IfOk, IfErr};
+ghost use Rattle.std.specs.Prelude.{◌≡◌, ◌≤◌, ◌<◌, ◌==◌, slice_get, ◌∷◌, [], true, false, not, is_some, length, Option, IfOk, IfErr};
 ghost use Rattle.std.specs.Option.{option_to_list};
+ghost use Rattle.gem_tables.specs.Table.{is_one_of};
 ghost use Rattle.load_port.specs.Caack.{is_done_code};
 ghost use Rattle.load_port.specs.Ports.{most_ports, is_no_port};
 ghost use Rattle.robot_moves.specs.Modules.{module_at, unfetched, is_open, is_up, is_down};
+ghost use Rattle.shop_floor.specs.Machines.{floor_least as shop_least};
+ghost use Rattle.shop_floor.specs.Valid.{IsFloor};
 ghost use Rattle.shop_floor.specs.Requests.{carrier_code, carrier_written, came};
-ghost use Rattle.tool_floor.specs.Floor.{opening, with_shop, fetched};
-ghost use Rattle.tool_floor.specs.Machines.{floor_starts, floor_fired, floor_least, creation_rows, object_name};
+ghost use Rattle.substrate.specs.Places.{found_location};
+ghost use Rattle.tool_floor.specs.Floor.{opening, with_shop, fetched, change_location, substrate_numbered, name_of_place, substrate_name};
+ghost use Rattle.tool_floor.specs.Substrates.{without_carrier};
+ghost use Rattle.tool_floor.specs.Kept.{RiseTo};
+ghost use Rattle.tool_floor.specs.Machines.{registered_by, floor_starts, floor_fired, floor_least, creation_rows, object_name};
 ghost use Rattle.tool_floor.specs.Signals.{is_no_module, done_rows};
 
+use crate::naming::place_name;
+use crate::readiness::{ACCESSING, LOCATION, PROCESSING, TRANSPORT};
 use crate::rows;
 use crate::rows::MOVES;
+use crate::tracking::{Substrate, Substrates};
 use arrayvec::ArrayVec;
-use carrier::CarrierAction;
+use carrier::{Carrier, CarrierAction};
 use gem_ids::{CmdNo, ModuleId, PortNo, Text80};
 use gem_tables::Firing;
 use load_port::Arrival;
 use robot_moves::{Module, Modules};
-use shop_floor::{MOST_CREATED, ShopFloor};
+use shop_floor::ShopFloor;
 use std::alloc::{AllocError, Global};
 use std::marker::Model;
+use substrate::{LocationRecord, Places};
 use tool_events::{Command, Task};
 
-/// The floor of the tool, which contracts see as the load ports with the carriers, and the list of the modules by their numbers:
-/// 1 is the robot, 2 the aligner, and 2 + c chamber c. Only `new`, `fire` and `write` take memory.
+/// The most rows of objects that one row creates: two of each substrate of a carrier.
+pub const MOST_CREATED: usize = 50;
+
+/// The floor of the tool, which contracts see as the load ports with the carriers; the list of the modules by their numbers: 1 is the
+/// robot, 2 the aligner, and 2 + c chamber c; which substrate has which place; the states of the locations by their numbers; and the
+/// substrates of the carriers that are here, in the order of their registration. Only `new`, `fire` and `write` take memory.
 #[derive(Drop)]
 pub struct ToolFloor {
-    shop: ShopFloor,
-    modules: Modules,
+    pub(crate) shop: ShopFloor,
+    pub(crate) modules: Modules,
+    pub(crate) places: Places,
+    pub(crate) locations: Vec<LocationRecord>,
+    pub(crate) substrates: Substrates,
 }
 
 impl Model for ToolFloor {
     ghost use Rattle.tool_floor.specs.Floor.{ToolFloor};
+    ghost use Rattle.tool_floor.specs.Kept.{kept_floor, IsKept};
 
     ghost Value = { ToolFloor };
 
-    ghost view = { λ f. record { shop = f.shop; modules = f.modules } };
+    ghost view = { kept_floor };
+
+    ghost invariant = { IsKept };
 }
 
 impl ToolFloor {
@@ -48,9 +68,17 @@ impl ToolFloor {
     {
         // The borrow checker has to be told here of the types that a command holds.
         let _: Option<(Command, Task)> = None;
+        let shop = ShopFloor::new(alloc, ports)?;
+        let modules = Modules::new(alloc, chambers)?;
+        let places = Places::new(alloc, ports, chambers)?;
+        let locations = vec![in alloc; LocationRecord::new(); places.location_count()]?;
+        let substrates = Substrates::new(alloc)?;
         Ok(ToolFloor {
-            shop: ShopFloor::new(alloc, ports)?,
-            modules: Modules::new(alloc, chambers)?,
+            shop,
+            modules,
+            places,
+            locations,
+            substrates,
         })
     }
 
@@ -122,37 +150,135 @@ impl ToolFloor {
         rows::done(m, &self.modules)
     }
 
-    // ---- the rows
-
-    /// The name of the object of a row: P and the digit of the port's number, or the carrier's name; the empty text where there
-    /// is no such port or carrier, and for a row of another table (this tool's profile, object names).
-    pub fn object_name(&self, x: Firing) -> Text80
-        ensures { result ≡ object_name x self.now }
+    // How many carriers are known.
+    pub(crate) fn carrier_count(&self) -> usize
+        ensures count { result ≡ length self.now.shop.carriers }
+        ensures valid { IsFloor self.now.shop }
     {
-        if x.row.table == MOVES {
-            return Text80::empty();
-        }
-        self.shop.object_name(x)
+        self.shop.carrier_count()
     }
 
-    /// The least row that is ready by itself: that of the least table, in it that of the first object, and of that object the
-    /// row of the least number; ports by number, carriers by creation (this tool's profile, settling). `None` exactly where no
-    /// row is ready.
-    pub fn least(&self) -> Option<Firing>
-        ensures { result ≡ floor_least self.now }
+    // The carrier of a place, counted from 0.
+    pub(crate) fn carrier_at(&self, place: usize) -> Option<Carrier>
+        ensures { result ≡ slice_get self.now.shop.carriers place }
+    {
+        self.shop.carrier(place)
+    }
+
+    // The least row that is ready by itself of the load ports and the carriers alone.
+    fn least_of_shop(&self) -> Option<Firing>
+        ensures { result ≡ shop_least self.now.shop }
     {
         self.shop.least()
     }
 
-    /// Whether a row starts: its object is there, in a state in which the row starts, and what the row wants besides is so (this
-    /// tool's profile, tables 4 to 10 and 16). A row of another table never starts.
+    // How many substrates are of carriers that are here.
+    pub(crate) fn substrate_count(&self) -> usize
+        ensures count { result ≡ length self.now.substrates }
+        ensures rise { RiseTo 0 self.now.places.given self.now.substrates }
+    {
+        self.substrates.len()
+    }
+
+    // The substrate of a place in their list, counted from 0.
+    pub(crate) fn substrate_at(&self, place: usize) -> Option<Substrate>
+        ensures { result ≡ slice_get self.now.substrates place }
+    {
+        self.substrates.get(place)
+    }
+
+    // The module of a place, counted from 0.
+    pub(crate) fn module_at(&self, place: usize) -> Option<Module>
+        requires { place < 255 }
+        ensures { result ≡ slice_get self.now.modules place }
+    {
+        self.modules.get(ModuleId((place + 1) as u8))
+    }
+
+    // How many locations the tool has.
+    pub(crate) fn location_count(&self) -> usize
+        ensures { result ≡ length self.now.locations }
+    {
+        self.locations.len()
+    }
+
+    /// The substrate of a number of registration, of a carrier that is here. `None` exactly where there is none.
+    pub fn substrate(&self, number: u64) -> Option<Substrate>
+        ensures { result ≡ substrate_numbered number self.now.substrates }
+    {
+        self.substrates.numbered(number)
+    }
+
+    /// The name of the object of a row: P and the digit of a port's number; a carrier's or a substrate's name; a location's, as P1.01, AL,
+    /// ARM or C1; the empty text where there is no such object, and for a row of another table (this tool's profile, object names).
+    pub fn object_name(&self, x: Firing) -> Text80
+        ensures { result ≡ object_name x self.now }
+    {
+        match x.row.table {
+            LOCATION => self.location_name(x.object),
+            TRANSPORT | PROCESSING => self.substrate_name(x.object),
+            MOVES => Text80::empty(),
+            _ => self.shop.object_name(x),
+        }
+    }
+
+    // The name of the location of a number.
+    fn location_name(&self, number: u64) -> Text80
+        ensures { result ≡ name_of_place (found_location number self.now.places) }
+    {
+        if number > self.places.location_count() as u64 {
+            return Text80::empty();
+        }
+        match self.places.location(number as usize) {
+            Some(loc) => place_name(loc),
+            None => Text80::empty(),
+        }
+    }
+
+    // The name of the substrate of a number.
+    fn substrate_name(&self, number: u64) -> Text80
+        ensures { result ≡ substrate_name (substrate_numbered number self.now.substrates) }
+    {
+        match self.substrates.numbered(number) {
+            Some(substrate) => substrate.sub.text(),
+            None => Text80::empty(),
+        }
+    }
+
+    /// The least row that is ready by itself: that of the least table, in it that of the first object, and of that object the row of the
+    /// least number; ports, locations and modules by number, carriers by creation, substrates by registration (this tool's profile,
+    /// settling). `None` exactly where no row is ready.
+    pub fn least(&self) -> Option<Firing>
+        ensures { result ≡ floor_least self.now }
+    {
+        if let Some(x) = self.least_of_shop() {
+            return Some(x);
+        }
+        if let Some(x) = self.ready_accessing() {
+            return Some(x);
+        }
+        if let Some(x) = self.ready_location() {
+            return Some(x);
+        }
+        if let Some(x) = self.ready_substrate(TRANSPORT) {
+            return Some(x);
+        }
+        self.ready_substrate(PROCESSING)
+    }
+
+    /// Whether a row starts: its object is there, in a state in which the row starts, and what the row wants besides is so (this tool's
+    /// profile, tables 4 to 13 and 16). A row that a registration fires starts for any substrate that is there. A row of another table
+    /// never starts.
     pub fn starts(&self, x: Firing) -> bool
         ensures { result ≡ floor_starts x self.now }
     {
-        if x.row.table == MOVES {
-            return self.module_starts(x);
+        match x.row.table {
+            ACCESSING => self.starts_at_carrier(x),
+            LOCATION => self.starts_at_location(x),
+            TRANSPORT | PROCESSING => self.starts_at_substrate(x),
+            MOVES => self.module_starts(x),
+            _ => self.shop.starts(x),
         }
-        self.shop.starts(x)
     }
 
     // Whether a row of the table of moves starts.
@@ -169,44 +295,121 @@ impl ToolFloor {
         }
     }
 
-    /// The rows of the objects that a row creates, which are to be fired straight behind it (this tool's profile, settling). They
-    /// are asked before the row fires. There are none exactly where the row creates none.
-    pub fn creations(&self, x: Firing) -> ArrayVec<Firing, MOST_CREATED>
-        ensures { result.items ≡ creation_rows x self.now }
-    {
-        if x.row.table == MOVES {
-            return ArrayVec::new();
-        }
-        self.shop.creations(x)
-    }
+    // ---- what rows do
 
-    /// A row fires that starts: its effect, and the state of its object (this tool's profile, tables 4 to 10 and 16).
-    /// `AllocError`: there is no memory for the carrier that it creates, or the last number was given; nothing has changed.
-    pub fn fire(&mut self, x: Firing) -> Result<(), AllocError>
+    /// A row fires that starts: its effect, and the state of its object (this tool's profile, tables 4 to 13 and 16). It gives the rows of
+    /// the objects that it creates, which are to be fired straight behind it (this tool's profile, settling): of a carrier, or of
+    /// the substrates that it registers. `AllocError`: there is no memory for what it creates, or the last number was given; but for a
+    /// row of the slot map, nothing has changed.
+    pub fn fire(&mut self, x: Firing) -> Result<ArrayVec<Firing, MOST_CREATED>, AllocError>
         requires { floor_starts x self.old ≡ true }
         ensures ok { IfOk result (λ _. self.new ≡ floor_fired x self.old) }
-        ensures err { IfErr result (λ _. self.new ≡ self.old) }
+        ensures follow { IfOk result (λ rows. rows.items ≡ creation_rows x self.old) }
+        ensures err { (x.row.table == 9) ≡ false → IfErr result (λ _. self.new ≡ self.old) }
     {
-        if x.row.table == MOVES {
-            self.fire_move(x);
-            return Ok(());
+        match x.row.table {
+            7 => return self.fire_association(x),
+            9 => return self.fire_map(x),
+            ACCESSING => self.shop.fire_accessing(x.object, x.row.row),
+            LOCATION => self.fire_location(x),
+            TRANSPORT | PROCESSING => self.substrates.fire(x.object, x.row.table, x.row.row),
+            MOVES => self.fire_move(x),
+            _ => return self.fire_shop(x),
         }
-        self.fire_shop(x)
+        Ok(ArrayVec::new())
     }
 
-    // A row of the load ports or the carriers fires that starts.
-    fn fire_shop(&mut self, x: Firing) -> Result<(), AllocError>
-        requires other { (x.row.table == 16) ≡ false }
+    // A row of tables 4 to 6 or 8 fires that starts.
+    fn fire_shop(&mut self, x: Firing) -> Result<ArrayVec<Firing, MOST_CREATED>, AllocError>
+        requires other { is_one_of (7 ∷ 9 ∷ 10 ∷ 11 ∷ 12 ∷ 13 ∷ 16 ∷ []) x.row.table ≡ false }
         requires starts { floor_starts x self.old ≡ true }
         ensures ok { IfOk result (λ _. self.new ≡ floor_fired x self.old) }
+        ensures follow { IfOk result (λ rows. rows.items ≡ creation_rows x self.old) }
         ensures err { IfErr result (λ _. self.new ≡ self.old) }
     {
-        self.shop.fire(x)
+        let created = self.shop.creations(x);
+        self.shop.fire(x)?;
+        Ok(widened(created.as_slice()))
     }
 
-    // A row of the table of moves fires that starts.
+    // A row of table 7 fires that starts.
+    fn fire_association(&mut self, x: Firing) -> Result<ArrayVec<Firing, MOST_CREATED>, AllocError>
+        requires table { x.row.table ≡ 7 }
+        requires starts { floor_starts x self.old ≡ true }
+        ensures ok { IfOk result (λ _. self.new ≡ floor_fired x self.old) }
+        ensures follow { IfOk result (λ rows. rows.items ≡ creation_rows x self.old) }
+        ensures err { IfErr result (λ _. self.new ≡ self.old) }
+    {
+        let created = self.shop.creations(x);
+        let owner = self.shop.owner_number(x.object);
+        self.shop.fire(x)?;
+        if x.row.row == 6 {
+            self.take_owned(owner);
+        }
+        Ok(widened(created.as_slice()))
+    }
+
+    // The substrates of a carrier are removed and forgotten, where one is given.
+    fn take_owned(&mut self, owner: Option<u64>)
+        ensures { self.new ≡ without_carrier owner self.old }
+    {
+        if let Some(carrier) = owner {
+            self.take_along(carrier);
+        }
+    }
+
+    // A row of table 9 fires that starts.
+    fn fire_map(&mut self, x: Firing) -> Result<ArrayVec<Firing, MOST_CREATED>, AllocError>
+        requires table { x.row.table ≡ 9 }
+        requires starts { floor_starts x self.old ≡ true }
+        ensures ok { IfOk result (λ _. self.new ≡ floor_fired x self.old) }
+        ensures follow { IfOk result (λ rows. rows.items ≡ creation_rows x self.old) }
+    {
+        let known = self.substrates.len();
+        self.register_by(x)?;
+        self.shop.fire(x)?;
+        Ok(self.registration_rows(known))
+    }
+
+    // What a row of table 9 registers.
+    fn register_by(&mut self, x: Firing) -> Result<(), AllocError>
+        ensures { IfOk result (λ _. self.new ≡ registered_by x.row.row x.object self.old) }
+    {
+        if x.row.row == 1 || x.row.row == 3 {
+            if let Some(carrier) = self.shop.carrier_numbered(x.object) {
+                self.register(&carrier)?;
+            }
+        }
+        Ok(())
+    }
+
+    // A row of table 11 fires.
+    fn fire_location(&mut self, x: Firing)
+        requires { x.row.table ≡ 11 }
+        ensures { self.new ≡ floor_fired x self.old }
+    {
+        if let Some(location) = self.location(x.object) {
+            let mut states = location;
+            states.fire(x.row.row);
+            self.put_location(x.object, states);
+        }
+    }
+
+    // The location of a number has these states, where there is one.
+    fn put_location(&mut self, number: u64, states: LocationRecord)
+        ensures { self.new ≡ record self.old { locations = change_location number (λ _. states) self.old.locations } }
+    {
+        if number == 0 {
+            return;
+        }
+        if number <= self.locations.len() as u64 {
+            self.locations[number as usize - 1] = states;
+        }
+    }
+
+    // A row of the table of moves fires.
     fn fire_move(&mut self, x: Firing)
-        requires { (x.row.table == 16) ≡ true }
+        requires { x.row.table ≡ 16 }
         ensures { self.new ≡ floor_fired x self.old }
     {
         if x.object <= self.modules.len() as u64 {
@@ -244,4 +447,16 @@ impl ToolFloor {
     {
         self.modules.fetch(m)
     }
+}
+
+// The rows that one row of the load ports creates, in a list for more.
+fn widened(created: &[Firing]) -> ArrayVec<Firing, MOST_CREATED>
+    requires { length created.now ≤ 1 }
+    ensures { result.items ≡ created.now }
+{
+    let mut rows = ArrayVec::new();
+    if let Some(x) = created.get(0) {
+        rows.push(*x);
+    }
+    rows
 }

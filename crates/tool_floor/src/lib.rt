@@ -1,12 +1,19 @@
-//! The floor of the tool: its load ports and carriers (after SEMI E87; tables 4 to 10), and its modules with their commands
-//! (table 16): the rows that are ready by themselves, what each does, and what the host and the equipment do to them.
+//! The floor of the tool: its load ports and carriers (after SEMI E87; tables 4 to 10), its substrates with their places (after SEMI
+//! E90; tables 11 to 13), and its modules with their commands (table 16): the rows that are ready by themselves, what each does, and
+//! what the host and the equipment do to them.
 //!
 //! It makes no notes and sends nothing: its caller fires the rows that it tells, and tells of them. Begin with
 //! `ToolFloor::new`, then `ToolFloor::least` and `ToolFloor::fire`.
 #![tactic(auto)]
 
+mod asking;
 mod floor;
 pub mod laws;
+mod naming;
+mod readiness;
+mod registering;
 mod rows;
+mod tracking;
 
-pub use floor::ToolFloor;
+pub use floor::{MOST_CREATED, ToolFloor};
+pub use tracking::Substrate;

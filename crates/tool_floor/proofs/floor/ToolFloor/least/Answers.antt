@@ -1,11 +1,26 @@
-use Rattle.std.proofs.Common.{sym, ap, ◌∙◌}
-use Rattle.tool_floor.specs.Floor.{ToolFloor}
-use Rattle.tool_floor.specs.Machines.{floor_least}
-use Rattle.tool_floor.proofs.Tables.{least_shop}
+use Rattle.std.proofs.Common.{sym, ◌∙◌}
+use Rattle.tool_floor.proofs.Tables.{least_first, least_second, least_third, least_fourth, least_last}
 use Rattle.tool_floor.proofs.floor.ToolFloor.least.Goals as goal
+
+pub returns-in-Some : goal.returns-in-Some
+returns-in-Some c = least_first c.args.self.now c.in-Some.x (sym c.least_of_shop.ensures ∙ c.in-Some.is)
+
+pub returns-in-Some-ready_accessing : goal.returns-in-Some-ready_accessing
+returns-in-Some-ready_accessing c =
+    least_second c.args.self.now c.in-Some-ready_accessing.x (sym c.least_of_shop.ensures ∙ c.in_default.is) (sym c.ready_accessing.ensures ∙ c.in-Some-ready_accessing.is)
+
+pub returns-in-Some-ready_location : goal.returns-in-Some-ready_location
+returns-in-Some-ready_location c =
+    least_third c.args.self.now c.in-Some-ready_location.x (sym c.least_of_shop.ensures ∙ c.in_default.is) (sym c.ready_accessing.ensures ∙ c.in_default-ready_accessing.is)
+    (sym c.ready_location.ensures ∙ c.in-Some-ready_location.is)
+
+pub returns-in-Some-ready_substrate : goal.returns-in-Some-ready_substrate
+returns-in-Some-ready_substrate c =
+    least_fourth c.args.self.now c.in-Some-ready_substrate.x (sym c.least_of_shop.ensures ∙ c.in_default.is) (sym c.ready_accessing.ensures ∙ c.in_default-ready_accessing.is)
+    (sym c.ready_location.ensures ∙ c.in_default-ready_location.is) (sym c.ready_substrate.ensures ∙ c.in-Some-ready_substrate.is)
 
 pub returns : goal.returns
 returns c =
-    let f : ToolFloor = record { shop = c.self.inside.shop; modules = c.self.inside.modules } in
-    let here = c.least.ensures ∙ sym (least_shop f) in
-    rw (← c.self.view_is) here
+    c.ready_substrate-2.ensures
+    ∙ least_last c.args.self.now (sym c.least_of_shop.ensures ∙ c.in_default.is) (sym c.ready_accessing.ensures ∙ c.in_default-ready_accessing.is)
+    (sym c.ready_location.ensures ∙ c.in_default-ready_location.is) (sym c.ready_substrate.ensures ∙ c.in_default-ready_substrate.is)

@@ -1,0 +1,31 @@
+use Rattle.std.proofs.Common.{◌+◌, ◌<◌, ◌≤◌, ℕ, Option, Some, length, ◌∙◌, sym, ap, arith}
+use Rattle.gem_tables.specs.declared.firing.Firing.{Firing}
+use Rattle.shop_floor.proofs.Scans.{ready_here, ready_next, ready_end}
+use Rattle.tool_floor.specs.Floor.{ToolFloor, location_at, location_numbers}
+use Rattle.tool_floor.specs.Machines.{location_ready}
+use Rattle.tool_floor.proofs.Scans.{number_at, numbers_length}
+use Rattle.tool_floor.proofs.floor.ToolFloor.ready_location.Goals as goal
+
+abbrev at : ToolFloor → ℕ → Option ℕ
+at f number = location_ready number (location_at number f.locations) f
+
+pub returns-in-Some : goal.returns-in-Some
+returns-in-Some c =
+    let within : c.loop-place.place < length c.args.self.now.locations = omega (arith, c.loop-place-test.true, c.location_count-place-end.ensures) in
+    ap (λ (x : Firing). Some x) c.new.ensures
+    ∙ sym (ready_here 11 (at c.args.self.now) (location_numbers 1 c.args.self.now.locations) c.loop-place.place (c.loop-place.place + 1) c.in-Some.row
+    (number_at c.args.self.now.locations c.loop-place.place (c.loop-place.place + 1) within (omega arith)) (sym c.location_row.ensures ∙ c.in-Some.is))
+    ∙ c.loop-place.invariant
+
+pub loop-place-preserved : goal.loop-place-preserved
+loop-place-preserved c =
+    let within : c.loop-place.place < length c.args.self.now.locations = omega (arith, c.loop-place-test.true, c.location_count-place-end.ensures) in
+    sym (ready_next 11 (at c.args.self.now) (location_numbers 1 c.args.self.now.locations) c.loop-place.place (c.loop-place.place + 1)
+    (number_at c.args.self.now.locations c.loop-place.place (c.loop-place.place + 1) within (omega arith)) (sym c.location_row.ensures ∙ c.in_default.is))
+    ∙ c.loop-place.invariant
+
+pub returns : goal.returns
+returns c =
+    let same = numbers_length c.args.self.now.locations in
+    let past : length (location_numbers 1 c.args.self.now.locations) ≤ c.loop-place.place = omega (arith, same, c.loop-place-test.false, c.location_count-place-end.ensures) in
+    sym (ready_end 11 (at c.args.self.now) (location_numbers 1 c.args.self.now.locations) c.loop-place.place past) ∙ c.loop-place.invariant

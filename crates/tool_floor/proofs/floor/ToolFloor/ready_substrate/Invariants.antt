@@ -1,0 +1,8 @@
+use Rattle.std.proofs.Common.{◌≡◌, drop, map}
+use Rattle.gem_tables.specs.Machine.{first_ready, ready_in}
+use Rattle.tool_floor.specs.Floor.{number_of}
+use Rattle.tool_floor.specs.Machines.{floor_machines}
+use Rattle.tool_floor.proofs.floor.ToolFloor.ready_substrate.Given as goal
+
+abbrev pub invariant-loop-place : goal.invariant-loop-place
+invariant-loop-place l = first_ready l.table (λ n. ready_in floor_machines l.table n l.self) (drop l.place (map number_of l.self.substrates)) ≡ first_ready l.table (λ n. ready_in floor_machines l.table n l.self) (map number_of l.self.substrates)

@@ -1,0 +1,9 @@
+use Rattle.std.proofs.Common.{◌≡◌, drop, take, ◌++◌}
+use Rattle.tool_floor.specs.Floor.{change_numbered}
+use Rattle.tool_floor.specs.Machines.{substrate_moves}
+use Rattle.tool_floor.proofs.tracking.Substrates.fire.Given as goal
+
+abbrev pub invariant-loop-place : goal.invariant-loop-place
+invariant-loop-place l =
+    take l.place l.self-inside.list.items ++ change_numbered l.number (substrate_moves l.table l.row) (drop l.place l.self-inside.list.items)
+    ≡ change_numbered l.number (substrate_moves l.table l.row) l.self-inside.list.items

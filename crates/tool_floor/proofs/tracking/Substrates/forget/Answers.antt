@@ -1,0 +1,12 @@
+use Rattle.std.proofs.Common.{rules, Bool, not, ◌∙◌, ap}
+use Rattle.std.specs.List.{filter}
+use Rattle.std.proofs.lemmas.Fn.{filter_same}
+use Rattle.tool_floor.specs.declared.tracking.Substrate.{Substrate}
+use Rattle.tool_floor.specs.Substrates.{is_of}
+use Rattle.tool_floor.proofs.tracking.Substrates.forget.Goals as goal
+
+pub returns : goal.returns
+returns c =
+    let test : Substrate → Bool = λ s. not (is_of c.args.carrier s) in
+    filter_same _ test _ (λ x b f k. search rules) _ _ c.retain.ensures.filtered
+    ∙ ap (filter test) c.self.view_is

@@ -1,0 +1,176 @@
+//! Where the substrates are, and what the rows of carriers, locations and substrates want (this tool's profile, tables 10 to 13).
+
+ghost use Rattle.std.specs.Prelude.{◌≡◌, ◌&&◌, Some, None};
+ghost use Rattle.std.specs.List.{list_any};
+ghost use Rattle.gem_tables.specs.Table.{row_of, wants_found};
+ghost use Rattle.carrier.specs.Tables.{accessing_table};
+ghost use Rattle.substrate.specs.Tables.{occupancy_table, transport_table, processing_table};
+ghost use Rattle.tool_floor.specs.Substrates.{is_work_place, is_outside, is_in_slot, is_removed, is_of, has_outside, is_back, is_quiet, accessing_wants, location_wants, task_processes, processes, substrate_wants};
+
+use crate::floor::ToolFloor;
+use crate::tracking::Substrate;
+use carrier::Carrier;
+use gem_ids::{LocId, SubstrateId};
+use gem_tables::RowId;
+use robot_moves::Module;
+use substrate::is_same;
+use tool_events::Task;
+
+// Whether the place is the aligner, the arm or a chamber.
+fn is_work_place(loc: LocId) -> bool
+    ensures { result ≡ is_work_place loc }
+{
+    match loc {
+        LocId::Slot(_, _) => false,
+        LocId::Aligner | LocId::Arm | LocId::Chamber(_) => true,
+    }
+}
+
+// Whether a task processes the substrate of this name.
+fn task_processes(sub: SubstrateId, task: &Task) -> bool
+    ensures { result ≡ task_processes sub task.now }
+{
+    match task {
+        Task::Process { sub: name, .. } => name.as_bytes() == sub.as_bytes(),
+        _ => false,
+    }
+}
+
+// Whether a module has an open command that does.
+fn processes(sub: SubstrateId, module: &Module) -> bool
+    ensures { result ≡ processes sub module.now }
+{
+    match module {
+        Module::Busy { command, .. } => task_processes(sub, &command.task),
+        _ => false,
+    }
+}
+
+impl ToolFloor {
+    // ---- of a substrate
+
+    // Whether the substrate is at the aligner, on the arm or in a chamber.
+    pub(crate) fn is_outside(&self, s: &Substrate) -> bool
+        ensures { result ≡ is_outside s.now self.now.places }
+    {
+        match self.places.find(s.sub) {
+            Some(found) => is_work_place(found.at),
+            None => false,
+        }
+    }
+
+    // Whether it is in its slot.
+    pub(crate) fn is_in_slot(&self, s: &Substrate) -> bool
+        ensures { result ≡ is_in_slot s.now self.now.places }
+    {
+        match self.places.find(s.sub) {
+            Some(found) => is_same(found.at, s.slot),
+            None => false,
+        }
+    }
+
+    // Whether it has no place any more.
+    fn is_removed(&self, s: &Substrate) -> bool
+        ensures { result ≡ is_removed s.now self.now.places }
+    {
+        self.places.find(s.sub).is_none()
+    }
+
+    // Whether an open command of a module processes it.
+    pub(crate) fn is_processed(&self, s: &Substrate) -> bool
+        ensures { result ≡ list_any (processes s.now.sub) self.now.modules }
+    {
+        for place in 0..self.module_count() {
+            if let Some(module) = self.module_at(place) {
+                if processes(s.sub, &module) {
+                    return true;
+                }
+            }
+        }
+        false
+    }
+
+    // ---- of a carrier
+
+    // Whether a substrate is of the carrier of this number, and outside.
+    fn is_outside_of(&self, carrier: u64, s: &Substrate) -> bool
+        ensures { result ≡ (is_of carrier s.now && is_outside s.now self.now.places) }
+    {
+        s.carrier == carrier && self.is_outside(s)
+    }
+
+    // Whether a substrate is in its slot, or removed, where it is of the carrier of this number.
+    fn is_back(&self, carrier: u64, s: &Substrate) -> bool
+        ensures { result ≡ is_back carrier self.now.places s.now }
+    {
+        s.carrier != carrier || (self.is_in_slot(s) || self.is_removed(s))
+    }
+
+    // Whether a substrate of the carrier of this number is outside.
+    pub(crate) fn has_outside(&self, carrier: u64) -> bool
+        ensures { result ≡ has_outside carrier self.now }
+    {
+        for place in 0..self.substrate_count() {
+            if let Some(s) = self.substrate_at(place) {
+                if self.is_outside_of(carrier, &s) {
+                    return true;
+                }
+            }
+        }
+        false
+    }
+
+    // Whether each substrate of the carrier of this number is in its slot or removed.
+    pub(crate) fn is_quiet(&self, carrier: u64) -> bool
+        ensures { result ≡ is_quiet carrier self.now }
+    {
+        for place in 0..self.substrate_count() {
+            if let Some(s) = self.substrate_at(place) {
+                if !self.is_back(carrier, &s) {
+                    return false;
+                }
+            }
+        }
+        true
+    }
+
+    // ---- what rows want
+
+    // Whether what a row of table 10 wants is so of a carrier.
+    pub(crate) fn accessing_wants(&self, row: u8, c: &Carrier) -> bool
+        ensures { result ≡ wants_found (λ want. accessing_wants want c.now self.now) (row_of accessing_table row) }
+    {
+        match row {
+            1 => self.has_outside(c.number),
+            2 => self.is_quiet(c.number),
+            3 => false,
+            _ => true,
+        }
+    }
+
+    // Whether what a row of table 11 wants is so of the location of a number.
+    pub(crate) fn location_wants(&self, row: u8, number: usize) -> bool
+        ensures { result ≡ wants_found (λ want. location_wants want number self.now.places) (row_of occupancy_table row) }
+    {
+        match row {
+            1 => self.places.is_taken_at(number),
+            2 => !self.places.is_taken_at(number),
+            _ => true,
+        }
+    }
+
+    // Whether what a row of table 12 or 13 wants is so of a substrate.
+    pub(crate) fn substrate_wants(&self, row: RowId, s: &Substrate) -> bool
+        ensures transport { row.table ≡ 12 → result ≡ wants_found (λ want. substrate_wants want s.now self.now) (row_of transport_table row.row) }
+        ensures processing { row.table ≡ 13 → result ≡ wants_found (λ want. substrate_wants want s.now self.now) (row_of processing_table row.row) }
+    {
+        match (row.table, row.row) {
+            (12, 2) => self.is_outside(s),
+            (12, 3) => self.is_in_slot(s),
+            (13, 2) => self.is_processed(s),
+            // no substrate is of a job yet
+            (13, 5 | 6 | 7) => false,
+            _ => true,
+        }
+    }
+}

@@ -1,0 +1,215 @@
+//! Which rows of tables 10 to 13 start, and which are ready by themselves (this tool's profile, tables 10 to 13 and settling).
+
+ghost use Rattle.std.specs.Prelude.{◌≡◌, ◌∷◌, [], true, map, Some};
+ghost use Rattle.gem_tables.specs.Table.{first_itself, is_one_of};
+ghost use Rattle.gem_tables.specs.Machine.{first_ready, ready_in};
+ghost use Rattle.carrier.specs.Tables.{access_number, accessing_table};
+ghost use Rattle.carrier.specs.Carriers.{carrier_numbered};
+ghost use Rattle.substrate.specs.Tables.{occupancy_number, occupancy_table, transport_number, transport_table, processing_number, processing_table};
+ghost use Rattle.shop_floor.specs.Floor.{number_of as carrier_number};
+ghost use Rattle.tool_floor.specs.Floor.{ToolFloor, location_at, location_numbers, substrate_numbered, number_of};
+ghost use Rattle.tool_floor.specs.Substrates.{accessing_wants, location_wants, substrate_wants};
+ghost use Rattle.tool_floor.specs.Machines.{floor_machines, floor_starts, location_ready};
+
+use crate::floor::ToolFloor;
+use crate::tracking::Substrate;
+use carrier::{Accessing, Carrier};
+use gem_tables::Firing;
+use substrate::{LocationRecord, Occupancy, Processing, Transport};
+
+// The tables of carriers, locations and substrates.
+pub(crate) const ACCESSING: u8 = 10;
+
+pub(crate) const LOCATION: u8 = 11;
+
+pub(crate) const TRANSPORT: u8 = 12;
+
+pub(crate) const PROCESSING: u8 = 13;
+
+impl ToolFloor {
+    // ---- accessing
+
+    // Whether a row of table 10 starts.
+    pub(crate) fn starts_at_carrier(&self, x: Firing) -> bool
+        requires { x.row.table ≡ 10 }
+        ensures { result ≡ floor_starts x self.now }
+    {
+        match self.shop.carrier_numbered(x.object) {
+            Some(carrier) => {
+                let mut states = carrier.states;
+                states.fire(ACCESSING, x.row.row) && self.accessing_wants(x.row.row, &carrier)
+            }
+            None => false,
+        }
+    }
+
+    // The row of table 10 that is ready at a carrier.
+    fn accessing_row(&self, carrier: &Carrier) -> Option<u8>
+        ensures { carrier_numbered carrier.now.number self.now.shop.carriers ≡ Some carrier.now → result ≡ ready_in floor_machines 10 carrier.now.number self.now }
+    {
+        match carrier.states.access {
+            Accessing::NotAccessed => {
+                if self.has_outside(carrier.number) {
+                    Some(1)
+                } else {
+                    None
+                }
+            }
+            Accessing::InAccess => {
+                if self.is_quiet(carrier.number) {
+                    Some(2)
+                } else {
+                    None
+                }
+            }
+            _ => None,
+        }
+    }
+
+    // The row of table 10 that is ready at the first carrier at which one is.
+    pub(crate) fn ready_accessing(&self) -> Option<Firing>
+        ensures { result ≡ first_ready 10 (λ carrier. ready_in floor_machines 10 carrier self.now) (map carrier_number self.now.shop.carriers) }
+    {
+        for place in 0..self.carrier_count() {
+            if let Some(carrier) = self.carrier_at(place) {
+                if let Some(row) = self.accessing_row(&carrier) {
+                    return Some(Firing::new(ACCESSING, carrier.number, row));
+                }
+            }
+        }
+        None
+    }
+
+    // ---- locations
+
+    // The state of the location of a number.
+    pub(crate) fn location(&self, number: u64) -> Option<LocationRecord>
+        ensures { result ≡ location_at number self.now.locations }
+    {
+        if number == 0 || number > self.locations.len() as u64 {
+            None
+        } else {
+            self.locations.get(number as usize - 1).copied()
+        }
+    }
+
+    // Whether a row of table 11 starts.
+    pub(crate) fn starts_at_location(&self, x: Firing) -> bool
+        requires { x.row.table ≡ 11 }
+        ensures { result ≡ floor_starts x self.now }
+    {
+        match self.location(x.object) {
+            Some(location) => {
+                let mut states = location;
+                states.fire(x.row.row) && self.location_wants(x.row.row, x.object as usize)
+            }
+            None => false,
+        }
+    }
+
+    // The row of table 11 that is ready at the location of a number.
+    fn location_row(&self, number: u64) -> Option<u8>
+        ensures { result ≡ location_ready number (location_at number self.now.locations) self.now }
+    {
+        match self.location(number) {
+            Some(location) => match (location.occupancy, self.places.is_taken_at(number as usize)) {
+                (Occupancy::Unoccupied, true) => Some(1),
+                (Occupancy::Occupied, false) => Some(2),
+                _ => None,
+            },
+            None => None,
+        }
+    }
+
+    // The row of table 11 that is ready at the first location at which one is.
+    pub(crate) fn ready_location(&self) -> Option<Firing>
+        ensures { result ≡ first_ready 11 (λ number. location_ready number (location_at number self.now.locations) self.now) (location_numbers 1 self.now.locations) }
+    {
+        for place in 0..self.location_count() {
+            let number = place as u64 + 1;
+            if let Some(row) = self.location_row(number) {
+                return Some(Firing::new(LOCATION, number, row));
+            }
+        }
+        None
+    }
+
+    // ---- substrates
+
+    // Whether a row of table 12 or 13 starts.
+    pub(crate) fn starts_at_substrate(&self, x: Firing) -> bool
+        requires { is_one_of (12 ∷ 13 ∷ []) x.row.table ≡ true }
+        ensures { result ≡ floor_starts x self.now }
+    {
+        match self.substrates.numbered(x.object) {
+            Some(substrate) => {
+                let registered = x.row.row == 1;
+                let mut states = substrate.states;
+                (registered || states.fire(x.row.table, x.row.row))
+                    && self.substrate_wants(x.row, &substrate)
+            }
+            None => false,
+        }
+    }
+
+    // The row of table 12 that is ready at a substrate.
+    fn transport_row(&self, s: &Substrate) -> Option<u8>
+        ensures { result ≡ first_itself transport_number (λ want. substrate_wants want s.now self.now) transport_table s.now.states.transport }
+    {
+        match s.states.transport {
+            Transport::AtSource => {
+                if self.is_outside(s) {
+                    Some(2)
+                } else {
+                    None
+                }
+            }
+            Transport::AtWork => {
+                if self.is_in_slot(s) {
+                    Some(3)
+                } else {
+                    None
+                }
+            }
+            Transport::AtDestination => None,
+        }
+    }
+
+    // The row of table 13 that is ready at a substrate.
+    fn processing_row(&self, s: &Substrate) -> Option<u8>
+        ensures { result ≡ first_itself processing_number (λ want. substrate_wants want s.now self.now) processing_table s.now.states.processing }
+    {
+        if matches!(s.states.processing, Processing::NeedsProcessing) && self.is_processed(s) {
+            Some(2)
+        } else {
+            None
+        }
+    }
+
+    // The row of table 12 or 13 that is ready at a substrate.
+    fn substrate_row(&self, table: u8, s: &Substrate) -> Option<u8>
+        requires { is_one_of (12 ∷ 13 ∷ []) table ≡ true }
+        ensures { substrate_numbered s.now.number self.now.substrates ≡ Some s.now → result ≡ ready_in floor_machines table s.now.number self.now }
+    {
+        if table == TRANSPORT {
+            self.transport_row(s)
+        } else {
+            self.processing_row(s)
+        }
+    }
+
+    // The row of table 12 or 13 that is ready at the first substrate at which one is.
+    pub(crate) fn ready_substrate(&self, table: u8) -> Option<Firing>
+        requires { is_one_of (12 ∷ 13 ∷ []) table ≡ true }
+        ensures { result ≡ first_ready table (λ n. ready_in floor_machines table n self.now) (map number_of self.now.substrates) }
+    {
+        for place in 0..self.substrate_count() {
+            if let Some(substrate) = self.substrate_at(place) {
+                if let Some(row) = self.substrate_row(table, &substrate) {
+                    return Some(Firing::new(table, substrate.number, row));
+                }
+            }
+        }
+        None
+    }
+}

@@ -1,0 +1,106 @@
+//! The substrates of the carriers that are here.
+
+ghost use Rattle.std.specs.Prelude.{◌≡◌, ◌∷◌, ◌++◌, [], ◌≤◌, length, filter, not, slice_get, IfOk, IfErr};
+ghost use Rattle.tool_floor.specs.Floor.{substrate_numbered, change_numbered};
+ghost use Rattle.tool_floor.specs.Machines.{substrate_moves};
+ghost use Rattle.tool_floor.specs.Substrates.{is_of};
+
+use gem_ids::{LocId, SubstrateId};
+use std::alloc::{AllocError, Global};
+use std::marker::Model;
+use substrate::{MOST_SUBSTRATES, SubstrateRecord};
+
+/// A substrate of a carrier that is here: its number of registration, which is its own for good; its name; the number of creation of
+/// its carrier; its slot; its states (SEMI E90); and whether it is aligned.
+#[derive(Clone, Copy, Debug, PartialEq, Eq)]
+pub struct Substrate {
+    pub number: u64,
+    pub sub: SubstrateId,
+    pub carrier: u64,
+    pub slot: LocId,
+    pub states: SubstrateRecord,
+    pub aligned: bool,
+}
+
+// The substrates of the carriers that are here, in the order of their registration, which contracts see as the list of them.
+#[derive(Drop)]
+pub(crate) struct Substrates {
+    list: Vec<Substrate>,
+}
+
+impl Model for Substrates {
+    ghost use Rattle.std.specs.Prelude.{List};
+    ghost use Rattle.tool_floor.specs.declared.tracking.Substrate.{Substrate};
+
+    ghost Value = { List Substrate };
+
+    ghost view = { λ s. s.list.items };
+}
+
+impl Substrates {
+    // None is here. Takes room for as many as have a place at most.
+    pub(crate) fn new(alloc: Global) -> Result<Substrates, AllocError>
+        ensures { IfOk result (λ substrates. substrates ≡ []) }
+    {
+        let list = Vec::with_capacity(alloc, MOST_SUBSTRATES)?;
+        Ok(Substrates { list })
+    }
+
+    // How many there are.
+    pub(crate) fn len(&self) -> usize
+        ensures { result ≡ length self.now }
+    {
+        self.list.len()
+    }
+
+    // The substrate of a place, counted from 0.
+    pub(crate) fn get(&self, place: usize) -> Option<Substrate>
+        ensures { result ≡ slice_get self.now place }
+    {
+        self.list.get(place).copied()
+    }
+
+    // The substrate of a number of registration.
+    pub(crate) fn numbered(&self, number: u64) -> Option<Substrate>
+        ensures { result ≡ substrate_numbered number self.now }
+    {
+        for place in 0..self.len() {
+            if let Some(substrate) = self.get(place) {
+                if substrate.number == number {
+                    return Some(substrate);
+                }
+            }
+        }
+        None
+    }
+
+    // One is registered, behind the others. On want of memory nothing has changed.
+    pub(crate) fn push(&mut self, new: Substrate) -> Result<(), AllocError>
+        ensures ok { IfOk result (λ _. self.new ≡ self.old ++ new ∷ []) }
+        ensures err { IfErr result (λ _. self.new ≡ self.old) }
+    {
+        self.list.push(new)?;
+        Ok(())
+    }
+
+    // A row of table 12 or 13 fires at the substrate of a number.
+    pub(crate) fn fire(&mut self, number: u64, table: u8, row: u8)
+        ensures { self.new ≡ change_numbered number (substrate_moves table row) self.old }
+    {
+        for place in 0..self.list.len() {
+            let mut substrate = self.list[place];
+            if substrate.number == number {
+                substrate.states.fire(table, row);
+                self.list[place] = substrate;
+                return;
+            }
+        }
+    }
+
+    // The substrates of the carrier of a number are forgotten.
+    pub(crate) fn forget(&mut self, carrier: u64)
+        ensures { self.new ≡ filter (λ s. not (is_of carrier s)) self.old }
+    {
+        self.list.retain(|s| s.carrier != carrier);
+    }
+}

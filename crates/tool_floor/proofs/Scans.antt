@@ -1,5 +1,5 @@
 -- What a scan over the locations or the substrates finds.
-use Rattle.std.proofs.Common.{◌≡◌, ℕ, zero, suc, ◌+◌, ◌-◌, ◌==◌, ◌<◌, ◌≤◌, Bool, true, false, if◌then◌else◌, filter, List, [], ◌∷◌, ◌++◌, length, map, drop, take, set, Option, Some, None, slice_get, refl, sym, ap, subst, ◌∙◌, arith}
+use Rattle.std.proofs.Common.{◌≡◌, ℕ, zero, suc, ◌+◌, ◌-◌, ◌==◌, ◌<◌, ◌≤◌, Bool, true, false, if◌then◌else◌, filter, List, [], ◌∷◌, ◌++◌, length, map, drop, take, set, get_or, Option, Some, None, Result, Ok, Err, IfOk, IfErr, slice_get, refl, sym, ap, subst, ◌∙◌, arith}
 use Rattle.std.specs.List.{list_all}
 use Rattle.std.proofs.lemmas.Bool.Decides.{nat_tests}
 use Rattle.load_port.proofs.Places.{update_found, update_missing, update_none, update_set}
@@ -8,6 +8,12 @@ use Rattle.substrate.specs.declared.record.LocationRecord.{LocationRecord}
 use Rattle.tool_floor.specs.declared.tracking.Substrate.{Substrate}
 use Rattle.tool_floor.specs.Floor.{location_at, change_location, location_numbers, substrate_numbered, change_numbered, number_of}
 use Rattle.tool_floor.specs.Kept.{RiseTo}
+
+-- what is at a place of a list
+pub got_at : {X : Type 0} (xs : List X) (place : ℕ) (x : X) → place < length xs → x ≡ get_or xs place x → slice_get xs place ≡ Some x
+got_at [] place x l e = absurd (omega (arith, l))
+got_at (y ∷ ys) zero x l e = ap (λ z. Some z) (sym e)
+got_at (y ∷ ys) (suc place) x l e = got_at ys place x (omega (arith, l)) e
 
 -- ---- whether all pass a test
 
@@ -115,6 +121,11 @@ rise_changed last given n change (s ∷ ss) same r = of (s.number == n) (rise_ch
   of true later = (subst (λ (m : ℕ). last + 1 ≤ m) (sym (same s)) r.0, subst (λ (m : ℕ). RiseTo m given ss) (sym (same s)) r.1)
   of false later = (r.0, later)
 
+-- more were given
+pub rise_given : (last given more : ℕ) (ss : List Substrate) → given ≤ more → RiseTo last given ss → RiseTo last more ss
+rise_given last given more [] l r = omega (arith, l, r)
+rise_given last given more (s ∷ ss) l r = (r.0, rise_given s.number given more ss l r.1)
+
 -- fewer
 pub rise_kept : (last given : ℕ) (test : Substrate → Bool) (ss : List Substrate) → RiseTo last given ss → RiseTo last given (filter test ss)
 rise_kept last given test [] r = r
@@ -146,3 +157,8 @@ module _ (n : ℕ) (change : Substrate → Substrate) where
   changed_end [] (suc place) l = refl
   changed_end (t ∷ ts) zero l = absurd (omega arith)
   changed_end (t ∷ ts) (suc place) l = ap (λ (xs : List Substrate). t ∷ xs) (changed_end ts place (omega arith))
+
+-- what follows from either answer of a call holds
+pub either_answer : {A E : Type 0} {P Q R : Type 0} (r : Result A E) → IfOk r (λ _. P) → IfErr r (λ _. Q) → (P → R) → (Q → R) → R
+either_answer (Ok a) p q f g = f p
+either_answer (Err e) p q f g = g q

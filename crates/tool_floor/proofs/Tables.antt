@@ -16,7 +16,8 @@ use Rattle.shop_floor.proofs.Shapes.{no_accessing}
 use Rattle.tool_floor.specs.Floor.{ToolFloor, with_shop, with_module, module_numbers, number_of, location_at, change_location, location_numbers, substrate_numbered}
 use Rattle.substrate.specs.Record.{location_fired}
 use Rattle.tool_floor.specs.Modules.{move_starts, move_ready, module_behind}
-use Rattle.tool_floor.specs.Machines.{accessing_ready, location_ready, location_machine, transport_machine, processing_machine, move_machine, floor_starts, floor_fired, creation_rows, floor_least, object_name}
+use Rattle.tool_floor.specs.Substrates.{new_rows}
+use Rattle.tool_floor.specs.Machines.{registered_by, accessing_ready, location_ready, location_machine, transport_machine, processing_machine, move_machine, floor_starts, floor_fired, creation_rows, floor_least, object_name}
 
 -- ---- numbers of tables
 
@@ -162,6 +163,15 @@ least_floor f =
 module _ (x : Firing) (f : ToolFloor) where
   pub fired_location : x.row.table ≡ 11 → floor_fired x f ≡ record f { locations = change_location x.object (location_fired x.row.row) f.locations }
   fired_location is = subst (λ (t : ℕ). floor_fired (firing t x.object x.row.row) f ≡ record f { locations = change_location x.object (location_fired x.row.row) f.locations }) (sym is) refl
+
+  pub starts_map : x.row.table ≡ 9 → floor_starts x f ≡ true → shop_starts x f.shop ≡ true
+  starts_map is e = sym (starts_shop x f (rw is refl)) ∙ e
+
+  pub fired_map : x.row.table ≡ 9 → floor_fired x f ≡ with_shop (shop_fired x f.shop) (registered_by x.row.row x.object f)
+  fired_map is = subst (λ (t : ℕ). floor_fired (firing t x.object x.row.row) f ≡ with_shop (shop_fired (firing t x.object x.row.row) f.shop) (registered_by x.row.row x.object f)) (sym is) refl
+
+  pub created_map : x.row.table ≡ 9 → creation_rows x f ≡ new_rows f (registered_by x.row.row x.object f)
+  created_map is = subst (λ (t : ℕ). creation_rows (firing t x.object x.row.row) f ≡ new_rows f (registered_by x.row.row x.object f)) (sym is) refl
 
   pub fired_move : x.row.table ≡ 16 → floor_fired x f ≡ with_module x.object (module_behind x.row.row) f
   fired_move is = subst (λ (t : ℕ). floor_fired (firing t x.object x.row.row) f ≡ with_module x.object (module_behind x.row.row) f) (sym is) refl

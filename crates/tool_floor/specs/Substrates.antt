@@ -159,10 +159,15 @@ new_rows before behind = registration_rows (drop (length before.substrates) behi
 
 -- ---- removal
 
+-- a substrate has no place any more, where there is one and it is of the carrier of a number
+abbrev pub emptied : ℕ → Option Substrate → PlaceMap → PlaceMap
+emptied carrier None p = p
+emptied carrier (Some s) p = if is_of carrier s then removed s.sub p else p
+
 -- of these substrates, those of the carrier of a number have no place any more
 abbrev pub removed_of : ℕ → List Substrate → PlaceMap → PlaceMap
 removed_of carrier [] p = p
-removed_of carrier (s ∷ ss) p = removed_of carrier ss (if is_of carrier s then removed s.sub p else p)
+removed_of carrier (s ∷ ss) p = removed_of carrier ss (emptied carrier (Some s) p)
 
 -- the substrates of the carrier of a number are removed and forgotten
 abbrev pub without_carrier : Option ℕ → ToolFloor → ToolFloor

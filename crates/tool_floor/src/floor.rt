@@ -312,7 +312,7 @@ impl ToolFloor {
             9 => return self.fire_map(x),
             ACCESSING => self.shop.fire_accessing(x.object, x.row.row),
             LOCATION => self.fire_location(x),
-            TRANSPORT | PROCESSING => self.substrates.fire(x.object, x.row.table, x.row.row),
+            TRANSPORT | PROCESSING => self.fire_substrate(x),
             MOVES => self.fire_move(x),
             _ => return self.fire_shop(x),
         }
@@ -405,6 +405,14 @@ impl ToolFloor {
         if number <= self.locations.len() as u64 {
             self.locations[number as usize - 1] = states;
         }
+    }
+
+    // A row of table 12 or 13 fires.
+    fn fire_substrate(&mut self, x: Firing)
+        requires { is_one_of (12 ∷ 13 ∷ []) x.row.table ≡ true }
+        ensures { self.new ≡ floor_fired x self.old }
+    {
+        self.substrates.fire(x.object, x.row.table, x.row.row);
     }
 
     // A row of the table of moves fires.

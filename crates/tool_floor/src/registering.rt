@@ -2,7 +2,7 @@
 
 ghost use Rattle.std.specs.Prelude.{◌≡◌, ◌+◌, ◌≤◌, [], true, false, drop, length, slice_get, IfOk, Some};
 ghost use Rattle.gem_ids.specs.Names.{name_in_slot};
-ghost use Rattle.tool_floor.specs.Substrates.{registers_at, registers_slot, registers_slots, registers_at_port, registration_rows, removed_of, without_carrier};
+ghost use Rattle.tool_floor.specs.Substrates.{registers_at, registers_slot, registers_slots, registers_at_port, registration_rows, emptied, removed_of, without_carrier};
 
 use crate::floor::{MOST_CREATED, ToolFloor};
 use crate::readiness::{PROCESSING, TRANSPORT};
@@ -13,6 +13,13 @@ use gem_ids::{LocId, PortNo, SlotNo, SubstrateId, substrate_id};
 use gem_tables::Firing;
 use std::alloc::AllocError;
 use substrate::{PlaceFault, SubstrateRecord};
+
+// The code of a slot, by its place, counted from 0.
+fn code_at(slots: &[u8], place: usize) -> Option<u8>
+    ensures { result ≡ slice_get slots.now place }
+{
+    slots.get(place).copied()
+}
 
 impl ToolFloor {
     // ---- registration
@@ -71,8 +78,8 @@ impl ToolFloor {
         ensures { IfOk result (λ _. self.new ≡ registers_slots carrier.now port 1 25 carrier.now.map self.old) }
     {
         for place in 0..25 {
-            if let Some(code) = carrier.map.get(place) {
-                self.register_slot(carrier, port, (place + 1) as u8, *code)?;
+            if let Some(code) = code_at(&carrier.map, place) {
+                self.register_slot(carrier, port, (place + 1) as u8, code)?;
             }
         }
         Ok(())
@@ -110,10 +117,17 @@ impl ToolFloor {
         ensures { self.new ≡ record self.old { places = removed_of carrier self.old.substrates self.old.places } }
     {
         for place in 0..self.substrate_count() {
-            if let Some(substrate) = self.substrate_at(place) {
-                if substrate.carrier == carrier {
-                    self.places.remove(substrate.sub);
-                }
+            self.empty_slot(carrier, place);
+        }
+    }
+
+    // The substrate of a place in their list has no place any more, where there is one and it is of the carrier of a number.
+    fn empty_slot(&mut self, carrier: u64, place: usize)
+        ensures { self.new ≡ record self.old { places = emptied carrier (slice_get self.old.substrates place) self.old.places } }
+    {
+        if let Some(substrate) = self.substrate_at(place) {
+            if substrate.carrier == carrier {
+                self.places.remove(substrate.sub);
             }
         }
     }

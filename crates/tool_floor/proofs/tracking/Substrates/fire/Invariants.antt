@@ -5,5 +5,5 @@ use Rattle.tool_floor.proofs.tracking.Substrates.fire.Given as goal
 
 abbrev pub invariant-loop-place : goal.invariant-loop-place
 invariant-loop-place l =
-    take l.place l.self-inside.list.items ++ change_numbered l.number (substrate_moves l.table l.row) (drop l.place l.self-inside.list.items)
-    ≡ change_numbered l.number (substrate_moves l.table l.row) l.self-inside.list.items
+    (l.self-inside.list.items ≡ l.initial.self-inside.list.items)
+    × (take l.place l.initial.self-inside.list.items ++ change_numbered l.number (substrate_moves l.table l.row) (drop l.place l.initial.self-inside.list.items) ≡ change_numbered l.number (substrate_moves l.table l.row) l.initial.self-inside.list.items)

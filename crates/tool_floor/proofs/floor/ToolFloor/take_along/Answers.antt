@@ -1,0 +1,11 @@
+use Rattle.std.proofs.Common.{not, subst, sym, ap, List}
+use Rattle.tool_floor.specs.Kept.{RiseTo}
+use Rattle.tool_floor.specs.Substrates.{is_of}
+use Rattle.tool_floor.specs.declared.tracking.Substrate.{Substrate}
+use Rattle.tool_floor.proofs.Scans.{rise_kept}
+use Rattle.tool_floor.proofs.floor.ToolFloor.take_along.Goals as goal
+
+pub invariant_of-self : goal.invariant_of-self
+invariant_of-self c =
+    subst (RiseTo 0 c.self.inside.places.given) (sym c.forget.ensures)
+    (rise_kept 0 c.self.inside.places.given (λ (s : Substrate). not (is_of c.args.carrier s)) c.self.inside.substrates c.self.invariant)

@@ -1,0 +1,10 @@
+pub mod Floor
+pub mod Ready
+pub mod Effects
+pub mod Direct
+pub mod Carriers
+pub mod Valid
+pub mod OnePlace
+pub mod Left
+pub mod Run
+pub mod Once

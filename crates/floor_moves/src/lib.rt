@@ -1,0 +1,4 @@
+//! The moves of substrates as laws.
+#![tactic(auto)]
+
+pub mod laws;

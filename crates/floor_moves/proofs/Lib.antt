@@ -1,1 +1,12 @@
-
+mod Maps
+mod Scans
+mod Facts
+mod Columns
+mod Issuing
+mod Moving
+mod Done
+mod Moves
+mod Promised
+mod Rows
+mod Inputs
+mod Falling

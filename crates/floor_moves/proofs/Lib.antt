@@ -10,3 +10,5 @@ mod Promised
 mod Rows
 mod Inputs
 mod Falling
+mod Registering
+mod Carrying

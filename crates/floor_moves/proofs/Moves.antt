@@ -82,7 +82,7 @@ module _ (g : Floor) (v : Valid g) where
       free = subst (λ (x : Loc). Empty x g) (sym t.5) (empty_tells g v (chamber t.2) (and_parts (is_empty (chamber t.2) g) (is_idle (g.equipment (chamber_module t.2))) (and_parts (is_one_of (g.jobs.chambers_of n) t.2) (is_empty (chamber t.2) g && is_idle (g.equipment (chamber_module t.2))) t.3).1).0);
       to_slot = λ p k e. let w : chamber t.2 ≡ slot p k = sym t.5 ∙ e in absurd (cc);
       to_aligner = λ e. let w : chamber t.2 ≡ aligner = sym t.5 ∙ e in absurd (cc);
-      to_chamber = λ d e. (subst (λ (x : ℕ). is_chamber x ≡ true) (inner t.2 d (sym t.5 ∙ e)) t.4, t.1);
+      to_chamber = λ d e. (subst (λ (x : ℕ). is_one_of g.chambers x ≡ true) (inner t.2 d (sym t.5 ∙ e)) t.4, t.1);
       not_arm = λ e. let w : chamber t.2 ≡ arm = sym t.5 ∙ e in cc;
     } where
       inner : (a b : ℕ) → chamber a ≡ chamber b → a ≡ b

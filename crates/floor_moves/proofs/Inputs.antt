@@ -39,7 +39,7 @@ but-keeps g n row e b = by (3 == row) refl (4 == row) refl e
     by false p false q f = absurd (cc)
 
 -- where it isn't IN PROCESS there is no such row
-left-out : (g : Floor) (n : ℕ) → (g.processing n == 1) ≡ false → ValidBut n g → Valid g
+pub left-out : (g : Floor) (n : ℕ) → (g.processing n == 1) ≡ false → ValidBut n g → Valid g
 left-out g n e b = but_left_out g n (not_from_Decides (g.processing n == 1) (Decides-eqb (g.processing n) 1) e) b
 
 -- ---- answers of the modules

@@ -12,3 +12,7 @@ mod Inputs
 mod Falling
 mod Registering
 mod Carrying
+mod Behind
+mod Running
+mod Ending
+mod Going

@@ -1,12 +1,68 @@
-//! Laws.
+//! Laws of the moves, for proofs to cite. Each function is empty: what it ensures holds of the definitions.
 
-ghost use Rattle.std.specs.Prelude.{◌≡◌, ℕ};
-ghost use Rattle.floor_moves.specs.Floor.{opening};
-ghost use Rattle.floor_moves.specs.Once.{EndsOnce};
-ghost use Rattle.floor_moves.specs.Left.{left};
+ghost use Rattle.std.specs.Prelude.{◌≡◌, ◌<◌, ℕ, ◌==◌, Bool, true, false, List, [], ◌∷◌, Some, None};
+ghost use Rattle.gem_tables.specs.Table.{firing, is_one_of};
+ghost use Rattle.gem_tables.specs.declared.firing.Firing.{Firing};
+ghost use Rattle.floor_moves.specs.Floor.{process, Command, busy, JobView, Floor, opening, is_outside};
+ghost use Rattle.floor_moves.specs.Ready.{least, IsReady};
+ghost use Rattle.floor_moves.specs.Effects.{lost, fire};
+ghost use Rattle.floor_moves.specs.Direct.{Input, direct, fired};
+ghost use Rattle.floor_moves.specs.Carriers.{created, MayCreate, arrived, MayArrive, verified, registered, MayRegister, forgotten, HasEnded, with_jobs};
+ghost use Rattle.floor_moves.specs.Valid.{IsUnnamed, Valid, ValidBut, MaySay};
 ghost use Rattle.floor_moves.specs.OnePlace.{OnePlace};
+ghost use Rattle.floor_moves.specs.Left.{left};
+ghost use Rattle.floor_moves.specs.Run.{Happening, May, next, IsRun, after};
+ghost use Rattle.floor_moves.specs.Once.{EndsOnce, Moves, MovesBy};
 
-/// First.
+/// What holds at every moment holds as the floor begins. Each row that is ready by itself keeps it, the least one among them,
+/// and so do the direct rows of each input.
 pub fn what_holds_is_kept()
-    ensures { opening ≡ opening }
+    ensures opening { (chambers : List ℕ) → Valid (opening chambers) }
+    ensures least { (g : Floor) (f : Firing) → least g ≡ Some f → IsReady f g }
+    ensures ready { (g : Floor) (f : Firing) → Valid g → IsReady f g → Valid (fire f g) }
+    ensures direct { (g : Floor) (i : Input) → Valid g → Valid (fired (direct g i) g) }
+    ensures is_lost { (g : Floor) (n : ℕ) → Valid g → is_outside (g.place_of n) ≡ true → IsUnnamed n g → Valid (lost n g) }
+{}
+
+/// Between the two direct rows by which a Process is closed, rows 7 to 9 of table 16 and rows 3 and 4 of table 13, all holds but
+/// what it says of that substrate. The second row closes this; where it doesn't start there is nothing to close.
+pub fn what_holds_between_two_rows()
+    ensures first { (g : Floor) (m n row : ℕ) (c : Command) → Valid g → g.equipment m ≡ busy c → c.task ≡ process n
+        → is_one_of (7 ∷ 8 ∷ 9 ∷ []) row ≡ true → ValidBut n (fire (firing 16 m row) g) }
+    ensures second { (g : Floor) (n row : ℕ) → ValidBut n g → is_one_of (3 ∷ 4 ∷ []) row ≡ true → Valid (fire (firing 13 n row) g) }
+    ensures left_out { (g : Floor) (n : ℕ) → ValidBut n g → (g.processing n == 1) ≡ false → Valid g }
+{}
+
+/// What holds is kept where a carrier is created, arrives at a port, is read, or is forgotten with its substrates, where a
+/// substrate is registered, and where process jobs go on.
+pub fn what_holds_is_kept_as_carriers_come_and_go()
+    ensures created { (g : Floor) (c : ℕ) → Valid g → MayCreate c g → Valid (created c g) }
+    ensures arrived { (g : Floor) (c p : ℕ) → Valid g → MayArrive c p g → Valid (arrived c p g) }
+    ensures verified { (g : Floor) (c : ℕ) → Valid g → Valid (verified c g) }
+    ensures registered { (g : Floor) (c p k : ℕ) → Valid g → MayRegister c p k g → Valid (registered c p k g) }
+    ensures forgotten { (g : Floor) (c : ℕ) → Valid g → HasEnded c g → Valid (forgotten c g) }
+    ensures jobs { (g : Floor) (view : JobView) → Valid g → MaySay view g → Valid (with_jobs view g) }
+{}
+
+/// Each substrate has one place, at every moment of a run.
+pub fn each_substrate_has_one_place()
+    ensures places { (g : Floor) → Valid g → OnePlace g }
+    ensures kept { (g : Floor) (es : List Happening) → Valid g → IsRun g es → Valid (after g es) }
+    ensures run { (chambers : List ℕ) (es : List Happening) → IsRun (opening chambers) es → OnePlace (after (opening chambers) es) }
+{}
+
+/// Each substrate moves at most once a command: each command number ends at most once in a run; a place changes only by
+/// registration, by Done of an open Pick or Place that names the substrate, from the named start to the named end, and by becoming
+/// Removed; and what is Removed stays so.
+pub fn each_substrate_moves_once_a_command()
+    ensures once { (g : Floor) (es : List Happening) → Valid g → IsRun g es → EndsOnce g es }
+    ensures moves { (g : Floor) (e : Happening) (n : ℕ) → Valid g → May e g → Moves g n e (next e g) }
+    ensures firing { (g : Floor) (f : Firing) (n : ℕ) → Valid g → MovesBy g n f (fire f g) }
+    ensures removed { (g : Floor) (es : List Happening) (n : ℕ) → Valid g → IsRun g es
+        → n < g.next_substrate → g.place_of n ≡ None → (after g es).place_of n ≡ None }
+{}
+
+/// The moves come to rest: what is left falls at each row that fires by itself.
+pub fn the_moves_come_to_rest()
+    ensures { (g : Floor) (f : Firing) → Valid g → IsReady f g → left (fire f g) < left g }
 {}

@@ -1,6 +1,7 @@
 -- Rows that change one state alone.
-use Rattle.std.proofs.Common.{◌≡◌, ◌≤◌, ℕ, Bool, true, false, not, ◌&&◌, ◌||◌, Some, None, sym, ap, subst, ◌∙◌, ◌⊎◌, inl, inr}
+use Rattle.std.proofs.Common.{◌≡◌, ◌≤◌, ℕ, ◌==◌, Bool, true, false, not, ◌&&◌, ◌||◌, Some, None, refl, sym, ap, subst, ◌∙◌, ◌⊎◌, inl, inr, arith}
 use Rattle.std.proofs.lemmas.Bool.{false_from_ne_true, cases_Bool}
+use Rattle.std.proofs.lemmas.Bool.Decides.{Decides-eqb}
 use Rattle.gem_tables.specs.Table.{is_one_of}
 use Rattle.floor_moves.specs.Floor.{Loc, slot, pick, process, Command, busy, Floor, set, is_outside, is_finished, is_done}
 use Rattle.floor_moves.specs.Effects.{accessed, transported, worked}
@@ -138,3 +139,15 @@ module _ (g : Floor) (n state : ℕ) (may : MayWork n state g) where
 
   pub worked-keeps : Valid g → Valid (worked n state g)
   worked-keeps v = but-worked-keeps (work_but n g v)
+
+-- the row of a substrate that is registered, which is NEEDS PROCESSING then
+pub needing-keeps : (g : Floor) (n : ℕ) → (g.processing n == 0) ≡ true → Valid g → Valid (worked n 0 g)
+needing-keeps g n zero_ v = worked-keeps g n 0 (record {
+  stays = λ f. absurd (unfinished f);
+  picked = λ m p k c e u. refl;
+  processed = λ m c e u. refl;
+  in_process = λ one. absurd (omega (arith, one));
+}) v
+  where
+    unfinished : is_finished (g.processing n) ≡ true → ⊥
+    unfinished f = let z : g.processing n ≡ 0 = (Decides-eqb (g.processing n) 0).0 zero_ in let no = ap is_finished z in cc

@@ -79,6 +79,13 @@ module _ (g : Floor) (v : Valid g) where
       let there : is_at l (g.place_of n) ≡ true = ap (is_at l) at ∙ loc_itself l in
       absurd (cc)
 
+  pub empty_from : (l : Loc) → Empty l g → is_empty l g ≡ true
+  empty_from l free = by (list_any (λ n. is_at l (g.place_of n)) g.substrates) refl
+    where
+      by : (b : Bool) → list_any (λ n. is_at l (g.place_of n)) g.substrates ≡ b → not b ≡ true
+      by true e = let w = any_tells (λ n. is_at l (g.place_of n)) g.substrates e in absurd (free w.0 (at_tells l (g.place_of w.0) w.2))
+      by false e = refl
+
   pub holder_tells : (l : Loc) (n : ℕ) → holder l g ≡ Some n → g.place_of n ≡ Some l
   holder_tells l n e = at_tells l (g.place_of n) (find_tells (λ n. is_at l (g.place_of n)) g.substrates n e).1
 

@@ -1,14 +1,14 @@
 -- The direct rows of each input keep what holds.
-use Rattle.std.proofs.Common.{◌≡◌, ℕ, ◌==◌, Bool, true, false, not, ◌&&◌, ◌||◌, List, [], ◌∷◌, Option, Some, None, cond, refl, sym, ap, subst, ◌∙◌}
+use Rattle.std.proofs.Common.{◌≡◌, ℕ, ◌==◌, Bool, true, false, not, ◌&&◌, ◌||◌, List, [], ◌∷◌, Option, Some, None, cond, refl, sym, ap, subst, ◌∙◌, ◌⊎◌, inl, inr}
 use Rattle.std.proofs.lemmas.Bool.{and_parts, not-true}
 use Rattle.std.proofs.lemmas.Bool.Decides.{Decides-eqb, not_from_Decides}
 use Rattle.gem_tables.specs.Table.{firing, is_one_of}
 use Rattle.gem_tables.specs.declared.firing.Firing.{Firing}
 use Rattle.floor_moves.specs.Floor.{Task, pick, place, align, process, named, Command, Module, idle, busy, down, Floor, modules, is_outside}
-use Rattle.floor_moves.specs.Ready.{is_named}
+use Rattle.floor_moves.specs.Ready.{is_named, is_process_of, processes}
 use Rattle.floor_moves.specs.Effects.{turned, moved_as, moved_by, aligned, aligned_by, fire}
-use Rattle.floor_moves.specs.Direct.{Input, done, failed, goes_down, comes_up, is_lost, cancels, open_task, only_where, processed_rows, aborted_rows, done_rows, closing_rows, down_rows, up_rows, may_be_lost, may_cancel, direct, fired}
-use Rattle.floor_moves.specs.Valid.{Valid, ValidBut}
+use Rattle.floor_moves.specs.Direct.{Input, done, failed, goes_down, comes_up, is_lost, cancels, open_task, only_where, processed_rows, aborted_rows, done_rows, closing_rows, down_rows, up_rows, may_be_lost, may_cancel, done_row, input_starts, direct, fired}
+use Rattle.floor_moves.specs.Valid.{Valid, ValidBut, ValidOrBut}
 use Rattle.floor_moves.proofs.Columns.{accessed-keeps}
 use Rattle.floor_moves.proofs.Issuing.{turned-keeps}
 use Rattle.floor_moves.proofs.Moving.{idle_not_busy}
@@ -78,7 +78,7 @@ module _ (g : Floor) (m : ℕ) (c : Command) (is : g.equipment m ≡ busy c) (v 
       by false q = left-out (turned m down g) n q but
 
 -- the row that closes a Process
-pub closing-but : (g : Floor) (m n row : ℕ) (c : Command) → is_one_of (7 ∷ 8 ∷ 9 ∷ []) row ≡ true → g.equipment m ≡ busy c → c.task ≡ process n → Valid g → ValidBut n (fire (firing 16 m row) g)
+closing-but : (g : Floor) (m n row : ℕ) (c : Command) → is_one_of (7 ∷ 8 ∷ 9 ∷ []) row ≡ true → g.equipment m ≡ busy c → c.task ≡ process n → Valid g → ValidBut n (fire (firing 16 m row) g)
 closing-but g m n row c e is t v = by (7 == row) refl (8 == row) refl (9 == row) refl e
   where
     at : (r : ℕ) → r ≡ row → ValidBut n (fire (firing 16 m r) g) → ValidBut n (fire (firing 16 m row) g)
@@ -89,6 +89,35 @@ closing-but g m n row c e is t v = by (7 == row) refl (8 == row) refl (9 == row)
     by false p true q z r f = at 8 (is_number 8 row q) (closed-but g m n c down down_not_busy is t v)
     by false p false q true r f = at 9 (is_number 9 row r) (closed-but g m n c down down_not_busy is t v)
     by false p false q false r f = absurd (cc)
+
+-- ---- one row of table 16
+
+-- the row by which a task is done, 8 or 9
+three_rows : (P : ℕ → Type 0) (row a : ℕ) → ((row == a) || is_one_of (8 ∷ 9 ∷ []) row) ≡ true → P a → P 8 → P 9 → P row
+three_rows P row a e x y z = by (row == a) refl (8 == row) refl (9 == row) refl e
+  where
+    by : (b : Bool) → (row == a) ≡ b → (c : Bool) → (8 == row) ≡ c → (d : Bool) → (9 == row) ≡ d → (b || (c || (d || false))) ≡ true → P row
+    by true p c q d r f = subst P (sym (is_number row a p)) x
+    by false p true q d r f = subst P (is_number 8 row q) y
+    by false p false q true r f = subst P (is_number 9 row r) z
+    by false p false q false r f = absurd (cc)
+
+pub input_row-keeps : (g : Floor) (m row : ℕ) → Valid g → input_starts row (g.equipment m) ≡ true → ValidOrBut (g.equipment m) (fire (firing 16 m row) g)
+input_row-keeps g m row v starts = by (g.equipment m) refl starts
+  where
+    its_row : (r : ℕ) → (row == r) ≡ true → Valid (fire (firing 16 m r) g) → Valid (fire (firing 16 m row) g)
+    its_row r e w = subst (λ (k : ℕ). Valid (fire (firing 16 m k) g)) (sym (is_number row r e)) w
+
+    with_task : (c : Command) → g.equipment m ≡ busy c → (t : Task) → c.task ≡ t → ((row == done_row t) || is_one_of (8 ∷ 9 ∷ []) row) ≡ true → ValidOrBut (g.equipment m) (fire (firing 16 m row) g)
+    with_task c is (pick n l) e f = inl (three_rows (λ (r : ℕ). Valid (fire (firing 16 m r) g)) row 5 f (done_task g m c is v (pick n l) e) (close_rows g m c is v 8 (λ h. refl) (pick n l) e) (close_rows g m c is v 9 (λ h. refl) (pick n l) e))
+    with_task c is (place n l) e f = inl (three_rows (λ (r : ℕ). Valid (fire (firing 16 m r) g)) row 5 f (done_task g m c is v (place n l) e) (close_rows g m c is v 8 (λ h. refl) (place n l) e) (close_rows g m c is v 9 (λ h. refl) (place n l) e))
+    with_task c is (align n) e f = inl (three_rows (λ (r : ℕ). Valid (fire (firing 16 m r) g)) row 6 f (done_task g m c is v (align n) e) (close_rows g m c is v 8 (λ h. refl) (align n) e) (close_rows g m c is v 9 (λ h. refl) (align n) e))
+    with_task c is (process n) e f = inr (n, ap (processes n) is ∙ ap (is_process_of n) e ∙ (Decides-eqb n n).1 refl, closing-but g m n row c (three_rows (λ (r : ℕ). is_one_of (7 ∷ 8 ∷ 9 ∷ []) r ≡ true) row 7 f refl refl refl) is e v)
+
+    by : (x : Module) → g.equipment m ≡ x → input_starts row x ≡ true → ValidOrBut (g.equipment m) (fire (firing 16 m row) g)
+    by idle e f = inl (its_row 9 f (turned-keeps g m down down_not_busy (λ n c is t one. let no : idle ≡ busy c = sym e ∙ is in cc) v))
+    by down e f = inl (its_row 10 f (turned-keeps g m idle idle_not_busy (λ n c is t one. let no : down ≡ busy c = sym e ∙ is in cc) v))
+    by (busy c) e f = with_task c e c.task refl f
 
 -- the open command of a module, by its number
 pub open_tells : (number : ℕ) (x : Module) (t : Task) → open_task number x ≡ Some t → (c : Command) × (x ≡ busy c) × (c.task ≡ t) × (c.number ≡ number)
@@ -139,23 +168,17 @@ module _ (g : Floor) (v : Valid g) where
       by true x e = rows x e
       by false x e = v
 
-  is_lost-keeps : (n : ℕ) → Valid (fired (direct g (is_lost n)) g)
-  is_lost-keeps n =
-      only-keeps g (may_be_lost g n) (firing 13 n 8)
-      (λ t.
-          let u = and_parts (not (g.processing n == 6)) (is_outside (g.place_of n) && not (is_named n g)) t in
-          let w = and_parts (is_outside (g.place_of n)) (not (is_named n g)) u.1 in
-          lost-keeps g n w.0 (not_named g v n (not-true (is_named n g) w.1)) v)
-      v
+  pub lost_row-keeps : (n : ℕ) → may_be_lost g n ≡ true → Valid (fire (firing 13 n 8) g)
+  lost_row-keeps n t =
+      let u = and_parts (not (g.processing n == 6)) (is_outside (g.place_of n) && not (is_named n g)) t in
+      let w = and_parts (is_outside (g.place_of n)) (not (is_named n g)) u.1 in
+      lost-keeps g n w.0 (not_named g v n (not-true (is_named n g) w.1)) v
 
-  cancels-keeps : (c : ℕ) → Valid (fired (direct g (cancels c)) g)
-  cancels-keeps c =
-      only-keeps g (may_cancel g c) (firing 10 c 4)
-      (λ t.
-          let u = and_parts (g.is_verified c) ((g.access c == 0) && not (g.jobs.names_carrier c)) t in
-          let w = and_parts (g.access c == 0) (not (g.jobs.names_carrier c)) u.1 in
-          accessed-keeps g c 3 (λ n is same. absurd (none (not-true (g.jobs.names_carrier c) w.1) n is same)) v)
-      v
+  pub cancel_row-keeps : (c : ℕ) → may_cancel g c ≡ true → Valid (fire (firing 10 c 4) g)
+  cancel_row-keeps c t =
+      let u = and_parts (g.is_verified c) ((g.access c == 0) && not (g.jobs.names_carrier c)) t in
+      let w = and_parts (g.access c == 0) (not (g.jobs.names_carrier c)) u.1 in
+      accessed-keeps g c 3 (λ n is same. absurd (none (not-true (g.jobs.names_carrier c) w.1) n is same)) v
     where
       none : g.jobs.names_carrier c ≡ false → (n : ℕ) → g.jobs.is_member n ≡ true → g.carrier_of n ≡ c → ⊥
       none unnamed n is same = let yes : g.jobs.names_carrier c ≡ true = ap g.jobs.names_carrier (sym same) ∙ v.members.carrier n is in cc
@@ -165,5 +188,5 @@ module _ (g : Floor) (v : Valid g) where
   direct-keeps (failed m number) = failed-keeps m number
   direct-keeps (goes_down m) = goes_down-keeps m
   direct-keeps (comes_up m) = comes_up-keeps m
-  direct-keeps (is_lost n) = is_lost-keeps n
-  direct-keeps (cancels c) = cancels-keeps c
+  direct-keeps (is_lost n) = only-keeps g (may_be_lost g n) (firing 13 n 8) (lost_row-keeps n) v
+  direct-keeps (cancels c) = only-keeps g (may_cancel g c) (firing 10 c 4) (cancel_row-keeps c) v

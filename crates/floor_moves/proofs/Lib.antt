@@ -16,3 +16,4 @@ mod Behind
 mod Running
 mod Ending
 mod Going
+mod Waiting

@@ -247,8 +247,7 @@ module _ (g : Floor) (v : Valid g) where
   chamber_of : (m n : ℕ) → in_chamber_of m g ≡ Some n → (d : ℕ) × (m ≡ chamber_module d) × (g.place_of n ≡ Some (chamber d))
   chamber_of zero n e = absurd (cc)
   chamber_of (suc zero) n e = absurd (cc)
-  chamber_of (suc (suc zero)) n e = absurd (cc)
-  chamber_of (suc (suc (suc c))) n e = (suc c, refl, holder_tells g v (chamber (suc c)) n e)
+  chamber_of (suc (suc c)) n e = (c, refl, holder_tells g v (chamber c) n e)
 
   pub row_4-keeps : (m : ℕ) → is_one_of (modules g) m ≡ true → is_idle (g.equipment m) ≡ true → is_to_process (in_chamber_of m g) g ≡ true → Valid (process_issued m (in_chamber_of m g) g)
   row_4-keeps m known i e = by (in_chamber_of m g) refl e

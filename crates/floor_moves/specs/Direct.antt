@@ -1,5 +1,5 @@
 -- The inputs that tables 10, 13 and 16 know, and the rows that each fires directly (this tool's profile, direct rows of inputs).
-use Rattle.std.specs.Prelude.{ℕ, ◌==◌, Bool, not, ◌&&◌, if◌then◌else◌, List, [], ◌∷◌, Option, Some, None}
+use Rattle.std.specs.Prelude.{ℕ, ◌==◌, Bool, not, ◌&&◌, ◌||◌, if◌then◌else◌, List, [], ◌∷◌, Option, Some, None}
 use Rattle.gem_tables.specs.Table.{firing, is_one_of}
 use Rattle.gem_tables.specs.declared.firing.Firing.{Firing}
 use Rattle.floor_moves.specs.Floor.{Task, pick, place, align, process, Module, idle, busy, down, Floor, modules, is_outside}
@@ -66,6 +66,20 @@ may_be_lost g n = not (g.processing n == 6) && (is_outside (g.place_of n) && not
 -- the slot map of the carrier is VERIFIED, the carrier is NOT ACCESSED, and no process job names it
 abbrev pub may_cancel : Floor → ℕ → Bool
 may_cancel g c = g.is_verified c && ((g.access c == 0) && not (g.jobs.names_carrier c))
+
+-- the row of table 16 by which a task is done: 5 of Pick and Place, 6 of Align, 7 of Process
+abbrev pub done_row : Task → ℕ
+done_row (pick n from) = 5
+done_row (place n to) = 5
+done_row (align n) = 6
+done_row (process n) = 7
+
+-- the row of table 16 is one that an input fires, and starts at the module: 9 at an Idle one, 10 at one that is Down, and at one
+-- with an open command the row by which its task is done, 8 and 9
+abbrev pub input_starts : ℕ → Module → Bool
+input_starts row idle = row == 9
+input_starts row down = row == 10
+input_starts row (busy c) = (row == done_row c.task) || is_one_of (8 ∷ 9 ∷ []) row
 
 -- the direct rows of an input, in order
 abbrev pub direct : Floor → Input → List Firing

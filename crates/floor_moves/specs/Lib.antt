@@ -5,6 +5,7 @@ pub mod Direct
 pub mod Carriers
 pub mod Valid
 pub mod OnePlace
+pub mod Work
 pub mod Left
 pub mod Run
 pub mod Once

@@ -149,9 +149,9 @@ abbrev pub is_to_process : Option ℕ → Floor → Bool
 is_to_process None g = false
 is_to_process (Some n) g = g.processing n == 0
 
--- what stands in the chamber of a module
+-- what stands in the chamber of a module; no chamber has number 0, so the aligner has none
 abbrev pub in_chamber_of : ℕ → Floor → Option ℕ
-in_chamber_of (suc (suc (suc c))) g = holder (chamber (suc c)) g
+in_chamber_of (suc (suc c)) g = holder (chamber c) g
 in_chamber_of _ g = None
 
 -- where its rows are ready at a module

@@ -1,7 +1,6 @@
 use Rattle.floor_moves.proofs.Rows.{least_ready, ready-keeps}
 use Rattle.floor_moves.proofs.Inputs.{direct-keeps}
 use Rattle.floor_moves.proofs.Carrying.{opening-valid}
-use Rattle.floor_moves.proofs.Done.{lost-keeps}
 use Rattle.floor_moves.proofs.laws.what_holds_is_kept.Goals as goal
 
 pub returns-clause-opening : goal.returns-clause-opening
@@ -15,6 +14,3 @@ returns-clause-ready c = λ g f v is. ready-keeps g v f is
 
 pub returns-clause-direct : goal.returns-clause-direct
 returns-clause-direct c = λ g i v. direct-keeps g v i
-
-pub returns-clause-is_lost : goal.returns-clause-is_lost
-returns-clause-is_lost c = λ g n v out unnamed. lost-keeps g n out unnamed v

@@ -1,3 +1,4 @@
+use Rattle.floor_moves.proofs.Columns.{transported-keeps, needing-keeps}
 use Rattle.floor_moves.proofs.Registering.{registered-keeps}
 use Rattle.floor_moves.proofs.Carrying.{created-keeps, arrived-keeps, verified-keeps, says-keeps, forgotten-keeps}
 use Rattle.floor_moves.proofs.laws.what_holds_is_kept_as_carriers_come_and_go.Goals as goal
@@ -13,6 +14,12 @@ returns-clause-verified c = verified-keeps
 
 pub returns-clause-registered : goal.returns-clause-registered
 returns-clause-registered c = λ g x p k v may. registered-keeps g v x p k may
+
+pub returns-clause-at_source : goal.returns-clause-at_source
+returns-clause-at_source c = λ g n v. transported-keeps g n 0 v
+
+pub returns-clause-needing : goal.returns-clause-needing
+returns-clause-needing c = λ g n v e. needing-keeps g n e v
 
 pub returns-clause-forgotten : goal.returns-clause-forgotten
 returns-clause-forgotten c = λ g x v may. forgotten-keeps g v x may

@@ -1,9 +1,9 @@
 -- What a firing touches.
-use Rattle.std.proofs.Common.{◌≡◌, ℕ, ◌==◌, ◌||◌, Option, Some, None, refl}
+use Rattle.std.proofs.Common.{◌≡◌, ◌==◌, refl}
 use Rattle.std.proofs.lemmas.Bool.{cond_both}
 use Rattle.gem_tables.specs.declared.firing.Firing.{Firing}
-use Rattle.floor_moves.specs.Floor.{Loc, Task, pick, place, align, process, Module, idle, busy, down, Floor}
-use Rattle.floor_moves.specs.Effects.{lost, place_issued, pick_issued, align_issued, process_issued, moved_as, moved_by, aligned_by, move_fired, fire}
+use Rattle.floor_moves.specs.Floor.{Floor}
+use Rattle.floor_moves.specs.Effects.{lost, move_fired, fire}
 use Rattle.floor_moves.proofs.Facts.{is_number}
 
 -- the places, the modules and the next numbers are as before

@@ -1,11 +1,11 @@
 -- What happens to carriers keeps what holds, and so does what process jobs say.
-use Rattle.std.proofs.Common.{◌≡◌, ◌≤◌, ℕ, ◌==◌, Bool, true, false, not, ◌&&◌, [], ◌∷◌, ◌++◌, filter, Option, Some, None, cond, refl, sym, ap, subst, ◌∙◌, ◌⊎◌, inl, inr, arith}
+use Rattle.std.proofs.Common.{◌≡◌, ◌≤◌, ℕ, ◌==◌, Bool, true, false, not, ◌&&◌, Option, Some, None, cond, refl, sym, ap, subst, ◌∙◌, ◌⊎◌, inl, inr, arith}
 use Rattle.std.proofs.lemmas.Bool.{false_from_ne_true}
 use Rattle.std.proofs.lemmas.Bool.Decides.{Decides-eqb, not_from_Decides}
 use Rattle.gem_tables.specs.Table.{is_one_of}
 use Rattle.floor_moves.specs.Floor.{Loc, slot, aligner, arm, chamber, Task, pick, place, align, process, named, Command, busy, idle, JobView, Floor, opening, is_outside, is_finished}
 use Rattle.floor_moves.specs.Carriers.{created, MayCreate, arrived, MayArrive, verified, forgotten, HasEnded, with_jobs}
-use Rattle.floor_moves.specs.Valid.{Empty, HasRoom, Members, Valid, MaySay}
+use Rattle.floor_moves.specs.Valid.{Empty, HasRoom, Valid, MaySay}
 use Rattle.floor_moves.proofs.Maps.{set_tells, set_else, set_both}
 use Rattle.floor_moves.proofs.Scans.{filter_tells, filter_keeps, filter_distinct, one_of_front}
 use Rattle.floor_moves.proofs.Facts.{is_number}
@@ -155,8 +155,8 @@ verified-keeps g c v = record {
 
 -- ---- process jobs go on
 
-pub says-keeps : (g : Floor) (view : JobView) → MaySay view g → Valid g → Valid (with_jobs view g)
-says-keeps g view may v = record {
+pub jobs_say-keeps : (g : Floor) (view : JobView) → MaySay view g → Valid g → Valid (with_jobs view g)
+jobs_say-keeps g view may v = record {
   places = v.places;
   carriers = v.carriers;
   commands = record {

@@ -8,7 +8,7 @@ use Rattle.floor_moves.specs.Ready.{holder, best_pick, in_chamber_of}
 use Rattle.floor_moves.specs.Effects.{issued, place_issued, target_of, where_is, pick_issued, align_issued, process_issued, turned, moved, moved_as, moved_by, aligned_by, move_fired, fire}
 use Rattle.floor_moves.specs.Direct.{Input, done, failed, goes_down, comes_up, is_lost, cancels, open_task, only_where, aborted_rows, done_rows, closing_rows, down_rows, direct, fired}
 use Rattle.floor_moves.specs.Valid.{Valid}
-use Rattle.floor_moves.specs.Run.{Happening, fires, comes, creates, arrives, verifies, registers, forgets, says, next, IsRun}
+use Rattle.floor_moves.specs.Run.{Change, fires, comes, creates, arrives, verifies, registers, forgets, jobs_say, next, IsRun}
 use Rattle.floor_moves.specs.Once.{open_number, if_some, ends, ended_by, NeverEnds, EndsOnce}
 use Rattle.floor_moves.proofs.Maps.{set_tells}
 use Rattle.floor_moves.proofs.Inputs.{open_tells}
@@ -101,7 +101,7 @@ fired-past : (number : ℕ) (fs : List Firing) (g : Floor) → Past number g →
 fired-past number [] g p = p
 fired-past number (f ∷ fs) g p = fired-past number fs (fire f g) (fire-past number g p f)
 
-next-past : (number : ℕ) (g : Floor) (e : Happening) → Past number g → Past number (next e g)
+next-past : (number : ℕ) (g : Floor) (e : Change) → Past number g → Past number (next e g)
 next-past number g (fires f) p = fire-past number g p f
 next-past number g (comes i) p = fired-past number (direct g i) g p
 next-past number g (creates c) p = record { given = p.given; closed = p.closed }
@@ -109,7 +109,7 @@ next-past number g (arrives c q) p = record { given = p.given; closed = p.closed
 next-past number g (verifies c) p = record { given = p.given; closed = p.closed }
 next-past number g (registers c q k) p = record { given = p.given; closed = p.closed }
 next-past number g (forgets c) p = record { given = p.given; closed = p.closed }
-next-past number g (says view) p = record { given = p.given; closed = p.closed }
+next-past number g (jobs_say view) p = record { given = p.given; closed = p.closed }
 
 -- what is past doesn't end
 not_ended : (number : ℕ) (g : Floor) → Past number g → (i : Input) → ends g i ≡ Some number → ⊥
@@ -139,11 +139,11 @@ not_ended number g p i e = by i e
     by (cancels c) e = cc
 
 -- and doesn't end later
-never_again : (number : ℕ) (es : List Happening) (g : Floor) → Past number g → NeverEnds number g es
+never_again : (number : ℕ) (es : List Change) (g : Floor) → Past number g → NeverEnds number g es
 never_again number [] g p = tt
 never_again number (e ∷ es) g p = (by e, never_again number es (next e g) (next-past number g e p))
   where
-    by : (e : Happening) → ended_by g e ≡ Some number → ⊥
+    by : (e : Change) → ended_by g e ≡ Some number → ⊥
     by (comes i) q = not_ended number g p i q
     by (fires f) q = cc
     by (creates c) q = cc
@@ -151,7 +151,7 @@ never_again number (e ∷ es) g p = (by e, never_again number es (next e g) (nex
     by (verifies c) q = cc
     by (registers c x k) q = cc
     by (forgets c) q = cc
-    by (says view) q = cc
+    by (jobs_say view) q = cc
 
 -- ---- what ends is past
 
@@ -217,7 +217,7 @@ input-past g v i number is = by i is
     by (is_lost n) f = absurd (cc)
     by (cancels c) f = absurd (cc)
 
-ended-past : (g : Floor) → Valid g → (e : Happening) (number : ℕ) → ended_by g e ≡ Some number → Past number (next e g)
+ended-past : (g : Floor) → Valid g → (e : Change) (number : ℕ) → ended_by g e ≡ Some number → Past number (next e g)
 ended-past g v (comes i) number is = input-past g v i number is
 ended-past g v (fires f) number is = absurd (cc)
 ended-past g v (creates c) number is = absurd (cc)
@@ -225,8 +225,8 @@ ended-past g v (arrives c q) number is = absurd (cc)
 ended-past g v (verifies c) number is = absurd (cc)
 ended-past g v (registers c q k) number is = absurd (cc)
 ended-past g v (forgets c) number is = absurd (cc)
-ended-past g v (says view) number is = absurd (cc)
+ended-past g v (jobs_say view) number is = absurd (cc)
 
-pub ends_once : (es : List Happening) (g : Floor) → Valid g → IsRun g es → EndsOnce g es
+pub ends_once : (es : List Change) (g : Floor) → Valid g → IsRun g es → EndsOnce g es
 ends_once [] g v r = tt
 ends_once (e ∷ es) g v r = ((λ number is. never_again number es (next e g) (ended-past g v e number is)), ends_once es (next e g) (next-keeps g e r.0 v) r.1)

@@ -1,21 +1,21 @@
 -- A place changes only by registration, by Done of a Pick or a Place that names the substrate, and by becoming Removed.
-use Rattle.std.proofs.Common.{◌≡◌, ◌<◌, ℕ, ◌+◌, ◌==◌, Bool, true, false, ◌&&◌, ◌||◌, List, [], ◌∷◌, Option, Some, None, cond, refl, sym, ap, subst, ◌∙◌, ◌⊎◌, inl, inr, arith}
+use Rattle.std.proofs.Common.{◌≡◌, ◌<◌, ℕ, ◌==◌, Bool, true, false, ◌||◌, List, [], ◌∷◌, Option, Some, None, cond, refl, sym, ap, subst, ◌∙◌, arith}
 use Rattle.std.proofs.lemmas.Bool.{cond_both}
-use Rattle.gem_tables.specs.Table.{firing, choose, is_one_of}
+use Rattle.gem_tables.specs.Table.{firing, is_one_of}
 use Rattle.gem_tables.specs.declared.firing.Firing.{Firing}
 use Rattle.floor_moves.specs.Floor.{Loc, slot, aligner, arm, Task, pick, place, align, process, Command, Module, idle, busy, down, Floor, modules}
-use Rattle.floor_moves.specs.Ready.{holder, best_pick, in_chamber_of, access_cases, transport_cases, processing_cases, move_cases, IsReady}
+use Rattle.floor_moves.specs.Ready.{holder, best_pick, in_chamber_of, processing_cases, move_cases, IsReady}
 use Rattle.floor_moves.specs.Effects.{lost, place_issued, target_of, where_is, pick_issued, align_issued, process_issued, moved, moved_as, moved_by, aligned_by, move_fired, fire}
 use Rattle.floor_moves.specs.Direct.{Input, done, failed, goes_down, comes_up, is_lost, cancels, open_task, only_where, done_rows, closing_rows, down_rows, up_rows, may_be_lost, may_cancel, direct, fired}
 use Rattle.floor_moves.specs.Carriers.{registered, forgotten}
 use Rattle.floor_moves.specs.Valid.{Valid}
-use Rattle.floor_moves.specs.Run.{Happening, fires, comes, creates, arrives, verifies, registers, forgets, says, May, next, IsRun, after}
-use Rattle.floor_moves.specs.Once.{Moves, stays, is_registered, is_lost_now, is_forgotten, by_pick, by_place, MovesBy, stays_so, becomes_lost, picked_by, placed_by}
-use Rattle.floor_moves.proofs.Maps.{set_tells, set_here, set_else}
+use Rattle.floor_moves.specs.Run.{Change, fires, comes, creates, arrives, verifies, registers, forgets, jobs_say, May, next, IsRun, after}
+use Rattle.floor_moves.specs.Once.{Moves, stays, is_registered, loses_place, goes_with_carrier, by_pick, by_place, MovesBy, stays_so, lost_by, picked_by, placed_by}
+use Rattle.floor_moves.proofs.Maps.{set_here}
 use Rattle.floor_moves.proofs.Facts.{is_number}
 use Rattle.floor_moves.proofs.Rows.{chosen, ready_cases}
 use Rattle.floor_moves.proofs.Inputs.{open_tells}
-use Rattle.floor_moves.proofs.Behind.{Untouched, by_table}
+use Rattle.floor_moves.proofs.Behind.{by_table}
 use Rattle.floor_moves.proofs.Running.{next-keeps}
 
 module _ (g : Floor) (n : ℕ) where
@@ -105,7 +105,7 @@ module _ (g : Floor) (n : ℕ) where
       gone t r = by (n == f.object) refl
         where
           by : (b : Bool) → (n == f.object) ≡ b → MovesBy g n f (lost f.object g)
-          by true q = becomes_lost (is_firing f 13 n 8 t (sym (is_number n f.object q)) r) (ap (λ (b : Bool). cond b None (g.place_of n)) q)
+          by true q = lost_by (is_firing f 13 n 8 t (sym (is_number n f.object q)) r) (ap (λ (b : Bool). cond b None (g.place_of n)) q)
           by false q = stays_so (ap (λ (b : Bool). cond b None (g.place_of n)) q)
 
       by_command : f ≡ firing 16 f.object 5 → (x : Module) → g.equipment f.object ≡ x → MovesBy g n f (moved_by x f.object g)
@@ -127,9 +127,9 @@ module _ (g : Floor) (n : ℕ) where
           (λ _. cond_both (f.row.row == 6) _ _ (MovesBy g n f) (λ _. stays_so (aligned_same f.object (g.equipment f.object)))
           (λ _. cond_both ((f.row.row == 8) || (f.row.row == 9)) _ _ (MovesBy g n f) (λ _. stays_so refl) (λ _. stays_so refl)))))))
 
-  -- ---- whatever happens
+  -- ---- each change
 
-  abbrev Goes : Happening → Floor → Type 0
+  abbrev Goes : Change → Floor → Type 0
   Goes e h = Moves g n e h
 
   only_same : (b : Bool) (f : Firing) (h : Floor) → Same h → ((k : ℕ) → Same (fire f h)) → Same (fired (only_where b f) h)
@@ -185,7 +185,7 @@ module _ (g : Floor) (n : ℕ) where
     where
       by : (b a : Bool) → (n == k) ≡ a → Goes (comes (is_lost k)) (fired (only_where b (firing 13 k 8)) g)
       by false a q = stays refl
-      by true true q = is_lost_now (ap (λ (i : ℕ). comes (is_lost i)) (sym (is_number n k q))) (ap (λ (b : Bool). cond b None (g.place_of n)) q)
+      by true true q = loses_place (ap (λ (i : ℕ). comes (is_lost i)) (sym (is_number n k q))) (ap (λ (b : Bool). cond b None (g.place_of n)) q)
       by true false q = stays (ap (λ (b : Bool). cond b None (g.place_of n)) q)
 
   input_goes : Valid g → (i : Input) → Goes (comes i) (fired (direct g i) g)
@@ -215,10 +215,10 @@ module _ (g : Floor) (n : ℕ) where
   forgets_goes c = by (g.carrier_of n == c) refl
     where
       by : (b : Bool) → (g.carrier_of n == c) ≡ b → Goes (forgets c) (forgotten c g)
-      by true q = is_forgotten (ap (λ (i : ℕ). forgets i) (sym (is_number (g.carrier_of n) c q))) (ap (λ (b : Bool). cond b None (g.place_of n)) q)
+      by true q = goes_with_carrier (ap (λ (i : ℕ). forgets i) (sym (is_number (g.carrier_of n) c q))) (ap (λ (b : Bool). cond b None (g.place_of n)) q)
       by false q = stays (ap (λ (b : Bool). cond b None (g.place_of n)) q)
 
-  pub goes : Valid g → (e : Happening) → May e g → Goes e (next e g)
+  pub goes : Valid g → (e : Change) → May e g → Goes e (next e g)
   goes v (fires f) may = stays (ready_same f may)
   goes v (comes i) may = input_goes v i
   goes v (creates c) may = stays refl
@@ -226,7 +226,7 @@ module _ (g : Floor) (n : ℕ) where
   goes v (verifies c) may = stays refl
   goes v (registers c p k) may = registers_goes c p k
   goes v (forgets c) may = forgets_goes c
-  goes v (says view) may = stays refl
+  goes v (jobs_say view) may = stays refl
 
 -- ---- a Removed one stays Removed
 
@@ -288,7 +288,7 @@ fired_kept : (fs : List Firing) (g : Floor) → (fired fs g).next_substrate ≡ 
 fired_kept [] g = refl
 fired_kept (f ∷ fs) g = fired_kept fs (fire f g) ∙ fire_kept g f
 
-pub given_stays : (g : Floor) (e : Happening) (n : ℕ) → n < g.next_substrate → n < (next e g).next_substrate
+pub given_stays : (g : Floor) (e : Change) (n : ℕ) → n < g.next_substrate → n < (next e g).next_substrate
 given_stays g (fires f) n less = let same = fire_kept g f in omega (arith, less, same)
 given_stays g (comes i) n less = let same = fired_kept (direct g i) g in omega (arith, less, same)
 given_stays g (creates c) n less = less
@@ -296,9 +296,9 @@ given_stays g (arrives c p) n less = less
 given_stays g (verifies c) n less = less
 given_stays g (registers c p k) n less = omega (arith, less)
 given_stays g (forgets c) n less = less
-given_stays g (says view) n less = less
+given_stays g (jobs_say view) n less = less
 
-removed_next : (g : Floor) (e : Happening) (n : ℕ) → Valid g → May e g → n < g.next_substrate → g.place_of n ≡ None → (next e g).place_of n ≡ None
+removed_next : (g : Floor) (e : Change) (n : ℕ) → Valid g → May e g → n < g.next_substrate → g.place_of n ≡ None → (next e g).place_of n ≡ None
 removed_next g e n v may less gone = by (goes g n v e may)
   where
     no_place : (l : Loc) → g.place_of n ≡ Some l → ⊥
@@ -307,11 +307,11 @@ removed_next g e n v may less gone = by (goes g n v e may)
     by : Moves g n e (next e g) → (next e g).place_of n ≡ None
     by (stays same) = same ∙ gone
     by (is_registered c p k i it at) = absurd (omega (arith, less, it))
-    by (is_lost_now i at) = at
-    by (is_forgotten i at) = at
+    by (loses_place i at) = at
+    by (goes_with_carrier i at) = at
     by (by_pick m c from i k t at to) = absurd (no_place from at)
     by (by_place m c to i k t at end) = absurd (no_place arm at)
 
-pub removed_stays : (g : Floor) (es : List Happening) (n : ℕ) → Valid g → IsRun g es → n < g.next_substrate → g.place_of n ≡ None → (after g es).place_of n ≡ None
+pub removed_stays : (g : Floor) (es : List Change) (n : ℕ) → Valid g → IsRun g es → n < g.next_substrate → g.place_of n ≡ None → (after g es).place_of n ≡ None
 removed_stays g [] n v r less gone = gone
 removed_stays g (e ∷ es) n v r less gone = removed_stays (next e g) es n (next-keeps g e r.0 v) r.1 (given_stays g e n less) (removed_next g e n v r.0 less gone)

@@ -1,5 +1,5 @@
 -- The direct rows of each input keep what holds.
-use Rattle.std.proofs.Common.{◌≡◌, ℕ, ◌==◌, Bool, true, false, not, ◌&&◌, ◌||◌, List, [], ◌∷◌, Option, Some, None, cond, refl, sym, ap, subst, ◌∙◌, ◌⊎◌, inl, inr}
+use Rattle.std.proofs.Common.{◌≡◌, ℕ, ◌==◌, Bool, true, false, not, ◌&&◌, ◌||◌, [], ◌∷◌, Option, Some, None, cond, refl, sym, ap, subst, ◌∙◌, inl, inr}
 use Rattle.std.proofs.lemmas.Bool.{and_parts, not-true}
 use Rattle.std.proofs.lemmas.Bool.Decides.{Decides-eqb, not_from_Decides}
 use Rattle.gem_tables.specs.Table.{firing, is_one_of}
@@ -7,7 +7,7 @@ use Rattle.gem_tables.specs.declared.firing.Firing.{Firing}
 use Rattle.floor_moves.specs.Floor.{Task, pick, place, align, process, named, Command, Module, idle, busy, down, Floor, modules, is_outside}
 use Rattle.floor_moves.specs.Ready.{is_named, is_process_of, processes}
 use Rattle.floor_moves.specs.Effects.{turned, moved_as, moved_by, aligned, aligned_by, fire}
-use Rattle.floor_moves.specs.Direct.{Input, done, failed, goes_down, comes_up, is_lost, cancels, open_task, only_where, processed_rows, aborted_rows, done_rows, closing_rows, down_rows, up_rows, may_be_lost, may_cancel, done_row, input_starts, direct, fired}
+use Rattle.floor_moves.specs.Direct.{Input, done, failed, goes_down, comes_up, is_lost, cancels, open_task, only_where, aborted_rows, done_rows, closing_rows, down_rows, up_rows, may_be_lost, may_cancel, done_row, input_starts, direct, fired}
 use Rattle.floor_moves.specs.Valid.{Valid, ValidBut, ValidOrBut}
 use Rattle.floor_moves.proofs.Columns.{accessed-keeps}
 use Rattle.floor_moves.proofs.Issuing.{turned-keeps}

@@ -1,5 +1,5 @@
 -- A command is issued.
-use Rattle.std.proofs.Common.{◌≡◌, ◌<◌, ℕ, ◌+◌, true, Some, sym, ap, subst, ◌∙◌, ◌⊎◌, inl, inr, arith}
+use Rattle.std.proofs.Common.{◌≡◌, ◌<◌, ℕ, ◌+◌, true, sym, ap, subst, ◌∙◌, ◌⊎◌, inl, inr, arith}
 use Rattle.floor_moves.specs.Floor.{Loc, Task, pick, place, align, process, named, Command, Module, idle, busy, Floor, modules}
 use Rattle.gem_tables.specs.Table.{is_one_of}
 use Rattle.floor_moves.specs.Effects.{issued, turned}

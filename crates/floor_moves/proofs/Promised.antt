@@ -1,9 +1,9 @@
 -- Each substrate has one place, by what holds at every moment.
-use Rattle.std.proofs.Common.{◌≡◌, ◌≤◌, ℕ, true, false, Some, refl, sym, subst, arith, ◌⊎◌, inl, inr}
+use Rattle.std.proofs.Common.{◌≡◌, ℕ, true, Some, sym, subst, arith, inl, inr}
 use Rattle.std.proofs.lemmas.Bool.{false_from_ne_true}
-use Rattle.floor_moves.specs.Floor.{Loc, named, Floor, own, is_outside}
+use Rattle.floor_moves.specs.Floor.{Loc, Floor, own, is_outside}
 use Rattle.floor_moves.specs.Carriers.{HasEnded}
-use Rattle.floor_moves.specs.Valid.{Empty, IsUnnamed, Valid}
+use Rattle.floor_moves.specs.Valid.{Empty, Valid}
 use Rattle.floor_moves.specs.OnePlace.{IsCarried, OnePlace}
 use Rattle.floor_moves.proofs.Facts.{outside_tells, holds, holder_tells}
 

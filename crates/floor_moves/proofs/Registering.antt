@@ -1,8 +1,8 @@
 -- A registration keeps what holds.
-use Rattle.std.proofs.Common.{◌≡◌, ◌<◌, ℕ, ◌+◌, Bool, true, not, ◌&&◌, ◌||◌, [], ◌∷◌, ◌++◌, Option, Some, None, refl, sym, ap, subst, ◌∙◌, ◌⊎◌, inl, inr, arith}
+use Rattle.std.proofs.Common.{◌≡◌, ◌<◌, ℕ, ◌+◌, Bool, true, not, ◌&&◌, ◌||◌, Option, Some, None, refl, sym, ap, subst, ◌∙◌, ◌⊎◌, inl, inr, arith}
 use Rattle.std.proofs.lemmas.Bool.{false_from_ne_true}
 use Rattle.gem_tables.specs.Table.{is_one_of}
-use Rattle.floor_moves.specs.Floor.{Loc, slot, aligner, arm, chamber, process, named, Command, busy, Floor, set, own, is_outside, is_finished, is_done}
+use Rattle.floor_moves.specs.Floor.{Loc, slot, aligner, arm, chamber, process, Command, busy, Floor, set, own, is_outside, is_finished, is_done}
 use Rattle.floor_moves.specs.Carriers.{registered, MayRegister}
 use Rattle.floor_moves.specs.Valid.{Empty, HasRoom, Places, Carriers, Commands, Members, Valid}
 use Rattle.floor_moves.proofs.Maps.{set_tells, set_here, set_else, set_both}

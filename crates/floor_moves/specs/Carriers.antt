@@ -2,7 +2,7 @@
 -- tables 7 and 9).
 use Rattle.std.specs.Prelude.{◌≡◌, ◌⊎◌, ◌≤◌, ℕ, ◌+◌, ◌==◌, true, false, not, if◌then◌else◌, [], ◌∷◌, ◌++◌, filter, Some, None}
 use Rattle.gem_tables.specs.Table.{is_one_of}
-use Rattle.floor_moves.specs.Floor.{slot, JobView, Floor, set, is_outside}
+use Rattle.floor_moves.specs.Floor.{slot, JobView, Floor, set}
 
 -- ---- a carrier is created
 

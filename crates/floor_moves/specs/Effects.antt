@@ -92,6 +92,7 @@ moved_as (place n to) m g = moved n to m g
 moved_as (align n) m g = g
 moved_as (process n) m g = g
 
+-- the same, by what the module has open
 abbrev pub moved_by : Module → ℕ → Floor → Floor
 moved_by idle m g = g
 moved_by down m g = g
@@ -101,12 +102,13 @@ moved_by (busy c) m g = moved_as c.task m g
 abbrev pub aligned : ℕ → ℕ → Floor → Floor
 aligned n m g = record g { is_aligned = set n true g.is_aligned; equipment = set m idle g.equipment }
 
+-- the same, by what the module has open
 abbrev pub aligned_by : Module → ℕ → Floor → Floor
 aligned_by idle m g = g
 aligned_by down m g = g
 aligned_by (busy c) m g = aligned (named c.task) m g
 
--- Rows 7 and 10: Idle. Rows 8 and 9: nothing moves; Down.
+-- a row of table 16 fires; behind rows 7 and 10 the module is Idle, behind rows 8 and 9 it is Down, and nothing moves
 abbrev pub move_fired : ℕ → ℕ → Floor → Floor
 move_fired row m g =
     if row == 1 then place_issued (holder arm g) (target_of (holder arm g) g) g

@@ -80,8 +80,8 @@ is_to_skip n g = (g.jobs.is_stopping n || g.jobs.is_aborting n) && not (is_named
 abbrev pub processing_cases : Floor → ℕ → List (Bool × ℕ)
 processing_cases g n =
     ((
-        (g.processing n == 0) && is_processed n g,
-        2,
+      (g.processing n == 0) && is_processed n g,
+      2,
     )
     ∷ ((g.processing n == 0) && (is_at (own n g) (g.place_of n) && is_to_skip n g), 5)
     ∷ ((g.processing n == 0) && (is_outside (g.place_of n) && g.jobs.is_stopping n), 6)

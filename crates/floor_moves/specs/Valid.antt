@@ -19,6 +19,7 @@ IsUnnamed n g = (m : ℕ) (c : Command) → g.equipment m ≡ busy c → named c
 
 -- ---- places (after SEMI E90)
 
+-- what holds of the places of substrates
 abbrev pub Places : Floor → Type 0
 Places g = record {
   -- two substrates with locations have different ones
@@ -38,6 +39,7 @@ Places g = record {
 
 -- ---- carriers (after SEMI E87)
 
+-- what holds of the carriers of substrates that are kept
 abbrev pub Carriers : Floor → Type 0
 Carriers g = record {
   -- the carrier of a substrate that is kept is present at the port of its slot, with map VERIFIED
@@ -100,6 +102,7 @@ abbrev pub ProcessStands : ℕ → ℕ → Floor → Type 0
 ProcessStands m n g =
     (c : ℕ) × (m ≡ chamber_module c) × (g.place_of n ≡ Some (chamber c)) × (is_finished (g.processing n) ≡ false)
 
+-- what holds of the open commands
 abbrev pub Commands : Floor → Type 0
 Commands g = record {
   picks : (m n : ℕ) (l : Loc) (c : Command) → g.equipment m ≡ busy c → c.task ≡ pick n l → PickStands m n l g;
@@ -119,6 +122,7 @@ Commands g = record {
 
 -- ---- process jobs (after SEMI E40)
 
+-- what holds of what process jobs say
 abbrev pub Members : Floor → Type 0
 Members g = record {
   -- a substrate outside its slot, or that an open command names, is in a job; so is one whose job is PROCESSING
@@ -141,6 +145,7 @@ Members g = record {
 abbrev pub IsProcessed : ℕ → Floor → Type 0
 IsProcessed n g = (m : ℕ) × (c : Command) × (g.equipment m ≡ busy c) × (c.task ≡ process n)
 
+-- what holds of the states of processing
 abbrev pub Work : Floor → Type 0
 Work g = record {
   -- an open Process names one that is IN PROCESS

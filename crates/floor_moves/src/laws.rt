@@ -12,7 +12,7 @@ ghost use Rattle.floor_moves.specs.Valid.{Valid, ValidBut, ValidOrBut, MaySay};
 ghost use Rattle.floor_moves.specs.OnePlace.{OnePlace};
 ghost use Rattle.floor_moves.specs.Work.{is_work_left, AreUp, IsOpen};
 ghost use Rattle.floor_moves.specs.Left.{left};
-ghost use Rattle.floor_moves.specs.Run.{Happening, May, next, IsRun, after};
+ghost use Rattle.floor_moves.specs.Run.{Change, May, next, IsRun, after};
 ghost use Rattle.floor_moves.specs.Once.{EndsOnce, Moves, MovesBy};
 
 /// What holds at every moment holds as the floor begins. Each row that is ready by itself keeps it, the least one among them,
@@ -52,18 +52,18 @@ pub fn what_holds_is_kept_as_carriers_come_and_go()
 /// Each substrate has one place, at every moment of a run.
 pub fn each_substrate_has_one_place()
     ensures places { (g : Floor) → Valid g → OnePlace g }
-    ensures kept { (g : Floor) (es : List Happening) → Valid g → IsRun g es → Valid (after g es) }
-    ensures run { (chambers : List ℕ) (es : List Happening) → IsRun (opening chambers) es → OnePlace (after (opening chambers) es) }
+    ensures kept { (g : Floor) (es : List Change) → Valid g → IsRun g es → Valid (after g es) }
+    ensures run { (chambers : List ℕ) (es : List Change) → IsRun (opening chambers) es → OnePlace (after (opening chambers) es) }
 {}
 
 /// Each substrate moves at most once a command: each command number ends at most once in a run; a place changes only by
 /// registration, by Done of an open Pick or Place that names the substrate, from the named start to the named end, and by becoming
 /// Removed; and what is Removed stays so.
 pub fn each_substrate_moves_once_a_command()
-    ensures once { (g : Floor) (es : List Happening) → Valid g → IsRun g es → EndsOnce g es }
-    ensures moves { (g : Floor) (e : Happening) (n : ℕ) → Valid g → May e g → Moves g n e (next e g) }
+    ensures once { (g : Floor) (es : List Change) → Valid g → IsRun g es → EndsOnce g es }
+    ensures moves { (g : Floor) (e : Change) (n : ℕ) → Valid g → May e g → Moves g n e (next e g) }
     ensures firing { (g : Floor) (f : Firing) (n : ℕ) → Valid g → MovesBy g n f (fire f g) }
-    ensures removed { (g : Floor) (es : List Happening) (n : ℕ) → Valid g → IsRun g es
+    ensures removed { (g : Floor) (es : List Change) (n : ℕ) → Valid g → IsRun g es
         → n < g.next_substrate → g.place_of n ≡ None → (after g es).place_of n ≡ None }
 {}
 

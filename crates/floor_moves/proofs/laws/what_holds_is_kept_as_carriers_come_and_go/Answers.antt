@@ -1,6 +1,6 @@
 use Rattle.floor_moves.proofs.Columns.{transported-keeps, needing-keeps}
 use Rattle.floor_moves.proofs.Registering.{registered-keeps}
-use Rattle.floor_moves.proofs.Carrying.{created-keeps, arrived-keeps, verified-keeps, says-keeps, forgotten-keeps}
+use Rattle.floor_moves.proofs.Carrying.{created-keeps, arrived-keeps, verified-keeps, jobs_say-keeps, forgotten-keeps}
 use Rattle.floor_moves.proofs.laws.what_holds_is_kept_as_carriers_come_and_go.Goals as goal
 
 pub returns-clause-created : goal.returns-clause-created
@@ -25,4 +25,4 @@ pub returns-clause-forgotten : goal.returns-clause-forgotten
 returns-clause-forgotten c = λ g x v may. forgotten-keeps g v x may
 
 pub returns-clause-jobs : goal.returns-clause-jobs
-returns-clause-jobs c = λ g view v may. says-keeps g view may v
+returns-clause-jobs c = λ g view v may. jobs_say-keeps g view may v

@@ -61,6 +61,7 @@ pub record JobView : Type 0 where
   pub names_carrier : ℕ → Bool
   pub is_marked : ℕ → Bool
 
+-- the floor at a moment
 pub record Floor : Type 0 where
   -- the substrates that are kept, in the order of their registration, and the number that the next one gets
   pub substrates : List ℕ
@@ -74,8 +75,8 @@ pub record Floor : Type 0 where
   pub transport : ℕ → ℕ
   pub processing : ℕ → ℕ
   pub is_aligned : ℕ → Bool
-  -- the carriers that are known, in the order of their creation; of each the port at which it is present, whether its slot map is
-  -- VERIFIED, and the number of its state in table 10
+  -- the carriers that are known, in the order of their creation; of each the port at which it is present, where it is until the row
+  -- that forgets it has fired, whether its slot map is VERIFIED, and the number of its state in table 10
   pub carriers : List ℕ
   pub present_at : ℕ → Option ℕ
   pub is_verified : ℕ → Bool

@@ -53,7 +53,8 @@ some_outside c g = list_any (λ n. (g.carrier_of n == c) && is_outside (g.place_
 abbrev pub is_quiet : ℕ → Floor → Bool
 is_quiet c g = not (g.jobs.names_carrier c) && not (some_outside c g)
 
--- where its rows are ready at a carrier
+-- where its rows are ready at a carrier: 1 where a substrate of it is outside its slot; 2 where it is quiet and not marked stopped;
+-- 3 where it is quiet and marked stopped
 abbrev pub access_cases : Floor → ℕ → List (Bool × ℕ)
 access_cases g c =
     (((g.access c == 0) && some_outside c g, 1)
@@ -63,7 +64,7 @@ access_cases g c =
 
 -- ---- table 12, transport: 0 AT SOURCE, 1 AT WORK, 2 AT DESTINATION (after SEMI E90)
 
--- where its rows are ready at a substrate
+-- where its rows are ready at a substrate: 2 where it is outside; 3 where it is in its slot
 abbrev pub transport_cases : Floor → ℕ → List (Bool × ℕ)
 transport_cases g n =
     (((g.transport n == 0) && is_outside (g.place_of n), 2)
@@ -76,13 +77,12 @@ transport_cases g n =
 abbrev pub is_to_skip : ℕ → Floor → Bool
 is_to_skip n g = (g.jobs.is_stopping n || g.jobs.is_aborting n) && not (is_named n g)
 
--- where its rows are ready at a substrate
+-- where its rows are ready at a substrate: 2 where an open Process names it; 5 where it is in its slot, its job is STOPPING or
+-- ABORTING, and no open command names it; 6 where it is outside and its job is STOPPING; 7 where it is outside and its job is
+-- ABORTING
 abbrev pub processing_cases : Floor → ℕ → List (Bool × ℕ)
 processing_cases g n =
-    ((
-      (g.processing n == 0) && is_processed n g,
-      2,
-    )
+    (((g.processing n == 0) && is_processed n g, 2)
     ∷ ((g.processing n == 0) && (is_at (own n g) (g.place_of n) && is_to_skip n g), 5)
     ∷ ((g.processing n == 0) && (is_outside (g.place_of n) && g.jobs.is_stopping n), 6)
     ∷ ((g.processing n == 0) && (is_outside (g.place_of n) && g.jobs.is_aborting n), 7)
@@ -154,7 +154,8 @@ abbrev pub in_chamber_of : ℕ → Floor → Option ℕ
 in_chamber_of (suc (suc c)) g = holder (chamber c) g
 in_chamber_of _ g = None
 
--- where its rows are ready at a module
+-- where its rows are ready at a module: 1 and 2 at the robot, where it places what the arm holds, or with an empty arm does the best
+-- pick; 3 at the aligner; 4 at a chamber
 abbrev pub move_cases : Floor → ℕ → List (Bool × ℕ)
 move_cases g m =
     (((m == 1) && (is_idle (g.equipment 1) && is_to_place (holder arm g) g), 1)

@@ -17,3 +17,4 @@ mod Running
 mod Ending
 mod Going
 mod Waiting
+mod Room

@@ -60,6 +60,11 @@ pub record MayRegister (c p k : ℕ) (g : Floor) : Type 0 where
   pub is_read : g.is_verified c ≡ true
   pub is_new : (n : ℕ) → is_one_of g.substrates n ≡ true → g.carrier_of n ≡ c → g.slot_of n ≡ k → ⊥
 
+-- the own slots of the substrates that are kept are slots 1 to 25 of ports from 1 to so many
+abbrev pub AreWithin : ℕ → Floor → Type 0
+AreWithin ports g =
+    (n : ℕ) → is_one_of g.substrates n ≡ true → (1 ≤ g.port_of n) × (g.port_of n ≤ ports) × (1 ≤ g.slot_of n) × (g.slot_of n ≤ 25)
+
 -- ---- a carrier is forgotten (row 6 of table 7, and where one that isn't present goes)
 
 -- its substrates are Removed, and it and they are forgotten

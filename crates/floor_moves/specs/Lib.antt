@@ -9,3 +9,4 @@ pub mod Work
 pub mod Left
 pub mod Run
 pub mod Once
+pub mod Worked

@@ -1,14 +1,14 @@
 //! Laws of the moves, for proofs to cite. Each function is empty: what it ensures holds of the definitions.
 
-ghost use Rattle.std.specs.Prelude.{◌≡◌, ◌<◌, ℕ, ◌==◌, Bool, true, false, List, [], ◌∷◌, Some, None};
+ghost use Rattle.std.specs.Prelude.{◌≡◌, ◌≤◌, ◌<◌, ℕ, ◌*◌, ◌==◌, Bool, true, false, List, [], ◌∷◌, length, Some, None};
 ghost use Rattle.gem_tables.specs.Table.{firing, is_one_of};
 ghost use Rattle.gem_tables.specs.declared.firing.Firing.{Firing};
-ghost use Rattle.floor_moves.specs.Floor.{JobView, Floor, opening};
+ghost use Rattle.floor_moves.specs.Floor.{slot, JobView, Floor, opening};
 ghost use Rattle.floor_moves.specs.Ready.{least, IsReady};
 ghost use Rattle.floor_moves.specs.Effects.{fire};
 ghost use Rattle.floor_moves.specs.Direct.{Input, may_be_lost, may_cancel, input_starts, direct, fired};
-ghost use Rattle.floor_moves.specs.Carriers.{created, MayCreate, arrived, MayArrive, verified, registered, MayRegister, forgotten, HasEnded, with_jobs};
-ghost use Rattle.floor_moves.specs.Valid.{Valid, ValidBut, ValidOrBut, MaySay};
+ghost use Rattle.floor_moves.specs.Carriers.{created, MayCreate, arrived, MayArrive, verified, registered, MayRegister, AreWithin, forgotten, HasEnded, with_jobs};
+ghost use Rattle.floor_moves.specs.Valid.{Empty, Valid, ValidBut, ValidOrBut, MaySay};
 ghost use Rattle.floor_moves.specs.OnePlace.{OnePlace};
 ghost use Rattle.floor_moves.specs.Work.{is_work_left, AreUp, IsOpen};
 ghost use Rattle.floor_moves.specs.Left.{left};
@@ -47,6 +47,12 @@ pub fn what_holds_is_kept_as_carriers_come_and_go()
     ensures needing { (g : Floor) (n : ℕ) → Valid g → (g.processing n == 0) ≡ true → Valid (fire (firing 13 n 1) g) }
     ensures forgotten { (g : Floor) (c : ℕ) → Valid g → HasEnded c g → Valid (forgotten c g) }
     ensures jobs { (g : Floor) (view : JobView) → Valid g → MaySay view g → Valid (with_jobs view g) }
+{}
+
+/// There is room for each substrate that is registered: its slot is empty, and at most 25 substrates of each port are kept.
+pub fn there_is_room_for_each_substrate()
+    ensures slot { (g : Floor) (c p k : ℕ) → Valid g → MayRegister c p k g → Empty (slot p k) g }
+    ensures few { (g : Floor) (ports : ℕ) → Valid g → AreWithin ports g → length g.substrates ≤ 25 * ports }
 {}
 
 /// Each substrate has one place, at every moment of a run.

@@ -199,7 +199,7 @@ module _ (g : Floor) (v : Valid g) (c : ℕ) (ends : HasEnded c g) where
 
   -- its substrates are in no job, so none is outside or named
   not_its : (n : ℕ) → g.jobs.is_member n ≡ true → (g.carrier_of n == c) ≡ false
-  not_its n is = false_from_ne_true (g.carrier_of n == c) (λ t. no_member g v n (subst (λ (d : ℕ). HasEnded d g) (sym (is_number (g.carrier_of n) c t)) ends) is)
+  not_its n is = false_from_ne_true (g.carrier_of n == c) (λ t. no_member g v.carriers v.members n (subst (λ (d : ℕ). HasEnded d g) (sym (is_number (g.carrier_of n) c t)) ends) is)
 
   stays_there : (n : ℕ) → (g.carrier_of n == c) ≡ false → rest.place_of n ≡ g.place_of n
   stays_there n e = ap (λ (b : Bool). cond b None (g.place_of n)) e

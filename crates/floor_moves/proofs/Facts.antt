@@ -6,7 +6,7 @@ use Rattle.std.proofs.lemmas.Bool.Decides.{Decides-eqb}
 use Rattle.gem_tables.specs.Table.{is_one_of}
 use Rattle.floor_moves.specs.Floor.{Loc, slot, aligner, arm, chamber, Task, pick, place, align, process, named, Command, Module, idle, busy, down, is_idle, Floor, chamber_module, modules, own, is_same, is_at, is_outside, is_finished, is_done}
 use Rattle.floor_moves.specs.Ready.{holder, is_empty, names, is_named, is_process_of, processes, is_processed, is_chamber_free, free_target}
-use Rattle.floor_moves.specs.Valid.{Empty, IsUnnamed, IsProcessed, HasRoom, PickStands, Valid}
+use Rattle.floor_moves.specs.Valid.{Empty, IsUnnamed, IsProcessed, HasRoom, PickStands, Places, Valid}
 use Rattle.floor_moves.proofs.Scans.{any_tells, any_none, find_tells, find_none}
 
 -- ---- numbers and locations
@@ -71,11 +71,11 @@ picked_not_done g m n (chamber d) s = outside_not_done g n (ap is_outside s.stan
 
 -- ---- who is where
 
-module _ (g : Floor) (v : Valid g) where
+module _ (g : Floor) (p : Places g) where
   pub empty_tells : (l : Loc) → is_empty l g ≡ true → Empty l g
   empty_tells l e n at =
       let none : list_any (λ n. is_at l (g.place_of n)) g.substrates ≡ false = not-true _ e in
-      let not_there : is_at l (g.place_of n) ≡ false = any_none (λ n. is_at l (g.place_of n)) g.substrates none n (v.places.kept n l at) in
+      let not_there : is_at l (g.place_of n) ≡ false = any_none (λ n. is_at l (g.place_of n)) g.substrates none n (p.kept n l at) in
       let there : is_at l (g.place_of n) ≡ true = ap (is_at l) at ∙ loc_itself l in
       absurd (cc)
 
@@ -92,7 +92,7 @@ module _ (g : Floor) (v : Valid g) where
   -- nobody holds it, so it is empty
   no_holder : (l : Loc) → holder l g ≡ None → Empty l g
   no_holder l e n at =
-      let not_there : is_at l (g.place_of n) ≡ false = find_none (λ n. is_at l (g.place_of n)) g.substrates e n (v.places.kept n l at) in
+      let not_there : is_at l (g.place_of n) ≡ false = find_none (λ n. is_at l (g.place_of n)) g.substrates e n (p.kept n l at) in
       let there : is_at l (g.place_of n) ≡ true = ap (is_at l) at ∙ loc_itself l in
       absurd (cc)
 
@@ -102,10 +102,11 @@ module _ (g : Floor) (v : Valid g) where
     where
       by : (o : Option ℕ) → holder l g ≡ o → o ≡ Some n
       by None e = absurd (no_holder l e n at)
-      by (Some m) e = ap (λ (k : ℕ). Some k) (v.places.apart m n l (holder_tells l m e) at)
+      by (Some m) e = ap (λ (k : ℕ). Some k) (p.apart m n l (holder_tells l m e) at)
 
-  -- ---- names of open commands
+-- ---- names of open commands
 
+module _ (g : Floor) (v : Valid g) where
   pub not_named : (n : ℕ) → is_named n g ≡ false → IsUnnamed n g
   not_named n e m c is its =
       let no : names n (g.equipment m) ≡ false = any_none (λ m. names n (g.equipment m)) (modules g) e m (v.commands.modules m c is) in
@@ -164,11 +165,11 @@ target_room n g l v e f = by (target_tells n g l e)
       in_chamber : g.is_aligned n ≡ true → (c : ℕ) × (is_one_of (g.jobs.chambers_of n) c ≡ true) × (is_one_of g.chambers c ≡ true) × Empty (chamber c) g;
     }
     by (inl t) = let d = t.0 in absurd (cc)
-    by (inr (inl t)) = record { at_aligner = λ un. empty_tells g v aligner t.2; in_chamber = λ al. let a = t.1 in absurd (cc) }
+    by (inr (inl t)) = record { at_aligner = λ un. empty_tells g v.places aligner t.2; in_chamber = λ al. let a = t.1 in absurd (cc) }
     by (inr (inr t)) = record { at_aligner = λ un. let a = t.1 in absurd (cc); in_chamber = λ al. chosen }
       where
         chosen : (c : ℕ) × (is_one_of (g.jobs.chambers_of n) c ≡ true) × (is_one_of g.chambers c ≡ true) × Empty (chamber c) g
         chosen =
             let w = and_parts (is_one_of (g.jobs.chambers_of n) t.2) (is_empty (chamber t.2) g && is_idle (g.equipment (chamber_module t.2))) t.3 in
             let x = and_parts (is_empty (chamber t.2) g) (is_idle (g.equipment (chamber_module t.2))) w.1 in
-            (t.2, w.0, t.4, empty_tells g v (chamber t.2) x.0)
+            (t.2, w.0, t.4, empty_tells g v.places (chamber t.2) x.0)

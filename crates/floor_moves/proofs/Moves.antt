@@ -61,7 +61,7 @@ module _ (g : Floor) (v : Valid g) where
     stands (inl t) = record {
       robot = refl;
       stands = at;
-      free = subst (λ (x : Loc). Empty x g) (sym t.2) (empty_tells g v (own n g) t.1);
+      free = subst (λ (x : Loc). Empty x g) (sym t.2) (empty_tells g v.places (own n g) t.1);
       to_slot = λ p k e. (sym e ∙ t.2, t.0);
       to_aligner = λ e. let w : own n g ≡ aligner = sym t.2 ∙ e in absurd (cc);
       to_chamber = λ d e. let w : own n g ≡ chamber d = sym t.2 ∙ e in absurd (cc);
@@ -70,7 +70,7 @@ module _ (g : Floor) (v : Valid g) where
     stands (inr (inl t)) = record {
       robot = refl;
       stands = at;
-      free = subst (λ (x : Loc). Empty x g) (sym t.4) (empty_tells g v aligner t.2);
+      free = subst (λ (x : Loc). Empty x g) (sym t.4) (empty_tells g v.places aligner t.2);
       to_slot = λ p k e. let w : aligner ≡ slot p k = sym t.4 ∙ e in absurd (cc);
       to_aligner = λ e. t.1;
       to_chamber = λ d e. let w : aligner ≡ chamber d = sym t.4 ∙ e in absurd (cc);
@@ -79,7 +79,7 @@ module _ (g : Floor) (v : Valid g) where
     stands (inr (inr t)) = record {
       robot = refl;
       stands = at;
-      free = subst (λ (x : Loc). Empty x g) (sym t.5) (empty_tells g v (chamber t.2) (and_parts (is_empty (chamber t.2) g) (is_idle (g.equipment (chamber_module t.2))) (and_parts (is_one_of (g.jobs.chambers_of n) t.2) (is_empty (chamber t.2) g && is_idle (g.equipment (chamber_module t.2))) t.3).1).0);
+      free = subst (λ (x : Loc). Empty x g) (sym t.5) (empty_tells g v.places (chamber t.2) (and_parts (is_empty (chamber t.2) g) (is_idle (g.equipment (chamber_module t.2))) (and_parts (is_one_of (g.jobs.chambers_of n) t.2) (is_empty (chamber t.2) g && is_idle (g.equipment (chamber_module t.2))) t.3).1).0);
       to_slot = λ p k e. let w : chamber t.2 ≡ slot p k = sym t.5 ∙ e in absurd (cc);
       to_aligner = λ e. let w : chamber t.2 ≡ aligner = sym t.5 ∙ e in absurd (cc);
       to_chamber = λ d e. (subst (λ (x : ℕ). is_one_of g.chambers x ≡ true) (inner t.2 d (sym t.5 ∙ e)) t.4, t.1);
@@ -93,7 +93,7 @@ module _ (g : Floor) (v : Valid g) where
     where
       by_target : (n : ℕ) → holder arm g ≡ Some n → (o : Option Loc) → free_target n g ≡ o → is_some o ≡ true → Valid (place_issued (Some n) o g)
       by_target n h None t s = absurd (cc)
-      by_target n h (Some l) t s = issued-keeps g 1 (place n l) (place_may n l i known (holder_tells g v arm n h) t) v
+      by_target n h (Some l) t s = issued-keeps g 1 (place n l) (place_may n l i known (holder_tells g v.places arm n h) t) v
 
       by : (o : Option ℕ) → holder arm g ≡ o → is_to_place o g ≡ true → Valid (place_issued o (target_of o g) g)
       by None h p = absurd (cc)
@@ -161,7 +161,7 @@ module _ (g : Floor) (v : Valid g) where
     stands = record {
       robot = refl;
       stands = w.0;
-      free = empty_tells g v arm free;
+      free = empty_tells g v.places arm free;
       room = target_room n g w.2 v w.3;
       from_slot = λ p k e. not-true (is_finished (g.processing n)) (and_parts (is_same (slot p k) (own n g)) (not (is_finished (g.processing n))) (and_parts (is_same (slot p k) (own n g) && not (is_finished (g.processing n))) (g.jobs.may_start n) (leaves (slot p k) e)).0).1;
       from_aligner = λ e. (and_parts (is_idle (g.equipment 2)) (is_finished (g.processing n) || g.is_aligned n) (leaves aligner e)).1;
@@ -240,14 +240,14 @@ module _ (g : Floor) (v : Valid g) where
       by : (o : Option ℕ) → holder aligner g ≡ o → is_to_align o g ≡ true → Valid (align_issued o g)
       by None h a = absurd (cc)
       by (Some n) h a = let w = and_parts (not (is_finished (g.processing n))) (not (g.is_aligned n)) a in
-          issued-keeps g 2 (align n) (may n (holder_tells g v aligner n h) (not-true (is_finished (g.processing n)) w.0) (not-true (g.is_aligned n) w.1)) v
+          issued-keeps g 2 (align n) (may n (holder_tells g v.places aligner n h) (not-true (is_finished (g.processing n)) w.0) (not-true (g.is_aligned n) w.1)) v
 
   -- ---- row 4
 
   chamber_of : (m n : ℕ) → in_chamber_of m g ≡ Some n → (d : ℕ) × (m ≡ chamber_module d) × (g.place_of n ≡ Some (chamber d))
   chamber_of zero n e = absurd (cc)
   chamber_of (suc zero) n e = absurd (cc)
-  chamber_of (suc (suc c)) n e = (c, refl, holder_tells g v (chamber c) n e)
+  chamber_of (suc (suc c)) n e = (c, refl, holder_tells g v.places (chamber c) n e)
 
   pub row_4-keeps : (m : ℕ) → is_one_of (modules g) m ≡ true → is_idle (g.equipment m) ≡ true → is_to_process (in_chamber_of m g) g ≡ true → Valid (process_issued m (in_chamber_of m g) g)
   row_4-keeps m known i e = by (in_chamber_of m g) refl e

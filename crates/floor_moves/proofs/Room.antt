@@ -1,9 +1,9 @@
 -- There is room for each substrate that is registered: at most 25 of a port are kept.
-use Rattle.std.proofs.Common.{◌≡◌, ◌≤◌, ◌<◌, ℕ, zero, suc, ◌+◌, ◌-◌, ◌*◌, ◌==◌, Bool, true, false, not, ◌||◌, List, [], ◌∷◌, filter, length, cond, refl, sym, ap, subst, ◌∙◌, arith}
+use Rattle.std.proofs.Common.{◌≡◌, ◌≤◌, ◌<◌, ℕ, zero, suc, ◌+◌, ◌-◌, ◌*◌, ◌==◌, Bool, true, false, not, List, [], ◌∷◌, filter, length, cond, refl, sym, ap, subst, ◌∙◌, arith}
 use Rattle.std.proofs.lemmas.Bool.{or_right, false_from_ne_true}
 use Rattle.std.proofs.lemmas.Bool.Decides.{Decides-eqb}
 use Rattle.gem_tables.specs.Table.{is_one_of}
-use Rattle.floor_moves.specs.Floor.{Loc, slot, Floor, own}
+use Rattle.floor_moves.specs.Floor.{Floor, own}
 use Rattle.floor_moves.specs.Carriers.{AreWithin}
 use Rattle.floor_moves.specs.Valid.{IsDistinct, Valid}
 use Rattle.floor_moves.proofs.Scans.{first_of, filter_tells, filter_distinct}

@@ -93,13 +93,13 @@ module _ (g : Floor) (v : Valid g) (rest : AtRest g) (idles : (m : ℕ) → is_o
 
   home_some : (n : ℕ) → is_finished (g.processing n) ≡ true → Empty (own n g) g → is_some (free_target n g) ≡ true
   home_some n f free =
-      let e = empty_from g v (own n g) free in
+      let e = empty_from g v.places (own n g) free in
       ap (λ (b : Bool). is_some (cond b (cond (is_empty (own n g) g) (Some (own n g)) None) (cond (g.is_aligned n) (option_map chamber (find (is_chamber_free n g) g.chambers)) (cond (is_empty aligner g && is_idle (g.equipment 2)) (Some aligner) None)))) f
       ∙ ap (λ (b : Bool). is_some (cond b (Some (own n g)) None)) e
 
   aligner_some : (n : ℕ) → is_finished (g.processing n) ≡ false → g.is_aligned n ≡ false → Empty aligner g → is_some (free_target n g) ≡ true
   aligner_some n f a free =
-      let e = and_from (is_empty aligner g) (is_idle (g.equipment 2)) (empty_from g v aligner free) (idles 2 module_2) in
+      let e = and_from (is_empty aligner g) (is_idle (g.equipment 2)) (empty_from g v.places aligner free) (idles 2 module_2) in
       ap (λ (b : Bool). is_some (cond b (cond (is_empty (own n g) g) (Some (own n g)) None) (cond (g.is_aligned n) (option_map chamber (find (is_chamber_free n g) g.chambers)) (cond (is_empty aligner g && is_idle (g.equipment 2)) (Some aligner) None)))) f
       ∙ ap (λ (b : Bool). is_some (cond b (option_map chamber (find (is_chamber_free n g) g.chambers)) (cond (is_empty aligner g && is_idle (g.equipment 2)) (Some aligner) None))) a
       ∙ ap (λ (b : Bool). is_some (cond b (Some aligner) None)) e
@@ -113,7 +113,7 @@ module _ (g : Floor) (v : Valid g) (rest : AtRest g) (idles : (m : ℕ) → is_o
       fits : is_chamber_free n g c ≡ true
       fits = and_from (is_one_of (g.jobs.chambers_of n) c) (is_empty (chamber c) g && is_idle (g.equipment (chamber_module c)))
           recipe
-          (and_from (is_empty (chamber c) g) (is_idle (g.equipment (chamber_module c))) (empty_from g v (chamber c) free) (chamber_idle c known))
+          (and_from (is_empty (chamber c) g) (is_idle (g.equipment (chamber_module c))) (empty_from g v.places (chamber c) free) (chamber_idle c known))
 
       by : (o : Option ℕ) → find (is_chamber_free n g) g.chambers ≡ o → is_some (option_map chamber o) ≡ true
       by None e = let none = find_none (is_chamber_free n g) g.chambers e c known in let yes = fits in absurd (cc)
@@ -134,10 +134,10 @@ module _ (g : Floor) (v : Valid g) (rest : AtRest g) (idles : (m : ℕ) → is_o
       out = ap is_outside at
 
       no_target : is_some (free_target n g) ≡ true → ⊥
-      no_target s = let p : is_to_place (holder arm g) g ≡ is_some (free_target n g) = ap (λ (o : Option ℕ). is_to_place o g) (holds g v arm n at) in let q = not_placing in cc
+      no_target s = let p : is_to_place (holder arm g) g ≡ is_some (free_target n g) = ap (λ (o : Option ℕ). is_to_place o g) (holds g v.places arm n at) in let q = not_placing in cc
 
       by : (is_finished (g.processing n) ≡ true) ⊎ (is_finished (g.processing n) ≡ false) → (g.is_aligned n ≡ true) ⊎ (g.is_aligned n ≡ false) → ⊥
-      by (inl f) a = no_target (home_some n f (own_free g v n out))
+      by (inl f) a = no_target (home_some n f (own_free g v.places n out))
       by (inr f) (inl a) = let c = (v.commands.room n at f).in_chamber a in no_target (chamber_some n c.0 f a c.1 c.2 c.3)
       by (inr f) (inr a) = no_target (aligner_some n f a ((v.commands.room n at f).at_aligner a))
 
@@ -149,7 +149,7 @@ module _ (g : Floor) (v : Valid g) (rest : AtRest g) (idles : (m : ℕ) → is_o
 
       by : (o : Option ℕ) → best_pick g ≡ o → o ≡ None
       by None e = refl
-      by (Some n) e = absurd (no_some (sym (ap (λ (b : Bool). b && (is_empty arm g && is_some (best_pick g))) (idles 1 module_1)) ∙ second) (empty_from g v arm arm_empty) (ap is_some e))
+      by (Some n) e = absurd (no_some (sym (ap (λ (b : Bool). b && (is_empty arm g && is_some (best_pick g))) (idles 1 module_1)) ∙ second) (empty_from g v.places arm arm_empty) (ap is_some e))
         where
           no_some : (is_empty arm g && is_some (best_pick g)) ≡ false → is_empty arm g ≡ true → is_some (best_pick g) ≡ true → ⊥
           no_some f a b = let t = and_from (is_empty arm g) (is_some (best_pick g)) a b in cc
@@ -187,13 +187,13 @@ module _ (g : Floor) (v : Valid g) (rest : AtRest g) (idles : (m : ℕ) → is_o
   chamber_empty c n at =
       not_useful n (chamber c) at refl
       (and_from (is_idle (g.equipment (chamber_module c))) (is_finished (g.processing n)) (chamber_idle c known) finished)
-      (home_some n finished (own_free g v n (ap is_outside at)))
+      (home_some n finished (own_free g v.places n (ap is_outside at)))
     where
       known : is_one_of g.chambers c ≡ true
       known = v.places.chambers n c at
 
       held : in_chamber_of (chamber_module c) g ≡ Some n
-      held = holds g v (chamber c) n at
+      held = holds g v.places (chamber c) n at
 
       finished : is_finished (g.processing n) ≡ true
       finished = finished_or_needs n (sym (ap (λ (o : Option ℕ). is_to_process o g) held) ∙ sym (ap (λ (b : Bool). b && is_to_process (in_chamber_of (chamber_module c) g) g) (chamber_idle c known)) ∙ (none_fits (move_cases g (chamber_module c)) (rest.move (chamber_module c) (module_of c known))).1.1.1.0)
@@ -211,12 +211,12 @@ module _ (g : Floor) (v : Valid g) (rest : AtRest g) (idles : (m : ℕ) → is_o
       no_align = sym (ap (λ (b : Bool). b && is_to_align (holder aligner g) g) (idles 2 module_2)) ∙ (none_fits (move_cases g 2) (rest.move 2 module_2)).1.1.0
 
       by : (is_finished (g.processing n) ≡ true) ⊎ (is_finished (g.processing n) ≡ false) → (g.is_aligned n ≡ true) ⊎ (g.is_aligned n ≡ false) → ⊥
-      by (inl f) a = not_useful n aligner at refl (leaves (ap (λ (b : Bool). b || g.is_aligned n) f)) (home_some n f (own_free g v n out))
+      by (inl f) a = not_useful n aligner at refl (leaves (ap (λ (b : Bool). b || g.is_aligned n) f)) (home_some n f (own_free g v.places n out))
       by (inr f) (inl a) =
           let c = v.members.recipe n (v.members.outside n out) in
           not_useful n aligner at refl (leaves (or_right (is_finished (g.processing n)) (g.is_aligned n) a)) (chamber_some n c.0 f a c.1 c.2 (chamber_empty c.0))
       by (inr f) (inr a) =
-          let held : is_to_align (holder aligner g) g ≡ (not (is_finished (g.processing n)) && not (g.is_aligned n)) = ap (λ (o : Option ℕ). is_to_align o g) (holds g v aligner n at) in
+          let held : is_to_align (holder aligner g) g ≡ (not (is_finished (g.processing n)) && not (g.is_aligned n)) = ap (λ (o : Option ℕ). is_to_align o g) (holds g v.places aligner n at) in
           let both : (not (is_finished (g.processing n)) && not (g.is_aligned n)) ≡ true = and_from (not (is_finished (g.processing n))) (not (g.is_aligned n)) (ap not f) (ap not a) in
           let none = no_align in
           cc

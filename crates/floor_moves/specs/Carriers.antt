@@ -16,7 +16,7 @@ created c g =
       access = set c 0 g.access;
     }
 
--- its number was not given
+-- no carrier of its number is known
 abbrev pub MayCreate : ℕ → Floor → Type 0
 MayCreate c g = is_one_of g.carriers c ≡ false
 
@@ -77,7 +77,7 @@ forgotten c g =
       present_at = set c None g.present_at;
     }
 
--- it is CARRIER COMPLETE or CARRIER STOPPED, or its slot map isn't VERIFIED
+-- it is CARRIER COMPLETE or CARRIER STOPPED, or its slot map isn't VERIFIED, as where a verification FAILED
 abbrev pub HasEnded : ℕ → Floor → Type 0
 HasEnded c g = (2 ≤ g.access c) ⊎ (g.is_verified c ≡ false)
 

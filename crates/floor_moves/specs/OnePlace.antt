@@ -9,6 +9,7 @@ use Rattle.floor_moves.specs.Valid.{Empty, IsUnnamed}
 abbrev pub IsCarried : ℕ → Floor → Type 0
 IsCarried n g = (g.present_at (g.carrier_of n) ≡ Some (g.port_of n)) × (g.is_verified (g.carrier_of n) ≡ true)
 
+-- each substrate has one place, and open commands fit the places
 pub record OnePlace (g : Floor) : Type 0 where
   -- two substrates with locations have different ones, and a location is occupied exactly by what is there
   pub apart : (n m : ℕ) (l : Loc) → g.place_of n ≡ Some l → g.place_of m ≡ Some l → n ≡ m
@@ -28,6 +29,7 @@ pub record OnePlace (g : Floor) : Type 0 where
   pub one_carrier : (c d p : ℕ) → g.present_at c ≡ Some p → g.present_at d ≡ Some p → c ≡ d
   -- the own slot of a substrate outside its slot is empty, and its carrier is present there
   pub slot_waits : (n : ℕ) → is_outside (g.place_of n) ≡ true → Empty (own n g) g × IsCarried n g
-  -- a carrier that has ended, or whose map isn't VERIFIED, has no substrate outside its slot and none that an open command names
+  -- a carrier that is CARRIER COMPLETE or CARRIER STOPPED, or whose map isn't VERIFIED, as where a verification FAILED, has no
+  -- substrate outside its slot and none that an open command names
   pub ended_inside : (n : ℕ) → HasEnded (g.carrier_of n) g → is_outside (g.place_of n) ≡ false
   pub ended_unnamed : (n : ℕ) → HasEnded (g.carrier_of n) g → IsUnnamed n g

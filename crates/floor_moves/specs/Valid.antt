@@ -182,7 +182,7 @@ ValidOrBut m g = Valid g ⊎ ((n : ℕ) × (processes n m ≡ true) × ValidBut 
 
 -- ---- what process jobs may say next
 
--- a view of process jobs is right of the floor, and the recipe of a substrate that is outside or named stays
+-- a view of process jobs is right of the floor, and the recipe of a substrate that is on the arm or named by an open command stays
 pub record MaySay (view : JobView) (g : Floor) : Type 0 where
   pub right : Members (record g { jobs = view })
   pub on_arm : (n : ℕ) → g.place_of n ≡ Some arm → view.chambers_of n ≡ g.jobs.chambers_of n

@@ -55,9 +55,10 @@ pub fn there_is_room_for_each_substrate()
     ensures few { (g : Floor) (ports : ℕ) → Valid g → AreWithin ports g → length g.substrates ≤ 25 * ports }
 {}
 
-/// Each substrate has one place, at every moment of a run.
+/// Each substrate has one place, at every moment of a run, and also between the two rows by which a Process is closed.
 pub fn each_substrate_has_one_place()
     ensures places { (g : Floor) → Valid g → OnePlace g }
+    ensures between { (g : Floor) (n : ℕ) → ValidBut n g → OnePlace g }
     ensures kept { (g : Floor) (es : List Change) → Valid g → IsRun g es → Valid (after g es) }
     ensures run { (chambers : List ℕ) (es : List Change) → IsRun (opening chambers) es → OnePlace (after (opening chambers) es) }
 {}

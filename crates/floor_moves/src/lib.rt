@@ -3,7 +3,7 @@
 //!
 //! It has no code, and knows no record and no process job: a crate above gives the floor by numbers, and takes the laws. What
 //! process jobs say of substrates and carriers stands in it as it is told. Begin with `specs/Floor.antt`, `specs/Ready.antt` and
-//! `specs/Effects.antt`, then `specs/Valid.antt` and `laws`.
+//! `specs/Effects.antt`, then `specs/Valid.antt` and `laws`; `worked` has a floor that is computed.
 #![tactic(auto)]
 
 pub mod laws;

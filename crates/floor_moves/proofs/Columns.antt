@@ -1,0 +1,153 @@
+-- Rows that change one state alone.
+use Rattle.std.proofs.Common.{◌≡◌, ◌≤◌, ℕ, ◌==◌, Bool, true, false, not, ◌&&◌, ◌||◌, None, refl, sym, ap, subst, ◌∙◌, ◌⊎◌, inl, inr, arith}
+use Rattle.std.proofs.lemmas.Bool.{false_from_ne_true, cases_Bool}
+use Rattle.std.proofs.lemmas.Bool.Decides.{Decides-eqb}
+use Rattle.gem_tables.specs.Table.{is_one_of}
+use Rattle.floor_moves.specs.Floor.{Loc, slot, pick, process, Command, busy, Floor, set, is_outside, is_finished, is_done}
+use Rattle.floor_moves.specs.Effects.{accessed, transported, worked}
+use Rattle.floor_moves.specs.Valid.{IsProcessed, HasRoom, Places, Carriers, Commands, Members, Valid}
+use Rattle.floor_moves.proofs.Maps.{set_tells, set_both}
+
+-- ---- table 12: nothing reads the states of transport
+
+pub transported-keeps : (g : Floor) (n state : ℕ) → Valid g → Valid (transported n state g)
+transported-keeps g n state v = record { places = v.places; carriers = v.carriers; commands = v.commands; members = v.members; work = v.work }
+
+-- ---- table 10: where the state is one that has ended, no substrate of the carrier is in a job
+
+pub accessed-keeps : (g : Floor) (c state : ℕ) → ((n : ℕ) → g.jobs.is_member n ≡ true → g.carrier_of n ≡ c → state ≤ 1) → Valid g → Valid (accessed c state g)
+accessed-keeps g c state ends v = record {
+  places = v.places;
+  carriers = v.carriers;
+  commands = v.commands;
+  work = v.work;
+  members = record {
+    outside = v.members.outside;
+    named = v.members.named;
+    starting = v.members.starting;
+    kept = v.members.kept;
+    carrier = v.members.carrier;
+    here = λ n is. set_both c (g.carrier_of n) state g.access (λ a. a ≤ 1) (λ same. ends n is same) (λ other. v.members.here n is);
+    complete = v.members.complete;
+    recipe = v.members.recipe;
+  };
+}
+
+-- ---- table 13
+
+-- all that holds, but that the substrate may be IN PROCESS without an open Process
+pub record WorkBut (n : ℕ) (g : Floor) : Type 0 where
+  pub places : Places g
+  pub carriers : Carriers g
+  pub commands : Commands g
+  pub members : Members g
+  pub in_process : (k : ℕ) → (k ≡ n → ⊥) → g.processing k ≡ 1 → IsProcessed k g
+  pub removed : (k : ℕ) → is_one_of g.substrates k ≡ true → g.place_of k ≡ None → is_finished (g.processing k) ≡ true
+
+pub work_but : (n : ℕ) (g : Floor) → Valid g → WorkBut n g
+work_but n g v = record { places = v.places; carriers = v.carriers; commands = v.commands; members = v.members; in_process = λ k other. v.work.in_process k; removed = v.work.removed }
+
+-- It stays finished; one that an open Pick from its slot or an open Process names is not finished; it is IN PROCESS where an
+-- open Process names it.
+pub record MayWork (n state : ℕ) (g : Floor) : Type 0 where
+  pub stays : is_finished (g.processing n) ≡ true → is_finished state ≡ true
+  pub picked : (m p k : ℕ) (c : Command) → g.equipment m ≡ busy c → c.task ≡ pick n (slot p k) → is_finished state ≡ false
+  pub processed : (m : ℕ) (c : Command) → g.equipment m ≡ busy c → c.task ≡ process n → is_finished state ≡ false
+  pub in_process : state ≡ 1 → IsProcessed n g
+
+module _ (g : Floor) (n state : ℕ) (may : MayWork n state g) where
+  -- what was finished is finished
+  finished_stays : (k : ℕ) → is_finished (g.processing k) ≡ true → is_finished (set n state g.processing k) ≡ true
+  finished_stays k e = set_both n k state g.processing (λ (s : ℕ). is_finished s ≡ true) (λ same. may.stays (subst (λ (i : ℕ). is_finished (g.processing i) ≡ true) same e)) (λ other. e)
+
+  -- what isn't finished wasn't
+  unfinished_was : (k : ℕ) → is_finished (set n state g.processing k) ≡ false → is_finished (g.processing k) ≡ false
+  unfinished_was k e = false_from_ne_true (is_finished (g.processing k)) (λ t. let f = finished_stays k t in absurd (cc))
+
+  room_stays : (k : ℕ) → HasRoom k g → HasRoom k (worked n state g)
+  room_stays k r e = r (unfinished_was k e)
+
+  or_finished : (k : ℕ) (b : Bool) → (is_finished (g.processing k) || b) ≡ true → (is_finished (set n state g.processing k) || b) ≡ true
+  or_finished k b e = by (cases_Bool (is_finished (g.processing k)))
+    where
+      by : (is_finished (g.processing k) ≡ true) ⊎ (is_finished (g.processing k) ≡ false) → (is_finished (set n state g.processing k) || b) ≡ true
+      by (inl t) = ap (λ (x : Bool). x || b) (finished_stays k t)
+      by (inr f) = let is : b ≡ true = sym (ap (λ (x : Bool). x || b) f) ∙ e in last (is_finished (set n state g.processing k)) is
+        where
+          last : (x : Bool) → b ≡ true → (x || b) ≡ true
+          last true q = cc
+          last false q = q
+
+  done_stays : (k : ℕ) → is_done k g ≡ true → is_done k (worked n state g) ≡ true
+  done_stays k e = by (cases_Bool (is_finished (g.processing k))) e
+    where
+      by : (is_finished (g.processing k) ≡ true) ⊎ (is_finished (g.processing k) ≡ false) → (is_finished (g.processing k) && not (is_outside (g.place_of k))) ≡ true → (is_finished (set n state g.processing k) && not (is_outside (g.place_of k))) ≡ true
+      by (inl t) f = let s = finished_stays k t in ap (λ (x : Bool). x && not (is_outside (g.place_of k))) s ∙ sym (ap (λ (x : Bool). x && not (is_outside (g.place_of k))) t) ∙ f
+      by (inr t) f = absurd (cc)
+
+  pub but-worked-keeps : WorkBut n g → Valid (worked n state g)
+  but-worked-keeps v = record {
+    places = v.places;
+    carriers = v.carriers;
+    commands = record {
+      picks = λ m k l c e t. let s = v.commands.picks m k l c e t in record {
+        robot = s.robot;
+        stands = s.stands;
+        free = s.free;
+        room = room_stays k s.room;
+        from_slot = λ p q is. set_both n k state g.processing (λ x. is_finished x ≡ false) (λ same. may.picked m p q c e (t ∙ ap (λ (i : ℕ). pick i l) same ∙ ap (λ (x : Loc). pick n x) is)) (λ other. s.from_slot p q is);
+        from_aligner = λ is. or_finished k (g.is_aligned k) (s.from_aligner is);
+        from_chamber = λ d is. finished_stays k (s.from_chamber d is);
+        not_arm = s.not_arm;
+      };
+      places = λ m k l c e t. let s = v.commands.places m k l c e t in record {
+        robot = s.robot;
+        stands = s.stands;
+        free = s.free;
+        to_slot = λ p q is. let old = s.to_slot p q is in (old.0, finished_stays k old.1);
+        to_aligner = s.to_aligner;
+        to_chamber = s.to_chamber;
+        not_arm = s.not_arm;
+      };
+      aligns = v.commands.aligns;
+      processes = λ m k c e t. let s = v.commands.processes m k c e t in
+          (s.0, s.1, s.2, set_both n k state g.processing (λ x. is_finished x ≡ false) (λ same. may.processed m c e (t ∙ ap (λ (i : ℕ). process i) same)) (λ other. s.3));
+      once = v.commands.once;
+      numbers = v.commands.numbers;
+      below = v.commands.below;
+      room = λ k e. room_stays k (v.commands.room k e);
+      modules = v.commands.modules;
+    };
+    members = record {
+      outside = v.members.outside;
+      named = v.members.named;
+      starting = v.members.starting;
+      kept = v.members.kept;
+      carrier = v.members.carrier;
+      here = v.members.here;
+      complete = λ k is over. done_stays k (v.members.complete k is over);
+      recipe = v.members.recipe;
+    };
+    work = record {
+      in_process = λ k e. by_process k (set_tells n k state g.processing 1 e);
+      removed = λ k known gone. finished_stays k (v.removed k known gone);
+    };
+  } where
+    by_process : (k : ℕ) → ((k ≡ n) × (state ≡ 1)) ⊎ ((k ≡ n → ⊥) × (g.processing k ≡ 1)) → (m : ℕ) × (c : Command) × (g.equipment m ≡ busy c) × (c.task ≡ process k)
+    by_process k (inl t) = let w = may.in_process t.1 in (w.0, w.1, w.2, w.3 ∙ ap (λ (i : ℕ). process i) (sym t.0))
+    by_process k (inr t) = v.in_process k t.0 t.1
+
+  pub worked-keeps : Valid g → Valid (worked n state g)
+  worked-keeps v = but-worked-keeps (work_but n g v)
+
+-- the row of a substrate that is registered, which is NEEDS PROCESSING then
+pub needing-keeps : (g : Floor) (n : ℕ) → (g.processing n == 0) ≡ true → Valid g → Valid (worked n 0 g)
+needing-keeps g n zero_ v = worked-keeps g n 0 (record {
+  stays = λ f. absurd (unfinished f);
+  picked = λ m p k c e u. refl;
+  processed = λ m c e u. refl;
+  in_process = λ one. absurd (omega (arith, one));
+}) v
+  where
+    unfinished : is_finished (g.processing n) ≡ true → ⊥
+    unfinished f = let z : g.processing n ≡ 0 = (Decides-eqb (g.processing n) 0).0 zero_ in let no = ap is_finished z in cc

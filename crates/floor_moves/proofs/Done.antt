@@ -1,0 +1,308 @@
+-- The direct rows of Done, and of a substrate that is lost, keep what holds.
+use Rattle.std.proofs.Common.{◌≡◌, ℕ, Bool, true, false, not, ◌&&◌, ◌||◌, Option, Some, None, refl, sym, ap, subst, ◌∙◌, ◌⊎◌, inl, inr, arith}
+use Rattle.floor_moves.specs.Floor.{Loc, slot, aligner, arm, chamber, pick, place, align, process, named, Command, Module, idle, busy, Floor, is_outside, is_finished, is_done}
+use Rattle.floor_moves.specs.Effects.{turned, moved, aligned, lost, worked}
+use Rattle.floor_moves.specs.Valid.{Empty, IsUnnamed, HasRoom, PickStands, PlaceStands, Valid, ValidBut}
+use Rattle.floor_moves.proofs.Maps.{set_tells, set_here, set_else, set_both}
+use Rattle.floor_moves.proofs.Columns.{WorkBut, MayWork, but-worked-keeps}
+use Rattle.floor_moves.proofs.Issuing.{left_open, turned-but}
+use Rattle.floor_moves.proofs.Facts.{outside_not_done, picked_not_done}
+use Rattle.floor_moves.proofs.Moving.{idle_not_busy, stays_empty, moved_places, moved_commands, moved_members, moved_work}
+
+-- ---- Done of a Pick
+
+pub done_pick-keeps : (g : Floor) (m n : ℕ) (l : Loc) (c : Command) → g.equipment m ≡ busy c → c.task ≡ pick n l → Valid g → Valid (moved n arm m g)
+done_pick-keeps g m n l c is t v = record {
+  places = moved_places g m n arm c is s.robot names none v (v.places.kept n l s.stands) s.free (λ p k e. absurd (cc)) (λ d e. absurd (cc));
+  carriers = v.carriers;
+  commands = moved_commands g m n arm c is s.robot names none v room;
+  members = moved_members g m n arm c is s.robot names none v (picked_not_done g m n l s);
+  work = moved_work g m n arm c is s.robot names none v;
+} where
+  s : PickStands m n l g
+  s = v.commands.picks m n l c is t
+
+  names : named c.task ≡ n
+  names = ap named t
+
+  none : (k : ℕ) → c.task ≡ process k → ⊥
+  none k e = let two : pick n l ≡ process k = sym t ∙ e in cc
+
+  empty : (x : Loc) → (x ≡ arm → ⊥) → Empty x g → Empty x (moved n arm m g)
+  empty = stays_empty g m n arm c is s.robot names none v
+
+  its_room : HasRoom n (moved n arm m g)
+  its_room f = let r = s.room f in record {
+    at_aligner = λ un. empty aligner (λ e. absurd (cc)) (r.at_aligner un);
+    in_chamber = λ al. let d = r.in_chamber al in (d.0, d.1, d.2, empty (chamber d.0) (λ e. absurd (cc)) d.3);
+  }
+
+  room : (i : ℕ) → (moved n arm m g).place_of i ≡ Some arm → HasRoom i (moved n arm m g)
+  room i at = by (set_tells n i (Some arm) g.place_of (Some arm) at)
+    where
+      by : ((i ≡ n) × (Some arm ≡ Some arm)) ⊎ ((i ≡ n → ⊥) × (g.place_of i ≡ Some arm)) → HasRoom i (moved n arm m g)
+      by (inl u) = subst (λ (k : ℕ). HasRoom k (moved n arm m g)) (sym u.0) its_room
+      by (inr u) = absurd (s.free i u.1)
+
+-- ---- Done of a Place
+
+pub done_place-keeps : (g : Floor) (m n : ℕ) (l : Loc) (c : Command) → g.equipment m ≡ busy c → c.task ≡ place n l → Valid g → Valid (moved n l m g)
+done_place-keeps g m n l c is t v = record {
+  places = moved_places g m n l c is s.robot names none v (v.places.kept n arm s.stands) s.free (λ p k e. (s.to_slot p k e).0) (λ d e. (s.to_chamber d e).0);
+  carriers = v.carriers;
+  commands = moved_commands g m n l c is s.robot names none v room;
+  members = moved_members g m n l c is s.robot names none v (outside_not_done g n (ap is_outside s.stands));
+  work = moved_work g m n l c is s.robot names none v;
+} where
+  s : PlaceStands m n l g
+  s = v.commands.places m n l c is t
+
+  names : named c.task ≡ n
+  names = ap named t
+
+  none : (k : ℕ) → c.task ≡ process k → ⊥
+  none k e = let two : place n l ≡ process k = sym t ∙ e in cc
+
+  same_loc : Some l ≡ Some arm → l ≡ arm
+  same_loc e = cc
+
+  room : (i : ℕ) → (moved n l m g).place_of i ≡ Some arm → HasRoom i (moved n l m g)
+  room i at = by (set_tells n i (Some l) g.place_of (Some arm) at)
+    where
+      by : ((i ≡ n) × (Some l ≡ Some arm)) ⊎ ((i ≡ n → ⊥) × (g.place_of i ≡ Some arm)) → HasRoom i (moved n l m g)
+      by (inl u) = absurd (s.not_arm (same_loc u.1))
+      by (inr u) = absurd (u.0 (v.places.apart i n arm u.1 s.stands))
+
+-- ---- Done of an Align
+
+pub done_align-keeps : (g : Floor) (m n : ℕ) (c : Command) → g.equipment m ≡ busy c → c.task ≡ align n → Valid g → Valid (aligned n m g)
+done_align-keeps g m n c is t v = record {
+  places = v.places;
+  carriers = v.carriers;
+  commands = record {
+    picks = λ k i l d e u. let old = v.commands.picks k i l d (left k d e).1 u in let w = other k d i e (ap named u) in record {
+      robot = old.robot;
+      stands = old.stands;
+      free = old.free;
+      room = room_stays i w old.room;
+      from_slot = old.from_slot;
+      from_aligner = λ at. subst (λ (b : Bool). (is_finished (g.processing i) || b) ≡ true) (sym (set_else n i true g.is_aligned w)) (old.from_aligner at);
+      from_chamber = old.from_chamber;
+      not_arm = old.not_arm;
+    };
+    places = λ k i l d e u. let old = v.commands.places k i l d (left k d e).1 u in let w = other k d i e (ap named u) in record {
+      robot = old.robot;
+      stands = old.stands;
+      free = old.free;
+      to_slot = old.to_slot;
+      to_aligner = λ at. set_else n i true g.is_aligned w ∙ old.to_aligner at;
+      to_chamber = λ x at. let o = old.to_chamber x at in (o.0, set_else n i true g.is_aligned w ∙ o.1);
+      not_arm = old.not_arm;
+    };
+    aligns = λ k i d e u. let old = v.commands.aligns k i d (left k d e).1 u in let w = other k d i e (ap named u) in record {
+      its_module = old.its_module;
+      stands = old.stands;
+      unaligned = set_else n i true g.is_aligned w ∙ old.unaligned;
+    };
+    processes = λ k i d e u. v.commands.processes k i d (left k d e).1 u;
+    once = λ k i d f e h same. v.commands.once k i d f (left k d e).1 (left i f h).1 same;
+    numbers = λ k i d f e h same. v.commands.numbers k i d f (left k d e).1 (left i f h).1 same;
+    below = λ k d e. v.commands.below k d (left k d e).1;
+    room = λ i at. room_stays i (λ same. on_arm i at same) (v.commands.room i at);
+    modules = λ k d e. v.commands.modules k d (left k d e).1;
+  };
+  members = record {
+    outside = v.members.outside;
+    named = λ k d e. v.members.named k d (left k d e).1;
+    starting = v.members.starting;
+    kept = v.members.kept;
+    carrier = v.members.carrier;
+    here = v.members.here;
+    complete = v.members.complete;
+    recipe = v.members.recipe;
+  };
+  work = record {
+    in_process = λ k e. still_open k (v.work.in_process k e);
+    removed = v.work.removed;
+  };
+} where
+  left : (k : ℕ) (d : Command) → (aligned n m g).equipment k ≡ busy d → (k ≡ m → ⊥) × (g.equipment k ≡ busy d)
+  left k d e = left_open g m idle idle_not_busy k d e
+
+  other : (k : ℕ) (d : Command) (i : ℕ) → (aligned n m g).equipment k ≡ busy d → named d.task ≡ i → i ≡ n → ⊥
+  other k d i e its same = let w = left k d e in w.0 (v.commands.once k m d c w.1 is (its ∙ same ∙ sym (ap named t)))
+
+  room_stays : (i : ℕ) → (i ≡ n → ⊥) → HasRoom i g → HasRoom i (aligned n m g)
+  room_stays i w r f = let old = r f in record {
+    at_aligner = λ un. old.at_aligner (sym (set_else n i true g.is_aligned w) ∙ un);
+    in_chamber = λ al. old.in_chamber (sym (set_else n i true g.is_aligned w) ∙ al);
+  }
+
+  on_arm : (i : ℕ) → g.place_of i ≡ Some arm → i ≡ n → ⊥
+  on_arm i at same = let s = v.commands.aligns m n c is t in let two : Some arm ≡ Some aligner = sym at ∙ ap g.place_of same ∙ s.stands in cc
+
+  still_open : (k : ℕ) → (i : ℕ) × (d : Command) × (g.equipment i ≡ busy d) × (d.task ≡ process k) → (i : ℕ) × (d : Command) × ((aligned n m g).equipment i ≡ busy d) × (d.task ≡ process k)
+  still_open k w = (w.0, w.1, set_else m w.0 idle g.equipment (λ same. other_module same) ∙ w.2, w.3)
+    where
+      other_module : w.0 ≡ m → ⊥
+      other_module same =
+          let at : g.equipment m ≡ busy w.1 = subst (λ (x : ℕ). g.equipment x ≡ busy w.1) same w.2 in
+          let two : busy c ≡ busy w.1 = sym is ∙ at in
+          apart two
+        where
+          apart : busy c ≡ busy w.1 → ⊥
+          apart e = let d : c ≡ w.1 = cc in let two : align n ≡ process k = sym t ∙ ap (λ (x : Command). x.task) d ∙ w.3 in cc
+
+-- ---- a Process is closed, by Done, Failed or Down: the substrate is then PROCESSED or ABORTED
+
+pub closed-but : (g : Floor) (m n : ℕ) (c : Command) (behind : Module) → ((d : Command) → behind ≡ busy d → ⊥) → g.equipment m ≡ busy c → c.task ≡ process n → Valid g → ValidBut n (turned m behind g)
+closed-but g m n c behind not_busy is t v = record {
+  places = b.places;
+  carriers = b.carriers;
+  commands = b.commands;
+  members = b.members;
+  unnamed = λ k d e its. let w = left_open g m behind not_busy k d e in w.0 (v.commands.once k m d c w.1 is (its ∙ sym (ap named t)));
+  in_process = b.in_process;
+  removed = b.removed;
+} where
+  only : (k : ℕ) (d : Command) → g.equipment m ≡ busy d → d.task ≡ process k → g.processing k ≡ 1 → k ≡ n
+  only k d e u one = same (sym is ∙ e)
+    where
+      same : busy c ≡ busy d → k ≡ n
+      same e = let x : c ≡ d = cc in let two : process n ≡ process k = sym t ∙ ap (λ (y : Command). y.task) x ∙ u in cc
+
+  b : WorkBut n (turned m behind g)
+  b = turned-but g m behind not_busy n only v
+
+pub but_finished : (g : Floor) (n state : ℕ) → is_finished state ≡ true → ValidBut n g → Valid (worked n state g)
+but_finished g n state finished b = but-worked-keeps g n state may (record {
+  places = b.places;
+  carriers = b.carriers;
+  commands = b.commands;
+  members = b.members;
+  in_process = b.in_process;
+  removed = b.removed;
+}) where
+  may : MayWork n state g
+  may = record {
+    stays = λ e. finished;
+    picked = λ k p q d e u. absurd (b.unnamed k d e (ap named u));
+    processed = λ k d e u. absurd (b.unnamed k d e (ap named u));
+    in_process = λ one. absurd (no_one one);
+  } where
+    no_one : state ≡ 1 → ⊥
+    no_one one = let f : is_finished state ≡ false = ap is_finished one in cc
+
+-- one that isn't IN PROCESS has no such row
+pub but_left_out : (g : Floor) (n : ℕ) → (g.processing n ≡ 1 → ⊥) → ValidBut n g → Valid g
+but_left_out g n other b = record {
+  places = b.places;
+  carriers = b.carriers;
+  commands = b.commands;
+  members = b.members;
+  work = record { in_process = λ k e. b.in_process k (λ same. other (ap g.processing (sym same) ∙ e)) e; removed = b.removed };
+}
+
+-- ---- a substrate is lost
+
+abbrev IsOne : ℕ → Type 0
+IsOne k = k ≡ 1
+
+pub lost-keeps : (g : Floor) (n : ℕ) → is_outside (g.place_of n) ≡ true → IsUnnamed n g → Valid g → Valid (lost n g)
+lost-keeps g n out unnamed v = record {
+  places = record {
+    apart = λ k i x e f. v.places.apart k i x (old k x e).1 (old i x f).1;
+    home = λ k p q e. v.places.home k p q (old k (slot p q) e).1;
+    kept = λ k x e. v.places.kept k x (old k x e).1;
+    slots = v.places.slots;
+    distinct = v.places.distinct;
+    given = v.places.given;
+    chambers = λ k d e. v.places.chambers k d (old k (chamber d) e).1;
+  };
+  carriers = v.carriers;
+  commands = record {
+    picks = λ k i x d e t. let s = v.commands.picks k i x d e t in let w = other k d i e (ap named t) in record {
+      robot = s.robot;
+      stands = at i x w s.stands;
+      free = empty arm s.free;
+      room = room_stays i w s.room;
+      from_slot = λ p q is. ap is_finished (proc i w) ∙ s.from_slot p q is;
+      from_aligner = λ is. subst (λ (b : ℕ). (is_finished b || g.is_aligned i) ≡ true) (sym (proc i w)) (s.from_aligner is);
+      from_chamber = λ y is. ap is_finished (proc i w) ∙ s.from_chamber y is;
+      not_arm = s.not_arm;
+    };
+    places = λ k i x d e t. let s = v.commands.places k i x d e t in let w = other k d i e (ap named t) in record {
+      robot = s.robot;
+      stands = at i arm w s.stands;
+      free = empty x s.free;
+      to_slot = λ p q is. let o = s.to_slot p q is in (o.0, ap is_finished (proc i w) ∙ o.1);
+      to_aligner = s.to_aligner;
+      to_chamber = s.to_chamber;
+      not_arm = s.not_arm;
+    };
+    aligns = λ k i d e t. let s = v.commands.aligns k i d e t in record { its_module = s.its_module; stands = at i aligner (other k d i e (ap named t)) s.stands; unaligned = s.unaligned };
+    processes = λ k i d e t. let s = v.commands.processes k i d e t in let w = other k d i e (ap named t) in (s.0, s.1, at i (chamber s.0) w s.2, ap is_finished (proc i w) ∙ s.3);
+    once = v.commands.once;
+    numbers = v.commands.numbers;
+    below = v.commands.below;
+    room = λ i e. let o = old i arm e in room_stays i o.0 (v.commands.room i o.1);
+    modules = v.commands.modules;
+  };
+  members = record {
+    outside = λ k. set_both n k None g.place_of (λ p. is_outside p ≡ true → g.jobs.is_member k ≡ true) (λ same e. absurd (cc)) (λ w. v.members.outside k);
+    named = v.members.named;
+    starting = v.members.starting;
+    kept = v.members.kept;
+    carrier = v.members.carrier;
+    here = v.members.here;
+    complete = λ k is over. done k (v.members.complete k is over);
+    recipe = v.members.recipe;
+  };
+  work = record {
+    in_process = λ k e. by_one k (set_tells n k 6 g.processing 1 e);
+    removed = λ k known gone. set_both n k 6 g.processing (λ x. is_finished x ≡ true) (λ same. refl) (λ w. v.work.removed k known (sym (set_else n k None g.place_of w) ∙ gone));
+  };
+} where
+  old : (k : ℕ) (x : Loc) → (lost n g).place_of k ≡ Some x → (k ≡ n → ⊥) × (g.place_of k ≡ Some x)
+  old k x e = by (set_tells n k None g.place_of (Some x) e)
+    where
+      by : ((k ≡ n) × (None ≡ Some x)) ⊎ ((k ≡ n → ⊥) × (g.place_of k ≡ Some x)) → (k ≡ n → ⊥) × (g.place_of k ≡ Some x)
+      by (inl t) = absurd (no t.1)
+        where
+          no : None ≡ Some x → ⊥
+          no e = cc
+      by (inr t) = t
+
+  other : (k : ℕ) (d : Command) (i : ℕ) → g.equipment k ≡ busy d → named d.task ≡ i → i ≡ n → ⊥
+  other k d i e its same = unnamed k d e (its ∙ same)
+
+  at : (i : ℕ) (x : Loc) → (i ≡ n → ⊥) → g.place_of i ≡ Some x → (lost n g).place_of i ≡ Some x
+  at i x w e = set_else n i None g.place_of w ∙ e
+
+  proc : (i : ℕ) → (i ≡ n → ⊥) → (lost n g).processing i ≡ g.processing i
+  proc i w = set_else n i 6 g.processing w
+
+  empty : (x : Loc) → Empty x g → Empty x (lost n g)
+  empty x free k e = free k (old k x e).1
+
+  room_stays : (i : ℕ) → (i ≡ n → ⊥) → HasRoom i g → HasRoom i (lost n g)
+  room_stays i w r f = let o = r (sym (ap is_finished (proc i w)) ∙ f) in record {
+    at_aligner = λ un. empty aligner (o.at_aligner un);
+    in_chamber = λ al. let d = o.in_chamber al in (d.0, d.1, d.2, empty (chamber d.0) d.3);
+  }
+
+  done : (k : ℕ) → is_done k g ≡ true → is_done k (lost n g) ≡ true
+  done k e = set_both n k 6 g.processing (λ x. (is_finished x && not (is_outside ((lost n g).place_of k))) ≡ true) here there
+    where
+      here : k ≡ n → not (is_outside ((lost n g).place_of k)) ≡ true
+      here same = ap (λ (p : Option Loc). not (is_outside p)) (ap (λ (i : ℕ). (lost n g).place_of i) same ∙ set_here n None g.place_of)
+
+      there : (k ≡ n → ⊥) → (is_finished (g.processing k) && not (is_outside ((lost n g).place_of k))) ≡ true
+      there w = ap (λ (p : Option Loc). is_finished (g.processing k) && not (is_outside p)) (set_else n k None g.place_of w) ∙ e
+
+  by_one : (k : ℕ) → ((k ≡ n) × IsOne 6) ⊎ ((k ≡ n → ⊥) × (g.processing k ≡ 1)) → (m : ℕ) × (c : Command) × (g.equipment m ≡ busy c) × (c.task ≡ process k)
+  by_one k (inl t) = absurd (six t.1)
+    where
+      six : IsOne 6 → ⊥
+      six e = omega arith
+  by_one k (inr t) = v.work.in_process k t.1

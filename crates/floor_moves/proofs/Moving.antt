@@ -1,0 +1,120 @@
+-- Done of a Pick, a Place and an Align, and a substrate that is lost.
+use Rattle.std.proofs.Common.{◌≡◌, ℕ, true, false, not, ◌&&◌, Some, None, sym, ap, subst, ◌∙◌, ◌⊎◌, inl, inr}
+use Rattle.gem_tables.specs.Table.{is_one_of}
+use Rattle.floor_moves.specs.Floor.{Loc, slot, aligner, arm, chamber, process, named, Command, idle, busy, Floor, own, is_outside, is_finished, is_done}
+use Rattle.floor_moves.specs.Effects.{moved}
+use Rattle.floor_moves.specs.Valid.{Empty, HasRoom, Places, Commands, Members, Work, Valid}
+use Rattle.floor_moves.proofs.Maps.{set_tells, set_else, set_both}
+use Rattle.floor_moves.proofs.Issuing.{left_open}
+
+pub idle_not_busy : (c : Command) → idle ≡ busy c → ⊥
+idle_not_busy c e = cc
+
+-- what the robot's command is closed by
+module _ (g : Floor) (m n : ℕ) (l : Loc) (c : Command) (is : g.equipment m ≡ busy c) (robot : m ≡ 1) (names : named c.task ≡ n) (no_process : (k : ℕ) → c.task ≡ process k → ⊥) (v : Valid g) where
+  -- an open command behind it was open, is another module's, and names another substrate
+  was_open : (k : ℕ) (d : Command) → (moved n l m g).equipment k ≡ busy d → (k ≡ m → ⊥) × (g.equipment k ≡ busy d)
+  was_open k d e = left_open g m idle idle_not_busy k d e
+
+  names_other : (k : ℕ) (d : Command) → (moved n l m g).equipment k ≡ busy d → named d.task ≡ n → ⊥
+  names_other k d e same = let w = was_open k d e in w.0 (v.commands.once k m d c w.1 is (same ∙ sym names))
+
+  stands_still : (k : ℕ) (d : Command) → (moved n l m g).equipment k ≡ busy d → (i : ℕ) → named d.task ≡ i → (x : Loc) → g.place_of i ≡ Some x → (moved n l m g).place_of i ≡ Some x
+  stands_still k d e i its x at = set_else n i (Some l) g.place_of (λ same. names_other k d e (its ∙ same)) ∙ at
+
+  -- where nothing stood, and the substrate does not come, nothing stands
+  pub stays_empty : (x : Loc) → (x ≡ l → ⊥) → Empty x g → Empty x (moved n l m g)
+  stays_empty x other free k at = by (set_tells n k (Some l) g.place_of (Some x) at)
+    where
+      by : ((k ≡ n) × (Some l ≡ Some x)) ⊎ ((k ≡ n → ⊥) × (g.place_of k ≡ Some x)) → ⊥
+      by (inl t) = let e : Some l ≡ Some x = t.1 in other (sym (inner e))
+        where
+          inner : Some l ≡ Some x → l ≡ x
+          inner e = cc
+      by (inr t) = free k t.1
+
+  abbrev pub Tells : ℕ → Loc → Type 0
+  Tells k x = ((k ≡ n) × (l ≡ x)) ⊎ ((k ≡ n → ⊥) × (g.place_of k ≡ Some x))
+
+  pub moved_places : is_one_of g.substrates n ≡ true → Empty l g → ((p k : ℕ) → l ≡ slot p k → slot p k ≡ own n g) → ((d : ℕ) → l ≡ chamber d → is_one_of g.chambers d ≡ true) → Places (moved n l m g)
+  moved_places known free its_own in_plant = record {
+    apart = λ k i x e f. differ k i x (tells k x e) (tells i x f);
+    home = λ k p q e. at_home k p q (tells k (slot p q) e);
+    kept = λ k x e. registered k x (tells k x e);
+    slots = v.places.slots;
+    distinct = v.places.distinct;
+    given = v.places.given;
+    chambers = λ k d e. of_plant k d (tells k (chamber d) e);
+  } where
+    tells : (k : ℕ) (x : Loc) → (moved n l m g).place_of k ≡ Some x → Tells k x
+    tells k x e = by (set_tells n k (Some l) g.place_of (Some x) e)
+      where
+        by : ((k ≡ n) × (Some l ≡ Some x)) ⊎ ((k ≡ n → ⊥) × (g.place_of k ≡ Some x)) → Tells k x
+        by (inl t) = let e : Some l ≡ Some x = t.1 in inl (t.0, cc)
+        by (inr t) = inr t
+
+    differ : (k i : ℕ) (x : Loc) → Tells k x → Tells i x → k ≡ i
+    differ k i x (inl t) (inl u) = t.0 ∙ sym u.0
+    differ k i x (inl t) (inr u) = absurd (free i (u.1 ∙ ap (λ (y : Loc). Some y) (sym t.1)))
+    differ k i x (inr t) (inl u) = absurd (free k (t.1 ∙ ap (λ (y : Loc). Some y) (sym u.1)))
+    differ k i x (inr t) (inr u) = v.places.apart k i x t.1 u.1
+
+    at_home : (k p q : ℕ) → Tells k (slot p q) → slot p q ≡ own k g
+    at_home k p q (inl t) = its_own p q t.1 ∙ ap (λ (i : ℕ). own i g) (sym t.0)
+    at_home k p q (inr t) = v.places.home k p q t.1
+
+    registered : (k : ℕ) (x : Loc) → Tells k x → is_one_of g.substrates k ≡ true
+    registered k x (inl t) = subst (λ (i : ℕ). is_one_of g.substrates i ≡ true) (sym t.0) known
+    registered k x (inr t) = v.places.kept k x t.1
+
+    of_plant : (k d : ℕ) → Tells k (chamber d) → is_one_of g.chambers d ≡ true
+    of_plant k d (inl t) = in_plant d t.1
+    of_plant k d (inr t) = v.places.chambers k d t.1
+
+  -- the other commands stand
+  pub moved_commands : ((i : ℕ) → (moved n l m g).place_of i ≡ Some arm → HasRoom i (moved n l m g)) → Commands (moved n l m g)
+  moved_commands room = record {
+    picks = λ k i x d e t. let w = was_open k d e in absurd (w.0 ((v.commands.picks k i x d w.1 t).robot ∙ sym robot));
+    places = λ k i x d e t. let w = was_open k d e in absurd (w.0 ((v.commands.places k i x d w.1 t).robot ∙ sym robot));
+    aligns = λ k i d e t. let s = v.commands.aligns k i d (was_open k d e).1 t in record { its_module = s.its_module; stands = stands_still k d e i (ap named t) aligner s.stands; unaligned = s.unaligned };
+    processes = λ k i d e t. let s = v.commands.processes k i d (was_open k d e).1 t in (s.0, s.1, stands_still k d e i (ap named t) (chamber s.0) s.2, s.3);
+    once = λ k i d f e h same. v.commands.once k i d f (was_open k d e).1 (was_open i f h).1 same;
+    numbers = λ k i d f e h same. v.commands.numbers k i d f (was_open k d e).1 (was_open i f h).1 same;
+    below = λ k d e. v.commands.below k d (was_open k d e).1;
+    room = room;
+    modules = λ k d e. v.commands.modules k d (was_open k d e).1;
+  }
+
+  pub moved_members : is_done n g ≡ false → Members (moved n l m g)
+  moved_members not_done = record {
+    outside = λ k out. set_both n k (Some l) g.place_of (λ p. is_outside p ≡ true → g.jobs.is_member k ≡ true) (λ same _. its_member k same) (λ other old. v.members.outside k old) out;
+    named = λ k d e. v.members.named k d (was_open k d e).1;
+    starting = v.members.starting;
+    kept = v.members.kept;
+    carrier = v.members.carrier;
+    here = v.members.here;
+    complete = λ k is over. set_both n k (Some l) g.place_of (λ p. (is_finished (g.processing k) && not (is_outside p)) ≡ true) (λ same. absurd (never k is over same)) (λ other. v.members.complete k is over);
+    recipe = v.members.recipe;
+  } where
+    never : (k : ℕ) → g.jobs.is_member k ≡ true → g.jobs.is_complete k ≡ true → k ≡ n → ⊥
+    never k is over same = let d = v.members.complete k is over in let e : is_done n g ≡ true = subst (λ (i : ℕ). is_done i g ≡ true) same d in cc
+
+    its_member : (k : ℕ) → k ≡ n → g.jobs.is_member k ≡ true
+    its_member k same = ap (λ (i : ℕ). g.jobs.is_member i) (same ∙ sym names) ∙ v.members.named m c is
+
+  pub moved_work : Work (moved n l m g)
+  moved_work = record {
+    in_process = λ k e. still_open k (v.work.in_process k e);
+    removed = λ k known gone. set_both n k (Some l) g.place_of (λ p. p ≡ None → is_finished (g.processing k) ≡ true) (λ same e. absurd (cc)) (λ other e. v.work.removed k known e) gone;
+  } where
+    still_open : (k : ℕ) → (i : ℕ) × (d : Command) × (g.equipment i ≡ busy d) × (d.task ≡ process k) → (i : ℕ) × (d : Command) × ((moved n l m g).equipment i ≡ busy d) × (d.task ≡ process k)
+    still_open k w = (w.0, w.1, set_else m w.0 idle g.equipment (λ same. other same) ∙ w.2, w.3)
+      where
+        other : w.0 ≡ m → ⊥
+        other same =
+            let at : g.equipment m ≡ busy w.1 = subst (λ (x : ℕ). g.equipment x ≡ busy w.1) same w.2 in
+            let two : busy c ≡ busy w.1 = sym is ∙ at in
+            no_process k (task_same two ∙ w.3)
+          where
+            task_same : busy c ≡ busy w.1 → c.task ≡ w.1.task
+            task_same e = let d : c ≡ w.1 = cc in ap (λ (x : Command). x.task) d

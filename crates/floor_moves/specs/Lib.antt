@@ -1,0 +1,12 @@
+pub mod Floor
+pub mod Ready
+pub mod Effects
+pub mod Direct
+pub mod Carriers
+pub mod Valid
+pub mod OnePlace
+pub mod Work
+pub mod Left
+pub mod Run
+pub mod Once
+pub mod Worked

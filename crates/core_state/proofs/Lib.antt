@@ -4,3 +4,4 @@ pub mod Telling
 pub mod LineRows
 pub mod PortValues
 pub mod Floors
+pub mod Sendings

@@ -17,8 +17,8 @@ use crate::plant::Plant;
 use arrayvec::ArrayVec;
 use gem_states::Control;
 use gem_tables::Firing;
-use shop_floor::MOST_CREATED;
 use std::alloc::{AllocError, Global};
+use tool_floor::MOST_CREATED;
 
 impl Plant {
     // ---- whether a row starts
@@ -85,28 +85,24 @@ impl Plant {
         }
     }
 
-    /// A row fires that an input lists or that is created, and that starts, and makes its note.
-    fn fire(&mut self, alloc: Global, f: Firing) -> Result<(), AllocError>
+    /// A row fires that an input lists or that is created, and that starts, and makes its note; with the rows of what it creates.
+    fn fire(
+        &mut self,
+        alloc: Global,
+        f: Firing,
+    ) -> Result<ArrayVec<Firing, MOST_CREATED>, AllocError>
         requires listed { IsListed f }
         requires starts { row_starts self.old f ≡ true }
-        ensures { OnOk result (self.new ≡ fire self.old f) }
+        ensures fired { OnOk result (self.new ≡ fire self.old f) }
+        ensures created { IfOk result (λ rows. rows.items ≡ creations self.old f) }
     {
         match f.row.table {
-            1 => self.comm_row(alloc, f.row.row),
-            2 => self.control_row(alloc, f.row.row),
-            3 => {
-                self.line_direct(f.row.row);
-                Ok(())
-            }
-            _ => self.floor_row(alloc, f),
+            1 => self.comm_row(alloc, f.row.row)?,
+            2 => self.control_row(alloc, f.row.row)?,
+            3 => self.line_direct(f.row.row),
+            _ => return self.floor_row(alloc, f),
         }
-    }
-
-    /// The rows of the objects that a row creates.
-    fn creations(&self, f: Firing) -> ArrayVec<Firing, MOST_CREATED>
-        ensures { result.items ≡ creations self.now f }
-    {
-        self.floor.creations(f)
+        Ok(ArrayVec::new())
     }
 
     /// The rows of created objects fire, one after another.
@@ -126,8 +122,7 @@ impl Plant {
         requires starts { row_starts self.old f ≡ true }
         ensures { OnOk result (self.new ≡ advanced self.old f) }
     {
-        let created = self.creations(f);
-        self.fire(alloc, f)?;
+        let created = self.fire(alloc, f)?;
         self.fire_created(alloc, created.as_slice())
     }
 

@@ -5,7 +5,7 @@ ghost use Rattle.load_port.specs.Caack.{is_done_code};
 ghost use Rattle.shop_floor.specs.Floor.{numbers_from};
 ghost use Rattle.shop_floor.specs.Requests.{carrier_code, carrier_written, carrier_rows, port_code, port_rows, at_ports, mode_row, or_all};
 ghost use Rattle.tool_floor.specs.Floor.{with_shop};
-ghost use Rattle.tool_floor.specs.Machines.{floor_starts, object_name};
+ghost use Rattle.tool_floor.specs.Machines.{floor_starts, creation_rows, object_name};
 ghost use Rattle.gem_model.specs.Ready.{ready_floor};
 ghost use Rattle.gem_model.specs.Fire.{fire};
 ghost use Rattle.gem_model.specs.Machines.{fire_floor};
@@ -19,6 +19,7 @@ use gem_ids::{CarrierId, PortNo, Text80};
 use gem_tables::Firing;
 use load_port::{Caack, PortAction};
 use std::alloc::{AllocError, Global};
+use tool_floor::MOST_CREATED;
 
 // The numbers of the tables, as the definitions have them.
 const ACCESS: u8 = 5;
@@ -47,13 +48,13 @@ impl Plant {
         self.floor.shop().is_ready_to_unload(port)
     }
 
-    /// What a row of a load port, a carrier or a module does, which starts, but for its note.
-    fn fire_floor(&mut self, f: Firing) -> Result<(), AllocError>
+    /// What a row of the floor of the tool does, which starts, but for its note; with the rows of what it creates.
+    fn fire_floor(&mut self, f: Firing) -> Result<ArrayVec<Firing, MOST_CREATED>, AllocError>
         requires { floor_starts f self.old.floor ≡ true }
-        ensures { OnOk result (self.new ≡ fire_floor f self.old) }
+        ensures fired { OnOk result (self.new ≡ fire_floor f self.old) }
+        ensures created { IfOk result (λ rows. rows.items ≡ creation_rows f self.old.floor) }
     {
-        self.floor.fire(f)?;
-        Ok(())
+        self.floor.fire(f)
     }
 
     /// The name of the object of a row of a port, a carrier or a module.
@@ -70,22 +71,27 @@ impl Plant {
         self.floor.least()
     }
 
-    /// A row of a load port, a carrier or a module fires, which starts, and makes its note.
+    /// A row of the floor of the tool fires, which starts, and makes its note; with the rows of what it creates.
     #[tactic(auto, using(crate::proofs::Floors::row_fires))]
-    pub(crate) fn floor_row(&mut self, alloc: Global, f: Firing) -> Result<(), AllocError>
+    pub(crate) fn floor_row(
+        &mut self,
+        alloc: Global,
+        f: Firing,
+    ) -> Result<ArrayVec<Firing, MOST_CREATED>, AllocError>
         requires { floor_starts f self.old.floor ≡ true }
-        ensures { OnOk result (self.new ≡ fire self.old f) }
+        ensures fired { OnOk result (self.new ≡ fire self.old f) }
+        ensures created { IfOk result (λ rows. rows.items ≡ creation_rows f self.old.floor) }
     {
         let online_before = self.is_online();
         let object = self.floor_object(f);
-        self.fire_floor(f)?;
+        let created = self.fire_floor(f)?;
         let noted = RowFiring {
             row: f.row,
             object,
             online_before,
         };
         self.note(alloc, noted)?;
-        Ok(())
+        Ok(created)
     }
 
     /// What came to a port that the tool has is written there: its name by what was read, and its map.

@@ -32,24 +32,24 @@ module _ {S : Type 0} (number : S → ℕ) (rows : List (CarrierRow S)) (state :
 -- a row that is ready by itself starts, table by table
 pub all_start : (f : Floor) → AllByRecursion (λ (m : Machine Floor). (object row : ℕ) → m.ready object f ≡ Some row → floor_starts (firing m.table object row) f ≡ true) floor_machines
 all_start f = (
-      (λ o r s. at_port transfer_number transfer_table (λ s. s.transfer) (λ to s. record s { transfer = to }) f o r (port_numbered o f.ports) (refl, (refl, (refl, (refl, (refl, tt))))) s),
+  (λ o r s. at_port transfer_number transfer_table (λ s. s.transfer) (λ to s. record s { transfer = to }) f o r (port_numbered o f.ports) (refl, (refl, (refl, (refl, (refl, tt))))) s),
+  (
+    (λ o r s. at_port mode_number access_table (λ s. s.access) (λ to s. record s { access = to }) f o r (port_numbered o f.ports) (refl, (refl, tt)) s),
+    (
+      (λ o r s. at_port reservation_number reservation_table (λ s. s.reservation) (λ to s. record s { reservation = to }) f o r (port_numbered o f.ports) (refl, (refl, (refl, tt))) s),
       (
-        (λ o r s. at_port mode_number access_table (λ s. s.access) (λ to s. record s { access = to }) f o r (port_numbered o f.ports) (refl, (refl, tt)) s),
+        (λ o r s. at_port association_number association_table (λ s. s.association) (λ to s. record s { association = to }) f o r (port_numbered o f.ports) (refl, (refl, (refl, (refl, (refl, (refl, (refl, tt))))))) s),
         (
-          (λ o r s. at_port reservation_number reservation_table (λ s. s.reservation) (λ to s. record s { reservation = to }) f o r (port_numbered o f.ports) (refl, (refl, (refl, tt))) s),
+          (λ o r s. at_carrier id_number id_table (λ s. s.id) (λ to s. record s { id = to }) r (carrier_numbered o f.carriers) (refl, (refl, (refl, (refl, (refl, tt))))) s),
           (
-            (λ o r s. at_port association_number association_table (λ s. s.association) (λ to s. record s { association = to }) f o r (port_numbered o f.ports) (refl, (refl, (refl, (refl, (refl, (refl, (refl, tt))))))) s),
-            (
-              (λ o r s. at_carrier id_number id_table (λ s. s.id) (λ to s. record s { id = to }) r (carrier_numbered o f.carriers) (refl, (refl, (refl, (refl, (refl, tt))))) s),
-              (
-                (λ o r s. at_carrier map_number map_table (λ s. s.map) (λ to s. record s { map = to }) r (carrier_numbered o f.carriers) (refl, (refl, (refl, (refl, tt)))) s),
-                ((λ o r s. at_carrier access_number accessing_table (λ s. s.access) (λ to s. record s { access = to }) r (carrier_numbered o f.carriers) (refl, (refl, (refl, (refl, tt)))) s), tt),
-              ),
-            ),
+            (λ o r s. at_carrier map_number map_table (λ s. s.map) (λ to s. record s { map = to }) r (carrier_numbered o f.carriers) (refl, (refl, (refl, (refl, tt)))) s),
+            ((λ o r s. at_carrier access_number accessing_table (λ s. s.access) (λ to s. record s { access = to }) r (carrier_numbered o f.carriers) (refl, (refl, (refl, (refl, tt)))) s), tt),
           ),
         ),
       ),
-    )
+    ),
+  ),
+)
 
 -- so the least does
 pub least_starts : (f : Floor) (x : Firing) → floor_least f ≡ Some x → floor_starts x f ≡ true

@@ -81,10 +81,7 @@ impl Board {
         let spot = number - 1;
         let slots = self.ports as usize * 25;
         if spot < slots {
-            LocId::Slot(
-                PortNo((1 + spot / 25) as u8),
-                SlotNo((1 + spot % 25) as u8),
-            )
+            LocId::Slot(PortNo((1 + spot / 25) as u8), SlotNo((1 + spot % 25) as u8))
         } else if spot == slots {
             LocId::Aligner
         } else if spot == slots + 1 {

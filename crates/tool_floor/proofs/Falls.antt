@@ -122,8 +122,7 @@ falls_10 f row carrier c at state =
 falls_at_carrier : (f : ToolFloor) (carrier row : ℕ) (o : Option Carrier) → carrier_numbered carrier f.shop.carriers ≡ o → accessing_ready o f ≡ Some row → Falls f (firing 10 carrier row)
 falls_at_carrier f carrier row None at e = absurd (cc)
 falls_at_carrier f carrier row (Some c) at e =
-    ready_row (λ (r : ℕ). Falls f (firing 10 carrier r)) access_number (λ want. accessing_wants want c f) accessing_table row c.states.access
-    (
+    ready_row (λ (r : ℕ). Falls f (firing 10 carrier r)) access_number (λ want. accessing_wants want c f) accessing_table row c.states.access (
       (λ _ among _. falls_10 f 1 carrier c at (accesses c.states.access among)),
       ((λ _ among _. falls_10 f 2 carrier c at (completes c.states.access among)), ((λ _ among _. falls_10 f 3 carrier c at (stops c.states.access among)), ((λ i _ _. never i), tt))),
     ) e
@@ -163,8 +162,7 @@ falls_11 f row place l at state =
 falls_at_place : (f : ToolFloor) (row place : ℕ) (o : Option LocationRecord) → slice_get f.locations place ≡ o → location_ready (suc place) o f ≡ Some row → Falls f (firing 11 (suc place) row)
 falls_at_place f row place None at e = absurd (cc)
 falls_at_place f row place (Some l) at e =
-    ready_row (λ (r : ℕ). Falls f (firing 11 (suc place) r)) occupancy_number (λ want. location_wants want (suc place) f.places) occupancy_table row l.occupancy
-    (
+    ready_row (λ (r : ℕ). Falls f (firing 11 (suc place) r)) occupancy_number (λ want. location_wants want (suc place) f.places) occupancy_table row l.occupancy (
       (λ _ among is. falls_11 f 1 place l at (occupies l.occupancy (is_taken_at (suc place) f.places) among is)),
       ((λ _ among is. falls_11 f 2 place l at (empties l.occupancy (is_taken_at (suc place) f.places) among is)), tt),
     ) e
@@ -222,8 +220,7 @@ falls_13 f row n s at state =
 transport_at : (f : ToolFloor) (n row : ℕ) (o : Option Substrate) → substrate_numbered n f.substrates ≡ o → substrate_ready transport_number transport_table (λ s. s.transport) o f ≡ Some row → Falls f (firing 12 n row)
 transport_at f n row None at e = absurd (cc)
 transport_at f n row (Some s) at e =
-    ready_row (λ (r : ℕ). Falls f (firing 12 n r)) transport_number (λ want. substrate_wants want s f) transport_table row s.states.transport
-    (
+    ready_row (λ (r : ℕ). Falls f (firing 12 n r)) transport_number (λ want. substrate_wants want s f) transport_table row s.states.transport (
       (λ i _ _. never i),
       ((λ _ among _. falls_12 f 2 n s at (works s.states.transport among)), ((λ _ among _. falls_12 f 3 n s at (arrives s.states.transport among)), tt)),
     ) e
@@ -231,8 +228,7 @@ transport_at f n row (Some s) at e =
 processing_at : (f : ToolFloor) (n row : ℕ) (o : Option Substrate) → substrate_numbered n f.substrates ≡ o → substrate_ready processing_number processing_table (λ s. s.processing) o f ≡ Some row → Falls f (firing 13 n row)
 processing_at f n row None at e = absurd (cc)
 processing_at f n row (Some s) at e =
-    ready_row (λ (r : ℕ). Falls f (firing 13 n r)) processing_number (λ want. substrate_wants want s f) processing_table row s.states.processing
-    (
+    ready_row (λ (r : ℕ). Falls f (firing 13 n r)) processing_number (λ want. substrate_wants want s f) processing_table row s.states.processing (
       (λ i _ _. never i),
       (
         (λ _ among _. falls_13 f 2 n s at (processed 2 (omega arith) s.states.processing among)),
@@ -260,8 +256,7 @@ no_row o row none some = absurd (let clash : None ≡ Some row = sym none ∙ so
 -- what is left falls where a row is ready by itself, table by table
 pub all_fall : (f : ToolFloor) → AllByRecursion (λ (m : Machine ToolFloor). (object row : ℕ) → m.ready object f ≡ Some row → Falls f (firing m.table object row)) floor_machines
 all_fall f =
-    let shop = shop_all_fall f.shop in
-    (
+    let shop = shop_all_fall f.shop in (
       (λ o r e. let h = shop.0 o r e in shop_falls f (transfer_machine.fired r o f.shop) (length (transfer_machine.creates r o f.shop)) (omega (arith, h))),
       (
         (λ o r e. let h = shop.1.0 o r e in shop_falls f (access_machine.fired r o f.shop) (length (access_machine.creates r o f.shop)) (omega (arith, h))),

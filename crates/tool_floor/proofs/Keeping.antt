@@ -96,8 +96,7 @@ module _ {S : Type 0} (number : S → ℕ) (rows : List (SubstrateRow S)) (state
 
 all_start : (f : ToolFloor) → AllByRecursion (λ (m : Machine ToolFloor). (object row : ℕ) → m.ready object f ≡ Some row → floor_starts (firing m.table object row) f ≡ true) floor_machines
 all_start f =
-    let shop = shop_all_start f.shop in
-    (
+    let shop = shop_all_start f.shop in (
       (λ o r e. shop.0 o r e),
       (
         (λ o r e. shop.1.0 o r e),
@@ -174,6 +173,10 @@ pub creation_last : (f : ToolFloor) (d : Firing) → is_creation d ≡ true → 
 creation_last f d is = creation_cases (λ (x : Firing). creation_rows x f ≡ []) d is refl refl refl
 
 -- ---- what follows a firing
+
+-- the rows are rows of created objects
+abbrev pub AreCreations : List Firing → Type 0
+AreCreations ds = AllByRecursion (λ (d : Firing). is_creation d ≡ true) ds
 
 -- the rows that follow a row, and the floor behind it: they are rows of created objects, and start there
 record Follows (rows : List Firing) (g : ToolFloor) : Type 0 where
@@ -265,7 +268,7 @@ follows x f =
       ),
     )
 
-pub creations : (f : ToolFloor) (x : Firing) → AllByRecursion (λ (d : Firing). is_creation d ≡ true) (creation_rows x f)
+pub creations : (f : ToolFloor) (x : Firing) → AreCreations (creation_rows x f)
 creations f x = (follows x f).are
 
 -- they start behind it

@@ -45,12 +45,16 @@ other_effects = 7 ∷ 9 ∷ others
 module _ (x : Firing) (f : ToolFloor) (other : is_one_of others x.row.table ≡ false) where
   not_10 : ((x.row.table == 10) ≡ false) × (is_one_of (11 ∷ 12 ∷ 13 ∷ 16 ∷ []) x.row.table ≡ false)
   not_10 = none_of 10 (11 ∷ 12 ∷ 13 ∷ 16 ∷ []) x.row.table other
+
   not_11 : ((x.row.table == 11) ≡ false) × (is_one_of (12 ∷ 13 ∷ 16 ∷ []) x.row.table ≡ false)
   not_11 = none_of 11 (12 ∷ 13 ∷ 16 ∷ []) x.row.table not_10.1
+
   not_12 : ((x.row.table == 12) ≡ false) × (is_one_of (13 ∷ 16 ∷ []) x.row.table ≡ false)
   not_12 = none_of 12 (13 ∷ 16 ∷ []) x.row.table not_11.1
+
   not_13 : ((x.row.table == 13) ≡ false) × (is_one_of (16 ∷ []) x.row.table ≡ false)
   not_13 = none_of 13 (16 ∷ []) x.row.table not_12.1
+
   not_16 : ((x.row.table == 16) ≡ false) × (is_one_of ([]) x.row.table ≡ false)
   not_16 = none_of 16 [] x.row.table not_13.1
 
@@ -61,6 +65,7 @@ module _ (x : Firing) (f : ToolFloor) (other : is_one_of others x.row.table ≡ 
 module _ (x : Firing) (f : ToolFloor) (other : is_one_of other_effects x.row.table ≡ false) where
   not_7 : ((x.row.table == 7) ≡ false) × (is_one_of (9 ∷ others) x.row.table ≡ false)
   not_7 = none_of 7 (9 ∷ others) x.row.table other
+
   not_9 : ((x.row.table == 9) ≡ false) × (is_one_of others x.row.table ≡ false)
   not_9 = none_of 9 others x.row.table not_7.1
 
@@ -69,12 +74,16 @@ module _ (x : Firing) (f : ToolFloor) (other : is_one_of other_effects x.row.tab
 
   none_10 : ((x.row.table == 10) ≡ false) × (is_one_of (11 ∷ 12 ∷ 13 ∷ 16 ∷ []) x.row.table ≡ false)
   none_10 = none_of 10 (11 ∷ 12 ∷ 13 ∷ 16 ∷ []) x.row.table not_9.1
+
   none_11 : ((x.row.table == 11) ≡ false) × (is_one_of (12 ∷ 13 ∷ 16 ∷ []) x.row.table ≡ false)
   none_11 = none_of 11 (12 ∷ 13 ∷ 16 ∷ []) x.row.table none_10.1
+
   none_12 : ((x.row.table == 12) ≡ false) × (is_one_of (13 ∷ 16 ∷ []) x.row.table ≡ false)
   none_12 = none_of 12 (13 ∷ 16 ∷ []) x.row.table none_11.1
+
   none_13 : ((x.row.table == 13) ≡ false) × (is_one_of (16 ∷ []) x.row.table ≡ false)
   none_13 = none_of 13 (16 ∷ []) x.row.table none_12.1
+
   none_16 : ((x.row.table == 16) ≡ false) × (is_one_of ([]) x.row.table ≡ false)
   none_16 = none_of 16 [] x.row.table none_13.1
 

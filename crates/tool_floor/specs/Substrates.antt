@@ -116,10 +116,10 @@ first_substrate number sub carrier loc =
 abbrev pub registers_at : List ℕ → ℕ → LocId → ToolFloor → ToolFloor
 registers_at sub carrier loc f =
     if can_register sub loc f.places then
-      record f {
-        places = registered sub loc f.places;
-        substrates = f.substrates ++ first_substrate (f.places.given + 1) sub carrier loc ∷ [];
-      }
+    record f {
+      places = registered sub loc f.places;
+      substrates = f.substrates ++ first_substrate (f.places.given + 1) sub carrier loc ∷ [];
+    }
     else f
 
 -- a slot of a carrier at a port is correctly occupied, code 3: its substrate is registered

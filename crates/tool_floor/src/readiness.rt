@@ -157,20 +157,8 @@ impl ToolFloor {
         ensures { result ≡ first_itself transport_number (λ want. substrate_wants want s.now self.now) transport_table s.now.states.transport }
     {
         match s.states.transport {
-            Transport::AtSource => {
-                if self.is_outside(s) {
-                    Some(2)
-                } else {
-                    None
-                }
-            }
-            Transport::AtWork => {
-                if self.is_in_slot(s) {
-                    Some(3)
-                } else {
-                    None
-                }
-            }
+            Transport::AtSource => { if self.is_outside(s) { Some(2) } else { None } }
+            Transport::AtWork => { if self.is_in_slot(s) { Some(3) } else { None } }
             Transport::AtDestination => None,
         }
     }

@@ -25,12 +25,7 @@ impl ToolFloor {
     // ---- registration
 
     // A substrate of the carrier of a number is registered at a place, where it can be.
-    fn register_at(
-        &mut self,
-        sub: SubstrateId,
-        carrier: u64,
-        loc: LocId,
-    ) -> Result<(), AllocError>
+    fn register_at(&mut self, sub: SubstrateId, carrier: u64, loc: LocId) -> Result<(), AllocError>
         ensures { IfOk result (λ _. self.new ≡ registers_at sub carrier loc self.old) }
     {
         if !self.places.has(loc) {

@@ -22,9 +22,9 @@ loop-f-preserved c =
     let more = next_of c.args.created.now c.loop-f.f-index none c.loop-f-test.true in
     let here = subst (AreCreated c.loop-f.self.floor) more c.loop-f.invariant.created in
     let d = get_or c.args.created.now c.loop-f.f-index none in
-    let floor = ap (λ (g : State). g.floor) c.in_ok-floor_row.ensures ∙ row_floor c.loop-f.self d here.0.0 ∙ here.0.1 in
+    let floor = ap (λ (g : State). g.floor) c.in_ok-floor_row.ensures.fired ∙ row_floor c.loop-f.self d here.0.0 ∙ here.0.1 in
     record {
-      leads = ap (fire_all (drop (c.loop-f.f-index + 1) c.args.created.now)) c.in_ok-floor_row.ensures
+      leads = ap (fire_all (drop (c.loop-f.f-index + 1) c.args.created.now)) c.in_ok-floor_row.ensures.fired
           ∙ sym (ap (λ (ds : List Firing). fire_all ds c.loop-f.self) more) ∙ c.loop-f.invariant.leads;
       created = subst (λ (f : ToolFloor). AreCreated f (drop (c.loop-f.f-index + 1) c.args.created.now)) (sym floor) here.1;
     }

@@ -11,6 +11,6 @@ invariant_of-self c =
     let given = ap (λ (p : PlaceMap). p.given) c.in-Ok.ensures.registered in
     either_answer c.push.result c.push.ensures.ok c.push.ensures.err
     (λ more. subst (λ (ss : List Substrate). RiseTo 0 c.register.new.self.given ss) (sym more)
-        (subst (λ n. RiseTo 0 n (c.self.inside.substrates ++ new ∷ [])) (sym given) (rise_more 0 c.self.inside.places.given c.self.inside.substrates new c.self.invariant c.in-Ok.ensures.number)))
+    (subst (λ n. RiseTo 0 n (c.self.inside.substrates ++ new ∷ [])) (sym given) (rise_more 0 c.self.inside.places.given c.self.inside.substrates new c.self.invariant c.in-Ok.ensures.number)))
     (λ same. subst (λ (ss : List Substrate). RiseTo 0 c.register.new.self.given ss) (sym same)
-        (subst (λ n. RiseTo 0 n c.self.inside.substrates) (sym given) (rise_given 0 c.self.inside.places.given (c.self.inside.places.given + 1) c.self.inside.substrates (omega arith) c.self.invariant)))
+    (subst (λ n. RiseTo 0 n c.self.inside.substrates) (sym given) (rise_given 0 c.self.inside.places.given (c.self.inside.places.given + 1) c.self.inside.substrates (omega arith) c.self.invariant)))

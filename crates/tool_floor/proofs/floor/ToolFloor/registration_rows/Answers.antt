@@ -15,20 +15,18 @@ loop-place-preserved c = elim c.match-substrate_at.branch [
       let count = ap (λ (r : ArrayVec Firing). length r.items) w.rows-is in
       let second_count = w.push-in-Some.ensures.len in
       let first_count = w.push.ensures.len in
-      let most = c.loop-place.invariant.1 in
-      (
+      let most = c.loop-place.invariant.1 in (
         ap (λ (xs : List Firing). xs ++ registration_rows (drop (c.loop-place.place + 1) c.args.self.now.substrates)) (rows ∙ ap (λ (xs : List Firing). xs ++ firing 13 w.in-Some.substrate.number 1 ∷ []) first)
-        ∙ rows_next c.loop-place.rows.items c.args.self.now.substrates c.loop-place.place w.in-Some.substrate (sym c.substrate_at.ensures ∙ w.in-Some.is)
-        ∙ c.loop-place.invariant.0,
+            ∙ rows_next c.loop-place.rows.items c.args.self.now.substrates c.loop-place.place w.in-Some.substrate (sym c.substrate_at.ensures ∙ w.in-Some.is)
+            ∙ c.loop-place.invariant.0,
         omega (arith, count, second_count, first_count, most),
       )
   | in_default w ↦
       let count = ap (λ (r : ArrayVec Firing). length r.items) w.rows-is in
-      let most = c.loop-place.invariant.1 in
-      (
+      let most = c.loop-place.invariant.1 in (
         ap (λ (r : ArrayVec Firing). r.items ++ registration_rows (drop (c.loop-place.place + 1) c.args.self.now.substrates)) w.rows-is
-        ∙ rows_past c.loop-place.rows.items c.args.self.now.substrates c.loop-place.place (sym c.substrate_at.ensures ∙ w.in_default.is)
-        ∙ c.loop-place.invariant.0,
+            ∙ rows_past c.loop-place.rows.items c.args.self.now.substrates c.loop-place.place (sym c.substrate_at.ensures ∙ w.in_default.is)
+            ∙ c.loop-place.invariant.0,
         omega (arith, count, most),
       )
 ]

@@ -1,16 +1,16 @@
 -- The numbers of the locations.
-use Rattle.std.proofs.Common.{◌≡◌, ℕ, zero, suc, ◌+◌, ◌-◌, ◌*◌, ◌/◌, ◌%◌, ◌==◌, ◌<◌, ◌≤◌, nat_le, nat_lt, Bool, true, false, ◌&&◌, List, [], ◌∷◌, Option, Some, None, is_some, slice_get, refl, sym, ap, subst, ◌∙◌, arith}
+use Rattle.std.proofs.Common.{◌≡◌, ℕ, zero, suc, ◌+◌, ◌-◌, ◌*◌, ◌/◌, ◌%◌, ◌==◌, ◌<◌, ◌≤◌, nat_le, nat_lt, Bool, true, false, ◌&&◌, ◌||◌, List, [], ◌∷◌, Option, Some, None, is_some, slice_get, refl, sym, ap, subst, ◌∙◌, arith}
 use Rattle.std.specs.Prelude.{if◌then◌else◌}
 use Rattle.std.specs.List.{list_any, list_all}
 use Rattle.std.proofs.lemmas.Bool.Decides.{nat_tests}
 use Rattle.gem_ids.specs.declared.numbers.LocId.{LocId}
 use Rattle.gem_ids.specs.declared.numbers.LocId.TheVariants.{Slot, Aligner, Arm, Chamber}
-use Rattle.substrate.specs.Locations.{is_same, is_location}
+use Rattle.substrate.specs.Locations.{is_same, is_location, is_work_place}
 use Rattle.substrate.specs.Board.{Spots, spot_of, spot_count, location_numbered, name_at}
 use Rattle.substrate.specs.Places.{PlaceMap, has_number, is_taken_at, is_taken, stands_at, substrate_at, location_number}
 use Rattle.substrate.specs.declared.registered.Registered.{Registered}
-use Rattle.substrate.proofs.Sites.{same_is, same_spot, spot_within, own_place}
-use Rattle.substrate.proofs.Truth.{and_true}
+use Rattle.substrate.proofs.Sites.{same_is, same_spot, spot_within, slot_within}
+use Rattle.substrate.proofs.Truth.{and_true, or_false}
 
 -- what is known of the place of a number
 pub record Stands (ports chambers number : ℕ) (loc : LocId) : Type 0 where
@@ -115,3 +115,62 @@ shown_there b rs number name first last all shown is =
     let same : Some name ≡ Some (substrate_at loc rs) = sym is ∙ ap (slice_get b.names) spot ∙ shown loc stands.inside in
     let named : name ≡ substrate_at loc rs = cc in
     ap is_some named ∙ taken_shown loc rs ∙ sym (any_there b.ports b.chambers number loc rs stands all)
+
+-- ---- at work
+
+second : (a b : Bool) → b ≡ true → (a || b) ≡ true
+second true b e = refl
+second false b e = e
+
+work_spot : (ports : ℕ) (loc : LocId) → is_work_place loc ≡ true → ports * 25 ≤ spot_of ports loc
+work_spot ports (Slot p k) e = absurd (cc)
+work_spot ports Aligner e = omega arith
+work_spot ports Arm e = omega arith
+work_spot ports (Chamber c) e = omega arith
+
+spot_work : (ports chambers : ℕ) (loc : LocId) → is_location ports chambers loc ≡ true → ports * 25 ≤ spot_of ports loc → is_work_place loc ≡ true
+spot_work ports chambers (Slot p k) inside past = let slot = slot_within ports p.0 k.0 inside in absurd (omega (arith, slot, past))
+spot_work ports chambers Aligner inside past = refl
+spot_work ports chambers Arm inside past = refl
+spot_work ports chambers (Chamber c) inside past = refl
+
+-- who is at a number behind the slots is at work
+pub any_at_work : (ports chambers number : ℕ) (rs : List Registered) → list_all (λ r. is_location ports chambers r.at) rs ≡ true → ports * 25 < number
+    → list_any (has_number ports number) rs ≡ true → list_any (λ r. is_work_place r.at) rs ≡ true
+any_at_work ports chambers number [] all past e = absurd (cc)
+any_at_work ports chambers number (r ∷ rs) all past e =
+    let parts = and_true (is_location ports chambers r.at) (list_all (λ (s : Registered). is_location ports chambers s.at) rs) all in
+    of (has_number ports number r) refl e (any_at_work ports chambers number rs parts.1 past)
+  where
+    of : (b : Bool) → has_number ports number r ≡ b → (b || list_any (has_number ports number) rs) ≡ true
+        → (list_any (has_number ports number) rs ≡ true → list_any (λ r. is_work_place r.at) rs ≡ true) → (is_work_place r.at || list_any (λ r. is_work_place r.at) rs) ≡ true
+    of true is f later =
+        let same : spot_of ports r.at + 1 ≡ number = grind (arith, nat_tests, is) in
+        let parts = and_true (is_location ports chambers r.at) (list_all (λ (s : Registered). is_location ports chambers s.at) rs) all in
+        rw (spot_work ports chambers r.at parts.0 (omega (arith, same, past))) refl
+    of false is f later = second (is_work_place r.at) (list_any (λ r. is_work_place r.at) rs) (later f)
+
+-- where none is at such a number, none is at work
+pub none_at_work : (ports chambers : ℕ) (rs : List Registered) → list_all (λ r. is_location ports chambers r.at) rs ≡ true
+    → ((number : ℕ) → ports * 25 < number → number < spot_count ports chambers + 1 → list_any (has_number ports number) rs ≡ false) → list_any (λ r. is_work_place r.at) rs ≡ false
+none_at_work ports chambers [] all none = refl
+none_at_work ports chambers (r ∷ rs) all none =
+    let parts = and_true (is_location ports chambers r.at) (list_all (λ (s : Registered). is_location ports chambers s.at) rs) all in
+    of (is_work_place r.at) refl (none_at_work ports chambers rs parts.1 (λ number past within. (or_false (has_number ports number r) (list_any (has_number ports number) rs) (none number past within)).1))
+  where
+    of : (b : Bool) → is_work_place r.at ≡ b → list_any (λ r. is_work_place r.at) rs ≡ false → (b || list_any (λ r. is_work_place r.at) rs) ≡ false
+    of false is later = later
+    of true is later =
+        let parts = and_true (is_location ports chambers r.at) (list_all (λ (s : Registered). is_location ports chambers s.at) rs) all in
+        let past = work_spot ports r.at is in
+        let within = spot_within ports chambers r.at parts.0 in
+        let here = (or_false (has_number ports (spot_of ports r.at + 1) r) (list_any (has_number ports (spot_of ports r.at + 1)) rs) (none (spot_of ports r.at + 1) (omega (arith, past)) (omega (arith, within)))).0 in
+        let own : has_number ports (spot_of ports r.at + 1) r ≡ true = grind (arith, nat_tests) in
+        absurd (let clash : true ≡ false = sym own ∙ here in cc)
+
+-- what is so below a number and at it is so below the next
+pub taken_next : (n number : ℕ) (taken : ℕ → Bool) → taken number ≡ false → (n < number → taken n ≡ false) → n < number + 1 → taken n ≡ false
+taken_next n number taken at below within = of (n == number) refl where
+  of : (b : Bool) → (n == number) ≡ b → taken n ≡ false
+  of true is = let same : n ≡ number = grind (arith, nat_tests, is) in ap taken same ∙ at
+  of false is = let less : n < number = grind (arith, nat_tests, is, within) in below less

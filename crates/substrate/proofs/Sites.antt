@@ -78,7 +78,7 @@ within least most n h =
     (grind (arith, nat_tests), grind (arith, nat_tests))
 
 -- what is known of a slot of the tool
-slot_within : (ports p k : ℕ) → ((nat_le 1 p && nat_le p ports) && (nat_le 1 k && nat_le k 25)) ≡ true → (1 ≤ p) × (p ≤ ports) × (1 ≤ k) × (k ≤ 25)
+pub slot_within : (ports p k : ℕ) → ((nat_le 1 p && nat_le p ports) && (nat_le 1 k && nat_le k 25)) ≡ true → (1 ≤ p) × (p ≤ ports) × (1 ≤ k) × (k ≤ 25)
 slot_within ports p k h =
     let parts = and_true (nat_le 1 p && nat_le p ports) (nat_le 1 k && nat_le k 25) h in
     let port = within 1 ports p parts.0 in

@@ -17,3 +17,10 @@ is_location ports chambers (Slot p k) = (nat_le 1 p.0 && nat_le p.0 ports) && (n
 is_location ports chambers Aligner = true
 is_location ports chambers Arm = true
 is_location ports chambers (Chamber c) = nat_le 1 c && nat_le c chambers
+
+-- the place is the aligner, the arm or a chamber
+abbrev pub is_work_place : LocId → Bool
+is_work_place (Slot p k) = false
+is_work_place Aligner = true
+is_work_place Arm = true
+is_work_place (Chamber c) = true

@@ -3,7 +3,7 @@ use Rattle.std.specs.Prelude.{◌≡◌, ℕ, ◌+◌, ◌==◌, ◌≤◌, ◌<
 use Rattle.std.specs.List.{list_any, list_all}
 use Rattle.std.specs.Str.{bytes_eq}
 use Rattle.gem_ids.specs.declared.numbers.LocId.{LocId}
-use Rattle.substrate.specs.Locations.{is_same, is_location}
+use Rattle.substrate.specs.Locations.{is_same, is_location, is_work_place}
 use Rattle.substrate.specs.Board.{spot_of, spot_count, location_numbered}
 use Rattle.substrate.specs.declared.registered.Registered.{Registered}
 use Rattle.substrate.specs.declared.fault.PlaceFault.{PlaceFault}
@@ -59,6 +59,10 @@ has_number ports number r = location_number ports r.at == number
 -- a substrate is at the place of this number
 abbrev pub is_taken_at : ℕ → PlaceMap → Bool
 is_taken_at number p = list_any (has_number p.ports number) p.held
+
+-- a substrate is at the aligner, on the arm or in a chamber
+abbrev pub is_any_at_work : PlaceMap → Bool
+is_any_at_work p = list_any (λ r. is_work_place r.at) p.held
 
 -- the place of a number, where the tool has one
 abbrev pub found_location : ℕ → PlaceMap → Option LocId

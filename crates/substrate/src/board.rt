@@ -1,6 +1,6 @@
 //! Who is at each place.
 
-ghost use Rattle.std.specs.Prelude.{◌≡◌, ◌<◌, ◌≤◌, true, slice_get, length, replicate, Some, None, IfOk, option_map};
+ghost use Rattle.std.specs.Prelude.{◌≡◌, ◌<◌, ◌≤◌, ◌*◌, true, slice_get, length, replicate, Some, None, IfOk, option_map};
 ghost use Rattle.substrate.specs.Locations.{is_location};
 ghost use Rattle.substrate.specs.Board.{spot_of, spot_count, location_numbered, name_at, with_name, HasSpots};
 
@@ -62,6 +62,13 @@ impl Board {
         ensures { result ≡ spot_count self.now.ports self.now.chambers }
     {
         self.names.len()
+    }
+
+    // How many slots there are.
+    pub(crate) fn slot_count(&self) -> usize
+        ensures { result ≡ self.now.ports * 25 }
+    {
+        self.ports as usize * 25
     }
 
     // Who is at the place of a spot, counted from 0.

@@ -18,7 +18,7 @@ mod registered;
 
 pub use fault::PlaceFault;
 pub use laws::{each_number_was_given, each_substrate_has_one_place};
-pub use location::is_same;
+pub use location::{is_same, is_work_place};
 pub use places::{MOST_SUBSTRATES, Places};
 pub use record::{LocationRecord, Occupancy, Processing, SubstrateRecord, Transport};
 pub use registered::Registered;

@@ -1,7 +1,7 @@
 //! The locations of a tool.
 
 ghost use Rattle.std.specs.Prelude.{◌≡◌};
-ghost use Rattle.substrate.specs.Locations.{is_same, is_location};
+ghost use Rattle.substrate.specs.Locations.{is_same, is_location, is_work_place};
 
 use gem_ids::LocId;
 
@@ -26,5 +26,15 @@ pub(crate) fn is_location(ports: u8, chambers: u8, loc: LocId) -> bool
         LocId::Slot(p, k) => 1 <= p.0 && p.0 <= ports && (1 <= k.0 && k.0 <= 25),
         LocId::Aligner | LocId::Arm => true,
         LocId::Chamber(c) => 1 <= c && c <= chambers,
+    }
+}
+
+/// Whether the place is the aligner, the arm or a chamber.
+pub fn is_work_place(loc: LocId) -> bool
+    ensures { result ≡ is_work_place loc }
+{
+    match loc {
+        LocId::Slot(_, _) => false,
+        LocId::Aligner | LocId::Arm | LocId::Chamber(_) => true,
     }
 }

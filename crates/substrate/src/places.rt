@@ -3,7 +3,7 @@
 ghost use Rattle.std.specs.Prelude.{◌≡◌, ◌+◌, ◌<◌, [], length, slice_get, nat_lt, true, Some, None, Err, IfOk, IfErr};
 ghost use Rattle.substrate.specs.Locations.{is_location};
 ghost use Rattle.substrate.specs.Board.{spot_count};
-ghost use Rattle.substrate.specs.Places.{PlaceMap, is_taken_at, found_location, substrate_named, substrate_at, is_known, is_taken, has_place, registered, fault_of, register_fault, can_shift, shifted, removed, most_substrates, no_places, ArePlaces};
+ghost use Rattle.substrate.specs.Places.{PlaceMap, is_taken_at, is_any_at_work, found_location, substrate_named, substrate_at, is_known, is_taken, has_place, registered, fault_of, register_fault, can_shift, shifted, removed, most_substrates, no_places, ArePlaces};
 ghost use Rattle.substrate.specs.declared.fault.PlaceFault.{PlaceFault};
 ghost use Rattle.substrate.specs.declared.fault.PlaceFault.TheVariants.{NoMemory};
 
@@ -122,6 +122,18 @@ impl Places {
         } else {
             false
         }
+    }
+
+    /// Whether a substrate is at the aligner, on the arm or in a chamber. It does not go through the substrates.
+    pub fn is_any_at_work(&self) -> bool
+        ensures { result ≡ is_any_at_work self.now }
+    {
+        for spot in self.board.slot_count()..self.board.len() {
+            if self.is_taken_at(spot + 1) {
+                return true;
+            }
+        }
+        false
     }
 
     /// Whether a location is one of the tool.

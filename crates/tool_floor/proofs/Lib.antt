@@ -4,3 +4,4 @@ pub mod Scans
 pub mod Registrations
 pub mod Falls
 pub mod Keeping
+pub mod Working

@@ -6,7 +6,7 @@ use Rattle.std.specs.Str.{bytes_eq}
 use Rattle.gem_tables.specs.Table.{firing}
 use Rattle.gem_tables.specs.declared.firing.Firing.{Firing}
 use Rattle.gem_ids.specs.declared.numbers.LocId.{LocId}
-use Rattle.gem_ids.specs.declared.numbers.LocId.TheVariants.{Slot, Aligner, Arm, Chamber}
+use Rattle.gem_ids.specs.declared.numbers.LocId.TheVariants.{Slot}
 use Rattle.gem_ids.specs.declared.numbers.PortNo.{PortNo}
 use Rattle.gem_ids.specs.Names.{name_in_slot}
 use Rattle.tool_events.specs.declared.answer.Task.{Task}
@@ -19,7 +19,7 @@ use Rattle.carrier.specs.Wants.{carrier_wants}
 use Rattle.carrier.specs.declared.carrier.Carrier.{Carrier}
 use Rattle.substrate.specs.Tables as want
 use Rattle.substrate.specs.Tables.{SubstrateWant}
-use Rattle.substrate.specs.Locations.{is_same, is_location}
+use Rattle.substrate.specs.Locations.{is_location, is_work_place}
 use Rattle.substrate.specs.Places.{PlaceMap, substrate_named, is_taken_at, is_there, registered, register_fault, removed}
 use Rattle.substrate.specs.Record.{first_record}
 use Rattle.substrate.specs.declared.registered.Registered.{Registered}
@@ -27,13 +27,6 @@ use Rattle.tool_floor.specs.declared.tracking.Substrate.{Substrate}
 use Rattle.tool_floor.specs.Floor.{ToolFloor}
 
 -- ---- where a substrate is
-
--- the place is the aligner, the arm or a chamber
-abbrev pub is_work_place : LocId → Bool
-is_work_place (Slot p k) = false
-is_work_place Aligner = true
-is_work_place Arm = true
-is_work_place (Chamber c) = true
 
 -- there is one, and it is at the aligner, on the arm or in a chamber
 abbrev pub is_at_work : Option Registered → Bool

@@ -5,26 +5,16 @@ ghost use Rattle.std.specs.List.{list_any};
 ghost use Rattle.gem_tables.specs.Table.{row_of, wants_found};
 ghost use Rattle.carrier.specs.Tables.{accessing_table};
 ghost use Rattle.substrate.specs.Tables.{occupancy_table, transport_table, processing_table};
-ghost use Rattle.tool_floor.specs.Substrates.{is_work_place, is_outside, is_in_slot, is_removed, is_of, has_outside, is_back, is_quiet, accessing_wants, location_wants, task_processes, processes, substrate_wants};
+ghost use Rattle.tool_floor.specs.Substrates.{is_outside, is_in_slot, is_removed, is_of, has_outside, is_back, is_quiet, accessing_wants, location_wants, task_processes, processes, substrate_wants};
 
 use crate::floor::ToolFloor;
 use crate::tracking::Substrate;
 use carrier::Carrier;
-use gem_ids::{LocId, SubstrateId};
+use gem_ids::SubstrateId;
 use gem_tables::RowId;
 use robot_moves::Module;
-use substrate::is_same;
+use substrate::{is_same, is_work_place};
 use tool_events::Task;
-
-// Whether the place is the aligner, the arm or a chamber.
-fn is_work_place(loc: LocId) -> bool
-    ensures { result ≡ is_work_place loc }
-{
-    match loc {
-        LocId::Slot(_, _) => false,
-        LocId::Aligner | LocId::Arm | LocId::Chamber(_) => true,
-    }
-}
 
 // Whether a task processes the substrate of this name.
 fn task_processes(sub: SubstrateId, task: &Task) -> bool
@@ -53,6 +43,9 @@ impl ToolFloor {
     pub(crate) fn is_outside(&self, s: &Substrate) -> bool
         ensures { result ≡ is_outside s.now self.now.places }
     {
+        if !self.places.is_any_at_work() {
+            return false;
+        }
         match self.places.find(s.sub) {
             Some(found) => is_work_place(found.at),
             None => false,
@@ -110,6 +103,9 @@ impl ToolFloor {
     pub(crate) fn has_outside(&self, carrier: u64) -> bool
         ensures { result ≡ has_outside carrier self.now }
     {
+        if !self.places.is_any_at_work() {
+            return false;
+        }
         for place in 0..self.substrate_count() {
             if let Some(s) = self.substrate_at(place) {
                 if self.is_outside_of(carrier, &s) {

@@ -1,7 +1,9 @@
-use Rattle.std.proofs.Common.{Bool, ◌&&◌, ◌∙◌, sym, ℕ}
+use Rattle.std.proofs.Common.{Bool, ◌&&◌, ◌∙◌, sym, ap, ℕ}
 use Rattle.carrier.proofs.Scans.{any_here, any_next, any_past}
 use Rattle.tool_floor.specs.declared.tracking.Substrate.{Substrate}
-use Rattle.tool_floor.specs.Substrates.{is_of, is_outside}
+use Rattle.tool_floor.specs.Substrates.{is_of, is_outside, has_outside}
+use Rattle.tool_floor.specs.Floor.{ToolFloor}
+use Rattle.tool_floor.proofs.Working.{has_none_outside}
 use Rattle.tool_floor.proofs.floor.ToolFloor.has_outside.Goals.{in-Some+else-is_outside_of, in_default}
 use Rattle.tool_floor.proofs.floor.ToolFloor.has_outside.Goals as goal
 
@@ -19,3 +21,8 @@ loop-place-preserved c = elim c.match-substrate_at.branch [
       sym (any_past (λ (s : Substrate). is_of c.args.carrier s && is_outside s c.args.self.now.places) c.args.self.now.substrates c.loop-place.place (sym c.substrate_at.ensures ∙ w.in_default.is))
       ∙ c.loop-place.invariant
 ]
+
+pub returns-then-not-is_any_at_work : goal.returns-then-not-is_any_at_work
+returns-then-not-is_any_at_work c =
+    sym (has_none_outside c.args.carrier c.self.inside.places c.self.inside.substrates (sym c.is_any_at_work.ensures ∙ c.if-not-is_any_at_work.true))
+    ∙ ap (λ (f : ToolFloor). has_outside c.args.carrier f) c.self.view_is

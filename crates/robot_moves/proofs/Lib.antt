@@ -3,3 +3,4 @@ pub mod First
 pub mod Numbers
 pub mod Ending
 pub mod Best
+pub mod Giving

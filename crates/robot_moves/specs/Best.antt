@@ -1,6 +1,7 @@
 -- What the best pick is, as the profile says it.
 use Rattle.std.specs.Prelude.{◌≡◌, ◌⊎◌, ℕ, ◌≤◌, ◌<◌, true, false, List, Some, slice_get}
 use Rattle.std.specs.List.{AllByRecursion}
+use Rattle.substrate.specs.Locations.{is_work_place}
 use Rattle.robot_moves.specs.Moves.{is_useful, stage_of}
 use Rattle.robot_moves.specs.declared.module.Module.{Module}
 use Rattle.robot_moves.specs.declared.view.PlaceView.{PlaceView}
@@ -18,3 +19,11 @@ pub record IsBestPick (views : List PlaceView) (modules : List Module) (v : Plac
 -- no pick is useful
 abbrev pub NoneUseful : List PlaceView → List Module → Type 0
 NoneUseful views modules = AllByRecursion (λ w. is_useful views modules w ≡ false) views
+
+-- a substrate rests where it is in a slot, or anywhere but at work, and may not start
+abbrev pub Rests : PlaceView → Type 0
+Rests v = (is_work_place v.at ≡ false) × (v.may_start ≡ false)
+
+-- each does
+abbrev pub AllRest : List PlaceView → Type 0
+AllRest views = AllByRecursion Rests views

@@ -1,15 +1,16 @@
 //! Laws of modules and moves, for proofs to cite. Each function is empty: what it ensures holds of the definitions.
 
-ghost use Rattle.std.specs.Prelude.{◌≡◌, ℕ, List, Some, None, true, false};
-ghost use Rattle.gem_tables.specs.Table.{starts, after};
+ghost use Rattle.std.specs.Prelude.{◌≡◌, ◌∷◌, [], ℕ, List, Some, None, true, false};
+ghost use Rattle.gem_tables.specs.Table.{starts, after, is_one_of};
 ghost use Rattle.tool_events.specs.declared.answer.Command.{Command};
 ghost use Rattle.robot_moves.specs.Tables.{move_table, state_number};
 ghost use Rattle.robot_moves.specs.Modules.{state_of, given, closed, goes_down, comes_up, module_at, change_module, is_idle, is_down, is_up, is_open};
-ghost use Rattle.robot_moves.specs.Moves.{best_pick};
-ghost use Rattle.robot_moves.specs.Best.{IsBestPick, NoneUseful};
+ghost use Rattle.robot_moves.specs.Moves.{best_pick, module_move};
+ghost use Rattle.robot_moves.specs.Best.{IsBestPick, NoneUseful, AllRest};
 ghost use Rattle.robot_moves.specs.declared.module.Module.{Module};
 ghost use Rattle.robot_moves.specs.declared.module.Module.TheVariants.{Idle, Down};
 ghost use Rattle.robot_moves.specs.declared.view.PlaceView.{PlaceView};
+ghost use Rattle.robot_moves.specs.declared.view.Move.{Move};
 
 /// What happens to a module goes by its table: a command is given by rows 1 to 4, Done is rows 5 to 7, Failed row 8, the signal
 /// Down row 9, and `up` row 10.
@@ -35,4 +36,19 @@ pub fn a_command_ends_once()
 pub fn the_pick_is_the_best()
     ensures best { (views : List PlaceView) (modules : List Module) (v : PlaceView) → best_pick views modules ≡ Some v → IsBestPick views modules v }
     ensures none { (views : List PlaceView) (modules : List Module) → best_pick views modules ≡ None → NoneUseful views modules }
+{}
+
+/// A move is given to the module for which it is, which is Idle, and is one of rows 1 to 4.
+pub fn a_move_is_of_an_idle_module()
+    ensures idle { (number : ℕ) (views : List PlaceView) (modules : List Module) (m : Move)
+        → module_move number views modules ≡ Some m → is_idle (module_at number modules) ≡ true }
+    ensures number { (number : ℕ) (views : List PlaceView) (modules : List Module) (m : Move)
+        → module_move number views modules ≡ Some m → m.«module».0 ≡ number }
+    ensures row { (number : ℕ) (views : List PlaceView) (modules : List Module) (m : Move)
+        → module_move number views modules ≡ Some m → is_one_of (1 ∷ 2 ∷ 3 ∷ 4 ∷ []) m.row ≡ true }
+{}
+
+/// Where no substrate is at the aligner, on the arm or in a chamber, and none may start, no module has anything to do.
+pub fn nothing_moves_where_all_rest()
+    ensures { (number : ℕ) (views : List PlaceView) (modules : List Module) → AllRest views → module_move number views modules ≡ None }
 {}

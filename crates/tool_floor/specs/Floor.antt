@@ -17,13 +17,15 @@ use Rattle.tool_floor.specs.declared.tracking.Substrate.{Substrate}
 
 -- the load ports with the carriers; the modules by their numbers: 1 is the robot, 2 the aligner, and 2 + c chamber c; which
 -- substrate has which place; the states of the locations by their numbers: slots port by port, then aligner, arm and chambers; and
--- the substrates of the carriers that are here, in the order of their registration
+-- the substrates of the carriers that are here, in the order of their registration; and the number of the last command that was
+-- given, 0 where none was
 pub record ToolFloor : Type 0 where
   pub shop : Floor
   pub modules : List Module
   pub places : PlaceMap
   pub locations : List LocationRecord
   pub substrates : List Substrate
+  pub commands : ℕ
 
 -- so many ports without a carrier, and so many chambers; each module is Idle, and no substrate has a place
 abbrev pub opening : ℕ → ℕ → ToolFloor
@@ -33,6 +35,7 @@ opening ports chambers = record {
   places = no_places ports chambers;
   locations = replicate (spot_count ports chambers) first_location;
   substrates = [];
+  commands = 0;
 }
 
 -- ---- what changes

@@ -1,4 +1,5 @@
 pub mod Floor
+pub mod Views
 pub mod Modules
 pub mod Substrates
 pub mod Machines

@@ -1,7 +1,7 @@
 -- Tables 4 to 13 and 16 at work on the floor of the tool (after SEMI E87 and SEMI E90; this tool's profile, tables 4 to 13 and 16,
 -- and settling).
 use Rattle.std.specs.Prelude.{ℕ, ◌==◌, Bool, false, ◌&&◌, if◌then◌else◌, List, [], ◌∷◌, map, Option, Some, None}
-use Rattle.gem_tables.specs.Table.{is_one_of, may_fire, first_itself, after}
+use Rattle.gem_tables.specs.Table.{is_one_of, may_fire, first_itself, row_of}
 use Rattle.gem_tables.specs.Machine.{Machine, starts_in, fired_in, creates_in, object_in, least_in}
 use Rattle.gem_tables.specs.declared.firing.Firing.{Firing}
 use Rattle.robot_moves.specs.Modules.{module_at}
@@ -18,8 +18,10 @@ use Rattle.substrate.specs.declared.record.LocationRecord.{LocationRecord}
 use Rattle.substrate.specs.Places.{found_location}
 use Rattle.tool_floor.specs.declared.tracking.Substrate.{Substrate}
 use Rattle.tool_floor.specs.Floor.{ToolFloor, with_shop, with_module, module_numbers, location_at, change_location, location_numbers, name_of_place, substrate_numbered, change_numbered, substrate_name, number_of}
-use Rattle.tool_floor.specs.Modules.{move_starts, move_ready, module_behind}
-use Rattle.tool_floor.specs.Substrates.{accessing_wants, location_wants, substrate_wants, reaches_verified, registers_found, new_rows, without_carrier}
+use Rattle.robot_moves.specs.Tables.{move_table}
+use Rattle.tool_floor.specs.Views.{planned}
+use Rattle.tool_floor.specs.Modules.{move_starts, move_ready, module_behind, found_move}
+use Rattle.tool_floor.specs.Substrates.{accessing_wants, location_wants, substrate_wants, reaches_verified, registers_found, new_rows, without_carrier, found_does}
 
 -- ---- the load ports and the carriers
 
@@ -138,21 +140,25 @@ processing_machine = record {
   objects = λ f. map number_of f.substrates;
   starts = λ row n f. substrate_starts processing_number processing_table (λ s. s.processing) row (substrate_numbered n f.substrates) f;
   ready = λ n f. substrate_ready processing_number processing_table (λ s. s.processing) (substrate_numbered n f.substrates) f;
-  fired = λ row n f. with_moved 13 row n f;
+  fired = λ row n f. with_moved 13 row n (found_does (row_of processing_table row) (substrate_numbered n f.substrates) f);
   creates = λ row n f. [];
   name = λ n f. substrate_name (substrate_numbered n f.substrates);
 }
 
 -- ---- the modules
 
+-- the floor behind the row of a number at the module of a number
+abbrev pub moved_by : ℕ → ℕ → ToolFloor → ToolFloor
+moved_by row number f = with_module number (module_behind row) (found_move (row_of move_table row) number (planned number f) f)
+
 -- the table of moves: its objects are the modules, which have no name
 abbrev pub move_machine : Machine ToolFloor
 move_machine = record {
   table = 16;
   objects = λ f. module_numbers 1 f.modules;
-  starts = λ row number f. move_starts row (module_at number f.modules);
-  ready = λ number f. move_ready (module_at number f.modules);
-  fired = λ row number f. with_module number (module_behind row) f;
+  starts = λ row number f. move_starts row (planned number f) (module_at number f.modules);
+  ready = λ number f. move_ready (planned number f) (module_at number f.modules);
+  fired = moved_by;
   creates = λ row number f. [];
   name = λ number f. [];
 }

@@ -1,6 +1,8 @@
 -- What the equipment tells of modules, and what the operator does to them: which rows fire directly (this tool's profile, direct
 -- rows and moves).
-use Rattle.std.specs.Prelude.{ℕ, Bool, true, false, List, [], ◌∷◌, Option, Some, None, is_some, not}
+use Rattle.std.specs.Prelude.{ℕ, Bool, true, false, List, [], ◌∷◌, ◌++◌, Option, Some, None, is_some, not, ◌&&◌, if◌then◌else◌}
+use Rattle.std.specs.List.{list_any}
+use Rattle.std.specs.Str.{bytes_eq}
 use Rattle.gem_tables.specs.Table.{firing}
 use Rattle.gem_tables.specs.declared.firing.Firing.{Firing}
 use Rattle.tool_events.specs.declared.answer.Task.{Task}
@@ -8,7 +10,10 @@ use Rattle.tool_events.specs.declared.answer.Task.TheVariants as task
 use Rattle.robot_moves.specs.declared.module.Module.{Module}
 use Rattle.robot_moves.specs.declared.module.Module.TheVariants.{Idle, Busy, Down}
 use Rattle.robot_moves.specs.Modules.{module_at}
-use Rattle.tool_floor.specs.Floor.{ToolFloor}
+use Rattle.tool_floor.specs.declared.tracking.Substrate.{Substrate}
+use Rattle.tool_floor.specs.Floor.{ToolFloor, substrate_numbered}
+use Rattle.tool_floor.specs.Substrates.{is_in_slot}
+use Rattle.tool_floor.specs.Modules.{number_named}
 
 -- the tool has no module of this number
 abbrev pub is_no_module : ℕ → ToolFloor → Bool
@@ -25,10 +30,58 @@ done_row (task.Place sub to) = 5
 done_row (task.Align sub) = 6
 done_row (task.Process sub recipe) = 7
 
--- the direct rows of Done of the open command of a module
-abbrev pub done_rows : ℕ → Option Module → List Firing
-done_rows number (Some (Busy command fetched)) = at_module (done_row command.task) number
-done_rows number _ = []
+-- the row of processing of the substrate of a number, where one is given
+abbrev pub at_processed : ℕ → Option ℕ → List Firing
+at_processed row None = []
+at_processed row (Some n) = firing 13 n row ∷ []
+
+-- that of the substrate that a task processes
+abbrev pub processed_rows : ℕ → Task → ToolFloor → List Firing
+processed_rows row (task.Process sub recipe) f = at_processed row (number_named sub f.places)
+processed_rows row _ f = []
+
+-- the direct rows of Done of the open command of a module: that of its task, and behind a Process row 3 of processing
+abbrev pub done_at : ℕ → Option Module → ToolFloor → List Firing
+done_at number (Some (Busy command fetched)) f = at_module (done_row command.task) number ++ processed_rows 3 command.task f
+done_at number _ f = []
+
+abbrev pub done_rows : ℕ → ToolFloor → List Firing
+done_rows number f = done_at number (module_at number f.modules) f
+
+-- the direct rows by which a module goes down, 8 or 9 of table 16; row 4 of processing where a Process was open
+abbrev pub closing_at : ℕ → ℕ → Option Module → ToolFloor → List Firing
+closing_at row number (Some (Busy command fetched)) f = at_module row number ++ processed_rows 4 command.task f
+closing_at row number _ f = at_module row number
+
+abbrev pub closing_rows : ℕ → ℕ → ToolFloor → List Firing
+closing_rows row number f = closing_at row number (module_at number f.modules) f
+
+-- ---- what the operator says
+
+-- the substrate that a task names
+abbrev pub named_by : Task → List ℕ
+named_by (task.Pick sub from) = sub
+named_by (task.Place sub to) = sub
+named_by (task.Align sub) = sub
+named_by (task.Process sub recipe) = sub
+
+-- an open command of a module names the substrate
+abbrev pub module_names : List ℕ → Module → Bool
+module_names sub (Busy command fetched) = bytes_eq (named_by command.task) sub
+module_names sub _ = false
+
+-- it is outside its slot, and no open command names it
+abbrev pub can_be_lost : Option Substrate → ToolFloor → Bool
+can_be_lost None f = false
+can_be_lost (Some s) f = not (is_in_slot s f.places) && not (list_any (module_names s.sub) f.modules)
+
+-- the rows of `lost` at the substrate of a number: row 8 of processing, where it can be (this tool's profile, operator words)
+abbrev pub lost_at : Option ℕ → ToolFloor → List Firing
+lost_at None f = []
+lost_at (Some n) f = if can_be_lost (substrate_numbered n f.substrates) f then firing 13 n 8 ∷ [] else []
+
+abbrev pub lost_rows : List ℕ → ToolFloor → List Firing
+lost_rows sub f = lost_at (number_named sub f.places) f
 
 -- the number of the open command of a module, 0 where it has none
 abbrev pub open_number : Option Module → ℕ

@@ -18,7 +18,7 @@ use Rattle.carrier.specs.Tables.{CarrierWant}
 use Rattle.carrier.specs.Wants.{carrier_wants}
 use Rattle.carrier.specs.declared.carrier.Carrier.{Carrier}
 use Rattle.substrate.specs.Tables as want
-use Rattle.substrate.specs.Tables.{SubstrateWant}
+use Rattle.substrate.specs.Tables.{SubstrateWant, SubstrateEffect, SubstrateRow}
 use Rattle.substrate.specs.Locations.{is_location, is_work_place}
 use Rattle.substrate.specs.Places.{PlaceMap, substrate_named, is_taken_at, is_there, registered, register_fault, removed}
 use Rattle.substrate.specs.Record.{first_record}
@@ -167,3 +167,19 @@ abbrev pub without_carrier : Option ℕ → ToolFloor → ToolFloor
 without_carrier None f = f
 without_carrier (Some carrier) f =
     record f { places = removed_of carrier f.substrates f.places; substrates = filter (λ s. not (is_of carrier s)) f.substrates }
+
+-- ---- one that is lost
+
+-- a substrate has no place any more, where one is given
+abbrev pub removed_where : Option Substrate → PlaceMap → PlaceMap
+removed_where None p = p
+removed_where (Some s) p = removed s.sub p
+
+-- what the word of a row of processing does at the substrate of a number
+abbrev pub substrate_does : SubstrateEffect → Option Substrate → ToolFloor → ToolFloor
+substrate_does want.no_more o f = f
+substrate_does want.loses_place o f = record f { places = removed_where o f.places }
+
+abbrev pub found_does : {S : Type 0} → Option (SubstrateRow S) → Option Substrate → ToolFloor → ToolFloor
+found_does None o f = f
+found_does (Some r) o f = substrate_does r.does o f

@@ -9,16 +9,15 @@ ghost use Rattle.robot_moves.specs.Modules.{module_at, unfetched, is_open, is_up
 ghost use Rattle.shop_floor.specs.Machines.{floor_least as shop_least};
 ghost use Rattle.shop_floor.specs.Valid.{IsFloor};
 ghost use Rattle.shop_floor.specs.Requests.{carrier_code, carrier_written, came};
-ghost use Rattle.substrate.specs.Places.{found_location};
+ghost use Rattle.substrate.specs.Places.{found_location, is_any_at_work, most_substrates};
 ghost use Rattle.tool_floor.specs.Floor.{opening, with_shop, fetched, change_location, substrate_numbered, name_of_place, substrate_name};
-ghost use Rattle.tool_floor.specs.Substrates.{without_carrier};
+ghost use Rattle.tool_floor.specs.Substrates.{without_carrier, removed_where};
 ghost use Rattle.tool_floor.specs.Kept.{RiseTo};
 ghost use Rattle.tool_floor.specs.Machines.{registered_by, floor_starts, floor_fired, floor_least, creation_rows, object_name};
-ghost use Rattle.tool_floor.specs.Signals.{is_no_module, done_rows};
+ghost use Rattle.tool_floor.specs.Signals.{is_no_module};
 
 use crate::naming::place_name;
 use crate::readiness::{ACCESSING, LOCATION, PROCESSING, TRANSPORT};
-use crate::rows;
 use crate::rows::MOVES;
 use crate::tracking::{Substrate, Substrates};
 use arrayvec::ArrayVec;
@@ -30,7 +29,7 @@ use robot_moves::{Module, Modules};
 use shop_floor::ShopFloor;
 use std::alloc::{AllocError, Global};
 use std::marker::Model;
-use substrate::{LocationRecord, Places};
+use substrate::{LocationRecord, Places, Registered};
 use tool_events::{Command, Task};
 
 /// The most rows of objects that one row creates: two of each substrate of a carrier.
@@ -46,6 +45,7 @@ pub struct ToolFloor {
     pub(crate) places: Places,
     pub(crate) locations: Vec<LocationRecord>,
     pub(crate) substrates: Substrates,
+    pub(crate) commands: u64,
 }
 
 impl Model for ToolFloor {
@@ -79,6 +79,7 @@ impl ToolFloor {
             places,
             locations,
             substrates,
+            commands: 0,
         })
     }
 
@@ -143,11 +144,26 @@ impl ToolFloor {
         self.modules.len()
     }
 
-    /// The row that Done of the open command of a module fires. `None` exactly where it has none.
-    pub fn done_row(&self, m: ModuleId) -> Option<Firing>
-        ensures { option_to_list result ≡ done_rows m.0 (module_at m.0 self.now.modules) }
+    // How many substrates have a place.
+    pub(crate) fn place_count(&self) -> usize
+        ensures count { result ≡ length self.now.places.held }
+        ensures few { length self.now.places.held ≤ most_substrates }
     {
-        rows::done(m, &self.modules)
+        self.places.len()
+    }
+
+    // The substrate of a place in their list, counted from 0, with its place in the tool.
+    pub(crate) fn registered_at(&self, place: usize) -> Option<Registered>
+        ensures { result ≡ slice_get self.now.places.held place }
+    {
+        self.places.get(place)
+    }
+
+    // Whether a substrate is at the aligner, on the arm or in a chamber.
+    pub(crate) fn is_any_at_work(&self) -> bool
+        ensures { result ≡ is_any_at_work self.now.places }
+    {
+        self.places.is_any_at_work()
     }
 
     // How many carriers are known.
@@ -263,7 +279,10 @@ impl ToolFloor {
         if let Some(x) = self.ready_substrate(TRANSPORT) {
             return Some(x);
         }
-        self.ready_substrate(PROCESSING)
+        if let Some(x) = self.ready_substrate(PROCESSING) {
+            return Some(x);
+        }
+        self.ready_move()
     }
 
     /// Whether a row starts: its object is there, in a state in which the row starts, and what the row wants besides is so (this tool's
@@ -289,8 +308,9 @@ impl ToolFloor {
         if x.object > self.modules.len() as u64 {
             return false;
         }
-        match self.modules.get(ModuleId(x.object as u8)) {
-            Some(module) => rows::starts(x.row.row, &module),
+        let m = ModuleId(x.object as u8);
+        match self.modules.get(m) {
+            Some(module) => self.starts_at_module(x.row.row, m, &module),
             None => false,
         }
     }
@@ -299,8 +319,8 @@ impl ToolFloor {
 
     /// A row fires that starts: its effect, and the state of its object (this tool's profile, tables 4 to 13 and 16). It gives the rows of
     /// the objects that it creates, which are to be fired straight behind it (this tool's profile, settling): of a carrier, or of
-    /// the substrates that it registers. `AllocError`: there is no memory for what it creates, or the last number was given; but for a
-    /// row of the slot map, nothing has changed.
+    /// the substrates that it registers. `AllocError`: there is no memory for what it creates, or the last number was given, of
+    /// a carrier, a substrate or a command; but for a row of the slot map, nothing has changed.
     pub fn fire(&mut self, x: Firing) -> Result<ArrayVec<Firing, MOST_CREATED>, AllocError>
         requires { floor_starts x self.old ≡ true }
         ensures ok { IfOk result (λ _. self.new ≡ floor_fired x self.old) }
@@ -313,7 +333,7 @@ impl ToolFloor {
             ACCESSING => self.shop.fire_accessing(x.object, x.row.row),
             LOCATION => self.fire_location(x),
             TRANSPORT | PROCESSING => self.fire_substrate(x),
-            MOVES => self.fire_move(x),
+            MOVES => self.fire_move(x)?,
             _ => return self.fire_shop(x),
         }
         Ok(ArrayVec::new())
@@ -412,16 +432,18 @@ impl ToolFloor {
         requires { is_one_of (12 ∷ 13 ∷ []) x.row.table ≡ true }
         ensures { self.new ≡ floor_fired x self.old }
     {
+        if x.row.table == PROCESSING && x.row.row == 8 {
+            self.lose(x.object);
+        }
         self.substrates.fire(x.object, x.row.table, x.row.row);
     }
 
-    // A row of the table of moves fires.
-    fn fire_move(&mut self, x: Firing)
-        requires { x.row.table ≡ 16 }
-        ensures { self.new ≡ floor_fired x self.old }
+    // The substrate of a number has no place any more.
+    fn lose(&mut self, number: u64)
+        ensures { self.new ≡ record self.old { places = removed_where (substrate_numbered number self.old.substrates) self.old.places } }
     {
-        if x.object <= self.modules.len() as u64 {
-            rows::fire(x.row.row, ModuleId(x.object as u8), &mut self.modules);
+        if let Some(substrate) = self.substrates.numbered(number) {
+            self.places.remove(substrate.sub);
         }
     }
 

@@ -9,11 +9,15 @@
 mod asking;
 mod floor;
 pub mod laws;
+mod moving;
 mod naming;
+mod planning;
 mod readiness;
 mod registering;
 mod rows;
+mod telling;
 mod tracking;
+mod viewing;
 
 pub use floor::{MOST_CREATED, ToolFloor};
 pub use tracking::Substrate;

@@ -1,13 +1,13 @@
 //! What the rows of the table of moves do at a module (this tool's profile, table 16).
 
-ghost use Rattle.std.specs.Prelude.{◌≡◌, ◌∷◌, [], Some};
-ghost use Rattle.std.specs.Option.{option_to_list};
+ghost use Rattle.std.specs.Prelude.{◌≡◌, ◌∷◌, [], false, Option, Some};
 ghost use Rattle.robot_moves.specs.Modules.{module_at, change_module};
 ghost use Rattle.tool_floor.specs.Modules.{is_transfer, is_align, is_process, move_starts, module_behind};
-ghost use Rattle.tool_floor.specs.Signals.{done_row, done_rows, open_number};
+ghost use Rattle.tool_floor.specs.Signals.{done_row, open_number};
+ghost use Rattle.gem_tables.specs.Table.{is_one_of};
+ghost use Rattle.robot_moves.specs.declared.view.Move.{Move};
 
 use gem_ids::{CmdNo, ModuleId};
-use gem_tables::Firing;
 use robot_moves::{Module, Modules};
 use tool_events::Task;
 
@@ -38,7 +38,7 @@ fn is_process(task: &Task) -> bool
 }
 
 // The row of a task that is done.
-fn done_row(task: &Task) -> u8
+pub(crate) fn done_row(task: &Task) -> u8
     ensures { result ≡ done_row task.now }
 {
     match task {
@@ -50,9 +50,10 @@ fn done_row(task: &Task) -> u8
 
 // ---- rows
 
-// Whether the row of a number starts at a module.
+// Whether the row of a number from 5 on starts at a module.
 pub(crate) fn starts(row: u8, one: &Module) -> bool
-    ensures { result ≡ move_starts row (Some one.now) }
+    requires { is_one_of (1 ∷ 2 ∷ 3 ∷ 4 ∷ []) row ≡ false }
+    ensures { (plan : Option Move) → result ≡ move_starts row plan (Some one.now) }
 {
     match (row, one) {
         (5, Module::Busy { command, .. }) => is_transfer(&command.task),
@@ -62,18 +63,6 @@ pub(crate) fn starts(row: u8, one: &Module) -> bool
         (9, Module::Idle | Module::Busy { .. }) => true,
         (10, Module::Down) => true,
         _ => false,
-    }
-}
-
-// The row of Done of the open command of the module of a number.
-pub(crate) fn done(m: ModuleId, modules: &Modules) -> Option<Firing>
-    ensures { option_to_list result ≡ done_rows m.0 (module_at m.0 modules.now) }
-{
-    match modules.get(m) {
-        Some(Module::Busy { command, .. }) => {
-            Some(Firing::new(MOVES, u64::from(m.0), done_row(&command.task)))
-        }
-        _ => None,
     }
 }
 

@@ -4,6 +4,7 @@ ghost use Rattle.std.specs.Prelude.{◌≡◌, ◌∷◌, ◌++◌, [], ◌≤�
 ghost use Rattle.tool_floor.specs.Floor.{substrate_numbered, change_numbered};
 ghost use Rattle.tool_floor.specs.Machines.{substrate_moves};
 ghost use Rattle.tool_floor.specs.Substrates.{is_of};
+ghost use Rattle.tool_floor.specs.Modules.{aligned};
 
 use gem_ids::{LocId, SubstrateId};
 use std::alloc::{AllocError, Global};
@@ -91,6 +92,20 @@ impl Substrates {
             let mut substrate = self.list[place];
             if substrate.number == number {
                 substrate.states.fire(table, row);
+                self.list[place] = substrate;
+                return;
+            }
+        }
+    }
+
+    // The substrate of a number is aligned.
+    pub(crate) fn align(&mut self, number: u64)
+        ensures { self.new ≡ change_numbered number aligned self.old }
+    {
+        for place in 0..self.list.len() {
+            let mut substrate = self.list[place];
+            if substrate.number == number {
+                substrate.aligned = true;
                 self.list[place] = substrate;
                 return;
             }

@@ -1,0 +1,137 @@
+//! What the rows of the table of moves do besides the state of their module (this tool's profile, table 16).
+
+ghost use Rattle.std.specs.Prelude.{◌≡◌, ◌∷◌, [], true, false, Some, IfOk, IfErr};
+ghost use Rattle.gem_tables.specs.Table.{is_one_of};
+ghost use Rattle.robot_moves.specs.Modules.{module_at};
+ghost use Rattle.tool_floor.specs.Views.{planned};
+ghost use Rattle.tool_floor.specs.Modules.{issued, open_task, goes, transferred, number_named, aligned_numbered, aligned_by};
+ghost use Rattle.tool_floor.specs.Machines.{moved_by, floor_starts, floor_fired};
+
+use crate::floor::ToolFloor;
+use crate::rows;
+use gem_ids::{CmdNo, LocId, ModuleId, SubstrateId};
+use gem_tables::Firing;
+use robot_moves::Module;
+use std::alloc::AllocError;
+use tool_events::{Command, Task};
+
+impl ToolFloor {
+    // A move is given to a module, under the next number, where there is one for it. `AllocError`: the last number was given; nothing
+    // has changed.
+    fn issue(&mut self, m: ModuleId) -> Result<(), AllocError>
+        ensures ok { IfOk result (λ _. self.new ≡ issued m.0 (planned m.0 self.old) self.old) }
+        ensures err { IfErr result (λ _. self.new ≡ self.old) }
+    {
+        if let Some(next) = self.planned(m) {
+            if self.commands == u64::MAX {
+                return Err(AllocError);
+            }
+            let number = self.commands + 1;
+            self.modules.issue(
+                m,
+                Command {
+                    number: CmdNo(number),
+                    task: next.task,
+                },
+            );
+            self.commands = number;
+        }
+        Ok(())
+    }
+
+    // The task of the open command of a module.
+    pub(crate) fn open_task(&self, m: ModuleId) -> Option<Task>
+        ensures { result ≡ open_task (module_at m.0 self.now.modules) }
+    {
+        match self.modules.get(m) {
+            Some(Module::Busy { command, .. }) => Some(command.task),
+            _ => None,
+        }
+    }
+
+    // A substrate goes from a place of the tool to another.
+    fn go(&mut self, sub: SubstrateId, from: LocId, to: LocId)
+        ensures { self.new ≡ record self.old { places = goes sub from to self.old.places } }
+    {
+        if self.places.has(from) && self.places.has(to) {
+            self.places.shift(sub, from, to);
+        }
+    }
+
+    // What a Pick or a Place that is done moves.
+    fn transfer(&mut self, task: Option<Task>)
+        ensures { self.new ≡ record self.old { places = transferred task self.old.places } }
+    {
+        // The borrow checker has to be told here of the types that a command holds.
+        let _: Option<(Command, Task)> = None;
+        match task {
+            Some(Task::Pick { sub, from }) => self.go(sub, from, LocId::Arm),
+            Some(Task::Place { sub, to }) => self.go(sub, LocId::Arm, to),
+            _ => {}
+        }
+    }
+
+    // The number of registration of the substrate of a name that has a place.
+    pub(crate) fn number_named(&self, sub: SubstrateId) -> Option<u64>
+        ensures { result ≡ number_named sub self.now.places }
+    {
+        match self.places.find(sub) {
+            Some(registered) => Some(registered.number),
+            None => None,
+        }
+    }
+
+    // What an Align that is done aligns.
+    fn align(&mut self, task: Option<Task>)
+        ensures { self.new ≡ aligned_by task self.old }
+    {
+        // The borrow checker has to be told here of the types that a command holds.
+        let _: Option<(Command, Task)> = None;
+        if let Some(Task::Align { sub }) = task {
+            let number = self.number_named(sub);
+            self.align_numbered(number);
+        }
+    }
+
+    // The substrate of a number is aligned, where one is given.
+    fn align_numbered(&mut self, number: Option<u64>)
+        ensures { self.new ≡ record self.old { substrates = aligned_numbered number self.old.substrates } }
+    {
+        if let Some(number) = number {
+            self.substrates.align(number);
+        }
+    }
+
+    // A row of the table of moves fires that starts. `AllocError`: the last number of a command was given; nothing has changed.
+    pub(crate) fn fire_move(&mut self, x: Firing) -> Result<(), AllocError>
+        requires table { x.row.table ≡ 16 }
+        requires starts { floor_starts x self.old ≡ true }
+        ensures ok { IfOk result (λ _. self.new ≡ floor_fired x self.old) }
+        ensures err { IfErr result (λ _. self.new ≡ self.old) }
+    {
+        if x.object > self.modules.len() as u64 {
+            return Ok(());
+        }
+        let m = ModuleId(x.object as u8);
+        if 1 <= x.row.row && x.row.row <= 4 {
+            self.issue(m)?;
+        } else {
+            self.end_command(x.row.row, m);
+        }
+        Ok(())
+    }
+
+    // A row of the table of moves by which a command ends, or a module comes up, fires.
+    fn end_command(&mut self, row: u8, m: ModuleId)
+        requires { is_one_of (1 ∷ 2 ∷ 3 ∷ 4 ∷ []) row ≡ false }
+        ensures { self.new ≡ moved_by row m.0 self.old }
+    {
+        let task = self.open_task(m);
+        if row == 5 {
+            self.transfer(task);
+        } else if row == 6 {
+            self.align(task);
+        }
+        rows::fire(row, m, &mut self.modules);
+    }
+}

@@ -1,0 +1,98 @@
+//! What the modules are to do next (this tool's profile, moves).
+
+ghost use Rattle.std.specs.Prelude.{◌≡◌, ◌≤◌, [], true, false, length, Some};
+ghost use Rattle.gem_tables.specs.Machine.{first_ready};
+ghost use Rattle.robot_moves.specs.Modules.{module_at};
+ghost use Rattle.tool_floor.specs.Floor.{module_numbers};
+ghost use Rattle.tool_floor.specs.Views.{view_of, views, planned};
+ghost use Rattle.tool_floor.specs.Modules.{is_by, move_ready, move_starts};
+
+use crate::floor::ToolFloor;
+use crate::rows::{self, MOVES};
+use crate::tracking::Substrate;
+use crate::viewing::Views;
+use gem_ids::{ModuleId, Text80};
+use gem_tables::Firing;
+use robot_moves::{Module, Move, PlaceView, Planner};
+use substrate::Registered;
+
+// What the planner is told of a substrate and its place.
+fn view_of(r: &Registered, s: &Substrate) -> PlaceView
+    ensures { result ≡ view_of r.now s.now }
+{
+    PlaceView {
+        sub: r.sub,
+        number: r.number,
+        at: r.at,
+        slot: s.slot,
+        aligned: s.aligned,
+        finished: s.states.processing.is_finished(),
+        in_process: s.states.processing.is_in_process(),
+        may_start: false,
+        chambers: 0,
+        recipe: Text80::empty(),
+    }
+}
+
+impl ToolFloor {
+    // What the planner is told of the substrates that have a place.
+    fn views(&self) -> Views
+        ensures { result ≡ views self.now }
+    {
+        let mut views = Views::new();
+        for place in 0..self.place_count() {
+            if let Some(registered) = self.registered_at(place) {
+                if let Some(substrate) = self.substrate(registered.number) {
+                    views.push(view_of(&registered, &substrate));
+                }
+            }
+        }
+        views
+    }
+
+    // What the module of a number is to do.
+    pub(crate) fn planned(&self, m: ModuleId) -> Option<Move>
+        ensures { result ≡ planned m.0 self.now }
+    {
+        if !self.is_any_at_work() {
+            return None;
+        }
+        let planner = Planner::new().unwrap();
+        planner.of_module(m, self.views().as_slice(), &self.modules)
+    }
+
+    // The row of table 16 that is ready at the first module at which one is.
+    pub(crate) fn ready_move(&self) -> Option<Firing>
+        ensures { result ≡ first_ready 16 (λ number. move_ready (planned number self.now) (module_at number self.now.modules)) (module_numbers 1 self.now.modules) }
+    {
+        if !self.is_any_at_work() {
+            return None;
+        }
+        let planner = Planner::new().unwrap();
+        match planner.next(self.views().as_slice(), &self.modules) {
+            Some(next) => Some(Firing::new(MOVES, u64::from(next.module.0), next.row)),
+            None => None,
+        }
+    }
+
+    // Whether a row starts at a module that is there.
+    pub(crate) fn starts_at_module(&self, row: u8, m: ModuleId, module: &Module) -> bool
+        ensures { result ≡ move_starts row (planned m.0 self.now) (Some module.now) }
+    {
+        if 1 <= row && row <= 4 {
+            matches!(module, Module::Idle) && self.is_planned(row, m)
+        } else {
+            rows::starts(row, module)
+        }
+    }
+
+    // Whether what a module is to do is by the row of this number.
+    fn is_planned(&self, row: u8, m: ModuleId) -> bool
+        ensures { result ≡ is_by row (planned m.0 self.now) }
+    {
+        match self.planned(m) {
+            Some(next) => next.row == row,
+            None => false,
+        }
+    }
+}

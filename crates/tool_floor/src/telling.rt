@@ -1,0 +1,144 @@
+//! What the equipment tells of modules, and what the operator says of substrates: the rows that these fire (this tool's profile,
+//! direct rows).
+
+ghost use Rattle.std.specs.Prelude.{◌≡◌, ◌≤◌, ◌∷◌, ◌++◌, [], length, Some, None};
+ghost use Rattle.std.specs.Option.{option_to_list};
+ghost use Rattle.std.specs.List.{list_any};
+ghost use Rattle.robot_moves.specs.Modules.{module_at};
+ghost use Rattle.tool_floor.specs.Signals.{at_module, at_processed, processed_rows, done_at, done_rows, closing_at, closing_rows, named_by, module_names, can_be_lost, lost_at, lost_rows};
+
+use crate::floor::ToolFloor;
+use crate::readiness::PROCESSING;
+use crate::rows::{MOVES, done_row};
+use crate::tracking::Substrate;
+use arrayvec::ArrayVec;
+use gem_ids::{ModuleId, SubstrateId};
+use gem_tables::Firing;
+use robot_moves::Module;
+use tool_events::Task;
+
+// The substrate that a task names.
+fn named_by(task: &Task) -> SubstrateId
+    ensures { result ≡ named_by task.now }
+{
+    match task {
+        Task::Pick { sub, .. } => *sub,
+        Task::Place { sub, .. } => *sub,
+        Task::Align { sub } => *sub,
+        Task::Process { sub, .. } => *sub,
+    }
+}
+
+// Whether an open command of a module names the substrate.
+fn module_names(sub: SubstrateId, module: &Module) -> bool
+    ensures { result ≡ module_names sub module.now }
+{
+    match module {
+        Module::Busy { command, .. } => named_by(&command.task).as_bytes() == sub.as_bytes(),
+        _ => false,
+    }
+}
+
+// A row at a module, and one of processing behind it, where one is given.
+fn one_or_two(first: Firing, second: Option<Firing>) -> ArrayVec<Firing, 2>
+    ensures { result.items ≡ first ∷ option_to_list second }
+{
+    let mut rows = ArrayVec::new();
+    rows.push(first);
+    if let Some(second) = second {
+        rows.push(second);
+    }
+    rows
+}
+
+impl ToolFloor {
+    // The row of processing of the substrate that a task processes, where one is.
+    fn processed_row(&self, row: u8, task: &Task) -> Option<Firing>
+        ensures { option_to_list result ≡ processed_rows row task.now self.now }
+    {
+        match task {
+            Task::Process { sub, .. } => match self.number_named(*sub) {
+                Some(number) => Some(Firing::new(PROCESSING, number, row)),
+                None => None,
+            },
+            _ => None,
+        }
+    }
+
+    /// The rows that Done of the open command of a module fires: row 5, 6 or 7 of table 16 by its task, and behind a Process row 3 of
+    /// processing. There are none exactly where it has no open command.
+    pub fn done_rows(&self, m: ModuleId) -> ArrayVec<Firing, 2>
+        ensures { result.items ≡ done_rows m.0 self.now }
+    {
+        match self.modules.get(m) {
+            Some(Module::Busy { command, .. }) => one_or_two(
+                Firing::new(MOVES, u64::from(m.0), done_row(&command.task)),
+                self.processed_row(3, &command.task),
+            ),
+            _ => ArrayVec::new(),
+        }
+    }
+
+    /// The rows by which a module goes down: this row of table 16, 8 or 9, and row 4 of processing where a Process was open.
+    pub fn closing_rows(&self, row: u8, m: ModuleId) -> ArrayVec<Firing, 2>
+        ensures { result.items ≡ closing_rows row m.0 self.now }
+    {
+        let closes = Firing::new(MOVES, u64::from(m.0), row);
+        match self.modules.get(m) {
+            Some(Module::Busy { command, .. }) => {
+                one_or_two(closes, self.processed_row(4, &command.task))
+            }
+            _ => one_or_two(closes, None),
+        }
+    }
+
+    // ---- what the operator says
+
+    // Whether an open command of a module names a substrate.
+    fn is_named(&self, sub: SubstrateId) -> bool
+        ensures { result ≡ list_any (module_names sub) self.now.modules }
+    {
+        for place in 0..self.module_count() {
+            if let Some(module) = self.module_at(place) {
+                if module_names(sub, &module) {
+                    return true;
+                }
+            }
+        }
+        false
+    }
+
+    // Whether a substrate is outside its slot, and no open command names it.
+    fn can_be_lost(&self, s: &Substrate) -> bool
+        ensures { result ≡ can_be_lost (Some s.now) self.now }
+    {
+        !self.is_in_slot(s) && !self.is_named(s.sub)
+    }
+
+    // The row of `lost` at the substrate of a number, where it can be lost.
+    fn lost_at(&self, number: u64) -> Option<Firing>
+        ensures { option_to_list result ≡ lost_at (Some number) self.now }
+    {
+        match self.substrate(number) {
+            Some(substrate) => {
+                if self.can_be_lost(&substrate) {
+                    Some(Firing::new(PROCESSING, number, 8))
+                } else {
+                    None
+                }
+            }
+            None => None,
+        }
+    }
+
+    /// The row by which a substrate is lost, 8 of processing: `None` exactly where it is in its slot, has no place, or an open command
+    /// names it (this tool's profile, operator words).
+    pub fn lost_row(&self, sub: SubstrateId) -> Option<Firing>
+        ensures { option_to_list result ≡ lost_rows sub self.now }
+    {
+        match self.number_named(sub) {
+            Some(number) => self.lost_at(number),
+            None => None,
+        }
+    }
+}

@@ -48,12 +48,7 @@ impl Planner {
 
     /// What the module of a number is to do, in the same way: its ready row of rows 1 to 4 with the task. `None` exactly where none is
     /// ready, and where there is no such module. Takes no memory.
-    pub fn of_module(
-        &self,
-        m: ModuleId,
-        places: &[PlaceView],
-        modules: &Modules,
-    ) -> Option<Move>
+    pub fn of_module(&self, m: ModuleId, places: &[PlaceView], modules: &Modules) -> Option<Move>
         ensures { result ≡ module_move m.0 places.now modules.now }
     {
         module_move(m.0, places, modules)

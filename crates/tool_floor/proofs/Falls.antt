@@ -3,7 +3,7 @@ use Rattle.std.proofs.Common.{◌≡◌, ℕ, zero, suc, ◌+◌, ◌*◌, ◌==
 use Rattle.std.specs.List.{AllByRecursion}
 use Rattle.std.proofs.lemmas.Bool.{true≢false}
 use Rattle.gem_tables.specs.Machine.{Machine}
-use Rattle.gem_tables.specs.Table.{firing, is_among, after, update_at}
+use Rattle.gem_tables.specs.Table.{firing, is_among, is_one_of, row_of, after, update_at}
 use Rattle.gem_tables.specs.declared.firing.Firing.{Firing}
 use Rattle.gem_tables.proofs.Rows.{ready_row}
 use Rattle.gem_tables.proofs.Machines.{least_cases}
@@ -32,11 +32,15 @@ use Rattle.substrate.specs.declared.record.Processing.{Processing}
 use Rattle.substrate.specs.declared.record.Processing.TheVariants as processing
 use Rattle.tool_floor.specs.declared.tracking.Substrate.{Substrate}
 use Rattle.tool_floor.specs.Floor.{ToolFloor, with_shop, location_at, change_location, substrate_numbered, change_numbered}
-use Rattle.tool_floor.specs.Substrates.{accessing_wants, location_wants, substrate_wants, registration_rows}
-use Rattle.tool_floor.specs.Machines.{registered_by, accessing_ready, location_ready, substrate_ready, substrate_moves, floor_machines, floor_fired, creation_rows, floor_least, transport_machine, processing_machine, move_machine}
+use Rattle.tool_floor.specs.Substrates.{accessing_wants, location_wants, substrate_wants, registration_rows, found_does}
+use Rattle.tool_floor.specs.Machines.{registered_by, accessing_ready, location_ready, substrate_ready, substrate_moves, floor_machines, floor_fired, creation_rows, floor_least, moved_by}
 use Rattle.tool_floor.specs.Left.{disagrees, locations_left, transport_left, processing_left, substrate_left, substrates_left, modules_left, floor_left}
 use Rattle.shop_floor.specs.Left.{weighs}
-use Rattle.tool_floor.proofs.Tables.{none_moves}
+use Rattle.robot_moves.specs.declared.view.Move.{Move}
+use Rattle.robot_moves.proofs.Giving.{move_is}
+use Rattle.tool_floor.specs.Views.{views, planned}
+use Rattle.tool_floor.specs.Modules.{move_ready, command, issued}
+use Rattle.tool_floor.proofs.Moves.{by_itself_rows, gives, none_ready_there, ready_there, is_idle_module, modules_fall}
 use Rattle.tool_floor.proofs.Registrations.{counts, Registers, row_registered, rows_count, drop_before}
 
 -- what is left falls, and the rows that follow are counted too
@@ -212,10 +216,10 @@ falls_12 f row n s at state =
     let less = substrates_fall (substrate_moves 12 row) n f.substrates s at (omega (arith, state)) in
     omega (arith, less)
 
-falls_13 : (f : ToolFloor) (row n : ℕ) (s : Substrate) → substrate_numbered n f.substrates ≡ Some s → processing_left (after processing_number processing_table row s.states.processing) + 1 ≤ processing_left s.states.processing → Falls f (firing 13 n row)
-falls_13 f row n s at state =
+falls_13 : (f : ToolFloor) (row n : ℕ) (s : Substrate) → found_does (row_of processing_table row) (substrate_numbered n f.substrates) f ≡ f → substrate_numbered n f.substrates ≡ Some s → processing_left (after processing_number processing_table row s.states.processing) + 1 ≤ processing_left s.states.processing → Falls f (firing 13 n row)
+falls_13 f row n s no_more at state =
     let less = substrates_fall (substrate_moves 13 row) n f.substrates s at (omega (arith, state)) in
-    omega (arith, less)
+    rw no_more (omega (arith, less))
 
 transport_at : (f : ToolFloor) (n row : ℕ) (o : Option Substrate) → substrate_numbered n f.substrates ≡ o → substrate_ready transport_number transport_table (λ s. s.transport) o f ≡ Some row → Falls f (firing 12 n row)
 transport_at f n row None at e = absurd (cc)
@@ -231,16 +235,16 @@ processing_at f n row (Some s) at e =
     ready_row (λ (r : ℕ). Falls f (firing 13 n r)) processing_number (λ want. substrate_wants want s f) processing_table row s.states.processing (
       (λ i _ _. never i),
       (
-        (λ _ among _. falls_13 f 2 n s at (processed 2 (omega arith) s.states.processing among)),
+        (λ _ among _. falls_13 f 2 n s refl at (processed 2 (omega arith) s.states.processing among)),
         (
           (λ i _ _. never i),
           (
             (λ i _ _. never i),
             (
-              (λ _ among _. falls_13 f 5 n s at (processed 5 (omega arith) s.states.processing among)),
+              (λ _ among _. falls_13 f 5 n s refl at (processed 5 (omega arith) s.states.processing among)),
               (
-                (λ _ among _. falls_13 f 6 n s at (processed 6 (omega arith) s.states.processing among)),
-                ((λ _ among _. falls_13 f 7 n s at (processed 7 (omega arith) s.states.processing among)), ((λ i _ _. never i), tt)),
+                (λ _ among _. falls_13 f 6 n s refl at (processed 6 (omega arith) s.states.processing among)),
+                ((λ _ among _. falls_13 f 7 n s refl at (processed 7 (omega arith) s.states.processing among)), ((λ i _ _. never i), tt)),
               ),
             ),
           ),
@@ -248,10 +252,24 @@ processing_at f n row (Some s) at e =
       ),
     ) e
 
--- ---- all tables
+-- ---- modules
 
-no_row : {P : Type 0} (o : Option ℕ) (row : ℕ) → o ≡ None → o ≡ Some row → P
-no_row o row none some = absurd (let clash : None ≡ Some row = sym none ∙ some in cc)
+-- a module that is to do something is Idle, and is given it
+falls_16 : (f : ToolFloor) (number row : ℕ) → move_ready (planned number f) (module_at number f.modules) ≡ Some row → Falls f (firing 16 number row)
+falls_16 f number row e = of (planned number f) refl e where
+  of : (o : Option Move) → planned number f ≡ o → move_ready o (module_at number f.modules) ≡ Some row → Falls f (firing 16 number row)
+  of None is g = absurd (let clash : None ≡ Some row = sym (none_ready_there (module_at number f.modules)) ∙ g in cc)
+  of (Some m) is g =
+      let ready = ready_there (views f) f.modules number (Some m) is in
+      let same : row ≡ m.row = let two : Some row ≡ Some m.row = sym g ∙ ready in cc in
+      let moves = move_is number (views f) f.modules m is in
+      let one : is_one_of by_itself_rows row ≡ true = ap (is_one_of by_itself_rows) same ∙ moves.one in
+      let behind : moved_by row number f ≡ issued number (Some m) f = gives row number f one ∙ ap (λ (o : Option Move). issued number o f) is in
+      let less = modules_fall number (command (f.commands + 1) m.task) f.modules (is_idle_module (module_at number f.modules) moves.idle) in
+      let after : floor_left (moved_by row number f) ≡ floor_left (issued number (Some m) f) = ap floor_left behind in
+      omega (arith, less, after)
+
+-- ---- all tables
 
 -- what is left falls where a row is ready by itself, table by table
 pub all_fall : (f : ToolFloor) → AllByRecursion (λ (m : Machine ToolFloor). (object row : ℕ) → m.ready object f ≡ Some row → Falls f (firing m.table object row)) floor_machines
@@ -276,7 +294,7 @@ all_fall f =
                       (λ o r e. transport_at f o r (substrate_numbered o f.substrates) refl e),
                       (
                         (λ o r e. processing_at f o r (substrate_numbered o f.substrates) refl e),
-                        ((λ o r e. no_row (move_machine.ready o f) r (none_moves (module_at o f.modules)) e), tt),
+                        ((λ o r e. falls_16 f o r e), tt),
                       ),
                     ),
                   ),

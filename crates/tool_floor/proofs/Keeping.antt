@@ -5,13 +5,13 @@ use Rattle.std.specs.List.{AllByRecursion}
 use Rattle.std.proofs.lemmas.Bool.Decides.{nat_tests}
 use Rattle.gem_tables.specs.Machine.{Machine}
 use Rattle.gem_tables.specs.Table.{firing, is_one_of, row_of}
-use Rattle.gem_tables.proofs.Rows.{one_of_cases, ready_may_fire}
+use Rattle.gem_tables.proofs.Rows.{one_of_cases, ready_may_fire, looked_for}
 use Rattle.gem_tables.proofs.Machines.{least_cases, starts_cases, either_creates, none_ready}
 use Rattle.gem_tables.specs.declared.firing.Firing.{Firing}
 use Rattle.carrier.specs.declared.carrier.Carrier.{Carrier}
 use Rattle.carrier.specs.Tables.{access_number, accessing_table}
 use Rattle.carrier.specs.Carriers.{carrier_numbered}
-use Rattle.robot_moves.specs.Modules.{module_at}
+use Rattle.robot_moves.specs.Modules.{module_at, first_modules, state_of}
 use Rattle.shop_floor.specs.Floor.{Floor}
 use Rattle.shop_floor.specs.Machines.{floor_starts as shop_starts, floor_fired as shop_fired, creation_rows as shop_creations}
 use Rattle.shop_floor.specs.Valid.{IsFloor}
@@ -27,18 +27,25 @@ use Rattle.substrate.specs.declared.record.LocationRecord.{LocationRecord}
 use Rattle.substrate.specs.declared.record.SubstrateRecord.{SubstrateRecord}
 use Rattle.tool_floor.specs.declared.tracking.Substrate.{Substrate}
 use Rattle.tool_floor.specs.Floor.{ToolFloor, opening, with_shop, location_at, location_numbers, substrate_numbered, change_numbered}
-use Rattle.tool_floor.specs.Substrates.{accessing_wants, location_wants, substrate_wants, registration_rows, new_rows}
-use Rattle.tool_floor.specs.Machines.{taken_along, registered_by, accessing_starts, accessing_ready, location_starts, location_ready, substrate_starts, substrate_ready, substrate_moves, floor_machines, floor_starts, floor_fired, creation_rows, is_creation, floor_least, move_machine}
-use Rattle.tool_floor.proofs.Tables.{none_moves, least_floor, first_location as first_ready_location}
+use Rattle.tool_floor.specs.Substrates.{accessing_wants, location_wants, substrate_wants, registration_rows, new_rows, found_does}
+use Rattle.tool_floor.specs.Machines.{taken_along, registered_by, accessing_starts, accessing_ready, location_starts, location_ready, substrate_starts, substrate_ready, substrate_moves, floor_machines, floor_starts, floor_fired, creation_rows, is_creation, floor_least, moved_by}
+use Rattle.tool_floor.proofs.Tables.{least_floor, first_location as first_ready_location, first_move}
+use Rattle.tool_floor.proofs.Moves.{none_to_move}
+use Rattle.tool_floor.specs.Views.{planned}
+use Rattle.tool_floor.specs.Modules.{move_wants, move_starts, move_ready, issued, open_task, aligned_by, found_move}
+use Rattle.tool_events.specs.declared.answer.Task.{Task}
+use Rattle.tool_events.specs.declared.answer.Task.TheVariants as task
+use Rattle.robot_moves.specs.Tables.{MoveRow, move_table, state_number}
+use Rattle.robot_moves.specs.declared.module.Module.{Module}
+use Rattle.robot_moves.specs.declared.view.Move.{Move}
+use Rattle.robot_moves.proofs.Giving.{nothing_moves}
+use Rattle.substrate.specs.declared.record.Processing.{Processing}
 use Rattle.tool_floor.proofs.Registrations.{Registers, row_registered, drop_before}
 
 -- ---- the least row
 
-no_row : {P : Type 0} (o : Option ℕ) (row : ℕ) → o ≡ None → o ≡ Some row → P
-no_row o row none some = absurd (let clash : None ≡ Some row = sym none ∙ some in cc)
-
--- what is true of each table but 1 to 3 and 16 is true of the table of the least row
-pub of_tables : (P : ℕ → Type 0) (f : ToolFloor) (x : Firing) → AllByRecursion P (4 ∷ 5 ∷ 6 ∷ 7 ∷ 8 ∷ 9 ∷ 10 ∷ 11 ∷ 12 ∷ 13 ∷ []) → floor_least f ≡ Some x → P x.row.table
+-- what is true of each table but 1 to 3 is true of the table of the least row
+pub of_tables : (P : ℕ → Type 0) (f : ToolFloor) (x : Firing) → AllByRecursion P (4 ∷ 5 ∷ 6 ∷ 7 ∷ 8 ∷ 9 ∷ 10 ∷ 11 ∷ 12 ∷ 13 ∷ 16 ∷ []) → floor_least f ≡ Some x → P x.row.table
 of_tables P f x all e =
     least_cases (λ (y : Firing). P y.row.table) f x floor_machines (
       (λ _ _ _. all.0),
@@ -56,7 +63,7 @@ of_tables P f x all e =
                   (λ _ _ _. all.1.1.1.1.1.1.0),
                   (
                     (λ _ _ _. all.1.1.1.1.1.1.1.0),
-                    ((λ _ _ _. all.1.1.1.1.1.1.1.1.0), ((λ _ _ _. all.1.1.1.1.1.1.1.1.1.0), ((λ o r ready. no_row (move_machine.ready o f) r (none_moves (module_at o f.modules)) ready), tt))),
+                    ((λ _ _ _. all.1.1.1.1.1.1.1.1.0), ((λ _ _ _. all.1.1.1.1.1.1.1.1.1.0), ((λ _ _ _. all.1.1.1.1.1.1.1.1.1.1.0), tt))),
                   ),
                 ),
               ),
@@ -66,18 +73,15 @@ of_tables P f x all e =
       ),
     ) e
 
--- it is none of moves, and none of communication, control and notes
-pub not_moves : (f : ToolFloor) (x : Firing) → floor_least f ≡ Some x → (x.row.table == 16) ≡ false
-not_moves f x = of_tables (λ n. (n == 16) ≡ false) f x (refl, (refl, (refl, (refl, (refl, (refl, (refl, (refl, (refl, (refl, tt))))))))))
-
+-- it is none of communication, control and notes
 pub not_table_1 : (f : ToolFloor) (x : Firing) → floor_least f ≡ Some x → (x.row.table == 1) ≡ false
-not_table_1 f x = of_tables (λ n. (n == 1) ≡ false) f x (refl, (refl, (refl, (refl, (refl, (refl, (refl, (refl, (refl, (refl, tt))))))))))
+not_table_1 f x = of_tables (λ n. (n == 1) ≡ false) f x (refl, (refl, (refl, (refl, (refl, (refl, (refl, (refl, (refl, (refl, (refl, tt)))))))))))
 
 pub not_table_2 : (f : ToolFloor) (x : Firing) → floor_least f ≡ Some x → (x.row.table == 2) ≡ false
-not_table_2 f x = of_tables (λ n. (n == 2) ≡ false) f x (refl, (refl, (refl, (refl, (refl, (refl, (refl, (refl, (refl, (refl, tt))))))))))
+not_table_2 f x = of_tables (λ n. (n == 2) ≡ false) f x (refl, (refl, (refl, (refl, (refl, (refl, (refl, (refl, (refl, (refl, (refl, tt)))))))))))
 
 pub not_table_3 : (f : ToolFloor) (x : Firing) → floor_least f ≡ Some x → (x.row.table == 3) ≡ false
-not_table_3 f x = of_tables (λ n. (n == 3) ≡ false) f x (refl, (refl, (refl, (refl, (refl, (refl, (refl, (refl, (refl, (refl, tt))))))))))
+not_table_3 f x = of_tables (λ n. (n == 3) ≡ false) f x (refl, (refl, (refl, (refl, (refl, (refl, (refl, (refl, (refl, (refl, (refl, tt)))))))))))
 
 -- ---- it starts
 
@@ -93,6 +97,11 @@ module _ {S : Type 0} (number : S → ℕ) (rows : List (SubstrateRow S)) (state
   substrate_start : (f : ToolFloor) (row : ℕ) (o : Option Substrate) → AllByRecursion (λ r. row_of rows r.number ≡ Some r) rows → substrate_ready number rows state o f ≡ Some row → substrate_starts number rows state row o f ≡ true
   substrate_start f row None apart e = absurd (cc)
   substrate_start f row (Some s) apart e = ready_may_fire number (λ want. substrate_wants want s f) rows row (state s.states) apart e
+
+move_start : (f : ToolFloor) (row : ℕ) (plan : Option Move) (o : Option Module) → move_ready plan o ≡ Some row → move_starts row plan o ≡ true
+move_start f row plan None e = absurd (cc)
+move_start f row plan (Some m) e =
+    ready_may_fire state_number (λ want. move_wants want plan m) move_table row (state_of m) (refl, (refl, (refl, (refl, (refl, (refl, (refl, (refl, (refl, (refl, tt)))))))))) e
 
 all_start : (f : ToolFloor) → AllByRecursion (λ (m : Machine ToolFloor). (object row : ℕ) → m.ready object f ≡ Some row → floor_starts (firing m.table object row) f ≡ true) floor_machines
 all_start f =
@@ -116,7 +125,7 @@ all_start f =
                       (λ o r e. substrate_start transport_number transport_table (λ s. s.transport) f r (substrate_numbered o f.substrates) (refl, (refl, (refl, tt))) e),
                       (
                         (λ o r e. substrate_start processing_number processing_table (λ s. s.processing) f r (substrate_numbered o f.substrates) (refl, (refl, (refl, (refl, (refl, (refl, (refl, (refl, tt)))))))) e),
-                        ((λ o r e. no_row (move_machine.ready o f) r (none_moves (module_at o f.modules)) e), tt),
+                        ((λ o r e. move_start f r (planned o f) (module_at o f.modules) e), tt),
                       ),
                     ),
                   ),
@@ -277,6 +286,34 @@ creations_start f x = (follows x f).start
 
 -- ---- what stays true
 
+-- what a row of processing or of moves does leaves the load ports and the carriers
+processing_shop : (row n : ℕ) (f : ToolFloor) → IsFloor f.shop → IsFloor (floor_fired (firing 13 n row) f).shop
+processing_shop row n f valid =
+    looked_for (λ (o : Option (SubstrateRow Processing)). IsFloor (found_does o (substrate_numbered n f.substrates) f).shop) processing_table row valid
+    (valid, (valid, (valid, (valid, (valid, (valid, (valid, (valid, tt))))))))
+
+issued_shop : (number : ℕ) (plan : Option Move) (f : ToolFloor) → IsFloor f.shop → IsFloor (issued number plan f).shop
+issued_shop number None f valid = valid
+issued_shop number (Some m) f valid = valid
+
+aligned_shop : (o : Option Task) (f : ToolFloor) → IsFloor f.shop → IsFloor (aligned_by o f).shop
+aligned_shop None f valid = valid
+aligned_shop (Some (task.Pick sub from)) f valid = valid
+aligned_shop (Some (task.Place sub to)) f valid = valid
+aligned_shop (Some (task.Align sub)) f valid = valid
+aligned_shop (Some (task.Process sub recipe)) f valid = valid
+
+move_shop : (row number : ℕ) (f : ToolFloor) → IsFloor f.shop → IsFloor (moved_by row number f).shop
+move_shop row number f valid =
+    let plan = planned number f in
+    looked_for (λ (o : Option MoveRow). IsFloor (found_move o number plan f).shop) move_table row valid (
+      issued_shop number plan f valid,
+      (
+        issued_shop number plan f valid,
+        (issued_shop number plan f valid, (issued_shop number plan f valid, (valid, (aligned_shop (open_task (module_at number f.modules)) f valid, (valid, (valid, (valid, (valid, tt)))))))),
+      ),
+    )
+
 -- the load ports and the carriers stay valid behind each row that starts
 pub row-keeps : (x : Firing) (f : ToolFloor) → floor_starts x f ≡ true → IsFloor f.shop → IsFloor (floor_fired x f).shop
 row-keeps x f starts valid =
@@ -292,7 +329,7 @@ row-keeps x f starts valid =
               (λ s. shop_keeps (firing 8 x.object x.row.row) f.shop s valid),
               (
                 (λ s. shop_keeps (firing 9 x.object x.row.row) f.shop s valid),
-                ((λ s. accessing-keeps f.shop x.object x.row.row valid), ((λ s. valid), ((λ s. valid), ((λ s. valid), ((λ s. valid), tt))))),
+                ((λ s. accessing-keeps f.shop x.object x.row.row valid), ((λ s. valid), ((λ s. valid), ((λ s. processing_shop x.row.row x.object f valid), ((λ s. move_shop x.row.row x.object f valid), tt))))),
               ),
             ),
           ),
@@ -316,4 +353,5 @@ pub opening_quiet : (ports chambers : ℕ) → floor_least (opening ports chambe
 opening_quiet ports chambers =
     let f = opening ports chambers in
     let locations : first_ready_location f ≡ None = none_ready 11 (λ number. location_ready number (location_at number f.locations) f) (location_numbers 1 f.locations) (quiet_location ports chambers) in
-    least_floor f ∙ rw (shop_quiet ports, locations) refl
+    let moves : first_move f ≡ None = none_to_move f (λ number. nothing_moves number [] (first_modules chambers) tt) in
+    least_floor f ∙ rw (shop_quiet ports, locations, moves) refl

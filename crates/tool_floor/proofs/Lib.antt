@@ -5,3 +5,5 @@ pub mod Registrations
 pub mod Falls
 pub mod Keeping
 pub mod Working
+pub mod Moves
+pub mod Showing

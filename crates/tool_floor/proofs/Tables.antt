@@ -15,9 +15,10 @@ use Rattle.shop_floor.specs.Machines.{transfer_machine, access_machine, reservat
 use Rattle.shop_floor.proofs.Shapes.{no_accessing}
 use Rattle.tool_floor.specs.Floor.{ToolFloor, with_shop, with_module, module_numbers, number_of, location_at, change_location, location_numbers, substrate_numbered}
 use Rattle.substrate.specs.Record.{location_fired}
-use Rattle.tool_floor.specs.Modules.{move_starts, move_ready, module_behind}
+use Rattle.tool_floor.specs.Views.{planned}
+use Rattle.tool_floor.specs.Modules.{move_starts, move_ready}
 use Rattle.tool_floor.specs.Substrates.{new_rows}
-use Rattle.tool_floor.specs.Machines.{registered_by, accessing_ready, location_ready, location_machine, transport_machine, processing_machine, move_machine, floor_starts, floor_fired, creation_rows, floor_least, object_name}
+use Rattle.tool_floor.specs.Machines.{moved_by, registered_by, accessing_ready, location_ready, location_machine, transport_machine, processing_machine, move_machine, floor_starts, floor_fired, creation_rows, floor_least, object_name}
 
 -- ---- numbers of tables
 
@@ -110,13 +111,6 @@ module _ (x : Firing) (f : ToolFloor) where
 
 -- ---- what is ready
 
--- no row of the table of moves is ready by itself, while none is given
-pub none_moves : (m : Option Module) → move_ready m ≡ None
-none_moves None = refl
-none_moves (Some Idle) = refl
-none_moves (Some (Busy command fetched)) = refl
-none_moves (Some Down) = refl
-
 none_option : {A : Type 0} (o : Option A) → ((a : A) → o ≡ Some a → o ≡ None) → o ≡ None
 none_option None f = refl
 none_option (Some a) f = f a refl
@@ -138,8 +132,11 @@ first_transport f = first_ready 12 (λ n. transport_machine.ready n f) (map numb
 abbrev pub first_processing : ToolFloor → Option Firing
 first_processing f = first_ready 13 (λ n. processing_machine.ready n f) (map number_of f.substrates)
 
+abbrev pub first_move : ToolFloor → Option Firing
+first_move f = first_ready 16 (λ number. move_ready (planned number f) (module_at number f.modules)) (module_numbers 1 f.modules)
+
 abbrev pub first_of_others : ToolFloor → Option Firing
-first_of_others f = option_or (first_accessing f) (option_or (first_location f) (option_or (first_transport f) (first_processing f)))
+first_of_others f = option_or (first_accessing f) (option_or (first_location f) (option_or (first_transport f) (option_or (first_processing f) (first_move f))))
 
 or_nothing : {A : Type 0} (o : Option A) → option_or o None ≡ o
 or_nothing None = refl
@@ -153,9 +150,7 @@ none_accessing s =
 -- the least row is that of the load ports and the carriers, and else the first of the others
 pub least_floor : (f : ToolFloor) → floor_least f ≡ option_or (shop_least f.shop) (first_of_others f)
 least_floor f =
-    let moves : first_ready 16 (λ n. move_ready (module_at n f.modules)) (module_numbers 1 f.modules) ≡ None =
-    none_ready 16 (λ n. move_ready (module_at n f.modules)) (module_numbers 1 f.modules) (λ n. none_moves (module_at n f.modules)) in
-    rw (moves, or_nothing (first_processing f), none_accessing f.shop)
+    rw (or_nothing (first_move f), none_accessing f.shop)
     (of (first_ready 4 (λ n. transfer_machine.ready n f.shop) (numbers_from 1 f.shop.ports)) (first_ready 5 (λ n. access_machine.ready n f.shop) (numbers_from 1 f.shop.ports)) (first_ready 6 (λ n. reservation_machine.ready n f.shop) (numbers_from 1 f.shop.ports))
     (first_ready 7 (λ n. association_machine.ready n f.shop) (numbers_from 1 f.shop.ports)) (first_ready 8 (λ n. id_machine.ready n f.shop) (map carrier_number f.shop.carriers)) (first_ready 9 (λ n. map_machine.ready n f.shop) (map carrier_number f.shop.carriers)) (first_of_others f)) where
       of : (a b c d e g rest : Option Firing) → option_or a (option_or b (option_or c (option_or d (option_or e (option_or g rest))))) ≡ option_or (option_or a (option_or b (option_or c (option_or d (option_or e (option_or g (option_or None None))))))) rest
@@ -182,8 +177,11 @@ module _ (x : Firing) (f : ToolFloor) where
   pub created_map : x.row.table ≡ 9 → creation_rows x f ≡ new_rows f (registered_by x.row.row x.object f)
   created_map is = subst (λ (t : ℕ). creation_rows (firing t x.object x.row.row) f ≡ new_rows f (registered_by x.row.row x.object f)) (sym is) refl
 
-  pub fired_move : x.row.table ≡ 16 → floor_fired x f ≡ with_module x.object (module_behind x.row.row) f
-  fired_move is = subst (λ (t : ℕ). floor_fired (firing t x.object x.row.row) f ≡ with_module x.object (module_behind x.row.row) f) (sym is) refl
+  pub fired_move : x.row.table ≡ 16 → floor_fired x f ≡ moved_by x.row.row x.object f
+  fired_move is = subst (λ (t : ℕ). floor_fired (firing t x.object x.row.row) f ≡ moved_by x.row.row x.object f) (sym is) refl
+
+  pub starts_move : x.row.table ≡ 16 → floor_starts x f ≡ move_starts x.row.row (planned x.object f) (module_at x.object f.modules)
+  starts_move is = subst (λ (t : ℕ). floor_starts (firing t x.object x.row.row) f ≡ move_starts x.row.row (planned x.object f) (module_at x.object f.modules)) (sym is) refl
 
 -- ---- which is the least
 
@@ -200,5 +198,8 @@ module _ (f : ToolFloor) (x : Firing) where
   pub least_fourth : shop_least f.shop ≡ None → first_accessing f ≡ None → first_location f ≡ None → first_transport f ≡ Some x → Some x ≡ floor_least f
   least_fourth e a l t = sym (least_floor f ∙ rw (e, a, l, t) refl)
 
-pub least_last : (f : ToolFloor) → shop_least f.shop ≡ None → first_accessing f ≡ None → first_location f ≡ None → first_transport f ≡ None → first_processing f ≡ floor_least f
-least_last f e a l t = sym (least_floor f ∙ rw (e, a, l, t) refl)
+pub least_fifth : (f : ToolFloor) (x : Firing) → shop_least f.shop ≡ None → first_accessing f ≡ None → first_location f ≡ None → first_transport f ≡ None → first_processing f ≡ Some x → Some x ≡ floor_least f
+least_fifth f x e a l t p = sym (least_floor f ∙ rw (e, a, l, t, p) refl)
+
+pub least_last : (f : ToolFloor) → shop_least f.shop ≡ None → first_accessing f ≡ None → first_location f ≡ None → first_transport f ≡ None → first_processing f ≡ None → first_move f ≡ floor_least f
+least_last f e a l t p = sym (least_floor f ∙ rw (e, a, l, t, p) refl)

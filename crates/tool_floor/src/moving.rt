@@ -39,16 +39,6 @@ impl ToolFloor {
         Ok(())
     }
 
-    // The task of the open command of a module.
-    pub(crate) fn open_task(&self, m: ModuleId) -> Option<Task>
-        ensures { result ≡ open_task (module_at m.0 self.now.modules) }
-    {
-        match self.modules.get(m) {
-            Some(Module::Busy { command, .. }) => Some(command.task),
-            _ => None,
-        }
-    }
-
     // A substrate goes from a place of the tool to another.
     fn go(&mut self, sub: SubstrateId, from: LocId, to: LocId)
         ensures { self.new ≡ record self.old { places = goes sub from to self.old.places } }
@@ -58,16 +48,23 @@ impl ToolFloor {
         }
     }
 
-    // What a Pick or a Place that is done moves.
-    fn transfer(&mut self, task: Option<Task>)
-        ensures { self.new ≡ record self.old { places = transferred task self.old.places } }
+    // What is done by a task of a Pick or a Place is moved.
+    fn transfer_by(&mut self, task: &Task)
+        ensures { self.new ≡ record self.old { places = transferred (Some task.now) self.old.places } }
     {
-        // The borrow checker has to be told here of the types that a command holds.
-        let _: Option<(Command, Task)> = None;
         match task {
-            Some(Task::Pick { sub, from }) => self.go(sub, from, LocId::Arm),
-            Some(Task::Place { sub, to }) => self.go(sub, LocId::Arm, to),
+            Task::Pick { sub, from } => self.go(*sub, *from, LocId::Arm),
+            Task::Place { sub, to } => self.go(*sub, LocId::Arm, *to),
             _ => {}
+        }
+    }
+
+    // What the open command of a module moves.
+    fn transfer(&mut self, m: ModuleId)
+        ensures { self.new ≡ record self.old { places = transferred (open_task (module_at m.0 self.old.modules)) self.old.places } }
+    {
+        if let Some(Module::Busy { command, .. }) = self.modules.get(m) {
+            self.transfer_by(&command.task);
         }
     }
 
@@ -81,15 +78,22 @@ impl ToolFloor {
         }
     }
 
-    // What an Align that is done aligns.
-    fn align(&mut self, task: Option<Task>)
-        ensures { self.new ≡ aligned_by task self.old }
+    // What is done by a task of an Align is aligned.
+    fn align_by(&mut self, task: &Task)
+        ensures { self.new ≡ aligned_by (Some task.now) self.old }
     {
-        // The borrow checker has to be told here of the types that a command holds.
-        let _: Option<(Command, Task)> = None;
-        if let Some(Task::Align { sub }) = task {
-            let number = self.number_named(sub);
+        if let Task::Align { sub } = task {
+            let number = self.number_named(*sub);
             self.align_numbered(number);
+        }
+    }
+
+    // What the open command of a module aligns.
+    fn align(&mut self, m: ModuleId)
+        ensures { self.new ≡ aligned_by (open_task (module_at m.0 self.old.modules)) self.old }
+    {
+        if let Some(Module::Busy { command, .. }) = self.modules.get(m) {
+            self.align_by(&command.task);
         }
     }
 
@@ -126,11 +130,10 @@ impl ToolFloor {
         requires { is_one_of (1 ∷ 2 ∷ 3 ∷ 4 ∷ []) row ≡ false }
         ensures { self.new ≡ moved_by row m.0 self.old }
     {
-        let task = self.open_task(m);
         if row == 5 {
-            self.transfer(task);
+            self.transfer(m);
         } else if row == 6 {
-            self.align(task);
+            self.align(m);
         }
         rows::fire(row, m, &mut self.modules);
     }

@@ -3,6 +3,7 @@
 ghost use Rattle.std.specs.Prelude.{◌≡◌, ◌≤◌, [], true, false, length, Some};
 ghost use Rattle.gem_tables.specs.Machine.{first_ready};
 ghost use Rattle.robot_moves.specs.Modules.{module_at};
+ghost use Rattle.robot_moves.specs.Moves.{next_move};
 ghost use Rattle.tool_floor.specs.Floor.{module_numbers};
 ghost use Rattle.tool_floor.specs.Views.{view_of, views, planned};
 ghost use Rattle.tool_floor.specs.Modules.{is_by, move_ready, move_starts};
@@ -57,8 +58,23 @@ impl ToolFloor {
         if !self.is_any_at_work() {
             return None;
         }
+        self.plan_of(m)
+    }
+
+    // The same, by all that the planner is told.
+    fn plan_of(&self, m: ModuleId) -> Option<Move>
+        ensures { result ≡ planned m.0 self.now }
+    {
         let planner = Planner::new().unwrap();
         planner.of_module(m, self.views().as_slice(), &self.modules)
+    }
+
+    // The next move of all modules.
+    fn next_move(&self) -> Option<Move>
+        ensures { result ≡ next_move (views self.now) self.now.modules }
+    {
+        let planner = Planner::new().unwrap();
+        planner.next(self.views().as_slice(), &self.modules)
     }
 
     // The row of table 16 that is ready at the first module at which one is.
@@ -68,8 +84,7 @@ impl ToolFloor {
         if !self.is_any_at_work() {
             return None;
         }
-        let planner = Planner::new().unwrap();
-        match planner.next(self.views().as_slice(), &self.modules) {
+        match self.next_move() {
             Some(next) => Some(Firing::new(MOVES, u64::from(next.module.0), next.row)),
             None => None,
         }

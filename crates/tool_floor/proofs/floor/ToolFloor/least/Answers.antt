@@ -1,5 +1,5 @@
 use Rattle.std.proofs.Common.{sym, ◌∙◌}
-use Rattle.tool_floor.proofs.Tables.{least_first, least_second, least_third, least_fourth, least_last}
+use Rattle.tool_floor.proofs.Tables.{least_first, least_second, least_third, least_fourth, least_fifth, least_last}
 use Rattle.tool_floor.proofs.floor.ToolFloor.least.Goals as goal
 
 pub returns-in-Some : goal.returns-in-Some
@@ -19,8 +19,13 @@ returns-in-Some-ready_substrate c =
     least_fourth c.args.self.now c.in-Some-ready_substrate.x (sym c.least_of_shop.ensures ∙ c.in_default.is) (sym c.ready_accessing.ensures ∙ c.in_default-ready_accessing.is)
     (sym c.ready_location.ensures ∙ c.in_default-ready_location.is) (sym c.ready_substrate.ensures ∙ c.in-Some-ready_substrate.is)
 
+pub returns-in-Some-ready_substrate-2 : goal.returns-in-Some-ready_substrate-2
+returns-in-Some-ready_substrate-2 c =
+    least_fifth c.args.self.now c.in-Some-ready_substrate-2.x (sym c.least_of_shop.ensures ∙ c.in_default.is) (sym c.ready_accessing.ensures ∙ c.in_default-ready_accessing.is)
+    (sym c.ready_location.ensures ∙ c.in_default-ready_location.is) (sym c.ready_substrate.ensures ∙ c.in_default-ready_substrate.is) (sym c.ready_substrate-2.ensures ∙ c.in-Some-ready_substrate-2.is)
+
 pub returns : goal.returns
 returns c =
-    c.ready_substrate-2.ensures
+    c.ready_move.ensures
     ∙ least_last c.args.self.now (sym c.least_of_shop.ensures ∙ c.in_default.is) (sym c.ready_accessing.ensures ∙ c.in_default-ready_accessing.is)
-    (sym c.ready_location.ensures ∙ c.in_default-ready_location.is) (sym c.ready_substrate.ensures ∙ c.in_default-ready_substrate.is)
+    (sym c.ready_location.ensures ∙ c.in_default-ready_location.is) (sym c.ready_substrate.ensures ∙ c.in_default-ready_substrate.is) (sym c.ready_substrate-2.ensures ∙ c.in_default-ready_substrate-2.is)

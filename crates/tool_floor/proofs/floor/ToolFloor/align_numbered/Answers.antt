@@ -1,0 +1,10 @@
+use Rattle.std.proofs.Common.{subst, sym, refl}
+use Rattle.tool_floor.specs.Kept.{RiseTo}
+use Rattle.tool_floor.specs.Modules.{aligned}
+use Rattle.tool_floor.proofs.Scans.{rise_changed}
+use Rattle.tool_floor.proofs.floor.ToolFloor.align_numbered.Goals as goal
+
+pub invariant_of-self : goal.invariant_of-self
+invariant_of-self c =
+    subst (RiseTo 0 c.self.inside.places.given) (sym c.align.ensures)
+    (rise_changed 0 c.self.inside.places.given c.in-Some.number aligned c.self.inside.substrates (λ s. refl) c.self.invariant)

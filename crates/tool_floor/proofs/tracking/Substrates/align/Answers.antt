@@ -1,0 +1,40 @@
+use Rattle.std.proofs.Common.{◌≡◌, ◌==◌, ◌≤◌, ◌<◌, Bool, true, false, List, length, set, Some, slice_get, refl, sym, ap, subst, ◌∙◌, arith}
+use Rattle.std.proofs.lemmas.Bool.Decides.{nat_tests}
+use Rattle.tool_floor.specs.declared.tracking.Substrate.{Substrate}
+use Rattle.tool_floor.specs.Floor.{change_numbered}
+use Rattle.tool_floor.specs.Modules.{aligned}
+use Rattle.tool_floor.proofs.Scans.{got_at, changed_here, changed_next, changed_end}
+use Rattle.tool_floor.proofs.tracking.Substrates.align.Goals as goal
+
+pub returns-then-substrate-number : goal.returns-then-substrate-number
+returns-then-substrate-number c =
+    let s : Substrate = c.index-substrate.result.now in
+    let items : List Substrate = c.self.inside.list.items in
+    let count = c.len-place-end.ensures in
+    let kept = c.loop-place.invariant.0 in
+    let here = subst (λ (xs : List Substrate). slice_get xs c.loop-place.place ≡ Some s) kept
+    (got_at c.loop-place.self-inside.list.items c.loop-place.place s (subst (λ (xs : List Substrate). c.loop-place.place < length xs) (sym kept) (omega (arith, count, c.loop-place-test.true))) c.index-substrate.ensures) in
+    let is : (s.number == c.args.number) ≡ true = grind (arith, nat_tests, c.if-substrate-number.true) in
+    ap (λ (xs : List Substrate). set xs c.loop-place.place (aligned s)) kept
+    ∙ sym (changed_here c.args.number aligned items c.loop-place.place s here is)
+    ∙ c.loop-place.invariant.1
+    ∙ ap (λ (ss : List Substrate). change_numbered c.args.number aligned ss) c.self.view_is
+
+pub loop-place-preserved : goal.loop-place-preserved
+loop-place-preserved c =
+    let s : Substrate = c.index-substrate.result.now in
+    let items : List Substrate = c.self.inside.list.items in
+    let count = c.len-place-end.ensures in
+    let kept = c.loop-place.invariant.0 in
+    let here = subst (λ (xs : List Substrate). slice_get xs c.loop-place.place ≡ Some s) kept
+    (got_at c.loop-place.self-inside.list.items c.loop-place.place s (subst (λ (xs : List Substrate). c.loop-place.place < length xs) (sym kept) (omega (arith, count, c.loop-place-test.true))) c.index-substrate.ensures) in
+    let is : (s.number == c.args.number) ≡ false = grind (arith, nat_tests, c.if-substrate-number.false) in
+    (kept, changed_next c.args.number aligned items c.loop-place.place s here is ∙ c.loop-place.invariant.1)
+
+pub returns : goal.returns
+returns c =
+    let count = c.len-place-end.ensures in
+    c.loop-place.invariant.0
+    ∙ sym (changed_end c.args.number aligned c.self.inside.list.items c.loop-place.place (omega (arith, c.loop-place-test.false, count)))
+    ∙ c.loop-place.invariant.1
+    ∙ ap (λ (ss : List Substrate). change_numbered c.args.number aligned ss) c.self.view_is

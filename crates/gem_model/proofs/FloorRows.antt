@@ -28,7 +28,12 @@ use Rattle.gem_model.specs.Machines.{creations, fire_floor, object_name, row_sta
 use Rattle.gem_model.specs.Noting.{line_behind}
 use Rattle.gem_model.specs.Fire.{fire, fire_all, advanced}
 use Rattle.std.specs.List.{AllByRecursion}
-use Rattle.tool_floor.specs.Signals.{at_module, done_rows, done_row}
+use Rattle.tool_floor.specs.Floor.{substrate_numbered}
+use Rattle.tool_floor.specs.Modules.{number_named}
+use Rattle.robot_moves.specs.Modules.{module_at}
+use Rattle.tool_events.specs.declared.answer.Task.{Task}
+use Rattle.tool_events.specs.declared.answer.Task.TheVariants as task
+use Rattle.tool_floor.specs.Signals.{at_module, at_processed, processed_rows, done_at, done_rows, done_row, closing_at, closing_rows, can_be_lost, lost_at, lost_rows}
 use Rattle.tool_floor.specs.Machines.{floor_starts, creation_rows, is_creation, floor_least, object_name as floor_object}
 use Rattle.tool_floor.proofs.Keeping as keeping
 use Rattle.tool_floor.proofs.Keeping.{AreCreations, creation_not, creation_last, not_table_1, not_table_2, not_table_3}
@@ -157,11 +162,43 @@ is_16 n row = record { not_1 = refl; not_2 = refl; not_3 = refl }
 pub module_are : (row number : ℕ) → AreFloorRows (at_module row number)
 module_are row number = (is_16 number row, tt)
 
-pub done_are : (number : ℕ) (m : Option Module) → AreFloorRows (done_rows number m)
-done_are number None = tt
-done_are number (Some Idle) = tt
-done_are number (Some (Busy command fetched)) = module_are (done_row command.task) number
-done_are number (Some Down) = tt
+is_13 : (n row : ℕ) → IsFloorRow (firing 13 n row)
+is_13 n row = record { not_1 = refl; not_2 = refl; not_3 = refl }
+
+at_processed_are : (row : ℕ) (o : Option ℕ) → AreFloorRows (at_processed row o)
+at_processed_are row None = tt
+at_processed_are row (Some n) = (is_13 n row, tt)
+
+processed_are : (row : ℕ) (what : Task) (f : ToolFloor) → AreFloorRows (processed_rows row what f)
+processed_are row (task.Pick sub from) f = tt
+processed_are row (task.Place sub to) f = tt
+processed_are row (task.Align sub) f = tt
+processed_are row (task.Process sub recipe) f = at_processed_are row (number_named sub f.places)
+
+done_at_are : (number : ℕ) (m : Option Module) (f : ToolFloor) → AreFloorRows (done_at number m f)
+done_at_are number None f = tt
+done_at_are number (Some Idle) f = tt
+done_at_are number (Some (Busy command fetched)) f = (is_16 number (done_row command.task), processed_are 3 command.task f)
+done_at_are number (Some Down) f = tt
+
+pub done_are : (number : ℕ) (f : ToolFloor) → AreFloorRows (done_rows number f)
+done_are number f = done_at_are number (module_at number f.modules) f
+
+closing_at_are : (row number : ℕ) (m : Option Module) (f : ToolFloor) → AreFloorRows (closing_at row number m f)
+closing_at_are row number None f = module_are row number
+closing_at_are row number (Some Idle) f = module_are row number
+closing_at_are row number (Some (Busy command fetched)) f = (is_16 number row, processed_are 4 command.task f)
+closing_at_are row number (Some Down) f = module_are row number
+
+pub closing_are : (row number : ℕ) (f : ToolFloor) → AreFloorRows (closing_rows row number f)
+closing_are row number f = closing_at_are row number (module_at number f.modules) f
+
+lost_at_are : (o : Option ℕ) (f : ToolFloor) → AreFloorRows (lost_at o f)
+lost_at_are None f = tt
+lost_at_are (Some n) f = either_way AreFloorRows (can_be_lost (substrate_numbered n f.substrates) f) (firing 13 n 8 ∷ []) [] (is_13 n 8, tt) tt
+
+pub lost_are : (sub : List ℕ) (f : ToolFloor) → AreFloorRows (lost_rows sub f)
+lost_are sub f = lost_at_are (number_named sub f.places) f
 
 -- ---- what a firing creates
 

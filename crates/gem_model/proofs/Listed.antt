@@ -28,11 +28,12 @@ use Rattle.gem_model.specs.Messages.{done, gem_done, shop_done, remote_done}
 use Rattle.gem_model.specs.Spooling.{unload_rows}
 use Rattle.gem_model.specs.Direct.{Are, IsListed, by_comm, by_control, note_fails, attempt_fails, all_fail, operator_rows, answer_rows, timeout_rows, session_end_rows, establish_answer, attempt_answer}
 use Rattle.gem_model.proofs.Tests.{either_way}
-use Rattle.gem_model.proofs.FloorRows.{IsFloorRow, AreFloorRows, module_are, done_are, placing_are, removal_are, shop_are, service_are, access_are, advanced_keeps}
+use Rattle.gem_model.proofs.FloorRows.{IsFloorRow, AreFloorRows, module_are, done_are, closing_are, lost_are, placing_are, removal_are, shop_are, service_are, access_are, advanced_keeps}
 use Rattle.shop_floor.specs.Requests.{at_port, removal}
 use Rattle.robot_moves.specs.declared.module.Module.{Module}
 use Rattle.tool_floor.specs.Machines.{is_creation}
-use Rattle.tool_floor.specs.Signals.{at_module, done_rows}
+use Rattle.tool_floor.specs.Floor.{ToolFloor}
+use Rattle.tool_floor.specs.Signals.{at_module, done_rows, closing_rows, lost_rows}
 
 pub are_both : (Is : Firing → Type 0) (fs gs : List Firing) → Are Is fs → Are Is gs → Are Is (fs ++ gs)
 are_both Is [] gs first next = next
@@ -183,5 +184,11 @@ free_removal port g = of_floor (removal port) (removal_are port)
 pub free_module : (row number : ℕ) → AreFree (at_module row number)
 free_module row number = of_floor (at_module row number) (module_are row number)
 
-pub free_done : (number : ℕ) (m : Option Module) → AreFree (done_rows number m)
-free_done number m = of_floor (done_rows number m) (done_are number m)
+pub free_done : (number : ℕ) (f : ToolFloor) → AreFree (done_rows number f)
+free_done number f = of_floor (done_rows number f) (done_are number f)
+
+pub free_closing : (row number : ℕ) (f : ToolFloor) → AreFree (closing_rows row number f)
+free_closing row number f = of_floor (closing_rows row number f) (closing_are row number f)
+
+pub free_lost : (sub : List ℕ) (f : ToolFloor) → AreFree (lost_rows sub f)
+free_lost sub f = of_floor (lost_rows sub f) (lost_are sub f)

@@ -32,7 +32,7 @@ use Rattle.gem_model.specs.Signals.{lacks_port, port_row_starts, port_alarm, wit
 use Rattle.tool_events.specs.declared.answer.Command.{Command}
 use Rattle.robot_moves.specs.Modules.{is_open, unfetched, is_up as is_up_module}
 use Rattle.tool_floor.specs.Floor.{with_shop}
-use Rattle.tool_floor.specs.Signals.{at_module, done_rows}
+use Rattle.tool_floor.specs.Signals.{done_rows, closing_rows}
 use Rattle.spool.specs.declared.note.Kind.{Kind}
 use Rattle.spool.specs.declared.note.Kind.TheVariants.{Event, Alarm}
 use Rattle.spool.specs.declared.note.Note.{Note}
@@ -300,26 +300,26 @@ tells_removed g port =
 
 tells_module_done : (g : State) (number command : ℕ) → Tells g (by_done number command g) (module_done number command g)
 tells_module_done g number command =
-    both_ways g (is_open command (module_of number g)) (fire_listed (done_rows number (module_of number g)) g) (sets_alarm answer_alarm g)
-    (by_listed (done_rows number (module_of number g)) g) (by_setting answer_alarm g)
-    (tells_listed (done_rows number (module_of number g)) g) (tells_set g answer_alarm)
+    both_ways g (is_open command (module_of number g)) (fire_listed (done_rows number g.floor) g) (sets_alarm answer_alarm g)
+    (by_listed (done_rows number g.floor) g) (by_setting answer_alarm g)
+    (tells_listed (done_rows number g.floor) g) (tells_set g answer_alarm)
 
 -- the alarm of a module is set, and then a row fires
-tells_alarm_row : (g : State) (row number : ℕ) → Tells g (by_setting (module_alarm number) g ++ by_listed (at_module row number) (sets_alarm (module_alarm number) g)) (fire_listed (at_module row number) (sets_alarm (module_alarm number) g))
+tells_alarm_row : (g : State) (row number : ℕ) → Tells g (by_setting (module_alarm number) g ++ by_listed (closing_rows row number g.floor) (sets_alarm (module_alarm number) g)) (fire_listed (closing_rows row number g.floor) (sets_alarm (module_alarm number) g))
 tells_alarm_row g row number =
-    tells_then g (sets_alarm (module_alarm number) g) (fire_listed (at_module row number) (sets_alarm (module_alarm number) g)) _ _
-    (tells_set g (module_alarm number)) (tells_listed (at_module row number) (sets_alarm (module_alarm number) g))
+    tells_then g (sets_alarm (module_alarm number) g) (fire_listed (closing_rows row number g.floor) (sets_alarm (module_alarm number) g)) _ _
+    (tells_set g (module_alarm number)) (tells_listed (closing_rows row number g.floor) (sets_alarm (module_alarm number) g))
 
 tells_module_failed : (g : State) (number command : ℕ) → Tells g (by_failed number command g) (module_failed number command g)
 tells_module_failed g number command =
-    both_ways g (is_open command (module_of number g)) (fire_listed (at_module 8 number) (sets_alarm (module_alarm number) g)) (sets_alarm answer_alarm g)
-    (by_setting (module_alarm number) g ++ by_listed (at_module 8 number) (sets_alarm (module_alarm number) g)) (by_setting answer_alarm g)
+    both_ways g (is_open command (module_of number g)) (fire_listed (closing_rows 8 number g.floor) (sets_alarm (module_alarm number) g)) (sets_alarm answer_alarm g)
+    (by_setting (module_alarm number) g ++ by_listed (closing_rows 8 number g.floor) (sets_alarm (module_alarm number) g)) (by_setting answer_alarm g)
     (tells_alarm_row g 8 number) (tells_set g answer_alarm)
 
 tells_module_down : (g : State) (number : ℕ) → Tells g (by_down number g) (module_down number g)
 tells_module_down g number =
-    both_ways g (is_up_module (module_of number g)) (fire_listed (at_module 9 number) (sets_alarm (module_alarm number) g)) g
-    (by_setting (module_alarm number) g ++ by_listed (at_module 9 number) (sets_alarm (module_alarm number) g)) []
+    both_ways g (is_up_module (module_of number g)) (fire_listed (closing_rows 9 number g.floor) (sets_alarm (module_alarm number) g)) g
+    (by_setting (module_alarm number) g ++ by_listed (closing_rows 9 number g.floor) (sets_alarm (module_alarm number) g)) []
     (tells_alarm_row g 9 number) (tells_at g)
 
 tells_signalled : (s : Signal) (g : State) → Tells g (by_signal s g) (signalled s g)

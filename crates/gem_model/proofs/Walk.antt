@@ -54,7 +54,7 @@ use Rattle.tool_events.specs.declared.answer.Command.{Command}
 use Rattle.robot_moves.specs.Modules.{is_open, unfetched, is_up as is_up_module}
 use Rattle.tool_floor.specs.Floor.{with_shop, fetched}
 use Rattle.tool_floor.specs.Machines.{is_creation}
-use Rattle.tool_floor.specs.Signals.{at_module, done_rows}
+use Rattle.tool_floor.specs.Signals.{done_rows, closing_rows}
 use Rattle.gem_model.specs.Direct.{operator_rows, timeout_rows}
 use Rattle.gem_model.specs.Verdict.{Verdict, Discarded, Stream9, Aborted, Answers, Taken, verdict, header_of, item_of, wants_reply, stream_of, function_of}
 use Rattle.gem_model.specs.Act.{replied, taken, closed_by, data_act, session_ended}
@@ -64,7 +64,7 @@ use Rattle.gem_model.specs.Step as steps
 use Rattle.gem_model.specs.Step.{Outcome, step, step_from, acts, linked, hosted, can_clear, can_come_up, operated, switched, quits, settles}
 use Rattle.gem_model.proofs.Tests.{went, either_way, none_some}
 use Rattle.gem_model.specs.Direct.{Are}
-use Rattle.gem_model.proofs.Listed.{IsFree, listed_keeps, free_module, free_done, free_message, free_enable, free_online, free_offline, free_local, free_remote, free_service, free_access, free_placing, free_removal}
+use Rattle.gem_model.proofs.Listed.{IsFree, listed_keeps, free_module, free_done, free_closing, free_lost, free_message, free_enable, free_online, free_offline, free_local, free_remote, free_service, free_access, free_placing, free_removal}
 use Rattle.gem_model.proofs.Settling.{settled_keeps}
 use Rattle.hsms_link.specs.declared.state.LinkState.{LinkState}
 use Rattle.event_reports.specs.Reports.{Reports}
@@ -232,18 +232,18 @@ module _ (P : State → Type 0) (inner : Inner P) where
 
   kept_module_done : (number command : ℕ) (g : State) → P g → P (module_done number command g)
   kept_module_done number command g at =
-      either_way P (is_open command (module_of number g)) (fire_listed (done_rows number (module_of number g)) g) (sets_alarm answer_alarm g)
-      (kept_listed (done_rows number (module_of number g)) (free_done number (module_of number g)) g at) (kept_set g answer_alarm at)
+      either_way P (is_open command (module_of number g)) (fire_listed (done_rows number g.floor) g) (sets_alarm answer_alarm g)
+      (kept_listed (done_rows number g.floor) (free_done number g.floor) g at) (kept_set g answer_alarm at)
 
   kept_module_failed : (number command : ℕ) (g : State) → P g → P (module_failed number command g)
   kept_module_failed number command g at =
-      either_way P (is_open command (module_of number g)) (fire_listed (at_module 8 number) (sets_alarm (module_alarm number) g)) (sets_alarm answer_alarm g)
-      (kept_listed (at_module 8 number) (free_module 8 number) (sets_alarm (module_alarm number) g) (kept_set g (module_alarm number) at)) (kept_set g answer_alarm at)
+      either_way P (is_open command (module_of number g)) (fire_listed (closing_rows 8 number g.floor) (sets_alarm (module_alarm number) g)) (sets_alarm answer_alarm g)
+      (kept_listed (closing_rows 8 number g.floor) (free_closing 8 number g.floor) (sets_alarm (module_alarm number) g) (kept_set g (module_alarm number) at)) (kept_set g answer_alarm at)
 
   kept_module_down : (number : ℕ) (g : State) → P g → P (module_down number g)
   kept_module_down number g at =
-      either_way P (is_up_module (module_of number g)) (fire_listed (at_module 9 number) (sets_alarm (module_alarm number) g)) g
-      (kept_listed (at_module 9 number) (free_module 9 number) (sets_alarm (module_alarm number) g) (kept_set g (module_alarm number) at)) at
+      either_way P (is_up_module (module_of number g)) (fire_listed (closing_rows 9 number g.floor) (sets_alarm (module_alarm number) g)) g
+      (kept_listed (closing_rows 9 number g.floor) (free_closing 9 number g.floor) (sets_alarm (module_alarm number) g) (kept_set g (module_alarm number) at)) at
 
   pub kept_signalled : (s : Signal) (g : State) → P g → P (signalled s g)
   kept_signalled (signal.Placed port name slots) g at = either_way P (lacks_port port.0 g) g (placed port.0 name slots g) at (kept_placed port.0 name slots g at)
@@ -284,6 +284,7 @@ module _ (P : State → Type 0) (kept : Kept P) where
   kept_operated (oper.Access p on) g at = kept_by_rows P kept.inner (oper.Access p on) g (free_access p.0 on g) at
   kept_operated (oper.Clear n) g at = kept_switched P kept.inner (oper.Clear n) g at
   kept_operated (oper.Up number) g at = kept_by_rows P kept.inner (oper.Up number) g (free_module 10 number.0) at
+  kept_operated (oper.Lost sub) g at = kept_by_rows P kept.inner (oper.Lost sub) g (free_lost sub g.floor) at
   kept_operated _ g at = at
 
   kept_linktest : (g : State) → P g → P (asks_linktest g)

@@ -18,7 +18,7 @@ use Rattle.shop_floor.specs.Requests.{at_port, removal}
 use Rattle.tool_events.specs.declared.event.Signal.{Signal}
 use Rattle.tool_events.specs.declared.event.Signal.TheVariants as equipment
 use Rattle.robot_moves.specs.Modules.{is_open, is_up as is_up_module}
-use Rattle.tool_floor.specs.Signals.{at_module, done_rows}
+use Rattle.tool_floor.specs.Signals.{done_rows, closing_rows}
 use Rattle.gem_model.specs.Signals.{lacks_port, port_row_starts, port_alarm, with_arrival, lacks_module, module_of, module_alarm, answer_alarm}
 use Rattle.spool.specs.declared.note.Kind.{Kind}
 use Rattle.spool.specs.declared.note.Kind.TheVariants.{Event, Alarm}
@@ -135,19 +135,19 @@ by_removed port g = if port_row_starts 5 port g then by_listed (removal port) g 
 -- a module did a command, or failed at it: the rows, or the alarm
 abbrev pub by_done : ℕ → ℕ → State → List Reported
 by_done number command g =
-    if is_open command (module_of number g) then by_listed (done_rows number (module_of number g)) g else by_setting answer_alarm g
+    if is_open command (module_of number g) then by_listed (done_rows number g.floor) g else by_setting answer_alarm g
 
 abbrev pub by_failed : ℕ → ℕ → State → List Reported
 by_failed number command g =
     if is_open command (module_of number g)
-    then by_setting (module_alarm number) g ++ by_listed (at_module 8 number) (sets_alarm (module_alarm number) g)
+    then by_setting (module_alarm number) g ++ by_listed (closing_rows 8 number g.floor) (sets_alarm (module_alarm number) g)
     else by_setting answer_alarm g
 
 -- a module went down: its alarm, and then the row
 abbrev pub by_down : ℕ → State → List Reported
 by_down number g =
     if is_up_module (module_of number g)
-    then by_setting (module_alarm number) g ++ by_listed (at_module 9 number) (sets_alarm (module_alarm number) g) else []
+    then by_setting (module_alarm number) g ++ by_listed (closing_rows 9 number g.floor) (sets_alarm (module_alarm number) g) else []
 
 -- the equipment tells of something
 abbrev pub by_signal : Signal → State → List Reported

@@ -7,7 +7,7 @@ use Rattle.shop_floor.specs.Requests.{came, at_port, removal}
 use Rattle.robot_moves.specs.declared.module.Module.{Module}
 use Rattle.robot_moves.specs.Modules.{module_at, is_open, is_up}
 use Rattle.tool_floor.specs.Floor.{with_shop}
-use Rattle.tool_floor.specs.Signals.{is_no_module, at_module, done_rows}
+use Rattle.tool_floor.specs.Signals.{is_no_module, done_rows, closing_rows}
 use Rattle.tool_events.specs.declared.event.Signal.{Signal}
 use Rattle.tool_events.specs.declared.event.Signal.TheVariants as signal
 use Rattle.gem_model.specs.State.{State}
@@ -59,22 +59,24 @@ module_alarm number = 10 + number
 abbrev pub answer_alarm : ℕ
 answer_alarm = 50
 
--- A module did a command: the row of its task, where the command is the module's open one, and else the alarm is set alone (this
--- tool's profile, direct rows).
+-- A module did a command: the row of its task, and behind a Process row 3 of processing, where the command is the module's open one, and
+-- else the alarm is set alone (this tool's profile, direct rows).
 abbrev pub module_done : ℕ → ℕ → State → State
 module_done number command g =
-    if is_open command (module_of number g) then fire_listed (done_rows number (module_of number g)) g else sets_alarm answer_alarm g
+    if is_open command (module_of number g) then fire_listed (done_rows number g.floor) g else sets_alarm answer_alarm g
 
--- A module failed at a command: the module's alarm is set, and row 8 fires, where the command is the module's open one, and else
+-- A module failed at a command: the module's alarm is set, and row 8 fires, and row 4 of processing where a Process was open, where the
+-- command is the module's open one, and else
 -- the alarm of the answer is set alone (this tool's profile, direct rows).
 abbrev pub module_failed : ℕ → ℕ → State → State
 module_failed number command g =
-    if is_open command (module_of number g) then fire_listed (at_module 8 number) (sets_alarm (module_alarm number) g)
+    if is_open command (module_of number g) then fire_listed (closing_rows 8 number g.floor) (sets_alarm (module_alarm number) g)
     else sets_alarm answer_alarm g
 
--- A module went down: where it was not Down, its alarm is set, and row 9 fires (this tool's profile, direct rows).
+-- A module went down: where it was not Down, its alarm is set, and row 9 fires, and row 4 of processing where a Process was open (this
+-- tool's profile, direct rows).
 abbrev pub module_down : ℕ → State → State
-module_down number g = if is_up (module_of number g) then fire_listed (at_module 9 number) (sets_alarm (module_alarm number) g) else g
+module_down number g = if is_up (module_of number g) then fire_listed (closing_rows 9 number g.floor) (sets_alarm (module_alarm number) g) else g
 
 -- What the equipment tells. A signal of a port or a module that the tool lacks changes nothing (this tool's profile, signals).
 abbrev pub signalled : Signal → State → State

@@ -1,6 +1,7 @@
 -- The values of variables are small, and so are the texts of notes.
 use Rattle.std.proofs.Common.{◌≡◌, ℕ, zero, suc, ◌≤◌, ◌==◌, nat_le, Bool, true, false, if◌then◌else◌, List, [], ◌∷◌, length, map, filter, slice_get, Option, Some, None, is_some, IfSome, option_map, unwrap_or, refl, ap, subst, arith}
 use Rattle.std.specs.List.{All}
+use Rattle.std.proofs.lemmas.Bool.Decides.{nat_tests}
 use Rattle.gem_ids.specs.Texts.{IsText}
 use Rattle.gem_ids.specs.Civil.{time_digits}
 use Rattle.gem_ids.specs.declared.numbers.LocId.TheVariants as loc
@@ -36,6 +37,8 @@ use Rattle.gem_rows.specs.declared.variables.StatusVariable.TheVariants as statu
 use Rattle.gem_model.specs.Values.{Occasion, no_firing, port_value, substrate_text, place_value, variable_value, value_by, event_value, status_value, svids, constant_value, or_else, value_of}
 use Rattle.load_port.specs.declared.port.Port.{Port}
 use Rattle.load_port.specs.Tables.{transfer_number, access_number}
+use Rattle.substrate.specs.Locations.{is_location}
+use Rattle.substrate.proofs.Truth.{and_true}
 use Rattle.core_state.specs.Named.{AreNamed}
 
 -- a value within the bounds of a variable
@@ -81,15 +84,17 @@ port_small g (suc place) value each = by_port (slice_get g.floor.shop.ports plac
 -- what a chamber shows
 chamber_small : (g : State) → AreNamed g → (number : ℕ) → IfSome (place_value g (loc.Chamber number)) Small
 chamber_small g named zero = tt
-chamber_small g named (suc place) = by_test (nat_le (suc place) g.config.chambers) refl
+chamber_small g named (suc place) = by_test (is_location g.config.ports g.config.chambers (loc.Chamber (suc place))) refl
   where
     text : List ℕ
     text = substrate_text g (loc.Chamber (suc place))
-    by_test : (b : Bool) → nat_le (suc place) g.config.chambers ≡ b → IfSome (if b then Some (ascii text) else None) Small
+
+    below : is_location g.config.ports g.config.chambers (loc.Chamber (suc place)) ≡ true → suc place ≤ g.config.chambers
+    below is = let within = (and_true (nat_le 1 (suc place)) (nat_le (suc place) g.config.chambers) is).1 in grind (arith, nat_tests)
+
+    by_test : (b : Bool) → is_location g.config.ports g.config.chambers (loc.Chamber (suc place)) ≡ b → IfSome (if b then Some (ascii text) else None) Small
     by_test false is = tt
-    by_test true is = text_small text (subst (λ (n : ℕ). IsText (substrate_text g (loc.Chamber n))) (omega arith) (named.chambers place (le_of is)))
-    le_of : nat_le (suc place) g.config.chambers ≡ true → suc place ≤ g.config.chambers
-    le_of is = grind (arith, nat_tests)
+    by_test true is = text_small text (subst (λ (n : ℕ). IsText (substrate_text g (loc.Chamber n))) (omega arith) (named.chambers place (below is)))
 
 -- each variable has a small value, or none
 variable_small : (g : State) → length g.alarms ≤ most_alarms → AreNamed g → (variable : StatusVariable) → IfSome (variable_value g variable) Small

@@ -1,13 +1,12 @@
 -- The values of variables are small, and so are the texts of notes.
 use Rattle.std.proofs.Common.{◌≡◌, ℕ, zero, suc, ◌≤◌, ◌==◌, nat_le, Bool, true, false, if◌then◌else◌, List, [], ◌∷◌, length, map, filter, slice_get, Option, Some, None, is_some, IfSome, option_map, unwrap_or, refl, ap, subst, arith}
-use Rattle.std.specs.List.{All}
 use Rattle.std.proofs.lemmas.Bool.Decides.{nat_tests}
 use Rattle.gem_ids.specs.Texts.{IsText}
 use Rattle.gem_ids.specs.Civil.{time_digits}
 use Rattle.gem_ids.specs.declared.numbers.LocId.TheVariants as loc
-use Rattle.secs_items.specs.Data.{Data, DataList, ascii, u1, u2, u4, boolean}
+use Rattle.secs_items.specs.Data.{Data, DataList, ascii, u1, u2, u4}
 use Rattle.secs_items.specs.Plain.{plain, count_of}
-use Rattle.secs_items.specs.Weight.{weight, IsBounded, AreBounded}
+use Rattle.secs_items.specs.Weight.{IsBounded, AreBounded}
 use Rattle.secs_items.proofs.Weights.{plain-weight, bounded-list, bounded-text}
 use Rattle.gem_replies.specs.declared.reply.GemReply.TheVariants as reply
 use Rattle.gem_replies.specs.Replies.{reply_body}

@@ -63,6 +63,7 @@ fn operator_rows(plant: &Plant, command: &OperCmd) -> ArrayVec<Firing, 3>
         OperCmd::Service(port, on) => one(Some(at_port(TRANSFER, *on, *port))),
         OperCmd::Access(port, auto) => one(Some(at_port(ACCESS, *auto, *port))),
         OperCmd::Up(m) => one(Some(Firing::new(MOVES, u64::from(m.0), 10))),
+        OperCmd::Lost(sub) => one(plant.lost_row(*sub)),
         _ => one(None),
     }
 }

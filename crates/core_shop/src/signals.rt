@@ -1,12 +1,11 @@
 //! What the equipment tells of the load ports (SEMI E87) and of the modules (this tool's profile, moves).
 
 ghost use Rattle.std.specs.Prelude.{◌≡◌, OnOk, true, false};
-ghost use Rattle.std.specs.Option.{option_to_list};
 ghost use Rattle.gem_tables.specs.Table.{firing};
 ghost use Rattle.shop_floor.specs.Requests.{at_port, removal};
 ghost use Rattle.gem_model.specs.Fire.{fire_listed};
 ghost use Rattle.robot_moves.specs.Modules.{is_open, is_up};
-ghost use Rattle.tool_floor.specs.Signals.{at_module, done_rows};
+ghost use Rattle.tool_floor.specs.Signals.{done_rows, closing_rows};
 ghost use Rattle.gem_model.specs.Noting.{sets_alarm};
 ghost use Rattle.gem_model.specs.Signals.{lacks_port, port_row_starts, with_arrival, placed, removed, module_of, module_alarm, module_done, module_failed, module_down, signalled};
 
@@ -29,8 +28,6 @@ const MODULE_DOWN: u32 = 10;
 const TRANSFER: u8 = 4;
 
 const ASSOCIATION: u8 = 7;
-
-const MOVES: u8 = 16;
 
 // A row of a table at a port.
 fn at_port(table: u8, row: u8, port: PortNo) -> Firing
@@ -105,14 +102,12 @@ fn remove(plant: &mut Plant, alloc: Global, port: PortNo) -> Result<(), AllocErr
 
 // ---- modules
 
-/// The row of Done of the open command of a module fires.
+/// The rows of Done of the open command of a module fire.
 fn finish(plant: &mut Plant, alloc: Global, m: ModuleId) -> Result<(), AllocError>
-    ensures { OnOk result (plant.new ≡ fire_listed (done_rows m.0 (module_of m.0 plant.old)) plant.old) }
+    ensures { OnOk result (plant.new ≡ fire_listed (done_rows m.0 plant.old.floor) plant.old) }
 {
-    if let Some(row) = plant.done_row(m) {
-        plant.fire_listed(alloc, &[row])?;
-    }
-    Ok(())
+    let rows = plant.done_rows(m);
+    plant.fire_listed(alloc, rows.as_slice())
 }
 
 /// A module did a command: the row of its task fires where the command is its open one, and else the alarm of the answer is set.
@@ -132,27 +127,13 @@ pub(crate) fn module_alarm(m: ModuleId) -> u32
     MODULE_DOWN + u32::from(m.0)
 }
 
-// A row of the table of moves at a module.
-fn at_module(row: u8, m: ModuleId) -> Firing
-    ensures { result ≡ firing 16 m.0 row }
-{
-    Firing::new(MOVES, u64::from(m.0), row)
-}
-
-/// A row of the table of moves fires at a module, where it starts.
-fn fire_at(plant: &mut Plant, alloc: Global, row: u8, m: ModuleId) -> Result<(), AllocError>
-    ensures { OnOk result (plant.new ≡ fire_listed (at_module row m.0) plant.old) }
-{
-    plant.fire_listed(alloc, &[at_module(row, m)])?;
-    Ok(())
-}
-
-/// The alarm of a module is set, and then a row of the table of moves fires there.
+/// The alarm of a module is set, and then it goes down by this row of the table of moves, 8 or 9.
 fn take_down(plant: &mut Plant, alloc: Global, row: u8, m: ModuleId) -> Result<(), AllocError>
-    ensures { OnOk result (plant.new ≡ fire_listed (at_module row m.0) (sets_alarm (module_alarm m.0) plant.old)) }
+    ensures { OnOk result (plant.new ≡ fire_listed (closing_rows row m.0 plant.old.floor) (sets_alarm (module_alarm m.0) plant.old)) }
 {
+    let rows = plant.closing_rows(row, m);
     plant.set_alarm(alloc, module_alarm(m))?;
-    fire_at(plant, alloc, row, m)
+    plant.fire_listed(alloc, rows.as_slice())
 }
 
 /// A module failed at a command: its alarm is set and it goes down where the command is its open one, and else the alarm of the

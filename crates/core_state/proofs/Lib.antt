@@ -5,3 +5,4 @@ pub mod LineRows
 pub mod PortValues
 pub mod Floors
 pub mod Sendings
+pub mod ModuleRows

@@ -1,11 +1,12 @@
 -- The values of variables are small, and so are the texts of notes.
-use Rattle.std.proofs.Common.{◌≡◌, ℕ, zero, suc, ◌≤◌, ◌==◌, Bool, true, false, if◌then◌else◌, List, [], ◌∷◌, length, map, filter, slice_get, Option, Some, None, is_some, IfSome, option_map, unwrap_or, refl, ap, subst, arith}
-use Rattle.std.specs.List.{All}
+use Rattle.std.proofs.Common.{◌≡◌, ℕ, zero, suc, ◌≤◌, ◌==◌, nat_le, Bool, true, false, if◌then◌else◌, List, [], ◌∷◌, length, map, filter, slice_get, Option, Some, None, is_some, IfSome, option_map, unwrap_or, refl, ap, subst, arith}
+use Rattle.std.proofs.lemmas.Bool.Decides.{nat_tests}
 use Rattle.gem_ids.specs.Texts.{IsText}
 use Rattle.gem_ids.specs.Civil.{time_digits}
-use Rattle.secs_items.specs.Data.{Data, DataList, ascii, u1, u2, u4, boolean}
+use Rattle.gem_ids.specs.declared.numbers.LocId.TheVariants as loc
+use Rattle.secs_items.specs.Data.{Data, DataList, ascii, u1, u2, u4}
 use Rattle.secs_items.specs.Plain.{plain, count_of}
-use Rattle.secs_items.specs.Weight.{weight, IsBounded, AreBounded}
+use Rattle.secs_items.specs.Weight.{IsBounded, AreBounded}
 use Rattle.secs_items.proofs.Weights.{plain-weight, bounded-list, bounded-text}
 use Rattle.gem_replies.specs.declared.reply.GemReply.TheVariants as reply
 use Rattle.gem_replies.specs.Replies.{reply_body}
@@ -32,9 +33,11 @@ use Rattle.core_state.proofs.MomentTexts.{clock_text}
 use Rattle.gem_rows.specs.Variables.{status_variable, status_vids}
 use Rattle.gem_rows.specs.declared.variables.StatusVariable.{StatusVariable}
 use Rattle.gem_rows.specs.declared.variables.StatusVariable.TheVariants as status
-use Rattle.gem_model.specs.Values.{Occasion, no_firing, port_value, variable_value, value_by, event_value, status_value, svids, constant_value, or_else, value_of}
+use Rattle.gem_model.specs.Values.{Occasion, no_firing, port_value, substrate_text, place_value, variable_value, value_by, event_value, status_value, svids, constant_value, or_else, value_of}
 use Rattle.load_port.specs.declared.port.Port.{Port}
 use Rattle.load_port.specs.Tables.{transfer_number, access_number}
+use Rattle.substrate.specs.Locations.{is_location}
+use Rattle.substrate.proofs.Truth.{and_true}
 use Rattle.core_state.specs.Named.{AreNamed}
 
 -- a value within the bounds of a variable
@@ -77,8 +80,23 @@ port_small g (suc place) value each = by_port (slice_get g.floor.shop.ports plac
     by_port None is = tt
     by_port (Some p) is = each place p is
 
+-- what a chamber shows
+chamber_small : (g : State) → AreNamed g → (number : ℕ) → IfSome (place_value g (loc.Chamber number)) Small
+chamber_small g named zero = tt
+chamber_small g named (suc place) = by_test (is_location g.config.ports g.config.chambers (loc.Chamber (suc place))) refl
+  where
+    text : List ℕ
+    text = substrate_text g (loc.Chamber (suc place))
+
+    below : is_location g.config.ports g.config.chambers (loc.Chamber (suc place)) ≡ true → suc place ≤ g.config.chambers
+    below is = let within = (and_true (nat_le 1 (suc place)) (nat_le (suc place) g.config.chambers) is).1 in grind (arith, nat_tests)
+
+    by_test : (b : Bool) → is_location g.config.ports g.config.chambers (loc.Chamber (suc place)) ≡ b → IfSome (if b then Some (ascii text) else None) Small
+    by_test false is = tt
+    by_test true is = text_small text (subst (λ (n : ℕ). IsText (substrate_text g (loc.Chamber n))) (omega arith) (named.chambers place (below is)))
+
 -- each variable has a small value, or none
-variable_small : (g : State) → length g.alarms ≤ most_alarms → AreNamed g.floor.shop.ports → (variable : StatusVariable) → IfSome (variable_value g variable) Small
+variable_small : (g : State) → length g.alarms ≤ most_alarms → AreNamed g → (variable : StatusVariable) → IfSome (variable_value g variable) Small
 variable_small g few named status.Clock = text_small (time_digits (clock_now g)) (clock_text g)
 variable_small g few named status.CommState = number_small (comm_number g.comm)
 variable_small g few named status.ControlState = number_small (control_number g.control)
@@ -89,12 +107,12 @@ variable_small g few named status.SpoolUnload = number_small (unload_number g.li
 variable_small g few named status.AlarmsSet = alarms_small g.alarms few
 variable_small g few named (status.PortTransfer n) = port_small g n (λ p. u1 (transfer_number p.states.transfer ∷ [])) (λ i p there. number_small (transfer_number p.states.transfer))
 variable_small g few named (status.PortAccess n) = port_small g n (λ p. u1 (access_number p.states.access ∷ [])) (λ i p there. number_small (access_number p.states.access))
-variable_small g few named (status.PortCarrier n) = port_small g n (λ p. ascii (unwrap_or p.carrier [])) (λ i p there. text_small (unwrap_or p.carrier []) (named i p there))
+variable_small g few named (status.PortCarrier n) = port_small g n (λ p. ascii (unwrap_or p.carrier [])) (λ i p there. text_small (unwrap_or p.carrier []) (named.carriers i p there))
 variable_small g few named status.ProcessJobCount = tt
 variable_small g few named status.ControlJobCount = tt
-variable_small g few named status.ArmSubstrate = tt
-variable_small g few named status.AlignerSubstrate = tt
-variable_small g few named (status.ChamberSubstrate n) = tt
+variable_small g few named status.ArmSubstrate = text_small (substrate_text g loc.Arm) named.arm
+variable_small g few named status.AlignerSubstrate = text_small (substrate_text g loc.Aligner) named.aligner
+variable_small g few named (status.ChamberSubstrate n) = chamber_small g named n
 
 -- a value that is there is small
 small_there : (o : Option Data) (d : Data) → IfSome o Small → o ≡ Some d → Small d
@@ -120,7 +138,7 @@ either_small : (x y : Option Data) (d : Data) → (x ≡ Some d → Small d) →
 either_small None y d first next is = next is
 either_small (Some e) y d first next is = first is
 
-pub status_small : (g : State) → length g.alarms ≤ most_alarms → AreNamed g.floor.shop.ports → AreSmallValues (status_value g)
+pub status_small : (g : State) → length g.alarms ≤ most_alarms → AreNamed g → AreSmallValues (status_value g)
 status_small g few named vid d is = by_variable (status_variable vid) is
   where
     by_variable : (o : Option StatusVariable) → value_by g o ≡ Some d → Small d
@@ -128,7 +146,7 @@ status_small g few named vid d is = by_variable (status_variable vid) is
     by_variable (Some variable) here = small_there (variable_value g variable) d (variable_small g few named variable) here
 
 -- each variable has a small value
-pub all_small : (o : Occasion) (g : State) → IsText o.object → length g.alarms ≤ most_alarms → AreNamed g.floor.shop.ports → AreSmallValues (value_of o g)
+pub all_small : (o : Occasion) (g : State) → IsText o.object → length g.alarms ≤ most_alarms → AreNamed g → AreSmallValues (value_of o g)
 all_small o g object few named vid d is =
     either_small (status_value g vid) (or_else (event_value o vid) (constant_value g vid)) d
     (status_small g few named vid d)
@@ -178,7 +196,7 @@ filter_few p (x ∷ xs) = by_test (p x) refl (filter_few p xs)
 few_svids : (g : State) → length (svids g) ≤ 1024
 few_svids g = let less = filter_few (λ (n : ℕ). is_some (status_value g n)) status_vids in omega (arith, less)
 
-pub few_status : (g : State) (ids : List ℕ) → length g.alarms ≤ most_alarms → AreNamed g.floor.shop.ports → length ids ≤ 1024 → AreFew 1024 1 84 (value_items (status_value g) (or_all (svids g) ids))
+pub few_status : (g : State) (ids : List ℕ) → length g.alarms ≤ most_alarms → AreNamed g → length ids ≤ 1024 → AreFew 1024 1 84 (value_items (status_value g) (or_all (svids g) ids))
 few_status g ids alarms named few = few_values_of (status_value g) (or_all (svids g) ids) (status_small g alarms named) (few_or_all (svids g) ids (few_svids g) few)
 
 pub few_constants : (g : State) (ids : List ℕ) → length ids ≤ 1024 → AreFew 1024 1 84 (value_items (constant_value g) (or_all constant_ids ids))
@@ -206,5 +224,5 @@ few_enabled_parts g alarms =
     omega arith
 
 -- outside a firing
-pub quiet_small : (g : State) → IsText [] → length g.alarms ≤ most_alarms → AreNamed g.floor.shop.ports → AreSmallValues (value_of no_firing g)
+pub quiet_small : (g : State) → IsText [] → length g.alarms ≤ most_alarms → AreNamed g → AreSmallValues (value_of no_firing g)
 quiet_small g none alarms named = all_small no_firing g none alarms named

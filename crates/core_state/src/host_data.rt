@@ -83,7 +83,7 @@ impl Plant {
         ensures few { length ids.now ≤ 1024 → AreFew 1024 1 84 (value_items (status_value self.now) (or_all (svids self.now) ids.now)) }
     {
         self.few_alarms();
-        self.named_ports();
+        self.shown_names();
         let svids = self.svids(alloc)?;
         values_of(alloc, &Status { plant: self }, or_all(&svids, ids))
     }

@@ -3,12 +3,14 @@ ghost use Rattle.std.specs.Prelude.{◌≡◌, ◌≤◌, not, is_some, length};
 ghost use Rattle.std.specs.Option.{option_to_list};
 ghost use Rattle.robot_moves.specs.Modules.{is_open, is_up, unfetched};
 ghost use Rattle.tool_floor.specs.Floor.{fetched};
-ghost use Rattle.tool_floor.specs.Signals.{done_rows};
+ghost use Rattle.tool_floor.specs.Signals.{done_rows, closing_rows, lost_rows};
+ghost use Rattle.gem_model.specs.Direct.{Are, IsListed};
 ghost use Rattle.gem_model.specs.Signals.{lacks_module, module_of};
 ghost use Rattle.gem_model.specs.Step.{can_come_up};
 
 use crate::plant::Plant;
-use gem_ids::{CmdNo, ModuleId};
+use arrayvec::ArrayVec;
+use gem_ids::{CmdNo, ModuleId, SubstrateId};
 use gem_tables::Firing;
 use tool_events::Command;
 
@@ -65,10 +67,27 @@ impl Plant {
         self.floor.module_count()
     }
 
-    /// The row that Done of the open command of a module fires. `None` exactly where it has none.
-    pub fn done_row(&self, m: ModuleId) -> Option<Firing>
-        ensures { option_to_list result ≡ done_rows m.0 (module_of m.0 self.now) }
+    /// The rows that Done of the open command of a module fires. There are none exactly where it has none.
+    pub fn done_rows(&self, m: ModuleId) -> ArrayVec<Firing, 2>
+        ensures rows { result.items ≡ done_rows m.0 self.now.floor }
+        ensures listed { Are IsListed result.items }
     {
-        self.floor.done_row(m)
+        self.floor.done_rows(m)
+    }
+
+    /// The rows by which a module goes down: this row of table 16, 8 or 9, and row 4 of processing where a Process was open.
+    pub fn closing_rows(&self, row: u8, m: ModuleId) -> ArrayVec<Firing, 2>
+        ensures rows { result.items ≡ closing_rows row m.0 self.now.floor }
+        ensures listed { Are IsListed result.items }
+    {
+        self.floor.closing_rows(row, m)
+    }
+
+    /// The row by which a substrate is lost. `None` exactly where it cannot be.
+    pub fn lost_row(&self, sub: SubstrateId) -> Option<Firing>
+        ensures row { option_to_list result ≡ lost_rows sub self.now.floor }
+        ensures listed { Are IsListed (option_to_list result) }
+    {
+        self.floor.lost_row(sub)
     }
 }

@@ -71,7 +71,7 @@ impl Plant {
     {
         prints(&object);
         self.few_alarms();
-        self.named_ports();
+        self.shown_names();
         let mut reports = Items::new(alloc);
         let showing = self.showing(object, row);
         self.reports.report(alloc, ceid, &showing, &mut reports)?;
@@ -91,7 +91,7 @@ impl Plant {
     {
         prints(&object);
         self.few_alarms();
-        self.named_ports();
+        self.shown_names();
         let mut values = Items::new(alloc);
         let showing = self.showing(object, row);
         self.reports.one(alloc, rptid, &showing, &mut values)?;

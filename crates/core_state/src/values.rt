@@ -6,18 +6,20 @@ ghost use Rattle.secs_items.specs.View.{view};
 ghost use Rattle.gem_ids.specs.Texts.{IsText};
 ghost use Rattle.event_reports.specs.Limits.{most_alarms};
 ghost use Rattle.gem_ids.specs.Civil.{time_digits};
+ghost use Rattle.gem_ids.specs.declared.numbers.LocId.TheVariants.{Chamber};
 ghost use Rattle.event_reports.specs.Alarms.{set_alids};
 ghost use Rattle.gem_model.specs.State.{clock_now};
 ghost use Rattle.spool.specs.Spool.{load_number, unload_number};
 ghost use Rattle.load_port.specs.Ports.{port_numbered};
-ghost use Rattle.core_state.specs.Named.{AreNamed};
-ghost use Rattle.gem_model.specs.Values.{variable_value, status_value, constant_value, value_of};
+ghost use Rattle.substrate.specs.Locations.{is_location};
+ghost use Rattle.core_state.specs.Named.{AreNamed, AreCarriersNamed, AreChambersNamed};
+ghost use Rattle.gem_model.specs.Values.{substrate_text, variable_value, status_value, constant_value, value_of};
 
 use crate::plant::Plant;
 use crate::rows::part;
 use data_variables::item_of;
 use event_reports::{NoMemory, Values};
-use gem_ids::{Text80, time16};
+use gem_ids::{LocId, Text80, time16};
 use gem_rows::{StatusVariable, status_variable};
 use load_port::Port;
 use secs_items::{Bytes, Item, U8s, U16s, U32s};
@@ -122,14 +124,33 @@ impl Plant {
         self.alarms.lines();
     }
 
-    /// The names of the carriers that belong to ports are texts: what is known of them, for proofs.
-    pub(crate) fn named_ports(&self)
-        ensures { AreNamed self.now.floor.shop.ports }
+    /// The names that variables show are texts: what is known of them, for proofs.
+    pub(crate) fn shown_names(&self)
+        ensures { AreNamed self.now }
+    {
+        self.named_ports();
+        self.named_chambers();
+        prints(&self.substrate_text(LocId::Arm));
+        prints(&self.substrate_text(LocId::Aligner));
+    }
+
+    // The names of the carriers that belong to ports.
+    fn named_ports(&self)
+        ensures { AreCarriersNamed self.now }
     {
         for place in 0..self.floor.shop().port_count() {
             if let Some(port) = self.floor.shop().port(place) {
                 prints(&carrier_text(&port));
             }
+        }
+    }
+
+    // The names of the substrates in the chambers.
+    fn named_chambers(&self)
+        ensures { AreChambersNamed self.now }
+    {
+        for place in 0..self.config.chambers {
+            prints(&self.substrate_text(LocId::Chamber(place + 1)));
         }
     }
 
@@ -165,7 +186,31 @@ impl Plant {
         self.floor.shop().port((number - 1) as usize)
     }
 
-    /// The value of a status variable. `None`: it is not built, or the tool lacks its port.
+    // The name of the substrate at a location; empty where none is there.
+    fn substrate_text(&self, place: LocId) -> Text80
+        ensures { result ≡ substrate_text self.now place }
+    {
+        match self.floor.at(place) {
+            Some(substrate) => substrate.text(),
+            None => Text80::empty(),
+        }
+    }
+
+    // Which substrate is at a location.
+    fn substrate_item(&self, alloc: Global, place: LocId) -> Result<Item, AllocError>
+        ensures { IfOk result (λ item. view item ≡ ascii (substrate_text self.now place)) }
+    {
+        Ok(Item::Ascii(part(alloc, self.substrate_text(place))?))
+    }
+
+    // Whether the tool has the chamber of a number, counted from 1.
+    fn has_chamber(&self, number: u8) -> bool
+        ensures { result ≡ is_location self.now.config.ports self.now.config.chambers (Chamber number) }
+    {
+        1 <= number && number <= self.config.chambers
+    }
+
+    /// The value of a status variable. `None`: it is not built, or the tool lacks its port or its chamber.
     fn variable_value(
         &self,
         alloc: Global,
@@ -194,16 +239,19 @@ impl Plant {
                 Some(port) => Item::Ascii(part(alloc, carrier_text(&port))?),
                 None => return Ok(None),
             },
-            StatusVariable::ProcessJobCount
-            | StatusVariable::ControlJobCount
-            | StatusVariable::ArmSubstrate
-            | StatusVariable::AlignerSubstrate
-            | StatusVariable::ChamberSubstrate(_) => return Ok(None),
+            StatusVariable::ArmSubstrate => self.substrate_item(alloc, LocId::Arm)?,
+            StatusVariable::AlignerSubstrate => self.substrate_item(alloc, LocId::Aligner)?,
+            StatusVariable::ChamberSubstrate(number) if self.has_chamber(number) => {
+                self.substrate_item(alloc, LocId::Chamber(number))?
+            }
+            StatusVariable::ChamberSubstrate(_)
+            | StatusVariable::ProcessJobCount
+            | StatusVariable::ControlJobCount => return Ok(None),
         };
         Ok(Some(value))
     }
 
-    /// Whether a status variable is built, and the tool has its port.
+    /// Whether a status variable is built, and the tool has its port or its chamber.
     #[tactic(auto, using(crate::proofs::PortValues::some_shown))]
     fn has_variable(&self, variable: StatusVariable) -> bool
         ensures { result ≡ is_some (variable_value self.now variable) }
@@ -212,11 +260,8 @@ impl Plant {
             StatusVariable::PortTransfer(number)
             | StatusVariable::PortAccess(number)
             | StatusVariable::PortCarrier(number) => self.port_numbered(number).is_some(),
-            StatusVariable::ProcessJobCount
-            | StatusVariable::ControlJobCount
-            | StatusVariable::ArmSubstrate
-            | StatusVariable::AlignerSubstrate
-            | StatusVariable::ChamberSubstrate(_) => false,
+            StatusVariable::ChamberSubstrate(number) => self.has_chamber(number),
+            StatusVariable::ProcessJobCount | StatusVariable::ControlJobCount => false,
             _ => true,
         }
     }

@@ -1,5 +1,7 @@
 -- The values of variables: what S1F3, S2F13 and reports give (SEMI E5, S1F3 and S2F13; this tool's profile, variables).
 use Rattle.std.specs.Prelude.{ℕ, ◌==◌, if◌then◌else◌, List, [], ◌∷◌, length, filter, Option, Some, None, is_some, option_map, unwrap_or}
+use Rattle.gem_ids.specs.declared.numbers.LocId.{LocId}
+use Rattle.gem_ids.specs.declared.numbers.LocId.TheVariants as loc
 use Rattle.gem_ids.specs.Civil.{time_digits}
 use Rattle.gem_states.specs.Communication.{comm_number}
 use Rattle.gem_states.specs.Control.{control_number}
@@ -11,6 +13,8 @@ use Rattle.spool.specs.Spool.{load_number, unload_number}
 use Rattle.load_port.specs.declared.port.Port.{Port}
 use Rattle.load_port.specs.Tables.{transfer_number, access_number}
 use Rattle.load_port.specs.Ports.{port_numbered}
+use Rattle.substrate.specs.Locations.{is_location}
+use Rattle.substrate.specs.Places.{substrate_at}
 use Rattle.gem_rows.specs.Variables.{status_variable, status_vids}
 use Rattle.gem_rows.specs.declared.variables.StatusVariable.{StatusVariable}
 use Rattle.gem_rows.specs.declared.variables.StatusVariable.TheVariants as status
@@ -30,8 +34,16 @@ no_firing = record { object = []; row = 0 }
 abbrev pub port_value : State → ℕ → (Port → Data) → Option Data
 port_value g number value = option_map value (port_numbered number g.floor.shop.ports)
 
--- the value of a status variable; none for one of a port that the tool lacks, and for one that is not built (this tool's
--- profile, variables)
+-- the name of the substrate at a location, empty where none is there (this tool's profile, variables)
+abbrev pub substrate_text : State → LocId → List ℕ
+substrate_text g place = unwrap_or (substrate_at place g.floor.places.held) []
+
+-- what tells which substrate is at a location, where the tool has it (this tool's profile, variables)
+abbrev pub place_value : State → LocId → Option Data
+place_value g place = if is_location g.config.ports g.config.chambers place then Some (ascii (substrate_text g place)) else None
+
+-- the value of a status variable; none for one of a port or a chamber that the tool lacks, and for one that is not built (this
+-- tool's profile, variables)
 abbrev pub variable_value : State → StatusVariable → Option Data
 variable_value g status.Clock = Some (ascii (time_digits (clock_now g)))
 variable_value g status.CommState = Some (u1 (comm_number g.comm ∷ []))
@@ -41,6 +53,9 @@ variable_value g status.SpoolCountTotal = Some (u4 (g.line.spool.total ∷ []))
 variable_value g status.SpoolLoad = Some (u1 (load_number g.line.spool.load ∷ []))
 variable_value g status.SpoolUnload = Some (u1 (unload_number g.line.spool.unload ∷ []))
 variable_value g status.AlarmsSet = Some (u4 (set_alids g.alarms))
+variable_value g status.ArmSubstrate = place_value g loc.Arm
+variable_value g status.AlignerSubstrate = place_value g loc.Aligner
+variable_value g (status.ChamberSubstrate chamber) = place_value g (loc.Chamber chamber)
 variable_value g (status.PortTransfer port) = port_value g port (λ p. u1 (transfer_number p.states.transfer ∷ []))
 variable_value g (status.PortAccess port) = port_value g port (λ p. u1 (access_number p.states.access ∷ []))
 -- empty where no carrier belongs to the port
@@ -48,9 +63,6 @@ variable_value g (status.PortCarrier port) = port_value g port (λ p. ascii (unw
 -- not built
 variable_value g status.ProcessJobCount = None
 variable_value g status.ControlJobCount = None
-variable_value g status.ArmSubstrate = None
-variable_value g status.AlignerSubstrate = None
-variable_value g (status.ChamberSubstrate chamber) = None
 
 -- the value of the variable that a number is, where it is one
 abbrev pub value_by : State → Option StatusVariable → Option Data

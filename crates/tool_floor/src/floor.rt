@@ -9,7 +9,7 @@ ghost use Rattle.robot_moves.specs.Modules.{module_at, unfetched, is_open, is_up
 ghost use Rattle.shop_floor.specs.Machines.{floor_least as shop_least};
 ghost use Rattle.shop_floor.specs.Valid.{IsFloor};
 ghost use Rattle.shop_floor.specs.Requests.{carrier_code, carrier_written, came};
-ghost use Rattle.substrate.specs.Places.{found_location, is_any_at_work, most_substrates};
+ghost use Rattle.substrate.specs.Places.{found_location, is_any_at_work, most_substrates, substrate_at};
 ghost use Rattle.tool_floor.specs.Floor.{opening, with_shop, fetched, change_location, substrate_numbered, name_of_place, substrate_name};
 ghost use Rattle.tool_floor.specs.Substrates.{without_carrier, removed_where};
 ghost use Rattle.tool_floor.specs.Kept.{RiseTo};
@@ -22,7 +22,7 @@ use crate::rows::MOVES;
 use crate::tracking::{Substrate, Substrates};
 use arrayvec::ArrayVec;
 use carrier::{Carrier, CarrierAction};
-use gem_ids::{CmdNo, ModuleId, PortNo, Text80};
+use gem_ids::{CmdNo, LocId, ModuleId, PortNo, SubstrateId, Text80};
 use gem_tables::Firing;
 use load_port::Arrival;
 use robot_moves::{Module, Modules};
@@ -90,6 +90,13 @@ impl ToolFloor {
         ensures { result.now ≡ self.now.shop }
     {
         &self.shop
+    }
+
+    /// The name of the substrate at a location. `None` exactly where none is there.
+    pub fn at(&self, loc: LocId) -> Option<SubstrateId>
+        ensures { result ≡ substrate_at loc self.now.places.held }
+    {
+        self.places.at(loc)
     }
 
     /// Whether there is a module of this number.

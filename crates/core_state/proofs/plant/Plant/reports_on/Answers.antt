@@ -11,5 +11,5 @@ pub returns-clause-few : goal.returns-clause-few
 returns-clause-few c =
     let small : AreSmallValues (value_of (record { object = c.showing-showing.result.object; row = c.showing-showing.result.row }) c.showing-showing.result.plant.now) =
     rw (c.showing-showing.ensures.object, c.showing-showing.ensures.row, c.showing-showing.ensures.plant)
-    (all_small (record { object = c.args.object; row = c.args.row }) c.args.self.now c.prints.ensures c.few_alarms.ensures c.named_ports.ensures) in
+    (all_small (record { object = c.args.object; row = c.args.row }) c.args.self.now c.prints.ensures c.few_alarms.ensures c.shown_names.ensures) in
     rw (c.in_ok-report.ensures.reports, c.new-reports.ensures) (c.in_ok-report.ensures.few, c.in_ok-report.ensures.bounded small)

@@ -2,9 +2,10 @@
 # Times the program on carriers with 25 substrates and on carriers with none, and tells what a substrate takes that is registered
 # and removed; then on a tool that has 50 substrates and on one that has none, and tells what these add to an entry.
 #
-# - 4,000 carriers come and go, as bench/carriers.sh has them, but with all 25 slots correctly occupied, and then with all empty.
-#   Where the slot map is VERIFIED the substrates are registered, each with its rows of transport and processing and that of its
-#   location; where the carrier is removed they go. The difference for each of 100,000 substrates is told.
+# - 10,000 carriers come and go, as bench/carriers.sh has them, but with all 25 slots correctly occupied, and then 20,000 of them;
+#   and 20,000 with all slots empty. Where the slot map is VERIFIED the substrates are registered, each with its rows of transport
+#   and processing and that of its location; where the carrier is removed they go. A ratio of at most 2.2 is wanted of the first
+#   two: twice the carriers take about twice the time. The difference of the last two is told for each of 500,000 substrates.
 # - An operator has the tool local and remote again, 100,000 times in all, with a carrier of 25 substrates at each of its two ports,
 #   whose slot maps are VERIFIED, and with none. At each entry the tool looks for the least row that is ready by itself. The
 #   difference for an entry is told.
@@ -17,7 +18,7 @@ set -euo pipefail
 cd "$(dirname "$0")/.."
 source bench/feeding.sh
 
-carriers=4000
+carriers=10000
 commands=100000
 full=3333333333333333333333333
 empty=1111111111111111111111111
@@ -30,7 +31,7 @@ front() {
 # So many carriers with this slot map: each is placed, proceeded with twice, canceled and removed.
 come_and_go() {
     front
-    awk -v count="$carriers" -v map="$1" 'BEGIN {
+    awk -v count="$1" -v map="$2" 'BEGIN {
         proceed = "0105B10400000000411250726F63656564576974684361727269657241054341523031A501010100"
         cancel = "0105B10400000000410D43616E63656C4361727269657241054341523031A501010100"
         for (i = 0; i < count; i++) {
@@ -72,13 +73,18 @@ difference() {
     awk -v a="$1" -v b="$2" -v count="$3" -v what="$4" 'BEGIN { printf "%s: %.2f microseconds\n", what, (a - b) * 1e6 / count }'
 }
 
-come_and_go "$full" > "$work/lines"
+come_and_go "$carriers" "$full" > "$work/lines"
 answered $((3 * carriers))
+once=$seconds
+come_and_go $((2 * carriers)) "$full" > "$work/lines"
+answered $((6 * carriers))
 with=$seconds
-come_and_go "$empty" > "$work/lines"
-answered $((3 * carriers))
-echo "$carriers carriers: $with s with 25 substrates each, $seconds s with none"
-difference "$with" "$seconds" $((25 * carriers)) "a substrate that is registered and removed"
+come_and_go $((2 * carriers)) "$empty" > "$work/lines"
+answered $((6 * carriers))
+echo "carriers with 25 substrates each: $carriers in $once s, $((2 * carriers)) in $with s"
+ratio "$once" "$with"
+echo "$((2 * carriers)) carriers with none: $seconds s"
+difference "$with" "$seconds" $((50 * carriers)) "a substrate that is registered and removed"
 
 stay "$full" > "$work/lines"
 answered 4

@@ -18,3 +18,4 @@ mod Ending
 mod Going
 mod Waiting
 mod Room
+mod Agreeing

@@ -4,6 +4,7 @@ pub mod Effects
 pub mod Direct
 pub mod Carriers
 pub mod Valid
+pub mod Agree
 pub mod OnePlace
 pub mod Work
 pub mod Left

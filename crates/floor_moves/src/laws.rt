@@ -9,6 +9,7 @@ ghost use Rattle.floor_moves.specs.Effects.{fire};
 ghost use Rattle.floor_moves.specs.Direct.{Input, may_be_lost, may_cancel, input_starts, direct, fired};
 ghost use Rattle.floor_moves.specs.Carriers.{created, MayCreate, arrived, MayArrive, verified, registered, MayRegister, AreWithin, forgotten, HasEnded, with_jobs};
 ghost use Rattle.floor_moves.specs.Valid.{Empty, Valid, ValidBut, ValidOrBut, MaySay};
+ghost use Rattle.floor_moves.specs.Agree.{Agree};
 ghost use Rattle.floor_moves.specs.OnePlace.{OnePlace};
 ghost use Rattle.floor_moves.specs.Work.{is_work_left, AreUp, IsOpen};
 ghost use Rattle.floor_moves.specs.Left.{left};
@@ -47,6 +48,12 @@ pub fn what_holds_is_kept_as_carriers_come_and_go()
     ensures needing { (g : Floor) (n : ℕ) → Valid g → (g.processing n == 0) ≡ true → Valid (fire (firing 13 n 1) g) }
     ensures forgotten { (g : Floor) (c : ℕ) → Valid g → HasEnded c g → Valid (forgotten c g) }
     ensures jobs { (g : Floor) (view : JobView) → Valid g → MaySay view g → Valid (with_jobs view g) }
+{}
+
+/// What holds of a floor holds of each that says the same of what is kept: what the columns say of a substrate that was forgotten
+/// counts for nothing.
+pub fn what_holds_is_said_of_what_is_kept()
+    ensures { (g h : Floor) → Agree g h → Valid g → Valid h }
 {}
 
 /// There is room for each substrate that is registered: its slot is empty, and at most 25 substrates of each port are kept.

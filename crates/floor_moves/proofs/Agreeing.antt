@@ -1,0 +1,137 @@
+-- What holds of a floor holds of each that says the same of what is kept.
+use Rattle.std.proofs.Common.{◌≡◌, ◌≤◌, ◌<◌, ℕ, Bool, true, false, not, ◌&&◌, ◌||◌, List, Option, Some, sym, ap, subst, ◌∙◌, ◌⊎◌, inl, inr}
+use Rattle.std.proofs.lemmas.Bool.{cases_Bool}
+use Rattle.gem_tables.specs.Table.{is_one_of}
+use Rattle.floor_moves.specs.Floor.{Loc, slot, aligner, arm, chamber, Module, JobView, Floor, modules, own, is_outside, is_finished, is_done}
+use Rattle.floor_moves.specs.Valid.{Empty, IsDistinct, HasRoom, IsProcessed, Places, Carriers, Commands, Members, Work, Valid}
+use Rattle.floor_moves.specs.Agree.{Agree}
+
+module _ (g h : Floor) (a : Agree g h) where
+  -- a place in the one is that in the other
+  place_back : (n : ℕ) (p : Option Loc) → h.place_of n ≡ p → g.place_of n ≡ p
+  place_back n p e = sym (a.place_of n) ∙ e
+
+  place_on : (n : ℕ) (p : Option Loc) → g.place_of n ≡ p → h.place_of n ≡ p
+  place_on n p e = a.place_of n ∙ e
+
+  busy_back : (m : ℕ) (x : Module) → h.equipment m ≡ x → g.equipment m ≡ x
+  busy_back m x e = sym (a.equipment m) ∙ e
+
+  busy_on : (m : ℕ) (x : Module) → g.equipment m ≡ x → h.equipment m ≡ x
+  busy_on m x e = a.equipment m ∙ e
+
+  kept_back : (n : ℕ) → is_one_of h.substrates n ≡ true → is_one_of g.substrates n ≡ true
+  kept_back n e = sym (ap (λ (ns : List ℕ). is_one_of ns n) a.substrates) ∙ e
+
+  kept_on : (n : ℕ) → is_one_of g.substrates n ≡ true → is_one_of h.substrates n ≡ true
+  kept_on n e = ap (λ (ns : List ℕ). is_one_of ns n) a.substrates ∙ e
+
+  chamber_on : (c : ℕ) → is_one_of g.chambers c ≡ true → is_one_of h.chambers c ≡ true
+  chamber_on c e = ap (λ (cs : List ℕ). is_one_of cs c) a.chambers ∙ e
+
+  empty_on : (l : Loc) → Empty l g → Empty l h
+  empty_on l free n at = free n (place_back n _ at)
+
+  own_same : (n : ℕ) → is_one_of g.substrates n ≡ true → own n h ≡ own n g
+  own_same n kept = ap (λ (p : ℕ). slot p (h.slot_of n)) (a.port_of n kept) ∙ ap (λ (k : ℕ). slot (g.port_of n) k) (a.slot_of n kept)
+
+  finished_same : (n : ℕ) → is_one_of g.substrates n ≡ true → is_finished (h.processing n) ≡ is_finished (g.processing n)
+  finished_same n kept = ap is_finished (a.processing n kept)
+
+  room_on : (n : ℕ) → is_one_of g.substrates n ≡ true → HasRoom n g → HasRoom n h
+  room_on n kept room e =
+      let old = room (sym (finished_same n kept) ∙ e) in
+      record {
+        at_aligner = λ not_yet. empty_on aligner (old.at_aligner (sym (a.is_aligned n kept) ∙ not_yet));
+        in_chamber = λ is. let c = old.in_chamber (sym (a.is_aligned n kept) ∙ is) in
+            (c.0, subst (λ (j : JobView). is_one_of (j.chambers_of n) c.0 ≡ true) (sym a.jobs) c.1, chamber_on c.0 c.2, empty_on (chamber c.0) c.3);
+      }
+
+  places_on : Places g → Places h
+  places_on v = record {
+    apart = λ n m l e f. v.apart n m l (place_back n _ e) (place_back m _ f);
+    home = λ n p k e. let at = place_back n _ e in v.home n p k at ∙ sym (own_same n (v.kept n _ at));
+    kept = λ n l e. kept_on n (v.kept n l (place_back n _ e));
+    slots = λ n m e f same. let i = kept_back n e in let j = kept_back m f in v.slots n m i j (sym (own_same n i) ∙ same ∙ own_same m j);
+    distinct = subst IsDistinct (sym a.substrates) v.distinct;
+    given = λ n e. subst (λ (k : ℕ). n < k) (sym a.next_substrate) (v.given n (kept_back n e));
+    chambers = λ n c e. chamber_on c (v.chambers n c (place_back n _ e));
+  }
+
+  carriers_on : Carriers g → Carriers h
+  carriers_on v = record {
+    present = λ n e. let i = kept_back n e in present n i;
+    verified = λ n e. let i = kept_back n e in
+        ap h.is_verified (a.carrier_of n i) ∙ a.is_verified (g.carrier_of n) (v.known (g.carrier_of n) (g.port_of n) (v.present n i)) ∙ v.verified n i;
+    alone = λ c d p e f. v.alone c d p (sym (a.present_at c) ∙ e) (sym (a.present_at d) ∙ f);
+    known = λ c p e. ap (λ (cs : List ℕ). is_one_of cs c) a.carriers ∙ v.known c p (sym (a.present_at c) ∙ e);
+  } where
+    present : (n : ℕ) → is_one_of g.substrates n ≡ true → h.present_at (h.carrier_of n) ≡ Some (h.port_of n)
+    present n i = ap h.present_at (a.carrier_of n i) ∙ a.present_at (g.carrier_of n) ∙ v.present n i ∙ ap (λ (p : ℕ). Some p) (sym (a.port_of n i))
+
+  commands_on : Places g → Commands g → Commands h
+  commands_on p v = record {
+    picks = λ m n l c e t. let s = v.picks m n l c (busy_back m _ e) t in let i = p.kept n l s.stands in record {
+      robot = s.robot;
+      stands = place_on n _ s.stands;
+      free = empty_on arm s.free;
+      room = room_on n i s.room;
+      from_slot = λ q k is. finished_same n i ∙ s.from_slot q k is;
+      from_aligner = λ is. ap (λ (b : Bool). b || h.is_aligned n) (finished_same n i) ∙ ap (λ (b : Bool). is_finished (g.processing n) || b) (a.is_aligned n i) ∙ s.from_aligner is;
+      from_chamber = λ d is. finished_same n i ∙ s.from_chamber d is;
+      not_arm = s.not_arm;
+    };
+    places = λ m n l c e t. let s = v.places m n l c (busy_back m _ e) t in let i = p.kept n arm s.stands in record {
+      robot = s.robot;
+      stands = place_on n _ s.stands;
+      free = empty_on l s.free;
+      to_slot = λ q k is. let old = s.to_slot q k is in (old.0 ∙ sym (own_same n i), finished_same n i ∙ old.1);
+      to_aligner = λ is. a.is_aligned n i ∙ s.to_aligner is;
+      to_chamber = λ d is. let old = s.to_chamber d is in (chamber_on d old.0, a.is_aligned n i ∙ old.1);
+      not_arm = s.not_arm;
+    };
+    aligns = λ m n c e t. let s = v.aligns m n c (busy_back m _ e) t in
+        record { its_module = s.its_module; stands = place_on n _ s.stands; unaligned = a.is_aligned n (p.kept n aligner s.stands) ∙ s.unaligned };
+    processes = λ m n c e t. let s = v.processes m n c (busy_back m _ e) t in
+        (s.0, s.1, place_on n _ s.2, finished_same n (p.kept n (chamber s.0) s.2) ∙ s.3);
+    once = λ m k c d e f same. v.once m k c d (busy_back m _ e) (busy_back k _ f) same;
+    numbers = λ m k c d e f same. v.numbers m k c d (busy_back m _ e) (busy_back k _ f) same;
+    below = λ m c e. subst (λ (k : ℕ). c.number < k) (sym a.next_command) (v.below m c (busy_back m _ e));
+    room = λ n e. let at = place_back n _ e in room_on n (p.kept n arm at) (v.room n at);
+    modules = λ m c e. ap (λ (cs : List ℕ). is_one_of (modules (record h { chambers = cs })) m) a.chambers ∙ v.modules m c (busy_back m _ e);
+  }
+
+  members_on : Carriers g → Members g → Members h
+  members_on r v = subst (λ (j : JobView). Members (record h { jobs = j })) (sym a.jobs) (record {
+    outside = λ n e. v.outside n (sym (ap is_outside (a.place_of n)) ∙ e);
+    named = λ m c e. v.named m c (busy_back m _ e);
+    starting = v.starting;
+    kept = λ n e. kept_on n (v.kept n e);
+    carrier = λ n e. ap g.jobs.names_carrier (a.carrier_of n (v.kept n e)) ∙ v.carrier n e;
+    here = λ n e. let i = v.kept n e in subst (λ (k : ℕ). k ≤ 1) (sym (access_same n i)) (v.here n e);
+    complete = λ n e over. done_same n (v.kept n e) ∙ v.complete n e over;
+    recipe = λ n e. let c = v.recipe n e in (c.0, c.1, chamber_on c.0 c.2);
+  }) where
+    access_same : (n : ℕ) → is_one_of g.substrates n ≡ true → h.access (h.carrier_of n) ≡ g.access (g.carrier_of n)
+    access_same n i = ap h.access (a.carrier_of n i) ∙ a.access (g.carrier_of n) (r.known (g.carrier_of n) (g.port_of n) (r.present n i))
+
+    done_same : (n : ℕ) → is_one_of g.substrates n ≡ true → is_done n h ≡ is_done n g
+    done_same n i = ap (λ (b : Bool). b && not (is_outside (h.place_of n))) (finished_same n i) ∙ ap (λ (p : Option Loc). is_finished (g.processing n) && not (is_outside p)) (a.place_of n)
+
+  work_on : Work g → Work h
+  work_on v = record {
+    in_process = λ n e. by n e (cases_Bool (is_one_of g.substrates n));
+    removed = λ n e gone. let i = kept_back n e in finished_same n i ∙ v.removed n i (place_back n _ gone);
+  } where
+    by : (n : ℕ) → h.processing n ≡ 1 → (is_one_of g.substrates n ≡ true) ⊎ (is_one_of g.substrates n ≡ false) → IsProcessed n h
+    by n e (inl i) = let w = v.in_process n (sym (a.processing n i) ∙ e) in (w.0, w.1, busy_on w.0 _ w.2, w.3)
+    by n e (inr i) = absurd (a.unknown n i e)
+
+  pub agree-keeps : Valid g → Valid h
+  agree-keeps v = record {
+    places = places_on v.places;
+    carriers = carriers_on v.carriers;
+    commands = commands_on v.places v.commands;
+    members = members_on v.carriers v.members;
+    work = work_on v.work;
+  }

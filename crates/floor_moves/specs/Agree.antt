@@ -1,0 +1,25 @@
+-- Two floors that say the same of what is kept (this tool's profile, substrates and moves). A column says something of each number,
+-- and what it says of a substrate that was forgotten counts for nothing.
+use Rattle.std.specs.Prelude.{◌≡◌, ℕ, true, false}
+use Rattle.gem_tables.specs.Table.{is_one_of}
+use Rattle.floor_moves.specs.Floor.{Floor}
+
+-- the same substrates, carriers, jobs, chambers and modules, and the same of each; a number without a substrate is not IN PROCESS
+pub record Agree (g h : Floor) : Type 0 where
+  pub substrates : h.substrates ≡ g.substrates
+  pub next_substrate : h.next_substrate ≡ g.next_substrate
+  pub carrier_of : (n : ℕ) → is_one_of g.substrates n ≡ true → h.carrier_of n ≡ g.carrier_of n
+  pub port_of : (n : ℕ) → is_one_of g.substrates n ≡ true → h.port_of n ≡ g.port_of n
+  pub slot_of : (n : ℕ) → is_one_of g.substrates n ≡ true → h.slot_of n ≡ g.slot_of n
+  pub place_of : (n : ℕ) → h.place_of n ≡ g.place_of n
+  pub processing : (n : ℕ) → is_one_of g.substrates n ≡ true → h.processing n ≡ g.processing n
+  pub unknown : (n : ℕ) → is_one_of g.substrates n ≡ false → h.processing n ≡ 1 → ⊥
+  pub is_aligned : (n : ℕ) → is_one_of g.substrates n ≡ true → h.is_aligned n ≡ g.is_aligned n
+  pub carriers : h.carriers ≡ g.carriers
+  pub present_at : (c : ℕ) → h.present_at c ≡ g.present_at c
+  pub is_verified : (c : ℕ) → is_one_of g.carriers c ≡ true → h.is_verified c ≡ g.is_verified c
+  pub access : (c : ℕ) → is_one_of g.carriers c ≡ true → h.access c ≡ g.access c
+  pub jobs : h.jobs ≡ g.jobs
+  pub chambers : h.chambers ≡ g.chambers
+  pub equipment : (m : ℕ) → h.equipment m ≡ g.equipment m
+  pub next_command : h.next_command ≡ g.next_command

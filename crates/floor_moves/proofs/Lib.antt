@@ -1,21 +1,21 @@
 mod Maps
-mod Scans
-mod Facts
+pub mod Scans
+pub mod Facts
 mod Columns
 mod Issuing
 mod Moving
 mod Done
 mod Moves
-mod Promised
-mod Rows
-mod Inputs
+pub mod Promised
+pub mod Rows
+pub mod Inputs
 mod Falling
-mod Registering
-mod Carrying
-mod Behind
-mod Running
+pub mod Registering
+pub mod Carrying
+pub mod Behind
+pub mod Running
 mod Ending
 mod Going
 mod Waiting
 mod Room
-mod Agreeing
+pub mod Agreeing

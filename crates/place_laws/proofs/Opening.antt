@@ -1,0 +1,48 @@
+-- What holds at every moment holds of the floor of the tool as it begins.
+use Rattle.std.proofs.Common.{◌≡◌, ℕ, zero, suc, ◌+◌, Bool, true, false, List, [], ◌∷◌, replicate, min, Option, Some, None, slice_get, refl, sym, ◌∙◌, ap}
+use Rattle.gem_tables.specs.Table.{is_one_of}
+use Rattle.robot_moves.specs.declared.module.Module.{Module as ToolModule}
+use Rattle.robot_moves.specs.declared.module.Module.TheVariants.{Idle, Busy, Down}
+use Rattle.robot_moves.specs.Modules.{module_at, first_modules}
+use Rattle.substrate.specs.Places.{no_places}
+use Rattle.tool_floor.specs.Floor.{opening}
+use Rattle.floor_moves.specs.Floor.{idle, opening as opening_by_numbers}
+use Rattle.floor_moves.specs.Agree.{Agree}
+use Rattle.floor_moves.specs.Valid.{Valid}
+use Rattle.floor_moves.proofs.Agreeing.{agree-keeps}
+use Rattle.floor_moves.proofs.Carrying.{opening-valid}
+use Rattle.place_laws.specs.Picture.{picture, module_of, numbers_from}
+
+module _ (ports chambers : ℕ) where
+  one_idle : (count n : ℕ) → module_of (slice_get (replicate count Idle) n) (no_places ports chambers) ≡ idle
+  one_idle zero n = refl
+  one_idle (suc count) zero = refl
+  one_idle (suc count) (suc n) = one_idle count n
+
+  all_idle : (m : ℕ) → module_of (module_at m (first_modules chambers)) (no_places ports chambers) ≡ idle
+  all_idle zero = refl
+  all_idle (suc n) = one_idle (2 + min chambers 253) n
+
+  begins : Agree (opening_by_numbers (numbers_from 1 chambers)) (picture (opening ports chambers))
+  begins = record {
+    substrates = refl;
+    next_substrate = refl;
+    carrier_of = λ n e. refl;
+    port_of = λ n e. refl;
+    slot_of = λ n e. refl;
+    place_of = λ n. refl;
+    processing = λ n e. refl;
+    unknown = λ n e one. absurd (cc);
+    is_aligned = λ n e. refl;
+    carriers = refl;
+    present_at = λ c. refl;
+    is_verified = λ c e. refl;
+    access = λ c e. refl;
+    jobs = refl;
+    chambers = refl;
+    equipment = all_idle;
+    next_command = refl;
+  }
+
+  pub opening-keeps : Valid (picture (opening ports chambers))
+  opening-keeps = agree-keeps _ _ begins (opening-valid (numbers_from 1 chambers))

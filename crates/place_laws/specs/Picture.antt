@@ -1,0 +1,121 @@
+-- The floor of the tool by numbers, as the laws of the moves read it (after SEMI E87 and E90; this tool's profile, carriers, substrates
+-- and moves). A substrate, a carrier and a module go by their numbers; what a column says of a number that is none counts for
+-- nothing, and is the least there is.
+use Rattle.std.specs.Prelude.{ℕ, zero, suc, ◌+◌, ◌==◌, Bool, false, ◌&&◌, if◌then◌else◌, List, [], ◌∷◌, find, map, Option, Some, None, option_map}
+use Rattle.gem_ids.specs.declared.numbers.LocId.{LocId}
+use Rattle.gem_ids.specs.declared.numbers.LocId.TheVariants.{Slot, Aligner, Arm, Chamber}
+use Rattle.gem_ids.specs.declared.numbers.PortNo.{PortNo}
+use Rattle.tool_events.specs.declared.answer.Task.{Task as ToolTask}
+use Rattle.tool_events.specs.declared.answer.Task.TheVariants as task
+use Rattle.robot_moves.specs.declared.module.Module.{Module as ToolModule}
+use Rattle.robot_moves.specs.declared.module.Module.TheVariants.{Idle, Busy, Down}
+use Rattle.robot_moves.specs.Modules.{module_at}
+use Rattle.carrier.specs.declared.carrier.Carrier.{Carrier}
+use Rattle.carrier.specs.Tables.{access_number}
+use Rattle.carrier.specs.Record.{is_map_verified}
+use Rattle.carrier.specs.Carriers.{carrier_numbered}
+use Rattle.substrate.specs.Tables.{transport_number, processing_number}
+use Rattle.substrate.specs.Places.{PlaceMap}
+use Rattle.substrate.specs.declared.registered.Registered.{Registered}
+use Rattle.tool_floor.specs.declared.tracking.Substrate.{Substrate}
+use Rattle.tool_floor.specs.Floor.{ToolFloor, substrate_numbered, number_of}
+use Rattle.tool_floor.specs.Modules.{number_named}
+use Rattle.shop_floor.specs.Floor as shop
+use Rattle.floor_moves.specs.Floor.{Loc, slot, aligner, arm, chamber, Task, pick, place, align, process, Module, idle, busy, down, Floor, no_jobs}
+
+-- ---- places
+
+-- a place
+abbrev pub loc_of : LocId → Loc
+loc_of (Slot p k) = slot p.0 k.0
+loc_of Aligner = aligner
+loc_of Arm = arm
+loc_of (Chamber c) = chamber c
+
+-- the port of a slot, and its number there
+abbrev pub port_in : LocId → ℕ
+port_in (Slot p k) = p.0
+port_in _ = 0
+
+abbrev pub slot_in : LocId → ℕ
+slot_in (Slot p k) = k.0
+slot_in _ = 0
+
+-- the place of the substrate of a number, where it has one
+abbrev pub place_in : PlaceMap → ℕ → Option Loc
+place_in p n = option_map (λ r. loc_of r.at) (find (λ r. r.number == n) p.held)
+
+-- ---- substrates and carriers
+
+-- what is said of one, where there is one; else this
+abbrev pub of_one : {A B : Type 0} → B → (A → B) → Option A → B
+of_one else_ says None = else_
+of_one else_ says (Some a) = says a
+
+-- what is said of the substrate of a number
+abbrev pub of_substrate : {B : Type 0} → B → (Substrate → B) → ToolFloor → ℕ → B
+of_substrate else_ says f n = of_one else_ says (substrate_numbered n f.substrates)
+
+-- what is said of the carrier of a number
+abbrev pub of_carrier : {B : Type 0} → B → (Carrier → B) → ToolFloor → ℕ → B
+of_carrier else_ says f c = of_one else_ says (carrier_numbered c f.shop.carriers)
+
+-- the port of a number
+abbrev pub port_number : Option PortNo → Option ℕ
+port_number p = option_map (λ n. n.0) p
+
+-- the port at which a carrier is present
+abbrev pub where_present : Carrier → Option ℕ
+where_present c = if c.present then port_number c.port else None
+
+-- ---- modules
+
+-- the number of a substrate that is named, 0 where none of that name has a place
+abbrev pub number_or_none : Option ℕ → ℕ
+number_or_none None = 0
+number_or_none (Some n) = n
+
+abbrev pub numbered : List ℕ → PlaceMap → ℕ
+numbered sub p = number_or_none (number_named sub p)
+
+-- a task
+abbrev pub task_of : ToolTask → PlaceMap → Task
+task_of (task.Pick sub from) p = pick (numbered sub p) (loc_of from)
+task_of (task.Place sub to) p = place (numbered sub p) (loc_of to)
+task_of (task.Align sub) p = align (numbered sub p)
+task_of (task.Process sub recipe) p = process (numbered sub p)
+
+-- a module; one that the tool lacks is Idle
+abbrev pub module_of : Option ToolModule → PlaceMap → Module
+module_of None p = idle
+module_of (Some Idle) p = idle
+module_of (Some (Busy command fetched)) p = busy (record { number = command.number.0; task = task_of command.task p })
+module_of (Some Down) p = down
+
+-- so many numbers from one on
+abbrev pub numbers_from : ℕ → ℕ → List ℕ
+numbers_from n zero = []
+numbers_from n (suc count) = n ∷ numbers_from (n + 1) count
+
+-- ---- all of it; no process job is there yet
+
+abbrev pub picture : ToolFloor → Floor
+picture f = record {
+  substrates = map number_of f.substrates;
+  next_substrate = f.places.given + 1;
+  carrier_of = of_substrate 0 (λ s. s.carrier) f;
+  port_of = of_substrate 0 (λ s. port_in s.slot) f;
+  slot_of = of_substrate 0 (λ s. slot_in s.slot) f;
+  place_of = place_in f.places;
+  transport = of_substrate 0 (λ s. transport_number s.states.transport) f;
+  processing = of_substrate 0 (λ s. processing_number s.states.processing) f;
+  is_aligned = of_substrate false (λ s. s.aligned) f;
+  carriers = map shop.number_of f.shop.carriers;
+  present_at = of_carrier None where_present f;
+  is_verified = of_carrier false (λ c. is_map_verified c.states.map) f;
+  access = of_carrier 0 (λ c. access_number c.states.access) f;
+  jobs = no_jobs;
+  chambers = numbers_from 1 f.places.chambers;
+  equipment = λ m. module_of (module_at m f.modules) f.places;
+  next_command = f.commands + 1;
+}

@@ -1,3 +1,5 @@
 mod Opening
 mod Columns
 mod Rows
+mod Appended
+mod Registering

@@ -1,16 +1,24 @@
 //! Laws of the floor of the tool, for proofs to cite. Each function is empty: what it ensures holds of the definitions.
 
-ghost use Rattle.std.specs.Prelude.{◌≡◌, ℕ, List, Some};
-ghost use Rattle.gem_tables.specs.Table.{after};
+ghost use Rattle.std.specs.Prelude.{◌≡◌, ℕ, ◌+◌, false, List, [], ◌∷◌, ◌++◌, map, Some};
+ghost use Rattle.gem_tables.specs.Table.{after, is_one_of};
+ghost use Rattle.gem_ids.specs.declared.numbers.LocId.TheVariants.{Slot};
+ghost use Rattle.gem_ids.specs.declared.numbers.PortNo.{PortNo};
+ghost use Rattle.gem_ids.specs.declared.numbers.SlotNo.{SlotNo};
+ghost use Rattle.robot_moves.specs.Modules.{module_at};
+ghost use Rattle.substrate.specs.Places.{registered as registered_there};
+ghost use Rattle.substrate.specs.declared.registered.Registered.{Registered};
 ghost use Rattle.substrate.specs.Tables.{processing_number, processing_table};
 ghost use Rattle.substrate.specs.declared.record.LocationRecord.{LocationRecord};
 ghost use Rattle.tool_floor.specs.declared.tracking.Substrate.{Substrate};
-ghost use Rattle.tool_floor.specs.Floor.{ToolFloor, opening, substrate_numbered};
+ghost use Rattle.tool_floor.specs.Floor.{ToolFloor, opening, substrate_numbered, number_of};
 ghost use Rattle.tool_floor.specs.Machines.{with_moved};
+ghost use Rattle.tool_floor.specs.Substrates.{first_substrate};
+ghost use Rattle.floor_moves.specs.Carriers.{registered};
 ghost use Rattle.floor_moves.specs.Effects.{worked};
 ghost use Rattle.floor_moves.specs.Agree.{Agree};
 ghost use Rattle.floor_moves.specs.Valid.{Valid};
-ghost use Rattle.place_laws.specs.Picture.{picture};
+ghost use Rattle.place_laws.specs.Picture.{picture, module_of};
 
 /// What holds at every moment holds of the floor of the tool as it begins.
 pub fn it_holds_as_the_tool_begins()
@@ -26,4 +34,19 @@ pub fn rows_of_one_substrate_do_what_the_laws_have()
     ensures processing { (f : ToolFloor) (n row : ℕ) (s : Substrate) → substrate_numbered n f.substrates ≡ Some s
         → Agree (worked n (processing_number (after processing_number processing_table row s.states.processing)) (picture f))
         (picture (with_moved 13 row n f)) }
+{}
+
+/// A registration does to the floor by numbers what the laws of the moves have: where no substrate has its number yet, and what the
+/// modules have open names the same substrates as before.
+pub fn a_registration_does_what_the_laws_have()
+    ensures { (sub : List ℕ) (carrier : ℕ) (port : PortNo) (slot : SlotNo) (f : ToolFloor)
+        → is_one_of (map number_of f.substrates) (f.places.given + 1) ≡ false
+        → is_one_of (map (λ (r : Registered). r.number) f.places.held) (f.places.given + 1) ≡ false
+        → ((m : ℕ) → module_of (module_at m f.modules) (registered_there sub (Slot port slot) f.places)
+        ≡ module_of (module_at m f.modules) f.places)
+        → Agree (registered carrier port.0 slot.0 (picture f))
+        (picture (record f {
+          places = registered_there sub (Slot port slot) f.places;
+          substrates = f.substrates ++ first_substrate (f.places.given + 1) sub carrier (Slot port slot) ∷ [];
+        })) }
 {}

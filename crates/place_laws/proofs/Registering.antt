@@ -1,0 +1,82 @@
+-- A registration does to the floor by numbers what the laws have.
+use Rattle.std.proofs.Common.{◌≡◌, ℕ, ◌+◌, ◌==◌, Bool, true, false, if◌then◌else◌, List, [], ◌∷◌, ◌++◌, find, map, Option, Some, None, option_map, refl, sym, ◌∙◌, ap, arith}
+use Rattle.gem_tables.specs.Table.{is_one_of}
+use Rattle.gem_ids.specs.declared.numbers.LocId.TheVariants.{Slot}
+use Rattle.gem_ids.specs.declared.numbers.PortNo.{PortNo}
+use Rattle.gem_ids.specs.declared.numbers.SlotNo.{SlotNo}
+use Rattle.robot_moves.specs.Modules.{module_at}
+use Rattle.substrate.specs.Tables.{processing_number}
+use Rattle.substrate.specs.Places.{registered as registered_there}
+use Rattle.substrate.specs.declared.registered.Registered.{Registered}
+use Rattle.tool_floor.specs.declared.tracking.Substrate.{Substrate}
+use Rattle.tool_floor.specs.Floor.{ToolFloor, substrate_numbered, number_of}
+use Rattle.tool_floor.specs.Substrates.{first_substrate}
+use Rattle.floor_moves.specs.Floor.{Loc}
+use Rattle.floor_moves.specs.Carriers.{registered}
+use Rattle.floor_moves.specs.Agree.{Agree}
+use Rattle.place_laws.specs.Picture.{picture, loc_of, place_in, module_of, of_one}
+use Rattle.place_laws.proofs.Columns.{unknown_none}
+use Rattle.place_laws.proofs.Appended.{numbers_on, says_on, none_of_front}
+
+abbrev IsOne : ℕ → Type 0
+IsOne k = k ≡ 1
+
+-- a place, where one is given
+of_place : (o : Option Registered) → option_map (λ (r : Registered). loc_of r.at) o ≡ of_one None (λ (r : Registered). Some (loc_of r.at)) o
+of_place None = refl
+of_place (Some r) = refl
+
+module _ (sub : List ℕ) (carrier : ℕ) (port : PortNo) (slot : SlotNo) (f : ToolFloor) where
+  -- the floor with the substrate
+  abbrev pub behind : ToolFloor
+  behind = record f {
+    places = registered_there sub (Slot port slot) f.places;
+    substrates = f.substrates ++ first_substrate (f.places.given + 1) sub carrier (Slot port slot) ∷ [];
+  }
+
+  abbrev new : Substrate
+  new = first_substrate (f.places.given + 1) sub carrier (Slot port slot)
+
+  abbrev new_place : Registered
+  new_place = record { sub = sub; number = f.places.given + 1; at = Slot port slot }
+
+  pub registering_agrees :
+      is_one_of (map number_of f.substrates) (f.places.given + 1) ≡ false
+      → is_one_of (map (λ (r : Registered). r.number) f.places.held) (f.places.given + 1) ≡ false
+      → ((m : ℕ) → module_of (module_at m f.modules) (registered_there sub (Slot port slot) f.places) ≡ module_of (module_at m f.modules) f.places)
+      → Agree (registered carrier port.0 slot.0 (picture f)) (picture behind)
+  registering_agrees none unplaced modules = record {
+    substrates = numbers_on number_of f.substrates new;
+    next_substrate = refl;
+    carrier_of = λ k _. says_on number_of 0 _ f.substrates new _ refl none k;
+    port_of = λ k _. says_on number_of 0 _ f.substrates new _ refl none k;
+    slot_of = λ k _. says_on number_of 0 _ f.substrates new _ refl none k;
+    place_of = λ k. place k;
+    processing = λ k _. says_on number_of 0 _ f.substrates new _ refl none k;
+    unknown = λ k e one. unknown_is k (unknown_none k f.substrates (none_of_front (map number_of f.substrates) (f.places.given + 1) k e)) (sym (says_on number_of 0 _ f.substrates new _ refl none k) ∙ one);
+    is_aligned = λ k _. says_on number_of false _ f.substrates new _ refl none k;
+    carriers = refl;
+    present_at = λ c. refl;
+    is_verified = λ c _. refl;
+    access = λ c _. refl;
+    jobs = refl;
+    chambers = refl;
+    equipment = modules;
+    next_command = refl;
+  } where
+    place : (k : ℕ) → place_in (registered_there sub (Slot port slot) f.places) k ≡ (if k == f.places.given + 1 then Some (loc_of (Slot port slot)) else place_in f.places k)
+    place k =
+        of_place (find (λ (r : Registered). r.number == k) (f.places.held ++ new_place ∷ []))
+        ∙ says_on (λ (r : Registered). r.number) None (λ (r : Registered). Some (loc_of r.at)) f.places.held new_place _ refl unplaced k
+        ∙ ap (λ (o : Option Loc). if k == f.places.given + 1 then Some (loc_of (Slot port slot)) else o) (sym (of_place (find (λ (r : Registered). r.number == k) f.places.held)))
+
+    unknown_is : (k : ℕ) → substrate_numbered k f.substrates ≡ None → (if k == f.places.given + 1 then 0 else of_one 0 (λ (s : Substrate). processing_number s.states.processing) (substrate_numbered k f.substrates)) ≡ 1 → ⊥
+    unknown_is k gone one = by (k == f.places.given + 1) refl where
+      by : (b : Bool) → (k == f.places.given + 1) ≡ b → ⊥
+      by true e =
+          let z : IsOne 0 = sym (ap (λ (b : Bool). if b then 0 else of_one 0 (λ (s : Substrate). processing_number s.states.processing) (substrate_numbered k f.substrates)) e) ∙ one in
+          omega (arith, z)
+      by false e =
+          let else_ = ap (λ (b : Bool). if b then 0 else of_one 0 (λ (s : Substrate). processing_number s.states.processing) (substrate_numbered k f.substrates)) e in
+          let z : IsOne 0 = sym (else_ ∙ ap (of_one 0 (λ (s : Substrate). processing_number s.states.processing)) gone) ∙ one in
+          omega (arith, z)

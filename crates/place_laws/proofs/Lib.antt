@@ -3,3 +3,4 @@ mod Columns
 mod Rows
 mod Appended
 mod Registering
+mod Issuing

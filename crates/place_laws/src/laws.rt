@@ -6,6 +6,8 @@ ghost use Rattle.gem_ids.specs.declared.numbers.LocId.TheVariants.{Slot};
 ghost use Rattle.gem_ids.specs.declared.numbers.PortNo.{PortNo};
 ghost use Rattle.gem_ids.specs.declared.numbers.SlotNo.{SlotNo};
 ghost use Rattle.robot_moves.specs.Modules.{module_at};
+ghost use Rattle.robot_moves.specs.declared.module.Module.TheVariants.{Idle};
+ghost use Rattle.robot_moves.specs.declared.view.Move.{Move};
 ghost use Rattle.substrate.specs.Places.{registered as registered_there};
 ghost use Rattle.substrate.specs.declared.registered.Registered.{Registered};
 ghost use Rattle.substrate.specs.Tables.{processing_number, processing_table};
@@ -13,12 +15,13 @@ ghost use Rattle.substrate.specs.declared.record.LocationRecord.{LocationRecord}
 ghost use Rattle.tool_floor.specs.declared.tracking.Substrate.{Substrate};
 ghost use Rattle.tool_floor.specs.Floor.{ToolFloor, opening, substrate_numbered, number_of};
 ghost use Rattle.tool_floor.specs.Machines.{with_moved};
+ghost use Rattle.tool_floor.specs.Modules.{issued as given_to};
 ghost use Rattle.tool_floor.specs.Substrates.{first_substrate};
 ghost use Rattle.floor_moves.specs.Carriers.{registered};
-ghost use Rattle.floor_moves.specs.Effects.{worked};
+ghost use Rattle.floor_moves.specs.Effects.{worked, issued};
 ghost use Rattle.floor_moves.specs.Agree.{Agree};
 ghost use Rattle.floor_moves.specs.Valid.{Valid};
-ghost use Rattle.place_laws.specs.Picture.{picture, module_of};
+ghost use Rattle.place_laws.specs.Picture.{picture, module_of, task_of};
 
 /// What holds at every moment holds of the floor of the tool as it begins.
 pub fn it_holds_as_the_tool_begins()
@@ -49,4 +52,10 @@ pub fn a_registration_does_what_the_laws_have()
           places = registered_there sub (Slot port slot) f.places;
           substrates = f.substrates ++ first_substrate (f.places.given + 1) sub carrier (Slot port slot) ∷ [];
         })) }
+{}
+
+/// A command that is issued to an Idle module does to the floor by numbers what the laws of the moves have.
+pub fn a_command_that_is_issued_does_what_the_laws_have()
+    ensures { (m : ℕ) (move : Move) (f : ToolFloor) → module_at m f.modules ≡ Some Idle
+        → Agree (issued m (task_of move.task f.places) (picture f)) (picture (given_to m (Some move) f)) }
 {}

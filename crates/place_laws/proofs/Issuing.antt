@@ -35,11 +35,11 @@ module _ {A : Type 0} (change : A → A) where
   updated_else (suc n) (suc k) other (x ∷ xs) = updated_else n k (λ e. other (ap suc e)) xs
 
 -- the module of a number behind a change of that of another or of its own
-changed_there : (m : ℕ) (change : Module → Module) (modules : List Module) → module_at m (change_module m change modules) ≡ option_map change (module_at m modules)
+pub changed_there : (m : ℕ) (change : Module → Module) (modules : List Module) → module_at m (change_module m change modules) ≡ option_map change (module_at m modules)
 changed_there zero change modules = refl
 changed_there (suc n) change modules = updated_there change n modules
 
-changed_else : (m k : ℕ) → (k ≡ m → ⊥) → (change : Module → Module) (modules : List Module) → module_at k (change_module m change modules) ≡ module_at k modules
+pub changed_else : (m k : ℕ) → (k ≡ m → ⊥) → (change : Module → Module) (modules : List Module) → module_at k (change_module m change modules) ≡ module_at k modules
 changed_else m zero other change modules = refl
 changed_else zero (suc k) other change modules = refl
 changed_else (suc m) (suc k) other change modules = updated_else change m k (λ e. other (ap suc e)) modules

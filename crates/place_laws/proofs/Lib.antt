@@ -4,3 +4,4 @@ mod Rows
 mod Appended
 mod Registering
 mod Issuing
+mod Closing

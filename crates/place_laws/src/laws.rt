@@ -6,6 +6,7 @@ ghost use Rattle.gem_ids.specs.declared.numbers.LocId.TheVariants.{Slot};
 ghost use Rattle.gem_ids.specs.declared.numbers.PortNo.{PortNo};
 ghost use Rattle.gem_ids.specs.declared.numbers.SlotNo.{SlotNo};
 ghost use Rattle.robot_moves.specs.Modules.{module_at};
+ghost use Rattle.robot_moves.specs.declared.module.Module.{Module};
 ghost use Rattle.robot_moves.specs.declared.module.Module.TheVariants.{Idle};
 ghost use Rattle.robot_moves.specs.declared.view.Move.{Move};
 ghost use Rattle.substrate.specs.Places.{registered as registered_there};
@@ -13,12 +14,13 @@ ghost use Rattle.substrate.specs.declared.registered.Registered.{Registered};
 ghost use Rattle.substrate.specs.Tables.{processing_number, processing_table};
 ghost use Rattle.substrate.specs.declared.record.LocationRecord.{LocationRecord};
 ghost use Rattle.tool_floor.specs.declared.tracking.Substrate.{Substrate};
-ghost use Rattle.tool_floor.specs.Floor.{ToolFloor, opening, substrate_numbered, number_of};
+ghost use Rattle.tool_floor.specs.Floor.{ToolFloor, opening, with_module, substrate_numbered, number_of};
 ghost use Rattle.tool_floor.specs.Machines.{with_moved};
 ghost use Rattle.tool_floor.specs.Modules.{issued as given_to};
 ghost use Rattle.tool_floor.specs.Substrates.{first_substrate};
 ghost use Rattle.floor_moves.specs.Carriers.{registered};
-ghost use Rattle.floor_moves.specs.Effects.{worked, issued};
+ghost use Rattle.floor_moves.specs.Floor.{Module as ByNumber};
+ghost use Rattle.floor_moves.specs.Effects.{worked, issued, turned};
 ghost use Rattle.floor_moves.specs.Agree.{Agree};
 ghost use Rattle.floor_moves.specs.Valid.{Valid};
 ghost use Rattle.place_laws.specs.Picture.{picture, module_of, task_of};
@@ -58,4 +60,12 @@ pub fn a_registration_does_what_the_laws_have()
 pub fn a_command_that_is_issued_does_what_the_laws_have()
     ensures { (m : ℕ) (move : Move) (f : ToolFloor) → module_at m f.modules ≡ Some Idle
         → Agree (issued m (task_of move.task f.places) (picture f)) (picture (given_to m (Some move) f)) }
+{}
+
+/// A module that changes is changed in the floor by numbers, and nothing else is: so where its command is closed, where it goes down,
+/// and where it comes up.
+pub fn a_module_that_changes_is_changed_alone()
+    ensures { (m : ℕ) (change : Module → Module) (x : Module) (state : ByNumber) (f : ToolFloor)
+        → module_at m f.modules ≡ Some x → module_of (Some (change x)) f.places ≡ state
+        → Agree (turned m state (picture f)) (picture (with_module m change f)) }
 {}

@@ -1,22 +1,34 @@
 -- A command that is closed, and a module that goes down or comes up, does to the floor by numbers what the laws have.
-use Rattle.std.proofs.Common.{◌≡◌, ℕ, ◌==◌, Bool, true, false, if◌then◌else◌, Option, Some, option_map, refl, sym, ◌∙◌, ap, subst, arith}
+use Rattle.std.proofs.Common.{◌≡◌, ℕ, ◌==◌, Bool, true, false, if◌then◌else◌, map, Option, Some, option_map, refl, sym, ◌∙◌, ap, subst, arith}
 use Rattle.std.proofs.lemmas.Bool.Decides.{Decides-eqb}
 use Rattle.robot_moves.specs.declared.module.Module.{Module}
 use Rattle.robot_moves.specs.Modules.{module_at, change_module}
 use Rattle.substrate.specs.Tables.{processing_number}
 use Rattle.tool_floor.specs.declared.tracking.Substrate.{Substrate}
-use Rattle.tool_floor.specs.Floor.{ToolFloor, with_module}
-use Rattle.floor_moves.specs.Floor.{Module as ByNumber}
+use Rattle.tool_floor.specs.Floor.{ToolFloor, with_module, substrate_numbered, change_numbered, number_of}
+use Rattle.tool_floor.specs.Modules.{aligned}
+use Rattle.gem_tables.specs.Table.{is_one_of}
+use Rattle.floor_moves.specs.Floor.{Module as ByNumber, set}
 use Rattle.floor_moves.specs.Effects.{turned}
 use Rattle.floor_moves.specs.Agree.{Agree}
 use Rattle.place_laws.specs.Picture.{picture, module_of, of_one}
-use Rattle.place_laws.proofs.Columns.{unknown_none}
+use Rattle.place_laws.proofs.Columns.{unknown_none, numbers_same, says_same, says_new}
 use Rattle.place_laws.proofs.Issuing.{changed_there, changed_else}
 
 abbrev IsOne : ℕ → Type 0
 IsOne k = k ≡ 1
 
 module _ (m : ℕ) (change : Module → Module) (x : Module) (state : ByNumber) (f : ToolFloor) where
+  -- the modules by their numbers behind the change
+  pub modules_behind : module_at m f.modules ≡ Some x → module_of (Some (change x)) f.places ≡ state → (k : ℕ) → module_of (module_at k (change_module m change f.modules)) f.places ≡ (if k == m then state else module_of (module_at k f.modules) f.places)
+  modules_behind here is k = by (k == m) refl where
+    by : (b : Bool) → (k == m) ≡ b → module_of (module_at k (change_module m change f.modules)) f.places ≡ (if b then state else module_of (module_at k f.modules) f.places)
+    by true e =
+        let same : m ≡ k = sym ((Decides-eqb k m).0 e) in
+        subst (λ (i : ℕ). module_of (module_at i (change_module m change f.modules)) f.places ≡ state) same
+        (ap (λ (o : Option Module). module_of o f.places) (changed_there m change f.modules ∙ ap (option_map change) here) ∙ is)
+    by false e = ap (λ (o : Option Module). module_of o f.places) (changed_else m k (λ is. let t = (Decides-eqb k m).1 is in cc) change f.modules)
+
   pub closing_agrees : module_at m f.modules ≡ Some x → module_of (Some (change x)) f.places ≡ state → Agree (turned m state (picture f)) (picture (with_module m change f))
   closing_agrees here is = record {
     substrates = refl;
@@ -34,12 +46,32 @@ module _ (m : ℕ) (change : Module → Module) (x : Module) (state : ByNumber) 
     access = λ c _. refl;
     jobs = refl;
     chambers = refl;
-    equipment = λ k. by k (k == m) refl;
+    equipment = modules_behind here is;
+    next_command = refl;
+  }
+
+  -- what is done by an Align is aligned, and its module changes
+  pub aligning_agrees : (n : ℕ) (s : Substrate) → substrate_numbered n f.substrates ≡ Some s → module_at m f.modules ≡ Some x → module_of (Some (change x)) f.places ≡ state
+      → Agree (record (picture f) { is_aligned = set n true (picture f).is_aligned; equipment = set m state (picture f).equipment })
+      (picture (with_module m change (record f { substrates = change_numbered n aligned f.substrates })))
+  aligning_agrees n s found here is = record {
+    substrates = numbers_same n aligned (λ s. refl) f.substrates;
+    next_substrate = refl;
+    carrier_of = λ k _. says_same n aligned (λ s. refl) 0 _ (λ s. refl) k f.substrates;
+    port_of = λ k _. says_same n aligned (λ s. refl) 0 _ (λ s. refl) k f.substrates;
+    slot_of = λ k _. says_same n aligned (λ s. refl) 0 _ (λ s. refl) k f.substrates;
+    place_of = λ k. refl;
+    processing = λ k _. says_same n aligned (λ s. refl) 0 _ (λ s. refl) k f.substrates;
+    unknown = λ k e one. unknown_is k e (sym (says_same n aligned (λ s. refl) 0 _ (λ s. refl) k f.substrates) ∙ one);
+    is_aligned = λ k _. says_new n aligned (λ s. refl) false _ s k f.substrates found;
+    carriers = refl;
+    present_at = λ c. refl;
+    is_verified = λ c _. refl;
+    access = λ c _. refl;
+    jobs = refl;
+    chambers = refl;
+    equipment = modules_behind here is;
     next_command = refl;
   } where
-    by : (k : ℕ) (b : Bool) → (k == m) ≡ b → module_of (module_at k (change_module m change f.modules)) f.places ≡ (if b then state else module_of (module_at k f.modules) f.places)
-    by k true e =
-        let same : m ≡ k = sym ((Decides-eqb k m).0 e) in
-        subst (λ (i : ℕ). module_of (module_at i (change_module m change f.modules)) f.places ≡ state) same
-        (ap (λ (o : Option Module). module_of o f.places) (changed_there m change f.modules ∙ ap (option_map change) here) ∙ is)
-    by k false e = ap (λ (o : Option Module). module_of o f.places) (changed_else m k (λ is. let t = (Decides-eqb k m).1 is in cc) change f.modules)
+    unknown_is : (k : ℕ) → is_one_of (map number_of f.substrates) k ≡ false → of_one 0 (λ (s : Substrate). processing_number s.states.processing) (substrate_numbered k f.substrates) ≡ 1 → ⊥
+    unknown_is k e one = let z : IsOne 0 = sym (ap (of_one 0 (λ (s : Substrate). processing_number s.states.processing)) (unknown_none k f.substrates e)) ∙ one in omega (arith, z)

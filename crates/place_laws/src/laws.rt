@@ -1,6 +1,6 @@
 //! Laws of the floor of the tool, for proofs to cite. Each function is empty: what it ensures holds of the definitions.
 
-ghost use Rattle.std.specs.Prelude.{◌≡◌, ℕ, ◌+◌, false, List, [], ◌∷◌, ◌++◌, map, Some};
+ghost use Rattle.std.specs.Prelude.{◌≡◌, ℕ, ◌+◌, true, false, List, [], ◌∷◌, ◌++◌, map, Some};
 ghost use Rattle.gem_tables.specs.Table.{after, is_one_of};
 ghost use Rattle.gem_ids.specs.declared.numbers.LocId.TheVariants.{Slot};
 ghost use Rattle.gem_ids.specs.declared.numbers.PortNo.{PortNo};
@@ -14,12 +14,12 @@ ghost use Rattle.substrate.specs.declared.registered.Registered.{Registered};
 ghost use Rattle.substrate.specs.Tables.{processing_number, processing_table};
 ghost use Rattle.substrate.specs.declared.record.LocationRecord.{LocationRecord};
 ghost use Rattle.tool_floor.specs.declared.tracking.Substrate.{Substrate};
-ghost use Rattle.tool_floor.specs.Floor.{ToolFloor, opening, with_module, substrate_numbered, number_of};
+ghost use Rattle.tool_floor.specs.Floor.{ToolFloor, opening, with_module, substrate_numbered, change_numbered, number_of};
 ghost use Rattle.tool_floor.specs.Machines.{with_moved};
-ghost use Rattle.tool_floor.specs.Modules.{issued as given_to};
+ghost use Rattle.tool_floor.specs.Modules.{aligned, issued as given_to};
 ghost use Rattle.tool_floor.specs.Substrates.{first_substrate};
 ghost use Rattle.floor_moves.specs.Carriers.{registered};
-ghost use Rattle.floor_moves.specs.Floor.{Module as ByNumber};
+ghost use Rattle.floor_moves.specs.Floor.{Module as ByNumber, set};
 ghost use Rattle.floor_moves.specs.Effects.{worked, issued, turned};
 ghost use Rattle.floor_moves.specs.Agree.{Agree};
 ghost use Rattle.floor_moves.specs.Valid.{Valid};
@@ -68,4 +68,13 @@ pub fn a_module_that_changes_is_changed_alone()
     ensures { (m : ℕ) (change : Module → Module) (x : Module) (state : ByNumber) (f : ToolFloor)
         → module_at m f.modules ≡ Some x → module_of (Some (change x)) f.places ≡ state
         → Agree (turned m state (picture f)) (picture (with_module m change f)) }
+{}
+
+/// What is done by an Align is aligned in the floor by numbers, and its module changes.
+pub fn what_is_aligned_is_aligned_by_numbers()
+    ensures { (m n : ℕ) (change : Module → Module) (x : Module) (state : ByNumber) (s : Substrate) (f : ToolFloor)
+        → substrate_numbered n f.substrates ≡ Some s
+        → module_at m f.modules ≡ Some x → module_of (Some (change x)) f.places ≡ state
+        → Agree (record (picture f) { is_aligned = set n true (picture f).is_aligned; equipment = set m state (picture f).equipment })
+        (picture (with_module m change (record f { substrates = change_numbered n aligned f.substrates }))) }
 {}

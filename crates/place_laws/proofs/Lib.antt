@@ -5,3 +5,5 @@ mod Appended
 mod Registering
 mod Issuing
 mod Closing
+mod Moving
+mod Carried

@@ -9,7 +9,8 @@ ghost use Rattle.robot_moves.specs.Modules.{module_at};
 ghost use Rattle.robot_moves.specs.declared.module.Module.{Module};
 ghost use Rattle.robot_moves.specs.declared.module.Module.TheVariants.{Idle};
 ghost use Rattle.robot_moves.specs.declared.view.Move.{Move};
-ghost use Rattle.substrate.specs.Places.{registered as registered_there};
+ghost use Rattle.substrate.specs.Places.{registered as registered_there, ArePlaces, substrate_named, moved};
+ghost use Rattle.gem_ids.specs.declared.numbers.LocId.{LocId};
 ghost use Rattle.substrate.specs.declared.registered.Registered.{Registered};
 ghost use Rattle.substrate.specs.Tables.{processing_number, processing_table};
 ghost use Rattle.substrate.specs.declared.record.LocationRecord.{LocationRecord};
@@ -20,10 +21,10 @@ ghost use Rattle.tool_floor.specs.Modules.{aligned, issued as given_to};
 ghost use Rattle.tool_floor.specs.Substrates.{first_substrate};
 ghost use Rattle.floor_moves.specs.Carriers.{registered};
 ghost use Rattle.floor_moves.specs.Floor.{Module as ByNumber, set};
-ghost use Rattle.floor_moves.specs.Effects.{worked, issued, turned};
+ghost use Rattle.floor_moves.specs.Effects.{worked, issued, turned, moved as moved_by_numbers};
 ghost use Rattle.floor_moves.specs.Agree.{Agree};
 ghost use Rattle.floor_moves.specs.Valid.{Valid};
-ghost use Rattle.place_laws.specs.Picture.{picture, module_of, task_of};
+ghost use Rattle.place_laws.specs.Picture.{picture, loc_of, module_of, task_of};
 
 /// What holds at every moment holds of the floor of the tool as it begins.
 pub fn it_holds_as_the_tool_begins()
@@ -77,4 +78,13 @@ pub fn what_is_aligned_is_aligned_by_numbers()
         → module_at m f.modules ≡ Some x → module_of (Some (change x)) f.places ≡ state
         → Agree (record (picture f) { is_aligned = set n true (picture f).is_aligned; equipment = set m state (picture f).equipment })
         (picture (with_module m change (record f { substrates = change_numbered n aligned f.substrates }))) }
+{}
+
+/// What is done by a Pick or a Place moves in the floor by numbers, where it has a place, and its module is Idle.
+pub fn what_moves_moves_by_numbers()
+    ensures { (m : ℕ) (change : Module → Module) (x : Module) (sub : List ℕ) (to : LocId) (found : Registered) (f : ToolFloor)
+        → ArePlaces f.places → substrate_named sub f.places.held ≡ Some found
+        → module_at m f.modules ≡ Some x → change x ≡ Idle
+        → Agree (moved_by_numbers found.number (loc_of to) m (picture f))
+        (picture (with_module m change (record f { places = record f.places { held = moved sub to f.places.held } }))) }
 {}

@@ -7,3 +7,4 @@ mod Issuing
 mod Closing
 mod Moving
 mod Carried
+mod Losing

@@ -16,11 +16,11 @@ use Rattle.floor_moves.specs.Floor.{Loc, Task, busy, pick, place, align, process
 use Rattle.place_laws.specs.Picture.{loc_of, place_in, numbered, number_or_none, task_of, module_of}
 
 -- a place of a list
-abbrev among : List Registered → ℕ → Option Loc
+abbrev pub among : List Registered → ℕ → Option Loc
 among held k = option_map (λ (r : Registered). loc_of r.at) (find (λ (r : Registered). r.number == k) held)
 
 -- what is found is past the last number before it
-past : (last given : ℕ) (t : Registered → Bool) (rs : List Registered) (found : Registered) → AreNumbered last given rs → find t rs ≡ Some found → last < found.number
+pub past : (last given : ℕ) (t : Registered → Bool) (rs : List Registered) (found : Registered) → AreNumbered last given rs → find t rs ≡ Some found → last < found.number
 past last given t [] found rising e = absurd (cc)
 past last given t (r ∷ rs) found rising e = of (t r) e (past r.number given t rs found rising.1) where
   of : (b : Bool) → (if b then Some r else find t rs) ≡ Some found → (find t rs ≡ Some found → r.number < found.number) → last < found.number

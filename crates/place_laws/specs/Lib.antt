@@ -1,1 +1,3 @@
 pub mod Picture
+pub mod Ports
+pub mod Standing

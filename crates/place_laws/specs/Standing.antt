@@ -1,0 +1,89 @@
+-- What holds of the floor of the tool at every moment, while no process job is there that would move a substrate (after SEMI E87 and
+-- E90; this tool's profile, carriers, substrates and moves): each substrate is of a carrier that is present, is in its own slot, and
+-- no command is open.
+use Rattle.std.specs.Prelude.{◌≡◌, ◌≤◌, ℕ, zero, suc, true, false, List, [], ◌∷◌, length, map, Contains, Option, Some, None, slice_get}
+use Rattle.std.specs.List.{AllByRecursion}
+use Rattle.gem_ids.specs.declared.numbers.LocId.TheVariants.{Slot}
+use Rattle.gem_ids.specs.declared.numbers.PortNo.{PortNo}
+use Rattle.gem_ids.specs.declared.numbers.SlotNo.{SlotNo}
+use Rattle.gem_ids.specs.Names.{name_in_slot}
+use Rattle.robot_moves.specs.declared.module.Module.{Module}
+use Rattle.robot_moves.specs.declared.module.Module.TheVariants.{Idle, Busy, Down}
+use Rattle.carrier.specs.declared.carrier.Carrier.{Carrier}
+use Rattle.carrier.specs.Record.{is_map_verified}
+use Rattle.carrier.specs.Carriers.{carrier_numbered}
+use Rattle.shop_floor.specs.Valid.{IsFloor}
+use Rattle.substrate.specs.Record.{is_in_process}
+use Rattle.substrate.specs.declared.registered.Registered.{Registered}
+use Rattle.tool_floor.specs.declared.tracking.Substrate.{Substrate}
+use Rattle.tool_floor.specs.Floor.{ToolFloor}
+use Rattle.tool_floor.specs.Kept.{RiseTo}
+use Rattle.place_laws.specs.Ports.{AtPorts}
+
+-- ---- a substrate and its carrier
+
+-- the carrier is present with map VERIFIED; the substrate is of a slot of it, 1 to 25, at its port, and has the name of that slot
+pub record IsOf (s : Substrate) (c : Carrier) : Type 0 where
+  pub present : c.present ≡ true
+  pub verified : is_map_verified c.states.map ≡ true
+  pub port : PortNo
+  pub slot : SlotNo
+  pub at : c.port ≡ Some port
+  pub own : s.slot ≡ Slot port slot
+  pub named : s.sub ≡ name_in_slot c.name slot.0
+  pub first : 1 ≤ slot.0
+  pub last : slot.0 ≤ 25
+
+-- the carrier of a substrate is one of these
+abbrev pub IsCarried : List Carrier → Substrate → Type 0
+IsCarried carriers s = (c : Carrier) × (carrier_numbered s.carrier carriers ≡ Some c) × IsOf s c
+
+-- none of these has the slot of a substrate
+abbrev pub IsElsewhere : Substrate → List Substrate → Type 0
+IsElsewhere s ss = AllByRecursion (λ t. s.slot ≡ t.slot → ⊥) ss
+
+-- no two have the same slot
+abbrev pub AreApart : List Substrate → Type 0
+AreApart [] = Unit {0}
+AreApart (s ∷ ss) = IsElsewhere s ss × AreApart ss
+
+-- ---- the substrates of a carrier
+
+-- the code of a slot, counted from 1
+abbrev pub code_of : ℕ → List ℕ → Option ℕ
+code_of zero slots = None
+code_of (suc k) slots = slice_get slots k
+
+-- the substrate of a slot of the carrier is registered, under the name of the slot
+abbrev pub IsRegistered : List Substrate → Carrier → PortNo → SlotNo → Type 0
+IsRegistered ss c port slot = (s : Substrate) × Contains ss s × (s.carrier ≡ c.number) × (s.slot ≡ Slot port slot) × (s.sub ≡ name_in_slot c.name slot.0)
+
+-- where the slot map of a carrier is VERIFIED, that of each slot that is correctly occupied, code 3, is: none was refused
+abbrev pub AreRegistered : List Substrate → Carrier → Type 0
+AreRegistered ss c =
+    is_map_verified c.states.map ≡ true → (port : PortNo) (slot : SlotNo) → c.port ≡ Some port → slot.0 ≤ 25 → code_of slot.0 c.map ≡ Some 3 → IsRegistered ss c port slot
+
+-- ---- places and modules
+
+-- a substrate in its own slot
+abbrev pub in_its_slot : Substrate → Registered
+in_its_slot s = record { sub = s.sub; number = s.number; at = s.slot }
+
+-- no command is open at a module
+abbrev pub IsFree : Module → Type 0
+IsFree (Busy command fetched) = ⊥
+IsFree _ = Unit {0}
+
+-- ---- all of it
+
+pub record Standing (f : ToolFloor) : Type 0 where
+  pub shop : IsFloor f.shop
+  pub ports : AtPorts f.shop
+  pub carried : AllByRecursion (IsCarried f.shop.carriers) f.substrates
+  pub registered : AllByRecursion (AreRegistered f.substrates) f.shop.carriers
+  pub apart : AreApart f.substrates
+  pub rising : RiseTo 0 f.places.given f.substrates
+  pub in_slots : f.places.held ≡ map in_its_slot f.substrates
+  pub same_ports : f.places.ports ≡ length f.shop.ports
+  pub free : AllByRecursion IsFree f.modules
+  pub at_rest : AllByRecursion (λ (s : Substrate). is_in_process s.states.processing ≡ false) f.substrates

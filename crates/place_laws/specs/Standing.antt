@@ -1,8 +1,10 @@
 -- What holds of the floor of the tool at every moment, while no process job is there that would move a substrate (after SEMI E87 and
 -- E90; this tool's profile, carriers, substrates and moves): each substrate is of a carrier that is present, is in its own slot, and
 -- no command is open.
-use Rattle.std.specs.Prelude.{◌≡◌, ◌≤◌, ℕ, zero, suc, true, false, List, [], ◌∷◌, length, map, Contains, Option, Some, None, slice_get}
-use Rattle.std.specs.List.{AllByRecursion}
+use Rattle.std.specs.Prelude.{◌≡◌, ◌≤◌, ℕ, zero, suc, ◌==◌, Bool, true, false, ◌&&◌, List, [], ◌∷◌, length, map, Option, Some, None, slice_get}
+use Rattle.std.specs.List.{AllByRecursion, list_any}
+use Rattle.std.specs.Str.{bytes_eq}
+use Rattle.gem_ids.specs.declared.numbers.LocId.{LocId}
 use Rattle.gem_ids.specs.declared.numbers.LocId.TheVariants.{Slot}
 use Rattle.gem_ids.specs.declared.numbers.PortNo.{PortNo}
 use Rattle.gem_ids.specs.declared.numbers.SlotNo.{SlotNo}
@@ -13,6 +15,7 @@ use Rattle.carrier.specs.declared.carrier.Carrier.{Carrier}
 use Rattle.carrier.specs.Record.{is_map_verified}
 use Rattle.carrier.specs.Carriers.{carrier_numbered}
 use Rattle.shop_floor.specs.Valid.{IsFloor}
+use Rattle.substrate.specs.Locations.{is_same}
 use Rattle.substrate.specs.Record.{is_in_process}
 use Rattle.substrate.specs.declared.registered.Registered.{Registered}
 use Rattle.tool_floor.specs.declared.tracking.Substrate.{Substrate}
@@ -54,14 +57,18 @@ abbrev pub code_of : ℕ → List ℕ → Option ℕ
 code_of zero slots = None
 code_of (suc k) slots = slice_get slots k
 
--- the substrate of a slot of the carrier is registered, under the name of the slot
-abbrev pub IsRegistered : List Substrate → Carrier → PortNo → SlotNo → Type 0
-IsRegistered ss c port slot = (s : Substrate) × Contains ss s × (s.carrier ≡ c.number) × (s.slot ≡ Slot port slot) × (s.sub ≡ name_in_slot c.name slot.0)
+-- a substrate is that of a slot of a carrier, and has this name
+abbrev pub is_that_of : ℕ → List ℕ → LocId → Substrate → Bool
+is_that_of carrier name slot s = (s.carrier == carrier) && (is_same s.slot slot && bytes_eq s.sub name)
+
+-- one of these is that of a slot of the carrier at its port, under the name of the slot
+abbrev pub is_registered : List Substrate → Carrier → PortNo → SlotNo → Bool
+is_registered ss c port slot = list_any (is_that_of c.number (name_in_slot c.name slot.0) (Slot port slot)) ss
 
 -- where the slot map of a carrier is VERIFIED, that of each slot that is correctly occupied, code 3, is: none was refused
 abbrev pub AreRegistered : List Substrate → Carrier → Type 0
 AreRegistered ss c =
-    is_map_verified c.states.map ≡ true → (port : PortNo) (slot : SlotNo) → c.port ≡ Some port → slot.0 ≤ 25 → code_of slot.0 c.map ≡ Some 3 → IsRegistered ss c port slot
+    is_map_verified c.states.map ≡ true → (port : PortNo) (slot : SlotNo) → c.port ≡ Some port → slot.0 ≤ 25 → code_of slot.0 c.map ≡ Some 3 → is_registered ss c port slot ≡ true
 
 -- ---- places and modules
 

@@ -8,3 +8,5 @@ mod Closing
 mod Moving
 mod Carried
 mod Losing
+pub mod Holding
+pub mod Few

@@ -17,5 +17,5 @@ pub mod Running
 mod Ending
 mod Going
 mod Waiting
-mod Room
+pub mod Room
 pub mod Agreeing

@@ -10,3 +10,5 @@ mod Carried
 mod Losing
 pub mod Stays
 pub mod SlotNames
+pub mod Holding
+pub mod Few

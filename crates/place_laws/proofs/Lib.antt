@@ -12,3 +12,4 @@ pub mod Stays
 pub mod SlotNames
 pub mod Holding
 pub mod Few
+pub mod Slots

@@ -31,12 +31,12 @@ pub stay_same : (cs : List Carrier) → Stay cs cs
 stay_same cs n c found p v = (c, found, same_goes c p v)
 
 goes_on : (c d e : Carrier) → GoesOn c d → GoesOn d e → GoesOn c e
-goes_on c d e first then = record { present = then.present; verified = then.verified; name = then.name ∙ first.name; port = then.port ∙ first.port }
+goes_on c d e first next = record { present = next.present; verified = next.verified; name = next.name ∙ first.name; port = next.port ∙ first.port }
 
 pub stay_then : (cs ds es : List Carrier) → Stay cs ds → Stay ds es → Stay cs es
-stay_then cs ds es first then n c found p v =
+stay_then cs ds es first next n c found p v =
     let one = first n c found p v in
-    let two = then n one.0 one.1 one.2.present one.2.verified in
+    let two = next n one.0 one.1 one.2.present one.2.verified in
     (two.0, two.1, goes_on c one.0 two.0 one.2 two.2)
 
 -- ---- one that is found

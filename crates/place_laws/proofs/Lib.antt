@@ -13,3 +13,5 @@ pub mod SlotNames
 pub mod Holding
 pub mod Few
 pub mod Slots
+pub mod Leaving
+pub mod ShopRows

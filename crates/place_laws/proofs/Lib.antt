@@ -8,3 +8,13 @@ mod Closing
 mod Moving
 mod Carried
 mod Losing
+pub mod Away
+pub mod PortChanges
+pub mod PortTransfers
+pub mod PortArrivals
+pub mod PortOwners
+pub mod PortsKept
+pub mod QuietPorts
+pub mod PortPlacing
+pub mod PortRemoval
+pub mod PortRequests

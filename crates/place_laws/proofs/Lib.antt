@@ -15,3 +15,13 @@ pub mod Few
 pub mod Slots
 pub mod Leaving
 pub mod ShopRows
+pub mod Away
+pub mod PortChanges
+pub mod PortTransfers
+pub mod PortArrivals
+pub mod PortOwners
+pub mod PortsKept
+pub mod QuietPorts
+pub mod PortPlacing
+pub mod PortRemoval
+pub mod PortRequests

@@ -25,3 +25,4 @@ pub mod QuietPorts
 pub mod PortPlacing
 pub mod PortRemoval
 pub mod PortRequests
+pub mod Removing

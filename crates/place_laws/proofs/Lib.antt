@@ -26,3 +26,4 @@ pub mod PortPlacing
 pub mod PortRemoval
 pub mod PortRequests
 pub mod Removing
+pub mod Bare

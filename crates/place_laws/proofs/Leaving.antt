@@ -92,7 +92,7 @@ module _ (ss : List Substrate) where
   and_false true = refl
   and_false false = refl
 
-  still_verified : (row : ℕ) (m : MapState) → is_map_verified m ≡ true → is_map_verified (after map_number map_table row m) ≡ true
+  pub still_verified : (row : ℕ) (m : MapState) → is_map_verified m ≡ true → is_map_verified (after map_number map_table row m) ≡ true
   still_verified row slots.NotRead v = absurd (cc)
   still_verified row slots.WaitingForHost v = absurd (cc)
   still_verified row slots.Verified v = rw (and_false (1 == row), and_false (2 == row), and_false (3 == row), and_false (4 == row)) refl

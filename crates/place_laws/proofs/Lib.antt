@@ -27,3 +27,4 @@ pub mod PortRemoval
 pub mod PortRequests
 pub mod Removing
 pub mod Bare
+pub mod Verifying

@@ -28,3 +28,4 @@ pub mod PortRequests
 pub mod Removing
 pub mod Bare
 pub mod Verifying
+pub mod BareRows

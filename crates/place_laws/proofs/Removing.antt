@@ -120,7 +120,7 @@ module _ (k : ℕ) where
 
 module _ (cs : List Carrier) (next : ℕ) (apart : are_named_apart cs ≡ true) (rising : RiseFrom 1 next cs) (name : List ℕ) (c : Carrier) (found : carrier_named name cs ≡ Some c) where
   -- a substrate is of another carrier
-  abbrev is_other : Substrate → Bool
+  abbrev pub is_other : Substrate → Bool
   is_other s = not (is_of c.number s)
 
   -- a carrier of the name is the one

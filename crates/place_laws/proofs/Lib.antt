@@ -29,3 +29,5 @@ pub mod Removing
 pub mod Bare
 pub mod Verifying
 pub mod BareRows
+pub mod Written
+pub mod Stands

@@ -25,26 +25,26 @@ use Rattle.place_laws.proofs.PortChanges.{carriers-at-ports}
 -- ---- answers
 
 -- an answer that it is done, and isn't the first
-answer_of : (b : Bool) (n m : Caack) → is_done_code (if b then n else m) ≡ true → is_done_code n ≡ false → is_done_code m ≡ true
+pub answer_of : (b : Bool) (n m : Caack) → is_done_code (if b then n else m) ≡ true → is_done_code n ≡ false → is_done_code m ≡ true
 answer_of true n m e other = absurd (both_ways _ other e)
 answer_of false n m e other = e
 
-answer_second : (b : Bool) (n m : Caack) → is_done_code (if b then n else m) ≡ true → is_done_code n ≡ false → b ≡ false
+pub answer_second : (b : Bool) (n m : Caack) → is_done_code (if b then n else m) ≡ true → is_done_code n ≡ false → b ≡ false
 answer_second true n m e other = absurd (both_ways _ other e)
 answer_second false n m e other = refl
 
 -- what a Bind wants of the carrier
-bind_of : (known : Option Carrier) (cs : List Carrier) (o : Option PortView) → is_done_code (bind_code known cs o) ≡ true → is_done_code (bind_carrier_code known cs) ≡ true
+pub bind_of : (known : Option Carrier) (cs : List Carrier) (o : Option PortView) → is_done_code (bind_code known cs o) ≡ true → is_done_code (bind_carrier_code known cs) ≡ true
 bind_of known cs None e = absurd (true≢false (sym e))
 bind_of known cs (Some p) e = answer_of _ caack.Impossible _ (answer_of (not p.in_service) caack.NotNow _ e refl) refl
 
 -- ---- a Bind directs a carrier that isn't present
 
 -- the carrier of a name isn't
-abbrev IsLoose : List ℕ → Carrier → Type 0
+abbrev pub IsLoose : List ℕ → Carrier → Type 0
 IsLoose name c = has_name name c ≡ true → c.present ≡ false
 
-loose : (name : List ℕ) (cs : List Carrier) (known : Option Carrier) → are_named_apart cs ≡ true → carrier_named name cs ≡ known → is_done_code (bind_carrier_code known cs) ≡ true → AllByRecursion (IsLoose name) cs
+pub loose : (name : List ℕ) (cs : List Carrier) (known : Option Carrier) → are_named_apart cs ≡ true → carrier_named name cs ≡ known → is_done_code (bind_carrier_code known cs) ≡ true → AllByRecursion (IsLoose name) cs
 loose name cs None apart found code = all_follows (λ c. has_name name c ≡ false) (IsLoose name) cs (λ c other is. absurd (both_ways _ other is)) (unknown_all name cs (none_passes (has_name name) cs found))
 loose name cs (Some c) apart found code =
     let absent : c.present ≡ false = (or_parts c.present c.bound (answer_second (c.present || c.bound) caack.Impossible caack.Done code refl)).0 in
@@ -109,7 +109,7 @@ maps-at-ports (Some slots) name f kept =
 -- ---- an action that is done
 
 -- an action of these parts
-abbrev action : CarrierWord → List ℕ → ℕ → Option (List ℕ) → Bool → CarrierAction
+abbrev pub action : CarrierWord → List ℕ → ℕ → Option (List ℕ) → Bool → CarrierAction
 action w id port slots bad = record { word = w; id = id; port = port; map = slots; bad_attr = bad }
 
 written-so : (w : CarrierWord) (id : List ℕ) (port : ℕ) (slots : Option (List ℕ)) (bad : Bool) (f : Floor) → is_done_code (carrier_code f (action w id port slots bad)) ≡ true → IsFloor f → AtPorts f → AtPorts (carrier_written (action w id port slots bad) f)

@@ -110,7 +110,7 @@ carrier-at-ports number change f leaves kept =
     (away_numbered number change f.carriers leaves)
     kept
 
-states_left : (table row : ℕ) → LeavesCarrier (carriers.fires_row table row)
+pub states_left : (table row : ℕ) → LeavesCarrier (carriers.fires_row table row)
 states_left table row = record { number = λ c. refl; name = λ c. refl; port = λ c. refl; present = λ c. refl; bound = λ c. refl }
 
 -- ---- all tables

@@ -31,8 +31,8 @@ use Rattle.gem_model.specs.Verdict.{function_of}
 use Rattle.gem_model.specs.Act.{note_answered, closed_by, session_ended}
 use Rattle.gem_model.specs.Due.{timed_out}
 use Rattle.gem_model.specs.Direct.{Are, IsListed}
-use Rattle.gem_model.proofs.Listed.{listed_keeps, free_listed, listed_answer, listed_timeout, listed_ended, listed_disable}
-use Rattle.gem_model.proofs.Walk.{Inner, Kept, out_of, told_of}
+use Rattle.gem_model.proofs.Listed.{listed_keeps, listed_floor, free_listed, listed_answer, listed_timeout, listed_ended, listed_disable}
+use Rattle.gem_model.proofs.Walk.{Any, Inner, Kept, row_units, out_of, told_of}
 
 -- what keeps a fact of states that looks at no transaction, while link, moment and the end of the run stay: each change by
 -- itself, by the field that it writes, and each row
@@ -84,7 +84,7 @@ module _ (P : State → Type 0) (each : EachInner P) where
   each_disabled : (g : State) → P g → P (fires (operator_rows oper.Disable) g)
   each_disabled g at = each_listed (operator_rows oper.Disable g) (listed_disable g) g at
 
-  pub each_inner : Inner P
+  pub each_inner : Inner Any P
   each_inner = record {
     switch = each.switch;
     drawn = λ g t same at. each.transactions g t at;
@@ -97,9 +97,9 @@ module _ (P : State → Type 0) (each : EachInner P) where
     alarm = each.alarm;
     kinds = each.kinds;
     fetched = each.fetched;
-    came = each.came;
     written = each.written;
     row = λ g f free starts at. each.row g f (free_listed f free) starts at;
+    units = row_units P each.came each.alarms each.alarm each.event (λ g f floor starts at. each.row g f (listed_floor f floor) starts at) each.created;
     ready = each.ready;
     created = each.created;
     answered = λ g h item test one found at. each_closed g h item one at;
@@ -113,7 +113,7 @@ module _ (P : State → Type 0) (each : Each P) where
       each_listed P each.inner (session_end_rows g) (listed_ended g) (without_session g)
       (each.inner.waiting (record (none_asked g) { link = _ }) [] (each.link (none_asked g) _ (each.inner.transactions g _ at)))
 
-  pub each_kept : Kept P
+  pub each_kept : Kept Any P
   each_kept = record {
     inner = each_inner P each.inner;
     moment = each.moment;

@@ -1,5 +1,5 @@
 -- The rows of the load ports and the carriers: what they leave alone, whether an input fires them or they fire by themselves.
-use Rattle.std.proofs.Common.{◌≡◌, ℕ, ◌+◌, ◌*◌, ◌-◌, ◌==◌, Bool, true, false, if◌then◌else◌, List, [], ◌∷◌, ◌++◌, Option, Some, None, refl, sym, subst, ◌∙◌}
+use Rattle.std.proofs.Common.{◌≡◌, ℕ, ◌+◌, ◌*◌, ◌-◌, ◌==◌, Bool, true, false, ◌&&◌, ◌||◌, if◌then◌else◌, List, [], ◌∷◌, ◌++◌, Option, Some, None, refl, sym, subst, ◌∙◌}
 use Rattle.gem_tables.specs.Table.{firing}
 use Rattle.gem_tables.specs.declared.firing.Firing.{Firing}
 use Rattle.gem_rows.specs.Events.{ceid_of}
@@ -27,6 +27,7 @@ use Rattle.gem_model.specs.Values.{Occasion}
 use Rattle.gem_model.specs.Machines.{creations, fire_floor, object_name, row_starts, takes_effect}
 use Rattle.gem_model.specs.Noting.{line_behind}
 use Rattle.gem_model.specs.Fire.{fire, fire_all, advanced}
+use Rattle.gem_model.specs.Direct.{Are}
 use Rattle.std.specs.List.{AllByRecursion}
 use Rattle.tool_floor.specs.Floor.{substrate_numbered}
 use Rattle.tool_floor.specs.Modules.{number_named}
@@ -49,8 +50,13 @@ pub record IsFloorRow (f : Firing) : Type 0 where
   pub not_3 : (f.row.table == 3) ≡ false
 
 abbrev pub AreFloorRows : List Firing → Type 0
-AreFloorRows [] = Unit {0}
-AreFloorRows (f ∷ fs) = IsFloorRow f × AreFloorRows fs
+AreFloorRows fs = Are IsFloorRow fs
+
+-- a row of the floor that inputs list by itself: 1 and 2 of table 4, those of tables 5 and 6, and 10 of table 16
+abbrev pub is_alone : Firing → Bool
+is_alone f =
+    ((f.row.table == 4) && ((f.row.row == 1) || (f.row.row == 2)))
+    || ((f.row.table == 5) || ((f.row.table == 6) || ((f.row.table == 16) && (f.row.row == 10))))
 
 pub effect_is : (g : State) (f : Firing) → IsFloorRow f → takes_effect g f ≡ fire_floor f g
 effect_is g f is = effect_as g f ∙ rw (is.not_1, is.not_2, is.not_3) refl
@@ -234,8 +240,10 @@ pub record LeftAlone (P : State → Type 0) : Type 1 where
   pub floor : (g : State) (x : ToolFloor) → P g → P (record g { floor = x })
   pub noted : (g : State) (event : Option ℕ) (o : Occasion) (online : Bool) → P g → P (record g { line = line_behind event o online g })
 
+pub alone_effect : (P : State → Type 0) → LeftAlone P → (g : State) (f : Firing) → IsFloorRow f → P g → P (takes_effect g f)
+alone_effect P alone g f is here = subst P (sym (effect_is g f is)) (alone.floor g _ here)
+
 pub alone_fire : (P : State → Type 0) → LeftAlone P → (g : State) (f : Firing) → IsFloorRow f → P g → P (fire g f)
 alone_fire P alone g f is here =
-    let h : State = takes_effect g f in
-    alone.noted h (ceid_of f.row.table f.row.row) (record { object = object_name g f; row = 100 * f.row.table + f.row.row }) (is_online g.control)
-    (subst P (sym (effect_is g f is)) (alone.floor g _ here))
+    alone.noted (takes_effect g f) (ceid_of f.row.table f.row.row) (record { object = object_name g f; row = 100 * f.row.table + f.row.row }) (is_online g.control)
+    (alone_effect P alone g f is here)

@@ -39,7 +39,7 @@ use Rattle.gem_model.proofs.OnFloor.{effect_as, starts_as}
 use Rattle.gem_model.proofs.Tests.{went, either_way, or_went, none_some}
 use Rattle.gem_model.proofs.FloorRows.{creation_is, effect_is, ready_is}
 use Rattle.gem_model.proofs.Each.{Each, each_kept}
-use Rattle.gem_model.proofs.Walk.{kept_acts, kept_step}
+use Rattle.gem_model.proofs.Walk.{Any, kept_acts, kept_step}
 use Rattle.gem_model.proofs.Settling.{settled_keeps, settled_along}
 
 -- the ports and the carriers of a state are valid
@@ -155,7 +155,7 @@ sound_each = record {
 
 run_sound : (g : State) (entries : List Entry) (h : State) → Sound g → Run g entries h → Sound h
 run_sound g [] h valid run = subst Sound (sym run) valid
-run_sound g (e ∷ entries) h valid run = run_sound run.0.after entries h (kept_step Sound (each_kept Sound sound_each) g e.at.0 e.event run.0 valid run.1) run.2
+run_sound g (e ∷ entries) h valid run = run_sound run.0.after entries h (kept_step Any Sound (each_kept Sound sound_each) g e.at.0 e.event run.0 tt valid run.1) run.2
 
 -- where a history leads, the ports and the carriers are valid
 pub run-floor : (c : Config) (entries : List Entry) (h : State) → c.ports ≤ most_ports → Run (opening c) entries h → IsFloor h.floor.shop
@@ -167,4 +167,4 @@ run-carriers c entries h ports run = few-carriers h.floor.shop (run-floor c entr
 
 -- and they are valid in each state that the tool passes while it settles behind an event
 pub run-floor-along : (c : Config) (entries : List Entry) (h : State) (at : ℕ) (e : Event) (o : Outcome) → c.ports ≤ most_ports → Run (opening c) entries h → acts h.moment (raised h at) e ≡ Some o → Along (λ (g : State). IsFloor g.floor.shop) o.after (settling o.after)
-run-floor-along c entries h at e o ports run here = sound_along o.after (kept_acts Sound (each_kept Sound sound_each) h.moment (raised h at) e o (run-floor c entries h ports run) here)
+run-floor-along c entries h at e o ports run here = sound_along o.after (kept_acts Any Sound (each_kept Sound sound_each) h.moment (raised h at) e o tt (run-floor c entries h ports run) here)

@@ -31,7 +31,7 @@ use Rattle.gem_model.proofs.Tests.{went, either_way, or_went, none_some}
 use Rattle.tool_floor.specs.Machines.{floor_starts, is_creation}
 use Rattle.gem_model.proofs.FloorRows.{LeftAlone, alone_fire, ready_is, creation_is}
 use Rattle.gem_model.proofs.Each.{Each, each_kept}
-use Rattle.gem_model.proofs.Walk.{kept_step_from}
+use Rattle.gem_model.proofs.Walk.{Any, kept_step_from}
 
 pub keeps-same : (l : Line) → LineValid l → Keeps l l
 keeps-same l valid = record { valid = valid; fates = fates-same l }
@@ -163,7 +163,7 @@ LinedTo g o = Lined g o.after
 
 -- over each step the line goes on
 pub lined-step : (before : ℕ) (g : State) (e : Event) (o : Outcome) → step_from before g e ≡ Some o → LinedTo g o
-lined-step before g e o here = kept_step_from (Lined g) (each_kept (Lined g) (lined_each g)) before g e o (lined_at g) here
+lined-step before g e o here = kept_step_from Any (Lined g) (each_kept (Lined g) (lined_each g)) before g e o tt (lined_at g) here
 
 pub lined-step-at : (g : State) (at : ℕ) (e : Event) (o : Outcome) → step g at e ≡ Some o → LinedTo g o
 lined-step-at g at e o here = lined-step g.moment (raised g at) e o here

@@ -1,5 +1,6 @@
--- The rows that an input lists: of table 3 they are those that inputs fire. Free are those that no transaction's end fires.
-use Rattle.std.proofs.Common.{◌≡◌, ℕ, ◌+◌, ◌*◌, ◌==◌, Bool, true, false, if◌then◌else◌, List, [], ◌∷◌, ◌++◌, Option, Some, None, refl, sym, ◌∙◌, is_some}
+-- The rows that an input lists: of table 3 they are those that inputs fire. Free are those that no transaction's end fires, and of the
+-- floor those that inputs list by themselves.
+use Rattle.std.proofs.Common.{◌≡◌, ℕ, ◌+◌, ◌*◌, ◌==◌, Bool, true, false, if◌then◌else◌, List, [], ◌∷◌, ◌++◌, Option, refl, sym, ◌∙◌, is_some}
 use Rattle.secs_items.specs.Data.{Data}
 use Rattle.gem_primaries.specs.declared.primary.GemMsg.{GemMsg}
 use Rattle.gem_primaries.specs.declared.primary.GemMsg.TheVariants as msg
@@ -24,16 +25,20 @@ use Rattle.gem_model.specs.Fire.{fire, advanced, fire_listed, of_comm, of_contro
 use Rattle.gem_model.specs.Effects.{control_effect}
 use Rattle.gem_model.specs.Remote.{Decision, refused, goes_local, clears, decided}
 use Rattle.gem_model.specs.HostMessages.{HostMessage, Gem, Shop}
-use Rattle.gem_model.specs.Messages.{done, gem_done, shop_done, remote_done}
+use Rattle.gem_model.specs.Messages.{done, gem_done, shop_done, port_done, remote_done}
 use Rattle.gem_model.specs.Spooling.{unload_rows}
 use Rattle.gem_model.specs.Direct.{Are, IsListed, by_comm, by_control, note_fails, attempt_fails, all_fail, operator_rows, answer_rows, timeout_rows, session_end_rows, establish_answer, attempt_answer}
 use Rattle.gem_model.proofs.Tests.{either_way}
-use Rattle.gem_model.proofs.FloorRows.{IsFloorRow, AreFloorRows, module_are, done_are, closing_are, lost_are, placing_are, removal_are, shop_are, service_are, access_are, advanced_keeps}
-use Rattle.shop_floor.specs.Requests.{at_port, removal}
-use Rattle.robot_moves.specs.declared.module.Module.{Module}
+use Rattle.gem_model.proofs.FloorRows.{IsFloorRow, AreFloorRows, is_alone, module_are, shop_are, port_are, service_are, access_are, advanced_keeps}
+use Rattle.load_port.specs.declared.action.PortAction.{PortAction}
+use Rattle.load_port.specs.declared.action.PortAction.TheVariants as ask
+use Rattle.load_port.specs.declared.caack.Caack.{Caack}
+use Rattle.load_port.specs.Caack.{is_done_code}
+use Rattle.msgs_300.specs.declared.reply.ShopReply.{ShopReply}
+use Rattle.shop_floor.specs.Requests.{at_port, at_ports, mode_row, or_all, port_rows}
+use Rattle.shop_floor.specs.Floor.{Floor}
 use Rattle.tool_floor.specs.Machines.{is_creation}
-use Rattle.tool_floor.specs.Floor.{ToolFloor}
-use Rattle.tool_floor.specs.Signals.{at_module, done_rows, closing_rows, lost_rows}
+use Rattle.tool_floor.specs.Signals.{at_module}
 
 pub are_both : (Is : Firing → Type 0) (fs gs : List Firing) → Are Is fs → Are Is gs → Are Is (fs ++ gs)
 are_both Is [] gs first next = next
@@ -48,7 +53,7 @@ pub data IsFree (f : Firing) : Type 0 where
   free_elsewhere : (row : ℕ) → control_starts row Attempt ≡ false → ((g : State) → control_effect row g ≡ g) → f ≡ firing 2 0 row → IsFree f
   free_unload : f ≡ firing 3 0 4 → IsFree f
   free_purge : f ≡ firing 3 0 5 → IsFree f
-  free_floor : IsFloorRow f → IsFree f
+  free_floor : IsFloorRow f → is_alone f ≡ true → IsFree f
 
 -- each of these firings is of a free row
 abbrev pub AreFree : List Firing → Type 0
@@ -112,6 +117,10 @@ listed_disable g = are_both IsListed (by_comm comm.Disable) (all_fail g) (listed
 
 -- ---- free rows
 
+-- a row of the floor is none of table 3
+pub listed_floor : (f : Firing) → IsFloorRow f → IsListed f
+listed_floor f floor is = absurd (true≢false (sym is ∙ floor.not_3))
+
 -- a free row of table 3 is one that inputs fire
 pub free_listed : (f : Firing) → IsFree f → IsListed f
 free_listed f (free_enabled same) is = absurd (let no : (f.row.table == 3) ≡ false = rw same refl in true≢false (sym is ∙ no))
@@ -121,11 +130,15 @@ free_listed f (free_off_line same) is = absurd (let no : (f.row.table == 3) ≡ 
 free_listed f (free_elsewhere row never alone same) is = absurd (let no : (f.row.table == 3) ≡ false = rw same refl in true≢false (sym is ∙ no))
 free_listed f (free_unload same) is = rw same refl
 free_listed f (free_purge same) is = rw same refl
-free_listed f (free_floor floor) is = absurd (true≢false (sym is ∙ floor.not_3))
+free_listed f (free_floor floor alone) is = listed_floor f floor is
 
-of_floor : (fs : List Firing) → AreFloorRows fs → AreFree fs
-of_floor [] are = tt
-of_floor (f ∷ fs) are = (free_floor are.0, of_floor fs are.1)
+-- each of these firings is of a row that inputs list by itself
+abbrev AreAlone : List Firing → Type 0
+AreAlone fs = Are (λ (f : Firing). is_alone f ≡ true) fs
+
+of_floor : (fs : List Firing) → AreFloorRows fs → AreAlone fs → AreFree fs
+of_floor [] are alone = tt
+of_floor (f ∷ fs) are alone = (free_floor are.0 alone.0, of_floor fs are.1 alone.1)
 
 elsewhere : (row : ℕ) → control_starts row Attempt ≡ false → ((g : State) → control_effect row g ≡ g) → AreFree (of_control (row ∷ []))
 elsewhere row never alone = (free_elsewhere row never alone refl, tt)
@@ -146,10 +159,13 @@ pub free_remote : (g : State) → AreFree (by_control trigger.Remote g)
 free_remote g = elsewhere 10 refl (λ g. refl)
 
 pub free_service : (port : ℕ) (on : Bool) (g : State) → AreFree (at_port 4 (if on then 1 else 2) port)
-free_service port on g = of_floor (at_port 4 (if on then 1 else 2) port) (service_are on port)
+free_service port on g = of_floor (at_port 4 (if on then 1 else 2) port) (service_are on port) (either_way (λ (row : ℕ). AreAlone (at_port 4 row port)) on 1 2 (refl, tt) (refl, tt))
 
 pub free_access : (port : ℕ) (auto : Bool) (g : State) → AreFree (at_port 5 (if auto then 1 else 2) port)
-free_access port auto g = of_floor (at_port 5 (if auto then 1 else 2) port) (access_are auto port)
+free_access port auto g = of_floor (at_port 5 (if auto then 1 else 2) port) (access_are auto port) (refl, tt)
+
+pub free_up : (number : ℕ) → AreFree (at_module 10 number)
+free_up number = of_floor (at_module 10 number) (module_are 10 number) (refl, tt)
 
 free_decided : (d : Decision) (g : State) → AreFree (remote_done g d).rows
 free_decided (refused code faults) g = tt
@@ -163,7 +179,8 @@ free_s1f17 : (local : Bool) → AreFree (of_control (if local then 7 ∷ [] else
 free_s1f17 true = elsewhere 7 refl (λ g. refl)
 free_s1f17 false = elsewhere 8 refl (λ g. refl)
 
-free_gem : (m : GemMsg) (g : State) → AreFree (gem_done g m).rows
+-- those of a message of streams 1, 2, 5 and 6
+pub free_gem : (m : GemMsg) (g : State) → AreFree (gem_done g m).rows
 free_gem msg.S1F13 g = (free_met refl, tt)
 free_gem msg.S1F15 g = elsewhere 9 refl (λ g. refl)
 free_gem msg.S1F17 g = free_s1f17 g.switch_local
@@ -171,24 +188,28 @@ free_gem (msg.S2F41 name parameters) g = free_decided (decided g name parameters
 free_gem (msg.S6F23 rsdc) g = free_unloading rsdc
 free_gem _ g = tt
 
-pub free_message : (m : HostMessage) (g : State) → AreFree (done g m).rows
-free_message (Gem m) g = free_gem m g
-free_message (Shop m) g = of_floor (shop_done g m).rows (shop_are m g)
+-- those of an action on ports
+alone_ports : (row : ℕ) (numbers : List ℕ) → AreAlone (at_ports 5 row numbers)
+alone_ports row [] = tt
+alone_ports row (n ∷ ns) = (refl, alone_ports row ns)
 
-pub free_placing : (port : ℕ) (g : State) → AreFree (at_port 4 3 port)
-free_placing port g = of_floor (at_port 4 3 port) (placing_are port)
+alone_action : (a : PortAction) (f : Floor) → AreAlone (port_rows a f)
+alone_action (ask.Reserve number) f = (refl, tt)
+alone_action (ask.CancelReserve number) f = (refl, tt)
+alone_action (ask.Access mode numbers) f = alone_ports (mode_row mode) (or_all numbers f)
+alone_action ask.Unknown f = tt
 
-pub free_removal : (port : ℕ) (g : State) → AreFree (removal port)
-free_removal port g = of_floor (removal port) (removal_are port)
+pub free_port : (a : PortAction) (g : State) (r : ShopReply) (code : Caack) → AreFree (port_done g a r code).rows
+free_port a g r code =
+    of_floor (port_done g a r code).rows (port_are a g r code)
+    (either_way AreAlone (is_done_code code) (port_rows a g.floor.shop) [] (alone_action a g.floor.shop) tt)
 
-pub free_module : (row number : ℕ) → AreFree (at_module row number)
-free_module row number = of_floor (at_module row number) (module_are row number)
+-- ---- the rows of messages
 
-pub free_done : (number : ℕ) (f : ToolFloor) → AreFree (done_rows number f)
-free_done number f = of_floor (done_rows number f) (done_are number f)
+all_listed : (Is : Firing → Type 0) → ((f : Firing) → Is f → IsListed f) → (fs : List Firing) → Are Is fs → Are IsListed fs
+all_listed Is listed [] are = tt
+all_listed Is listed (f ∷ fs) are = (listed f are.0, all_listed Is listed fs are.1)
 
-pub free_closing : (row number : ℕ) (f : ToolFloor) → AreFree (closing_rows row number f)
-free_closing row number f = of_floor (closing_rows row number f) (closing_are row number f)
-
-pub free_lost : (sub : List ℕ) (f : ToolFloor) → AreFree (lost_rows sub f)
-free_lost sub f = of_floor (lost_rows sub f) (lost_are sub f)
+pub listed_message : (m : HostMessage) (g : State) → Are IsListed (done g m).rows
+listed_message (Gem m) g = all_listed IsFree free_listed (gem_done g m).rows (free_gem m g)
+listed_message (Shop m) g = all_listed IsFloorRow listed_floor (shop_done g m).rows (shop_are m g)

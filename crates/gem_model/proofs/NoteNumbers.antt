@@ -56,11 +56,11 @@ use Rattle.gem_model.proofs.Tests.{went, either_way, or_went, none_some}
 use Rattle.gem_model.proofs.LineRows.{line_went, opened_by, oldest_opened, head_opened}
 use Rattle.gem_model.specs.Noting.{line_behind}
 use Rattle.tool_floor.specs.Machines.{is_creation}
-use Rattle.gem_model.proofs.FloorRows.{advanced_keeps, LeftAlone, alone_fire, effect_is, ready_is, creation_is}
+use Rattle.gem_model.proofs.FloorRows.{advanced_keeps, LeftAlone, alone_effect, alone_fire, ready_is, creation_is}
 use Rattle.gem_model.proofs.Lined.{line_comm, line_control}
 use Rattle.gem_model.proofs.Room.{Few, same_open, same_alarm, same_kinds, no_talk, cannot_note, few-room, few_kept}
 use Rattle.gem_model.proofs.Listed.{IsFree, free_enabled, free_met, free_attempted, free_off_line, free_elsewhere, free_unload, free_purge, free_floor}
-use Rattle.gem_model.proofs.Walk.{Kept, out_of, told_of, kept_step_from}
+use Rattle.gem_model.proofs.Walk.{Any, Kept, alone_units, out_of, told_of, kept_step_from}
 use Rattle.gem_model.proofs.Validity.{valid-few, opening_valid}
 
 -- ---- lists of open transactions
@@ -444,7 +444,7 @@ own_row g f free own = of free where
   of (free_elsewhere row never alone same) = this (firing 2 0 row) same (own_quiet g (firing 2 0 row) (refl, λ is. absurd (cc)) own)
   of (free_unload same) = this (firing 3 0 4) same (own_line g (row_effect (around g) 4 g.line) refl own)
   of (free_purge same) = this (firing 3 0 5) same (own_line g (row_effect (around g) 5 g.line) refl own)
-  of (free_floor floor) = subst Own (sym (effect_is g f floor)) own
+  of (free_floor floor alone) = alone_effect Own own_alone g f floor own
 
 own_disabled : (g : State) → Few g → Own g → Own (fires (operator_rows oper.Disable) g)
 own_disabled g few own = own_disabling (row_starts g (firing 1 0 2)) (is_some (first_of what.Attempt g.transactions.opened)) g refl few own
@@ -452,8 +452,17 @@ own_disabled g few own = own_disabling (row_starts g (firing 1 0 2)) (is_some (f
 own_drawn : (g : State) (t : Table) → t.opened ≡ g.transactions.opened → Own g → Own (record g { transactions = t })
 own_drawn g t same own = subst (λ (opened : List Open). With (open_number g.line) opened) (sym same) own
 
+both_alone : LeftAlone Both
+both_alone = record {
+  floor = λ g x both. both;
+  noted = λ g e o online both. (few_kept.inner.event g e o online both.0, own_alone.noted g e o online both.1);
+}
+
+both_alarm : (g : State) (alid : ℕ) → Both g → Both (record g { line = line_with_alarm alid g })
+both_alarm g alid both = (few_kept.inner.alarm g alid both.0, own_line g (line_with_alarm alid g) (same_alarm alid g) both.1)
+
 -- each change of a step keeps both
-both_kept : Kept Both
+both_kept : Kept Any Both
 both_kept = record {
   inner = record {
     clock = λ g c both. both;
@@ -463,15 +472,15 @@ both_kept = record {
     reports = λ g r both. both;
     alarms = λ g a both. both;
     waiting = λ g w both. both;
-    event = λ g e o online both. (few_kept.inner.event g e o online both.0, own_line g (line_behind e o online g) (same_open e o online g) both.1);
-    alarm = λ g alid both. (few_kept.inner.alarm g alid both.0, own_line g (line_with_alarm alid g) (same_alarm alid g) both.1);
+    event = both_alone.noted;
+    alarm = both_alarm;
     kinds = λ g k both. (few_kept.inner.kinds g k both.0, own_line g (with_kinds k g.line) (same_kinds k g.line) both.1);
     fetched = λ g number both. both;
-    came = λ g port name slots both. both;
     written = λ g a is both. both;
     row = λ g f free is both. (few_kept.inner.row g f free is both.0, own_row g f free both.1);
+    units = alone_units Both both_alone (λ g a both. both) both_alarm;
     ready = λ g f ready both. (few_kept.inner.ready g f ready both.0, own_automatic g f ready both.0 both.1);
-    created = λ g d is both. (few_kept.inner.created g d is both.0, alone_fire Own own_alone g d (creation_is d is) both.1);
+    created = λ g d is both. alone_fire Both both_alone g d (creation_is d is) both;
     answered = λ g h item test one found both. (few_kept.inner.answered g h item test one found both.0, own_closed g h item test (Some one) found both.1);
     failed = λ g test one found both. (few_kept.inner.failed g test one found both.0, own_timed_out g test one found both.1);
     disabled = λ g both. (few_kept.inner.disabled g both.0, own_disabled g both.0 both.1);
@@ -487,7 +496,7 @@ both_kept = record {
 both_run : (g : State) (entries : List Entry) (h : State) → Both g → Run g entries h → Both h
 both_run g [] h both run = subst Both (sym run) both
 both_run g (e ∷ entries) h both run =
-    both_run run.0.after entries h (kept_step_from Both both_kept g.moment (raised g e.at.0) e.event run.0 both run.1) run.2
+    both_run run.0.after entries h (kept_step_from Any Both both_kept g.moment (raised g e.at.0) e.event run.0 tt both run.1) run.2
 
 -- where a history leads, the transactions of notes that are open are those of the open note
 pub run-own : (c : Config) (entries : List Entry) (h : State) → Run (opening c) entries h → note_numbers h.transactions.opened ≡ open_number h.line

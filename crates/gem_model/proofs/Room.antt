@@ -58,10 +58,10 @@ use Rattle.gem_model.specs.Step.{Outcome, step_from, acts}
 use Rattle.gem_model.specs.Valid.{is_wait_cra, establishes, attempts, is_note, notes, count_of}
 use Rattle.gem_model.proofs.Tests.{went, either_way, or_went, and_parts_of, none_some}
 use Rattle.gem_model.proofs.LineRows.{line_went, opened_by, oldest_opened, head_opened}
-use Rattle.gem_model.proofs.FloorRows.{LeftAlone, alone_fire, effect_is, ready_is, creation_is, advanced_keeps}
+use Rattle.gem_model.proofs.FloorRows.{LeftAlone, alone_effect, alone_fire, ready_is, creation_is, advanced_keeps}
 use Rattle.gem_model.proofs.Settling.{settled_along, waits, fired_3}
 use Rattle.gem_model.proofs.Listed.{IsFree, free_enabled, free_met, free_attempted, free_off_line, free_elsewhere, free_unload, free_purge, free_floor}
-use Rattle.gem_model.proofs.Walk.{Kept, out_of, told_of, kept_acts, kept_step_from}
+use Rattle.gem_model.proofs.Walk.{Any, Kept, alone_units, out_of, told_of, kept_acts, kept_step_from}
 use Rattle.hsms_link.specs.declared.state.LinkState.{LinkState}
 use Rattle.gem_model.proofs.Counts.{count-found, count-push, count-forgotten, count-out, all-counted}
 
@@ -332,7 +332,7 @@ few_row g f free is few = of free where
   of (free_elsewhere row never alone same) = this (firing 2 0 row) same (few_elsewhere row g never alone few)
   of (free_unload same) = this (firing 3 0 4) same (few-line g (row_effect (around g) 4 g.line) refl few)
   of (free_purge same) = this (firing 3 0 5) same (few-line g (row_effect (around g) 5 g.line) refl few)
-  of (free_floor floor) = subst Few (sym (effect_is g f floor)) few
+  of (free_floor floor alone) = alone_effect Few few_alone g f floor few
 
 -- ---- settling
 
@@ -551,8 +551,11 @@ few_drawn : (g : State) (t : Table) → t.opened ≡ g.transactions.opened → F
 few_drawn g t same few =
     subst (λ (opened : List Open). Fits (count_of establishes opened) (count_of attempts opened) (count_of notes opened) g.comm g.control (is_selected g) (has_open g.line)) (sym same) few
 
+few_alarm : (g : State) (alid : ℕ) → Few g → Few (record g { line = line_with_alarm alid g })
+few_alarm g alid few = few-line g (line_with_alarm alid g) (same_alarm alid g) few
+
 -- each change of a step keeps few transactions open
-pub few_kept : Kept Few
+pub few_kept : Kept Any Few
 few_kept = record {
   inner = record {
     clock = λ g c few. few;
@@ -563,12 +566,12 @@ few_kept = record {
     alarms = λ g a few. few;
     waiting = λ g w few. few;
     event = λ g e o online few. few-line g (line_behind e o online g) (same_open e o online g) few;
-    alarm = λ g alid few. few-line g (line_with_alarm alid g) (same_alarm alid g) few;
+    alarm = few_alarm;
     kinds = λ g k few. few-line g (with_kinds k g.line) (same_kinds k g.line) few;
     fetched = λ g number few. few;
-    came = λ g port name slots few. few;
     written = λ g a is few. few;
     row = few_row;
+    units = alone_units Few few_alone (λ g a few. few) few_alarm;
     ready = few-automatic;
     created = few_creation;
     answered = λ g h item test one found few. few-closed g h item test (Some one) found few;
@@ -582,10 +585,10 @@ few_kept = record {
 }
 
 pub few-acts : (before : ℕ) (g : State) (e : Event) (o : Outcome) → Few g → acts before g e ≡ Some o → Few o.after
-few-acts before g e o few here = kept_acts Few few_kept before g e o few here
+few-acts before g e o few here = kept_acts Any Few few_kept before g e o tt few here
 
 pub few-step : (before : ℕ) (g : State) (e : Event) (o : Outcome) → Few g → step_from before g e ≡ Some o → Few o.after
-few-step before g e o few here = kept_step_from Few few_kept before g e o few here
+few-step before g e o few here = kept_step_from Any Few few_kept before g e o tt few here
 
 -- ---- room
 

@@ -33,7 +33,7 @@ use Rattle.tool_events.specs.declared.event.Signal.{Signal}
 use Rattle.gem_model.specs.Signals.{signalled}
 use Rattle.gem_model.proofs.Settling.{settled_keeps}
 use Rattle.gem_model.proofs.Each.{EachInner, each_inner, each_timed_out}
-use Rattle.gem_model.proofs.Walk.{Inner, kept_act, kept_signalled, kept_switched, kept_done}
+use Rattle.gem_model.proofs.Walk.{Any, Inner, kept_act, kept_signalled, kept_switched, kept_done}
 
 -- the configuration and the link are the same, and so is whether the run was ended
 pub record Same (g h : State) : Type 0 where
@@ -131,20 +131,20 @@ same_each g = record {
   created = same_created g;
 }
 
-same_inner : (g : State) → Inner (Same g)
+same_inner : (g : State) → Inner Any (Same g)
 same_inner g = each_inner (Same g) (same_each g)
 
 pub same_signal : (g : State) (s : Signal) → Same g (signalled s g)
-same_signal g s = kept_signalled (Same g) (same_inner g) s g (same_at g)
+same_signal g s = kept_signalled Any (Same g) (same_inner g) s g tt (same_at g)
 
 pub same_done : (g : State) (m : HostMessage) → Same g (done g m).after
-same_done g m = kept_done (Same g) (same_inner g) g m (same_at g)
+same_done g m = kept_done Any (Same g) (same_inner g) g m (same_at g)
 
 pub same_data : (g : State) (arrival : Arrival) → Same g (data_done arrival g)
-same_data g arrival = kept_act (Same g) (same_inner g) g (header_of arrival) (item_of arrival) (verdict g arrival) (same_at g)
+same_data g arrival = kept_act Any (Same g) (same_inner g) g (header_of arrival) (item_of arrival) (verdict g arrival) (same_at g)
 
 pub same_timeout : (g : State) (one : Open) → Same g (timed_out one g)
 same_timeout g one = each_timed_out (Same g) (same_each g) g one (same_at g)
 
 pub same_switched : (g : State) (command : OperCmd) → Same g (switched command g)
-same_switched g command = kept_switched (Same g) (same_inner g) command g (same_at g)
+same_switched g command = kept_switched Any (Same g) (same_inner g) command g (same_at g)

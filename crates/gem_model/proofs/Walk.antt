@@ -28,7 +28,10 @@ use Rattle.load_port.specs.declared.caack.Caack.{Caack}
 use Rattle.load_port.specs.declared.caack.Caack.TheVariants.{Unknown, NotNow}
 use Rattle.load_port.specs.Caack.{is_done_code}
 use Rattle.carrier.specs.Verdict.{is_unknown}
-use Rattle.shop_floor.specs.Requests.{carrier_code, carrier_written, at_port, removal}
+use Rattle.load_port.specs.declared.action.PortAction.TheVariants as ask
+use Rattle.load_port.specs.Caack.{caack_number}
+use Rattle.msgs_300.specs.declared.reply.ShopReply.TheVariants as reply
+use Rattle.shop_floor.specs.Requests.{carrier_code, carrier_written, carrier_rows, at_port, removal}
 use Rattle.tool_events.specs.declared.event.Event.{Event}
 use Rattle.tool_events.specs.declared.event.Event.TheVariants as event
 use Rattle.tool_events.specs.declared.event.OperCmd.{OperCmd}
@@ -45,26 +48,27 @@ use Rattle.gem_model.specs.Noting.{sets_alarm, clears_alarm}
 use Rattle.gem_model.specs.Fire.{fire, fires, fire_listed}
 use Rattle.gem_model.specs.Machines.{row_starts, least, takes_effect}
 use Rattle.gem_model.specs.Remote.{Decision, refused, goes_local, clears, decided}
-use Rattle.gem_model.specs.HostMessages.{HostMessage, Gem, Shop, reply_text}
+use Rattle.gem_model.specs.HostMessages.{HostMessage, Gem, Shop, ShopTold, reply_text}
 use Rattle.gem_model.specs.Messages.{done, gem_done, shop_done, remote_done, carrier_action_done, clock_set}
 use Rattle.gem_model.specs.Spooling.{rspack}
-use Rattle.gem_model.specs.Shop.{is_local, carrier_caack, carrier_action}
+use Rattle.gem_model.specs.Shop.{is_local, carrier_caack, carrier_action, port_word, port_caack}
 use Rattle.gem_model.specs.Signals.{lacks_port, port_row_starts, port_alarm, with_arrival, placed, removed, lacks_module, module_of, module_alarm, answer_alarm, module_done, module_failed, module_down, signalled, is_ready_to_unload}
 use Rattle.tool_events.specs.declared.answer.Command.{Command}
 use Rattle.robot_moves.specs.Modules.{is_open, unfetched, is_up as is_up_module}
 use Rattle.tool_floor.specs.Floor.{with_shop, fetched}
 use Rattle.tool_floor.specs.Machines.{is_creation}
-use Rattle.tool_floor.specs.Signals.{done_rows, closing_rows}
+use Rattle.tool_floor.specs.Signals.{done_rows, closing_rows, lost_rows}
 use Rattle.gem_model.specs.Direct.{operator_rows, timeout_rows}
 use Rattle.gem_model.specs.Verdict.{Verdict, Discarded, Stream9, Aborted, Answers, Taken, verdict, header_of, item_of, wants_reply, stream_of, function_of}
-use Rattle.gem_model.specs.Act.{replied, taken, closed_by, data_act, session_ended}
+use Rattle.gem_model.specs.Act.{replied, taken, taken_as, closed_by, data_act, session_ended}
 use Rattle.gem_model.specs.Due.{Timeout, dues_with, timeouts, expired_from, link_times, is_due, all_done, asks_linktest, timed_out}
 use Rattle.gem_model.specs.Settle.{settled}
 use Rattle.gem_model.specs.Step as steps
 use Rattle.gem_model.specs.Step.{Outcome, step, step_from, acts, linked, hosted, can_clear, can_come_up, operated, switched, quits, settles}
 use Rattle.gem_model.proofs.Tests.{went, either_way, none_some}
 use Rattle.gem_model.specs.Direct.{Are}
-use Rattle.gem_model.proofs.Listed.{IsFree, listed_keeps, free_module, free_done, free_closing, free_lost, free_message, free_enable, free_online, free_offline, free_local, free_remote, free_service, free_access, free_placing, free_removal}
+use Rattle.gem_model.proofs.Listed.{IsFree, listed_keeps, free_gem, free_port, free_enable, free_online, free_offline, free_local, free_remote, free_service, free_access, free_up}
+use Rattle.gem_model.proofs.FloorRows.{IsFloorRow, AreFloorRows, LeftAlone, alone_effect, alone_fire, creation_is, placing_are, removal_are, done_are, closing_are, lost_are, word_are}
 use Rattle.gem_model.proofs.Settling.{settled_keeps}
 use Rattle.hsms_link.specs.declared.state.LinkState.{LinkState}
 use Rattle.event_reports.specs.Reports.{Reports}
@@ -78,9 +82,25 @@ use Rattle.gem_model.specs.State.{Clock}
 use Rattle.gem_model.specs.Values.{Occasion}
 use Rattle.gem_model.specs.Noting.{line_behind, line_with_alarm}
 
+-- no premise of a state
+abbrev pub Any : State → Type 0
+Any g = Unit {0}
+
+-- The units of a fact: lists of rows of the floor that keep it together, where single rows of them need not. What comes to a port is
+-- placed where the tool rests.
+pub record Units (Rest P : State → Type 0) : Type 1 where
+  pub placing : (g : State) (port : ℕ) (name : Option (List ℕ)) (slots : List ℕ) → port_row_starts 3 port g ≡ true → Rest g → P g → P (fire_listed (at_port 4 3 port) (with_arrival port name slots g))
+  pub removal : (g : State) (port : ℕ) → port_row_starts 5 port g ≡ true → P g → P (fire_listed (removal port) g)
+  pub did : (g : State) (number command : ℕ) → is_open command (module_of number g) ≡ true → P g → P (fire_listed (done_rows number g.floor) g)
+  pub failed_at : (g : State) (number command : ℕ) → is_open command (module_of number g) ≡ true → P g → P (fire_listed (closing_rows 8 number g.floor) (sets_alarm (module_alarm number) g))
+  pub went_down : (g : State) (number : ℕ) → is_up_module (module_of number g) ≡ true → P g → P (fire_listed (closing_rows 9 number g.floor) (sets_alarm (module_alarm number) g))
+  pub lost : (g : State) (sub : List ℕ) → P g → P (fire_listed (lost_rows sub g.floor) g)
+  pub asked : (g h : State) (a : CarrierAction) → is_done_code (carrier_code g.floor.shop a) ≡ true → h.floor ≡ with_shop (carrier_written a g.floor.shop) g.floor → P g → P h → P (fire_listed (carrier_rows a g.floor.shop) h)
+
 -- what keeps a fact of states while link, moment and the end of the run stay: each change that a step is made of, by the field
--- that it writes, each row, and the moves by which a transaction ends together with what its end does
-pub record Inner (P : State → Type 0) : Type 1 where
+-- that it writes, each row that inputs list by itself, each row that fires by itself, the units, and the moves by which a transaction
+-- ends together with what its end does
+pub record Inner (Rest P : State → Type 0) : Type 1 where
   pub clock : (g : State) (c : Clock) → P g → P (record g { clock = c })
   pub switch : (g : State) (b : Bool) → P g → P (record g { switch_local = b })
   pub drawn : (g : State) (t : Table) → t.opened ≡ g.transactions.opened → P g → P (record g { transactions = t })
@@ -92,9 +112,9 @@ pub record Inner (P : State → Type 0) : Type 1 where
   pub alarm : (g : State) (alid : ℕ) → P g → P (record g { line = line_with_alarm alid g })
   pub kinds : (g : State) (k : SpooledKinds) → P g → P (record g { line = with_kinds k g.line })
   pub fetched : (g : State) (number : ℕ) → P g → P (record g { floor = fetched number g.floor })
-  pub came : (g : State) (port : ℕ) (name : Option (List ℕ)) (slots : List ℕ) → P g → P (with_arrival port name slots g)
   pub written : (g : State) (a : CarrierAction) → is_done_code (carrier_code g.floor.shop a) ≡ true → P g → P (record g { floor = with_shop (carrier_written a g.floor.shop) g.floor })
   pub row : (g : State) (f : Firing) → IsFree f → row_starts g f ≡ true → P g → P (takes_effect g f)
+  pub units : Units Rest P
   pub ready : (g : State) (f : Firing) → least g ≡ Some f → P g → P (fire g f)
   pub created : (g : State) (d : Firing) → is_creation d ≡ true → P g → P (fire g d)
   pub answered : (g : State) (h : Header) (item : Option Data) (test : Open → Bool) (one : Open) → find test g.transactions.opened ≡ Some one → P g → P (closed_by h item (Some one) g)
@@ -102,12 +122,48 @@ pub record Inner (P : State → Type 0) : Type 1 where
   pub disabled : (g : State) → P g → P (fires (operator_rows oper.Disable) g)
 
 -- the same of all that a step changes
-pub record Kept (P : State → Type 0) : Type 1 where
-  pub inner : Inner P
+pub record Kept (Rest P : State → Type 0) : Type 1 where
+  pub inner : Inner Rest P
   pub moment : (g : State) (m : ℕ) → P g → P (record g { moment = m })
   pub quitting : (g : State) → P g → P (record g { quitting = true })
   pub link : (g : State) (l : LinkState) → (links.is_selected g.link.phase ≡ true → links.is_selected l.phase ≡ true) → P g → P (record g { link = l })
   pub ended : (g : State) → P g → P (session_ended g)
+
+-- an alarm is set: its line is written, and it is told
+set_keeps : (P : State → Type 0) → ((g : State) (a : List AlarmLine) → P g → P (record g { alarms = a })) → ((g : State) (alid : ℕ) → P g → P (record g { line = line_with_alarm alid g })) → (g : State) (alid : ℕ) → P g → P (sets_alarm alid g)
+set_keeps P alarms alarm g alid at = either_way P (is_alarm alid g.alarms && not (is_set alid g.alarms)) _ g (alarm (record g { alarms = set_alarm alid g.alarms }) alid (alarms g _ at)) at
+
+-- where each row of the floor keeps a fact by itself, and so does what comes to a port, the units keep it
+module _ (P : State → Type 0)
+    (came : (g : State) (port : ℕ) (name : Option (List ℕ)) (slots : List ℕ) → P g → P (with_arrival port name slots g))
+    (alarms : (g : State) (a : List AlarmLine) → P g → P (record g { alarms = a }))
+    (alarm : (g : State) (alid : ℕ) → P g → P (record g { line = line_with_alarm alid g }))
+    (event : (g : State) (e : Option ℕ) (o : Occasion) (online : Bool) → P g → P (record g { line = line_behind e o online g }))
+    (row : (g : State) (f : Firing) → IsFloorRow f → row_starts g f ≡ true → P g → P (takes_effect g f))
+    (created : (g : State) (d : Firing) → is_creation d ≡ true → P g → P (fire g d))
+  where
+    by_rows : (fs : List Firing) → AreFloorRows fs → (g : State) → P g → P (fire_listed fs g)
+    by_rows fs are g at = listed_keeps P IsFloorRow event row created fs are g at
+
+    by_closing : (row number : ℕ) (g : State) → P g → P (fire_listed (closing_rows row number g.floor) (sets_alarm (module_alarm number) g))
+    by_closing row number g at =
+        by_rows (closing_rows row number g.floor) (closing_are row number g.floor) (sets_alarm (module_alarm number) g) (set_keeps P alarms alarm g (module_alarm number) at)
+
+    pub row_units : Units Any P
+    row_units = record {
+      placing = λ g port name slots starts rest at. by_rows (at_port 4 3 port) (placing_are port) (with_arrival port name slots g) (came g port name slots at);
+      removal = λ g port starts at. by_rows (removal port) (removal_are port) g at;
+      did = λ g number command is at. by_rows (done_rows number g.floor) (done_are number g.floor) g at;
+      failed_at = λ g number command is at. by_closing 8 number g at;
+      went_down = λ g number is at. by_closing 9 number g at;
+      lost = λ g sub at. by_rows (lost_rows sub g.floor) (lost_are sub g.floor) g at;
+      asked = λ g h a is same before at. by_rows (carrier_rows a g.floor.shop) (word_are a.word a g.floor.shop) h at;
+    }
+
+-- so do they where the fact doesn't look at the floor
+pub alone_units : (P : State → Type 0) → LeftAlone P → ((g : State) (a : List AlarmLine) → P g → P (record g { alarms = a })) → ((g : State) (alid : ℕ) → P g → P (record g { line = line_with_alarm alid g })) → Units Any P
+alone_units P alone alarms alarm =
+    row_units P (λ g port name slots at. alone.floor g _ at) alarms alarm alone.noted (λ g f floor starts at. alone_effect P alone g f floor at) (λ g d is at. alone_fire P alone g d (creation_is d is) at)
 
 -- a link that is down is not selected
 not_selected : (phase : Phase) → links.is_up phase ≡ false → links.is_selected phase ≡ false
@@ -138,7 +194,11 @@ done_code true local code is = absurd (cc)
 done_code false true code is = absurd (cc)
 done_code false false code is = is
 
-module _ (P : State → Type 0) (inner : Inner P) where
+-- a reply leaves the floor as it is
+floor_replied : (h : Header) (function : ℕ) (text : List ℕ) (g : State) → (replied h function text g).floor ≡ g.floor
+floor_replied h function text g = either_way (λ (k : State). k.floor ≡ g.floor) (wants_reply h) _ g refl refl
+
+module _ (Rest P : State → Type 0) (inner : Inner Rest P) where
   pub kept_listed : (fs : List Firing) → Are IsFree fs → (g : State) → P g → P (fire_listed fs g)
   kept_listed fs free g at = listed_keeps P IsFree inner.event inner.row inner.created fs free g at
 
@@ -146,7 +206,7 @@ module _ (P : State → Type 0) (inner : Inner P) where
   kept_settled g at = settled_keeps P inner.ready inner.created g at
 
   kept_set : (g : State) (alid : ℕ) → P g → P (sets_alarm alid g)
-  kept_set g alid at = either_way P (is_alarm alid g.alarms && not (is_set alid g.alarms)) _ g (inner.alarm (record g { alarms = set_alarm alid g.alarms }) alid (inner.alarms g _ at)) at
+  kept_set g alid at = set_keeps P inner.alarms inner.alarm g alid at
 
   kept_cleared : (g : State) (alid : ℕ) → P g → P (clears_alarm alid g)
   kept_cleared g alid at = either_way P (is_set alid g.alarms) _ g (inner.alarm (record g { alarms = clear_alarm alid g.alarms }) alid (inner.alarms g _ at)) at
@@ -189,11 +249,34 @@ module _ (P : State → Type 0) (inner : Inner P) where
   kept_replied : (g : State) (h : Header) (function : ℕ) (text : List ℕ) → P g → P (replied h function text g)
   kept_replied g h function text at = either_way P (wants_reply h) _ g (inner.waiting g _ at) at
 
-  kept_taken : (g : State) (h : Header) (m : HostMessage) → P g → P (taken h m g)
-  kept_taken g h m at =
+  -- a message whose rows keep the fact by themselves
+  kept_free : (g : State) (h : Header) (m : HostMessage) → Are IsFree (done g m).rows → P g → P (taken h m g)
+  kept_free g h m free at =
       let d = done g m in
       let told : State = replied h (function_of h + 1) (reply_text d.reply) d.after in
-      kept_listed d.rows (free_message m g) told (kept_replied d.after h (function_of h + 1) (reply_text d.reply) (kept_done g m at))
+      kept_listed d.rows free told (kept_replied d.after h (function_of h + 1) (reply_text d.reply) (kept_done g m at))
+
+  -- an action on a carrier: its rows fire together, behind the reply
+  kept_asked : (g : State) (h : Header) (a : CarrierAction) → P g → P (taken_as h (carrier_action_done g a))
+  kept_asked g h a at = of (is_done_code (carrier_caack a g)) refl (reply_text (ShopTold (reply.S3F18 (caack_number (carrier_caack a g))))) where
+    of : (b : Bool) → is_done_code (carrier_caack a g) ≡ b → (text : List ℕ) →
+        P (fire_listed (if b then carrier_rows a g.floor.shop else []) (replied h (function_of h + 1) text (if b then record g { floor = with_shop (carrier_written a g.floor.shop) g.floor } else g)))
+    of true is text =
+        let may : is_done_code (carrier_code g.floor.shop a) ≡ true = done_code (is_unknown a.word) (is_local g.control) (carrier_code g.floor.shop a) is in
+        let written : State = record g { floor = with_shop (carrier_written a g.floor.shop) g.floor } in
+        inner.units.asked g (replied h (function_of h + 1) text written) a may (floor_replied h (function_of h + 1) text written) at
+        (kept_replied written h (function_of h + 1) text (inner.written g a may at))
+    of false is text = kept_replied g h (function_of h + 1) text at
+
+  kept_taken : (g : State) (h : Header) (m : HostMessage) → P g → P (taken h m g)
+  kept_taken g h (Gem m) at = kept_free g h (Gem m) (free_gem m g) at
+  kept_taken g h (Shop (S3F17 dataid action carrier number attributes)) at = kept_asked g h (carrier_action action carrier number attributes) at
+  kept_taken g h (Shop (S3F25 action number value)) at =
+      let code = port_caack (port_word action number) g in
+      kept_free g h (Shop (S3F25 action number value)) (free_port (port_word action number) g (reply.S3F26 (caack_number code)) code) at
+  kept_taken g h (Shop (S3F27 mode numbers)) at =
+      let code = port_caack (ask.Access mode numbers) g in
+      kept_free g h (Shop (S3F27 mode numbers)) (free_port (ask.Access mode numbers) g (reply.S3F28 (caack_number code)) code) at
 
   kept_closed : (g : State) (h : Header) (item : Option Data) (test : Open → Bool) (one : Option Open) → find test g.transactions.opened ≡ one → P g → P (closed_by h item one g)
   kept_closed g h item test None found at = at
@@ -219,38 +302,37 @@ module _ (P : State → Type 0) (inner : Inner P) where
   pub kept_by_rows : (command : OperCmd) (g : State) → Are IsFree (operator_rows command (switched command g)) → P g → P (fires (operator_rows command) (switched command g))
   kept_by_rows command g free at = kept_listed (operator_rows command (switched command g)) free (switched command g) (kept_switched command g at)
 
-  kept_placed : (port : ℕ) (name : Option (List ℕ)) (slots : List ℕ) (g : State) → P g → P (placed port name slots g)
-  kept_placed port name slots g at =
-      either_way P (port_row_starts 3 port g) (fire_listed (at_port 4 3 port) (with_arrival port name slots g)) (sets_alarm (port_alarm port) g)
-      (kept_listed (at_port 4 3 port) (free_placing port g) (with_arrival port name slots g) (inner.came g port name slots at))
-      (kept_set g (port_alarm port) at)
+  kept_placed : (port : ℕ) (name : Option (List ℕ)) (slots : List ℕ) (g : State) → Rest g → P g → P (placed port name slots g)
+  kept_placed port name slots g rest at =
+      where_true P (port_row_starts 3 port g) (fire_listed (at_port 4 3 port) (with_arrival port name slots g)) (sets_alarm (port_alarm port) g)
+      (λ starts. inner.units.placing g port name slots starts rest at) (kept_set g (port_alarm port) at)
 
   kept_removed : (port : ℕ) (g : State) → P g → P (removed port g)
   kept_removed port g at =
-      either_way P (port_row_starts 5 port g) (fire_listed (removal port) g) (sets_alarm (port_alarm port) g)
-      (kept_listed (removal port) (free_removal port g) g at) (kept_set g (port_alarm port) at)
+      where_true P (port_row_starts 5 port g) (fire_listed (removal port) g) (sets_alarm (port_alarm port) g)
+      (λ starts. inner.units.removal g port starts at) (kept_set g (port_alarm port) at)
 
   kept_module_done : (number command : ℕ) (g : State) → P g → P (module_done number command g)
   kept_module_done number command g at =
-      either_way P (is_open command (module_of number g)) (fire_listed (done_rows number g.floor) g) (sets_alarm answer_alarm g)
-      (kept_listed (done_rows number g.floor) (free_done number g.floor) g at) (kept_set g answer_alarm at)
+      where_true P (is_open command (module_of number g)) (fire_listed (done_rows number g.floor) g) (sets_alarm answer_alarm g)
+      (λ is. inner.units.did g number command is at) (kept_set g answer_alarm at)
 
   kept_module_failed : (number command : ℕ) (g : State) → P g → P (module_failed number command g)
   kept_module_failed number command g at =
-      either_way P (is_open command (module_of number g)) (fire_listed (closing_rows 8 number g.floor) (sets_alarm (module_alarm number) g)) (sets_alarm answer_alarm g)
-      (kept_listed (closing_rows 8 number g.floor) (free_closing 8 number g.floor) (sets_alarm (module_alarm number) g) (kept_set g (module_alarm number) at)) (kept_set g answer_alarm at)
+      where_true P (is_open command (module_of number g)) (fire_listed (closing_rows 8 number g.floor) (sets_alarm (module_alarm number) g)) (sets_alarm answer_alarm g)
+      (λ is. inner.units.failed_at g number command is at) (kept_set g answer_alarm at)
 
   kept_module_down : (number : ℕ) (g : State) → P g → P (module_down number g)
   kept_module_down number g at =
-      either_way P (is_up_module (module_of number g)) (fire_listed (closing_rows 9 number g.floor) (sets_alarm (module_alarm number) g)) g
-      (kept_listed (closing_rows 9 number g.floor) (free_closing 9 number g.floor) (sets_alarm (module_alarm number) g) (kept_set g (module_alarm number) at)) at
+      where_true P (is_up_module (module_of number g)) (fire_listed (closing_rows 9 number g.floor) (sets_alarm (module_alarm number) g)) g
+      (λ is. inner.units.went_down g number is at) at
 
-  pub kept_signalled : (s : Signal) (g : State) → P g → P (signalled s g)
-  kept_signalled (signal.Placed port name slots) g at = either_way P (lacks_port port.0 g) g (placed port.0 name slots g) at (kept_placed port.0 name slots g at)
-  kept_signalled (signal.Removed port) g at = either_way P (lacks_port port.0 g) g (removed port.0 g) at (kept_removed port.0 g at)
-  kept_signalled (signal.Done number command) g at = either_way P (lacks_module number.0 g) g (module_done number.0 command.0 g) at (kept_module_done number.0 command.0 g at)
-  kept_signalled (signal.Failed number command) g at = either_way P (lacks_module number.0 g) g (module_failed number.0 command.0 g) at (kept_module_failed number.0 command.0 g at)
-  kept_signalled (signal.Down number) g at = either_way P (lacks_module number.0 g) g (module_down number.0 g) at (kept_module_down number.0 g at)
+  pub kept_signalled : (s : Signal) (g : State) → Rest g → P g → P (signalled s g)
+  kept_signalled (signal.Placed port name slots) g rest at = either_way P (lacks_port port.0 g) g (placed port.0 name slots g) at (kept_placed port.0 name slots g rest at)
+  kept_signalled (signal.Removed port) g rest at = either_way P (lacks_port port.0 g) g (removed port.0 g) at (kept_removed port.0 g at)
+  kept_signalled (signal.Done number command) g rest at = either_way P (lacks_module number.0 g) g (module_done number.0 command.0 g) at (kept_module_done number.0 command.0 g at)
+  kept_signalled (signal.Failed number command) g rest at = either_way P (lacks_module number.0 g) g (module_failed number.0 command.0 g) at (kept_module_failed number.0 command.0 g at)
+  kept_signalled (signal.Down number) g rest at = either_way P (lacks_module number.0 g) g (module_down number.0 g) at (kept_module_down number.0 g at)
 
   -- the transactions whose T3 is over, one after the other
   kept_timeouts : (n moment : ℕ) (opened : List Open) (first : Option Open) (g : State) → g.transactions.opened ≡ opened → first_expired moment opened ≡ first → P g → P (all_done (map (λ one. Timeout one) (expired_from n moment opened first)) g)
@@ -264,7 +346,7 @@ module _ (P : State → Type 0) (inner : Inner P) where
   pub kept_expired : (g h : State) → h.transactions.opened ≡ g.transactions.opened → P h → P (all_done (timeouts g) h)
   kept_expired g h same at = kept_timeouts (length g.transactions.opened) g.moment g.transactions.opened (first_expired g.moment g.transactions.opened) h same refl at
 
-module _ (P : State → Type 0) (kept : Kept P) where
+module _ (Rest P : State → Type 0) (kept : Kept Rest P) where
   abbrev KeptTo : Outcome → Type 0
   KeptTo o = P o.after
 
@@ -275,16 +357,16 @@ module _ (P : State → Type 0) (kept : Kept P) where
   kept_operated : (command : OperCmd) (g : State) → P g → KeptTo (operated command g)
   kept_operated oper.Quit g at = kept_quit (is_up g) g at
   kept_operated oper.Disable g at = kept.inner.disabled g at
-  kept_operated oper.Enable g at = kept_by_rows P kept.inner oper.Enable g free_enable at
-  kept_operated oper.Online g at = kept_by_rows P kept.inner oper.Online g (free_online g) at
-  kept_operated oper.Offline g at = kept_by_rows P kept.inner oper.Offline g (free_offline g) at
-  kept_operated oper.Local g at = kept_by_rows P kept.inner oper.Local g (free_local (switched oper.Local g)) at
-  kept_operated oper.Remote g at = kept_by_rows P kept.inner oper.Remote g (free_remote (switched oper.Remote g)) at
-  kept_operated (oper.Service p on) g at = kept_by_rows P kept.inner (oper.Service p on) g (free_service p.0 on g) at
-  kept_operated (oper.Access p on) g at = kept_by_rows P kept.inner (oper.Access p on) g (free_access p.0 on g) at
-  kept_operated (oper.Clear n) g at = kept_switched P kept.inner (oper.Clear n) g at
-  kept_operated (oper.Up number) g at = kept_by_rows P kept.inner (oper.Up number) g (free_module 10 number.0) at
-  kept_operated (oper.Lost sub) g at = kept_by_rows P kept.inner (oper.Lost sub) g (free_lost sub g.floor) at
+  kept_operated oper.Enable g at = kept_by_rows Rest P kept.inner oper.Enable g free_enable at
+  kept_operated oper.Online g at = kept_by_rows Rest P kept.inner oper.Online g (free_online g) at
+  kept_operated oper.Offline g at = kept_by_rows Rest P kept.inner oper.Offline g (free_offline g) at
+  kept_operated oper.Local g at = kept_by_rows Rest P kept.inner oper.Local g (free_local (switched oper.Local g)) at
+  kept_operated oper.Remote g at = kept_by_rows Rest P kept.inner oper.Remote g (free_remote (switched oper.Remote g)) at
+  kept_operated (oper.Service p on) g at = kept_by_rows Rest P kept.inner (oper.Service p on) g (free_service p.0 on g) at
+  kept_operated (oper.Access p on) g at = kept_by_rows Rest P kept.inner (oper.Access p on) g (free_access p.0 on g) at
+  kept_operated (oper.Clear n) g at = kept_switched Rest P kept.inner (oper.Clear n) g at
+  kept_operated (oper.Up number) g at = kept_by_rows Rest P kept.inner (oper.Up number) g (free_up number.0) at
+  kept_operated (oper.Lost sub) g at = kept.inner.units.lost g sub at
   kept_operated _ g at = at
 
   kept_linktest : (g : State) → P g → P (asks_linktest g)
@@ -293,15 +375,15 @@ module _ (P : State → Type 0) (kept : Kept P) where
   kept_due : (g : State) (d : Option LinkDue) → P g → P (all_done (dues_with g d) g)
   kept_due g (Some due.T7) at = kept.ended g at
   kept_due g (Some due.T6) at = kept.ended g at
-  kept_due g (Some due.AskLinktest) at = kept_expired P kept.inner g (asks_linktest g) refl (kept_linktest g at)
-  kept_due g None at = kept_expired P kept.inner g g refl at
+  kept_due g (Some due.AskLinktest) at = kept_expired Rest P kept.inner g (asks_linktest g) refl (kept_linktest g at)
+  kept_due g None at = kept_expired Rest P kept.inner g g refl at
 
   the_kept : (x o : Outcome) → KeptTo x → Some x ≡ Some o → KeptTo o
   the_kept x o at here = let same : x ≡ o = cc in subst KeptTo same at
 
   kept_hosted : (g : State) (arrival : Arrival) (act : LinkAct) → P g → KeptTo (hosted g arrival act)
   kept_hosted g arrival (link.Reply h) at = kept.inner.waiting g _ at
-  kept_hosted g arrival link.Data at = kept_act P kept.inner g (header_of arrival) (item_of arrival) (verdict g arrival) at
+  kept_hosted g arrival link.Data at = kept_act Rest P kept.inner g (header_of arrival) (item_of arrival) (verdict g arrival) at
   kept_hosted g arrival link.Ended at = kept.ended g at
   kept_hosted g arrival link.Nothing at = at
 
@@ -313,30 +395,30 @@ module _ (P : State → Type 0) (kept : Kept P) where
   kept_command g number None o at here = none_some o here
   kept_command g number (Some command) o at here = the_kept _ o (kept.inner.fetched g number at) here
 
-  pub kept_acts : (before : ℕ) (g : State) (e : Event) (o : Outcome) → P g → acts before g e ≡ Some o → KeptTo o
-  kept_acts before g event.LinkUp o at here = went (is_up g) _ _ _ (λ _ e. the_kept _ o at e) (λ down e. the_kept _ o (kept.link g _ (λ is. absurd (true≢false (sym is ∙ not_selected g.link.phase down))) at) e) here
-  kept_acts before g (event.LinkDown session cause) o at here = went (is_session_up g session) _ _ _ (λ _ e. the_kept _ o (kept.ended g at) e) (λ _ e. the_kept _ o at e) here
-  kept_acts before g (event.Host session arrival) o at here =
+  pub kept_acts : (before : ℕ) (g : State) (e : Event) (o : Outcome) → Rest g → P g → acts before g e ≡ Some o → KeptTo o
+  kept_acts before g event.LinkUp o rest at here = went (is_up g) _ _ _ (λ _ e. the_kept _ o at e) (λ down e. the_kept _ o (kept.link g _ (λ is. absurd (true≢false (sym is ∙ not_selected g.link.phase down))) at) e) here
+  kept_acts before g (event.LinkDown session cause) o rest at here = went (is_session_up g session) _ _ _ (λ _ e. the_kept _ o (kept.ended g at) e) (λ _ e. the_kept _ o at e) here
+  kept_acts before g (event.Host session arrival) o rest at here =
       went (is_session_up g session) _ _ _
       (λ _ e. the_kept _ o (kept_hosted (linked g (header_of arrival)) arrival (link_act (header_of arrival) g.link) (kept.link g _ (link_after-keeps (header_of arrival) g.moment g.link).selected at)) e)
       (λ _ e. the_kept _ o at e) here
-  kept_acts before g (event.Take session) o at here = went (is_session_up g session) _ _ _ (λ _ e. kept_frame g g.waiting o at e) (λ _ e. the_kept _ o at e) here
-  kept_acts before g (event.Oper command) o at here = the_kept (operated command g) o (kept_operated command g at) here
-  kept_acts before g (event.Signal signal) o at here = the_kept _ o (kept_signalled P kept.inner signal g at) here
-  kept_acts before g (event.Fetch m) o at here = kept_command g m.0 (unfetched (module_of m.0 g)) o at here
-  kept_acts before g event.Tick o at here = went (is_due before g) _ _ _ (λ _ e. the_kept _ o (kept_due g (due_at (link_times g) g.link g.moment) at) e) (λ _ e. none_some o e) here
-  kept_acts before g event.Listen o at here = none_some o here
-  kept_acts before g (event.Watch port) o at here = went (is_ready_to_unload port.0 g) _ _ _ (λ _ e. the_kept _ o at e) (λ _ e. none_some o e) here
+  kept_acts before g (event.Take session) o rest at here = went (is_session_up g session) _ _ _ (λ _ e. kept_frame g g.waiting o at e) (λ _ e. the_kept _ o at e) here
+  kept_acts before g (event.Oper command) o rest at here = the_kept (operated command g) o (kept_operated command g at) here
+  kept_acts before g (event.Signal signal) o rest at here = the_kept _ o (kept_signalled Rest P kept.inner signal g rest at) here
+  kept_acts before g (event.Fetch m) o rest at here = kept_command g m.0 (unfetched (module_of m.0 g)) o at here
+  kept_acts before g event.Tick o rest at here = went (is_due before g) _ _ _ (λ _ e. the_kept _ o (kept_due g (due_at (link_times g) g.link g.moment) at) e) (λ _ e. none_some o e) here
+  kept_acts before g event.Listen o rest at here = none_some o here
+  kept_acts before g (event.Watch port) o rest at here = went (is_ready_to_unload port.0 g) _ _ _ (λ _ e. the_kept _ o at e) (λ _ e. none_some o e) here
 
   kept_mapped : (x : Option Outcome) (o : Outcome) → ((p : Outcome) → x ≡ Some p → KeptTo p) → option_map settles x ≡ Some o → KeptTo o
   kept_mapped None o at here = none_some o here
-  kept_mapped (Some p) o at here = the_kept (settles p) o (kept_settled P kept.inner p.after (at p refl)) here
+  kept_mapped (Some p) o at here = the_kept (settles p) o (kept_settled Rest P kept.inner p.after (at p refl)) here
 
   -- what each change keeps, a step keeps
-  pub kept_step_from : (before : ℕ) (g : State) (e : Event) (o : Outcome) → P g → step_from before g e ≡ Some o → KeptTo o
-  kept_step_from before g e o there here =
+  pub kept_step_from : (before : ℕ) (g : State) (e : Event) (o : Outcome) → Rest g → P g → step_from before g e ≡ Some o → KeptTo o
+  kept_step_from before g e o rest there here =
       went g.quitting _ _ _ (λ _ is. the_kept _ o there is)
-      (λ _ is. kept_mapped (acts before g e) o (λ p acted. kept_acts before g e p there acted) is) here
+      (λ _ is. kept_mapped (acts before g e) o (λ p acted. kept_acts before g e p rest there acted) is) here
 
-  pub kept_step : (g : State) (at : ℕ) (e : Event) (o : Outcome) → P g → step g at e ≡ Some o → KeptTo o
-  kept_step g at e o there here = kept_step_from g.moment (raised g at) e o (kept.moment g _ there) here
+  pub kept_step : (g : State) (at : ℕ) (e : Event) (o : Outcome) → Rest (raised g at) → P g → step g at e ≡ Some o → KeptTo o
+  kept_step g at e o rest there here = kept_step_from g.moment (raised g at) e o rest (kept.moment g _ there) here

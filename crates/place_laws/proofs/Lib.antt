@@ -31,3 +31,5 @@ pub mod Verifying
 pub mod BareRows
 pub mod Written
 pub mod Stands
+pub mod Least
+pub mod Staying

@@ -11,18 +11,14 @@ use Rattle.gem_model.specs.HostMessages.{HostMessage}
 use Rattle.gem_model.specs.Messages as model
 use Rattle.gem_model.specs.Direct.{Are, IsListed}
 use Rattle.gem_model.specs.Direct.{by_comm, by_control}
-use Rattle.gem_model.proofs.Listed.{AreFree, free_listed, free_message}
+use Rattle.gem_model.proofs.Listed.{listed_message}
 use Rattle.core_host.specs.declared.messages.Done.{Done}
 use Rattle.core_host.specs.Dones.{done_view}
-
-all_listed : (fs : List Firing) → AreFree fs → Are IsListed fs
-all_listed [] free = tt
-all_listed (f ∷ fs) free = (free_listed f free.0, all_listed fs free.1)
 
 -- the rows of a message
 pub done_listed : (told : Done) (after : State) (m : HostMessage) (g : State) (rows : List Firing) → done_view told after ≡ model.done g m → rows ≡ told.rows.items → Are IsListed rows
 done_listed told after m g rows is same =
-    subst (Are IsListed) (sym same) (subst (λ (d : model.Done). Are IsListed d.rows) (sym is) (all_listed (model.done g m).rows (free_message m g)))
+    subst (Are IsListed) (sym same) (subst (λ (d : model.Done). Are IsListed d.rows) (sym is) (listed_message m g))
 
 of_table : (table : ℕ) → (table == 3) ≡ false → (rows : List ℕ) (row : Firing) → map (firing table 0) rows ≡ row ∷ [] → IsListed row
 of_table table not_3 [] row is = absurd (cc)

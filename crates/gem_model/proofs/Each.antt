@@ -31,8 +31,18 @@ use Rattle.gem_model.specs.Verdict.{function_of}
 use Rattle.gem_model.specs.Act.{note_answered, closed_by, session_ended}
 use Rattle.gem_model.specs.Due.{timed_out}
 use Rattle.gem_model.specs.Direct.{Are, IsListed}
-use Rattle.gem_model.proofs.Listed.{listed_keeps, listed_floor, free_listed, listed_answer, listed_timeout, listed_ended, listed_disable}
+use Rattle.gem_model.proofs.Listed.{listed_keeps, listed_floor, free_listed, IsEnd, listed_answer, listed_timeout, listed_ended, listed_disable}
 use Rattle.gem_model.proofs.Walk.{Any, Inner, Kept, row_units, out_of, told_of}
+
+-- what keeps a fact of states through the ends of transactions and of sessions: each change that they make, and each row that they
+-- list
+pub record EachEnd (P : State → Type 0) : Type 1 where
+  pub transactions : (g : State) (t : Table) → P g → P (record g { transactions = t })
+  pub waiting : (g : State) (w : List (List ℕ)) → P g → P (record g { waiting = w })
+  pub event : (g : State) (e : Option ℕ) (o : Occasion) (online : Bool) → P g → P (record g { line = line_behind e o online g })
+  pub answer : (g : State) → P g → P (record g { line = answered_line g.line })
+  pub row : (g : State) (f : Firing) → IsEnd f → row_starts g f ≡ true → P g → P (takes_effect g f)
+  pub created : (g : State) (d : Firing) → is_creation d ≡ true → P g → P (fire g d)
 
 -- what keeps a fact of states that looks at no transaction, while link, moment and the end of the run stay: each change by
 -- itself, by the field that it writes, and each row
@@ -62,27 +72,40 @@ pub record Each (P : State → Type 0) : Type 1 where
   pub quitting : (g : State) → P g → P (record g { quitting = true })
   pub link : (g : State) (l : LinkState) → P g → P (record g { link = l })
 
-module _ (P : State → Type 0) (each : EachInner P) where
-  each_listed : (fs : List Firing) → Are IsListed fs → (g : State) → P g → P (fire_listed fs g)
-  each_listed fs listed g at = listed_keeps P IsListed each.event each.row each.created fs listed g at
+module _ (P : State → Type 0) (each : EachEnd P) where
+  end_listed : (fs : List Firing) → Are IsEnd fs → (g : State) → P g → P (fire_listed fs g)
+  end_listed fs ends g at = listed_keeps P IsEnd each.event each.row each.created fs ends g at
 
-  each_note : (g : State) (w : What) → P g → P (note_answered w g)
-  each_note g what.Establish at = at
-  each_note g what.Attempt at = at
-  each_note g (what.Note n) at = each.answer g at
+  end_note : (g : State) (w : What) → P g → P (note_answered w g)
+  end_note g what.Establish at = at
+  end_note g what.Attempt at = at
+  end_note g (what.Note n) at = each.answer g at
 
-  each_closed : (g : State) (h : Header) (item : Option Data) (one : Open) → P g → P (closed_by h item (Some one) g)
-  each_closed g h item one at =
+  pub end_closed : (g : State) (h : Header) (item : Option Data) (one : Open) → P g → P (closed_by h item (Some one) g)
+  end_closed g h item one at =
       let told : State = note_answered one.what (out_of one g) in
-      each_listed (answer_rows one.what (function_of h) item told) (listed_answer one.what (function_of h) item told) told (each_note (out_of one g) one.what (each.transactions g _ at))
+      end_listed (answer_rows one.what (function_of h) item told) (listed_answer one.what (function_of h) item told) told (end_note (out_of one g) one.what (each.transactions g _ at))
 
-  pub each_timed_out : (g : State) (one : Open) → P g → P (timed_out one g)
-  each_timed_out g one at =
-      each_listed (timeout_rows one.what (told_of one g)) (listed_timeout one.what (told_of one g)) (told_of one g)
+  pub end_timed_out : (g : State) (one : Open) → P g → P (timed_out one g)
+  end_timed_out g one at =
+      end_listed (timeout_rows one.what (told_of one g)) (listed_timeout one.what (told_of one g)) (told_of one g)
       (each.waiting (record (out_of one g) { transactions = _ }) _ (each.transactions (out_of one g) _ (each.transactions g _ at)))
 
-  each_disabled : (g : State) → P g → P (fires (operator_rows oper.Disable) g)
-  each_disabled g at = each_listed (operator_rows oper.Disable g) (listed_disable g) g at
+  pub end_disabled : (g : State) → P g → P (fires (operator_rows oper.Disable) g)
+  end_disabled g at = end_listed (operator_rows oper.Disable g) (listed_disable g) g at
+
+  pub end_session : ((g : State) (l : LinkState) → P g → P (record g { link = l })) → (g : State) → P g → P (session_ended g)
+  end_session link g at =
+      end_listed (session_end_rows g) (listed_ended g) (without_session g)
+      (each.waiting (record (none_asked g) { link = _ }) [] (link (none_asked g) _ (each.transactions g _ at)))
+
+-- each change and each row keeps it, so those of the ends do
+each_end : (P : State → Type 0) → EachInner P → EachEnd P
+each_end P each = record { transactions = each.transactions; waiting = each.waiting; event = each.event; answer = each.answer; row = λ g f end starts at. each.row g f end.listed starts at; created = each.created }
+
+module _ (P : State → Type 0) (each : EachInner P) where
+  pub each_timed_out : (g : State) (one : Open) → P g → P (timed_out one g)
+  each_timed_out g one at = end_timed_out P (each_end P each) g one at
 
   pub each_inner : Inner Any P
   each_inner = record {
@@ -102,22 +125,17 @@ module _ (P : State → Type 0) (each : EachInner P) where
     units = row_units P each.came each.alarms each.alarm each.event (λ g f floor starts at. each.row g f (listed_floor f floor) starts at) each.created;
     ready = each.ready;
     created = each.created;
-    answered = λ g h item test one found at. each_closed g h item one at;
+    answered = λ g h item test one found at. end_closed P (each_end P each) g h item one at;
     failed = λ g test one found at. each_timed_out g one at;
-    disabled = each_disabled;
+    disabled = end_disabled P (each_end P each);
   }
 
 module _ (P : State → Type 0) (each : Each P) where
-  each_ended : (g : State) → P g → P (session_ended g)
-  each_ended g at =
-      each_listed P each.inner (session_end_rows g) (listed_ended g) (without_session g)
-      (each.inner.waiting (record (none_asked g) { link = _ }) [] (each.link (none_asked g) _ (each.inner.transactions g _ at)))
-
   pub each_kept : Kept Any P
   each_kept = record {
     inner = each_inner P each.inner;
     moment = each.moment;
     quitting = each.quitting;
     link = λ g l selected at. each.link g l at;
-    ended = each_ended;
+    ended = end_session P (each_end P each.inner) each.link;
   }

@@ -4,7 +4,7 @@ use Rattle.std.proofs.Common.{◌≡◌, ℕ, ◌+◌, ◌*◌, ◌==◌, Bool, 
 use Rattle.secs_items.specs.Data.{Data}
 use Rattle.gem_primaries.specs.declared.primary.GemMsg.{GemMsg}
 use Rattle.gem_primaries.specs.declared.primary.GemMsg.TheVariants as msg
-use Rattle.gem_tables.specs.Table.{firing}
+use Rattle.gem_tables.specs.Table.{firing, is_one_of}
 use Rattle.gem_tables.specs.declared.firing.Firing.{Firing}
 use Rattle.gem_states.specs.declared.communication.CommTrigger.TheVariants as comm
 use Rattle.gem_states.specs.declared.control.ControlTrigger.TheVariants as trigger
@@ -82,38 +82,43 @@ module _ (P : State → Type 0) (Is : Firing → Type 0)
 
 -- ---- the ends of transactions, and of a session
 
-listed_comm : (rows : List ℕ) → Are IsListed (of_comm rows)
+-- a firing that the end of a transaction or of a session lists: of tables 1 to 3, and of table 3 such as inputs fire
+pub record IsEnd (f : Firing) : Type 0 where
+  pub listed : IsListed f
+  pub first_tables : is_one_of (1 ∷ 2 ∷ 3 ∷ []) f.row.table ≡ true
+
+listed_comm : (rows : List ℕ) → Are IsEnd (of_comm rows)
 listed_comm [] = tt
-listed_comm (row ∷ rows) = ((λ is. absurd (cc)), listed_comm rows)
+listed_comm (row ∷ rows) = (record { listed = λ is. absurd (cc); first_tables = refl }, listed_comm rows)
 
-listed_control : (rows : List ℕ) → Are IsListed (of_control rows)
+listed_control : (rows : List ℕ) → Are IsEnd (of_control rows)
 listed_control [] = tt
-listed_control (row ∷ rows) = ((λ is. absurd (cc)), listed_control rows)
+listed_control (row ∷ rows) = (record { listed = λ is. absurd (cc); first_tables = refl }, listed_control rows)
 
-listed_note : Are IsListed note_fails
-listed_note = ((λ is. refl), tt)
+listed_note : Are IsEnd note_fails
+listed_note = (record { listed = λ is. refl; first_tables = refl }, tt)
 
-listed_attempt : (g : State) → Are IsListed (attempt_fails g)
-listed_attempt g = either_way (Are IsListed) (is_some (first_of what.Attempt g.transactions.opened)) (by_control trigger.Failed g) [] (listed_control (control_rows trigger.Failed g.switch_local)) tt
+listed_attempt : (g : State) → Are IsEnd (attempt_fails g)
+listed_attempt g = either_way (Are IsEnd) (is_some (first_of what.Attempt g.transactions.opened)) (by_control trigger.Failed g) [] (listed_control (control_rows trigger.Failed g.switch_local)) tt
 
-listed_all : (g : State) → Are IsListed (all_fail g)
-listed_all g = are_both IsListed (attempt_fails g) note_fails (listed_attempt g) listed_note
+listed_all : (g : State) → Are IsEnd (all_fail g)
+listed_all g = are_both IsEnd (attempt_fails g) note_fails (listed_attempt g) listed_note
 
-pub listed_answer : (w : What) (function : ℕ) (item : Option Data) (g : State) → Are IsListed (answer_rows w function item g)
+pub listed_answer : (w : What) (function : ℕ) (item : Option Data) (g : State) → Are IsEnd (answer_rows w function item g)
 listed_answer what.Establish function item g = listed_comm (comm_rows (establish_answer function item))
 listed_answer what.Attempt function item g = listed_control (control_rows (attempt_answer function) g.switch_local)
 listed_answer (what.Note n) function item g = tt
 
-pub listed_timeout : (w : What) (g : State) → Are IsListed (timeout_rows w g)
+pub listed_timeout : (w : What) (g : State) → Are IsEnd (timeout_rows w g)
 listed_timeout what.Establish g = listed_comm (comm_rows comm.Refused)
 listed_timeout what.Attempt g = listed_control (control_rows trigger.Failed g.switch_local)
 listed_timeout (what.Note n) g = listed_note
 
-pub listed_ended : (g : State) → Are IsListed (session_end_rows g)
-listed_ended g = are_both IsListed (by_comm comm.SessionEnd) (all_fail g) (listed_comm (comm_rows comm.SessionEnd)) (listed_all g)
+pub listed_ended : (g : State) → Are IsEnd (session_end_rows g)
+listed_ended g = are_both IsEnd (by_comm comm.SessionEnd) (all_fail g) (listed_comm (comm_rows comm.SessionEnd)) (listed_all g)
 
-pub listed_disable : (g : State) → Are IsListed (operator_rows oper.Disable g)
-listed_disable g = are_both IsListed (by_comm comm.Disable) (all_fail g) (listed_comm (comm_rows comm.Disable)) (listed_all g)
+pub listed_disable : (g : State) → Are IsEnd (operator_rows oper.Disable g)
+listed_disable g = are_both IsEnd (by_comm comm.Disable) (all_fail g) (listed_comm (comm_rows comm.Disable)) (listed_all g)
 
 -- ---- free rows
 

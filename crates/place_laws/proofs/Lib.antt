@@ -33,3 +33,4 @@ pub mod Written
 pub mod Stands
 pub mod Least
 pub mod Staying
+pub mod FreeModules

@@ -47,7 +47,7 @@ abbrev pub Sound : State → Type 0
 Sound g = IsFloor g.floor.shop
 
 -- the ports and the carriers of a state are those of another
-abbrev SameFloor : State → State → Type 0
+abbrev pub SameFloor : State → State → Type 0
 SameFloor g h = h.floor ≡ g.floor
 
 sound_same : (g h : State) → SameFloor g h → Sound g → Sound h
@@ -63,12 +63,12 @@ where_true P false x y at_x at_y = at_y
 floor_either : (g : State) (b : Bool) (x y : State) → SameFloor g x → SameFloor g y → SameFloor g (if b then x else y)
 floor_either g b x y at_x at_y = either_way (SameFloor g) b x y at_x at_y
 
-floor_comm : (g : State) (row : ℕ) → SameFloor g (fire_comm row g)
+pub floor_comm : (g : State) (row : ℕ) → SameFloor g (fire_comm row g)
 floor_comm g row =
     let h : State = record g { comm = comm_fired row (delay_end row g) g.comm } in
     comm_effect_case (SameFloor g) (row_of (communication_table 0) row) h refl refl (floor_either g _ h _ refl refl) refl
 
-floor_control : (g : State) (row : ℕ) → SameFloor g (fire_control row g)
+pub floor_control : (g : State) (row : ℕ) → SameFloor g (fire_control row g)
 floor_control g row =
     let h : State = record g { control = control_fired row g.control } in
     control_effect_case (SameFloor g) (row_of control_table row) h refl (floor_either g _ h _ refl refl) refl
@@ -77,7 +77,7 @@ floor_first : (notes : List Note) (g : State) → SameFloor g (asks_first notes 
 floor_first [] g = refl
 floor_first (note ∷ notes) g = floor_either g _ g _ refl refl
 
-floor_line : (g : State) (row : ℕ) → SameFloor g (fire_line row g)
+pub floor_line : (g : State) (row : ℕ) → SameFloor g (fire_line row g)
 floor_line g row =
     floor_either g (row == 12) (asks_first g.line.spool.notes g) (if row == 13 then asks_first g.line.waiting g else g) (floor_first g.line.spool.notes g)
     (floor_either g (row == 13) (asks_first g.line.waiting g) g (floor_first g.line.waiting g) refl)

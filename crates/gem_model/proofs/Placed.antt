@@ -212,7 +212,7 @@ removing g port starts st =
 
 -- no command is open, so none is done, and none fails
 never_open : {P : Type 0} (g : State) (number command : ℕ) → is_open command (module_of number g) ≡ true → Placed g → P
-never_open g number command open st = absurd (let clash : true ≡ false = sym open ∙ none-open command number g.floor st in cc)
+never_open g number command is st = absurd (let clash : true ≡ false = sym is ∙ none-open command number g.floor st in cc)
 
 placed_alarm : (g : State) (alid : ℕ) → Placed g → Placed (sets_alarm alid g)
 placed_alarm g alid st = either_way Placed _ _ g st st
@@ -283,8 +283,8 @@ units : Units AtRest Placed
 units = record {
   placing = placing;
   removal = removing;
-  did = λ g number command open st. never_open g number command open st;
-  failed_at = λ g number command open st. never_open g number command open st;
+  did = λ g number command is st. never_open g number command is st;
+  failed_at = λ g number command is st. never_open g number command is st;
   went_down = went_down;
   lost = losing;
   asked = λ g h a code same st at. asking a.word g h a refl code same st at;

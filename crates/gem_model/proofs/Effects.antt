@@ -1,5 +1,5 @@
 -- What rows of tables 1 and 2 do, by the words of their lines, and which of them are ready.
-use Rattle.std.proofs.Common.{◌≡◌, ℕ, Bool, true, false, not, ◌&&◌, if◌then◌else◌, [], ◌∷◌, map, Option, Some, None, option_map, refl, sym, ◌∙◌, ap}
+use Rattle.std.proofs.Common.{◌≡◌, ℕ, Bool, true, false, not, ◌&&◌, if◌then◌else◌, [], ◌∷◌, map, Option, Some, None, option_map, refl, ◌∙◌, ap}
 use Rattle.std.specs.Option.{option_or}
 use Rattle.gem_tables.specs.Table.{Row, firing, first_itself}
 use Rattle.gem_tables.specs.declared.firing.Firing.{Firing}

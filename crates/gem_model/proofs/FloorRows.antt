@@ -1,9 +1,8 @@
 -- The rows of the load ports and the carriers: what they leave alone, whether an input fires them or they fire by themselves.
-use Rattle.std.proofs.Common.{◌≡◌, ℕ, ◌+◌, ◌*◌, ◌-◌, ◌==◌, Bool, true, false, ◌&&◌, ◌||◌, if◌then◌else◌, List, [], ◌∷◌, ◌++◌, Option, Some, None, refl, sym, subst, ◌∙◌}
+use Rattle.std.proofs.Common.{◌≡◌, ℕ, ◌+◌, ◌*◌, ◌==◌, Bool, true, false, ◌&&◌, ◌||◌, if◌then◌else◌, List, [], ◌∷◌, ◌++◌, Option, Some, None, refl, sym, subst, ◌∙◌}
 use Rattle.gem_tables.specs.Table.{firing}
 use Rattle.gem_tables.specs.declared.firing.Firing.{Firing}
 use Rattle.gem_rows.specs.Events.{ceid_of}
-use Rattle.load_port.specs.Ports.{is_no_port}
 use Rattle.shop_floor.specs.Floor.{Floor}
 use Rattle.tool_floor.specs.Floor.{ToolFloor}
 use Rattle.shop_floor.specs.Requests.{at_port, at_ports, creation_of, unbinding, proceeding, cancelling, port_number_of, word_rows, carrier_rows, port_rows, mode_row, or_all, removal}
@@ -28,7 +27,6 @@ use Rattle.gem_model.specs.Machines.{creations, fire_floor, object_name, row_sta
 use Rattle.gem_model.specs.Noting.{line_behind}
 use Rattle.gem_model.specs.Fire.{fire, fire_all, advanced}
 use Rattle.gem_model.specs.Direct.{Are}
-use Rattle.std.specs.List.{AllByRecursion}
 use Rattle.tool_floor.specs.Floor.{substrate_numbered}
 use Rattle.tool_floor.specs.Modules.{number_named}
 use Rattle.robot_moves.specs.Modules.{module_at}

@@ -6,8 +6,8 @@ use Rattle.gem_states.specs.Communication.{communication_table, comm_starts}
 use Rattle.gem_states.specs.Control.{control_table, control_starts}
 use Rattle.gem_model.proofs.Effects.{comm_effect_case, control_effect_case}
 use Rattle.gem_tables.specs.declared.firing.Firing.{Firing}
-use Rattle.gem_states.specs.Communication.{comm_number, comm_fired}
-use Rattle.gem_states.specs.Control.{control_number, control_fired}
+use Rattle.gem_states.specs.Communication.{comm_fired}
+use Rattle.gem_states.specs.Control.{control_fired}
 use Rattle.note_line.specs.Table3.{line_starts}
 use Rattle.note_line.specs.Table3 as table
 use Rattle.spool.specs.declared.note.Note.{Note}
@@ -24,12 +24,10 @@ use Rattle.shop_floor.proofs.Room.{few-carriers}
 use Rattle.tool_events.specs.declared.config.Config.{Config}
 use Rattle.tool_events.specs.declared.entry.Entry.{Entry}
 use Rattle.tool_events.specs.declared.event.Event.{Event}
-use Rattle.transactions.specs.declared.transaction.What.TheVariants as what
-use Rattle.gem_model.specs.State.{State, opening, around, can_ask, none_asked, raised}
-use Rattle.gem_model.specs.Sending.{asks, identity_text}
-use Rattle.gem_model.specs.Fire.{fire, fire_listed}
-use Rattle.gem_model.specs.Effects.{fire_comm, fire_control, fire_line, delay_end, forgets, asks_first}
-use Rattle.gem_model.specs.Machines.{fire_floor, row_starts, least}
+use Rattle.gem_model.specs.State.{State, opening, around, raised}
+use Rattle.gem_model.specs.Fire.{fire}
+use Rattle.gem_model.specs.Effects.{fire_comm, fire_control, fire_line, delay_end, asks_first}
+use Rattle.gem_model.specs.Machines.{fire_floor, least}
 use Rattle.gem_model.specs.Ready.{ready_line, ready_floor}
 use Rattle.gem_model.proofs.Effects.{asks_host, gives_up, least_is}
 use Rattle.gem_model.specs.Settle.{settled, settling, Along}

@@ -1,13 +1,13 @@
 -- The line of notes goes on: it stays valid, and what became of a note stays.
-use Rattle.std.proofs.Common.{◌∙◌, ◌≡◌, ℕ, ◌+◌, ◌*◌, ◌==◌, Bool, true, false, if◌then◌else◌, [], Option, Some, None, option_map, refl, subst, sym}
+use Rattle.std.proofs.Common.{◌∙◌, ◌≡◌, ℕ, ◌+◌, ◌*◌, ◌==◌, Bool, true, false, if◌then◌else◌, Option, Some, None, option_map, refl, subst, sym}
 use Rattle.std.specs.Option.{option_or}
 use Rattle.gem_tables.specs.Table.{firing, row_of}
 use Rattle.gem_states.specs.Communication.{communication_table, comm_starts}
 use Rattle.gem_states.specs.Control.{control_table, control_starts}
 use Rattle.gem_model.proofs.Effects.{comm_effect_case, control_effect_case}
 use Rattle.gem_tables.specs.declared.firing.Firing.{Firing}
-use Rattle.gem_states.specs.Communication.{comm_number, comm_fired}
-use Rattle.gem_states.specs.Control.{control_number, control_fired}
+use Rattle.gem_states.specs.Communication.{comm_fired}
+use Rattle.gem_states.specs.Control.{control_fired}
 use Rattle.gem_rows.specs.Events.{ceid_of}
 use Rattle.note_line.specs.Line.{Line, with_kinds, answered}
 use Rattle.note_line.specs.Table3.{is_direct, line_starts}
@@ -15,14 +15,12 @@ use Rattle.note_line.specs.Table3 as table
 use Rattle.note_line.specs.Fates.{LineValid}
 use Rattle.note_line.proofs.Keeps.{Keeps, fates-same, fates-trans, noted-keeps, answered-keeps, kinds-keeps, least-keeps, direct-keeps}
 use Rattle.tool_events.specs.declared.event.Event.{Event}
-use Rattle.transactions.specs.declared.transaction.What.TheVariants as what
-use Rattle.gem_model.specs.State.{State, is_online, around, can_ask, none_asked, raised}
-use Rattle.gem_model.specs.Sending.{asks, identity_text}
+use Rattle.gem_model.specs.State.{State, is_online, around, raised}
 use Rattle.gem_model.specs.Values.{Occasion}
 use Rattle.gem_model.specs.Machines.{object_name, fire_floor, takes_effect, least}
 use Rattle.gem_model.specs.Noting.{line_behind, line_with_alarm, alarm_line, line_with_event, is_event_reported, is_alarm_reported}
 use Rattle.gem_model.specs.Fire.{fire}
-use Rattle.gem_model.specs.Effects.{fire_comm, fire_control, fire_line, delay_end, forgets}
+use Rattle.gem_model.specs.Effects.{fire_comm, fire_control, fire_line, delay_end}
 use Rattle.gem_model.specs.Ready.{ready_line, ready_floor}
 use Rattle.gem_model.proofs.Effects.{asks_host, gives_up, least_is}
 use Rattle.gem_model.specs.Step.{Outcome, step, step_from}

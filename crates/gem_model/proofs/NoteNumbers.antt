@@ -36,12 +36,12 @@ use Rattle.transactions.specs.Endings.{same_kind, first_of}
 use Rattle.transactions.proofs.Finding.{found-passes}
 use Rattle.transactions.proofs.Systems.{without-none}
 use Rattle.transactions.proofs.Laws.{table-taken_out, table-started, found-there}
-use Rattle.gem_model.specs.State.{State, opening, t3, with_frame, is_communicating, is_online, around, can_ask, none_asked, without_session, raised}
+use Rattle.gem_model.specs.State.{State, opening, t3, with_frame, is_communicating, is_online, around, without_session, raised}
 use Rattle.gem_model.specs.Sending.{asks, data_frame, identity_text}
 use Rattle.gem_model.specs.Machines.{object_name, fire_floor, takes_effect, row_starts, least}
 use Rattle.gem_model.specs.Noting.{line_with_alarm}
 use Rattle.gem_model.specs.Fire.{advanced, fire, fires, fire_listed, of_control}
-use Rattle.gem_model.specs.Effects.{asks_first, stream_of_kind, function_of_kind, fire_comm, fire_control, fire_line, delay_end, forgets}
+use Rattle.gem_model.specs.Effects.{asks_first, stream_of_kind, function_of_kind, fire_comm, fire_control, fire_line, delay_end}
 use Rattle.gem_model.specs.Direct.{answer_rows, timeout_rows, establish_answer, attempt_answer, by_comm, by_control, note_fails, operator_rows}
 use Rattle.gem_model.specs.Ready.{ready_line, ready_floor}
 use Rattle.gem_model.proofs.Effects.{asks_host, gives_up, least_is, spares, comm_effect_spared, control_effect_case}

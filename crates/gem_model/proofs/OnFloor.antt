@@ -1,5 +1,5 @@
 -- The tables of the floor of the tool as tables of the tool, and the words of all tables as tests of the table's number.
-use Rattle.std.proofs.Common.{◌≡◌, ℕ, ◌==◌, Bool, true, false, if◌then◌else◌, List, [], ◌∷◌, map, Option, Some, None, option_map, refl, sym, ◌∙◌, ap}
+use Rattle.std.proofs.Common.{◌≡◌, ℕ, ◌==◌, Bool, true, false, if◌then◌else◌, List, [], ◌∷◌, map, Option, Some, None, option_map, refl, ap}
 use Rattle.std.specs.Option.{option_or}
 use Rattle.gem_tables.specs.Table.{firing}
 use Rattle.gem_tables.specs.Machine.{Machine, first_ready, starts_in, fired_in, creates_in, object_in, least_in}
@@ -8,7 +8,7 @@ use Rattle.gem_states.specs.Communication.{comm_starts}
 use Rattle.gem_states.specs.Control.{control_starts}
 use Rattle.note_line.specs.Table3.{line_starts}
 use Rattle.tool_floor.specs.Floor.{ToolFloor}
-use Rattle.tool_floor.specs.Machines.{floor_machines, floor_starts, floor_fired, creation_rows, floor_least, object_name as floor_object}
+use Rattle.tool_floor.specs.Machines.{floor_machines, floor_starts, creation_rows, object_name as floor_object}
 use Rattle.gem_model.specs.State.{State, around}
 use Rattle.gem_model.specs.Effects.{fire_comm, fire_control, fire_line}
 use Rattle.gem_model.specs.Machines.{on_floor, row_starts, takes_effect, creations, object_name, fire_floor}

@@ -1,11 +1,9 @@
 -- What holds of places at every moment holds of each state that the tool reaches, whatever comes.
-use Rattle.std.proofs.Common.{◌≡◌, ◌⊎◌, ℕ, ◌==◌, ◌≤◌, Bool, true, false, not, ◌&&◌, ◌||◌, if◌then◌else◌, List, [], ◌∷◌, ◌++◌, Option, Some, None, option_map, inl, inr, refl, sym, ◌∙◌, ap, subst}
+use Rattle.std.proofs.Common.{◌≡◌, ◌⊎◌, ℕ, ◌==◌, ◌≤◌, Bool, true, false, ◌&&◌, ◌||◌, if◌then◌else◌, List, [], ◌∷◌, ◌++◌, Option, Some, None, option_map, inl, inr, refl, sym, ◌∙◌, ap, subst}
 use Rattle.std.specs.Option.{option_or}
-use Rattle.std.specs.List.{AllByRecursion}
 use Rattle.std.proofs.lemmas.Bool.{and_parts}
 use Rattle.std.proofs.lemmas.Bool.Decides.{Decides-eqb}
-use Rattle.gem_ids.specs.declared.numbers.PortNo.{PortNo}
-use Rattle.gem_tables.specs.Table.{firing, is_one_of}
+use Rattle.gem_tables.specs.Table.{firing}
 use Rattle.gem_tables.proofs.Rows.{one_of_cases}
 use Rattle.gem_tables.specs.declared.firing.Firing.{Firing}
 use Rattle.gem_states.specs.Communication.{comm_starts}
@@ -15,7 +13,6 @@ use Rattle.note_line.specs.Table3 as table
 use Rattle.load_port.specs.Caack.{is_done_code}
 use Rattle.load_port.specs.Ports as ports
 use Rattle.load_port.specs.Ports.{most_ports, port_numbered, change_port}
-use Rattle.load_port.specs.declared.port.Port.{Port}
 use Rattle.carrier.specs.declared.carrier.Carrier.{Carrier}
 use Rattle.carrier.specs.declared.action.CarrierAction.{CarrierAction}
 use Rattle.carrier.specs.declared.action.CarrierWord.{CarrierWord}
@@ -24,17 +21,20 @@ use Rattle.carrier.specs.Record.{is_id_waiting, is_map_waiting}
 use Rattle.carrier.specs.Carriers.{is_known, carrier_named}
 use Rattle.shop_floor.specs.Floor.{Floor, arrival_of}
 use Rattle.shop_floor.specs.Rows.{owner}
-use Rattle.shop_floor.specs.Requests.{came, at_port, removal, carrier_code, carrier_written, word_written, creation_of, unbinding, proceeding, cancelling, port_number_of, word_rows, carrier_rows}
+use Rattle.shop_floor.specs.Requests.{at_port, removal, carrier_code, word_written, creation_of, unbinding, proceeding, cancelling, port_number_of, word_rows}
 use Rattle.shop_floor.proofs.Belonging.{owner_changed}
-use Rattle.robot_moves.specs.Modules.{module_at, is_open, is_up}
-use Rattle.tool_floor.specs.Floor.{ToolFloor, with_shop, fetched}
-use Rattle.tool_floor.specs.Machines.{floor_starts, floor_fired, floor_least, is_creation}
-use Rattle.tool_floor.specs.Signals.{at_module, done_rows, closing_rows, lost_rows}
+use Rattle.robot_moves.specs.Modules.{is_open, is_up}
+use Rattle.tool_floor.specs.Floor.{ToolFloor, with_shop}
+use Rattle.tool_floor.specs.Machines.{floor_starts, floor_fired, is_creation}
+use Rattle.tool_floor.specs.Signals.{at_module, closing_rows, lost_rows}
 use Rattle.tool_floor.proofs.Keeping.{creation_same, least_starts}
 use Rattle.tool_events.specs.declared.config.Config.{Config}
 use Rattle.tool_events.specs.declared.entry.Entry.{Entry}
 use Rattle.tool_events.specs.declared.event.Event.{Event}
+use Rattle.floor_moves.specs.OnePlace.{OnePlace}
+use Rattle.place_laws.specs.Picture.{picture}
 use Rattle.place_laws.specs.Standing.{Standing}
+use Rattle.place_laws.proofs.Few.{places-one}
 use Rattle.place_laws.proofs.Stays.{NonePresent}
 use Rattle.place_laws.proofs.Bare.{opening-stands}
 use Rattle.place_laws.proofs.Stands.{is_common, row-stands, written-stands, unbinding-stands, still-placed, placing-stands, removal-stands, removal-left-stands}
@@ -42,17 +42,16 @@ use Rattle.place_laws.proofs.Least.{least-common, shop-rests}
 use Rattle.place_laws.proofs.Staying.{nothing-lost}
 use Rattle.place_laws.proofs.FreeModules.{fetched-stands, none-open, closes-none}
 use Rattle.place_laws.proofs.Written.{unbound}
-use Rattle.gem_model.specs.State.{State, opening, around, is_online, raised}
-use Rattle.gem_model.specs.Values.{Occasion}
-use Rattle.gem_model.specs.Noting.{line_behind, sets_alarm}
+use Rattle.gem_model.specs.State.{State, opening, around, raised}
+use Rattle.gem_model.specs.Noting.{sets_alarm}
 use Rattle.gem_model.specs.Fire.{fire, fire_all, advanced, fire_listed}
 use Rattle.gem_model.specs.Effects.{fire_comm, fire_control, fire_line}
 use Rattle.gem_model.specs.Machines.{fire_floor, row_starts, takes_effect, least, creations}
 use Rattle.gem_model.specs.Ready.{ready_line, ready_floor}
 use Rattle.gem_model.specs.Signals.{port_row_starts, with_arrival, module_of, module_alarm}
 use Rattle.gem_model.specs.Direct.{Are}
-use Rattle.gem_model.specs.Settle.{settled, settling, Along}
-use Rattle.gem_model.specs.Step.{Outcome, step, acts}
+use Rattle.gem_model.specs.Settle.{settling, Along}
+use Rattle.gem_model.specs.Step.{Outcome, acts}
 use Rattle.gem_model.specs.Run.{Run}
 use Rattle.gem_model.proofs.Effects.{asks_host, gives_up, least_is}
 use Rattle.gem_model.proofs.OnFloor.{effect_as, starts_as}
@@ -63,7 +62,7 @@ use Rattle.gem_model.proofs.Each.{EachEnd, end_closed, end_timed_out, end_disabl
 use Rattle.gem_model.proofs.Walk.{Units, Inner, Kept, kept_acts, kept_step}
 use Rattle.gem_model.proofs.Floored.{SameFloor, floor_comm, floor_control, floor_line}
 use Rattle.gem_model.proofs.Resting.{AtRest, opening-rests, step-rests}
-use Rattle.gem_model.proofs.Settling.{settled_keeps, settled_along}
+use Rattle.gem_model.proofs.Settling.{settled_along}
 
 -- what holds of places holds of a state
 abbrev pub Placed : State → Type 0
@@ -154,12 +153,6 @@ placed_automatic g f ready st =
 
 placed_creation : (g : State) (d : Firing) → is_creation d ≡ true → Placed g → Placed (fire g d)
 placed_creation g d is st = subst Standing (sym (ap (λ (k : State). k.floor) (effect_is g d (creation_is d is)) ∙ creation_same g.floor d is)) st
-
-placed_settled : (g : State) → Placed g → Placed (settled g)
-placed_settled g st = settled_keeps Placed placed_automatic placed_creation g st
-
-placed_along : (g : State) → Placed g → Along Placed g (settling g)
-placed_along g st = settled_along Placed Placed (λ h at. at) placed_automatic placed_creation g st
 
 -- ---- lists of rows
 
@@ -353,8 +346,10 @@ run_at c entries h few run = run_rests (opening c) entries h (record { placed = 
 pub run-placed : (c : Config) (entries : List Entry) (h : State) → c.ports ≤ most_ports → Run (opening c) entries h → Standing h.floor
 run-placed c entries h few run = (run_at c entries h few run).placed
 
--- and in each state that the tool passes while it settles behind an event
-pub run-placed-along : (c : Config) (entries : List Entry) (h : State) (at : ℕ) (e : Event) (o : Outcome) → c.ports ≤ most_ports → Run (opening c) entries h → acts h.moment (raised h at) e ≡ Some o → Along Placed o.after (settling o.after)
-run-placed-along c entries h at e o few run here =
+-- and each substrate has one place in each state that the tool passes while it settles behind an event
+pub run-places-along : (c : Config) (entries : List Entry) (h : State) (at : ℕ) (e : Event) (o : Outcome) → c.ports ≤ most_ports → Run (opening c) entries h → acts h.moment (raised h at) e ≡ Some o
+    → Along (λ (g : State). OnePlace (picture g.floor)) o.after (settling o.after)
+run-places-along c entries h at e o few run here =
     let rests = run_at c entries h few run in
-    placed_along o.after (kept_acts AtRest Placed placed_kept h.moment (raised h at) e o rests.rest rests.placed here)
+    settled_along Placed (λ (g : State). OnePlace (picture g.floor)) (λ g st. places-one g.floor st) placed_automatic placed_creation o.after
+    (kept_acts AtRest Placed placed_kept h.moment (raised h at) e o rests.rest rests.placed here)

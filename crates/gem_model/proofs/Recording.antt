@@ -12,6 +12,8 @@ use Rattle.gem_model.proofs.Reporting.{run-reported, run-texts, run-sent, run-fr
 use Rattle.gem_model.proofs.Validity.{run-line, run-sendings, run-empty, run-room}
 use Rattle.gem_model.proofs.NoteNumbers.{run-own}
 use Rattle.gem_model.proofs.Floored.{run-floor, run-carriers}
+use Rattle.gem_model.proofs.Placed.{run-placed}
+use Rattle.place_laws.proofs.Few.{places-one}
 
 pub recorded-of : (c : Config) (history : List Entry) (g : State) → IsConfig c → Run (opening c) history g → Recorded c history g
 recorded-of c history g bounds run =
@@ -29,6 +31,8 @@ recorded-of c history g bounds run =
       spool = run-empty c history g run;
       floor = run-floor c history g ports run;
       carriers = run-carriers c history g ports run;
+      places = places-one g.floor (run-placed c history g ports run);
+      registered = (run-placed c history g ports run).registered;
       room = run-room c history g run;
     }
 

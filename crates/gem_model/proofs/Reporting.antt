@@ -62,7 +62,7 @@ use Rattle.gem_model.specs.State.{State, opening, is_up, is_session_up, is_onlin
 use Rattle.gem_model.specs.Sending.{sends_stream9, stream9_text, replies, asks, identity_text, data_header, data_frame}
 use Rattle.gem_model.specs.Values.{Occasion}
 use Rattle.gem_model.specs.Noting.{sets_alarm, line_behind, line_with_event, is_event_reported, is_alarm_reported, change_text, alarm_line, line_with_alarm, clears_alarm}
-use Rattle.gem_model.specs.Machines.{object_name, creations, fire_floor, takes_effect, row_starts}
+use Rattle.gem_model.specs.Machines.{creations, fire_floor, takes_effect, row_starts}
 use Rattle.gem_model.specs.Fire.{fire, fire_all, advanced, fires, fire_listed}
 use Rattle.gem_model.specs.Effects.{fire_comm, fire_control, fire_line, asks_first, stream_of_kind, function_of_kind, delay_end}
 use Rattle.gem_model.proofs.OnFloor.{effect_as}

@@ -7,14 +7,14 @@ use Rattle.transactions.specs.declared.transaction.What.TheVariants as what
 use Rattle.gem_states.specs.Communication.{comm_fired}
 use Rattle.gem_states.specs.Control.{control_fired}
 use Rattle.transactions.specs.declared.transaction.Open.{Open}
-use Rattle.gem_tables.specs.Table.{firing, row_of}
+use Rattle.gem_tables.specs.Table.{row_of}
 use Rattle.gem_states.specs.Communication.{communication_table}
 use Rattle.gem_states.specs.Control.{control_table}
 use Rattle.tool_floor.specs.Machines.{is_creation}
 use Rattle.gem_model.proofs.Effects.{comm_effect_case, control_effect_case}
 use Rattle.gem_model.proofs.FloorRows.{advanced_keeps}
 use Rattle.gem_tables.specs.declared.firing.Firing.{Firing}
-use Rattle.gem_model.specs.State.{State, none_asked, can_ask}
+use Rattle.gem_model.specs.State.{State}
 use Rattle.gem_model.specs.Sending.{asks, identity_text}
 use Rattle.spool.specs.declared.note.Note.{Note}
 use Rattle.gem_model.specs.Fire.{fire, advanced, fire_listed}

@@ -1,6 +1,6 @@
 -- The direct rows of each input, in order (this tool's profile, direct rows). A listed row that does not start at the
 -- present state is left out when they fire.
-use Rattle.std.specs.Prelude.{◌≡◌, true, ℕ, ◌==◌, if◌then◌else◌, List, [], ◌∷◌, ◌++◌, Option, Some, None, is_some}
+use Rattle.std.specs.Prelude.{◌≡◌, true, ℕ, ◌==◌, if◌then◌else◌, List, [], ◌∷◌, ◌++◌, Option, is_some}
 use Rattle.secs_items.specs.Data.{Data}
 use Rattle.gem_states.specs.declared.communication.CommTrigger.{CommTrigger}
 use Rattle.gem_states.specs.declared.communication.CommTrigger.TheVariants as comm

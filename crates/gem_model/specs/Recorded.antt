@@ -8,6 +8,9 @@ use Rattle.spool.specs.Spool.{is_inactive, has_note}
 use Rattle.note_line.specs.Line.{standing}
 use Rattle.note_line.specs.Fates.{LineValid, tells}
 use Rattle.shop_floor.specs.Valid.{IsFloor}
+use Rattle.floor_moves.specs.OnePlace.{OnePlace}
+use Rattle.place_laws.specs.Picture.{picture}
+use Rattle.place_laws.specs.Standing.{AreRegistered}
 use Rattle.gem_model.specs.State.{State, opening}
 use Rattle.gem_model.specs.Run.{Run}
 use Rattle.gem_model.specs.Reported.{told_as, reported_in, IsOf}
@@ -38,5 +41,10 @@ pub record Recorded (c : Config) (history : List Entry) (g : State) : Type 0 whe
   pub floor : IsFloor g.floor.shop
   -- at most 16 carriers are known
   pub carriers : length g.floor.shop.carriers ≤ 16
+  -- each substrate has one place, and open commands fit the places
+  pub places : OnePlace (picture g.floor)
+  -- no registration was refused: where the slot map of a carrier is VERIFIED, the substrate of each slot that is correctly occupied
+  -- is registered
+  pub registered : AllByRecursion (AreRegistered g.floor.substrates) g.floor.shop.carriers
   -- there is room to start a transaction
   pub room : is_full g.transactions ≡ false

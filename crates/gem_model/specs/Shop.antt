@@ -1,15 +1,11 @@
 -- What the host asks of carriers and load ports: the actions of S3F17, S3F25 and S3F27, and their acknowledge codes (SEMI E87,
 -- carrier action, port action and change access; this tool's profile, messages).
-use Rattle.std.specs.Prelude.{ℕ, ◌==◌, Bool, true, false, not, nat_le, if◌then◌else◌, List, [], ◌∷◌, codes, Option, None, is_some}
+use Rattle.std.specs.Prelude.{ℕ, Bool, true, false, not, nat_le, if◌then◌else◌, List, [], ◌∷◌, codes, Option, None, is_some}
 use Rattle.std.specs.Str.{bytes_eq}
-use Rattle.gem_tables.specs.declared.firing.Firing.{Firing}
 use Rattle.gem_states.specs.declared.control.Control.{Control}
 use Rattle.gem_states.specs.declared.control.Control.TheVariants as control
 use Rattle.secs_items.specs.Data.{Data}
 use Rattle.body_parts.specs.Bodies.{Form, meeting, of_count, all_of, small_id, ◌>>=◌}
-use Rattle.msgs_300.specs.Primaries.{Message, S3F17, S3F25, S3F27}
-use Rattle.msgs_300.specs.declared.reply.ShopReply.{ShopReply}
-use Rattle.msgs_300.specs.declared.reply.ShopReply.TheVariants as reply
 use Rattle.load_port.specs.declared.action.PortAction.{PortAction}
 use Rattle.load_port.specs.declared.caack.Caack.{Caack}
 use Rattle.load_port.specs.declared.caack.Caack.TheVariants.{Unknown, NotNow}

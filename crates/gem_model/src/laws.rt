@@ -25,6 +25,9 @@ ghost use Rattle.note_line.specs.Fates.{LineValid, KeepsFates, is_ended, tells};
 ghost use Rattle.load_port.specs.Ports.{most_ports};
 ghost use Rattle.carrier.specs.Carriers.{most_carriers};
 ghost use Rattle.shop_floor.specs.Valid.{IsFloor};
+ghost use Rattle.floor_moves.specs.OnePlace.{OnePlace};
+ghost use Rattle.place_laws.specs.Picture.{picture};
+ghost use Rattle.place_laws.specs.Standing.{AreRegistered};
 
 /// A primary of the tool always finds room among the open transactions: where a history leads, at most two are open, of the
 /// sixteen that can be; and there is room in each state that the tool passes while it settles behind an event.
@@ -100,6 +103,18 @@ pub fn the_floor_stays_valid_in_a_history()
     ensures settling { (c : Config) (entries : List Entry) (h : State) (at : ℕ) (e : Event) (o : Outcome)
         → c.ports ≤ most_ports → Run (opening c) entries h → acts h.moment (raised h at) e ≡ Some o
         → Along (λ (g : State). IsFloor g.floor.shop) o.after (settling o.after) }
+{}
+
+/// Each substrate has one place where a history leads, and in each state that the tool passes while it settles behind an event. No
+/// registration is refused: where the slot map of a carrier is VERIFIED, the substrate of each slot that is correctly occupied is
+/// registered.
+pub fn each_substrate_has_one_place_in_a_history()
+    ensures places { (c : Config) (entries : List Entry) (h : State) → c.ports ≤ most_ports → Run (opening c) entries h → OnePlace (picture h.floor) }
+    ensures settling { (c : Config) (entries : List Entry) (h : State) (at : ℕ) (e : Event) (o : Outcome)
+        → c.ports ≤ most_ports → Run (opening c) entries h → acts h.moment (raised h at) e ≡ Some o
+        → Along (λ (g : State). OnePlace (picture g.floor)) o.after (settling o.after) }
+    ensures registered { (c : Config) (entries : List Entry) (h : State) → c.ports ≤ most_ports → Run (opening c) entries h
+        → AllByRecursion (AreRegistered h.floor.substrates) h.floor.shop.carriers }
 {}
 
 /// Where a history leads, an INACTIVE spool is empty. So the kinds of note that are spooled change wherever the host sets

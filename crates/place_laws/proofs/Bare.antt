@@ -1,33 +1,29 @@
 -- What holds at every moment, without what is said of ports: so it holds also between two direct rows of one input.
-use Rattle.std.proofs.Common.{◌≡◌, ◌≤◌, ℕ, zero, suc, ◌+◌, ◌==◌, Bool, true, false, not, ◌&&◌, ◌||◌, if◌then◌else◌, List, [], ◌∷◌, ◌++◌, length, map, replicate, min, Option, Some, None, slice_get, refl, sym, ◌∙◌, ap, subst, arith}
+use Rattle.std.proofs.Common.{◌≡◌, ◌≤◌, ℕ, zero, suc, ◌+◌, ◌==◌, Bool, true, false, not, ◌||◌, if◌then◌else◌, List, [], ◌∷◌, ◌++◌, length, map, replicate, min, Option, Some, None, slice_get, refl, sym, ◌∙◌, ap, subst, arith}
 use Rattle.std.specs.List.{AllByRecursion, list_any}
 use Rattle.std.proofs.lemmas.Bool.{true≢false, and_parts}
-use Rattle.gem_tables.specs.Table.{Row, firing, is_creation, is_among, row_of, found_starts, may_fire, update_at}
+use Rattle.gem_tables.specs.Table.{Row, is_creation, is_among, row_of, found_starts, may_fire, update_at}
 use Rattle.gem_tables.proofs.Rows.{found_row, looked_for}
 use Rattle.gem_ids.specs.declared.numbers.LocId.{LocId}
 use Rattle.gem_ids.specs.declared.numbers.LocId.TheVariants.{Slot}
-use Rattle.load_port.specs.declared.port.Port.{Port}
 use Rattle.load_port.specs.Ports.{first_ports, most_ports}
 use Rattle.tool_events.specs.declared.answer.Task.{Task as ToolTask}
 use Rattle.robot_moves.specs.declared.module.Module.{Module as ToolModule}
 use Rattle.robot_moves.specs.declared.module.Module.TheVariants.{Idle, Busy, Down}
 use Rattle.robot_moves.specs.declared.module.ModuleState.{ModuleState}
 use Rattle.robot_moves.specs.declared.module.ModuleState.TheVariants as state
-use Rattle.robot_moves.specs.declared.view.PlaceView.{PlaceView}
 use Rattle.robot_moves.specs.declared.view.Move.{Move}
-use Rattle.robot_moves.specs.Best.{Rests, AllRest}
-use Rattle.robot_moves.specs.Tables.{MoveRow, move_table, state_number}
-use Rattle.robot_moves.specs.Modules.{module_at, change_module, first_modules, state_of}
+use Rattle.robot_moves.specs.Best.{AllRest}
+use Rattle.robot_moves.specs.Tables.{MoveRow, move_table}
+use Rattle.robot_moves.specs.Modules.{module_at, change_module}
 use Rattle.robot_moves.proofs.Giving.{nothing_moves}
-use Rattle.shop_floor.specs.Floor as shop
 use Rattle.shop_floor.specs.Floor.{Floor}
 use Rattle.shop_floor.specs.Valid.{IsFloor}
 use Rattle.shop_floor.proofs.Apart.{all_follows}
 use Rattle.shop_floor.proofs.Keeps.{opening-valid}
 use Rattle.carrier.specs.declared.carrier.Carrier.{Carrier}
 use Rattle.substrate.specs.Locations.{is_work_place}
-use Rattle.substrate.specs.Tables as want
-use Rattle.substrate.specs.Tables.{SubstrateRow, processing_number, processing_table}
+use Rattle.substrate.specs.Tables.{processing_number, processing_table}
 use Rattle.substrate.specs.Record.{is_in_process}
 use Rattle.substrate.specs.declared.record.Processing.{Processing}
 use Rattle.substrate.specs.declared.record.Processing.TheVariants as processing
@@ -36,12 +32,12 @@ use Rattle.substrate.specs.declared.registered.Registered.{Registered}
 use Rattle.tool_floor.specs.declared.tracking.Substrate.{Substrate}
 use Rattle.tool_floor.specs.Floor.{ToolFloor, opening, with_shop, with_module, substrate_numbered, change_numbered}
 use Rattle.tool_floor.specs.Kept.{RiseTo}
-use Rattle.tool_floor.specs.Modules.{module_behind, in_state, issued, open_task, transferred, aligned_by, found_move}
-use Rattle.tool_floor.specs.Machines.{floor_fired, substrate_moves, with_moved, substrate_starts, moved_by}
+use Rattle.tool_floor.specs.Modules.{module_behind, in_state, open_task, transferred, aligned_by, found_move}
+use Rattle.tool_floor.specs.Machines.{substrate_moves, with_moved, substrate_starts, moved_by}
 use Rattle.tool_floor.specs.Substrates.{processes, substrate_wants}
-use Rattle.tool_floor.specs.Views.{view_of, view_in, views_of, views, planned}
+use Rattle.tool_floor.specs.Views.{view_in, views_of, views, planned}
 use Rattle.place_laws.specs.Ports.{AtPorts}
-use Rattle.place_laws.specs.Standing.{IsOf, IsCarried, IsElsewhere, AreApart, is_that_of, AreRegistered, in_its_slot, IsFree, Standing}
+use Rattle.place_laws.specs.Standing.{IsCarried, AreApart, AreRegistered, in_its_slot, IsFree, Standing}
 use Rattle.place_laws.proofs.Leaving.{Leaves}
 use Rattle.place_laws.proofs.PortTransfers.{opening-at-ports}
 use Rattle.place_laws.proofs.Stays.{stay-carried}

@@ -1,35 +1,32 @@
 -- Each row of the floor of the tool keeps what holds without ports.
-use Rattle.std.proofs.Common.{◌≡◌, ℕ, suc, ◌==◌, Bool, true, false, not, ◌&&◌, ◌||◌, if◌then◌else◌, List, [], ◌∷◌, filter, length, Option, Some, None, option_map, refl, sym, ◌∙◌, ap, subst}
-use Rattle.std.specs.List.{AllByRecursion, list_any}
-use Rattle.std.proofs.lemmas.Bool.{true≢false, or_parts, not-true}
+use Rattle.std.proofs.Common.{◌≡◌, ℕ, ◌==◌, Bool, true, false, not, ◌&&◌, ◌||◌, if◌then◌else◌, List, [], ◌∷◌, filter, length, Option, Some, None, option_map, refl, sym, ◌∙◌, ap, subst}
+use Rattle.std.proofs.lemmas.Bool.{not-true}
 use Rattle.std.proofs.lemmas.Bool.Decides.{Decides-eqb}
 use Rattle.gem_tables.specs.Table.{firing, is_one_of}
 use Rattle.gem_tables.specs.declared.firing.Firing.{Firing}
 use Rattle.gem_tables.proofs.Machines.{starts_cases}
-use Rattle.load_port.specs.declared.port.Port.{Port}
 use Rattle.load_port.specs.Ports as ports
 use Rattle.load_port.specs.Ports.{port_numbered, change_port}
 use Rattle.carrier.specs.declared.carrier.Carrier.{Carrier}
-use Rattle.carrier.specs.Carriers.{has_name, carrier_named, carrier_numbered, without}
-use Rattle.shop_floor.specs.Floor.{Floor, with_port, is_present, number_of}
+use Rattle.carrier.specs.Carriers.{has_name, carrier_named, carrier_numbered}
+use Rattle.shop_floor.specs.Floor.{Floor, number_of}
 use Rattle.shop_floor.specs.Owning.{number_named, owner_number}
-use Rattle.shop_floor.specs.Rows.{freed, owner, forgets, forgetting}
+use Rattle.shop_floor.specs.Rows.{freed, owner, forgets}
 use Rattle.shop_floor.specs.Machines as shop
 use Rattle.shop_floor.specs.Valid.{IsFloor}
 use Rattle.shop_floor.proofs.Apart.{all_follows, all_filtered, none_passes, unknown_all}
 use Rattle.shop_floor.proofs.Belonging.{ports_length}
 use Rattle.shop_floor.proofs.Keeps.{row-keeps as shop_keeps, accessing-keeps}
 use Rattle.substrate.specs.Record.{is_in_process}
-use Rattle.substrate.specs.declared.registered.Registered.{Registered}
 use Rattle.tool_floor.specs.declared.tracking.Substrate.{Substrate}
 use Rattle.tool_floor.specs.Floor.{ToolFloor, with_shop}
 use Rattle.tool_floor.specs.Kept.{RiseTo}
-use Rattle.tool_floor.specs.Machines.{floor_machines, floor_starts, floor_fired, taken_along, registered_by}
-use Rattle.tool_floor.specs.Substrates.{reaches_verified, without_carrier, removed_of, registers_found}
+use Rattle.tool_floor.specs.Machines.{floor_machines, floor_starts, floor_fired, taken_along}
+use Rattle.tool_floor.specs.Substrates.{reaches_verified, without_carrier, registers_found}
 use Rattle.tool_floor.proofs.Keeping.{creation_same}
 use Rattle.place_laws.specs.Ports.{AtPorts}
-use Rattle.place_laws.proofs.Stays.{Stay, stay_same, NonePresent, none_present}
-use Rattle.place_laws.proofs.Leaving.{Leaves, leaves_then, port_leaves, forgotten_leaves}
+use Rattle.place_laws.proofs.Stays.{stay_same, NonePresent}
+use Rattle.place_laws.proofs.Leaving.{Leaves, forgotten_leaves}
 use Rattle.place_laws.proofs.ShopRows.{is_gentle, transfer_leaves, mode_leaves, reservation_leaves, association_leaves, id_leaves, map_leaves, accessing_leaves}
 use Rattle.place_laws.proofs.Removing.{apart_fewer, rise_fewer, removed_ports, removed_given, is_other, carried_fewer, places_fewer, registered_fewer}
 use Rattle.place_laws.proofs.Bare.{Bare, shop-bare, location-bare, transport-bare, processing_one, module-bare}

@@ -1,5 +1,5 @@
 -- What is done by a Pick or a Place moves in the floor by numbers, and its module is Idle.
-use Rattle.std.proofs.Common.{◌≡◌, ℕ, List, Option, Some, refl, sym, ◌∙◌, ap, arith}
+use Rattle.std.proofs.Common.{◌≡◌, ℕ, List, Some, refl, sym, ◌∙◌, ap, arith}
 use Rattle.gem_ids.specs.declared.numbers.LocId.{LocId}
 use Rattle.robot_moves.specs.declared.module.Module.{Module}
 use Rattle.robot_moves.specs.declared.module.Module.TheVariants.{Idle}
@@ -8,7 +8,7 @@ use Rattle.substrate.specs.Tables.{processing_number}
 use Rattle.substrate.specs.Places.{ArePlaces, substrate_named, moved}
 use Rattle.substrate.specs.declared.registered.Registered.{Registered}
 use Rattle.tool_floor.specs.declared.tracking.Substrate.{Substrate}
-use Rattle.tool_floor.specs.Floor.{ToolFloor, with_module, substrate_numbered}
+use Rattle.tool_floor.specs.Floor.{ToolFloor, with_module}
 use Rattle.floor_moves.specs.Floor.{idle}
 use Rattle.floor_moves.specs.Effects.{moved as moved_by_numbers}
 use Rattle.floor_moves.specs.Agree.{Agree}

@@ -1,5 +1,5 @@
 -- Where no command is open at any module, none ends, none is handed out, and a module that goes down has none to close.
-use Rattle.std.proofs.Common.{◌≡◌, ℕ, zero, suc, Bool, true, false, List, [], ◌∷◌, Option, Some, None, slice_get, refl, ap}
+use Rattle.std.proofs.Common.{◌≡◌, ℕ, zero, suc, false, List, [], ◌∷◌, Option, Some, None, slice_get, refl}
 use Rattle.std.specs.List.{AllByRecursion}
 use Rattle.gem_tables.specs.Table.{update_at}
 use Rattle.robot_moves.specs.declared.module.Module.{Module}

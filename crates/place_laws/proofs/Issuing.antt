@@ -1,18 +1,16 @@
 -- A command that is issued does to the floor by numbers what the laws have.
-use Rattle.std.proofs.Common.{◌≡◌, ℕ, zero, suc, ◌+◌, ◌==◌, Bool, true, false, if◌then◌else◌, List, [], ◌∷◌, Option, Some, None, option_map, slice_get, refl, sym, ◌∙◌, ap, subst, arith}
+use Rattle.std.proofs.Common.{◌≡◌, ℕ, zero, suc, ◌+◌, ◌==◌, Bool, true, false, if◌then◌else◌, List, [], ◌∷◌, Option, Some, option_map, slice_get, refl, sym, ◌∙◌, ap, subst, arith}
 use Rattle.std.proofs.lemmas.Bool.Decides.{Decides-eqb}
-use Rattle.gem_tables.specs.Table.{update_at, is_one_of}
-use Rattle.tool_events.specs.declared.answer.Task.{Task}
+use Rattle.gem_tables.specs.Table.{update_at}
 use Rattle.robot_moves.specs.declared.module.Module.{Module}
-use Rattle.robot_moves.specs.declared.module.Module.TheVariants.{Idle, Busy}
+use Rattle.robot_moves.specs.declared.module.Module.TheVariants.{Idle}
 use Rattle.robot_moves.specs.declared.view.Move.{Move}
 use Rattle.robot_moves.specs.Modules.{module_at, change_module, given}
-use Rattle.substrate.specs.Places.{PlaceMap}
 use Rattle.substrate.specs.Tables.{processing_number}
 use Rattle.tool_floor.specs.declared.tracking.Substrate.{Substrate}
-use Rattle.tool_floor.specs.Floor.{ToolFloor, substrate_numbered}
+use Rattle.tool_floor.specs.Floor.{ToolFloor}
 use Rattle.tool_floor.specs.Modules.{command, issued as given_to}
-use Rattle.floor_moves.specs.Floor.{Module as ByNumber, busy}
+use Rattle.floor_moves.specs.Floor.{busy}
 use Rattle.floor_moves.specs.Effects.{issued}
 use Rattle.floor_moves.specs.Agree.{Agree}
 use Rattle.place_laws.specs.Picture.{picture, module_of, task_of, of_one}

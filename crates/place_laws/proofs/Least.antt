@@ -1,10 +1,8 @@
 -- The rows that are ready by themselves are none of those that inputs fire together with another; and where none is ready, none of the
 -- load ports and the carriers is.
-use Rattle.std.proofs.Common.{◌≡◌, ℕ, Bool, true, false, List, [], ◌∷◌, Option, Some, None, refl, sym, ◌∙◌, ap}
-use Rattle.std.specs.List.{AllByRecursion}
+use Rattle.std.proofs.Common.{◌≡◌, ℕ, true, false, Option, Some, None, refl, sym, ◌∙◌}
 use Rattle.std.specs.Option.{option_or}
-use Rattle.gem_tables.specs.Machine.{Machine}
-use Rattle.gem_tables.specs.Table.{Row, firing, is_itself, is_among, first_itself}
+use Rattle.gem_tables.specs.Table.{firing}
 use Rattle.gem_tables.specs.declared.firing.Firing.{Firing}
 use Rattle.gem_tables.proofs.Rows.{ready_row}
 use Rattle.gem_tables.proofs.Machines.{least_cases}

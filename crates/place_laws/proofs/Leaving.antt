@@ -1,20 +1,12 @@
 -- What the rows of the load ports and the carriers leave of the substrates: the carriers of substrates stay, and so does what is
 -- registered of each.
-use Rattle.std.proofs.Common.{◌≡◌, ℕ, zero, suc, ◌==◌, Bool, true, false, not, ◌&&◌, ◌||◌, if◌then◌else◌, List, [], ◌∷◌, find, length, Option, Some, None, is_some, slice_get, refl, sym, ◌∙◌, ap, subst, arith}
-use Rattle.std.specs.List.{AllByRecursion, list_any}
-use Rattle.std.proofs.lemmas.Bool.{and_parts, or_parts}
+use Rattle.std.proofs.Common.{◌≡◌, ℕ, suc, ◌==◌, Bool, true, false, not, ◌&&◌, if◌then◌else◌, List, length, Option, Some, None, is_some, slice_get, refl, sym, ◌∙◌, ap, subst}
+use Rattle.std.specs.List.{AllByRecursion}
+use Rattle.std.proofs.lemmas.Bool.{or_parts}
 use Rattle.std.proofs.lemmas.Bool.Decides.{Decides-eqb}
-use Rattle.gem_tables.specs.Table.{firing, row_of, after}
-use Rattle.gem_tables.specs.declared.firing.Firing.{Firing}
-use Rattle.gem_tables.proofs.Rows.{looked_for}
-use Rattle.gem_tables.proofs.Machines.{starts_cases}
+use Rattle.gem_tables.specs.Table.{after}
 use Rattle.load_port.specs.declared.port.Port.{Port}
 use Rattle.load_port.specs.declared.port.Arrival.{Arrival}
-use Rattle.load_port.specs.declared.record.Transfer.{Transfer}
-use Rattle.load_port.specs.declared.record.Access.{Access}
-use Rattle.load_port.specs.declared.record.Reservation.{Reservation}
-use Rattle.load_port.specs.declared.record.Association.{Association}
-use Rattle.load_port.specs.Tables.{PortRow, transfer_table, access_table, reservation_table, association_number, association_table}
 use Rattle.load_port.specs.Ports as ports
 use Rattle.load_port.specs.Ports.{port_numbered, change_port}
 use Rattle.carrier.specs.declared.carrier.Carrier.{Carrier}
@@ -26,19 +18,17 @@ use Rattle.carrier.specs.Record.{is_id_not_read, is_map_not_read, is_map_verifie
 use Rattle.carrier.specs.Carriers as carriers
 use Rattle.carrier.specs.Carriers.{has_name, change_named, without, created, found_or_created, came_to, binds}
 use Rattle.shop_floor.specs.Floor.{Floor, with_port, with_carrier}
-use Rattle.shop_floor.specs.Rows.{freed, is_directed, bound_to, binding, owner, forgets, arrival_at, arrived, arriving, without_owner, is_own, found_does}
-use Rattle.shop_floor.specs.Machines.{floor_machines, floor_starts, floor_fired}
+use Rattle.shop_floor.specs.Rows.{bound_to, owner, forgets, arrival_at, arrived, arriving, without_owner}
 use Rattle.shop_floor.specs.Valid.{ReadWherePresent, IsFloor}
 use Rattle.shop_floor.proofs.Apart.{all_both, all_follows, all_filtered, all_changed, all_found}
 use Rattle.shop_floor.proofs.Belonging.{ports_length}
-use Rattle.shop_floor.proofs.Cases.{starts_at_port}
-use Rattle.shop_floor.proofs.Keeps.{with_arrival, with_some, all_true, own_some}
+use Rattle.shop_floor.proofs.Keeps.{with_arrival, all_true}
 use Rattle.shop_floor.proofs.Numbers.{all_numbered}
 use Rattle.tool_floor.specs.declared.tracking.Substrate.{Substrate}
 use Rattle.tool_floor.specs.Substrates.{reaches_verified}
 use Rattle.place_laws.specs.Ports.{AtPorts}
 use Rattle.place_laws.specs.Standing.{AreRegistered}
-use Rattle.place_laws.proofs.Stays.{GoesOn, Stay, same_goes, stay_same, stay_then, stay_numbered, stay_named, stay_without, stay_found, NonePresent, none_present, LeavesSlots, leaves-registered, not-verified}
+use Rattle.place_laws.proofs.Stays.{GoesOn, Stay, stay_same, stay_then, stay_numbered, stay_named, stay_without, stay_found, NonePresent, none_present, LeavesSlots, leaves-registered, not-verified}
 
 -- what a change of the load ports and the carriers leaves of the substrates
 pub record Leaves (ss : List Substrate) (f g : Floor) : Type 0 where

@@ -1,19 +1,16 @@
 -- A substrate that moves does to the floor by numbers what the laws have.
-use Rattle.std.proofs.Common.{◌≡◌, ◌<◌, ◌≤◌, ℕ, ◌==◌, Bool, true, false, if◌then◌else◌, List, [], ◌∷◌, find, map, Option, Some, None, option_map, refl, sym, ◌∙◌, ap, subst, arith}
+use Rattle.std.proofs.Common.{◌≡◌, ◌<◌, ℕ, ◌==◌, Bool, true, false, if◌then◌else◌, List, [], ◌∷◌, find, Option, Some, None, option_map, refl, sym, ◌∙◌, ap, subst, arith}
 use Rattle.std.proofs.lemmas.Bool.Decides.{Decides-eqb}
 use Rattle.gem_ids.specs.declared.numbers.LocId.{LocId}
 use Rattle.tool_events.specs.declared.answer.Task.{Task as ToolTask}
 use Rattle.tool_events.specs.declared.answer.Task.TheVariants as task
 use Rattle.robot_moves.specs.declared.module.Module.{Module}
 use Rattle.robot_moves.specs.declared.module.Module.TheVariants.{Idle, Busy, Down}
-use Rattle.robot_moves.specs.Modules.{module_at, change_module}
-use Rattle.substrate.specs.Tables.{processing_number}
-use Rattle.substrate.specs.Places.{PlaceMap, ArePlaces, AreNumbered, are_named_apart, has_name, substrate_named, moved, moves_to, change_named}
+use Rattle.substrate.specs.Places.{PlaceMap, AreNumbered, are_named_apart, has_name, substrate_named, moved, moves_to}
 use Rattle.substrate.specs.declared.registered.Registered.{Registered}
 use Rattle.substrate.proofs.Apart.{rest_apart, tail_stays}
-use Rattle.tool_floor.specs.Modules.{number_named}
 use Rattle.floor_moves.specs.Floor.{Loc, Task, busy, pick, place, align, process}
-use Rattle.place_laws.specs.Picture.{loc_of, place_in, numbered, number_or_none, task_of, module_of}
+use Rattle.place_laws.specs.Picture.{loc_of, numbered, number_or_none, task_of, module_of}
 
 -- a place of a list
 abbrev pub among : List Registered → ℕ → Option Loc

@@ -1,8 +1,6 @@
 -- What holds at every moment holds of the floor of the tool as it begins.
-use Rattle.std.proofs.Common.{◌≡◌, ℕ, zero, suc, ◌+◌, Bool, true, false, List, [], ◌∷◌, replicate, min, Option, Some, None, slice_get, refl, sym, ◌∙◌, ap}
-use Rattle.gem_tables.specs.Table.{is_one_of}
-use Rattle.robot_moves.specs.declared.module.Module.{Module as ToolModule}
-use Rattle.robot_moves.specs.declared.module.Module.TheVariants.{Idle, Busy, Down}
+use Rattle.std.proofs.Common.{◌≡◌, ℕ, zero, suc, ◌+◌, replicate, min, slice_get, refl}
+use Rattle.robot_moves.specs.declared.module.Module.TheVariants.{Idle}
 use Rattle.robot_moves.specs.Modules.{module_at, first_modules}
 use Rattle.substrate.specs.Places.{no_places}
 use Rattle.tool_floor.specs.Floor.{opening}

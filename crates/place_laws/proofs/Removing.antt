@@ -1,8 +1,8 @@
 -- A carrier that is taken away takes its substrates with it, and no other.
-use Rattle.std.proofs.Common.{◌≡◌, ◌≤◌, ℕ, zero, suc, ◌+◌, ◌==◌, Bool, true, false, not, ◌&&◌, ◌||◌, if◌then◌else◌, List, [], ◌∷◌, filter, find, map, Option, Some, None, slice_get, refl, sym, ◌∙◌, ap, subst, arith}
+use Rattle.std.proofs.Common.{◌≡◌, ◌≤◌, ℕ, suc, ◌==◌, Bool, true, false, not, ◌&&◌, ◌||◌, if◌then◌else◌, List, [], ◌∷◌, filter, map, Some, slice_get, refl, sym, ◌∙◌, ap, arith}
 use Rattle.std.specs.List.{AllByRecursion, list_any}
 use Rattle.std.specs.Str.{bytes_eq}
-use Rattle.std.proofs.lemmas.Bool.{and_parts, or_parts, or_from, not-true}
+use Rattle.std.proofs.lemmas.Bool.{and_parts, or_from, not-true}
 use Rattle.std.proofs.lemmas.Bool.Decides.{Decides-eqb}
 use Rattle.std.proofs.lemmas.Slice.Eq.{bytes_eq-Decides}
 use Rattle.carrier.specs.declared.carrier.Carrier.{Carrier}
@@ -16,7 +16,7 @@ use Rattle.substrate.specs.declared.registered.Registered.{Registered}
 use Rattle.tool_floor.specs.declared.tracking.Substrate.{Substrate}
 use Rattle.tool_floor.specs.Kept.{RiseTo}
 use Rattle.tool_floor.specs.Substrates.{is_of, emptied, removed_of}
-use Rattle.place_laws.specs.Standing.{IsOf, IsCarried, AreApart, is_that_of, AreRegistered, in_its_slot}
+use Rattle.place_laws.specs.Standing.{IsCarried, AreApart, AreRegistered, in_its_slot}
 use Rattle.place_laws.proofs.Holding.{found_number, true_of_found}
 use Rattle.place_laws.proofs.SlotNames.{slot_of_name}
 use Rattle.place_laws.proofs.Stays.{found_without, at_found}

@@ -1,12 +1,8 @@
 -- Each row of the load ports and the carriers, but for those that forget a carrier or verify a slot map, leaves the substrates.
-use Rattle.std.proofs.Common.{◌≡◌, ℕ, suc, ◌==◌, Bool, true, false, not, ◌&&◌, ◌||◌, if◌then◌else◌, List, [], ◌∷◌, find, length, Option, Some, None, is_some, slice_get, refl, sym, ◌∙◌, ap, subst}
-use Rattle.std.specs.List.{AllByRecursion}
+use Rattle.std.proofs.Common.{◌≡◌, ℕ, suc, Bool, true, false, not, List, [], ◌∷◌, find, Option}
 use Rattle.std.proofs.lemmas.Bool.{and_parts}
 use Rattle.gem_tables.specs.Table.{firing, is_one_of}
-use Rattle.gem_tables.specs.declared.firing.Firing.{Firing}
 use Rattle.gem_tables.proofs.Rows.{looked_for}
-use Rattle.gem_tables.proofs.Machines.{starts_cases}
-use Rattle.load_port.specs.declared.port.Port.{Port}
 use Rattle.load_port.specs.declared.record.Transfer.{Transfer}
 use Rattle.load_port.specs.declared.record.Access.{Access}
 use Rattle.load_port.specs.declared.record.Reservation.{Reservation}
@@ -16,14 +12,14 @@ use Rattle.load_port.specs.Ports as ports
 use Rattle.carrier.specs.Carriers as carriers
 use Rattle.shop_floor.specs.Floor.{Floor, with_port}
 use Rattle.shop_floor.specs.Rows.{freed, is_directed, binding, found_does}
-use Rattle.shop_floor.specs.Machines.{floor_machines, floor_starts, floor_fired}
+use Rattle.shop_floor.specs.Machines.{floor_starts, floor_fired}
 use Rattle.shop_floor.specs.Valid.{IsFloor}
 use Rattle.shop_floor.proofs.Cases.{starts_at_port}
 use Rattle.shop_floor.proofs.Keeps.{own_some}
 use Rattle.tool_floor.specs.declared.tracking.Substrate.{Substrate}
 use Rattle.tool_floor.specs.Substrates.{reaches_verified}
 use Rattle.place_laws.specs.Ports.{AtPorts}
-use Rattle.place_laws.proofs.Leaving.{Leaves, leaves_then, port_leaves, carrier_leaves, id_goes, access_goes, map_goes, bound_leaves, arrives_leaves, replaces_leaves, then_fires}
+use Rattle.place_laws.proofs.Leaving.{Leaves, port_leaves, carrier_leaves, id_goes, access_goes, map_goes, bound_leaves, arrives_leaves, replaces_leaves, then_fires}
 
 -- a row of table 7 forgets no carrier that may be present
 abbrev pub is_gentle : ℕ → Bool

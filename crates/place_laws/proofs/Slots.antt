@@ -12,13 +12,13 @@ use Rattle.gem_ids.specs.declared.numbers.SlotNo.{SlotNo}
 use Rattle.gem_ids.specs.Names.{name_in_slot}
 use Rattle.carrier.specs.declared.carrier.Carrier.{Carrier}
 use Rattle.carrier.specs.Record.{is_map_verified}
-use Rattle.carrier.specs.Carriers.{carrier_numbered, is_port, is_present_at}
+use Rattle.carrier.specs.Carriers.{carrier_numbered, is_present_at}
 use Rattle.shop_floor.specs.Floor.{Floor}
 use Rattle.shop_floor.specs.Valid.{IsFloor}
 use Rattle.shop_floor.proofs.Apart.{all_both, all_follows, all_pushed, found_only, has_its_name, IsOnly}
 use Rattle.shop_floor.proofs.Present.{one_number, has_number, numbered_contained}
 use Rattle.substrate.specs.Locations.{is_location, is_same}
-use Rattle.substrate.specs.Places.{PlaceMap, is_taken, is_known, registered, register_fault, fault_of, most_substrates}
+use Rattle.substrate.specs.Places.{is_taken, is_known, registered, register_fault, fault_of, most_substrates}
 use Rattle.substrate.specs.Record.{is_in_process}
 use Rattle.substrate.specs.declared.registered.Registered.{Registered}
 use Rattle.substrate.proofs.Sites.{same_is, own_place}
@@ -27,7 +27,7 @@ use Rattle.tool_floor.specs.declared.tracking.Substrate.{Substrate}
 use Rattle.tool_floor.specs.Floor.{ToolFloor, with_shop}
 use Rattle.tool_floor.specs.Kept.{RiseTo}
 use Rattle.tool_floor.specs.Substrates.{can_register, first_substrate, registers_at, registers_slot, registers_slots}
-use Rattle.place_laws.specs.Standing.{IsOf, IsCarried, IsElsewhere, AreApart, is_that_of, in_its_slot, IsFree}
+use Rattle.place_laws.specs.Standing.{IsCarried, AreApart, is_that_of, in_its_slot, IsFree}
 use Rattle.place_laws.proofs.Holding.{found_number, true_of_found}
 use Rattle.place_laws.proofs.Few.{few-substrates}
 use Rattle.place_laws.proofs.SlotNames.{slot_of_name}

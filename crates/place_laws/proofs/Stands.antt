@@ -1,10 +1,7 @@
 -- What holds of the floor of the tool at every moment is kept by each row, and by the rows that an input fires together.
-use Rattle.std.proofs.Common.{◌≡◌, ℕ, zero, suc, ◌==◌, Bool, true, false, not, ◌&&◌, ◌||◌, if◌then◌else◌, List, [], ◌∷◌, ◌++◌, find, map, Option, Some, None, option_map, is_some, slice_get, refl, sym, ◌∙◌, ap, subst}
-use Rattle.std.specs.List.{AllByRecursion, list_any}
-use Rattle.std.specs.Str.{bytes_eq}
+use Rattle.std.proofs.Common.{◌≡◌, ℕ, zero, suc, ◌==◌, Bool, true, false, not, ◌&&◌, List, Option, Some, None, slice_get, refl, sym, ◌∙◌, ap, subst}
 use Rattle.std.proofs.lemmas.Bool.{true≢false, and_parts}
-use Rattle.std.proofs.lemmas.Slice.Eq.{bytes_eq-Decides}
-use Rattle.gem_tables.specs.Table.{firing, is_one_of, is_itself}
+use Rattle.gem_tables.specs.Table.{firing}
 use Rattle.gem_tables.specs.declared.firing.Firing.{Firing}
 use Rattle.gem_tables.proofs.Machines.{starts_cases}
 use Rattle.load_port.specs.declared.port.Port.{Port}
@@ -12,7 +9,6 @@ use Rattle.load_port.specs.declared.port.Arrival.{Arrival}
 use Rattle.load_port.specs.Caack.{is_done_code}
 use Rattle.load_port.specs.Tables.{transfer_number, transfer_table}
 use Rattle.load_port.specs.Ports.{port_numbered}
-use Rattle.carrier.specs.declared.carrier.Carrier.{Carrier}
 use Rattle.carrier.specs.declared.action.CarrierAction.{CarrierAction}
 use Rattle.carrier.specs.Carriers as carriers
 use Rattle.shop_floor.specs.Floor.{Floor, arrival_of}
@@ -20,18 +16,16 @@ use Rattle.shop_floor.specs.Rows.{owner}
 use Rattle.shop_floor.specs.Requests.{came, carrier_code, carrier_written}
 use Rattle.shop_floor.specs.Machines as shop
 use Rattle.shop_floor.specs.Machines.{port_starts}
-use Rattle.shop_floor.specs.Valid.{IsFloor}
 use Rattle.shop_floor.proofs.Asked.{written-keeps}
 use Rattle.shop_floor.proofs.Belonging.{get_updated}
 use Rattle.shop_floor.proofs.Keeps.{row-keeps as shop_keeps, came-keeps}
-use Rattle.tool_floor.specs.declared.tracking.Substrate.{Substrate}
-use Rattle.tool_floor.specs.Floor.{ToolFloor, with_shop, with_module}
-use Rattle.tool_floor.specs.Machines.{floor_machines, floor_starts, floor_fired, moved_by}
+use Rattle.tool_floor.specs.Floor.{ToolFloor, with_shop}
+use Rattle.tool_floor.specs.Machines.{floor_machines, floor_starts, floor_fired}
 use Rattle.tool_floor.proofs.Keeping.{creation_same}
 use Rattle.place_laws.specs.Ports.{AtPorts}
 use Rattle.place_laws.specs.Standing.{Standing}
 use Rattle.place_laws.proofs.Stays.{NonePresent}
-use Rattle.place_laws.proofs.Leaving.{Leaves, leaves_then, port_leaves}
+use Rattle.place_laws.proofs.Leaving.{leaves_then, port_leaves}
 use Rattle.place_laws.proofs.ShopRows.{transfer_leaves}
 use Rattle.place_laws.proofs.Bare.{Bare, bare, whole, shop-bare, processing_one, moves_alone}
 use Rattle.place_laws.proofs.BareRows.{is_kept_alone, row-bare, removal-bare, unbinding-bare}

@@ -1,18 +1,16 @@
 -- No substrate can be lost, where each is in its own slot.
-use Rattle.std.proofs.Common.{◌≡◌, ℕ, ◌==◌, Bool, true, false, not, ◌&&◌, ◌||◌, if◌then◌else◌, List, [], ◌∷◌, find, map, Option, Some, None, option_map, refl, sym, ◌∙◌, ap, subst}
+use Rattle.std.proofs.Common.{◌≡◌, ℕ, ◌==◌, Bool, true, false, not, ◌&&◌, ◌||◌, if◌then◌else◌, List, [], ◌∷◌, map, Option, Some, None, refl, sym, ◌∙◌, ap}
 use Rattle.std.specs.List.{AllByRecursion, list_any}
 use Rattle.std.specs.Str.{bytes_eq}
 use Rattle.std.proofs.lemmas.Slice.Eq.{bytes_eq-Decides}
 use Rattle.gem_tables.specs.Table.{firing}
-use Rattle.gem_tables.specs.declared.firing.Firing.{Firing}
 use Rattle.gem_ids.specs.declared.numbers.LocId.{LocId}
 use Rattle.gem_ids.specs.declared.numbers.LocId.TheVariants.{Slot}
 use Rattle.gem_ids.specs.declared.numbers.PortNo.{PortNo}
 use Rattle.gem_ids.specs.declared.numbers.SlotNo.{SlotNo}
 use Rattle.carrier.specs.declared.carrier.Carrier.{Carrier}
-use Rattle.shop_floor.specs.Valid.{IsFloor}
 use Rattle.shop_floor.proofs.Apart.{IsOnly, found_only, has_its_name}
-use Rattle.substrate.specs.Places.{PlaceMap, has_name, substrate_named, is_there}
+use Rattle.substrate.specs.Places.{substrate_named, is_there}
 use Rattle.substrate.specs.declared.registered.Registered.{Registered}
 use Rattle.substrate.proofs.Sites.{own_place}
 use Rattle.tool_floor.specs.declared.tracking.Substrate.{Substrate}
@@ -20,7 +18,7 @@ use Rattle.tool_floor.specs.Floor.{ToolFloor, substrate_numbered, number_of}
 use Rattle.tool_floor.specs.Modules.{number_named}
 use Rattle.tool_floor.specs.Substrates.{is_in_slot}
 use Rattle.tool_floor.specs.Signals.{can_be_lost, module_names, lost_at, lost_rows}
-use Rattle.place_laws.specs.Standing.{IsOf, IsCarried, in_its_slot, Standing}
+use Rattle.place_laws.specs.Standing.{IsCarried, in_its_slot, Standing}
 use Rattle.place_laws.proofs.Holding.{true_of_found}
 use Rattle.place_laws.proofs.SlotNames.{slot_of_name}
 

@@ -1,17 +1,15 @@
 -- What becomes of the carriers of substrates where carriers change, are created or are forgotten.
-use Rattle.std.proofs.Common.{◌≡◌, ◌≤◌, ℕ, ◌==◌, Bool, true, false, not, ◌&&◌, ◌||◌, if◌then◌else◌, List, [], ◌∷◌, ◌++◌, find, Option, Some, None, refl, sym, ◌∙◌, ap, subst}
+use Rattle.std.proofs.Common.{◌≡◌, ℕ, ◌==◌, Bool, true, false, not, ◌&&◌, if◌then◌else◌, List, [], ◌∷◌, ◌++◌, find, Some, None, refl, sym, ◌∙◌, ap, subst}
 use Rattle.std.specs.List.{AllByRecursion, list_any}
 use Rattle.std.proofs.lemmas.Bool.{or_parts}
 use Rattle.gem_ids.specs.declared.numbers.LocId.TheVariants.{Slot}
-use Rattle.gem_ids.specs.declared.numbers.PortNo.{PortNo}
-use Rattle.gem_ids.specs.declared.numbers.SlotNo.{SlotNo}
 use Rattle.gem_ids.specs.Names.{name_in_slot}
 use Rattle.carrier.specs.declared.carrier.Carrier.{Carrier}
 use Rattle.carrier.specs.Record.{is_map_verified}
 use Rattle.carrier.specs.Carriers.{has_name, carrier_numbered, change_numbered, change_named, without, with_created, found_or_created, is_known}
 use Rattle.shop_floor.specs.Floor.{is_present}
 use Rattle.tool_floor.specs.declared.tracking.Substrate.{Substrate}
-use Rattle.place_laws.specs.Standing.{IsOf, IsCarried, is_that_of, AreRegistered, code_of}
+use Rattle.place_laws.specs.Standing.{IsCarried, is_that_of, AreRegistered, code_of}
 
 -- a carrier that is present with map VERIFIED goes on to be so, with its name and at its port
 pub record GoesOn (c d : Carrier) : Type 0 where

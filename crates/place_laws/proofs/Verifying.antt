@@ -1,6 +1,6 @@
 -- A slot map that is VERIFIED has the substrates of its carrier registered, each of them.
-use Rattle.std.proofs.Common.{◌≡◌, ◌≤◌, ◌<◌, ℕ, zero, suc, ◌+◌, ◌==◌, Bool, true, false, not, ◌&&◌, ◌||◌, if◌then◌else◌, List, [], ◌∷◌, length, map, Option, Some, None, IsSomeAnd, slice_get, refl, sym, ◌∙◌, ap, subst, arith}
-use Rattle.std.specs.List.{AllByRecursion, list_any}
+use Rattle.std.proofs.Common.{◌≡◌, ◌≤◌, ◌<◌, ℕ, zero, suc, ◌+◌, ◌==◌, Bool, true, false, not, ◌&&◌, if◌then◌else◌, List, [], ◌∷◌, length, Option, Some, None, IsSomeAnd, refl, sym, ◌∙◌, ap, subst, arith}
+use Rattle.std.specs.List.{list_any}
 use Rattle.std.proofs.lemmas.Bool.{true≢false, and_parts}
 use Rattle.gem_tables.specs.Table.{firing, after, is_among}
 use Rattle.gem_ids.specs.declared.numbers.LocId.TheVariants.{Slot}
@@ -27,9 +27,9 @@ use Rattle.shop_floor.proofs.Numbers.{all_at_number}
 use Rattle.shop_floor.proofs.Present.{has_number, numbered_contained}
 use Rattle.tool_floor.specs.declared.tracking.Substrate.{Substrate}
 use Rattle.tool_floor.specs.Floor.{ToolFloor, with_shop}
-use Rattle.tool_floor.specs.Machines.{floor_fired, registered_by}
+use Rattle.tool_floor.specs.Machines.{floor_fired}
 use Rattle.tool_floor.specs.Substrates.{reaches_verified, registers_at_port, registers_found, registers_slots}
-use Rattle.place_laws.specs.Standing.{IsOf, IsCarried, is_that_of, is_registered, AreRegistered, code_of}
+use Rattle.place_laws.specs.Standing.{IsCarried, is_that_of, is_registered, AreRegistered, code_of}
 use Rattle.place_laws.proofs.Holding.{found_number, true_of_found}
 use Rattle.place_laws.proofs.Stays.{GoesOn, Stay, stay_numbered, stay-carried}
 use Rattle.place_laws.proofs.Slots.{Filling, Filled, slots_filled}

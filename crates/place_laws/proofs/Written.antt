@@ -1,5 +1,5 @@
 -- What an action of the host writes leaves the substrates; a carrier whose binding is cancelled is not present.
-use Rattle.std.proofs.Common.{◌≡◌, ℕ, ◌==◌, Bool, true, false, not, ◌||◌, if◌then◌else◌, List, map, Option, Some, None, refl, sym, ◌∙◌, ap, subst}
+use Rattle.std.proofs.Common.{◌≡◌, ℕ, Bool, true, false, not, ◌||◌, List, map, Option, Some, None, refl, sym, ◌∙◌, ap, subst}
 use Rattle.std.specs.List.{AllByRecursion}
 use Rattle.std.proofs.lemmas.Bool.{true≢false, both_ways, or_parts}
 use Rattle.gem_ids.specs.declared.numbers.PortNo.{PortNo}
@@ -10,7 +10,7 @@ use Rattle.carrier.specs.declared.carrier.Carrier.{Carrier}
 use Rattle.carrier.specs.declared.action.CarrierAction.{CarrierAction}
 use Rattle.carrier.specs.declared.action.CarrierWord.{CarrierWord}
 use Rattle.carrier.specs.declared.action.CarrierWord.TheVariants as word
-use Rattle.carrier.specs.Carriers.{has_name, is_port, carrier_named, change_named, created, with_created, directed_to, told_map, are_named_apart}
+use Rattle.carrier.specs.Carriers.{has_name, carrier_named, created, directed_to, told_map, are_named_apart}
 use Rattle.carrier.specs.Verdict.{view_numbered, bind_carrier_code, cancel_bind_code, cancel_notify_code}
 use Rattle.shop_floor.specs.Floor.{Floor}
 use Rattle.shop_floor.specs.Rows.{owner}
@@ -20,7 +20,7 @@ use Rattle.shop_floor.proofs.Apart.{IsOnly, all_follows, all_pushed, all_changed
 use Rattle.shop_floor.proofs.Keeps.{all_true}
 use Rattle.tool_floor.specs.declared.tracking.Substrate.{Substrate}
 use Rattle.place_laws.specs.Standing.{AreRegistered}
-use Rattle.place_laws.proofs.Stays.{Stay, stay_same, stay_more, stay_named, NonePresent, leaves-registered, not-verified, at_found}
+use Rattle.place_laws.proofs.Stays.{stay_more, stay_named, NonePresent, leaves-registered, not-verified, at_found}
 use Rattle.place_laws.proofs.Leaving.{Leaves, leaves_same, found_changes, forgotten_leaves}
 use Rattle.place_laws.proofs.PortRequests.{answer_of, answer_second, bind_of, IsLoose, loose, action}
 

@@ -1,7 +1,7 @@
 -- The floor of the tool by numbers, as the laws of the moves read it (after SEMI E87 and E90; this tool's profile, carriers, substrates
 -- and moves). A substrate, a carrier and a module go by their numbers; what a column says of a number that is none counts for
 -- nothing, and is the least there is.
-use Rattle.std.specs.Prelude.{ℕ, zero, suc, ◌+◌, ◌==◌, Bool, false, ◌&&◌, if◌then◌else◌, List, [], ◌∷◌, find, map, Option, Some, None, option_map}
+use Rattle.std.specs.Prelude.{ℕ, zero, suc, ◌+◌, ◌==◌, false, if◌then◌else◌, List, [], ◌∷◌, find, map, Option, Some, None, option_map}
 use Rattle.gem_ids.specs.declared.numbers.LocId.{LocId}
 use Rattle.gem_ids.specs.declared.numbers.LocId.TheVariants.{Slot, Aligner, Arm, Chamber}
 use Rattle.gem_ids.specs.declared.numbers.PortNo.{PortNo}
@@ -16,7 +16,6 @@ use Rattle.carrier.specs.Record.{is_map_verified}
 use Rattle.carrier.specs.Carriers.{carrier_numbered}
 use Rattle.substrate.specs.Tables.{transport_number, processing_number}
 use Rattle.substrate.specs.Places.{PlaceMap}
-use Rattle.substrate.specs.declared.registered.Registered.{Registered}
 use Rattle.tool_floor.specs.declared.tracking.Substrate.{Substrate}
 use Rattle.tool_floor.specs.Floor.{ToolFloor, substrate_numbered, number_of}
 use Rattle.tool_floor.specs.Modules.{number_named}

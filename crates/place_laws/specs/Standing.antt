@@ -10,7 +10,7 @@ use Rattle.gem_ids.specs.declared.numbers.PortNo.{PortNo}
 use Rattle.gem_ids.specs.declared.numbers.SlotNo.{SlotNo}
 use Rattle.gem_ids.specs.Names.{name_in_slot}
 use Rattle.robot_moves.specs.declared.module.Module.{Module}
-use Rattle.robot_moves.specs.declared.module.Module.TheVariants.{Idle, Busy, Down}
+use Rattle.robot_moves.specs.declared.module.Module.TheVariants.{Busy}
 use Rattle.carrier.specs.declared.carrier.Carrier.{Carrier}
 use Rattle.carrier.specs.Record.{is_map_verified}
 use Rattle.carrier.specs.Carriers.{carrier_numbered}

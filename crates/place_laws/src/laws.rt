@@ -1,10 +1,11 @@
 //! Laws of the floor of the tool, for proofs to cite. Each function is empty: what it ensures holds of the definitions.
 
-ghost use Rattle.std.specs.Prelude.{◌≡◌, ℕ, ◌+◌, true, false, List, [], ◌∷◌, ◌++◌, map, Some};
+ghost use Rattle.std.specs.Prelude.{◌≡◌, ◌≤◌, ℕ, ◌+◌, true, false, List, [], ◌∷◌, ◌++◌, length, map, Some};
 ghost use Rattle.gem_tables.specs.Table.{after, is_one_of};
 ghost use Rattle.gem_ids.specs.declared.numbers.LocId.TheVariants.{Slot};
 ghost use Rattle.gem_ids.specs.declared.numbers.PortNo.{PortNo};
 ghost use Rattle.gem_ids.specs.declared.numbers.SlotNo.{SlotNo};
+ghost use Rattle.load_port.specs.Ports.{most_ports};
 ghost use Rattle.robot_moves.specs.Modules.{module_at};
 ghost use Rattle.robot_moves.specs.declared.module.Module.{Module};
 ghost use Rattle.robot_moves.specs.declared.module.Module.TheVariants.{Idle};
@@ -24,11 +25,22 @@ ghost use Rattle.floor_moves.specs.Floor.{Module as ByNumber, set};
 ghost use Rattle.floor_moves.specs.Effects.{worked, issued, turned, moved as moved_by_numbers};
 ghost use Rattle.floor_moves.specs.Agree.{Agree};
 ghost use Rattle.floor_moves.specs.Valid.{Valid};
+ghost use Rattle.floor_moves.specs.OnePlace.{OnePlace};
 ghost use Rattle.place_laws.specs.Picture.{picture, loc_of, module_of, task_of};
+ghost use Rattle.place_laws.specs.Standing.{Standing};
 
 /// What holds at every moment holds of the floor of the tool as it begins.
 pub fn it_holds_as_the_tool_begins()
     ensures { (ports chambers : ℕ) → Valid (picture (opening ports chambers)) }
+{}
+
+/// What holds of the floor of the tool at every moment, while no process job is there that would move a substrate, holds as the tool
+/// begins. From it all holds that the laws of the moves ask for, and each substrate has one place.
+pub fn each_substrate_has_one_place_while_none_moves()
+    ensures begins { (ports chambers : ℕ) → ports ≤ most_ports → Standing (opening ports chambers) }
+    ensures holds { (f : ToolFloor) → Standing f → Valid (picture f) }
+    ensures places { (f : ToolFloor) → Standing f → OnePlace (picture f) }
+    ensures few { (f : ToolFloor) → Standing f → length f.substrates ≤ 100 }
 {}
 
 /// Rows of one location or substrate do to the floor by numbers what the laws of the moves have: those of tables 11 and 12 leave all

@@ -19,6 +19,9 @@ use Rattle.gem_primaries.specs.declared.primary.GemMsg.{GemMsg}
 use Rattle.gem_primaries.specs.declared.primary.GemMsg.TheVariants as msg
 use Rattle.msgs_300.specs.Primaries.{Message, S3F17, S3F25, S3F27}
 use Rattle.gem_ids.specs.Civil.{moment_in}
+use Rattle.gem_ids.specs.declared.numbers.PortNo.{PortNo}
+use Rattle.gem_ids.specs.declared.numbers.ModuleId.{ModuleId}
+use Rattle.gem_ids.specs.declared.numbers.CmdNo.{CmdNo}
 use Rattle.gem_tables.specs.Table.{firing}
 use Rattle.gem_tables.specs.declared.firing.Firing.{Firing}
 use Rattle.event_reports.specs.Alarms.{is_alarm, is_set}
@@ -81,25 +84,25 @@ use Rattle.gem_model.specs.State.{Clock}
 use Rattle.gem_model.specs.Values.{Occasion}
 use Rattle.gem_model.specs.Noting.{line_behind, line_with_alarm}
 
--- no premise of a state
-abbrev pub Any : State → Type 0
-Any g = Unit {0}
+-- no premise of an event and the state in which it acts
+abbrev pub Any : Event → State → Type 0
+Any e g = Unit {0}
 
--- The units of a fact: lists of rows of the floor that keep it together, where single rows of them need not. What comes to a port is
--- placed where the tool rests.
-pub record Units (Rest P : State → Type 0) : Type 1 where
-  pub placing : (g : State) (port : ℕ) (name : Option (List ℕ)) (slots : List ℕ) → port_row_starts 3 port g ≡ true → Rest g → P g → P (fire_listed (at_port 4 3 port) (with_arrival port name slots g))
-  pub removal : (g : State) (port : ℕ) → port_row_starts 5 port g ≡ true → P g → P (fire_listed (removal port) g)
-  pub did : (g : State) (number command : ℕ) → is_open command (module_of number g) ≡ true → P g → P (fire_listed (done_rows number g.floor) g)
-  pub failed_at : (g : State) (number command : ℕ) → is_open command (module_of number g) ≡ true → P g → P (fire_listed (closing_rows 8 number g.floor) (sets_alarm (module_alarm number) g))
-  pub went_down : (g : State) (number : ℕ) → is_up_module (module_of number g) ≡ true → P g → P (fire_listed (closing_rows 9 number g.floor) (sets_alarm (module_alarm number) g))
-  pub lost : (g : State) (sub : List ℕ) → P g → P (fire_listed (lost_rows sub g.floor) g)
+-- The units of a fact: lists of rows of the floor that keep it together, where single rows of them need not. Each that is of one event
+-- has what is known of it and of the state in which it acts.
+pub record Units (Rest : Event → State → Type 0) (P : State → Type 0) : Type 1 where
+  pub placing : (g : State) (port : PortNo) (name : Option (List ℕ)) (slots : List ℕ) → port_row_starts 3 port.0 g ≡ true → Rest (event.Signal (signal.Placed port name slots)) g → P g → P (fire_listed (at_port 4 3 port.0) (with_arrival port.0 name slots g))
+  pub removal : (g : State) (port : PortNo) → port_row_starts 5 port.0 g ≡ true → Rest (event.Signal (signal.Removed port)) g → P g → P (fire_listed (removal port.0) g)
+  pub did : (g : State) (number : ModuleId) (command : CmdNo) → is_open command.0 (module_of number.0 g) ≡ true → Rest (event.Signal (signal.Done number command)) g → P g → P (fire_listed (done_rows number.0 g.floor) g)
+  pub failed_at : (g : State) (number : ModuleId) (command : CmdNo) → is_open command.0 (module_of number.0 g) ≡ true → Rest (event.Signal (signal.Failed number command)) g → P g → P (fire_listed (closing_rows 8 number.0 g.floor) (sets_alarm (module_alarm number.0) g))
+  pub went_down : (g : State) (number : ModuleId) → is_up_module (module_of number.0 g) ≡ true → Rest (event.Signal (signal.Down number)) g → P g → P (fire_listed (closing_rows 9 number.0 g.floor) (sets_alarm (module_alarm number.0) g))
+  pub lost : (g : State) (sub : List ℕ) → Rest (event.Oper (oper.Lost sub)) g → P g → P (fire_listed (lost_rows sub g.floor) g)
   pub asked : (g h : State) (a : CarrierAction) → is_done_code (carrier_code g.floor.shop a) ≡ true → h.floor ≡ with_shop (carrier_written a g.floor.shop) g.floor → P g → P h → P (fire_listed (carrier_rows a g.floor.shop) h)
 
 -- what keeps a fact of states while link, moment and the end of the run stay: each change that a step is made of, by the field
 -- that it writes, each row that inputs list by itself, each row that fires by itself, the units, and the moves by which a transaction
 -- ends together with what its end does
-pub record Inner (Rest P : State → Type 0) : Type 1 where
+pub record Inner (Rest : Event → State → Type 0) (P : State → Type 0) : Type 1 where
   pub clock : (g : State) (c : Clock) → P g → P (record g { clock = c })
   pub switch : (g : State) (b : Bool) → P g → P (record g { switch_local = b })
   pub drawn : (g : State) (t : Table) → t.opened ≡ g.transactions.opened → P g → P (record g { transactions = t })
@@ -121,7 +124,7 @@ pub record Inner (Rest P : State → Type 0) : Type 1 where
   pub disabled : (g : State) → P g → P (fires (operator_rows oper.Disable) g)
 
 -- the same of all that a step changes
-pub record Kept (Rest P : State → Type 0) : Type 1 where
+pub record Kept (Rest : Event → State → Type 0) (P : State → Type 0) : Type 1 where
   pub inner : Inner Rest P
   pub moment : (g : State) (m : ℕ) → P g → P (record g { moment = m })
   pub quitting : (g : State) → P g → P (record g { quitting = true })
@@ -150,12 +153,12 @@ module _ (P : State → Type 0)
 
     pub row_units : Units Any P
     row_units = record {
-      placing = λ g port name slots starts rest at. by_rows (at_port 4 3 port) (placing_are port) (with_arrival port name slots g) (came g port name slots at);
-      removal = λ g port starts at. by_rows (removal port) (removal_are port) g at;
-      did = λ g number command is at. by_rows (done_rows number g.floor) (done_are number g.floor) g at;
-      failed_at = λ g number command is at. by_closing 8 number g at;
-      went_down = λ g number is at. by_closing 9 number g at;
-      lost = λ g sub at. by_rows (lost_rows sub g.floor) (lost_are sub g.floor) g at;
+      placing = λ g port name slots starts rest at. by_rows (at_port 4 3 port.0) (placing_are port.0) (with_arrival port.0 name slots g) (came g port.0 name slots at);
+      removal = λ g port starts rest at. by_rows (removal port.0) (removal_are port.0) g at;
+      did = λ g number command is rest at. by_rows (done_rows number.0 g.floor) (done_are number.0 g.floor) g at;
+      failed_at = λ g number command is rest at. by_closing 8 number.0 g at;
+      went_down = λ g number is rest at. by_closing 9 number.0 g at;
+      lost = λ g sub rest at. by_rows (lost_rows sub g.floor) (lost_are sub g.floor) g at;
       asked = λ g h a is same before at. by_rows (carrier_rows a g.floor.shop) (word_are a.word a g.floor.shop) h at;
     }
 
@@ -197,7 +200,7 @@ done_code false false code is = is
 floor_replied : (h : Header) (function : ℕ) (text : List ℕ) (g : State) → (replied h function text g).floor ≡ g.floor
 floor_replied h function text g = either_way (λ (k : State). k.floor ≡ g.floor) (wants_reply h) _ g refl refl
 
-module _ (Rest P : State → Type 0) (inner : Inner Rest P) where
+module _ (Rest : Event → State → Type 0) (P : State → Type 0) (inner : Inner Rest P) where
   pub kept_listed : (fs : List Firing) → Are IsFree fs → (g : State) → P g → P (fire_listed fs g)
   kept_listed fs free g at = listed_keeps P IsFree inner.event inner.row inner.created fs free g at
 
@@ -301,37 +304,37 @@ module _ (Rest P : State → Type 0) (inner : Inner Rest P) where
   pub kept_by_rows : (command : OperCmd) (g : State) → Are IsFree (operator_rows command (switched command g)) → P g → P (fires (operator_rows command) (switched command g))
   kept_by_rows command g free at = kept_listed (operator_rows command (switched command g)) free (switched command g) (kept_switched command g at)
 
-  kept_placed : (port : ℕ) (name : Option (List ℕ)) (slots : List ℕ) (g : State) → Rest g → P g → P (placed port name slots g)
+  kept_placed : (port : PortNo) (name : Option (List ℕ)) (slots : List ℕ) (g : State) → Rest (event.Signal (signal.Placed port name slots)) g → P g → P (placed port.0 name slots g)
   kept_placed port name slots g rest at =
-      where_true P (port_row_starts 3 port g) (fire_listed (at_port 4 3 port) (with_arrival port name slots g)) (sets_alarm (port_alarm port) g)
-      (λ starts. inner.units.placing g port name slots starts rest at) (kept_set g (port_alarm port) at)
+      where_true P (port_row_starts 3 port.0 g) (fire_listed (at_port 4 3 port.0) (with_arrival port.0 name slots g)) (sets_alarm (port_alarm port.0) g)
+      (λ starts. inner.units.placing g port name slots starts rest at) (kept_set g (port_alarm port.0) at)
 
-  kept_removed : (port : ℕ) (g : State) → P g → P (removed port g)
-  kept_removed port g at =
-      where_true P (port_row_starts 5 port g) (fire_listed (removal port) g) (sets_alarm (port_alarm port) g)
-      (λ starts. inner.units.removal g port starts at) (kept_set g (port_alarm port) at)
+  kept_removed : (port : PortNo) (g : State) → Rest (event.Signal (signal.Removed port)) g → P g → P (removed port.0 g)
+  kept_removed port g rest at =
+      where_true P (port_row_starts 5 port.0 g) (fire_listed (removal port.0) g) (sets_alarm (port_alarm port.0) g)
+      (λ starts. inner.units.removal g port starts rest at) (kept_set g (port_alarm port.0) at)
 
-  kept_module_done : (number command : ℕ) (g : State) → P g → P (module_done number command g)
-  kept_module_done number command g at =
-      where_true P (is_open command (module_of number g)) (fire_listed (done_rows number g.floor) g) (sets_alarm answer_alarm g)
-      (λ is. inner.units.did g number command is at) (kept_set g answer_alarm at)
+  kept_module_done : (number : ModuleId) (command : CmdNo) (g : State) → Rest (event.Signal (signal.Done number command)) g → P g → P (module_done number.0 command.0 g)
+  kept_module_done number command g rest at =
+      where_true P (is_open command.0 (module_of number.0 g)) (fire_listed (done_rows number.0 g.floor) g) (sets_alarm answer_alarm g)
+      (λ is. inner.units.did g number command is rest at) (kept_set g answer_alarm at)
 
-  kept_module_failed : (number command : ℕ) (g : State) → P g → P (module_failed number command g)
-  kept_module_failed number command g at =
-      where_true P (is_open command (module_of number g)) (fire_listed (closing_rows 8 number g.floor) (sets_alarm (module_alarm number) g)) (sets_alarm answer_alarm g)
-      (λ is. inner.units.failed_at g number command is at) (kept_set g answer_alarm at)
+  kept_module_failed : (number : ModuleId) (command : CmdNo) (g : State) → Rest (event.Signal (signal.Failed number command)) g → P g → P (module_failed number.0 command.0 g)
+  kept_module_failed number command g rest at =
+      where_true P (is_open command.0 (module_of number.0 g)) (fire_listed (closing_rows 8 number.0 g.floor) (sets_alarm (module_alarm number.0) g)) (sets_alarm answer_alarm g)
+      (λ is. inner.units.failed_at g number command is rest at) (kept_set g answer_alarm at)
 
-  kept_module_down : (number : ℕ) (g : State) → P g → P (module_down number g)
-  kept_module_down number g at =
-      where_true P (is_up_module (module_of number g)) (fire_listed (closing_rows 9 number g.floor) (sets_alarm (module_alarm number) g)) g
-      (λ is. inner.units.went_down g number is at) at
+  kept_module_down : (number : ModuleId) (g : State) → Rest (event.Signal (signal.Down number)) g → P g → P (module_down number.0 g)
+  kept_module_down number g rest at =
+      where_true P (is_up_module (module_of number.0 g)) (fire_listed (closing_rows 9 number.0 g.floor) (sets_alarm (module_alarm number.0) g)) g
+      (λ is. inner.units.went_down g number is rest at) at
 
-  pub kept_signalled : (s : Signal) (g : State) → Rest g → P g → P (signalled s g)
-  kept_signalled (signal.Placed port name slots) g rest at = either_way P (lacks_port port.0 g) g (placed port.0 name slots g) at (kept_placed port.0 name slots g rest at)
-  kept_signalled (signal.Removed port) g rest at = either_way P (lacks_port port.0 g) g (removed port.0 g) at (kept_removed port.0 g at)
-  kept_signalled (signal.Done number command) g rest at = either_way P (lacks_module number.0 g) g (module_done number.0 command.0 g) at (kept_module_done number.0 command.0 g at)
-  kept_signalled (signal.Failed number command) g rest at = either_way P (lacks_module number.0 g) g (module_failed number.0 command.0 g) at (kept_module_failed number.0 command.0 g at)
-  kept_signalled (signal.Down number) g rest at = either_way P (lacks_module number.0 g) g (module_down number.0 g) at (kept_module_down number.0 g at)
+  pub kept_signalled : (s : Signal) (g : State) → Rest (event.Signal s) g → P g → P (signalled s g)
+  kept_signalled (signal.Placed port name slots) g rest at = either_way P (lacks_port port.0 g) g (placed port.0 name slots g) at (kept_placed port name slots g rest at)
+  kept_signalled (signal.Removed port) g rest at = either_way P (lacks_port port.0 g) g (removed port.0 g) at (kept_removed port g rest at)
+  kept_signalled (signal.Done number command) g rest at = either_way P (lacks_module number.0 g) g (module_done number.0 command.0 g) at (kept_module_done number command g rest at)
+  kept_signalled (signal.Failed number command) g rest at = either_way P (lacks_module number.0 g) g (module_failed number.0 command.0 g) at (kept_module_failed number command g rest at)
+  kept_signalled (signal.Down number) g rest at = either_way P (lacks_module number.0 g) g (module_down number.0 g) at (kept_module_down number g rest at)
 
   -- the transactions whose T3 is over, one after the other
   kept_timeouts : (n moment : ℕ) (opened : List Open) (first : Option Open) (g : State) → g.transactions.opened ≡ opened → first_expired moment opened ≡ first → P g → P (all_done (map (λ one. Timeout one) (expired_from n moment opened first)) g)
@@ -345,7 +348,7 @@ module _ (Rest P : State → Type 0) (inner : Inner Rest P) where
   pub kept_expired : (g h : State) → h.transactions.opened ≡ g.transactions.opened → P h → P (all_done (timeouts g) h)
   kept_expired g h same at = kept_timeouts (length g.transactions.opened) g.moment g.transactions.opened (first_expired g.moment g.transactions.opened) h same refl at
 
-module _ (Rest P : State → Type 0) (kept : Kept Rest P) where
+module _ (Rest : Event → State → Type 0) (P : State → Type 0) (kept : Kept Rest P) where
   abbrev KeptTo : Outcome → Type 0
   KeptTo o = P o.after
 
@@ -353,20 +356,20 @@ module _ (Rest P : State → Type 0) (kept : Kept Rest P) where
   kept_quit true g at = kept.quitting (session_ended g) (kept.ended g at)
   kept_quit false g at = kept.quitting g at
 
-  kept_operated : (command : OperCmd) (g : State) → P g → KeptTo (operated command g)
-  kept_operated oper.Quit g at = kept_quit (is_up g) g at
-  kept_operated oper.Disable g at = kept.inner.disabled g at
-  kept_operated oper.Enable g at = kept_by_rows Rest P kept.inner oper.Enable g free_enable at
-  kept_operated oper.Online g at = kept_by_rows Rest P kept.inner oper.Online g (free_online g) at
-  kept_operated oper.Offline g at = kept_by_rows Rest P kept.inner oper.Offline g (free_offline g) at
-  kept_operated oper.Local g at = kept_by_rows Rest P kept.inner oper.Local g (free_local (switched oper.Local g)) at
-  kept_operated oper.Remote g at = kept_by_rows Rest P kept.inner oper.Remote g (free_remote (switched oper.Remote g)) at
-  kept_operated (oper.Service p on) g at = kept_by_rows Rest P kept.inner (oper.Service p on) g (free_service p.0 on g) at
-  kept_operated (oper.Access p on) g at = kept_by_rows Rest P kept.inner (oper.Access p on) g (free_access p.0 on g) at
-  kept_operated (oper.Clear n) g at = kept_switched Rest P kept.inner (oper.Clear n) g at
-  kept_operated (oper.Up number) g at = kept_by_rows Rest P kept.inner (oper.Up number) g (free_up number.0) at
-  kept_operated (oper.Lost sub) g at = kept.inner.units.lost g sub at
-  kept_operated _ g at = at
+  kept_operated : (command : OperCmd) (g : State) → Rest (event.Oper command) g → P g → KeptTo (operated command g)
+  kept_operated oper.Quit g rest at = kept_quit (is_up g) g at
+  kept_operated oper.Disable g rest at = kept.inner.disabled g at
+  kept_operated oper.Enable g rest at = kept_by_rows Rest P kept.inner oper.Enable g free_enable at
+  kept_operated oper.Online g rest at = kept_by_rows Rest P kept.inner oper.Online g (free_online g) at
+  kept_operated oper.Offline g rest at = kept_by_rows Rest P kept.inner oper.Offline g (free_offline g) at
+  kept_operated oper.Local g rest at = kept_by_rows Rest P kept.inner oper.Local g (free_local (switched oper.Local g)) at
+  kept_operated oper.Remote g rest at = kept_by_rows Rest P kept.inner oper.Remote g (free_remote (switched oper.Remote g)) at
+  kept_operated (oper.Service p on) g rest at = kept_by_rows Rest P kept.inner (oper.Service p on) g (free_service p.0 on g) at
+  kept_operated (oper.Access p on) g rest at = kept_by_rows Rest P kept.inner (oper.Access p on) g (free_access p.0 on g) at
+  kept_operated (oper.Clear n) g rest at = kept_switched Rest P kept.inner (oper.Clear n) g at
+  kept_operated (oper.Up number) g rest at = kept_by_rows Rest P kept.inner (oper.Up number) g (free_up number.0) at
+  kept_operated (oper.Lost sub) g rest at = kept.inner.units.lost g sub rest at
+  kept_operated _ g rest at = at
 
   kept_linktest : (g : State) → P g → P (asks_linktest g)
   kept_linktest g at = kept.inner.waiting (record (record g { transactions = _ }) { link = _ }) _ (kept.link (record g { transactions = _ }) _ (λ is. is) (kept.inner.drawn g _ refl at))
@@ -394,7 +397,7 @@ module _ (Rest P : State → Type 0) (kept : Kept Rest P) where
   kept_command g number None o at here = none_some o here
   kept_command g number (Some command) o at here = the_kept _ o (kept.inner.fetched g number at) here
 
-  pub kept_acts : (before : ℕ) (g : State) (e : Event) (o : Outcome) → Rest g → P g → acts before g e ≡ Some o → KeptTo o
+  pub kept_acts : (before : ℕ) (g : State) (e : Event) (o : Outcome) → Rest e g → P g → acts before g e ≡ Some o → KeptTo o
   kept_acts before g event.LinkUp o rest at here = went (is_up g) _ _ _ (λ _ e. the_kept _ o at e) (λ down e. the_kept _ o (kept.link g _ (λ is. absurd (true≢false (sym is ∙ not_selected g.link.phase down))) at) e) here
   kept_acts before g (event.LinkDown session cause) o rest at here = went (is_session_up g session) _ _ _ (λ _ e. the_kept _ o (kept.ended g at) e) (λ _ e. the_kept _ o at e) here
   kept_acts before g (event.Host session arrival) o rest at here =
@@ -402,7 +405,7 @@ module _ (Rest P : State → Type 0) (kept : Kept Rest P) where
       (λ _ e. the_kept _ o (kept_hosted (linked g (header_of arrival)) arrival (link_act (header_of arrival) g.link) (kept.link g _ (link_after-keeps (header_of arrival) g.moment g.link).selected at)) e)
       (λ _ e. the_kept _ o at e) here
   kept_acts before g (event.Take session) o rest at here = went (is_session_up g session) _ _ _ (λ _ e. kept_frame g g.waiting o at e) (λ _ e. the_kept _ o at e) here
-  kept_acts before g (event.Oper command) o rest at here = the_kept (operated command g) o (kept_operated command g at) here
+  kept_acts before g (event.Oper command) o rest at here = the_kept (operated command g) o (kept_operated command g rest at) here
   kept_acts before g (event.Signal signal) o rest at here = the_kept _ o (kept_signalled Rest P kept.inner signal g rest at) here
   kept_acts before g (event.Fetch m) o rest at here = kept_command g m.0 (unfetched (module_of m.0 g)) o at here
   kept_acts before g event.Tick o rest at here = went (is_due before g) _ _ _ (λ _ e. the_kept _ o (kept_due g (due_at (link_times g) g.link g.moment) at) e) (λ _ e. none_some o e) here
@@ -414,10 +417,10 @@ module _ (Rest P : State → Type 0) (kept : Kept Rest P) where
   kept_mapped (Some p) o at here = the_kept (settles p) o (kept_settled Rest P kept.inner p.after (at p refl)) here
 
   -- what each change keeps, a step keeps
-  pub kept_step_from : (before : ℕ) (g : State) (e : Event) (o : Outcome) → Rest g → P g → step_from before g e ≡ Some o → KeptTo o
+  pub kept_step_from : (before : ℕ) (g : State) (e : Event) (o : Outcome) → Rest e g → P g → step_from before g e ≡ Some o → KeptTo o
   kept_step_from before g e o rest there here =
       went g.quitting _ _ _ (λ _ is. the_kept _ o there is)
       (λ _ is. kept_mapped (acts before g e) o (λ p acted. kept_acts before g e p rest there acted) is) here
 
-  pub kept_step : (g : State) (at : ℕ) (e : Event) (o : Outcome) → Rest (raised g at) → P g → step g at e ≡ Some o → KeptTo o
+  pub kept_step : (g : State) (at : ℕ) (e : Event) (o : Outcome) → Rest e (raised g at) → P g → step g at e ≡ Some o → KeptTo o
   kept_step g at e o rest there here = kept_step_from g.moment (raised g at) e o rest (kept.moment g _ there) here

@@ -33,3 +33,4 @@ pub mod SessionBytes
 pub mod Printed
 pub mod Conversation
 pub mod Recorded
+pub mod Moved

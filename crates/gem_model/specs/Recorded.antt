@@ -13,6 +13,7 @@ use Rattle.place_laws.specs.Picture.{picture}
 use Rattle.place_laws.specs.Standing.{AreRegistered}
 use Rattle.gem_model.specs.State.{State, opening}
 use Rattle.gem_model.specs.Run.{Run}
+use Rattle.gem_model.specs.Moved.{EachMoves, EndsOnce}
 use Rattle.gem_model.specs.Reported.{told_as, reported_in, IsOf}
 use Rattle.gem_model.specs.OpenNotes.{Carries, NeverBack, open_behind, frames_behind, note_numbers, open_number}
 
@@ -46,5 +47,10 @@ pub record Recorded (c : Config) (history : List Entry) (g : State) : Type 0 whe
   -- no registration was refused: where the slot map of a carrier is VERIFIED, the substrate of each slot that is correctly occupied
   -- is registered
   pub registered : AllByRecursion (AreRegistered g.floor.substrates) g.floor.shop.carriers
+  -- a place changes only so: by registration, by Done of an open Pick or Place that names the substrate, from the named start to the named
+  -- end, with its carrier, or by the operator's word; and no number of registration is given twice
+  pub moves : EachMoves (opening c) history
+  -- the command of each number ends at most once
+  pub ends : EndsOnce (opening c) history
   -- there is room to start a transaction
   pub room : is_full g.transactions ≡ false

@@ -11,6 +11,7 @@ ghost use Rattle.gem_model.specs.State.{State, opening, raised};
 ghost use Rattle.gem_model.specs.Settle.{Settles, settling, settled, Along};
 ghost use Rattle.gem_model.specs.Step.{Outcome, acts};
 ghost use Rattle.gem_model.specs.Run.{Run};
+ghost use Rattle.gem_model.specs.Moved.{place_of, EachMoves, EndsOnce};
 ghost use Rattle.gem_model.specs.Recorded.{Recorded};
 ghost use Rattle.tool_events.specs.Configs.{IsConfig};
 ghost use Rattle.gem_model.specs.Reported.{told_as, reported_in, IsOf};
@@ -115,6 +116,16 @@ pub fn each_substrate_has_one_place_in_a_history()
         → Along (λ (g : State). OnePlace (picture g.floor)) o.after (settling o.after) }
     ensures registered { (c : Config) (entries : List Entry) (h : State) → c.ports ≤ most_ports → Run (opening c) entries h
         → AllByRecursion (AreRegistered h.floor.substrates) h.floor.shop.carriers }
+{}
+
+/// Each substrate moves at most once a command: the command of each number ends at most once in a history; a place changes only by
+/// registration, by Done of an open Pick or Place that names the substrate, from the named start to the named end, with its
+/// carrier, or by the operator's word; and what is Removed stays so.
+pub fn each_substrate_moves_once_a_command_in_a_history()
+    ensures moves { (c : Config) (entries : List Entry) (h : State) → c.ports ≤ most_ports → Run (opening c) entries h → EachMoves (opening c) entries }
+    ensures ends { (c : Config) (entries : List Entry) (h : State) → c.ports ≤ most_ports → Run (opening c) entries h → EndsOnce (opening c) entries }
+    ensures removed { (c : Config) (front behind : List Entry) (g h : State) (n : ℕ) → c.ports ≤ most_ports → Run (opening c) front g → Run g behind h
+        → n ≤ g.floor.places.given → place_of n g ≡ None → place_of n h ≡ None }
 {}
 
 /// Where a history leads, an INACTIVE spool is empty. So the kinds of note that are spooled change wherever the host sets

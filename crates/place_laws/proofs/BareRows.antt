@@ -69,7 +69,7 @@ taken-bare f port name c b valid found =
     }
 
 -- the number of a carrier, where there is one
-abbrev option_number : Option Carrier → Option ℕ
+abbrev pub option_number : Option Carrier → Option ℕ
 option_number o = option_map number_of o
 
 -- row 6 of table 7, the port's carrier is taken away
@@ -98,7 +98,7 @@ abbrev pub is_kept_alone : Firing → Bool
 is_kept_alone x = not ((x.row.table == 7) && is_one_of (2 ∷ 6 ∷ []) x.row.row || (x.row.table == 13) && (x.row.row == 8))
 
 -- a row of table 7 that takes nothing along
-takes_none : (row port : ℕ) (f : ToolFloor) → is_gentle row ≡ true → taken_along row port f ≡ f
+pub takes_none : (row port : ℕ) (f : ToolFloor) → is_gentle row ≡ true → taken_along row port f ≡ f
 takes_none row port f gentle = of (row == 6) refl where
   of : (t : Bool) → (row == 6) ≡ t → (if t then without_carrier (owner_number port f.shop) f else f) ≡ f
   of true is =

@@ -43,7 +43,7 @@ of_place P none some n [] free = none
 of_place P none some zero (m ∷ ms) free = some m free.0
 of_place P none some (suc n) (m ∷ ms) free = of_place P none some n ms free.1
 
-of_module : (P : Option Module → Type 0) → P None → ((m : Module) → IsFree m → P (Some m)) → (number : ℕ) (ms : List Module) → AllByRecursion IsFree ms → P (module_at number ms)
+pub of_module : (P : Option Module → Type 0) → P None → ((m : Module) → IsFree m → P (Some m)) → (number : ℕ) (ms : List Module) → AllByRecursion IsFree ms → P (module_at number ms)
 of_module P none some zero ms free = none
 of_module P none some (suc n) ms free = of_place P none some n ms free
 

@@ -1,7 +1,7 @@
 mod Opening
 mod Columns
 mod Rows
-mod Appended
+pub mod Appended
 mod Registering
 mod Issuing
 mod Closing
@@ -34,3 +34,4 @@ pub mod Stands
 pub mod Least
 pub mod Staying
 pub mod FreeModules
+pub mod Growing

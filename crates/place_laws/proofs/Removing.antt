@@ -200,7 +200,7 @@ module _ (cs : List Carrier) (next : ℕ) (apart : are_named_apart cs ≡ true) 
   all_from P [] f = tt
   all_from P (d ∷ ds) f = (f 0 d refl, all_from P ds (λ place x e. f (suc place) x e))
 
-  own_numbers : AllByRecursion (λ (d : Carrier). carrier_numbered d.number cs ≡ Some d) cs
+  pub own_numbers : AllByRecursion (λ (d : Carrier). carrier_numbered d.number cs ≡ Some d) cs
   own_numbers = all_from (λ (d : Carrier). carrier_numbered d.number cs ≡ Some d) cs (λ place d e. numbered_at 1 next cs place d rising e)
 
   -- another name, another number

@@ -1,0 +1,11 @@
+use Rattle.gem_model.proofs.Moved.{run-moves, run-ends-once, run-removed}
+use Rattle.gem_model.proofs.laws.each_substrate_moves_once_a_command_in_a_history.Goals as goal
+
+pub returns-clause-moves : goal.returns-clause-moves
+returns-clause-moves c = run-moves
+
+pub returns-clause-ends : goal.returns-clause-ends
+returns-clause-ends c = run-ends-once
+
+pub returns-clause-removed : goal.returns-clause-removed
+returns-clause-removed c = run-removed

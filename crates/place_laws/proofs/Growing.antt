@@ -1,6 +1,6 @@
 -- What becomes of the places of substrates: they stay, but for those that go with a carrier that is taken away, and those of new numbers
 -- come to them.
-use Rattle.std.proofs.Common.{◌≡◌, ◌⊎◌, ◌≤◌, ℕ, zero, suc, ◌+◌, ◌==◌, Bool, true, false, not, ◌&&◌, ◌||◌, if◌then◌else◌, List, [], ◌∷◌, ◌++◌, filter, find, map, Option, Some, None, option_map, slice_get, inl, inr, refl, sym, ◌∙◌, ap, subst, arith}
+use Rattle.std.proofs.Common.{◌≡◌, ◌⊎◌, ◌≤◌, ℕ, zero, suc, ◌+◌, ◌==◌, Bool, true, false, not, ◌&&◌, if◌then◌else◌, List, [], ◌∷◌, ◌++◌, filter, find, map, Option, Some, None, option_map, slice_get, inl, inr, refl, sym, ◌∙◌, ap, subst, arith}
 use Rattle.std.specs.List.{AllByRecursion, list_any}
 use Rattle.std.proofs.lemmas.Bool.{true≢false, and_parts, or_parts}
 use Rattle.std.proofs.lemmas.Bool.Decides.{Decides-eqb}
@@ -29,12 +29,12 @@ use Rattle.substrate.specs.declared.registered.Registered.{Registered}
 use Rattle.tool_floor.specs.declared.tracking.Substrate.{Substrate}
 use Rattle.tool_floor.specs.Floor.{ToolFloor, with_shop}
 use Rattle.tool_floor.specs.Kept.{RiseTo}
-use Rattle.tool_floor.specs.Machines.{floor_machines, floor_starts, floor_fired, registered_by}
-use Rattle.tool_floor.specs.Substrates.{is_of, can_register, first_substrate, registers_at, registers_slot, registers_slots, registers_at_port, registers_found, reaches_verified, without_carrier, removed_of}
+use Rattle.tool_floor.specs.Machines.{floor_machines, floor_starts, floor_fired}
+use Rattle.tool_floor.specs.Substrates.{can_register, first_substrate, registers_at, registers_slot, registers_slots, registers_at_port, registers_found, reaches_verified, without_carrier, removed_of}
 use Rattle.tool_floor.proofs.Keeping.{creation_same}
 use Rattle.floor_moves.specs.Floor.{Loc, slot}
 use Rattle.place_laws.specs.Picture.{loc_of, place_in}
-use Rattle.place_laws.specs.Standing.{IsOf, IsCarried, in_its_slot, Standing}
+use Rattle.place_laws.specs.Standing.{IsCarried, in_its_slot, Standing}
 use Rattle.place_laws.proofs.Appended.{not_last}
 use Rattle.place_laws.proofs.Stays.{at_found}
 use Rattle.place_laws.proofs.Removing.{is_other, places_fewer, own_numbers, removed_given}

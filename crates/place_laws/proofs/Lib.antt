@@ -1,13 +1,4 @@
-mod Opening
-mod Columns
-mod Rows
 pub mod Appended
-mod Registering
-mod Issuing
-mod Closing
-mod Moving
-mod Carried
-mod Losing
 pub mod Stays
 pub mod SlotNames
 pub mod Holding

@@ -1,38 +1,12 @@
 //! Laws of the floor of the tool, for proofs to cite. Each function is empty: what it ensures holds of the definitions.
 
-ghost use Rattle.std.specs.Prelude.{◌≡◌, ◌≤◌, ℕ, ◌+◌, true, false, List, [], ◌∷◌, ◌++◌, length, map, Some};
-ghost use Rattle.gem_tables.specs.Table.{after, is_one_of};
-ghost use Rattle.gem_ids.specs.declared.numbers.LocId.TheVariants.{Slot};
-ghost use Rattle.gem_ids.specs.declared.numbers.PortNo.{PortNo};
-ghost use Rattle.gem_ids.specs.declared.numbers.SlotNo.{SlotNo};
+ghost use Rattle.std.specs.Prelude.{◌≤◌, ℕ, length};
 ghost use Rattle.load_port.specs.Ports.{most_ports};
-ghost use Rattle.robot_moves.specs.Modules.{module_at};
-ghost use Rattle.robot_moves.specs.declared.module.Module.{Module};
-ghost use Rattle.robot_moves.specs.declared.module.Module.TheVariants.{Idle};
-ghost use Rattle.robot_moves.specs.declared.view.Move.{Move};
-ghost use Rattle.substrate.specs.Places.{registered as registered_there, ArePlaces, substrate_named, moved};
-ghost use Rattle.gem_ids.specs.declared.numbers.LocId.{LocId};
-ghost use Rattle.substrate.specs.declared.registered.Registered.{Registered};
-ghost use Rattle.substrate.specs.Tables.{processing_number, processing_table};
-ghost use Rattle.substrate.specs.declared.record.LocationRecord.{LocationRecord};
-ghost use Rattle.tool_floor.specs.declared.tracking.Substrate.{Substrate};
-ghost use Rattle.tool_floor.specs.Floor.{ToolFloor, opening, with_module, substrate_numbered, change_numbered, number_of};
-ghost use Rattle.tool_floor.specs.Machines.{with_moved};
-ghost use Rattle.tool_floor.specs.Modules.{aligned, issued as given_to};
-ghost use Rattle.tool_floor.specs.Substrates.{first_substrate};
-ghost use Rattle.floor_moves.specs.Carriers.{registered};
-ghost use Rattle.floor_moves.specs.Floor.{Module as ByNumber, set};
-ghost use Rattle.floor_moves.specs.Effects.{worked, issued, turned, moved as moved_by_numbers};
-ghost use Rattle.floor_moves.specs.Agree.{Agree};
+ghost use Rattle.tool_floor.specs.Floor.{ToolFloor, opening};
 ghost use Rattle.floor_moves.specs.Valid.{Valid};
 ghost use Rattle.floor_moves.specs.OnePlace.{OnePlace};
-ghost use Rattle.place_laws.specs.Picture.{picture, loc_of, module_of, task_of};
+ghost use Rattle.place_laws.specs.Picture.{picture};
 ghost use Rattle.place_laws.specs.Standing.{Standing};
-
-/// What holds at every moment holds of the floor of the tool as it begins.
-pub fn it_holds_as_the_tool_begins()
-    ensures { (ports chambers : ℕ) → Valid (picture (opening ports chambers)) }
-{}
 
 /// What holds of the floor of the tool at every moment, while no process job is there that would move a substrate, holds as the tool
 /// begins. From it all holds that the laws of the moves ask for, and each substrate has one place.
@@ -41,62 +15,4 @@ pub fn each_substrate_has_one_place_while_none_moves()
     ensures holds { (f : ToolFloor) → Standing f → Valid (picture f) }
     ensures places { (f : ToolFloor) → Standing f → OnePlace (picture f) }
     ensures few { (f : ToolFloor) → Standing f → length f.substrates ≤ 100 }
-{}
-
-/// Rows of one location or substrate do to the floor by numbers what the laws of the moves have: those of tables 11 and 12 leave all
-/// that holds, and one of table 13 gives the substrate the state behind it.
-pub fn rows_of_one_substrate_do_what_the_laws_have()
-    ensures location { (f : ToolFloor) (locations : List LocationRecord) → Valid (picture f)
-        → Valid (picture (record f { locations = locations })) }
-    ensures transport { (f : ToolFloor) (n row : ℕ) → Valid (picture f) → Valid (picture (with_moved 12 row n f)) }
-    ensures processing { (f : ToolFloor) (n row : ℕ) (s : Substrate) → substrate_numbered n f.substrates ≡ Some s
-        → Agree (worked n (processing_number (after processing_number processing_table row s.states.processing)) (picture f))
-        (picture (with_moved 13 row n f)) }
-{}
-
-/// A registration does to the floor by numbers what the laws of the moves have: where no substrate has its number yet, and what the
-/// modules have open names the same substrates as before.
-pub fn a_registration_does_what_the_laws_have()
-    ensures { (sub : List ℕ) (carrier : ℕ) (port : PortNo) (slot : SlotNo) (f : ToolFloor)
-        → is_one_of (map number_of f.substrates) (f.places.given + 1) ≡ false
-        → is_one_of (map (λ (r : Registered). r.number) f.places.held) (f.places.given + 1) ≡ false
-        → ((m : ℕ) → module_of (module_at m f.modules) (registered_there sub (Slot port slot) f.places)
-        ≡ module_of (module_at m f.modules) f.places)
-        → Agree (registered carrier port.0 slot.0 (picture f))
-        (picture (record f {
-          places = registered_there sub (Slot port slot) f.places;
-          substrates = f.substrates ++ first_substrate (f.places.given + 1) sub carrier (Slot port slot) ∷ [];
-        })) }
-{}
-
-/// A command that is issued to an Idle module does to the floor by numbers what the laws of the moves have.
-pub fn a_command_that_is_issued_does_what_the_laws_have()
-    ensures { (m : ℕ) (move : Move) (f : ToolFloor) → module_at m f.modules ≡ Some Idle
-        → Agree (issued m (task_of move.task f.places) (picture f)) (picture (given_to m (Some move) f)) }
-{}
-
-/// A module that changes is changed in the floor by numbers, and nothing else is: so where its command is closed, where it goes down,
-/// and where it comes up.
-pub fn a_module_that_changes_is_changed_alone()
-    ensures { (m : ℕ) (change : Module → Module) (x : Module) (state : ByNumber) (f : ToolFloor)
-        → module_at m f.modules ≡ Some x → module_of (Some (change x)) f.places ≡ state
-        → Agree (turned m state (picture f)) (picture (with_module m change f)) }
-{}
-
-/// What is done by an Align is aligned in the floor by numbers, and its module changes.
-pub fn what_is_aligned_is_aligned_by_numbers()
-    ensures { (m n : ℕ) (change : Module → Module) (x : Module) (state : ByNumber) (s : Substrate) (f : ToolFloor)
-        → substrate_numbered n f.substrates ≡ Some s
-        → module_at m f.modules ≡ Some x → module_of (Some (change x)) f.places ≡ state
-        → Agree (record (picture f) { is_aligned = set n true (picture f).is_aligned; equipment = set m state (picture f).equipment })
-        (picture (with_module m change (record f { substrates = change_numbered n aligned f.substrates }))) }
-{}
-
-/// What is done by a Pick or a Place moves in the floor by numbers, where it has a place, and its module is Idle.
-pub fn what_moves_moves_by_numbers()
-    ensures { (m : ℕ) (change : Module → Module) (x : Module) (sub : List ℕ) (to : LocId) (found : Registered) (f : ToolFloor)
-        → ArePlaces f.places → substrate_named sub f.places.held ≡ Some found
-        → module_at m f.modules ≡ Some x → change x ≡ Idle
-        → Agree (moved_by_numbers found.number (loc_of to) m (picture f))
-        (picture (with_module m change (record f { places = record f.places { held = moved sub to f.places.held } }))) }
 {}

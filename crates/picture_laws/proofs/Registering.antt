@@ -15,7 +15,7 @@ use Rattle.floor_moves.specs.Floor.{Loc}
 use Rattle.floor_moves.specs.Carriers.{registered}
 use Rattle.floor_moves.specs.Agree.{Agree}
 use Rattle.place_laws.specs.Picture.{picture, loc_of, place_in, module_of, of_one}
-use Rattle.place_laws.proofs.Columns.{unknown_none}
+use Rattle.picture_laws.proofs.Columns.{unknown_none}
 use Rattle.place_laws.proofs.Appended.{numbers_on, says_on, none_of_front}
 
 abbrev IsOne : ℕ → Type 0

@@ -13,9 +13,9 @@ use Rattle.floor_moves.specs.Floor.{idle}
 use Rattle.floor_moves.specs.Effects.{moved as moved_by_numbers}
 use Rattle.floor_moves.specs.Agree.{Agree}
 use Rattle.place_laws.specs.Picture.{picture, loc_of, module_of, of_one}
-use Rattle.place_laws.proofs.Columns.{unknown_none}
-use Rattle.place_laws.proofs.Closing.{modules_behind}
-use Rattle.place_laws.proofs.Moving.{moved_among, same_module}
+use Rattle.picture_laws.proofs.Columns.{unknown_none}
+use Rattle.picture_laws.proofs.Closing.{modules_behind}
+use Rattle.picture_laws.proofs.Moving.{moved_among, same_module}
 
 abbrev IsOne : ℕ → Type 0
 IsOne k = k ≡ 1

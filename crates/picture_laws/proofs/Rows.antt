@@ -11,7 +11,7 @@ use Rattle.floor_moves.specs.Agree.{Agree}
 use Rattle.floor_moves.specs.Valid.{Valid}
 use Rattle.floor_moves.proofs.Agreeing.{agree-keeps}
 use Rattle.place_laws.specs.Picture.{picture, of_one}
-use Rattle.place_laws.proofs.Columns.{unknown_none, numbers_same, says_same, says_new}
+use Rattle.picture_laws.proofs.Columns.{unknown_none, numbers_same, says_same, says_new}
 
 -- the number of the state of processing behind a row
 abbrev state_behind : ℕ → Substrate → ℕ

@@ -12,8 +12,8 @@ use Rattle.floor_moves.specs.Floor.{Module as ByNumber, set}
 use Rattle.floor_moves.specs.Effects.{turned}
 use Rattle.floor_moves.specs.Agree.{Agree}
 use Rattle.place_laws.specs.Picture.{picture, module_of, of_one}
-use Rattle.place_laws.proofs.Columns.{unknown_none, numbers_same, says_same, says_new}
-use Rattle.place_laws.proofs.Issuing.{changed_there, changed_else}
+use Rattle.picture_laws.proofs.Columns.{unknown_none, numbers_same, says_same, says_new}
+use Rattle.picture_laws.proofs.Issuing.{changed_there, changed_else}
 
 abbrev IsOne : ℕ → Type 0
 IsOne k = k ≡ 1

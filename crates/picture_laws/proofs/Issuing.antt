@@ -14,7 +14,7 @@ use Rattle.floor_moves.specs.Floor.{busy}
 use Rattle.floor_moves.specs.Effects.{issued}
 use Rattle.floor_moves.specs.Agree.{Agree}
 use Rattle.place_laws.specs.Picture.{picture, module_of, task_of, of_one}
-use Rattle.place_laws.proofs.Columns.{unknown_none}
+use Rattle.picture_laws.proofs.Columns.{unknown_none}
 
 abbrev IsOne : ℕ → Type 0
 IsOne k = k ≡ 1

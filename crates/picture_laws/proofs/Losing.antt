@@ -6,7 +6,7 @@ use Rattle.substrate.specs.declared.registered.Registered.{Registered}
 use Rattle.substrate.proofs.Apart.{has_it, first_apart, rest_apart, without_none}
 use Rattle.floor_moves.specs.Floor.{Loc}
 use Rattle.place_laws.specs.Picture.{loc_of}
-use Rattle.place_laws.proofs.Moving.{among, past}
+use Rattle.picture_laws.proofs.Moving.{among, past}
 
 -- none has a number that is not past the last one before
 none_before : (last given : ℕ) (rs : List Registered) (k : ℕ) → AreNumbered last given rs → k ≤ last → among rs k ≡ None

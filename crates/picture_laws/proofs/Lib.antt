@@ -1,0 +1,10 @@
+mod Opening
+mod Columns
+mod Rows
+mod Registering
+mod Issuing
+mod Closing
+mod Moving
+mod Carried
+mod Losing
+mod Lost

@@ -1,5 +1,0 @@
-use Rattle.place_laws.proofs.Registering.{registering_agrees}
-use Rattle.place_laws.proofs.laws.a_registration_does_what_the_laws_have.Goals as goal
-
-pub returns : goal.returns
-returns c = registering_agrees

@@ -1,5 +1,0 @@
-use Rattle.place_laws.proofs.Opening.{opening-keeps}
-use Rattle.place_laws.proofs.laws.it_holds_as_the_tool_begins.Goals as goal
-
-pub returns : goal.returns
-returns c = opening-keeps

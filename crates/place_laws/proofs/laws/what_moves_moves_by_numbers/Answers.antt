@@ -1,5 +1,0 @@
-use Rattle.place_laws.proofs.Carried.{moving_agrees}
-use Rattle.place_laws.proofs.laws.what_moves_moves_by_numbers.Goals as goal
-
-pub returns : goal.returns
-returns c = moving_agrees

@@ -36,6 +36,55 @@ pub record Leaves (ss : List Substrate) (f g : Floor) : Type 0 where
   pub registered : AllByRecursion (AreRegistered ss) f.carriers → AllByRecursion (AreRegistered ss) g.carriers
   pub ports : length g.ports ≡ length f.ports
 
+-- ---- the slot map
+
+-- a row of the slot map leaves VERIFIED, and but for rows 1 and 3 none becomes so
+and_false : (b : Bool) → (b && false) ≡ false
+and_false true = refl
+and_false false = refl
+
+pub still_verified : (row : ℕ) (m : MapState) → is_map_verified m ≡ true → is_map_verified (after map_number map_table row m) ≡ true
+still_verified row slots.NotRead v = absurd (cc)
+still_verified row slots.WaitingForHost v = absurd (cc)
+still_verified row slots.Verified v = rw (and_false (1 == row), and_false (2 == row), and_false (3 == row), and_false (4 == row)) refl
+still_verified row slots.VerificationFailed v = absurd (cc)
+
+-- the state behind, by which of the rows it is
+behind_not_read : (one two : Bool) → one ≡ false → is_map_verified (if one && true then slots.Verified else (if two && true then slots.WaitingForHost else slots.NotRead)) ≡ false
+behind_not_read true two e = absurd (cc)
+behind_not_read false true e = refl
+behind_not_read false false e = refl
+
+behind_waiting : (three four : Bool) → three ≡ false → is_map_verified (if three && true then slots.Verified else (if four && true then slots.VerificationFailed else slots.WaitingForHost)) ≡ false
+behind_waiting true four e = absurd (cc)
+behind_waiting false true e = refl
+behind_waiting false false e = refl
+
+swapped : (n m : ℕ) → (n == m) ≡ false → (m == n) ≡ false
+swapped n m e = of (m == n) refl where
+  of : (b : Bool) → (m == n) ≡ b → (m == n) ≡ false
+  of true f =
+      let same : n ≡ m = sym ((Decides-eqb m n).0 f) in
+      let t = (Decides-eqb n m).1 same in
+      absurd (let clash : true ≡ false = sym t ∙ e in cc)
+  of false f = f
+
+not_newly : (row : ℕ) (m : MapState) → reaches_verified row ≡ false → is_map_verified (after map_number map_table row m) ≡ true → is_map_verified m ≡ true
+not_newly row slots.NotRead other v =
+    let parts = or_parts (row == 1) (row == 3) other in
+    let one : is_map_verified (after map_number map_table row slots.NotRead) ≡ false = rw (and_false (3 == row), and_false (4 == row)) (behind_not_read (1 == row) (2 == row) (swapped row 1 parts.0)) in
+    absurd (cc)
+not_newly row slots.WaitingForHost other v =
+    let parts = or_parts (row == 1) (row == 3) other in
+    let one : is_map_verified (after map_number map_table row slots.WaitingForHost) ≡ false = rw (and_false (1 == row), and_false (2 == row)) (behind_waiting (3 == row) (4 == row) (swapped row 3 parts.1)) in
+    absurd (cc)
+not_newly row slots.Verified other v = refl
+not_newly row slots.VerificationFailed other v =
+    let one : is_map_verified (after map_number map_table row slots.VerificationFailed) ≡ false = rw (and_false (1 == row), and_false (2 == row), and_false (3 == row), and_false (4 == row)) refl in
+    absurd (cc)
+
+-- ---- what stays
+
 module _ (ss : List Substrate) where
   pub leaves_then : (f g h : Floor) → Leaves ss f g → Leaves ss g h → Leaves ss f h
   leaves_then f g h first next = record { stay = stay_then f.carriers g.carriers h.carriers first.stay next.stay; registered = λ are. next.registered (first.registered are); ports = next.ports ∙ first.ports }
@@ -76,51 +125,6 @@ module _ (ss : List Substrate) where
     on = λ c present verified. record { present = present; verified = verified; name = refl; port = refl };
     slots = λ c. record { number = refl; name = refl; port = refl; map = refl; verified = λ v. v };
   }
-
-  -- a row of the slot map leaves VERIFIED, and but for rows 1 and 3 none becomes so
-  and_false : (b : Bool) → (b && false) ≡ false
-  and_false true = refl
-  and_false false = refl
-
-  pub still_verified : (row : ℕ) (m : MapState) → is_map_verified m ≡ true → is_map_verified (after map_number map_table row m) ≡ true
-  still_verified row slots.NotRead v = absurd (cc)
-  still_verified row slots.WaitingForHost v = absurd (cc)
-  still_verified row slots.Verified v = rw (and_false (1 == row), and_false (2 == row), and_false (3 == row), and_false (4 == row)) refl
-  still_verified row slots.VerificationFailed v = absurd (cc)
-
-  -- the state behind, by which of the rows it is
-  behind_not_read : (one two : Bool) → one ≡ false → is_map_verified (if one && true then slots.Verified else (if two && true then slots.WaitingForHost else slots.NotRead)) ≡ false
-  behind_not_read true two e = absurd (cc)
-  behind_not_read false true e = refl
-  behind_not_read false false e = refl
-
-  behind_waiting : (three four : Bool) → three ≡ false → is_map_verified (if three && true then slots.Verified else (if four && true then slots.VerificationFailed else slots.WaitingForHost)) ≡ false
-  behind_waiting true four e = absurd (cc)
-  behind_waiting false true e = refl
-  behind_waiting false false e = refl
-
-  swapped : (n m : ℕ) → (n == m) ≡ false → (m == n) ≡ false
-  swapped n m e = of (m == n) refl where
-    of : (b : Bool) → (m == n) ≡ b → (m == n) ≡ false
-    of true f =
-        let same : n ≡ m = sym ((Decides-eqb m n).0 f) in
-        let t = (Decides-eqb n m).1 same in
-        absurd (let clash : true ≡ false = sym t ∙ e in cc)
-    of false f = f
-
-  not_newly : (row : ℕ) (m : MapState) → reaches_verified row ≡ false → is_map_verified (after map_number map_table row m) ≡ true → is_map_verified m ≡ true
-  not_newly row slots.NotRead other v =
-      let parts = or_parts (row == 1) (row == 3) other in
-      let one : is_map_verified (after map_number map_table row slots.NotRead) ≡ false = rw (and_false (3 == row), and_false (4 == row)) (behind_not_read (1 == row) (2 == row) (swapped row 1 parts.0)) in
-      absurd (cc)
-  not_newly row slots.WaitingForHost other v =
-      let parts = or_parts (row == 1) (row == 3) other in
-      let one : is_map_verified (after map_number map_table row slots.WaitingForHost) ≡ false = rw (and_false (1 == row), and_false (2 == row)) (behind_waiting (3 == row) (4 == row) (swapped row 3 parts.1)) in
-      absurd (cc)
-  not_newly row slots.Verified other v = refl
-  not_newly row slots.VerificationFailed other v =
-      let one : is_map_verified (after map_number map_table row slots.VerificationFailed) ≡ false = rw (and_false (1 == row), and_false (2 == row), and_false (3 == row), and_false (4 == row)) refl in
-      absurd (cc)
 
   pub map_goes : (row : ℕ) → reaches_verified row ≡ false → Goes (carriers.fires_row 9 row)
   map_goes row other = record {

@@ -98,7 +98,7 @@ module _ (f : ToolFloor) (b : Bare f) (n row : ℕ) (reaches : reaches_verified 
   valid = shop_keeps (firing 9 n row) f.shop starts b.shop
 
   goes : (c : Carrier) → c.present ≡ true → is_map_verified c.states.map ≡ true → GoesOn c (change c)
-  goes c present verified = record { present = present; verified = still_verified [] row c.states.map verified; name = refl; port = refl }
+  goes c present verified = record { present = present; verified = still_verified row c.states.map verified; name = refl; port = refl }
 
   stay : Stay f.shop.carriers behind.carriers
   stay = stay_numbered n change (λ c. refl) goes f.shop.carriers

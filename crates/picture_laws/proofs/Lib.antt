@@ -8,3 +8,5 @@ mod Moving
 mod Carried
 mod Losing
 mod Lost
+mod CarrierColumns
+mod Coming

@@ -1,10 +1,17 @@
 //! Laws of the floor of the tool by numbers, for proofs to cite. Each function is empty: what it ensures holds of the definitions.
 
-ghost use Rattle.std.specs.Prelude.{◌≡◌, ℕ, ◌+◌, true, false, List, [], ◌∷◌, ◌++◌, map, Some};
+ghost use Rattle.std.specs.Prelude.{◌≡◌, ℕ, ◌+◌, Bool, true, false, List, [], ◌∷◌, ◌++◌, map, Some};
 ghost use Rattle.gem_tables.specs.Table.{firing, after, is_one_of};
 ghost use Rattle.gem_ids.specs.declared.numbers.LocId.TheVariants.{Slot};
 ghost use Rattle.gem_ids.specs.declared.numbers.PortNo.{PortNo};
 ghost use Rattle.gem_ids.specs.declared.numbers.SlotNo.{SlotNo};
+ghost use Rattle.load_port.specs.declared.port.Port.{Port};
+ghost use Rattle.carrier.specs.declared.carrier.Carrier.{Carrier};
+ghost use Rattle.carrier.specs.Tables.{access_number};
+ghost use Rattle.carrier.specs.Record.{is_map_verified};
+ghost use Rattle.carrier.specs.Carriers.{carrier_named, carrier_numbered, change_named, change_numbered as carriers_changed, with_created, came_to, fires_row};
+ghost use Rattle.shop_floor.specs.Floor.{floor_of};
+ghost use Rattle.shop_floor.specs.Valid.{IsFloor};
 ghost use Rattle.robot_moves.specs.Modules.{module_at};
 ghost use Rattle.robot_moves.specs.declared.module.Module.{Module};
 ghost use Rattle.robot_moves.specs.declared.module.Module.TheVariants.{Idle};
@@ -15,13 +22,13 @@ ghost use Rattle.substrate.specs.declared.registered.Registered.{Registered};
 ghost use Rattle.substrate.specs.Tables.{processing_number, processing_table};
 ghost use Rattle.substrate.specs.declared.record.LocationRecord.{LocationRecord};
 ghost use Rattle.tool_floor.specs.declared.tracking.Substrate.{Substrate};
-ghost use Rattle.tool_floor.specs.Floor.{ToolFloor, opening, with_module, substrate_numbered, change_numbered, number_of};
+ghost use Rattle.tool_floor.specs.Floor.{ToolFloor, with_shop, opening, with_module, substrate_numbered, change_numbered, number_of};
 ghost use Rattle.tool_floor.specs.Machines.{with_moved, floor_fired};
 ghost use Rattle.tool_floor.specs.Modules.{aligned, issued as given_to};
 ghost use Rattle.tool_floor.specs.Substrates.{first_substrate};
-ghost use Rattle.floor_moves.specs.Carriers.{registered};
+ghost use Rattle.floor_moves.specs.Carriers.{created, arrived, verified, registered};
 ghost use Rattle.floor_moves.specs.Floor.{Module as ByNumber, set};
-ghost use Rattle.floor_moves.specs.Effects.{worked, lost, issued, turned, moved as moved_by_numbers};
+ghost use Rattle.floor_moves.specs.Effects.{accessed, worked, lost, issued, turned, moved as moved_by_numbers};
 ghost use Rattle.floor_moves.specs.Agree.{Agree};
 ghost use Rattle.floor_moves.specs.Valid.{Valid};
 ghost use Rattle.place_laws.specs.Picture.{picture, loc_of, module_of, task_of};
@@ -96,4 +103,33 @@ pub fn what_is_lost_has_no_place_by_numbers()
         → substrate_numbered n f.substrates ≡ Some s → substrate_named s.sub f.places.held ≡ Some found → found.number ≡ n
         → ((m : ℕ) → module_of (module_at m f.modules) (removed s.sub f.places) ≡ module_of (module_at m f.modules) f.places)
         → Agree (lost n (picture f)) (picture (floor_fired (firing 13 n 8) f)) }
+{}
+
+/// A carrier that is created does to the floor by numbers what the laws of the moves have: it is not present, its map is not
+/// VERIFIED, and it is NOT ACCESSED.
+pub fn a_carrier_that_is_created_does_what_the_laws_have()
+    ensures { (f : ToolFloor) (name : List ℕ) (ports : List Port) (next : ℕ) → IsFloor f.shop
+        → Agree (created f.shop.next_carrier (picture f))
+        (picture (with_shop (floor_of ports (with_created f.shop.next_carrier name f.shop.carriers) next) f)) }
+{}
+
+/// A carrier that comes to a port is present there in the floor by numbers.
+pub fn a_carrier_that_comes_does_what_the_laws_have()
+    ensures { (f : ToolFloor) (name : List ℕ) (port : ℕ) (is_read : Bool) (slots : List ℕ) (ports : List Port) (next : ℕ) (d : Carrier)
+        → IsFloor f.shop → carrier_named name f.shop.carriers ≡ Some d → carrier_numbered d.number f.shop.carriers ≡ Some d
+        → Agree (arrived d.number port (picture f))
+        (picture (with_shop (floor_of ports (change_named name (came_to port is_read slots) f.shop.carriers) next) f)) }
+{}
+
+/// A row of the slot map behind which it is VERIFIED, and a row of accessing, do to the floor by numbers what the laws of the moves
+/// have.
+pub fn rows_of_one_carrier_do_what_the_laws_have()
+    ensures map { (f : ToolFloor) (n row : ℕ) (c : Carrier) → carrier_numbered n f.shop.carriers ≡ Some c
+        → is_map_verified (fires_row 9 row c).states.map ≡ true
+        → Agree (verified n (picture f))
+        (picture (with_shop (record f.shop { carriers = carriers_changed n (fires_row 9 row) f.shop.carriers }) f)) }
+    ensures access { (f : ToolFloor) (n row state : ℕ) (c : Carrier) → carrier_numbered n f.shop.carriers ≡ Some c
+        → access_number (fires_row 10 row c).states.access ≡ state
+        → Agree (accessed n state (picture f))
+        (picture (with_shop (record f.shop { carriers = carriers_changed n (fires_row 10 row) f.shop.carriers }) f)) }
 {}

@@ -8,6 +8,7 @@ use line_subjects::{ItemTexts, LineTexts};
 use link_subjects::{Communicates, Controls, Linked, Reads, Table};
 use message_subjects::{Acknowledge, Messages};
 use name_subjects::{Calendar, IdList, Names};
+use process_job_subjects::{JobStates, JobsOf};
 use std::alloc::Global;
 use substrate_subjects::{PlacesOf, Planned, SubstrateStates};
 use test_lines::{Texts, answers};
@@ -72,6 +73,17 @@ fn play_substrates(alloc: Global, begins: &str, lines: &[Line<'_>]) -> Result<Op
         "to the modules of 2 chambers" => answers(alloc, &mut Planned::new(alloc, 2)?, lines),
         _ => match begins.strip_prefix("to the places of ") {
             Some(tool) => answers(alloc, &mut PlacesOf::named(alloc, tool)?, lines),
+            None => play_jobs(alloc, begins, lines),
+        },
+    }
+}
+
+// Process jobs.
+fn play_jobs(alloc: Global, begins: &str, lines: &[Line<'_>]) -> Result<Option<String>> {
+    match begins {
+        "to the states of a process job" => answers(alloc, &mut JobStates, lines),
+        _ => match begins.strip_prefix("to process jobs of ") {
+            Some(recipes) => answers(alloc, &mut JobsOf::named(alloc, recipes)?, lines),
             None => bail!("there is no such subject"),
         },
     }

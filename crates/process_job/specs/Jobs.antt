@@ -1,0 +1,118 @@
+-- The process jobs that are kept, in the order in which they were created (after SEMI E40; this tool's profile, process jobs).
+use Rattle.std.specs.Prelude.{◌≡◌, ℕ, ◌+◌, ◌==◌, ◌≤◌, ◌<◌, ◌-◌, Bool, true, false, not, ◌&&◌, if◌then◌else◌, List, [], ◌∷◌, ◌++◌, length, find, Option, Some, None}
+use Rattle.std.specs.List.{list_any}
+use Rattle.std.specs.Str.{bytes_eq}
+use Rattle.process_job.specs.Record.{first_record, job_starts, job_fired}
+use Rattle.process_job.specs.declared.job.JobSpec.{JobSpec}
+use Rattle.process_job.specs.declared.job.ProcessJob.{ProcessJob}
+
+-- The jobs of a tool: those that are kept, in the order in which they were created; the names of the tool's recipes; and the last
+-- number of creation that was given, 0 where none was.
+pub record JobBook : Type 0 where
+  pub kept : List ProcessJob
+  pub recipes : List (List ℕ)
+  pub given : ℕ
+
+-- no job is kept, and none was
+abbrev pub no_jobs : List (List ℕ) → JobBook
+no_jobs recipes = record { kept = []; recipes = recipes; given = 0 }
+
+-- ---- jobs
+
+-- the job has this name
+abbrev pub has_name : List ℕ → ProcessJob → Bool
+has_name name j = bytes_eq j.id name
+
+-- the job of a name
+abbrev pub job_named : List ℕ → List ProcessJob → Option ProcessJob
+job_named name jobs = find (has_name name) jobs
+
+-- a job of the name is kept
+abbrev pub is_known : List ℕ → List ProcessJob → Bool
+is_known name jobs = list_any (has_name name) jobs
+
+-- the job has this number of creation
+abbrev pub has_number : ℕ → ProcessJob → Bool
+has_number n j = j.number == n
+
+-- the job of a number of creation
+abbrev pub job_numbered : ℕ → List ProcessJob → Option ProcessJob
+job_numbered n jobs = find (has_number n) jobs
+
+-- a job of the number is kept
+abbrev pub is_numbered : ℕ → List ProcessJob → Bool
+is_numbered n jobs = list_any (has_number n) jobs
+
+-- the place of the first job of a number, of which the given one has this place
+abbrev pub place_from : ℕ → ℕ → List ProcessJob → Option ℕ
+place_from place n [] = None
+place_from place n (j ∷ js) = if has_number n j then Some place else place_from (place + 1) n js
+
+-- the place of the job of a number, counted from 0
+abbrev pub place_numbered : ℕ → List ProcessJob → Option ℕ
+place_numbered n jobs = place_from 0 n jobs
+
+-- ---- what happens to them
+
+-- a change of the job of a number; where there is none, nothing changes
+abbrev pub change_numbered : ℕ → (ProcessJob → ProcessJob) → List ProcessJob → List ProcessJob
+change_numbered n change [] = []
+change_numbered n change (j ∷ js) = if has_number n j then change j ∷ js else j ∷ change_numbered n change js
+
+-- the jobs without that of a number; the others keep their order
+abbrev pub without_numbered : ℕ → List ProcessJob → List ProcessJob
+without_numbered n [] = []
+without_numbered n (j ∷ js) = if has_number n j then js else j ∷ without_numbered n js
+
+-- a row starts at the job, where there is one
+abbrev pub starts_row : ℕ → Option ProcessJob → Bool
+starts_row row None = false
+starts_row row (Some j) = job_starts row j.states
+
+-- the state of a job changes by a row
+abbrev pub fires_row : ℕ → ProcessJob → ProcessJob
+fires_row row j = record j { states = job_fired row j.states }
+
+-- a row fires at the job of a number
+abbrev pub fired : ℕ → ℕ → JobBook → JobBook
+fired number row b = record b { kept = change_numbered number (fires_row row) b.kept }
+
+-- the job of a number is forgotten; its number stays given
+abbrev pub forgotten : ℕ → JobBook → JobBook
+forgotten number b = record b { kept = without_numbered number b.kept }
+
+-- a job that is created with this number: QUEUED, and as it was asked for
+abbrev pub created : ℕ → JobSpec → ProcessJob
+created number j =
+    record { number = number; id = j.id; states = first_record; auto = j.auto; recipe = j.recipe; material = j.material }
+
+-- it gets the next number, and goes behind the others
+abbrev pub with_created : JobSpec → JobBook → JobBook
+with_created j b = record b { kept = b.kept ++ created (b.given + 1) j ∷ []; given = b.given + 1 }
+
+-- the most jobs that are kept (this tool's profile, limits)
+abbrev pub most_jobs : ℕ
+most_jobs = 64
+
+-- how many more can be
+abbrev pub space : JobBook → ℕ
+space b = most_jobs - length b.kept
+
+-- ---- rules that the jobs keep
+
+-- each name is that of one job
+abbrev pub are_named_apart : List ProcessJob → Bool
+are_named_apart [] = true
+are_named_apart (j ∷ js) = not (is_known j.id js) && are_named_apart js
+
+-- their numbers rise, from behind one number to another
+abbrev pub AreNumbered : ℕ → ℕ → List ProcessJob → Type 0
+AreNumbered last given [] = last ≤ given
+AreNumbered last given (j ∷ js) = (last < j.number) × AreNumbered j.number given js
+
+-- Each name is that of one job, the numbers rise, the last that was given is the greatest of them or is past them, and there are at
+-- most 64 jobs.
+pub record AreJobs (b : JobBook) : Type 0 where
+  pub apart : are_named_apart b.kept ≡ true
+  pub numbered : AreNumbered 0 b.given b.kept
+  pub few : length b.kept ≤ most_jobs

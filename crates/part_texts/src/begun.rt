@@ -2,6 +2,7 @@
 
 use anyhow::{Result, bail};
 use carrier_subjects::{CarrierStates, KnownCarriers};
+use control_job_subjects::{ControlStates, KeptJobs};
 use conversation_files::Line;
 use floor_subjects::{Floor, PortStates, ToolPorts};
 use line_subjects::{ItemTexts, LineTexts};
@@ -72,7 +73,16 @@ fn play_substrates(alloc: Global, begins: &str, lines: &[Line<'_>]) -> Result<Op
         "to the modules of 2 chambers" => answers(alloc, &mut Planned::new(alloc, 2)?, lines),
         _ => match begins.strip_prefix("to the places of ") {
             Some(tool) => answers(alloc, &mut PlacesOf::named(alloc, tool)?, lines),
-            None => bail!("there is no such subject"),
+            None => play_jobs(alloc, begins, lines),
         },
+    }
+}
+
+// Control jobs.
+fn play_jobs(alloc: Global, begins: &str, lines: &[Line<'_>]) -> Result<Option<String>> {
+    match begins {
+        "to the states of a control job" => answers(alloc, &mut ControlStates, lines),
+        "to control jobs" => answers(alloc, &mut KeptJobs::new(alloc)?, lines),
+        _ => bail!("there is no such subject"),
     }
 }

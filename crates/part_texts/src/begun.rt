@@ -2,6 +2,7 @@
 
 use anyhow::{Result, bail};
 use carrier_subjects::{CarrierStates, KnownCarriers};
+use control_job_subjects::{ControlStates, KeptJobs};
 use conversation_files::Line;
 use floor_subjects::{Floor, PortStates, ToolPorts};
 use line_subjects::{ItemTexts, LineTexts};
@@ -78,10 +79,12 @@ fn play_substrates(alloc: Global, begins: &str, lines: &[Line<'_>]) -> Result<Op
     }
 }
 
-// Process jobs.
+// Process jobs and control jobs.
 fn play_jobs(alloc: Global, begins: &str, lines: &[Line<'_>]) -> Result<Option<String>> {
     match begins {
         "to the states of a process job" => answers(alloc, &mut JobStates, lines),
+        "to the states of a control job" => answers(alloc, &mut ControlStates, lines),
+        "to control jobs" => answers(alloc, &mut KeptJobs::new(alloc)?, lines),
         _ => match begins.strip_prefix("to process jobs of ") {
             Some(recipes) => answers(alloc, &mut JobsOf::named(alloc, recipes)?, lines),
             None => bail!("there is no such subject"),

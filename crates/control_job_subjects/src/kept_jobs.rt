@@ -38,7 +38,7 @@ impl Subject for KeptJobs {
             }
             "create" => created(alloc, &mut self.jobs, words),
             "fire" | "head" | "leaves" => changed(alloc, &mut self.jobs, words),
-            "command" | "commands" => asked(alloc, &self.jobs, words),
+            "ask" | "commands" => asked(alloc, &self.jobs, words),
             "job" | "at" | "number" => shown(alloc, &self.jobs, words),
             _ => told(alloc, &self.jobs, words),
         }
@@ -85,7 +85,7 @@ fn changed(alloc: Global, jobs: &mut ControlJobs, words: &[&str]) -> Result<Stri
 // What is answered to a command at the job of a name, or to all of 0 to 9.
 fn asked(alloc: Global, jobs: &ControlJobs, words: &[&str]) -> Result<String> {
     let name = job(words, 1)?;
-    if word(words, 0)? == "command" {
+    if word(words, 0)? == "ask" {
         return answer_text(alloc, jobs, name, small(words, 2)?);
     }
     let mut text = String::new(alloc);

@@ -5,5 +5,7 @@ pub mod Registrations
 pub mod Falls
 pub mod Keeping
 pub mod Working
+pub mod Slots
+pub mod Resting
 pub mod Moves
 pub mod Showing

@@ -1,9 +1,9 @@
 -- What a scan over the locations or the substrates finds.
-use Rattle.std.proofs.Common.{◌≡◌, ℕ, zero, suc, ◌+◌, ◌-◌, ◌==◌, ◌<◌, ◌≤◌, Bool, true, false, if◌then◌else◌, filter, List, [], ◌∷◌, ◌++◌, length, map, drop, take, set, get_or, Option, Some, None, Result, Ok, Err, IfOk, IfErr, slice_get, refl, sym, ap, subst, ◌∙◌, arith}
+use Rattle.std.proofs.Common.{Bor, option_map, ◌≡◌, ℕ, zero, suc, ◌+◌, ◌-◌, ◌==◌, ◌<◌, ◌≤◌, Bool, true, false, if◌then◌else◌, filter, List, [], ◌∷◌, ◌++◌, length, map, drop, take, set, get_or, Option, Some, None, Result, Ok, Err, IfOk, IfErr, slice_get, refl, sym, ap, subst, ◌∙◌, arith}
 use Rattle.std.specs.List.{list_all}
 use Rattle.std.proofs.lemmas.Bool.Decides.{nat_tests}
 use Rattle.load_port.proofs.Places.{update_found, update_missing, update_none, update_set}
-use Rattle.carrier.proofs.Scans.{drop_here, drop_past, drop_end}
+use Rattle.carrier.proofs.Scans.{drop_here, drop_past}
 use Rattle.substrate.specs.declared.record.LocationRecord.{LocationRecord}
 use Rattle.tool_floor.specs.declared.tracking.Substrate.{Substrate}
 use Rattle.tool_floor.specs.Floor.{location_at, change_location, location_numbers, substrate_numbered, change_numbered, number_of}
@@ -14,6 +14,10 @@ pub got_at : {X : Type 0} (xs : List X) (place : ℕ) (x : X) → place < length
 got_at [] place x l e = absurd (omega (arith, l))
 got_at (y ∷ ys) zero x l e = ap (λ z. Some z) (sym e)
 got_at (y ∷ ys) (suc place) x l e = got_at ys place x (omega (arith, l)) e
+
+-- what is shown at a place by a reference
+pub shown : {X : Type 0} {o p : Option (Bor X)} {got : Option X} → option_map (λ (b : Bor X). b.now) o ≡ got → o ≡ p → got ≡ option_map (λ (b : Bor X). b.now) p
+shown e is = sym e ∙ ap (option_map (λ b. b.now)) is
 
 -- ---- whether all pass a test
 

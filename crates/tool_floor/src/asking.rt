@@ -4,6 +4,7 @@ ghost use Rattle.std.specs.Prelude.{◌≡◌, ◌&&◌, Some, None};
 ghost use Rattle.std.specs.List.{list_any};
 ghost use Rattle.gem_tables.specs.Table.{row_of, wants_found};
 ghost use Rattle.carrier.specs.Tables.{accessing_table};
+ghost use Rattle.substrate.specs.Record.{is_needing};
 ghost use Rattle.substrate.specs.Tables.{occupancy_table, transport_table, processing_table};
 ghost use Rattle.tool_floor.specs.Substrates.{is_outside, is_in_slot, is_removed, is_of, has_outside, is_back, is_quiet, accessing_wants, location_wants, task_processes, processes, substrate_wants};
 
@@ -13,7 +14,7 @@ use carrier::Carrier;
 use gem_ids::SubstrateId;
 use gem_tables::RowId;
 use robot_moves::Module;
-use substrate::{is_same, is_work_place};
+use substrate::is_work_place;
 use tool_events::Task;
 
 // Whether a task processes the substrate of this name.
@@ -43,7 +44,8 @@ impl ToolFloor {
     pub(crate) fn is_outside(&self, s: &Substrate) -> bool
         ensures { result ≡ is_outside s.now self.now.places }
     {
-        if !self.places.is_any_at_work() {
+        // mostly it is in its slot, which is told without its name being looked up
+        if !is_work_place(s.slot) && self.is_in_slot(s) {
             return false;
         }
         match self.places.find(s.sub) {
@@ -56,8 +58,9 @@ impl ToolFloor {
     pub(crate) fn is_in_slot(&self, s: &Substrate) -> bool
         ensures { result ≡ is_in_slot s.now self.now.places }
     {
-        match self.places.find(s.sub) {
-            Some(found) => is_same(found.at, s.slot),
+        // who is there is cheaper to ask than where it is, which takes a lookup of its name
+        match self.places.at(s.slot) {
+            Some(name) => name.as_bytes() == s.sub.as_bytes(),
             None => false,
         }
     }
@@ -76,6 +79,40 @@ impl ToolFloor {
         for place in 0..self.module_count() {
             if let Some(module) = self.module_at(place) {
                 if processes(s.sub, &module) {
+                    return true;
+                }
+            }
+        }
+        false
+    }
+
+    // Whether a task processes a substrate that NEEDS PROCESSING.
+    fn is_task_due(&self, task: &Task) -> bool
+        ensures { result ≡ list_any (λ s. is_needing s.states.processing && task_processes s.sub task.now) self.now.substrates }
+    {
+        match task {
+            Task::Process { sub, .. } => self.substrates.needs_processing(*sub),
+            _ => false,
+        }
+    }
+
+    // Whether a module has an open command that does.
+    fn is_module_due(&self, module: &Module) -> bool
+        ensures { result ≡ list_any (λ s. is_needing s.states.processing && processes s.sub module.now) self.now.substrates }
+    {
+        match module {
+            Module::Busy { command, .. } => self.is_task_due(&command.task),
+            _ => false,
+        }
+    }
+
+    // Whether one of the modules has.
+    pub(crate) fn is_any_due(&self) -> bool
+        ensures { result ≡ list_any (λ m. list_any (λ s. is_needing s.states.processing && processes s.sub m) self.now.substrates) self.now.modules }
+    {
+        for place in 0..self.module_count() {
+            if let Some(module) = self.module_at(place) {
+                if self.is_module_due(&module) {
                     return true;
                 }
             }
@@ -108,7 +145,7 @@ impl ToolFloor {
         }
         for place in 0..self.substrate_count() {
             if let Some(s) = self.substrate_at(place) {
-                if self.is_outside_of(carrier, &s) {
+                if self.is_outside_of(carrier, s) {
                     return true;
                 }
             }
@@ -122,7 +159,7 @@ impl ToolFloor {
     {
         for place in 0..self.substrate_count() {
             if let Some(s) = self.substrate_at(place) {
-                if !self.is_back(carrier, &s) {
+                if !self.is_back(carrier, s) {
                     return false;
                 }
             }

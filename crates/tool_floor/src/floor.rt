@@ -1,6 +1,6 @@
 //! The floor of the tool.
 
-ghost use Rattle.std.specs.Prelude.{◌≡◌, ◌≤◌, ◌<◌, ◌==◌, slice_get, ◌∷◌, [], true, false, not, is_some, length, Option, IfOk, IfErr};
+ghost use Rattle.std.specs.Prelude.{◌≡◌, ◌≤◌, ◌<◌, ◌==◌, slice_get, ◌∷◌, [], true, false, not, is_some, length, Option, option_map, IfOk, IfErr};
 ghost use Rattle.std.specs.Option.{option_to_list};
 ghost use Rattle.gem_tables.specs.Table.{is_one_of};
 ghost use Rattle.load_port.specs.Caack.{is_done_code};
@@ -204,8 +204,8 @@ impl ToolFloor {
     }
 
     // The substrate of a place in their list, counted from 0.
-    pub(crate) fn substrate_at(&self, place: usize) -> Option<Substrate>
-        ensures { result ≡ slice_get self.now.substrates place }
+    pub(crate) fn substrate_at(&self, place: usize) -> Option<&Substrate>
+        ensures { option_map (λ s. s.now) result ≡ slice_get self.now.substrates place }
     {
         self.substrates.get(place)
     }
@@ -283,10 +283,10 @@ impl ToolFloor {
         if let Some(x) = self.ready_location() {
             return Some(x);
         }
-        if let Some(x) = self.ready_substrate(TRANSPORT) {
+        if let Some(x) = self.ready_transport() {
             return Some(x);
         }
-        if let Some(x) = self.ready_substrate(PROCESSING) {
+        if let Some(x) = self.ready_processing() {
             return Some(x);
         }
         self.ready_move()

@@ -186,14 +186,36 @@ impl ToolFloor {
         }
     }
 
+    // The row of table 12 that is ready at the first substrate at which one is.
+    pub(crate) fn ready_transport(&self) -> Option<Firing>
+        ensures { result ≡ first_ready 12 (λ n. ready_in floor_machines 12 n self.now) (map number_of self.now.substrates) }
+    {
+        // a row is ready only at one that is outside, or that is AT WORK
+        if !self.places.is_any_at_work() && !self.substrates.is_any_at_work() {
+            return None;
+        }
+        self.ready_substrate(TRANSPORT)
+    }
+
+    // The row of table 13 that is ready at the first substrate at which one is.
+    pub(crate) fn ready_processing(&self) -> Option<Firing>
+        ensures { result ≡ first_ready 13 (λ n. ready_in floor_machines 13 n self.now) (map number_of self.now.substrates) }
+    {
+        // the few modules are asked first, since each substrate would have to ask all of them
+        if !self.is_any_due() {
+            return None;
+        }
+        self.ready_substrate(PROCESSING)
+    }
+
     // The row of table 12 or 13 that is ready at the first substrate at which one is.
-    pub(crate) fn ready_substrate(&self, table: u8) -> Option<Firing>
+    fn ready_substrate(&self, table: u8) -> Option<Firing>
         requires { is_one_of (12 ∷ 13 ∷ []) table ≡ true }
         ensures { result ≡ first_ready table (λ n. ready_in floor_machines table n self.now) (map number_of self.now.substrates) }
     {
         for place in 0..self.substrate_count() {
             if let Some(substrate) = self.substrate_at(place) {
-                if let Some(row) = self.substrate_row(table, &substrate) {
+                if let Some(row) = self.substrate_row(table, substrate) {
                     return Some(Firing::new(table, substrate.number, row));
                 }
             }

@@ -120,7 +120,7 @@ impl ToolFloor {
     fn empty_slot(&mut self, carrier: u64, place: usize)
         ensures { self.new ≡ record self.old { places = emptied carrier (slice_get self.old.substrates place) self.old.places } }
     {
-        if let Some(substrate) = self.substrate_at(place) {
+        if let Some(substrate) = self.substrate_at(place).copied() {
             if substrate.carrier == carrier {
                 self.places.remove(substrate.sub);
             }

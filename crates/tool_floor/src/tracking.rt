@@ -1,6 +1,10 @@
 //! The substrates of the carriers that are here.
 
-ghost use Rattle.std.specs.Prelude.{◌≡◌, ◌∷◌, ◌++◌, [], ◌≤◌, length, filter, not, slice_get, IfOk, IfErr};
+ghost use Rattle.std.specs.Prelude.{◌≡◌, ◌==◌, ◌&&◌, ◌∷◌, ◌++◌, [], ◌≤◌, length, filter, not, option_map, slice_get, IfOk, IfErr};
+ghost use Rattle.std.specs.List.{list_any};
+ghost use Rattle.std.specs.Str.{bytes_eq};
+ghost use Rattle.substrate.specs.Tables.{transport_number};
+ghost use Rattle.substrate.specs.Record.{is_needing};
 ghost use Rattle.tool_floor.specs.Floor.{substrate_numbered, change_numbered};
 ghost use Rattle.tool_floor.specs.Machines.{substrate_moves};
 ghost use Rattle.tool_floor.specs.Substrates.{is_of};
@@ -55,24 +59,37 @@ impl Substrates {
     }
 
     // The substrate of a place, counted from 0.
-    pub(crate) fn get(&self, place: usize) -> Option<Substrate>
-        ensures { result ≡ slice_get self.now place }
+    pub(crate) fn get(&self, place: usize) -> Option<&Substrate>
+        ensures { option_map (λ s. s.now) result ≡ slice_get self.now place }
     {
-        self.list.get(place).copied()
+        self.list.get(place)
     }
 
     // The substrate of a number of registration.
     pub(crate) fn numbered(&self, number: u64) -> Option<Substrate>
         ensures { result ≡ substrate_numbered number self.now }
     {
-        for place in 0..self.len() {
-            if let Some(substrate) = self.get(place) {
-                if substrate.number == number {
-                    return Some(substrate);
-                }
+        for substrate in self.list.as_slice() {
+            if substrate.number == number {
+                return Some(*substrate);
             }
         }
         None
+    }
+
+    // Whether one is AT WORK.
+    pub(crate) fn is_any_at_work(&self) -> bool
+        ensures { result ≡ list_any (λ s. transport_number s.states.transport == 1) self.now }
+    {
+        self.list.iter().any(|s| s.states.transport.number() == 1)
+    }
+
+    // Whether one of this name NEEDS PROCESSING.
+    pub(crate) fn needs_processing(&self, sub: SubstrateId) -> bool
+        ensures { result ≡ list_any (λ s. is_needing s.states.processing && bytes_eq sub s.sub) self.now }
+    {
+        self.list.iter().any(|s| s.states.processing.is_needing()
+            && sub.as_bytes() == s.sub.as_bytes())
     }
 
     // One is registered, behind the others. On want of memory nothing has changed.

@@ -1,24 +1,25 @@
-use Rattle.std.proofs.Common.{Bool, ◌&&◌, ◌∙◌, sym, ap, ℕ}
+use Rattle.std.proofs.Common.{◌&&◌, ◌∙◌, sym, ap}
 use Rattle.carrier.proofs.Scans.{any_here, any_next, any_past}
 use Rattle.tool_floor.specs.declared.tracking.Substrate.{Substrate}
 use Rattle.tool_floor.specs.Substrates.{is_of, is_outside, has_outside}
 use Rattle.tool_floor.specs.Floor.{ToolFloor}
 use Rattle.tool_floor.proofs.Working.{has_none_outside}
+use Rattle.tool_floor.proofs.Scans.{shown}
 use Rattle.tool_floor.proofs.floor.ToolFloor.has_outside.Goals.{in-Some+else-is_outside_of, in_default}
 use Rattle.tool_floor.proofs.floor.ToolFloor.has_outside.Goals as goal
 
 pub returns-then-is_outside_of : goal.returns-then-is_outside_of
 returns-then-is_outside_of c =
-    sym (any_here (λ (s : Substrate). is_of c.args.carrier s && is_outside s c.args.self.now.places) c.args.self.now.substrates c.loop-place.place c.in-Some.s (sym c.substrate_at.ensures ∙ c.in-Some.is) (sym c.is_outside_of.ensures ∙ c.if-is_outside_of.true))
+    sym (any_here (λ (s : Substrate). is_of c.args.carrier s && is_outside s c.args.self.now.places) c.args.self.now.substrates c.loop-place.place c.in-Some.s.now (shown c.substrate_at.ensures c.in-Some.is) (sym c.is_outside_of.ensures ∙ c.if-is_outside_of.true))
     ∙ c.loop-place.invariant
 
 pub loop-place-preserved : goal.loop-place-preserved
 loop-place-preserved c = elim c.match-substrate_at.branch [
   | in-Some+else-is_outside_of w ↦
-      sym (any_next (λ (s : Substrate). is_of c.args.carrier s && is_outside s c.args.self.now.places) c.args.self.now.substrates c.loop-place.place w.in-Some.s (sym c.substrate_at.ensures ∙ w.in-Some.is) (sym w.is_outside_of.ensures ∙ w.if-is_outside_of.false))
+      sym (any_next (λ (s : Substrate). is_of c.args.carrier s && is_outside s c.args.self.now.places) c.args.self.now.substrates c.loop-place.place w.in-Some.s.now (shown c.substrate_at.ensures w.in-Some.is) (sym w.is_outside_of.ensures ∙ w.if-is_outside_of.false))
       ∙ c.loop-place.invariant
   | in_default w ↦
-      sym (any_past (λ (s : Substrate). is_of c.args.carrier s && is_outside s c.args.self.now.places) c.args.self.now.substrates c.loop-place.place (sym c.substrate_at.ensures ∙ w.in_default.is))
+      sym (any_past (λ (s : Substrate). is_of c.args.carrier s && is_outside s c.args.self.now.places) c.args.self.now.substrates c.loop-place.place (shown c.substrate_at.ensures w.in_default.is))
       ∙ c.loop-place.invariant
 ]
 

@@ -14,18 +14,18 @@ returns-in-Some-ready_location c =
     least_third c.args.self.now c.in-Some-ready_location.x (sym c.least_of_shop.ensures ∙ c.in_default.is) (sym c.ready_accessing.ensures ∙ c.in_default-ready_accessing.is)
     (sym c.ready_location.ensures ∙ c.in-Some-ready_location.is)
 
-pub returns-in-Some-ready_substrate : goal.returns-in-Some-ready_substrate
-returns-in-Some-ready_substrate c =
-    least_fourth c.args.self.now c.in-Some-ready_substrate.x (sym c.least_of_shop.ensures ∙ c.in_default.is) (sym c.ready_accessing.ensures ∙ c.in_default-ready_accessing.is)
-    (sym c.ready_location.ensures ∙ c.in_default-ready_location.is) (sym c.ready_substrate.ensures ∙ c.in-Some-ready_substrate.is)
+pub returns-in-Some-ready_transport : goal.returns-in-Some-ready_transport
+returns-in-Some-ready_transport c =
+    least_fourth c.args.self.now c.in-Some-ready_transport.x (sym c.least_of_shop.ensures ∙ c.in_default.is) (sym c.ready_accessing.ensures ∙ c.in_default-ready_accessing.is)
+    (sym c.ready_location.ensures ∙ c.in_default-ready_location.is) (sym c.ready_transport.ensures ∙ c.in-Some-ready_transport.is)
 
-pub returns-in-Some-ready_substrate-2 : goal.returns-in-Some-ready_substrate-2
-returns-in-Some-ready_substrate-2 c =
-    least_fifth c.args.self.now c.in-Some-ready_substrate-2.x (sym c.least_of_shop.ensures ∙ c.in_default.is) (sym c.ready_accessing.ensures ∙ c.in_default-ready_accessing.is)
-    (sym c.ready_location.ensures ∙ c.in_default-ready_location.is) (sym c.ready_substrate.ensures ∙ c.in_default-ready_substrate.is) (sym c.ready_substrate-2.ensures ∙ c.in-Some-ready_substrate-2.is)
+pub returns-in-Some-ready_processing : goal.returns-in-Some-ready_processing
+returns-in-Some-ready_processing c =
+    least_fifth c.args.self.now c.in-Some-ready_processing.x (sym c.least_of_shop.ensures ∙ c.in_default.is) (sym c.ready_accessing.ensures ∙ c.in_default-ready_accessing.is)
+    (sym c.ready_location.ensures ∙ c.in_default-ready_location.is) (sym c.ready_transport.ensures ∙ c.in_default-ready_transport.is) (sym c.ready_processing.ensures ∙ c.in-Some-ready_processing.is)
 
 pub returns : goal.returns
 returns c =
     c.ready_move.ensures
     ∙ least_last c.args.self.now (sym c.least_of_shop.ensures ∙ c.in_default.is) (sym c.ready_accessing.ensures ∙ c.in_default-ready_accessing.is)
-    (sym c.ready_location.ensures ∙ c.in_default-ready_location.is) (sym c.ready_substrate.ensures ∙ c.in_default-ready_substrate.is) (sym c.ready_substrate-2.ensures ∙ c.in_default-ready_substrate-2.is)
+    (sym c.ready_location.ensures ∙ c.in_default-ready_location.is) (sym c.ready_transport.ensures ∙ c.in_default-ready_transport.is) (sym c.ready_processing.ensures ∙ c.in_default-ready_processing.is)

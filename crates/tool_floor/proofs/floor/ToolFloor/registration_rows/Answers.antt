@@ -1,9 +1,10 @@
-use Rattle.std.proofs.Common.{◌≡◌, ◌+◌, ◌*◌, ◌≤◌, List, [], ◌∷◌, ◌++◌, drop, length, sym, ap, ◌∙◌, arith}
+use Rattle.std.proofs.Common.{◌+◌, List, [], ◌∷◌, ◌++◌, drop, length, ap, ◌∙◌, arith}
 use Rattle.arrayvec.specs.ArrayVec.{ArrayVec}
 use Rattle.gem_tables.specs.Table.{firing}
 use Rattle.gem_tables.specs.declared.firing.Firing.{Firing}
 use Rattle.tool_floor.specs.Substrates.{registration_rows}
 use Rattle.tool_floor.proofs.Registrations.{rows_next, rows_past}
+use Rattle.tool_floor.proofs.Scans.{shown}
 use Rattle.tool_floor.proofs.floor.ToolFloor.registration_rows.Goals.{in-Some, in_default}
 use Rattle.tool_floor.proofs.floor.ToolFloor.registration_rows.Goals as goal
 
@@ -16,8 +17,8 @@ loop-place-preserved c = elim c.match-substrate_at.branch [
       let second_count = w.push-in-Some.ensures.len in
       let first_count = w.push.ensures.len in
       let most = c.loop-place.invariant.1 in (
-        ap (λ (xs : List Firing). xs ++ registration_rows (drop (c.loop-place.place + 1) c.args.self.now.substrates)) (rows ∙ ap (λ (xs : List Firing). xs ++ firing 13 w.in-Some.substrate.number 1 ∷ []) first)
-            ∙ rows_next c.loop-place.rows.items c.args.self.now.substrates c.loop-place.place w.in-Some.substrate (sym c.substrate_at.ensures ∙ w.in-Some.is)
+        ap (λ (xs : List Firing). xs ++ registration_rows (drop (c.loop-place.place + 1) c.args.self.now.substrates)) (rows ∙ ap (λ (xs : List Firing). xs ++ firing 13 w.in-Some.substrate.now.number 1 ∷ []) first)
+            ∙ rows_next c.loop-place.rows.items c.args.self.now.substrates c.loop-place.place w.in-Some.substrate.now (shown c.substrate_at.ensures w.in-Some.is)
             ∙ c.loop-place.invariant.0,
         omega (arith, count, second_count, first_count, most),
       )
@@ -25,7 +26,7 @@ loop-place-preserved c = elim c.match-substrate_at.branch [
       let count = ap (λ (r : ArrayVec Firing). length r.items) w.rows-is in
       let most = c.loop-place.invariant.1 in (
         ap (λ (r : ArrayVec Firing). r.items ++ registration_rows (drop (c.loop-place.place + 1) c.args.self.now.substrates)) w.rows-is
-            ∙ rows_past c.loop-place.rows.items c.args.self.now.substrates c.loop-place.place (sym c.substrate_at.ensures ∙ w.in_default.is)
+            ∙ rows_past c.loop-place.rows.items c.args.self.now.substrates c.loop-place.place (shown c.substrate_at.ensures w.in_default.is)
             ∙ c.loop-place.invariant.0,
         omega (arith, count, most),
       )

@@ -1,6 +1,6 @@
 //! Laws of the definitions, for proofs to cite. Each function is empty: what it ensures holds of the definitions.
 
-ghost use Rattle.std.specs.Prelude.{◌≡◌, ℕ, ◌≤◌, true, false, List, ◌∷◌, ◌++◌, length, map, Some, None};
+ghost use Rattle.std.specs.Prelude.{◌<◌, ◌≡◌, ℕ, ◌≤◌, true, false, List, ◌∷◌, ◌++◌, length, map, Some, None};
 ghost use Rattle.std.specs.List.{AllByRecursion};
 ghost use Rattle.transactions.specs.Table.{is_full};
 ghost use Rattle.tool_events.specs.declared.config.Config.{Config};

@@ -129,8 +129,9 @@ impl ControlJobs {
         }
     }
 
-    // Why a job can't be created, whatever memory there is.
-    fn create_fault(&self, id: JobId, jobs: &[JobId]) -> Option<CtlFault>
+    /// Why a job of a name can't be created with these process jobs, whatever memory there is; `create` tells more. `None` exactly
+    /// where it can be. Nothing changes.
+    pub fn create_fault(&self, id: JobId, jobs: &[JobId]) -> Option<CtlFault>
         ensures { result ≡ create_fault id jobs.now self.now.jobs }
     {
         if is_kept_open(&self.jobs, id) {

@@ -27,36 +27,41 @@ pub struct JobStates;
 impl Subject for JobStates {
     fn answer(&mut self, alloc: Global, said: &str) -> Result<String> {
         let words = words(alloc, said)?;
-        let words = words.as_slice();
-        let row = small(words, 1)?;
-        match word(words, 0)? {
-            "row" => fired(alloc, row),
-            "first" => behind(alloc, ProcessJobRecord::new(), row),
-            _ => bail!("it says nothing"),
-        }
+        let mut answer = String::new(alloc);
+        say(words.as_slice(), &mut answer)?;
+        Ok(answer)
+    }
+}
+
+// Says the words of a line; the answer.
+fn say(words: &[&str], answer: &mut String) -> Result<()> {
+    let row = small(words, 1)?;
+    match word(words, 0)? {
+        "row" => add_fired(answer, row),
+        "first" => add_behind(answer, ProcessJobRecord::new(), row),
+        _ => bail!("it says nothing"),
     }
 }
 
 // What a row is from each of the states.
-fn fired(alloc: Global, row: u8) -> Result<String> {
-    let mut all = String::new(alloc);
+fn add_fired(answer: &mut String, row: u8) -> Result<()> {
     for state in STATES {
-        if !all.is_empty() {
-            all.push_str(", ")?;
+        if !answer.is_empty() {
+            answer.push_str(", ")?;
         }
-        let one = behind(alloc, ProcessJobRecord { state }, row)?;
-        all.push_str(one.as_str())?;
+        add_behind(answer, ProcessJobRecord { state }, row)?;
     }
-    Ok(all)
+    Ok(())
 }
 
 // Whether a row starts at a record, and the number of the state behind it; both are told twice over, by what starts and by what
 // fires.
-fn behind(alloc: Global, record: ProcessJobRecord, row: u8) -> Result<String> {
+fn add_behind(answer: &mut String, record: ProcessJobRecord, row: u8) -> Result<()> {
     let mut record = record;
     let starts = record.starts(row);
     if record.fire(row) != starts {
         bail!("what starts doesn't fire");
     }
-    Ok(format!(in alloc; "{starts} {}", record.state.number())?)
+    write!(answer, "{starts} {}", record.state.number())?;
+    Ok(())
 }

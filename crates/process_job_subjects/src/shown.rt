@@ -1,77 +1,96 @@
 //! Jobs as they are told.
 
 use anyhow::{Result, bail};
-use gem_ids::Text80;
 use process_job::{Material, ProcessJob};
-use secs_items::{Item, Items};
-use std::alloc::Global;
+use secs_items::Item;
 
-fn add(alloc: Global, all: &mut String, bytes: &[u8]) -> Result<()> {
-    let text = String::from_utf8_lossy(alloc, bytes)?;
-    all.push_str(text.as_str())?;
+// Bytes as text.
+fn add(all: &mut String, bytes: &[u8]) -> Result<()> {
+    all.push_str(str::from_utf8(bytes)?)?;
     Ok(())
 }
 
-fn add_text(alloc: Global, all: &mut String, text: Text80) -> Result<()> {
-    add(alloc, all, text.as_bytes())
-}
-
 // A carrier of the material as a line asks for it.
-fn add_material(alloc: Global, all: &mut String, material: &Material) -> Result<()> {
+fn add_material(all: &mut String, material: &Material) -> Result<()> {
     all.push_str(" ")?;
-    add_text(alloc, all, material.carrier)?;
+    add(all, material.carrier.as_bytes())?;
     let mut before = ":";
     for slot in material.slots.as_slice() {
-        let number = format!(in alloc; "{before}{slot}")?;
-        all.push_str(number.as_str())?;
+        write!(all, "{before}{slot}")?;
         before = ",";
     }
     Ok(())
 }
 
 // A job: its number, its name, the number of its state, its recipe, how it starts, and its material.
-pub(crate) fn job(alloc: Global, found: Option<&ProcessJob>) -> Result<String> {
-    let Some(job) = found else {
-        return Ok(format!(in alloc; "none")?);
-    };
-    let mut all = format!(in alloc; "{} ", job.number)?;
-    add(alloc, &mut all, job.id.as_bytes())?;
-    let state = format!(in alloc; " {} ", job.states.state.number())?;
-    all.push_str(state.as_str())?;
-    add_text(alloc, &mut all, job.recipe)?;
+pub(crate) fn add_job(all: &mut String, found: Option<&ProcessJob>) -> Result<()> {
+    match found {
+        Some(job) => add_found(all, job),
+        None => {
+            all.push_str("none")?;
+            Ok(())
+        }
+    }
+}
+
+fn add_found(all: &mut String, job: &ProcessJob) -> Result<()> {
+    write!(all, "{} ", job.number)?;
+    add(all, job.id.as_bytes())?;
+    write!(all, " {} ", job.states.state.number())?;
+    add(all, job.recipe.as_bytes())?;
     all.push_str(if job.auto { " auto" } else { " hand" })?;
     for material in job.material.as_slice() {
-        add_material(alloc, &mut all, material)?;
+        add_material(all, material)?;
     }
-    Ok(all)
+    Ok(())
 }
 
 // The items of jobs: of each its name, an ASCII item, and its state, a U1 item.
-pub(crate) fn items(alloc: Global, items: &Items) -> Result<String> {
-    let mut all = String::new(alloc);
-    for item in items.as_slice() {
+pub(crate) fn add_items(all: &mut String, items: &[Item]) -> Result<()> {
+    for item in items {
         if !all.is_empty() {
             all.push_str(", ")?;
         }
-        add_item(alloc, &mut all, item)?;
+        add_item(all, item)?;
     }
-    Ok(all)
+    Ok(())
 }
 
-fn add_item(alloc: Global, all: &mut String, item: &Item) -> Result<()> {
-    let Item::List(parts) = item else {
-        bail!("a job is a list");
-    };
-    match parts.as_slice() {
-        [Item::Ascii(name), Item::U1(state)] => {
+fn add_item(all: &mut String, item: &Item) -> Result<()> {
+    match parts(item)? {
+        [name, state] => {
             all.push_str("A ")?;
-            add(alloc, all, name.as_slice())?;
-            for number in state.as_slice() {
-                let number = format!(in alloc; " U1 {number}")?;
-                all.push_str(number.as_str())?;
-            }
-            Ok(())
+            add(all, bytes(name)?)?;
+            add_numbers(all, numbers(state)?)
         }
         _ => bail!("a job is its name and its state"),
+    }
+}
+
+fn add_numbers(all: &mut String, numbers: &[u8]) -> Result<()> {
+    for number in numbers {
+        write!(all, " U1 {number}")?;
+    }
+    Ok(())
+}
+
+fn parts(item: &Item) -> Result<&[Item]> {
+    match item {
+        Item::List(parts) => Ok(parts.as_slice()),
+        _ => bail!("a job is a list"),
+    }
+}
+
+fn bytes(item: &Item) -> Result<&[u8]> {
+    match item {
+        Item::Ascii(text) => Ok(text.as_slice()),
+        _ => bail!("a name is text"),
+    }
+}
+
+fn numbers(item: &Item) -> Result<&[u8]> {
+    match item {
+        Item::U1(numbers) => Ok(numbers.as_slice()),
+        _ => bail!("a state is a number"),
     }
 }

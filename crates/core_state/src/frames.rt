@@ -89,11 +89,20 @@ fn ten_bytes(header: Header) -> [u8; 10]
     [b0, b1, b2, b3, b4, b5, b6, b7, b8, b9]
 }
 
+/// The ten bytes of a header, as a part of a message.
+fn header_part(alloc: Global, header: Header) -> Result<secs_items::Bytes, AllocError>
+    ensures bytes { IfOk result (λ bytes. bytes ≡ header_bytes header) }
+    ensures ten { IfOk result (λ bytes. length bytes ≡ 10) }
+{
+    let bytes = Vec::from_slice(alloc, &ten_bytes(header))?;
+    Ok(secs_items::Bytes::from_vec(bytes))
+}
+
 /// The text of a message of stream 9: the ten bytes of the header that it is about.
 pub fn stream9_text(alloc: Global, about: Header) -> Result<Bytes, AllocError>
     ensures text { IfOk result (λ text. text ≡ stream9_text about) }
     ensures short { IfOk result (λ text. length text ≤ 200) }
 {
-    let bytes = Vec::from_slice(alloc, &ten_bytes(about))?;
-    text_of(alloc, &Item::Binary(secs_items::Bytes::from_vec(bytes)))
+    let bytes = header_part(alloc, about)?;
+    text_of(alloc, &Item::Binary(bytes))
 }

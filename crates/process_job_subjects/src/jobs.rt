@@ -7,13 +7,14 @@
 //! (`find`) or its number (`numbered`); `list 2` lists all jobs twice, one time behind the other.
 
 use crate::shown::{add_items, add_job};
-use crate::specs::{named, names, plain, spec, told};
+use crate::specs::{named, names, number, plain, small, spec, told, told_at};
 use anyhow::{Result, bail};
 use gem_ids::{JobId, Text80};
 use process_job::ProcessJobs;
 use secs_items::Items;
 use std::alloc::Global;
-use test_lines::{Subject, number, small, word, words};
+use test_lines::{Subject, words};
+use tool_events::JobWord;
 
 /// The process jobs of a tool.
 #[derive(Drop)]
@@ -25,38 +26,39 @@ pub struct JobsOf {
 impl JobsOf {
     /// No jobs, of a tool with recipes of these names.
     pub fn named(alloc: Global, recipes: &str) -> Result<JobsOf> {
-        let names = names(alloc, recipes)?;
-        of(alloc, names.as_slice())
+        match of(alloc, words(alloc, recipes)?.as_slice()) {
+            Some(jobs) => Ok(jobs),
+            None => bail!("there is no recipe, or no memory"),
+        }
     }
 }
 
-// No jobs, of a tool with these recipes.
-fn of(alloc: Global, recipes: &[Text80]) -> Result<JobsOf> {
-    let recipe = match recipes.first() {
-        Some(name) => *name,
-        None => bail!("there is no recipe"),
-    };
-    let jobs = ProcessJobs::new(alloc, recipes)?;
-    Ok(JobsOf { jobs, recipe })
+// No jobs, of a tool with recipes of these names.
+fn of(alloc: Global, words: &[&str]) -> Option<JobsOf> {
+    let recipes = names(alloc, words)?;
+    let recipe = *recipes.as_slice().first()?;
+    let jobs = ProcessJobs::new(alloc, recipes.as_slice()).ok()?;
+    Some(JobsOf { jobs, recipe })
 }
 
 impl Subject for JobsOf {
     fn answer(&mut self, alloc: Global, said: &str) -> Result<String> {
         let words = words(alloc, said)?;
         let mut answer = String::new(alloc);
-        say(alloc, self, words.as_slice(), &mut answer)?;
-        Ok(answer)
+        match say(alloc, self, words.as_slice(), &mut answer) {
+            Some(()) => Ok(answer),
+            None => bail!("it says nothing, or there is no memory"),
+        }
     }
 }
 
-// Says the words of a line to the jobs; the answer.
-fn say(alloc: Global, of: &mut JobsOf, words: &[&str], answer: &mut String) -> Result<()> {
-    match word(words, 0)? {
+// Says the words of a line to the jobs; the answer. None where they say nothing.
+fn say(alloc: Global, of: &mut JobsOf, words: &[&str], answer: &mut String) -> Option<()> {
+    match *words.first()? {
         "create" => create(alloc, &mut of.jobs, words, answer),
         "fill" => fill(alloc, &mut of.jobs, small(words, 1)?, of.recipe),
         "rows" => fire_all(&mut of.jobs, words),
-        "fire" => fire(&mut of.jobs, words, answer),
-        "forget" => forget(&mut of.jobs, words, answer),
+        "fire" | "forget" => change(&mut of.jobs, words, answer),
         _ => ask(alloc, &of.jobs, words, answer),
     }
 }
@@ -69,90 +71,92 @@ fn create(
     jobs: &mut ProcessJobs,
     words: &[&str],
     answer: &mut String,
-) -> Result<()> {
+) -> Option<()> {
     let created = jobs.create(spec(alloc, words)?);
-    write!(answer, "{created:?}")?;
-    Ok(())
+    write!(answer, "{created:?}").ok()
+}
+
+// Fires a row at the job of a number, or forgets it; whether it did.
+fn change(jobs: &mut ProcessJobs, words: &[&str], answer: &mut String) -> Option<()> {
+    match *words.first()? {
+        "fire" => add_truth(answer, jobs.fire(number(words, 1)?, small(words, 2)?)),
+        _ => add_truth(answer, jobs.forget(number(words, 1)?)),
+    }
 }
 
 // Creates so many jobs, named by their numbers from 0.
-fn fill(alloc: Global, jobs: &mut ProcessJobs, count: u8, recipe: Text80) -> Result<()> {
+fn fill(alloc: Global, jobs: &mut ProcessJobs, count: u8, recipe: Text80) -> Option<()> {
     for number in 0..count {
-        jobs.create(plain(alloc, number, recipe)?)?;
+        jobs.create(plain(alloc, number, recipe)?).ok()?;
     }
-    Ok(())
+    Some(())
 }
 
 // Fires rows at the job of a number, each of which starts.
-fn fire_all(jobs: &mut ProcessJobs, words: &[&str]) -> Result<()> {
+fn fire_all(jobs: &mut ProcessJobs, words: &[&str]) -> Option<()> {
     let object = number(words, 1)?;
     for place in 2..words.len() {
         if !jobs.fire(object, small(words, place)?) {
-            bail!("a row doesn't start");
+            return None;
         }
     }
-    Ok(())
-}
-
-// Fires a row at the job of a number.
-fn fire(jobs: &mut ProcessJobs, words: &[&str], answer: &mut String) -> Result<()> {
-    let fires = jobs.fire(number(words, 1)?, small(words, 2)?);
-    write!(answer, "{fires}")?;
-    Ok(())
-}
-
-// Forgets the job of a number.
-fn forget(jobs: &mut ProcessJobs, words: &[&str], answer: &mut String) -> Result<()> {
-    let known = jobs.forget(number(words, 1)?);
-    write!(answer, "{known}")?;
-    Ok(())
+    Some(())
 }
 
 // ---- what the jobs say
 
-fn ask(alloc: Global, jobs: &ProcessJobs, words: &[&str], answer: &mut String) -> Result<()> {
-    match word(words, 0)? {
+fn ask(alloc: Global, jobs: &ProcessJobs, words: &[&str], answer: &mut String) -> Option<()> {
+    match *words.first()? {
         "len" => add_count(answer, jobs.len() as u64),
         "space" => add_count(answer, jobs.space() as u64),
-        "get" => add_job(answer, jobs.get(small(words, 1)? as usize)),
-        "find" => add_job(answer, jobs.find(named(words, 1)?)),
-        "numbered" => add_job(answer, jobs.numbered(number(words, 1)?)),
         "list" => add_list(alloc, jobs, small(words, 1)?, answer),
         "commands" => add_commands(jobs, named(words, 1)?, answer),
-        "command" => add_command(jobs, named(words, 1)?, word(words, 2)?, answer),
-        _ => bail!("it says nothing"),
+        "command" => add_command(jobs, named(words, 1)?, told_at(words, 2)?, answer),
+        _ => add_one(jobs, words, answer),
     }
 }
 
-fn add_count(answer: &mut String, count: u64) -> Result<()> {
-    write!(answer, "{count}")?;
-    Ok(())
+// The job of a place, a name or a number.
+fn add_one(jobs: &ProcessJobs, words: &[&str], answer: &mut String) -> Option<()> {
+    match *words.first()? {
+        "get" => add_job(answer, jobs.get(small(words, 1)? as usize)),
+        "find" => add_job(answer, jobs.find(named(words, 1)?)),
+        "numbered" => add_job(answer, jobs.numbered(number(words, 1)?)),
+        _ => None,
+    }
+}
+
+fn add_count(answer: &mut String, count: u64) -> Option<()> {
+    write!(answer, "{count}").ok()
+}
+
+fn add_truth(answer: &mut String, holds: bool) -> Option<()> {
+    write!(answer, "{holds}").ok()
 }
 
 // All jobs, so many times one behind the other.
-fn add_list(alloc: Global, jobs: &ProcessJobs, times: u8, answer: &mut String) -> Result<()> {
+fn add_list(alloc: Global, jobs: &ProcessJobs, times: u8, answer: &mut String) -> Option<()> {
     let mut all = Items::new(alloc);
     for _ in 0..times {
-        jobs.list(alloc, &mut all)?;
+        jobs.list(alloc, &mut all).ok()?;
     }
     add_items(answer, all.as_slice())
 }
 
 // What a command to a job fires.
-fn add_command(jobs: &ProcessJobs, id: JobId, word: &str, answer: &mut String) -> Result<()> {
-    let fires = jobs.command(id, told(word)?);
-    write!(answer, "{fires:?}")?;
-    Ok(())
+fn add_command(jobs: &ProcessJobs, id: JobId, word: JobWord, answer: &mut String) -> Option<()> {
+    let fires = jobs.command(id, word);
+    write!(answer, "{fires:?}").ok()
 }
 
 // What each command to a job fires.
-fn add_commands(jobs: &ProcessJobs, id: JobId, answer: &mut String) -> Result<()> {
+fn add_commands(jobs: &ProcessJobs, id: JobId, answer: &mut String) -> Option<()> {
     for word in ["START", "PAUSE", "RESUME", "STOP", "ABORT", "CANCEL"] {
         if !answer.is_empty() {
-            answer.push_str(", ")?;
+            answer.push_str(", ").ok()?;
         }
-        write!(answer, "{word} ")?;
-        add_command(jobs, id, word, answer)?;
+        write!(answer, "{word} ").ok()?;
+        add_command(jobs, id, told(word)?, answer)?;
     }
-    Ok(())
+    Some(())
 }

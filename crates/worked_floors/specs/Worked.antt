@@ -69,6 +69,7 @@ lot map accessing = record {
   port = Some (record { 0 = 1 });
   present = true;
   bound = false;
+  stopped = false;
 }
 
 -- the load port and the carrier

@@ -45,7 +45,7 @@ use Rattle.tool_floor.proofs.Registrations.{Registers, row_registered, drop_befo
 -- ---- the least row
 
 -- what is true of each table but 1 to 3 is true of the table of the least row
-pub of_tables : (P : ℕ → Type 0) (f : ToolFloor) (x : Firing) → AllByRecursion P (4 ∷ 5 ∷ 6 ∷ 7 ∷ 8 ∷ 9 ∷ 10 ∷ 11 ∷ 12 ∷ 13 ∷ 16 ∷ []) → floor_least f ≡ Some x → P x.row.table
+pub of_tables : (P : ℕ → Type 0) (f : ToolFloor) (x : Firing) → AllByRecursion P (4 ∷ 5 ∷ 6 ∷ 7 ∷ 8 ∷ 9 ∷ 10 ∷ 11 ∷ 12 ∷ 13 ∷ 14 ∷ 15 ∷ 16 ∷ []) → floor_least f ≡ Some x → P x.row.table
 of_tables P f x all e =
     least_cases (λ (y : Firing). P y.row.table) f x floor_machines (
       (λ _ _ _. all.0),
@@ -63,7 +63,7 @@ of_tables P f x all e =
                   (λ _ _ _. all.1.1.1.1.1.1.0),
                   (
                     (λ _ _ _. all.1.1.1.1.1.1.1.0),
-                    ((λ _ _ _. all.1.1.1.1.1.1.1.1.0), ((λ _ _ _. all.1.1.1.1.1.1.1.1.1.0), ((λ _ _ _. all.1.1.1.1.1.1.1.1.1.1.0), tt))),
+                    ((λ _ _ _. all.1.1.1.1.1.1.1.1.0), ((λ _ _ _. all.1.1.1.1.1.1.1.1.1.0), ((λ _ _ _. all.1.1.1.1.1.1.1.1.1.1.0), ((λ _ _ _. all.1.1.1.1.1.1.1.1.1.1.1.0), ((λ _ _ _. all.1.1.1.1.1.1.1.1.1.1.1.1.0), tt))))),
                   ),
                 ),
               ),
@@ -75,13 +75,13 @@ of_tables P f x all e =
 
 -- it is none of communication, control and notes
 pub not_table_1 : (f : ToolFloor) (x : Firing) → floor_least f ≡ Some x → (x.row.table == 1) ≡ false
-not_table_1 f x = of_tables (λ n. (n == 1) ≡ false) f x (refl, (refl, (refl, (refl, (refl, (refl, (refl, (refl, (refl, (refl, (refl, tt)))))))))))
+not_table_1 f x = of_tables (λ n. (n == 1) ≡ false) f x (refl, (refl, (refl, (refl, (refl, (refl, (refl, (refl, (refl, (refl, (refl, (refl, (refl, tt)))))))))))))
 
 pub not_table_2 : (f : ToolFloor) (x : Firing) → floor_least f ≡ Some x → (x.row.table == 2) ≡ false
-not_table_2 f x = of_tables (λ n. (n == 2) ≡ false) f x (refl, (refl, (refl, (refl, (refl, (refl, (refl, (refl, (refl, (refl, (refl, tt)))))))))))
+not_table_2 f x = of_tables (λ n. (n == 2) ≡ false) f x (refl, (refl, (refl, (refl, (refl, (refl, (refl, (refl, (refl, (refl, (refl, (refl, (refl, tt)))))))))))))
 
 pub not_table_3 : (f : ToolFloor) (x : Firing) → floor_least f ≡ Some x → (x.row.table == 3) ≡ false
-not_table_3 f x = of_tables (λ n. (n == 3) ≡ false) f x (refl, (refl, (refl, (refl, (refl, (refl, (refl, (refl, (refl, (refl, (refl, tt)))))))))))
+not_table_3 f x = of_tables (λ n. (n == 3) ≡ false) f x (refl, (refl, (refl, (refl, (refl, (refl, (refl, (refl, (refl, (refl, (refl, (refl, (refl, tt)))))))))))))
 
 -- ---- it starts
 
@@ -125,7 +125,7 @@ all_start f =
                       (λ o r e. substrate_start transport_number transport_table (λ s. s.transport) f r (substrate_numbered o f.substrates) (refl, (refl, (refl, tt))) e),
                       (
                         (λ o r e. substrate_start processing_number processing_table (λ s. s.processing) f r (substrate_numbered o f.substrates) (refl, (refl, (refl, (refl, (refl, (refl, (refl, (refl, tt)))))))) e),
-                        ((λ o r e. move_start f r (planned o f) (module_at o f.modules) e), tt),
+                        ((λ o r e. process_start f.jobs o r (found_sight (process_numbered o f.jobs.process.kept) f) e), ((λ o r e. control_start f.jobs o r (is_first_here o f) e), ((λ o r e. move_start f r (planned o f) (module_at o f.modules) e), tt))),
                       ),
                     ),
                   ),
@@ -329,7 +329,7 @@ row-keeps x f starts valid =
               (λ s. shop_keeps (firing 8 x.object x.row.row) f.shop s valid),
               (
                 (λ s. shop_keeps (firing 9 x.object x.row.row) f.shop s valid),
-                ((λ s. accessing-keeps f.shop x.object x.row.row valid), ((λ s. valid), ((λ s. valid), ((λ s. processing_shop x.row.row x.object f valid), ((λ s. move_shop x.row.row x.object f valid), tt))))),
+                ((λ s. accessing-keeps f.shop x.object x.row.row valid), ((λ s. valid), ((λ s. valid), ((λ s. processing_shop x.row.row x.object f valid), ((λ s. process_shop x.row.row x.object f valid), ((λ s. valid), ((λ s. move_shop x.row.row x.object f valid), tt))))))),
               ),
             ),
           ),

@@ -115,6 +115,14 @@ impl ControlJobRecord {
         *self = end;
         true
     }
+
+    /// Whether a row of table 15 starts at these states. Changes nothing.
+    pub fn starts(&self, row: u8) -> bool
+        ensures { result ≡ control_starts row self.now }
+    {
+        let mut record = *self;
+        record.fire(row)
+    }
 }
 
 // The states of a control job in this state that isn't ending.

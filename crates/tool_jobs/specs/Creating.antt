@@ -5,7 +5,7 @@ use Rattle.process_job.specs.Jobs as process
 use Rattle.process_job.specs.declared.job.JobSpec.{JobSpec}
 use Rattle.control_job.specs.Names.{are_named}
 use Rattle.control_job.specs.Jobs as control
-use Rattle.control_job.specs.Creating as control
+use Rattle.control_job.specs.Creating as creating
 use Rattle.tool_jobs.specs.declared.fault.ControlFault.{ControlFault}
 use Rattle.tool_jobs.specs.declared.fault.ControlFault.TheVariants.{NameTaken, NoJobs, NotThere, HasControlJob, NoSpace}
 use Rattle.tool_jobs.specs.Jobs.{Jobs, owner}
@@ -16,7 +16,7 @@ with_process spec w = record w { process = process.with_created spec w.process }
 
 -- a control job is created
 abbrev pub with_control : List ℕ → List (List ℕ) → Bool → Jobs → Jobs
-with_control name named auto w = record w { control = control.created name named auto w.control }
+with_control name named auto w = record w { control = creating.created name named auto w.control }
 
 -- one of the named process jobs isn't there
 abbrev pub is_any_missing : List (List ℕ) → Jobs → Bool
@@ -34,4 +34,4 @@ control_fault name named w =
     else (if not (are_named named) then Some NoJobs
     else (if is_any_missing named w then Some NotThere
     else (if is_any_owned named w then Some HasControlJob
-    else (if is_some (control.create_fault name named w.control.jobs) then Some (NoSpace control.most_jobs) else None))))
+    else (if is_some (creating.create_fault name named w.control.jobs) then Some (NoSpace control.most_jobs) else None))))

@@ -8,9 +8,10 @@ use Rattle.process_job.specs.Jobs as process
 use Rattle.process_job.specs.declared.job.ProcessJob.{ProcessJob}
 use Rattle.control_job.specs.Tables.{states_number, control_table}
 use Rattle.control_job.specs.Jobs as control
+use Rattle.control_job.specs.Jobs.{JobStore}
 use Rattle.control_job.specs.declared.job.ControlJob.{ControlJob}
 use Rattle.tool_jobs.specs.declared.sight.Sight.{Sight}
-use Rattle.tool_jobs.specs.Jobs.{Jobs, process_name}
+use Rattle.tool_jobs.specs.Jobs.{Jobs}
 use Rattle.tool_jobs.specs.Wants.{process_wants, control_wants}
 
 -- ---- table 14, process jobs
@@ -25,11 +26,16 @@ abbrev pub process_ready : Option ProcessJob → Sight → Jobs → Option ℕ
 process_ready None sight w = None
 process_ready (Some j) sight w = first_itself job_number (λ want. process_wants want j sight w) job_table j.states.state
 
+-- a process job, where there is one, has left its control job
+abbrev pub left_by : Option ProcessJob → JobStore → JobStore
+left_by None s = s
+left_by (Some j) s = control.left_by j.id s
+
 -- the process job of a number has ended: it has left its control job and is forgotten
 abbrev pub ended : ℕ → Jobs → Jobs
 ended number w = record {
   process = process.forgotten number w.process;
-  control = control.left_by (process_name (process.job_numbered number w.process.kept)) w.control;
+  control = left_by (process.job_numbered number w.process.kept) w.control;
 }
 
 -- what the word of a row does to the jobs

@@ -1,19 +1,17 @@
 //! How jobs are created (this tool's profile, S14F9 and S16F11).
 
-ghost use Rattle.std.specs.Prelude.{◌≡◌, not, is_some, Some, None, Err, IfOk, IfErr};
-ghost use Rattle.std.specs.List.{list_any};
-ghost use Rattle.process_job.specs.Jobs.{is_known};
+ghost use Rattle.std.specs.Prelude.{◌≡◌, if◌then◌else◌, is_some, Some, None, Err, IfOk, IfErr};
 ghost use Rattle.process_job.specs.Creating.{create_fault as process_fault};
 ghost use Rattle.process_job.specs.declared.fault.JobFault.{JobFault};
 ghost use Rattle.process_job.specs.declared.fault.JobFault.TheVariants as process_faults;
-ghost use Rattle.tool_jobs.specs.Jobs.{owner};
+ghost use Rattle.control_job.specs.Jobs.{most_jobs};
 ghost use Rattle.tool_jobs.specs.Creating.{with_process, with_control, is_any_missing, is_any_owned, control_fault};
 ghost use Rattle.tool_jobs.specs.declared.fault.ControlFault.{ControlFault};
-ghost use Rattle.tool_jobs.specs.declared.fault.ControlFault.TheVariants.{NoMemory};
+ghost use Rattle.tool_jobs.specs.declared.fault.ControlFault.TheVariants.{NotThere, HasControlJob, NoSpace, NoMemory};
 
 use crate::fault::ControlFault;
 use crate::jobs::Jobs;
-use control_job::CtlFault;
+use control_job::{CtlFault, MOST_JOBS};
 use gem_ids::JobId;
 use process_job::{JobFault, JobSpec};
 use std::alloc::Global;

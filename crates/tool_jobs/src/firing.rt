@@ -1,10 +1,8 @@
 //! What rows do to the jobs (this tool's profile, tables 14 and 15).
 
-ghost use Rattle.std.specs.Prelude.{◌≡◌};
-ghost use Rattle.process_job.specs.Jobs.{job_numbered as process_numbered, fired as process_row_fired};
-ghost use Rattle.control_job.specs.Jobs.{headed, waiting_named};
-ghost use Rattle.tool_jobs.specs.Jobs.{owner};
-ghost use Rattle.tool_jobs.specs.Rows.{ended, process_fired, control_starts, control_fired};
+ghost use Rattle.std.specs.Prelude.{◌≡◌, false, is_some};
+ghost use Rattle.control_job.specs.Jobs.{headed, waiting_named, is_any_active};
+ghost use Rattle.tool_jobs.specs.Rows.{ended, process_fired, control_fired};
 
 use crate::jobs::Jobs;
 use gem_ids::JobId;

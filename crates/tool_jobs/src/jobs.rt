@@ -3,7 +3,7 @@
 ghost use Rattle.std.specs.Prelude.{◌≡◌, IfOk};
 ghost use Rattle.std.specs.Option.{option_copied};
 ghost use Rattle.process_job.specs.Jobs.{job_numbered as process_numbered};
-ghost use Rattle.control_job.specs.Jobs.{job_numbered as control_numbered, headed, waiting_named};
+ghost use Rattle.control_job.specs.Jobs.{job_numbered as control_numbered};
 ghost use Rattle.tool_jobs.specs.Jobs.{no_jobs, owner, first_left_in, process_name, control_name};
 ghost use Rattle.tool_jobs.specs.Together.{AreTogether};
 

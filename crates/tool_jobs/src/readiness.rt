@@ -1,14 +1,13 @@
 //! Which rows of jobs start, and which are ready by themselves (this tool's profile, tables 14 and 15).
 
-ghost use Rattle.std.specs.Prelude.{◌≡◌, ◌&&◌, ◌||◌, not, Some};
-ghost use Rattle.std.specs.Option.{option_copied};
+ghost use Rattle.std.specs.Prelude.{◌≡◌, ◌==◌, ◌&&◌, if◌then◌else◌, not, Some, None};
 ghost use Rattle.gem_tables.specs.Table.{row_of, wants_found};
 ghost use Rattle.process_job.specs.Tables.{job_table};
 ghost use Rattle.process_job.specs.Jobs.{job_numbered as process_numbered};
-ghost use Rattle.control_job.specs.Tables.{control_table};
-ghost use Rattle.control_job.specs.Jobs.{job_numbered as control_numbered};
+ghost use Rattle.control_job.specs.Tables.{control_table, state_number};
+ghost use Rattle.control_job.specs.Jobs.{job_numbered as control_numbered, first_waiting, is_any_active};
 ghost use Rattle.tool_jobs.specs.Jobs.{owner};
-ghost use Rattle.tool_jobs.specs.Wants.{is_ending, is_by_stop, is_by_abort, ends_so, is_first_left, process_wants, is_none_left, is_that, is_ready, control_wants};
+ghost use Rattle.tool_jobs.specs.Wants.{is_ending, is_by_stop, is_by_abort, ends_so, is_first, is_first_left, process_wants, is_none_left, is_that, is_ready, control_wants};
 ghost use Rattle.tool_jobs.specs.Rows.{process_starts, process_ready, control_starts, control_ready};
 
 use crate::jobs::Jobs;

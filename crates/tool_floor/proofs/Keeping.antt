@@ -27,13 +27,28 @@ use Rattle.substrate.specs.declared.record.LocationRecord.{LocationRecord}
 use Rattle.substrate.specs.declared.record.SubstrateRecord.{SubstrateRecord}
 use Rattle.tool_floor.specs.declared.tracking.Substrate.{Substrate}
 use Rattle.tool_floor.specs.Floor.{ToolFloor, opening, with_shop, location_at, location_numbers, substrate_numbered, change_numbered}
-use Rattle.tool_floor.specs.Substrates.{accessing_wants, location_wants, substrate_wants, registration_rows, new_rows, found_does}
+use Rattle.tool_floor.specs.Wants.{accessing_wants, location_wants, substrate_wants}
+use Rattle.tool_floor.specs.Substrates.{registration_rows, new_rows, found_does}
+use Rattle.tool_floor.specs.Jobs.{found_sight, is_first_here, process_behind}
+use Rattle.process_job.specs.Tables.{job_table}
+use Rattle.process_job.specs.Jobs.{job_numbered as process_numbered}
+use Rattle.process_job.specs.Tables.{job_number}
+use Rattle.process_job.specs.declared.job.ProcessJob.{ProcessJob}
+use Rattle.control_job.specs.Tables.{states_number, control_table}
+use Rattle.control_job.specs.Jobs.{job_numbered as control_numbered}
+use Rattle.control_job.specs.declared.job.ControlJob.{ControlJob}
+use Rattle.tool_jobs.specs.Jobs.{Jobs}
+use Rattle.tool_jobs.specs.Wants.{process_wants, control_wants}
+use Rattle.tool_jobs.specs.Rows.{process_starts, process_ready, control_starts, control_ready}
+use Rattle.tool_jobs.specs.declared.sight.Sight.{Sight}
+use Rattle.tool_floor.proofs.Marks.{found_valid}
 use Rattle.tool_floor.specs.Machines.{taken_along, registered_by, accessing_starts, accessing_ready, location_starts, location_ready, substrate_starts, substrate_ready, substrate_moves, floor_machines, floor_starts, floor_fired, creation_rows, is_creation, floor_least, moved_by}
 use Rattle.tool_floor.proofs.Tables.{least_floor, first_location as first_ready_location, first_move}
 use Rattle.tool_floor.proofs.Moves.{none_to_move}
 use Rattle.tool_floor.specs.Views.{planned}
 use Rattle.tool_floor.specs.Modules.{move_wants, move_starts, move_ready, issued, open_task, aligned_by, found_move}
 use Rattle.tool_events.specs.declared.answer.Task.{Task}
+use Rattle.tool_events.specs.declared.recipes.Recipe.{Recipe}
 use Rattle.tool_events.specs.declared.answer.Task.TheVariants as task
 use Rattle.robot_moves.specs.Tables.{MoveRow, move_table, state_number}
 use Rattle.robot_moves.specs.declared.module.Module.{Module}
@@ -103,6 +118,16 @@ move_start f row plan None e = absurd (cc)
 move_start f row plan (Some m) e =
     ready_may_fire state_number (λ want. move_wants want plan m) move_table row (state_of m) (refl, (refl, (refl, (refl, (refl, (refl, (refl, (refl, (refl, (refl, tt)))))))))) e
 
+process_start : (w : Jobs) (row : ℕ) (o : Option ProcessJob) (sight : Sight) → process_ready o sight w ≡ Some row → process_starts row o sight w ≡ true
+process_start w row None sight e = absurd (cc)
+process_start w row (Some j) sight e =
+    ready_may_fire job_number (λ want. process_wants want j sight w) job_table row j.states.state (refl, (refl, (refl, (refl, (refl, (refl, (refl, (refl, (refl, (refl, (refl, (refl, (refl, (refl, (refl, (refl, (refl, (refl, tt)))))))))))))))))) e
+
+control_start : (w : Jobs) (row : ℕ) (o : Option ControlJob) (here : Bool) → control_ready o here w ≡ Some row → control_starts row o here w ≡ true
+control_start w row None here e = absurd (cc)
+control_start w row (Some c) here e =
+    ready_may_fire states_number (λ want. control_wants want c here w.control) control_table row c.states (refl, (refl, (refl, (refl, (refl, (refl, (refl, (refl, (refl, (refl, (refl, (refl, tt)))))))))))) e
+
 all_start : (f : ToolFloor) → AllByRecursion (λ (m : Machine ToolFloor). (object row : ℕ) → m.ready object f ≡ Some row → floor_starts (firing m.table object row) f ≡ true) floor_machines
 all_start f =
     let shop = shop_all_start f.shop in (
@@ -125,7 +150,7 @@ all_start f =
                       (λ o r e. substrate_start transport_number transport_table (λ s. s.transport) f r (substrate_numbered o f.substrates) (refl, (refl, (refl, tt))) e),
                       (
                         (λ o r e. substrate_start processing_number processing_table (λ s. s.processing) f r (substrate_numbered o f.substrates) (refl, (refl, (refl, (refl, (refl, (refl, (refl, (refl, tt)))))))) e),
-                        ((λ o r e. process_start f.jobs o r (found_sight (process_numbered o f.jobs.process.kept) f) e), ((λ o r e. control_start f.jobs o r (is_first_here o f) e), ((λ o r e. move_start f r (planned o f) (module_at o f.modules) e), tt))),
+                        ((λ o r e. process_start f.jobs r (process_numbered o f.jobs.process.kept) (found_sight (process_numbered o f.jobs.process.kept) f) e), ((λ o r e. control_start f.jobs r (control_numbered o f.jobs.control.jobs) (is_first_here o f) e), ((λ o r e. move_start f r (planned o f) (module_at o f.modules) e), tt))),
                       ),
                     ),
                   ),
@@ -292,6 +317,9 @@ processing_shop row n f valid =
     looked_for (λ (o : Option (SubstrateRow Processing)). IsFloor (found_does o (substrate_numbered n f.substrates) f).shop) processing_table row valid
     (valid, (valid, (valid, (valid, (valid, (valid, (valid, (valid, tt))))))))
 
+process_shop : (row n : ℕ) (f : ToolFloor) → IsFloor f.shop → IsFloor (process_behind row n f).shop
+process_shop row n f valid = found_valid (row_of job_table row) (process_numbered n f.jobs.process.kept) f valid
+
 issued_shop : (number : ℕ) (plan : Option Move) (f : ToolFloor) → IsFloor f.shop → IsFloor (issued number plan f).shop
 issued_shop number None f valid = valid
 issued_shop number (Some m) f valid = valid
@@ -339,19 +367,19 @@ row-keeps x f starts valid =
 
 -- ---- at the beginning
 
-at_first : (number : ℕ) (ports chambers : ℕ) (count place : ℕ) → location_ready number (slice_get (replicate count first_location) place) (opening ports chambers) ≡ None
-at_first number ports chambers zero place = refl
-at_first number ports chambers (suc count) zero = refl
-at_first number ports chambers (suc count) (suc place) = at_first number ports chambers count place
+at_first : (number : ℕ) (ports chambers : ℕ) (recipes : List Recipe) (count place : ℕ) → location_ready number (slice_get (replicate count first_location) place) (opening ports chambers recipes) ≡ None
+at_first number ports chambers recipes zero place = refl
+at_first number ports chambers recipes (suc count) zero = refl
+at_first number ports chambers recipes (suc count) (suc place) = at_first number ports chambers recipes count place
 
-quiet_location : (ports chambers number : ℕ) → location_ready number (location_at number (opening ports chambers).locations) (opening ports chambers) ≡ None
-quiet_location ports chambers zero = refl
-quiet_location ports chambers (suc place) = at_first (suc place) ports chambers (spot_count ports chambers) place
+quiet_location : (ports chambers : ℕ) (recipes : List Recipe) (number : ℕ) → location_ready number (location_at number (opening ports chambers recipes).locations) (opening ports chambers recipes) ≡ None
+quiet_location ports chambers recipes zero = refl
+quiet_location ports chambers recipes (suc place) = at_first (suc place) ports chambers recipes (spot_count ports chambers) place
 
 -- no row is ready
-pub opening_quiet : (ports chambers : ℕ) → floor_least (opening ports chambers) ≡ None
-opening_quiet ports chambers =
-    let f = opening ports chambers in
-    let locations : first_ready_location f ≡ None = none_ready 11 (λ number. location_ready number (location_at number f.locations) f) (location_numbers 1 f.locations) (quiet_location ports chambers) in
+pub opening_quiet : (ports chambers : ℕ) (recipes : List Recipe) → floor_least (opening ports chambers recipes) ≡ None
+opening_quiet ports chambers recipes =
+    let f = opening ports chambers recipes in
+    let locations : first_ready_location f ≡ None = none_ready 11 (λ number. location_ready number (location_at number f.locations) f) (location_numbers 1 f.locations) (quiet_location ports chambers recipes) in
     let moves : first_move f ≡ None = none_to_move f (λ number. nothing_moves number [] (first_modules chambers) tt) in
     least_floor f ∙ rw (shop_quiet ports, locations, moves) refl

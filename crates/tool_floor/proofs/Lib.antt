@@ -2,6 +2,7 @@ pub mod Tables
 pub mod Behind
 pub mod Scans
 pub mod Registrations
+pub mod Marks
 pub mod Falls
 pub mod Keeping
 pub mod Working

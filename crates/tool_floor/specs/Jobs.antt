@@ -11,7 +11,7 @@ use Rattle.carrier.specs.declared.carrier.Carrier.{Carrier}
 use Rattle.carrier.specs.declared.record.Accessing.{Accessing}
 use Rattle.carrier.specs.declared.record.Accessing.TheVariants.{NotAccessed, InAccess}
 use Rattle.carrier.specs.Record.{is_map_verified}
-use Rattle.carrier.specs.Carriers.{carrier_named, marked_stopped}
+use Rattle.carrier.specs.Carriers.{carrier_named}
 use Rattle.process_job.specs.Tables as effect
 use Rattle.process_job.specs.Tables.{JobRow, JobEffect, job_table}
 use Rattle.process_job.specs.Jobs.{job_numbered}
@@ -20,7 +20,7 @@ use Rattle.process_job.specs.declared.job.ProcessJob.{ProcessJob}
 use Rattle.process_job.specs.declared.record.JobState.{JobState}
 use Rattle.process_job.specs.declared.record.JobState.TheVariants.{Processing, Stopping, Aborting}
 use Rattle.robot_moves.specs.declared.module.Module.{Module}
-use Rattle.shop_floor.specs.Floor.{Floor}
+use Rattle.shop_floor.specs.Floor.{Floor, with_marked}
 use Rattle.substrate.specs.Places.{PlaceMap}
 use Rattle.substrate.specs.Record.{is_at_source, is_needing, is_finished}
 use Rattle.tool_jobs.specs.Jobs.{Jobs, first_left_in}
@@ -73,12 +73,12 @@ abbrev pub without_members : ℕ → ToolFloor → ToolFloor
 without_members number f = record f { substrates = map (freed number) f.substrates }
 
 -- the carriers that are named are marked stopped
-abbrev pub with_marked : List Material → List Carrier → List Carrier
-with_marked [] carriers = carriers
-with_marked (m ∷ ms) carriers = with_marked ms (marked_stopped m.carrier carriers)
+abbrev pub all_marked : List Material → Floor → Floor
+all_marked [] shop = shop
+all_marked (m ∷ ms) shop = all_marked ms (with_marked m.carrier shop)
 
 abbrev pub marks : ProcessJob → ToolFloor → ToolFloor
-marks j f = with_shop (record f.shop { carriers = with_marked j.material f.shop.carriers }) f
+marks j f = with_shop (all_marked j.material f.shop) f
 
 -- ---- what the floor shows of a process job
 

@@ -3,7 +3,7 @@
 ghost use Rattle.std.specs.Prelude.{◌≡◌, ◌&&◌, [], [], is_some};
 ghost use Rattle.std.specs.List.{list_any, list_all};
 ghost use Rattle.gem_tables.specs.Table.{is_one_of};
-ghost use Rattle.tool_floor.specs.Jobs.{is_carrier_of, is_slot_named, names_slot_of, can_join, with_marked, is_in_use, is_carrier_here, is_material_here, is_here, is_of_carrier, names_carrier};
+ghost use Rattle.tool_floor.specs.Jobs.{is_carrier_of, is_slot_named, names_slot_of, can_join, all_marked, is_in_use, is_carrier_here, is_material_here, is_here, is_of_carrier, names_carrier};
 
 use crate::tracking::Substrate;
 use carrier::{Accessing, Carrier};
@@ -86,7 +86,7 @@ pub(crate) fn can_join(job: &ProcessJob, shop: &ShopFloor, s: &Substrate) -> boo
 
 // The carriers that are named are marked stopped.
 pub(crate) fn mark(materials: &[Material], shop: &mut ShopFloor)
-    ensures { shop.new ≡ record shop.old { carriers = with_marked materials.now shop.old.carriers } }
+    ensures { shop.new ≡ all_marked materials.now shop.old }
 {
     for material in materials {
         shop.mark_stopped(material.carrier);
@@ -106,7 +106,7 @@ fn is_carrier_here(carrier: &Carrier) -> bool
 fn is_material_here(shop: &ShopFloor, material: &Material) -> bool
     ensures { result ≡ is_material_here shop.now material.now }
 {
-    match shop.named(material.carrier) {
+    match shop.carrier_named(material.carrier) {
         Some(carrier) => is_carrier_here(&carrier),
         None => false,
     }

@@ -3,6 +3,7 @@
 use Rattle.std.specs.Prelude.{ℕ, Bool, true, false, ◌==◌, List, [], ◌∷◌, find, Option, Some, None}
 use Rattle.std.specs.Option.{option_and_then}
 use Rattle.std.specs.Str.{bytes_eq}
+use Rattle.tool_events.specs.declared.recipes.Recipe.{Recipe}
 use Rattle.process_job.specs.Jobs as process
 use Rattle.process_job.specs.Jobs.{JobBook}
 use Rattle.process_job.specs.declared.job.ProcessJob.{ProcessJob}
@@ -15,8 +16,8 @@ pub record Jobs : Type 0 where
   pub process : JobBook
   pub control : JobStore
 
--- there are none, of a tool with recipes of these names
-abbrev pub no_jobs : List (List ℕ) → Jobs
+-- there are none, of a tool with these recipes
+abbrev pub no_jobs : List Recipe → Jobs
 no_jobs recipes = record { process = process.no_jobs recipes; control = control.no_jobs }
 
 -- ---- what belongs to what

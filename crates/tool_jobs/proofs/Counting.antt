@@ -1,10 +1,10 @@
 -- How many control jobs pass a test, behind a change of the jobs.
-use Rattle.std.proofs.Common.{◌≡◌, ℕ, suc, ◌==◌, ◌≤◌, ◌<◌, Bool, true, false, true≢false, cond, not, ◌&&◌, ◌||◌, List, [], ◌∷◌, ◌++◌, length, map, filter, find, Some, None, is_some, refl, sym, ap, ◌∙◌, arith}
-use Rattle.std.specs.List.{list_any, list_all}
+use Rattle.std.proofs.Common.{◌≡◌, ℕ, suc, ◌==◌, ◌≤◌, Bool, true, false, true≢false, cond, List, [], ◌∷◌, ◌++◌, length, map, filter, find, Some, is_some, refl, sym, arith}
+use Rattle.std.specs.List.{list_all}
 use Rattle.std.proofs.lemmas.Bool.Decides.{nat_tests}
 use Rattle.control_job.specs.Jobs.{AreRising, numbers_of}
 use Rattle.control_job.specs.declared.job.ControlJob.{ControlJob}
-use Rattle.control_job.proofs.Orders.{or_false, and_true, not_true}
+use Rattle.control_job.proofs.Orders.{and_true}
 
 -- no more pass a test behind a change, where each that passes it then passed one before
 pub no_more : (was is : ControlJob → Bool) (change : ControlJob → ControlJob) (cs : List ControlJob) → ((c : ControlJob) → is (change c) ≡ true → was c ≡ true) → length (filter is (map change cs)) ≤ length (filter was cs)

@@ -4,4 +4,5 @@ pub mod Names
 pub mod Process
 pub mod Control
 pub mod Together
+pub mod Ending
 pub mod Falls

@@ -2,7 +2,7 @@
 use Rattle.std.proofs.Common.{◌≡◌, ℕ, Bool, true, false, true≢false, cond, not, ◌||◌, List, [], ◌∷◌, bytes_eq, refl, sym, subst}
 use Rattle.std.specs.List.{list_any, list_all}
 use Rattle.control_job.specs.Names.{is_in, others}
-use Rattle.control_job.proofs.Orders.{or_false, and_true, not_true}
+use Rattle.control_job.proofs.Orders.{or_false, and_true}
 use Rattle.process_job.proofs.Names.{same_name}
 
 -- what is true of each name, and of each but one that goes then, is true of those that stay

@@ -1,5 +1,5 @@
 -- The process jobs behind a row, or one that is created or forgotten.
-use Rattle.std.proofs.Common.{◌≡◌, ℕ, suc, ◌+◌, ◌<◌, Bool, true, false, true≢false, cond, ◌||◌, List, [], ◌∷◌, ◌++◌, Option, Some, None, bytes_eq, refl, sym, ap, ◌∙◌, subst, arith}
+use Rattle.std.proofs.Common.{◌≡◌, ℕ, ◌+◌, Bool, true, false, true≢false, cond, ◌||◌, List, [], ◌∷◌, ◌++◌, Option, Some, None, bytes_eq, refl, sym, ap, ◌∙◌, subst}
 use Rattle.process_job.specs.Jobs.{JobBook, AreJobs, has_name, has_number, job_numbered, is_known, place_numbered, change_numbered, without_numbered, fires_row, fired, forgotten, created, with_created}
 use Rattle.process_job.specs.Creating.{create_fault}
 use Rattle.process_job.specs.declared.job.ProcessJob.{ProcessJob}

@@ -1,13 +1,12 @@
 -- The jobs are together behind each change.
-use Rattle.std.proofs.Common.{◌≡◌, ℕ, suc, ◌+◌, ◌==◌, ◌≤◌, ◌<◌, Bool, true, false, true≢false, cond, not, ◌&&◌, ◌||◌, List, [], ◌∷◌, ◌++◌, length, map, filter, find, Option, Some, None, is_some, Result, Ok, Err, IfOk, IfErr, bytes_eq, refl, sym, ap, ◌∙◌, subst, arith}
-use Rattle.std.specs.List.{list_any, list_all}
+use Rattle.std.proofs.Common.{◌≡◌, ℕ, ◌+◌, ◌==◌, ◌≤◌, Bool, true, false, true≢false, cond, not, ◌&&◌, ◌||◌, List, [], ◌∷◌, ◌++◌, length, map, filter, Option, Some, None, is_some, bytes_eq, refl, sym, ◌∙◌, subst, arith}
+use Rattle.std.specs.List.{list_all}
 use Rattle.std.proofs.lemmas.Bool.Decides.{nat_tests}
 use Rattle.process_job.specs.Jobs as process
 use Rattle.process_job.specs.Jobs.{JobBook, is_known, change_numbered, without_numbered}
 use Rattle.process_job.specs.Creating.{create_fault as process_fault}
 use Rattle.process_job.specs.declared.job.ProcessJob.{ProcessJob}
 use Rattle.process_job.specs.declared.job.JobSpec.{JobSpec}
-use Rattle.process_job.specs.declared.fault.JobFault.{JobFault}
 use Rattle.process_job.proofs.Apart.{jobs_none}
 use Rattle.control_job.specs.Names.{is_in, others, are_named}
 use Rattle.control_job.specs.Record.{is_active}
@@ -16,12 +15,10 @@ use Rattle.control_job.specs.Jobs.{JobStore, is_open, owns, is_any_active, fires
 use Rattle.control_job.specs.Creating.{replaced_by, kept_without, create_fault}
 use Rattle.control_job.specs.declared.job.ControlJob.{ControlJob}
 use Rattle.control_job.specs.declared.fault.CtlFault.{CtlFault}
-use Rattle.control_job.proofs.Orders.{or_false, and_true, not_true}
 use Rattle.tool_jobs.specs.Jobs.{Jobs, no_jobs, owner}
-use Rattle.tool_jobs.specs.Rows.{left_by, ended, process_fired, control_fired}
+use Rattle.tool_jobs.specs.Rows.{left_by, ended, control_fired}
 use Rattle.tool_jobs.specs.Creating.{with_process, with_control, is_any_missing, is_any_owned, control_fault}
 use Rattle.tool_jobs.specs.Together.{AreTogether, is_left_kept}
-use Rattle.tool_jobs.specs.declared.fault.ControlFault.{ControlFault}
 use Rattle.tool_jobs.specs.declared.fault.ControlFault.TheVariants.{NameTaken, NoJobs, NotThere, HasControlJob, NoSpace}
 use Rattle.tool_jobs.proofs.Counting.{no_more, no_more_left, one_more, none_more, none_found, one_numbered, all_changed, all_wider, all_left, all_more}
 use Rattle.tool_jobs.proofs.Names.{names_left, names_other, names_wider, none_of, all_pass}
@@ -43,7 +40,7 @@ together_none recipes = record {
 -- names that are known before are known behind a change
 wider : (b : JobBook) (w : Jobs) → ((name : List ℕ) → is_known name w.process.kept ≡ true → is_known name b.kept ≡ true) → (c : ControlJob) → is_left_kept w c ≡ true → is_left_kept (record w { process = b }) c ≡ true
 wider b w more c e = by_test (is_open c) e where
-  by_test : (open : Bool) → (not open || list_all (λ job. is_known job w.process.kept) c.left) ≡ true → (not open || list_all (λ job. is_known job b.kept) c.left) ≡ true
+  by_test : (b1 : Bool) → (not b1 || list_all (λ job. is_known job w.process.kept) c.left) ≡ true → (not b1 || list_all (λ job. is_known job b.kept) c.left) ≡ true
   by_test true f = names_wider (λ job. is_known job w.process.kept) (λ job. is_known job b.kept) c.left more f
   by_test false f = refl
 

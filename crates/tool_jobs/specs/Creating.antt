@@ -1,5 +1,5 @@
 -- Whether jobs can be created (this tool's profile, S14F9 and S16F11).
-use Rattle.std.specs.Prelude.{ℕ, Bool, not, if◌then◌else◌, List, [], Option, Some, None, is_some}
+use Rattle.std.specs.Prelude.{ℕ, Bool, not, if◌then◌else◌, List, Option, Some, None, is_some}
 use Rattle.std.specs.List.{list_any}
 use Rattle.process_job.specs.Jobs as process
 use Rattle.process_job.specs.declared.job.JobSpec.{JobSpec}

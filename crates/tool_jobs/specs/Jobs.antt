@@ -1,8 +1,6 @@
 -- The process jobs and the control jobs of the tool together: what belongs to what (after SEMI E40 and SEMI E94; this tool's profile,
 -- tables 14 and 15). The tables are in process_job and control_job.
-use Rattle.std.specs.Prelude.{ℕ, Bool, true, false, ◌==◌, List, [], ◌∷◌, find, Option, Some, None}
-use Rattle.std.specs.Option.{option_and_then}
-use Rattle.std.specs.Str.{bytes_eq}
+use Rattle.std.specs.Prelude.{ℕ, List, [], ◌∷◌, find, Option, Some, None}
 use Rattle.tool_events.specs.declared.recipes.Recipe.{Recipe}
 use Rattle.process_job.specs.Jobs as process
 use Rattle.process_job.specs.Jobs.{JobBook}

@@ -1,6 +1,6 @@
 -- Tables 14 and 15 at work on the jobs: which rows start, which are ready, and what they do to the jobs (after SEMI E40 and SEMI E94;
 -- this tool's profile, tables 14 and 15 and settling). What they do to carriers and substrates is for the crates above.
-use Rattle.std.specs.Prelude.{ℕ, Bool, false, List, map, Option, Some, None}
+use Rattle.std.specs.Prelude.{ℕ, Bool, true, false, Option, Some, None}
 use Rattle.gem_tables.specs.Table.{row_of, may_fire, first_itself}
 use Rattle.process_job.specs.Tables as effect
 use Rattle.process_job.specs.Tables.{JobRow, JobEffect, job_number, job_table}
@@ -48,6 +48,17 @@ process_does effect.ends_stopped number w = ended number w
 abbrev pub found_does : Option JobRow → ℕ → Jobs → Jobs
 found_does None number w = w
 found_does (Some r) number w = process_does r.does number w
+
+-- the word of a row, where there is the row, ends the job
+abbrev pub does_end : JobEffect → Bool
+does_end effect.no_more = false
+does_end effect.makes_members = false
+does_end effect.ends = true
+does_end effect.ends_stopped = true
+
+abbrev pub found_ends : Option JobRow → Bool
+found_ends None = false
+found_ends (Some r) = does_end r.does
 
 -- the jobs behind a row at the process job of a number: its state, and then what the row does
 abbrev pub process_fired : ℕ → ℕ → Jobs → Jobs

@@ -1,6 +1,6 @@
 -- What holds of the jobs together (this tool's profile, tables 14 and 15).
-use Rattle.std.specs.Prelude.{◌≡◌, ℕ, ◌≤◌, ◌&&◌, Bool, true, not, ◌||◌, List, length, filter}
-use Rattle.std.specs.List.{list_any, list_all}
+use Rattle.std.specs.Prelude.{◌≡◌, ℕ, ◌≤◌, Bool, true, not, ◌||◌, List, length, filter}
+use Rattle.std.specs.List.{list_all}
 use Rattle.process_job.specs.Jobs as process
 use Rattle.control_job.specs.Jobs as control
 use Rattle.control_job.specs.Jobs.{owns, is_open}

@@ -1,6 +1,7 @@
 //! How jobs are created (this tool's profile, S14F9 and S16F11).
 
 ghost use Rattle.std.specs.Prelude.{◌≡◌, if◌then◌else◌, is_some, Some, None, Err, IfOk, IfErr};
+ghost use Rattle.process_job.specs.Jobs.{is_known};
 ghost use Rattle.process_job.specs.Creating.{create_fault as process_fault};
 ghost use Rattle.process_job.specs.declared.fault.JobFault.{JobFault};
 ghost use Rattle.process_job.specs.declared.fault.JobFault.TheVariants as process_faults;
@@ -88,11 +89,18 @@ impl Jobs {
         ensures { result ≡ is_any_missing jobs.now self.now }
     {
         for job in jobs {
-            if self.process.find(*job).is_none() {
+            if !self.is_there(*job) {
                 return true;
             }
         }
         false
+    }
+
+    // Whether a process job is kept.
+    fn is_there(&self, job: JobId) -> bool
+        ensures { result ≡ is_known job self.now.process.kept }
+    {
+        self.process.find(job).is_some()
     }
 
     // Whether one of these process jobs has a control job.

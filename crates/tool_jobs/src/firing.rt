@@ -1,8 +1,10 @@
 //! What rows do to the jobs (this tool's profile, tables 14 and 15).
 
 ghost use Rattle.std.specs.Prelude.{◌≡◌, false, is_some};
+ghost use Rattle.gem_tables.specs.Table.{row_of};
+ghost use Rattle.process_job.specs.Tables.{job_table};
 ghost use Rattle.control_job.specs.Jobs.{headed, waiting_named, is_any_active};
-ghost use Rattle.tool_jobs.specs.Rows.{ended, process_fired, control_fired};
+ghost use Rattle.tool_jobs.specs.Rows.{ended, found_ends, process_fired, control_fired};
 
 use crate::jobs::Jobs;
 use gem_ids::JobId;
@@ -14,11 +16,10 @@ impl Jobs {
     pub fn fire_process(&mut self, number: u64, row: u8)
         ensures { self.new ≡ process_fired row number self.old }
     {
-        match row {
-            7 | 13 | 14 | 15 | 16 => self.end(number),
-            _ => {
-                self.process.fire(number, row);
-            }
+        if is_end(row) {
+            self.end(number);
+        } else {
+            self.process.fire(number, row);
         }
     }
 
@@ -26,10 +27,13 @@ impl Jobs {
     fn end(&mut self, number: u64)
         ensures { self.new ≡ ended number self.old }
     {
-        if let Some(job) = self.process.numbered(number) {
-            let name = job.id;
-            self.control.leaves(name);
-            self.process.forget(number);
+        match self.process.numbered(number) {
+            Some(job) => {
+                let name = job.id;
+                self.control.leaves(name);
+                self.process.forget(number);
+            }
+            None => {}
         }
     }
 
@@ -51,4 +55,11 @@ impl Jobs {
     {
         self.control.head_of_queue(id)
     }
+}
+
+// Whether a row of table 14 ends the process job.
+fn is_end(row: u8) -> bool
+    ensures { result ≡ found_ends (row_of job_table row) }
+{
+    matches!(row, 7 | 13 | 14 | 15 | 16)
 }

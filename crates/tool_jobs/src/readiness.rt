@@ -219,11 +219,7 @@ fn ending_row(ending: Ending) -> Option<u8>
 fn ready_or(holds: bool, row: u8, ending: Ending) -> Option<u8>
     ensures { result ≡ (if holds then Some row else (if is_by_stop ending then Some 17 else (if is_by_abort ending then Some 18 else None))) }
 {
-    if holds {
-        Some(row)
-    } else {
-        ending_row(ending)
-    }
+    if holds { Some(row) } else { ending_row(ending) }
 }
 
 // The row of a process job that is STOPPING: 13 where it is settled, 18 where its control job ends by abort.

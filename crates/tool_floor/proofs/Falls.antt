@@ -90,9 +90,10 @@ falls_9_1 f carrier e =
     let left = registers.left in
     let few = registers.few in
     let modules = ap modules_left registers.modules in
+    let jobs = ap jobs_left registers.jobs in
     let rows : length (registration_rows (drop (length f.substrates) g.substrates)) ≡ 2 * length registers.new =
     ap (λ (ss : List Substrate). length (registration_rows (drop (length f.substrates) ss))) registers.substrates ∙ ap (λ (ss : List Substrate). length (registration_rows ss)) (drop_before f.substrates registers.new) ∙ rows_count registers.new in
-    omega (arith, h, left, few, modules, rows)
+    omega (arith, h, left, few, modules, jobs, rows)
 
 falls_9_2 : (f : ToolFloor) (carrier : ℕ) → map_machine.ready carrier f.shop ≡ Some 2 → Falls f (firing 9 carrier 2)
 falls_9_2 f carrier e =

@@ -32,15 +32,8 @@ use Rattle.tool_floor.specs.Substrates.{registration_rows, new_rows, found_does}
 use Rattle.tool_floor.specs.Jobs.{found_sight, is_first_here, process_behind}
 use Rattle.process_job.specs.Tables.{job_table}
 use Rattle.process_job.specs.Jobs.{job_numbered as process_numbered}
-use Rattle.process_job.specs.Tables.{job_number}
-use Rattle.process_job.specs.declared.job.ProcessJob.{ProcessJob}
-use Rattle.control_job.specs.Tables.{states_number, control_table}
 use Rattle.control_job.specs.Jobs.{job_numbered as control_numbered}
-use Rattle.control_job.specs.declared.job.ControlJob.{ControlJob}
-use Rattle.tool_jobs.specs.Jobs.{Jobs}
-use Rattle.tool_jobs.specs.Wants.{process_wants, control_wants}
-use Rattle.tool_jobs.specs.Rows.{process_starts, process_ready, control_starts, control_ready}
-use Rattle.tool_jobs.specs.declared.sight.Sight.{Sight}
+use Rattle.tool_jobs.proofs.Falls.{process_ready_starts, control_ready_starts}
 use Rattle.tool_floor.proofs.Marks.{found_valid}
 use Rattle.tool_floor.specs.Machines.{taken_along, registered_by, accessing_starts, accessing_ready, location_starts, location_ready, substrate_starts, substrate_ready, substrate_moves, floor_machines, floor_starts, floor_fired, creation_rows, is_creation, floor_least, moved_by}
 use Rattle.tool_floor.proofs.Tables.{least_floor, first_location as first_ready_location, first_move}
@@ -118,16 +111,6 @@ move_start f row plan None e = absurd (cc)
 move_start f row plan (Some m) e =
     ready_may_fire state_number (λ want. move_wants want plan m) move_table row (state_of m) (refl, (refl, (refl, (refl, (refl, (refl, (refl, (refl, (refl, (refl, tt)))))))))) e
 
-process_start : (w : Jobs) (row : ℕ) (o : Option ProcessJob) (sight : Sight) → process_ready o sight w ≡ Some row → process_starts row o sight w ≡ true
-process_start w row None sight e = absurd (cc)
-process_start w row (Some j) sight e =
-    ready_may_fire job_number (λ want. process_wants want j sight w) job_table row j.states.state (refl, (refl, (refl, (refl, (refl, (refl, (refl, (refl, (refl, (refl, (refl, (refl, (refl, (refl, (refl, (refl, (refl, (refl, tt)))))))))))))))))) e
-
-control_start : (w : Jobs) (row : ℕ) (o : Option ControlJob) (here : Bool) → control_ready o here w ≡ Some row → control_starts row o here w ≡ true
-control_start w row None here e = absurd (cc)
-control_start w row (Some c) here e =
-    ready_may_fire states_number (λ want. control_wants want c here w.control) control_table row c.states (refl, (refl, (refl, (refl, (refl, (refl, (refl, (refl, (refl, (refl, (refl, (refl, tt)))))))))))) e
-
 all_start : (f : ToolFloor) → AllByRecursion (λ (m : Machine ToolFloor). (object row : ℕ) → m.ready object f ≡ Some row → floor_starts (firing m.table object row) f ≡ true) floor_machines
 all_start f =
     let shop = shop_all_start f.shop in (
@@ -150,7 +133,7 @@ all_start f =
                       (λ o r e. substrate_start transport_number transport_table (λ s. s.transport) f r (substrate_numbered o f.substrates) (refl, (refl, (refl, tt))) e),
                       (
                         (λ o r e. substrate_start processing_number processing_table (λ s. s.processing) f r (substrate_numbered o f.substrates) (refl, (refl, (refl, (refl, (refl, (refl, (refl, (refl, tt)))))))) e),
-                        ((λ o r e. process_start f.jobs r (process_numbered o f.jobs.process.kept) (found_sight (process_numbered o f.jobs.process.kept) f) e), ((λ o r e. control_start f.jobs r (control_numbered o f.jobs.control.jobs) (is_first_here o f) e), ((λ o r e. move_start f r (planned o f) (module_at o f.modules) e), tt))),
+                        ((λ o r e. process_ready_starts (process_numbered o f.jobs.process.kept) r (found_sight (process_numbered o f.jobs.process.kept) f) f.jobs e), ((λ o r e. control_ready_starts (control_numbered o f.jobs.control.jobs) r (is_first_here o f) f.jobs e), ((λ o r e. move_start f r (planned o f) (module_at o f.modules) e), tt))),
                       ),
                     ),
                   ),
@@ -295,7 +278,7 @@ follows x f =
             shop_follow (firing 7 x.object x.row.row) f.shop _ refl,
             (
               shop_follow (firing 8 x.object x.row.row) f.shop _ refl,
-              (map_follow x.row.row x.object f _, (none_follow _, (none_follow _, (none_follow _, (none_follow _, (none_follow _, tt)))))),
+              (map_follow x.row.row x.object f _, (none_follow _, (none_follow _, (none_follow _, (none_follow _, (none_follow _, (none_follow _, (none_follow _, tt)))))))),
             ),
           ),
         ),

@@ -1,6 +1,7 @@
 pub mod Tables
 pub mod Behind
 pub mod Scans
+pub mod JobScans
 pub mod Registrations
 pub mod Marks
 pub mod Falls

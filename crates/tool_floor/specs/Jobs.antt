@@ -201,3 +201,7 @@ is_aborting _ = false
 abbrev pub is_job_so : (JobState → Bool) → Option ProcessJob → Bool
 is_job_so test None = false
 is_job_so test (Some j) = test j.states.state
+
+-- a process job is STOPPING or ABORTING
+abbrev pub is_ending : ProcessJob → Bool
+is_ending j = is_stopping j.states.state || is_aborting j.states.state

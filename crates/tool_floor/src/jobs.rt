@@ -1,14 +1,14 @@
 //! The jobs on the floor of the tool: what it shows of a process job, which of their rows start and are ready, and what these do (this
 //! tool's profile, tables 14 and 15 and settling).
 
-ghost use Rattle.std.specs.Prelude.{◌≡◌, ◌∷◌, [], true, false, length, map, option_map, option_copied, slice_get, ◌||◌, Some};
+ghost use Rattle.std.specs.Prelude.{◌≡◌, ◌∷◌, [], true, false, length, map, option_map, slice_get, ◌||◌, Some};
 ghost use Rattle.std.specs.List.{list_any};
 ghost use Rattle.gem_tables.specs.Table.{is_one_of};
 ghost use Rattle.gem_tables.specs.Machine.{first_ready, ready_in};
-ghost use Rattle.process_job.specs.Jobs.{job_numbered as process_numbered};
-ghost use Rattle.control_job.specs.Jobs.{job_numbered as control_numbered, numbers_of as control_numbers};
+ghost use Rattle.process_job.specs.Jobs.{job_numbered as process_numbered, AreJobs as AreProcessJobs};
+ghost use Rattle.control_job.specs.Jobs.{job_numbered as control_numbered, numbers_of as control_numbers, AreJobs as AreControlJobs};
 ghost use Rattle.tool_jobs.specs.Rows.{process_ready, control_ready};
-ghost use Rattle.tool_floor.specs.Jobs.{is_done_with, is_settled, is_at_rest, is_still, sight, found_sight, is_first_here, gets_members, frees, stops_carriers, process_behind, is_any_of_carrier, is_job_so, is_processing, is_stopping, is_aborting, job_of};
+ghost use Rattle.tool_floor.specs.Jobs.{is_done_with, is_settled, is_at_rest, is_still, sight, found_sight, is_first_here, gets_members, frees, stops_carriers, process_behind, is_any_of_carrier, is_job_so, is_processing, is_stopping, is_aborting, is_ending, job_of};
 ghost use Rattle.tool_floor.specs.Machines.{process_numbers, floor_machines, floor_starts, floor_fired};
 
 use crate::floor::ToolFloor;
@@ -131,14 +131,15 @@ impl ToolFloor {
 
     // How many process jobs are kept.
     fn process_count(&self) -> usize
-        ensures { result ≡ length self.now.jobs.process.kept }
+        ensures count { result ≡ length self.now.jobs.process.kept }
+        ensures jobs { AreProcessJobs self.now.jobs.process }
     {
         self.jobs.process().len()
     }
 
     // The process job of a place, counted from 0.
     fn process_at(&self, place: usize) -> Option<&ProcessJob>
-        ensures { option_copied result ≡ slice_get self.now.jobs.process.kept place }
+        ensures { option_map (λ j. j.now) result ≡ slice_get self.now.jobs.process.kept place }
     {
         self.jobs.process().get(place)
     }
@@ -179,14 +180,15 @@ impl ToolFloor {
 
     // How many control jobs are kept.
     fn control_count(&self) -> usize
-        ensures { result ≡ length self.now.jobs.control.jobs }
+        ensures count { result ≡ length self.now.jobs.control.jobs }
+        ensures jobs { AreControlJobs self.now.jobs.control }
     {
         self.jobs.control().len()
     }
 
     // The control job of a place, counted from 0.
     fn control_at(&self, place: usize) -> Option<&ControlJob>
-        ensures { option_copied result ≡ slice_get self.now.jobs.control.jobs place }
+        ensures { option_map (λ j. j.now) result ≡ slice_get self.now.jobs.control.jobs place }
     {
         self.jobs.control().at(place)
     }
@@ -245,8 +247,8 @@ impl ToolFloor {
     fn free_members(&mut self, number: u64)
         ensures { self.new ≡ frees (process_numbered number self.old.jobs.process.kept) self.old }
     {
-        if self.jobs.process().numbered(number).is_some() {
-            self.substrates.free(number);
+        if let Some(job) = self.jobs.process().numbered(number) {
+            self.substrates.free(job.number);
         }
     }
 
@@ -310,14 +312,11 @@ impl ToolFloor {
 
     // Whether a process job is STOPPING or ABORTING.
     pub(crate) fn is_any_ending(&self) -> bool
-        ensures { result ≡ list_any (λ j. is_stopping j.states.state || is_aborting j.states.state) self.now.jobs.process.kept }
+        ensures { result ≡ list_any is_ending self.now.jobs.process.kept }
     {
         for place in 0..self.process_count() {
             if let Some(job) = self.process_at(place) {
-                if matches!(
-                    job.states.state,
-                    JobState::Stopping | JobState::Aborting
-                ) {
+                if is_ending(job) {
                     return true;
                 }
             }
@@ -331,11 +330,25 @@ impl ToolFloor {
     {
         for place in 0..self.process_count() {
             if let Some(job) = self.process_at(place) {
-                if matches!(job.states.state, JobState::Processing) {
+                if is_processing(job) {
                     return true;
                 }
             }
         }
         false
     }
+}
+
+// Whether a process job is STOPPING or ABORTING.
+fn is_ending(job: &ProcessJob) -> bool
+    ensures { result ≡ is_ending job.now }
+{
+    matches!(job.states.state, JobState::Stopping | JobState::Aborting)
+}
+
+// Whether a process job is PROCESSING.
+fn is_processing(job: &ProcessJob) -> bool
+    ensures { result ≡ is_processing job.now.states.state }
+{
+    matches!(job.states.state, JobState::Processing)
 }

@@ -13,13 +13,20 @@ use shop_floor::ShopFloor;
 
 // ---- the members that it gets
 
+// Whether the carrier of this number has this name.
+fn is_carrier_of(name: Text80, number: u64, carrier: &Carrier) -> bool
+    ensures { result ≡ is_carrier_of name number carrier.now }
+{
+    carrier.number == number && carrier.name.as_bytes() == name.as_bytes()
+}
+
 // Whether a carrier of this name and number is known.
 fn is_any_carrier_of(name: Text80, number: u64, shop: &ShopFloor) -> bool
     ensures { result ≡ list_any (is_carrier_of name number) shop.now.carriers }
 {
     for place in 0..shop.carrier_count() {
         if let Some(carrier) = shop.carrier(place) {
-            if carrier.number == number && carrier.name.as_bytes() == name.as_bytes() {
+            if is_carrier_of(name, number, &carrier) {
                 return true;
             }
         }

@@ -1,11 +1,10 @@
 //! What the modules are to do next (this tool's profile, moves).
 
-ghost use Rattle.std.specs.Prelude.{◌≡◌, ◌≤◌, [], true, false, length, Some};
+ghost use Rattle.std.specs.Prelude.{◌≡◌, ◌≤◌, [], true, false, length, Some, option_copied};
 ghost use Rattle.gem_tables.specs.Machine.{first_ready};
 ghost use Rattle.robot_moves.specs.Modules.{module_at};
 ghost use Rattle.robot_moves.specs.Moves.{next_move};
 ghost use Rattle.tool_floor.specs.Floor.{module_numbers};
-ghost use Rattle.std.specs.Option.{option_copied};
 ghost use Rattle.tool_floor.specs.Jobs.{job_of, is_job_so, is_processing};
 ghost use Rattle.tool_floor.specs.Views.{chamber_bits, chambers_of, recipe_of, view_of, views, planned};
 ghost use Rattle.tool_floor.specs.Modules.{is_by, move_ready, move_starts};
@@ -41,7 +40,7 @@ fn chambers_of(recipe: Option<Recipe>) -> u8
 
 // The name of the recipe of a process job, empty where there is none.
 fn recipe_of(job: Option<&ProcessJob>) -> Text80
-    ensures { result ≡ recipe_of (option_copied job) }
+    ensures { result ≡ recipe_of (option_copied job.entry) }
 {
     match job {
         Some(job) => job.recipe,
@@ -51,7 +50,7 @@ fn recipe_of(job: Option<&ProcessJob>) -> Text80
 
 // Whether a process job is there, and PROCESSING.
 fn is_processing(job: Option<&ProcessJob>) -> bool
-    ensures { result ≡ is_job_so is_processing (option_copied job) }
+    ensures { result ≡ is_job_so is_processing (option_copied job.entry) }
 {
     match job {
         Some(job) => matches!(job.states.state, JobState::Processing),

@@ -1,5 +1,5 @@
 -- Floors of the tool with a process job and a control job, made by hand, and what the host does to the jobs.
-use Rattle.std.specs.Prelude.{ℕ, Bool, true, false, List, [], ◌∷◌, codes}
+use Rattle.std.specs.Prelude.{ℕ, Bool, true, List, [], ◌∷◌, codes}
 use Rattle.gem_tables.specs.Table.{firing}
 use Rattle.gem_tables.specs.declared.firing.Firing.{Firing}
 use Rattle.process_job.specs.declared.job.Material.{Material}

@@ -1,12 +1,11 @@
 //! Worked floors with jobs, computed from the definitions. Each function is a statement about them, and has no code.
 
-ghost use Rattle.std.specs.Prelude.{◌≡◌, [], ◌∷◌, ◌++◌, Some, true, false, codes};
+ghost use Rattle.std.specs.Prelude.{◌≡◌, [], ◌∷◌, true, false};
 ghost use Rattle.gem_tables.specs.Table.{firing};
-ghost use Rattle.gem_ids.specs.declared.numbers.LocId.TheVariants.{Aligner, Arm, Chamber};
+ghost use Rattle.gem_ids.specs.declared.numbers.LocId.TheVariants.{Arm};
 ghost use Rattle.tool_events.specs.declared.answer.Task.TheVariants as task;
 ghost use Rattle.process_job.specs.declared.record.JobState.TheVariants as process;
-ghost use Rattle.substrate.specs.declared.record.Processing.TheVariants.{InProcess, Processed, Stopped, Aborted, Skipped};
-ghost use Rattle.worked_floors.specs.Worked.{wafer, own_slot, processing_is, is_given, in_slot, picking, out_at, placing, aligned_at, working, returning, back, settling, settled, firings, behind, done, all_done, behind_dones};
+ghost use Rattle.worked_floors.specs.Worked.{wafer, own_slot, is_given, in_slot, picking, placing, working, finished_at, returning, back, settling, settled, firings, behind, done, behind_dones};
 ghost use Rattle.worked_jobs.specs.Jobs.{running, ended, is_member, created, at_control, started, paused, resumed, stopped, aborted};
 
 /// A lot begins: the control job is SELECTED and EXECUTING, the process job is SETTING UP, where it gets its members, and PROCESSING, and
@@ -21,7 +20,8 @@ pub fn a_lot_begins()
 /// A lot of one substrate: seven commands are done, in the printed order of modules, and at the eighth Done the process job is PROCESS
 /// COMPLETE and has ended, the carrier is COMPLETE, its port READY TO UNLOAD, and the control job COMPLETED.
 pub fn a_lot_of_one_substrate_ends_at_the_eighth_done()
-    ensures seven { behind_dones (1 ∷ 1 ∷ 2 ∷ 1 ∷ 1 ∷ 3 ∷ 1 ∷ []) (settled (created true)) ≡ is_member (running process.Processing returning) }
+    ensures seven { behind_dones (1 ∷ 1 ∷ 2 ∷ 1 ∷ 1 ∷ 3 ∷ 1 ∷ []) (settled (created true))
+        ≡ is_member (running process.Processing (is_given 1 8 (task.Place wafer own_slot) (finished_at Arm))) }
     ensures eighth { firings (done 1) (is_member (running process.Processing returning))
         ≡ firing 16 1 5 ∷ firing 11 3 1 ∷ firing 11 27 2 ∷ firing 12 1 3 ∷ firing 14 1 6 ∷ firing 14 1 7 ∷ firing 10 1 2 ∷ firing 4 1 4 ∷ firing 15 1 8 ∷ [] }
     ensures floor { behind (done 1) (is_member (running process.Processing returning)) ≡ ended back }
@@ -61,5 +61,4 @@ pub fn a_control_job_ends()
         ≡ firing 15 1 11 ∷ firing 14 1 17 ∷ firing 13 1 5 ∷ firing 14 1 13 ∷ firing 15 1 8 ∷ [] }
     ensures abort { firings (at_control 12) (is_member (running process.Paused in_slot))
         ≡ firing 15 1 12 ∷ firing 14 1 18 ∷ firing 13 1 5 ∷ firing 14 1 14 ∷ firing 15 1 8 ∷ [] }
-    ensures selected { firings (at_control 12) (created true) ≡ [] }
 {}

@@ -5,6 +5,7 @@ use anyhow::{Result, bail};
 use gem_ids::{JobId, Text80};
 use process_job::{JobSpec, Material, Materials, Slots};
 use std::alloc::Global;
+use test_lines::{nothing, small};
 use tool_jobs::Jobs;
 
 // No jobs, of a tool with one recipe.
@@ -71,13 +72,13 @@ pub(crate) fn fault(alloc: Global, jobs: &Jobs, words: &[&str]) -> Result<String
     Ok(format!(in alloc; "{fault:?}")?)
 }
 
-// So many process jobs, each in a control job of its own.
-pub(crate) fn filled(alloc: Global, count: u8) -> Result<Jobs> {
-    let mut jobs = none(alloc)?;
+// Creates so many process jobs more, each in a control job of its own; no answer.
+pub(crate) fn fill(alloc: Global, jobs: &mut Jobs, words: &[&str]) -> Result<String> {
+    let count = small(words, 1)?;
     for place in 0..count {
-        fill_one(alloc, &mut jobs, place.saturating_add(1))?;
+        fill_one(alloc, jobs, place.saturating_add(1))?;
     }
-    Ok(jobs)
+    nothing(alloc)
 }
 
 // A process job of a number, and a control job of it.

@@ -9,13 +9,13 @@
 //! jobs that are left in it. `owner P1` tells the control job that P1 belongs to, with `first` behind it where P1 is the first left in
 //! one that is EXECUTING and isn't ending; `first 1` tells the first left in control job 1, and `next` the first in the queue.
 
-use crate::created::{create_control, create_process, fault, filled};
+use crate::created::{create_control, create_process, fault, fill, none};
 use crate::names::job;
 use crate::rows::{fire, ready, rows};
 use crate::shown::{first, owner, shown};
 use anyhow::{Result, bail};
 use std::alloc::Global;
-use test_lines::{Subject, nothing, small, word, words};
+use test_lines::{Subject, word, words};
 use tool_jobs::Jobs;
 
 /// The jobs of a tool.
@@ -27,38 +27,37 @@ pub struct ToolJobs {
 impl ToolJobs {
     /// No jobs, of a tool with one recipe.
     pub fn new(alloc: Global) -> Result<ToolJobs> {
-        Ok(ToolJobs {
-            jobs: crate::created::none(alloc)?,
-        })
+        Ok(ToolJobs { jobs: none(alloc)? })
     }
 }
 
 impl Subject for ToolJobs {
     fn answer(&mut self, alloc: Global, said: &str) -> Result<String> {
         let words = words(alloc, said)?;
-        let words = words.as_slice();
-        match word(words, 0)? {
-            "fill" => {
-                self.jobs = filled(alloc, small(words, 1)?)?;
-                nothing(alloc)
-            }
-            "process" => create_process(alloc, &mut self.jobs, words),
-            "control" => create_control(alloc, &mut self.jobs, words),
-            "fire" => {
-                fire(&mut self.jobs, words)?;
-                nothing(alloc)
-            }
-            "head" => {
-                let queued = self.jobs.head_of_queue(job(words, 1)?);
-                Ok(format!(in alloc; "{queued}")?)
-            }
-            _ => asked(alloc, &self.jobs, words),
-        }
+        say(alloc, &mut self.jobs, words.as_slice())
     }
 }
 
+// Says the words of a line to the jobs.
+fn say(alloc: Global, jobs: &mut Jobs, words: &[&str]) -> Result<String> {
+    match word(words, 0)? {
+        "fill" => fill(alloc, jobs, words),
+        "process" => create_process(alloc, jobs, words),
+        "control" => create_control(alloc, jobs, words),
+        "fire" => fire(alloc, jobs, words),
+        "head" => head(alloc, jobs, words),
+        _ => ask(alloc, jobs, words),
+    }
+}
+
+// A control job goes to the head of the queue; whether it is QUEUED.
+fn head(alloc: Global, jobs: &mut Jobs, words: &[&str]) -> Result<String> {
+    let queued = jobs.head_of_queue(job(words, 1)?);
+    Ok(format!(in alloc; "{queued}")?)
+}
+
 // What the jobs say.
-fn asked(alloc: Global, jobs: &Jobs, words: &[&str]) -> Result<String> {
+fn ask(alloc: Global, jobs: &Jobs, words: &[&str]) -> Result<String> {
     match word(words, 0)? {
         "fault" => fault(alloc, jobs, words),
         "rows" => rows(alloc, jobs, words),
@@ -66,10 +65,13 @@ fn asked(alloc: Global, jobs: &Jobs, words: &[&str]) -> Result<String> {
         "job" => shown(alloc, jobs, words),
         "owner" => owner(alloc, jobs, words),
         "first" => first(alloc, jobs, words),
-        "next" => {
-            let next = jobs.control().first_queued();
-            Ok(format!(in alloc; "{next:?}")?)
-        }
+        "next" => next(alloc, jobs),
         _ => bail!("it says nothing"),
     }
+}
+
+// The number of the first control job in the queue.
+fn next(alloc: Global, jobs: &Jobs) -> Result<String> {
+    let next = jobs.control().first_queued();
+    Ok(format!(in alloc; "{next:?}")?)
 }

@@ -2,7 +2,7 @@
 
 use anyhow::{Result, bail};
 use std::alloc::Global;
-use test_lines::{number, small, word};
+use test_lines::{nothing, number, small, word};
 use tool_jobs::{Jobs, Sight};
 
 // What the floor shows, by a word.
@@ -22,18 +22,16 @@ fn sight(word: &str) -> Result<Sight> {
     })
 }
 
-// A row of a table fires at the job of a number.
-pub(crate) fn fire(jobs: &mut Jobs, words: &[&str]) -> Result<()> {
+// A row of a table fires at the job of a number; no answer.
+pub(crate) fn fire(alloc: Global, jobs: &mut Jobs, words: &[&str]) -> Result<String> {
     let object = number(words, 2)?;
     let row = small(words, 3)?;
     match word(words, 1)? {
-        "14" => {
-            jobs.fire_process(object, row);
-            Ok(())
-        }
-        "15" => fire_control(jobs, object, row),
+        "14" => jobs.fire_process(object, row),
+        "15" => fire_control(jobs, object, row)?,
         _ => bail!("there is no such table"),
     }
+    nothing(alloc)
 }
 
 // A row of table 15 fires; row 2 where no control job is active.

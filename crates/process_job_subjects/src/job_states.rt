@@ -3,10 +3,11 @@
 //! `row 2` tells whether row 2 of table 14 starts from each of the states of that table, in the order of their numbers, and the
 //! number of the state behind it. `first 2` tells the same of a job as it is created.
 
+use crate::specs::small;
 use anyhow::{Result, bail};
 use process_job::{JobState, ProcessJobRecord};
 use std::alloc::Global;
-use test_lines::{Subject, small, word, words};
+use test_lines::{Subject, words};
 
 const STATES: [JobState; 9] = [
     JobState::Queued,
@@ -27,36 +28,42 @@ pub struct JobStates;
 impl Subject for JobStates {
     fn answer(&mut self, alloc: Global, said: &str) -> Result<String> {
         let words = words(alloc, said)?;
-        let words = words.as_slice();
-        let row = small(words, 1)?;
-        match word(words, 0)? {
-            "row" => fired(alloc, row),
-            "first" => behind(alloc, ProcessJobRecord::new(), row),
-            _ => bail!("it says nothing"),
+        let mut answer = String::new(alloc);
+        match say(words.as_slice(), &mut answer) {
+            Some(()) => Ok(answer),
+            None => bail!("it says nothing, or there is no memory"),
         }
+    }
+}
+
+// Says the words of a line; the answer. None where they say nothing.
+fn say(words: &[&str], answer: &mut String) -> Option<()> {
+    let row = small(words, 1)?;
+    match *words.first()? {
+        "row" => add_fired(answer, row),
+        "first" => add_behind(answer, ProcessJobRecord::new(), row),
+        _ => None,
     }
 }
 
 // What a row is from each of the states.
-fn fired(alloc: Global, row: u8) -> Result<String> {
-    let mut all = String::new(alloc);
+fn add_fired(answer: &mut String, row: u8) -> Option<()> {
     for state in STATES {
-        if !all.is_empty() {
-            all.push_str(", ")?;
+        if !answer.is_empty() {
+            answer.push_str(", ").ok()?;
         }
-        let one = behind(alloc, ProcessJobRecord { state }, row)?;
-        all.push_str(one.as_str())?;
+        add_behind(answer, ProcessJobRecord { state }, row)?;
     }
-    Ok(all)
+    Some(())
 }
 
 // Whether a row starts at a record, and the number of the state behind it; both are told twice over, by what starts and by what
 // fires.
-fn behind(alloc: Global, record: ProcessJobRecord, row: u8) -> Result<String> {
+fn add_behind(answer: &mut String, record: ProcessJobRecord, row: u8) -> Option<()> {
     let mut record = record;
     let starts = record.starts(row);
     if record.fire(row) != starts {
-        bail!("what starts doesn't fire");
+        return None;
     }
-    Ok(format!(in alloc; "{starts} {}", record.state.number())?)
+    write!(answer, "{starts} {}", record.state.number()).ok()
 }

@@ -6,14 +6,15 @@
 //! each of which starts. `commands PJ1` tells what each command to a job fires. A job is told by its place (`get`), its name
 //! (`find`) or its number (`numbered`); `list 2` lists all jobs twice, one time behind the other.
 
-use crate::shown::{items, job};
-use crate::specs::{named, numbered, spec, told};
+use crate::shown::{add_items, add_job};
+use crate::specs::{named, names, number, plain, small, spec, told, told_at};
 use anyhow::{Result, bail};
 use gem_ids::{JobId, Text80};
-use process_job::{JobSpec, Material, Materials, ProcessJobs, Slots};
+use process_job::ProcessJobs;
 use secs_items::Items;
 use std::alloc::Global;
-use test_lines::{Subject, nothing, number, small, word, words};
+use test_lines::{Subject, words};
+use tool_events::JobWord;
 
 /// The process jobs of a tool.
 #[derive(Drop)]
@@ -25,120 +26,137 @@ pub struct JobsOf {
 impl JobsOf {
     /// No jobs, of a tool with recipes of these names.
     pub fn named(alloc: Global, recipes: &str) -> Result<JobsOf> {
-        let mut names = Vec::new(alloc);
-        for name in words(alloc, recipes)?.as_slice() {
-            names.push(Text80::read(name.as_bytes())?)?;
+        match of(alloc, words(alloc, recipes)?.as_slice()) {
+            Some(jobs) => Ok(jobs),
+            None => bail!("there is no recipe, or no memory"),
         }
-        let recipe = match names.as_slice().first() {
-            Some(name) => *name,
-            None => bail!("there is no recipe"),
-        };
-        Ok(JobsOf {
-            jobs: ProcessJobs::new(alloc, names.as_slice())?,
-            recipe,
-        })
     }
+}
 
-    // So many jobs, named by their numbers from 0.
-    fn fill(&mut self, alloc: Global, count: u8) -> Result<()> {
-        for number in 0..count {
-            let mut material = Materials::new(alloc);
-            material.push(Material {
-                carrier: Text80::read(b"C00")?,
-                slots: Slots::new(alloc),
-            })?;
-            self.jobs.create(JobSpec {
-                id: numbered(number)?,
-                material,
-                recipe: self.recipe,
-                auto: true,
-            })?;
-        }
-        Ok(())
-    }
+// No jobs, of a tool with recipes of these names.
+fn of(alloc: Global, words: &[&str]) -> Option<JobsOf> {
+    let recipes = names(alloc, words)?;
+    let recipe = *recipes.as_slice().first()?;
+    let jobs = ProcessJobs::new(alloc, recipes.as_slice()).ok()?;
+    Some(JobsOf { jobs, recipe })
 }
 
 impl Subject for JobsOf {
     fn answer(&mut self, alloc: Global, said: &str) -> Result<String> {
         let words = words(alloc, said)?;
-        let words = words.as_slice();
-        match word(words, 0)? {
-            "create" => {
-                let created = self.jobs.create(spec(alloc, words)?);
-                Ok(format!(in alloc; "{created:?}")?)
-            }
-            "fill" => {
-                self.fill(alloc, small(words, 1)?)?;
-                nothing(alloc)
-            }
-            "rows" => {
-                fire_all(&mut self.jobs, words)?;
-                nothing(alloc)
-            }
-            "fire" => {
-                let fires = self.jobs.fire(number(words, 1)?, small(words, 2)?);
-                Ok(format!(in alloc; "{fires}")?)
-            }
-            "forget" => {
-                let known = self.jobs.forget(number(words, 1)?);
-                Ok(format!(in alloc; "{known}")?)
-            }
-            _ => asked(alloc, &self.jobs, words),
+        let mut answer = String::new(alloc);
+        match say(alloc, self, words.as_slice(), &mut answer) {
+            Some(()) => Ok(answer),
+            None => bail!("it says nothing, or there is no memory"),
         }
     }
+}
+
+// Says the words of a line to the jobs; the answer. None where they say nothing.
+fn say(alloc: Global, of: &mut JobsOf, words: &[&str], answer: &mut String) -> Option<()> {
+    match *words.first()? {
+        "create" => create(alloc, &mut of.jobs, words, answer),
+        "fill" => fill(alloc, &mut of.jobs, small(words, 1)?, of.recipe),
+        "rows" => fire_all(&mut of.jobs, words),
+        "fire" | "forget" => change(&mut of.jobs, words, answer),
+        _ => ask(alloc, &of.jobs, words, answer),
+    }
+}
+
+// ---- what changes the jobs
+
+// Creates the job that a line asks for.
+fn create(
+    alloc: Global,
+    jobs: &mut ProcessJobs,
+    words: &[&str],
+    answer: &mut String,
+) -> Option<()> {
+    let created = jobs.create(spec(alloc, words)?);
+    write!(answer, "{created:?}").ok()
+}
+
+// Fires a row at the job of a number, or forgets it; whether it did.
+fn change(jobs: &mut ProcessJobs, words: &[&str], answer: &mut String) -> Option<()> {
+    match *words.first()? {
+        "fire" => add_truth(answer, jobs.fire(number(words, 1)?, small(words, 2)?)),
+        _ => add_truth(answer, jobs.forget(number(words, 1)?)),
+    }
+}
+
+// Creates so many jobs, named by their numbers from 0.
+fn fill(alloc: Global, jobs: &mut ProcessJobs, count: u8, recipe: Text80) -> Option<()> {
+    for number in 0..count {
+        jobs.create(plain(alloc, number, recipe)?).ok()?;
+    }
+    Some(())
 }
 
 // Fires rows at the job of a number, each of which starts.
-fn fire_all(jobs: &mut ProcessJobs, words: &[&str]) -> Result<()> {
+fn fire_all(jobs: &mut ProcessJobs, words: &[&str]) -> Option<()> {
     let object = number(words, 1)?;
     for place in 2..words.len() {
         if !jobs.fire(object, small(words, place)?) {
-            bail!("a row doesn't start");
+            return None;
         }
     }
-    Ok(())
+    Some(())
 }
 
-// What the jobs say.
-fn asked(alloc: Global, jobs: &ProcessJobs, words: &[&str]) -> Result<String> {
-    match word(words, 0)? {
-        "len" => Ok(format!(in alloc; "{}", jobs.len())?),
-        "space" => Ok(format!(in alloc; "{}", jobs.space())?),
-        "get" => job(alloc, jobs.get(small(words, 1)? as usize)),
-        "find" => job(alloc, jobs.find(named(words, 1)?)),
-        "numbered" => job(alloc, jobs.numbered(number(words, 1)?)),
-        "list" => listed(alloc, jobs, small(words, 1)?),
-        "commands" => commands(alloc, jobs, named(words, 1)?),
-        "command" => command(alloc, jobs, named(words, 1)?, word(words, 2)?),
-        _ => bail!("it says nothing"),
+// ---- what the jobs say
+
+fn ask(alloc: Global, jobs: &ProcessJobs, words: &[&str], answer: &mut String) -> Option<()> {
+    match *words.first()? {
+        "len" => add_count(answer, jobs.len() as u64),
+        "space" => add_count(answer, jobs.space() as u64),
+        "list" => add_list(alloc, jobs, small(words, 1)?, answer),
+        "commands" => add_commands(jobs, named(words, 1)?, answer),
+        "command" => add_command(jobs, named(words, 1)?, told_at(words, 2)?, answer),
+        _ => add_one(jobs, words, answer),
     }
+}
+
+// The job of a place, a name or a number.
+fn add_one(jobs: &ProcessJobs, words: &[&str], answer: &mut String) -> Option<()> {
+    match *words.first()? {
+        "get" => add_job(answer, jobs.get(small(words, 1)? as usize)),
+        "find" => add_job(answer, jobs.find(named(words, 1)?)),
+        "numbered" => add_job(answer, jobs.numbered(number(words, 1)?)),
+        _ => None,
+    }
+}
+
+fn add_count(answer: &mut String, count: u64) -> Option<()> {
+    write!(answer, "{count}").ok()
+}
+
+fn add_truth(answer: &mut String, holds: bool) -> Option<()> {
+    write!(answer, "{holds}").ok()
 }
 
 // All jobs, so many times one behind the other.
-fn listed(alloc: Global, jobs: &ProcessJobs, times: u8) -> Result<String> {
+fn add_list(alloc: Global, jobs: &ProcessJobs, times: u8, answer: &mut String) -> Option<()> {
     let mut all = Items::new(alloc);
     for _ in 0..times {
-        jobs.list(alloc, &mut all)?;
+        jobs.list(alloc, &mut all).ok()?;
     }
-    items(alloc, &all)
+    add_items(answer, all.as_slice())
 }
 
 // What a command to a job fires.
-fn command(alloc: Global, jobs: &ProcessJobs, id: JobId, word: &str) -> Result<String> {
-    let answer = jobs.command(id, told(word)?);
-    Ok(format!(in alloc; "{answer:?}")?)
+fn add_command(jobs: &ProcessJobs, id: JobId, word: JobWord, answer: &mut String) -> Option<()> {
+    let fires = jobs.command(id, word);
+    write!(answer, "{fires:?}").ok()
 }
 
 // What each command to a job fires.
-fn commands(alloc: Global, jobs: &ProcessJobs, id: JobId) -> Result<String> {
-    let mut all = String::new(alloc);
+fn add_commands(jobs: &ProcessJobs, id: JobId, answer: &mut String) -> Option<()> {
     for word in ["START", "PAUSE", "RESUME", "STOP", "ABORT", "CANCEL"] {
-        if !all.is_empty() {
-            all.push_str(", ")?;
+        if !answer.is_empty() {
+            answer.push_str(", ").ok()?;
         }
-        let one = command(alloc, jobs, id, word)?;
-        let text = format!(in alloc; "{word} {one}")?;
-        all.push_str(text.as_str())?;
+        write!(answer, "{word} ").ok()?;
+        add_command(jobs, id, told(word)?, answer)?;
     }
-    Ok(all)
+    Some(())
 }

@@ -1,77 +1,95 @@
-//! Jobs as they are told.
+//! Jobs as they are told. None where there is no memory for it.
 
-use anyhow::{Result, bail};
-use gem_ids::Text80;
 use process_job::{Material, ProcessJob};
-use secs_items::{Item, Items};
-use std::alloc::Global;
+use secs_items::Item;
 
-fn add(alloc: Global, all: &mut String, bytes: &[u8]) -> Result<()> {
-    let text = String::from_utf8_lossy(alloc, bytes)?;
-    all.push_str(text.as_str())?;
-    Ok(())
-}
-
-fn add_text(alloc: Global, all: &mut String, text: Text80) -> Result<()> {
-    add(alloc, all, text.as_bytes())
+// Bytes as text.
+fn add(all: &mut String, bytes: &[u8]) -> Option<()> {
+    for byte in bytes {
+        all.push(char::from(*byte)).ok()?;
+    }
+    Some(())
 }
 
 // A carrier of the material as a line asks for it.
-fn add_material(alloc: Global, all: &mut String, material: &Material) -> Result<()> {
-    all.push_str(" ")?;
-    add_text(alloc, all, material.carrier)?;
+fn add_material(all: &mut String, material: &Material) -> Option<()> {
+    all.push_str(" ").ok()?;
+    add(all, material.carrier.as_bytes())?;
     let mut before = ":";
     for slot in material.slots.as_slice() {
-        let number = format!(in alloc; "{before}{slot}")?;
-        all.push_str(number.as_str())?;
+        write!(all, "{before}{slot}").ok()?;
         before = ",";
     }
-    Ok(())
+    Some(())
 }
 
 // A job: its number, its name, the number of its state, its recipe, how it starts, and its material.
-pub(crate) fn job(alloc: Global, found: Option<&ProcessJob>) -> Result<String> {
-    let Some(job) = found else {
-        return Ok(format!(in alloc; "none")?);
-    };
-    let mut all = format!(in alloc; "{} ", job.number)?;
-    add(alloc, &mut all, job.id.as_bytes())?;
-    let state = format!(in alloc; " {} ", job.states.state.number())?;
-    all.push_str(state.as_str())?;
-    add_text(alloc, &mut all, job.recipe)?;
-    all.push_str(if job.auto { " auto" } else { " hand" })?;
-    for material in job.material.as_slice() {
-        add_material(alloc, &mut all, material)?;
+pub(crate) fn add_job(all: &mut String, found: Option<&ProcessJob>) -> Option<()> {
+    match found {
+        Some(job) => add_found(all, job),
+        None => all.push_str("none").ok(),
     }
-    Ok(all)
+}
+
+fn add_found(all: &mut String, job: &ProcessJob) -> Option<()> {
+    write!(all, "{} ", job.number).ok()?;
+    add(all, job.id.as_bytes())?;
+    write!(all, " {} ", job.states.state.number()).ok()?;
+    add(all, job.recipe.as_bytes())?;
+    all.push_str(if job.auto { " auto" } else { " hand" }).ok()?;
+    for material in job.material.as_slice() {
+        add_material(all, material)?;
+    }
+    Some(())
 }
 
 // The items of jobs: of each its name, an ASCII item, and its state, a U1 item.
-pub(crate) fn items(alloc: Global, items: &Items) -> Result<String> {
-    let mut all = String::new(alloc);
-    for item in items.as_slice() {
+pub(crate) fn add_items(all: &mut String, items: &[Item]) -> Option<()> {
+    for item in items {
         if !all.is_empty() {
-            all.push_str(", ")?;
+            all.push_str(", ").ok()?;
         }
-        add_item(alloc, &mut all, item)?;
+        add_item(all, item)?;
     }
-    Ok(all)
+    Some(())
 }
 
-fn add_item(alloc: Global, all: &mut String, item: &Item) -> Result<()> {
-    let Item::List(parts) = item else {
-        bail!("a job is a list");
-    };
-    match parts.as_slice() {
-        [Item::Ascii(name), Item::U1(state)] => {
-            all.push_str("A ")?;
-            add(alloc, all, name.as_slice())?;
-            for number in state.as_slice() {
-                let number = format!(in alloc; " U1 {number}")?;
-                all.push_str(number.as_str())?;
-            }
-            Ok(())
+// None too where it is no item of a job.
+fn add_item(all: &mut String, item: &Item) -> Option<()> {
+    match parts(item) {
+        [name, state] => {
+            all.push_str("A ").ok()?;
+            add(all, bytes(name)?)?;
+            add_numbers(all, numbers(state)?)
         }
-        _ => bail!("a job is its name and its state"),
+        _ => None,
+    }
+}
+
+fn add_numbers(all: &mut String, numbers: &[u8]) -> Option<()> {
+    for number in numbers {
+        write!(all, " U1 {number}").ok()?;
+    }
+    Some(())
+}
+
+fn parts(item: &Item) -> &[Item] {
+    match item {
+        Item::List(parts) => parts.as_slice(),
+        _ => &[],
+    }
+}
+
+fn bytes(item: &Item) -> Option<&[u8]> {
+    match item {
+        Item::Ascii(text) => Some(text.as_slice()),
+        _ => None,
+    }
+}
+
+fn numbers(item: &Item) -> Option<&[u8]> {
+    match item {
+        Item::U1(numbers) => Some(numbers.as_slice()),
+        _ => None,
     }
 }

@@ -71,6 +71,15 @@ pub fn reply_text(alloc: Global, reply: &GemReply) -> Result<Bytes, AllocError>
     text_of(alloc, &item)
 }
 
+/// The text of such a reply that is used up: a reply is dropped here alone.
+pub(crate) fn text_of_reply(alloc: Global, reply: GemReply) -> Result<Bytes, AllocError>
+    requires { HasSendableParts reply }
+    ensures text { IfOk result (λ text. text ≡ plain (reply_body reply)) }
+    ensures short { IfOk result (λ text. length text ≤ 2 ^ 31) }
+{
+    reply_text(alloc, &reply)
+}
+
 /// The text of a reply to a message of carriers and ports.
 pub fn shop_text(alloc: Global, reply: &ShopReply) -> Result<Bytes, AllocError>
     ensures text { IfOk result (λ text. text ≡ plain (shop_reply_body reply.now)) }
@@ -89,11 +98,20 @@ fn ten_bytes(header: Header) -> [u8; 10]
     [b0, b1, b2, b3, b4, b5, b6, b7, b8, b9]
 }
 
+/// The ten bytes of a header, as a part of a message.
+fn header_part(alloc: Global, header: Header) -> Result<secs_items::Bytes, AllocError>
+    ensures bytes { IfOk result (λ bytes. bytes ≡ header_bytes header) }
+    ensures ten { IfOk result (λ bytes. length bytes ≡ 10) }
+{
+    let bytes = Vec::from_slice(alloc, &ten_bytes(header))?;
+    Ok(secs_items::Bytes::from_vec(bytes))
+}
+
 /// The text of a message of stream 9: the ten bytes of the header that it is about.
 pub fn stream9_text(alloc: Global, about: Header) -> Result<Bytes, AllocError>
     ensures text { IfOk result (λ text. text ≡ stream9_text about) }
     ensures short { IfOk result (λ text. length text ≤ 200) }
 {
-    let bytes = Vec::from_slice(alloc, &ten_bytes(about))?;
-    text_of(alloc, &Item::Binary(secs_items::Bytes::from_vec(bytes)))
+    let bytes = header_part(alloc, about)?;
+    text_of(alloc, &Item::Binary(bytes))
 }

@@ -1,6 +1,6 @@
 //! What the host asks of the tool's data, and what it sets (SEMI E5, streams 1, 2, 5 and 6).
 ghost use Rattle.std.specs.Prelude.{◌≡◌, ◌≤◌, [], length, map, OnOk, IfOk};
-ghost use Rattle.data_variables.specs.Bodies.{name_item};
+ghost use Rattle.data_variables.specs.Bodies.{name_item, val_in};
 ghost use Rattle.data_variables.specs.Table.{constant_ids};
 ghost use Rattle.data_variables.specs.Setting.{eac, set_all_after};
 ghost use Rattle.event_reports.specs.Limits.{most_alarms};
@@ -302,14 +302,21 @@ impl Plant {
     }
 }
 
+// The constant that a part of S2F15 sets, with the value that its item says.
+fn setting_of(setting: &Setting) -> (u32, Option<Val>)
+    ensures { result ≡ (setting.now.0, val_in setting.now.0 setting.now.1) }
+{
+    let ecid = setting.ecid();
+    (ecid, set_of(ecid, setting.item()))
+}
+
 // The constants that S2F15 sets, each with the value that its item says.
 fn settings_of(alloc: Global, settings: &[Setting]) -> Result<Vec<(u32, Option<Val>)>, AllocError>
     ensures { IfOk result (λ sets. sets.items ≡ settings_of settings.now) }
 {
     let mut sets = Vec::new(alloc);
     for setting in settings {
-        let ecid = setting.ecid();
-        sets.push((ecid, set_of(ecid, setting.item())))?;
+        sets.push(setting_of(setting))?;
     }
     Ok(sets)
 }

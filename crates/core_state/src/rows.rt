@@ -2,6 +2,8 @@
 ghost use Rattle.std.specs.Prelude.{◌≡◌, ◌+◌, ◌≤◌, ◌<◌, ◌^◌, length, OnOk, IfOk};
 ghost use Rattle.gem_ids.specs.Texts.{IsText};
 ghost use Rattle.gem_tables.specs.Table.{firing};
+ghost use Rattle.gem_replies.specs.declared.reply.GemReply.TheVariants as reply;
+ghost use Rattle.gem_replies.specs.Sendable.{HasSendableParts};
 ghost use Rattle.gem_model.specs.State.{without_session};
 ghost use Rattle.gem_model.specs.Sending.{identity_text};
 ghost use Rattle.gem_model.specs.Fire.{fire};
@@ -10,7 +12,7 @@ ghost use Rattle.gem_model.specs.Wants.{delay_is_over};
 ghost use Rattle.gem_model.specs.Due.{delay_has_come};
 ghost use Rattle.gem_model.specs.Act.{session_ended};
 
-use crate::frames::reply_text;
+use crate::frames::text_of_reply;
 use crate::noting::RowFiring;
 use crate::plant::Plant;
 use gem_ids::{Moment, Text80};
@@ -29,14 +31,23 @@ pub fn part(alloc: Global, text: Text80) -> Result<secs_items::Bytes, AllocError
     Ok(secs_items::Bytes::from_vec(Vec::from_slice(alloc, text.as_bytes())?))
 }
 
-/// The text of S1F2 and S1F13: the model and the software revision.
+/// S1F13: the model and the software revision.
+fn identity(alloc: Global, config: &Config) -> Result<GemReply, AllocError>
+    ensures reply { IfOk result (λ r. r ≡ reply.S1F13 config.now.mdln config.now.softrev) }
+    ensures sendable { IfOk result HasSendableParts }
+{
+    let mdln = part(alloc, config.mdln)?;
+    let softrev = part(alloc, config.softrev)?;
+    Ok(GemReply::S1F13(mdln, softrev))
+}
+
+/// The text of S1F2 and S1F13.
 fn identity_text(alloc: Global, config: &Config) -> Result<Bytes, AllocError>
     ensures text { IfOk result (λ text. text ≡ identity_text config.now) }
     ensures short { IfOk result (λ text. length text ≤ 2 ^ 31) }
 {
-    let mdln = part(alloc, config.mdln)?;
-    let softrev = part(alloc, config.softrev)?;
-    reply_text(alloc, &GemReply::S1F13(mdln, softrev))
+    let reply = identity(alloc, config)?;
+    text_of_reply(alloc, reply)
 }
 
 // The ECID of the time that the tool waits before it asks for communication again.

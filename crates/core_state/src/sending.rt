@@ -1,9 +1,10 @@
 //! What the plant sends.
-ghost use Rattle.std.specs.Prelude.{◌≡◌, ◌≤◌, ◌^◌, length, OnOk, true, false};
+ghost use Rattle.std.specs.Prelude.{◌≡◌, ◌≤◌, ◌+◌, ◌^◌, length, OnOk, Some, None, if◌then◌else◌, true, false};
 ghost use Rattle.hsms_frame.specs.Spelling.{message_bytes};
-ghost use Rattle.transactions.specs.SystemBytes.{drawn};
-ghost use Rattle.gem_model.specs.State.{with_frame};
-ghost use Rattle.gem_model.specs.Sending.{draws, replies, sends_stream9, asks};
+ghost use Rattle.transactions.specs.Table.{is_full};
+ghost use Rattle.transactions.specs.SystemBytes.{drawn, after_start};
+ghost use Rattle.gem_model.specs.State.{t3, with_frame};
+ghost use Rattle.gem_model.specs.Sending.{data_header, draws, replies, sends_stream9, asks};
 ghost use Rattle.gem_model.specs.Due.{asks_linktest};
 ghost use Rattle.hsms_link.specs.Links.{is_selected, is_open};
 
@@ -25,6 +26,22 @@ impl Plant {
         self.transactions.draw()
     }
 
+    /// A data message of the tool of this header waits for the writer.
+    fn put_data(&mut self, alloc: Global, header: Header, text: Bytes) -> Result<(), AllocError>
+        requires { length text ≤ 2 ^ 31 }
+        ensures { OnOk result (self.new ≡ with_frame (message_bytes header text) self.old) }
+    {
+        let frame = data_frame(alloc, header, text)?;
+        self.put(frame)
+    }
+
+    /// The header of a data message of the tool, with the W-bit where a reply is wanted.
+    fn data_header(&self, wants: bool, stream: u8, function: u8, system: u32) -> Header
+        ensures { result ≡ data_header self.now.config.device wants stream function system }
+    {
+        data_header(self.config.device, wants, stream, function, system)
+    }
+
     /// A reply waits for the writer, under the system bytes of its primary.
     pub fn reply(
         &mut self,
@@ -37,9 +54,8 @@ impl Plant {
         requires { length text ≤ 2 ^ 31 }
         ensures { OnOk result (self.new ≡ replies stream function system text self.old) }
     {
-        let header = data_header(self.config.device, false, stream, function, system);
-        let frame = data_frame(alloc, header, text)?;
-        self.put(frame)
+        let header = self.data_header(false, stream, function, system);
+        self.put_data(alloc, header, text)
     }
 
     /// A message of stream 9 of this function, about a header, waits for the writer (SEMI E5, stream 9).
@@ -53,9 +69,20 @@ impl Plant {
     {
         let text = stream9_text(alloc, about)?;
         let system = self.draw();
-        let header = data_header(self.config.device, false, 9, function, system);
-        let frame = data_frame(alloc, header, text)?;
-        self.put(frame)
+        let header = self.data_header(false, 9, function, system);
+        self.put_data(alloc, header, text)
+    }
+
+    /// The transaction of a primary of the tool is open until T3, under the next system bytes. `None`: 16 are open, and nothing
+    /// has changed.
+    fn start(&mut self, stream: u8, function: u8, what: What) -> Option<u32>
+        ensures system { result ≡ (if is_full self.old.transactions then None else Some (drawn self.old.transactions)) }
+        ensures after { self.new ≡ record self.old { transactions = after_start stream function (self.old.moment + t3 self.old) what self.old.transactions } }
+    {
+        let deadline = self.moment.0 + u64::from(self.constants.number(T3));
+        self.transactions
+            .start(stream, function, deadline, what)
+            .ok()
     }
 
     /// A primary of the tool waits for the writer, and its transaction is open until T3. Where 16 are open nothing is
@@ -71,14 +98,14 @@ impl Plant {
         requires { length text ≤ 2 ^ 31 }
         ensures { OnOk result (self.new ≡ asks stream function what text self.old) }
     {
-        let deadline = self.moment.0 + u64::from(self.constants.number(T3));
         // No reachable state has so many open that no more can be.
-        let Ok(system) = self.transactions.start(stream, function, deadline, what) else {
-            return Ok(());
-        };
-        let header = data_header(self.config.device, true, stream, function, system);
-        let frame = data_frame(alloc, header, text)?;
-        self.put(frame)
+        match self.start(stream, function, what) {
+            Some(system) => {
+                let header = self.data_header(true, stream, function, system);
+                self.put_data(alloc, header, text)
+            }
+            None => Ok(()),
+        }
     }
 
     /// A linktest request of the tool waits for the writer, and the linktest is open. The link is selected, and no

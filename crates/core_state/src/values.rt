@@ -1,5 +1,5 @@
 //! The values of variables (SEMI E5, S1F3 and S2F13).
-ghost use Rattle.std.specs.Prelude.{◌≡◌, ◌∷◌, ◌≤◌, [], length, IfOk, option_map, map, is_some, unwrap_or};
+ghost use Rattle.std.specs.Prelude.{◌≡◌, ◌∷◌, ◌≤◌, [], length, IfOk, Some, option_map, map, is_some, unwrap_or};
 ghost use Rattle.std.specs.List.{filter};
 ghost use Rattle.secs_items.specs.Data.{ascii, u1, u2, u4};
 ghost use Rattle.secs_items.specs.View.{view};
@@ -13,7 +13,8 @@ ghost use Rattle.spool.specs.Spool.{load_number, unload_number};
 ghost use Rattle.load_port.specs.Ports.{port_numbered};
 ghost use Rattle.substrate.specs.Locations.{is_location};
 ghost use Rattle.core_state.specs.Named.{AreNamed, AreCarriersNamed, AreChambersNamed};
-ghost use Rattle.gem_model.specs.Values.{substrate_text, variable_value, status_value, constant_value, value_of};
+ghost use Rattle.load_port.specs.Tables.{transfer_number, access_number};
+ghost use Rattle.gem_model.specs.Values.{substrate_text, place_value, port_value, variable_value, status_value, constant_value, value_of};
 
 use crate::plant::Plant;
 use crate::rows::part;
@@ -59,10 +60,12 @@ pub(crate) fn prints(text: &Text80)
     text.as_bytes();
 }
 
-fn count(alloc: Global, number: u32) -> Result<Item, AllocError>
-    ensures { IfOk result (λ item. view item ≡ u4 (number ∷ [])) }
+// What a variable shows that is a count.
+fn count(alloc: Global, number: u32) -> Result<Option<Item>, AllocError>
+    ensures { IfOk result (λ value. option_map view value ≡ Some (u4 (number ∷ []))) }
 {
-    Ok(Item::U4(U32s::from_vec(vec![in alloc; number]?)))
+    let numbers = vec![in alloc; number]?;
+    Ok(Some(Item::U4(U32s::from_vec(numbers))))
 }
 
 // The number of a state of the spool's filling.
@@ -97,10 +100,20 @@ fn carrier_text(port: &Port) -> Text80
     }
 }
 
-fn small_number(alloc: Global, number: u8) -> Result<Item, AllocError>
-    ensures { IfOk result (λ item. view item ≡ u1 (number ∷ [])) }
+// What a variable shows that is the number of a state.
+fn state_number(alloc: Global, number: u8) -> Result<Option<Item>, AllocError>
+    ensures { IfOk result (λ value. option_map view value ≡ Some (u1 (number ∷ []))) }
 {
-    Ok(Item::U1(U8s::from_vec(vec![in alloc; number]?)))
+    let numbers = vec![in alloc; number]?;
+    Ok(Some(Item::U1(U8s::from_vec(numbers))))
+}
+
+// What a variable shows that is a name.
+fn name(alloc: Global, text: Text80) -> Result<Option<Item>, AllocError>
+    ensures { IfOk result (λ value. option_map view value ≡ Some (ascii text)) }
+{
+    let bytes = part(alloc, text)?;
+    Ok(Some(Item::Ascii(bytes)))
 }
 
 impl Plant {
@@ -163,9 +176,9 @@ impl Plant {
         Ok(Bytes::from_vec(Vec::from_slice(alloc, &digits)?))
     }
 
-    /// The set alarms, rising.
-    fn set_alarms(&self, alloc: Global) -> Result<Item, AllocError>
-        ensures { IfOk result (λ item. view item ≡ u4 (set_alids self.now.alarms)) }
+    // The numbers of the set alarms, rising.
+    fn set_alids(&self, alloc: Global) -> Result<Vec<u32>, AllocError>
+        ensures { IfOk result (λ alids. alids.items ≡ set_alids self.now.alarms) }
     {
         let mut alids = Vec::new(alloc);
         for alarm in self.alarms.lines() {
@@ -173,7 +186,23 @@ impl Plant {
                 alids.push(alarm.alid)?;
             }
         }
-        Ok(Item::U4(U32s::from_vec(alids)))
+        Ok(alids)
+    }
+
+    // What the variable of the set alarms shows.
+    fn set_alarms(&self, alloc: Global) -> Result<Option<Item>, AllocError>
+        ensures { IfOk result (λ value. option_map view value ≡ Some (u4 (set_alids self.now.alarms))) }
+    {
+        let alids = self.set_alids(alloc)?;
+        Ok(Some(Item::U4(U32s::from_vec(alids))))
+    }
+
+    // What the variable of the clock shows.
+    fn clock_value(&self, alloc: Global) -> Result<Option<Item>, AllocError>
+        ensures { IfOk result (λ value. option_map view value ≡ Some (ascii (time_digits (clock_now self.now)))) }
+    {
+        let text = self.time_text(alloc)?;
+        Ok(Some(Item::Ascii(text)))
     }
 
     /// The port of a number, counted from 1. `None`: the tool lacks it.
@@ -196,18 +225,51 @@ impl Plant {
         }
     }
 
-    // Which substrate is at a location.
-    fn substrate_item(&self, alloc: Global, place: LocId) -> Result<Item, AllocError>
-        ensures { IfOk result (λ item. view item ≡ ascii (substrate_text self.now place)) }
-    {
-        Ok(Item::Ascii(part(alloc, self.substrate_text(place))?))
-    }
-
     // Whether the tool has the chamber of a number, counted from 1.
     fn has_chamber(&self, number: u8) -> bool
         ensures { result ≡ is_location self.now.config.ports self.now.config.chambers (Chamber number) }
     {
         1 <= number && number <= self.config.chambers
+    }
+
+    // Which substrate is in the chamber of a number. `None`: the tool lacks it.
+    fn chamber_substrate(&self, alloc: Global, number: u8) -> Result<Option<Item>, AllocError>
+        ensures { IfOk result (λ value. option_map view value ≡ place_value self.now (Chamber number)) }
+    {
+        if !self.has_chamber(number) {
+            return Ok(None);
+        }
+        name(alloc, self.substrate_text(LocId::Chamber(number)))
+    }
+
+    // The state of the transfer of the port of a number. `None`: the tool lacks it.
+    fn port_transfer(&self, alloc: Global, number: u8) -> Result<Option<Item>, AllocError>
+        ensures { IfOk result (λ value. option_map view value ≡ port_value self.now number (λ p. u1 (transfer_number p.states.transfer ∷ []))) }
+    {
+        match self.port_numbered(number) {
+            Some(port) => state_number(alloc, port.states.transfer.number()),
+            None => Ok(None),
+        }
+    }
+
+    // The access mode of the port of a number. `None`: the tool lacks it.
+    fn port_access(&self, alloc: Global, number: u8) -> Result<Option<Item>, AllocError>
+        ensures { IfOk result (λ value. option_map view value ≡ port_value self.now number (λ p. u1 (access_number p.states.access ∷ []))) }
+    {
+        match self.port_numbered(number) {
+            Some(port) => state_number(alloc, port.states.access.number()),
+            None => Ok(None),
+        }
+    }
+
+    // The name of the carrier of the port of a number. `None`: the tool lacks the port.
+    fn port_carrier(&self, alloc: Global, number: u8) -> Result<Option<Item>, AllocError>
+        ensures { IfOk result (λ value. option_map view value ≡ port_value self.now number (λ p. ascii (unwrap_or p.carrier []))) }
+    {
+        match self.port_numbered(number) {
+            Some(port) => name(alloc, carrier_text(&port)),
+            None => Ok(None),
+        }
     }
 
     /// The value of a status variable. `None`: it is not built, or the tool lacks its port or its chamber.
@@ -218,37 +280,23 @@ impl Plant {
     ) -> Result<Option<Item>, AllocError>
         ensures { IfOk result (λ value. option_map view value ≡ variable_value self.now variable) }
     {
-        let value = match variable {
-            StatusVariable::Clock => Item::Ascii(self.time_text(alloc)?),
-            StatusVariable::CommState => small_number(alloc, self.comm.number())?,
-            StatusVariable::ControlState => small_number(alloc, self.control.number())?,
-            StatusVariable::SpoolCountActual => count(alloc, self.line.spooled_len() as u32)?,
-            StatusVariable::SpoolCountTotal => count(alloc, self.line.spooled_total())?,
-            StatusVariable::SpoolLoad => small_number(alloc, load_number(self.line.load()))?,
-            StatusVariable::SpoolUnload => small_number(alloc, unload_number(self.line.unload()))?,
-            StatusVariable::AlarmsSet => self.set_alarms(alloc)?,
-            StatusVariable::PortTransfer(number) => match self.port_numbered(number) {
-                Some(port) => small_number(alloc, port.states.transfer.number())?,
-                None => return Ok(None),
-            },
-            StatusVariable::PortAccess(number) => match self.port_numbered(number) {
-                Some(port) => small_number(alloc, port.states.access.number())?,
-                None => return Ok(None),
-            },
-            StatusVariable::PortCarrier(number) => match self.port_numbered(number) {
-                Some(port) => Item::Ascii(part(alloc, carrier_text(&port))?),
-                None => return Ok(None),
-            },
-            StatusVariable::ArmSubstrate => self.substrate_item(alloc, LocId::Arm)?,
-            StatusVariable::AlignerSubstrate => self.substrate_item(alloc, LocId::Aligner)?,
-            StatusVariable::ChamberSubstrate(number) if self.has_chamber(number) => {
-                self.substrate_item(alloc, LocId::Chamber(number))?
-            }
-            StatusVariable::ChamberSubstrate(_)
-            | StatusVariable::ProcessJobCount
-            | StatusVariable::ControlJobCount => return Ok(None),
-        };
-        Ok(Some(value))
+        match variable {
+            StatusVariable::Clock => self.clock_value(alloc),
+            StatusVariable::CommState => state_number(alloc, self.comm.number()),
+            StatusVariable::ControlState => state_number(alloc, self.control.number()),
+            StatusVariable::SpoolCountActual => count(alloc, self.line.spooled_len() as u32),
+            StatusVariable::SpoolCountTotal => count(alloc, self.line.spooled_total()),
+            StatusVariable::SpoolLoad => state_number(alloc, load_number(self.line.load())),
+            StatusVariable::SpoolUnload => state_number(alloc, unload_number(self.line.unload())),
+            StatusVariable::AlarmsSet => self.set_alarms(alloc),
+            StatusVariable::PortTransfer(number) => self.port_transfer(alloc, number),
+            StatusVariable::PortAccess(number) => self.port_access(alloc, number),
+            StatusVariable::PortCarrier(number) => self.port_carrier(alloc, number),
+            StatusVariable::ArmSubstrate => name(alloc, self.substrate_text(LocId::Arm)),
+            StatusVariable::AlignerSubstrate => name(alloc, self.substrate_text(LocId::Aligner)),
+            StatusVariable::ChamberSubstrate(number) => self.chamber_substrate(alloc, number),
+            StatusVariable::ProcessJobCount | StatusVariable::ControlJobCount => Ok(None),
+        }
     }
 
     /// Whether a status variable is built, and the tool has its port or its chamber.

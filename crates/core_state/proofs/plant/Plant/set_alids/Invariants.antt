@@ -1,6 +1,6 @@
 use Rattle.std.proofs.Common.{◌≡◌, ◌++◌, drop}
 use Rattle.event_reports.specs.Alarms.{set_alids}
-use Rattle.core_state.proofs.plant.Plant.set_alarms.Given as goal
+use Rattle.core_state.proofs.plant.Plant.set_alids.Given as goal
 
 -- what was found stands before what the other alarms give
 abbrev pub invariant-loop-alarm : goal.invariant-loop-alarm

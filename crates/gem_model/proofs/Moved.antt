@@ -109,11 +109,20 @@ module _ (g : State) (n : ℕ) (e : Event) (h : State) (before : Standing g.floo
     none : place_of n g ≡ None
     none = ap (option_map (λ (r : Registered). loc_of r.at)) (ap (find (λ (r : Registered). r.number == n)) before.in_slots ∙ not_given n 0 g.floor.places.given g.floor.substrates less before.rising)
 
+    -- it is given in this step, since else it had no place behind it
+    given_here : (r : Registered) → find (λ (x : Registered). x.number == n) h.floor.places.held ≡ Some r → n ≤ h.floor.places.given
+    given_here r is = by (nat_le n h.floor.places.given) refl where
+      by : (b : Bool) → nat_le n h.floor.places.given ≡ b → n ≤ h.floor.places.given
+      by true within = grind (arith, nat_tests, within)
+      by false past =
+          let less : h.floor.places.given < n = grind (arith, nat_tests, past) in
+          none_some r (sym (ap (find (λ (x : Registered). x.number == n)) behind.in_slots ∙ not_given n 0 h.floor.places.given h.floor.substrates less behind.rising) ∙ is)
+
     of : (o : Option Registered) → find (λ (r : Registered). r.number == n) h.floor.places.held ≡ o → Moves g n e h
     of None is = stays (ap (option_map (λ (r : Registered). loc_of r.at)) is ∙ sym none)
     of (Some r) is =
         let there = is_slot n h.floor h.floor.substrates behind.carried r (ap (find (λ (r : Registered). r.number == n)) (sym behind.in_slots) ∙ is) in
-        is_registered there.0 there.1 less none (ap (option_map (λ (r : Registered). loc_of r.at)) is ∙ ap (λ (l : Loc). Some l) there.2)
+        is_registered there.0 there.1 less (given_here r is) none (ap (option_map (λ (r : Registered). loc_of r.at)) is ∙ ap (λ (l : Loc). Some l) there.2)
 
   one_moves : Moves g n e h
   one_moves = of (nat_le n g.floor.places.given) refl where
@@ -196,12 +205,18 @@ run-moves c entries h few run = each_moves (opening c) entries h (run_at c [] (o
 pub run-ends-once : (c : Config) (entries : List Entry) (h : State) → c.ports ≤ most_ports → Run (opening c) entries h → EndsOnce (opening c) entries
 run-ends-once c entries h few run = ends_once (opening c) entries h (run_at c [] (opening c) few refl) run
 
+-- a number that was not given has no place
+pub run-given : (c : Config) (entries : List Entry) (h : State) → c.ports ≤ most_ports → Run (opening c) entries h → (n : ℕ) → h.floor.places.given < n → place_of n h ≡ None
+run-given c entries h few run n less =
+    let at = (run_at c entries h few run).placed in
+    ap (option_map (λ (r : Registered). loc_of r.at)) (ap (find (λ (r : Registered). r.number == n)) at.in_slots ∙ not_given n 0 h.floor.places.given h.floor.substrates less at.rising)
+
 -- ---- what is Removed stays so
 
 -- in one step
 removed_once : (g : State) (n : ℕ) (e : Event) (h : State) → n ≤ g.floor.places.given → place_of n g ≡ None → Moves g n e h → place_of n h ≡ None
 removed_once g n e h given none (stays same) = same ∙ none
-removed_once g n e h given none (is_registered p k fresh before behind) = absurd (omega (arith, given, fresh))
+removed_once g n e h given none (is_registered p k fresh now before behind) = absurd (omega (arith, given, fresh))
 removed_once g n e h given none (goes_with_carrier port k is before behind) = behind
 removed_once g n e h given none (is_lost sub is named behind) = behind
 removed_once g n e h given none (by_pick m c sub from is has what named before behind) = absurd (cc)

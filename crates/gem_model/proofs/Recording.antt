@@ -13,7 +13,7 @@ use Rattle.gem_model.proofs.Validity.{run-line, run-sendings, run-empty, run-roo
 use Rattle.gem_model.proofs.NoteNumbers.{run-own}
 use Rattle.gem_model.proofs.Floored.{run-floor, run-carriers}
 use Rattle.gem_model.proofs.Placed.{run-placed}
-use Rattle.gem_model.proofs.Moved.{run-moves, run-ends-once}
+use Rattle.gem_model.proofs.Moved.{run-moves, run-ends-once, run-given}
 use Rattle.place_laws.proofs.Few.{places-one}
 
 pub recorded-of : (c : Config) (history : List Entry) (g : State) → IsConfig c → Run (opening c) history g → Recorded c history g
@@ -34,6 +34,7 @@ recorded-of c history g bounds run =
       carriers = run-carriers c history g ports run;
       places = places-one g.floor (run-placed c history g ports run);
       registered = (run-placed c history g ports run).registered;
+      given = run-given c history g ports run;
       moves = run-moves c history g ports run;
       ends = run-ends-once c history g ports run;
       room = run-room c history g run;

@@ -31,13 +31,13 @@ place_of n g = place_in g.floor.places n
 abbrev pub HasOpen : ModuleId → Command → State → Type 0
 HasOpen m c g = (fetched : Bool) × (module_of m.0 g ≡ Some (Busy c fetched))
 
--- What becomes of the place of the substrate of a number in a step. It stays. It is a slot, under a number that was not given before: the
--- substrate is registered. It is Removed: from its slot with the carrier that is taken away from that port, or by the operator's word that
+-- What becomes of the place of the substrate of a number in a step. It stays. It is a slot, under a number that is given in this step and was
+-- not given before: the substrate is registered. It is Removed: from its slot with the carrier that is taken away from that port, or by the operator's word that
 -- names it. Or it changes by Done of the open command of a module: of a Pick that names it, from where it is to the arm, or of a Place that
 -- names it, from the arm to the named end.
 pub data Moves (g : State) (n : ℕ) (e : Event) (h : State) : Type 0 where
   stays : place_of n h ≡ place_of n g → Moves g n e h
-  is_registered : (p k : ℕ) → g.floor.places.given < n → place_of n g ≡ None → place_of n h ≡ Some (slot p k) → Moves g n e h
+  is_registered : (p k : ℕ) → g.floor.places.given < n → n ≤ h.floor.places.given → place_of n g ≡ None → place_of n h ≡ Some (slot p k) → Moves g n e h
   goes_with_carrier : (port : PortNo) (k : ℕ) → e ≡ event.Signal (signal.Removed port) → place_of n g ≡ Some (slot port.0 k) → place_of n h ≡ None → Moves g n e h
   is_lost : (sub : List ℕ) → e ≡ event.Oper (oper.Lost sub) → number_named sub g.floor.places ≡ Some n → place_of n h ≡ None → Moves g n e h
   by_pick : (m : ModuleId) (c : Command) (sub : List ℕ) (from : LocId) → e ≡ event.Signal (signal.Done m c.number) → HasOpen m c g → c.task ≡ task.Pick sub from → number_named sub g.floor.places ≡ Some n

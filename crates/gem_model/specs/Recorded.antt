@@ -1,5 +1,5 @@
 -- What holds of each history that is recorded, and of the state to which it leads.
-use Rattle.std.proofs.Common.{◌≡◌, ◌≤◌, true, false, List, length, map}
+use Rattle.std.proofs.Common.{◌≡◌, ◌≤◌, ◌<◌, ℕ, true, false, List, length, map, None}
 use Rattle.std.specs.List.{AllByRecursion}
 use Rattle.transactions.specs.Table.{is_full}
 use Rattle.tool_events.specs.declared.config.Config.{Config}
@@ -13,7 +13,7 @@ use Rattle.place_laws.specs.Picture.{picture}
 use Rattle.place_laws.specs.Standing.{AreRegistered}
 use Rattle.gem_model.specs.State.{State, opening}
 use Rattle.gem_model.specs.Run.{Run}
-use Rattle.gem_model.specs.Moved.{EachMoves, EndsOnce}
+use Rattle.gem_model.specs.Moved.{place_of, EachMoves, EndsOnce}
 use Rattle.gem_model.specs.Reported.{told_as, reported_in, IsOf}
 use Rattle.gem_model.specs.OpenNotes.{Carries, NeverBack, open_behind, frames_behind, note_numbers, open_number}
 
@@ -50,6 +50,8 @@ pub record Recorded (c : Config) (history : List Entry) (g : State) : Type 0 whe
   -- a place changes only so: by registration, by Done of an open Pick or Place that names the substrate, from the named start to the named
   -- end, with its carrier, or by the operator's word; and no number of registration is given twice
   pub moves : EachMoves (opening c) history
+  -- a number of registration that was not given has no place
+  pub given : (n : ℕ) → g.floor.places.given < n → place_of n g ≡ None
   -- the command of each number ends at most once
   pub ends : EndsOnce (opening c) history
   -- there is room to start a transaction

@@ -1,6 +1,6 @@
 //! Laws of the definitions, for proofs to cite. Each function is empty: what it ensures holds of the definitions.
 
-ghost use Rattle.std.specs.Prelude.{◌≡◌, ℕ, ◌≤◌, true, false, List, ◌∷◌, ◌++◌, length, map, Some, None};
+ghost use Rattle.std.specs.Prelude.{◌<◌, ◌≡◌, ℕ, ◌≤◌, true, false, List, ◌∷◌, ◌++◌, length, map, Some, None};
 ghost use Rattle.std.specs.List.{AllByRecursion};
 ghost use Rattle.transactions.specs.Table.{is_full};
 ghost use Rattle.tool_events.specs.declared.config.Config.{Config};
@@ -120,10 +120,12 @@ pub fn each_substrate_has_one_place_in_a_history()
 
 /// Each substrate moves at most once a command: the command of each number ends at most once in a history; a place changes only by
 /// registration, by Done of an open Pick or Place that names the substrate, from the named start to the named end, with its
-/// carrier, or by the operator's word; and what is Removed stays so.
+/// carrier, or by the operator's word; a number of registration that was not given has no place; and what is Removed stays so.
 pub fn each_substrate_moves_once_a_command_in_a_history()
     ensures moves { (c : Config) (entries : List Entry) (h : State) → c.ports ≤ most_ports → Run (opening c) entries h → EachMoves (opening c) entries }
     ensures ends { (c : Config) (entries : List Entry) (h : State) → c.ports ≤ most_ports → Run (opening c) entries h → EndsOnce (opening c) entries }
+    ensures given { (c : Config) (entries : List Entry) (h : State) (n : ℕ) → c.ports ≤ most_ports → Run (opening c) entries h
+        → h.floor.places.given < n → place_of n h ≡ None }
     ensures removed { (c : Config) (front behind : List Entry) (g h : State) (n : ℕ) → c.ports ≤ most_ports → Run (opening c) front g → Run g behind h
         → n ≤ g.floor.places.given → place_of n g ≡ None → place_of n h ≡ None }
 {}

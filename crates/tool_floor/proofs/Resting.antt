@@ -125,19 +125,19 @@ module _ (n : ℕ) where
   none_aborting : (js : List ProcessJob) → list_any is_ending js ≡ false → is_job_so is_aborting (job_numbered n js) ≡ false
   none_aborting = of_test is_aborting (λ j none. (or_false (is_stopping j.states.state) (is_aborting j.states.state) none).1)
 
-chain : (stops aborts out here : Bool) → stops ≡ false → aborts ≡ false
-    → (if (stops || aborts) && here then Some 5 else (if out && stops then Some 6 else (if out && aborts then Some 7 else None))) ≡ None
-chain true aborts out here e g = absurd (cc)
-chain false true out here e g = absurd (cc)
-chain false false true here e g = refl
-chain false false false here e g = refl
+chain : (skipped stopped aborted : Option ℕ) (stops aborts out here : Bool) → stops ≡ false → aborts ≡ false
+    → (if (stops || aborts) && here then skipped else (if out && stops then stopped else (if out && aborts then aborted else None))) ≡ None
+chain skipped stopped aborted true aborts out here e g = absurd (cc)
+chain skipped stopped aborted false true out here e g = absurd (cc)
+chain skipped stopped aborted false false true here e g = refl
+chain skipped stopped aborted false false false here e g = refl
 
 -- none of a substrate that none processes, and whose process job isn't ending
 none_of_processing : (f : ToolFloor) (s : Substrate) (p : Processing) → (is_needing p ≡ true → list_any (processes s.sub) f.modules ≡ false)
     → is_job_so is_stopping (job_of s f.jobs) ≡ false → is_job_so is_aborting (job_of s f.jobs) ≡ false
     → first_itself processing_number (λ want. substrate_wants want s f) processing_table p ≡ None
 none_of_processing f s NeedsProcessing none stops aborts =
-    rw (none refl) (chain (is_job_so is_stopping (job_of s f.jobs)) (is_job_so is_aborting (job_of s f.jobs)) (is_outside s f.places) (is_in_slot s f.places && not (list_any (module_names s.sub) f.modules)) stops aborts)
+    rw (none refl) (chain (Some 5) (Some 6) (Some 7) (is_job_so is_stopping (job_of s f.jobs)) (is_job_so is_aborting (job_of s f.jobs)) (is_outside s f.places) (is_in_slot s f.places && not (list_any (module_names s.sub) f.modules)) stops aborts)
 none_of_processing f s InProcess none stops aborts = refl
 none_of_processing f s Processed none stops aborts = refl
 none_of_processing f s Aborted none stops aborts = refl

@@ -22,12 +22,12 @@ use Rattle.substrate.specs.Places.{is_taken, is_known, registered, register_faul
 use Rattle.substrate.specs.Record.{is_in_process}
 use Rattle.substrate.specs.declared.registered.Registered.{Registered}
 use Rattle.substrate.proofs.Sites.{same_is, own_place}
-use Rattle.substrate.proofs.Standing.{Jobless, at_none}
+use Rattle.substrate.proofs.Standing.{at_none}
 use Rattle.tool_floor.specs.declared.tracking.Substrate.{Substrate}
 use Rattle.tool_floor.specs.Floor.{ToolFloor, with_shop}
 use Rattle.tool_floor.specs.Kept.{RiseTo}
 use Rattle.tool_floor.specs.Substrates.{can_register, first_substrate, registers_at, registers_slot, registers_slots}
-use Rattle.place_laws.specs.Standing.{IsCarried, AreApart, is_that_of, in_its_slot, IsFree}
+use Rattle.place_laws.specs.Standing.{Jobless, IsCarried, AreApart, is_that_of, in_its_slot, IsFree}
 use Rattle.place_laws.proofs.Holding.{found_number, true_of_found}
 use Rattle.place_laws.proofs.Few.{few-substrates}
 use Rattle.place_laws.proofs.SlotNames.{slot_of_name}

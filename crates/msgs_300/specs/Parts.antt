@@ -35,4 +35,4 @@ carrier_slots = l2 (λ carrier slots. record { carrier = carrier; slots = slots 
 
 -- L[u1 1, text recipe, L]: the recipe, and its variables
 abbrev pub recipe_part : Form (List ℕ × Data)
-recipe_part = l3 (λ one recipe variables. (recipe, variables)) (fixed 1 small_id) text any_list
+recipe_part = l3 (λ method recipe variables. (recipe, variables)) (fixed 1 small_id) text any_list

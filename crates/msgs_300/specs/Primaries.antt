@@ -45,8 +45,7 @@ said (msg.S16F27 job command value) = S16F27 job command (view value)
 abbrev pub job_creation : ℕ → List ℕ → ℕ → List CarrierSlots → List ℕ × Data → Bool → Data → Message
 job_creation dataid job format material recipe start events = S16F11 dataid job material recipe start events
 
--- the host's messages (after SEMI E87, stream 3, E39 and E94, stream 14, and E40 and E94, stream 16; this tool's profile,
--- messages)
+-- the host's messages (after SEMI E87, stream 3, E94, stream 14, and E40 and E94, stream 16; this tool's profile, messages)
 abbrev pub primaries : List (MessageRow Message)
 primaries =
     row 3 17 (printed (l5 S3F17 id text text small_id (each named_value))) ∷

@@ -42,8 +42,7 @@ object_acknowledge told = L (U1 told.objack ∷ (each error_part told.errors ∷
 abbrev pub job_state : JobState → Data
 job_state j = L (A j.job ∷ (U1 j.state ∷ []))
 
--- the body of each reply (after SEMI E87, stream 3, E39 and E94, stream 14, and E40 and E94, stream 16; this tool's profile,
--- messages)
+-- the body of each reply (after SEMI E87, stream 3, E94, stream 14, and E40 and E94, stream 16; this tool's profile, messages)
 abbrev pub shop_reply_body : ShopReply → Data
 shop_reply_body (reply.S3F18 caack) = action_acknowledge caack
 shop_reply_body (reply.S3F26 caack) = action_acknowledge caack

@@ -45,12 +45,12 @@ impl Part for CarrierSlots {
     }
 }
 
-// The recipe of a creation: a list of the recipe method, which is 1, the recipe, and a list of variables.
+// The recipe of a creation: a list of the recipe method, the recipe, and a list of variables.
 pub(crate) fn recipe_part(item: &Item) -> Result<RecipePart, BodyFault>
     ensures { Gives recipe_said result (recipe_part_form (view item.now)) }
 {
     let [method, recipe, variables] = parts::<3>(item)?;
-    one(method)?;
+    recipe_method(method)?;
     Ok(RecipePart {
         recipe: text(recipe)?,
         variables: any_list(variables)?,
@@ -67,20 +67,20 @@ pub(crate) fn any_list(item: &Item) -> Result<Item, BodyFault>
     }
 }
 
-// An id that is 1, which is given back.
-fn one(item: &Item) -> Result<u8, BodyFault>
+// The recipe method, which is 1.
+fn recipe_method(item: &Item) -> Result<u8, BodyFault>
     ensures { Gives (λ n. n) result (fixed 1 small_id_form (view item.now)) }
 {
-    let id = small_id(item)?;
-    if id == 1 {
-        Ok(id)
+    let method = small_id(item)?;
+    if method == 1 {
+        Ok(method)
     } else {
         Err(BodyFault::IllegalData)
     }
 }
 
-// The byte that tells that the material of a job is carriers, which is given back: 13.
-pub(crate) fn carriers_format(item: &Item) -> Result<u8, BodyFault>
+// The format of a job's material, which is that of carriers: the byte 13.
+pub(crate) fn material_format(item: &Item) -> Result<u8, BodyFault>
     ensures { Gives (λ n. n) result (fixed 13 byte_form (view item.now)) }
 {
     let format = byte(item)?;

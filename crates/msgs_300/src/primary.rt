@@ -7,7 +7,7 @@ ghost use Rattle.msgs_300.specs.Parts.{any_list as any_list_form, carrier_slots,
 ghost use Rattle.msgs_300.specs.Primaries.{S3F17, S3F25, S3F27, S14F9, S16F5, S16F17, S16F27, is_shop_stream as is_stream_of_table, job_creation as job_creation_said, reading, said};
 ghost use Rattle.secs_items.specs.View.{view};
 
-use crate::material::{CarrierSlots, RecipePart, any_list, carriers_format, recipe_part};
+use crate::material::{CarrierSlots, RecipePart, any_list, material_format, recipe_part};
 use body_parts::reading::{copied, elements, flag, id, list_of, one, parts, small_id, text};
 use body_parts::{BodyFault, NamedValue};
 use gem_ids::{Listed, Text80};
@@ -154,7 +154,7 @@ fn job_creation(alloc: Global, item: &Item) -> Result<ShopMsg, BodyFault>
     let [dataid, job, format, material, recipe, start, events] = parts::<7>(item)?;
     let dataid = id(dataid)?;
     let job = text(job)?;
-    carriers_format(format)?;
+    material_format(format)?;
     Ok(ShopMsg::S16F11(
         dataid,
         job,

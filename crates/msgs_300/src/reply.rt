@@ -15,7 +15,7 @@ use gem_ids::{Listed, Text80};
 use secs_items::{Bools, Item, Items, NoMemory, U16s};
 use std::alloc::Global;
 
-/// Why something that the host asks is refused.
+/// Why something that the host asks is refused (after SEMI E40 and E94; this tool's profile, messages).
 #[derive(Debug, Drop)]
 pub struct ErrorPart {
     /// ERRCODE, the number of the cause.
@@ -33,7 +33,7 @@ pub struct JobAcknowledge {
     pub errors: Listed<ErrorPart>,
 }
 
-/// Whether an object is created, and why not (after SEMI E39; this tool's profile, messages).
+/// Whether an object is created, and why not (after SEMI E94; this tool's profile, messages).
 #[derive(Debug, Drop)]
 pub struct ObjectAcknowledge {
     /// OBJACK, 0 where it is created.
@@ -42,7 +42,7 @@ pub struct ObjectAcknowledge {
     pub errors: Listed<ErrorPart>,
 }
 
-/// A process job in a list of process jobs.
+/// A process job in a list of process jobs (after SEMI E40; this tool's profile, messages).
 #[derive(Debug, Drop)]
 pub struct JobState {
     /// PRJOBID, the job.

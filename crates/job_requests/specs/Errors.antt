@@ -1,22 +1,13 @@
 -- Why something that the host asks of jobs isn't done (this tool's profile, messages, errors).
-use Rattle.std.specs.Prelude.{ℕ, Bool, not, if◌then◌else◌, List, [], ◌∷◌, codes, Option, Some, None, is_some, Result, Ok, Err}
+use Rattle.std.specs.Prelude.{ℕ, ◌==◌, Bool, if◌then◌else◌, List, [], ◌∷◌, codes, Option, Some, None, Result, Ok, Err}
 use Rattle.process_job.specs.declared.fault.JobFault.{JobFault}
 use Rattle.process_job.specs.declared.fault.JobFault.TheVariants as process
 use Rattle.tool_jobs.specs.declared.fault.ControlFault.{ControlFault}
 use Rattle.tool_jobs.specs.declared.fault.ControlFault.TheVariants as control
+use Rattle.job_requests.specs.declared.error.JobError.{JobError}
+use Rattle.job_requests.specs.declared.error.JobError.TheVariants.{UnknownObject, NotNow, NameTaken, NoRecipe, NoMaterial, NoSpace, UnknownCommand, NotOffered}
 
--- the errors
-pub data JobError : Type 0 where
-  UnknownObject : JobError
-  NotNow : JobError
-  NameTaken : JobError
-  NoRecipe : JobError
-  NoMaterial : JobError
-  NoSpace : JobError
-  UnknownCommand : JobError
-  NotOffered : JobError
-
--- their codes
+-- the codes of the errors
 abbrev pub error_code : JobError → ℕ
 error_code UnknownObject = 1
 error_code NotNow = 2
@@ -38,7 +29,7 @@ error_text NoSpace = codes "no space"
 error_text UnknownCommand = codes "unknown command"
 error_text NotOffered = codes "not offered"
 
--- the first of these tests that holds, with its error
+-- the error of the first of these tests that holds
 abbrev pub first_error : List (Bool × JobError) → Option JobError
 first_error [] = None
 first_error (one ∷ others) = if one.0 then Some one.1 else first_error others
@@ -67,12 +58,11 @@ of_control_fault (Some control.HasControlJob) = Some NotNow
 of_control_fault (Some (control.NoSpace most)) = Some NoSpace
 of_control_fault (Some control.NoMemory) = None
 
--- the error that a command is answered by its number: 1, 2 or 7
-abbrev pub of_number : ℕ → JobError
-of_number 1 = UnknownObject
-of_number 7 = UnknownCommand
-of_number _ = NotNow
+-- the error that a command is answered by its code: 1, 2 or 7
+abbrev pub of_code : ℕ → JobError
+of_code n = if n == 1 then UnknownObject else (if n == 7 then UnknownCommand else NotNow)
 
+-- the error of a command's answer; none where it is done
 abbrev pub of_answer : {A : Type 0} → Result A ℕ → Option JobError
 of_answer (Ok a) = None
-of_answer (Err n) = Some (of_number n)
+of_answer (Err n) = Some (of_code n)

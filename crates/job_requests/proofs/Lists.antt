@@ -1,5 +1,5 @@
 -- Lists that grow by one name.
-use Rattle.std.proofs.Common.{◌≡◌, ℕ, ◌+◌, ◌<◌, Bool, true, false, true≢false, cond, not, ◌||◌, List, [], ◌∷◌, ◌++◌, length, get_or, take, map, filter, bytes_eq, refl, sym, ap, ◌∙◌, add-one, append_assoc, append-nil}
+use Rattle.std.proofs.Common.{◌≡◌, ℕ, ◌+◌, ◌<◌, Bool, true, false, true≢false, cond, not, ◌||◌, List, [], ◌∷◌, ◌++◌, length, get_or, take, slice_get, Some, map, filter, bytes_eq, refl, sym, ap, ◌∙◌, add-one, append_assoc, append-nil}
 use Rattle.std.specs.List.{list_any}
 use Rattle.std.proofs.lemmas.List.{map-append}
 use Rattle.std.proofs.lemmas.List.Elements.{filter-append}
@@ -7,11 +7,14 @@ use Rattle.std.proofs.lemmas.List.Folds.{list_any_at}
 use Rattle.std.proofs.Math.Seq.{take-suc}
 use Rattle.process_job.specs.Jobs as process
 use Rattle.process_job.specs.Commands as command
+use Rattle.process_job.specs.declared.job.ProcessJob.{ProcessJob}
+use Rattle.process_job.proofs.Scans.{take_here}
+use Rattle.gem_tables.specs.declared.firing.Firing.{Firing}
 use Rattle.process_job.proofs.Names.{same_name, turned}
 use Rattle.tool_events.specs.declared.event.JobWord.TheVariants.{Cancel}
 use Rattle.control_job.specs.Names.{is_in}
 use Rattle.tool_jobs.specs.Jobs.{Jobs}
-use Rattle.job_requests.specs.Requests.{at_process, each_once, cancel_rows}
+use Rattle.job_requests.specs.Requests.{at_process, command_rows, is_queued, each_once, cancel_rows}
 
 -- one more is taken
 pub take_more : {X : Type 0} (xs : List X) (i : ℕ) (x : X) → i < length xs → x ≡ get_or xs i x → take (i + 1) xs ≡ take i xs ++ x ∷ []
@@ -80,3 +83,26 @@ rows_more (n ∷ ns) x w =
     let first = at_process (command.row_of Cancel) (process.job_named n w.process.kept) in
     ap (λ rows. first ++ rows) (rows_more ns x w)
     ∙ sym (append_assoc first (cancel_rows ns w) (at_process (command.row_of Cancel) (process.job_named x w.process.kept)))
+
+-- ---- the steps of the loops
+
+pub once_step : (names : List (List ℕ)) (i : ℕ) (x : List ℕ) (once : List (List ℕ)) → i < length names → x ≡ get_or names i x → once ≡ each_once (take i names) →
+    cond (is_in x once) once (once ++ x ∷ []) ≡ each_once (take (i + 1) names)
+once_step names i x once l e o =
+    sym (ap each_once (take_more names i x l e)
+    ∙ once_more (take i names) x
+    ∙ ap (λ (ns : List (List ℕ)). cond (is_in x ns) ns (ns ++ x ∷ [])) (sym o))
+
+pub queued_step : (kept : List ProcessJob) (place : ℕ) (j : ProcessJob) (names : List (List ℕ)) → slice_get kept place ≡ Some j → names ≡ map (λ k. k.id) (filter is_queued (take place kept)) →
+    cond (is_queued j) (names ++ j.id ∷ []) names ≡ map (λ k. k.id) (filter is_queued (take (place + 1) kept))
+queued_step kept place j names e n =
+    sym (ap (λ (js : List ProcessJob). map (λ k. k.id) (filter is_queued js)) (take_here kept place j e)
+    ∙ picked is_queued (λ k. k.id) (take place kept) j
+    ∙ ap (λ (ns : List (List ℕ)). cond (is_queued j) (ns ++ j.id ∷ []) ns) (sym n))
+
+pub rows_step : (names : List (List ℕ)) (i : ℕ) (x : List ℕ) (w : Jobs) (rows more : List Firing) → i < length names → x ≡ get_or names i x → rows ≡ cancel_rows (take i names) w → more ≡ command_rows x Cancel w →
+    rows ++ more ≡ cancel_rows (take (i + 1) names) w
+rows_step names i x w rows more l e r m =
+    ap (λ (rs : List Firing). rs ++ more) r
+    ∙ ap (λ (rs : List Firing). cancel_rows (take i names) w ++ rs) m
+    ∙ sym (ap (λ (ns : List (List ℕ)). cancel_rows ns w) (take_more names i x l e) ∙ rows_more (take i names) x w)

@@ -1,5 +1,6 @@
 -- Items that name process jobs.
 use Rattle.std.proofs.Common.{◌≡◌, ℕ, suc, List, [], ◌∷◌, length, get_or, Option, Some, None, option_map, option_and_then, nat_eq, refl, sym, ap, ◌∙◌, arith}
+use Rattle.std.proofs.lemmas.Bool.Decides.{nat_tests}
 use Rattle.secs_items.specs.Data.{Data, list}
 use Rattle.secs_items.specs.View.{view, items_of}
 use Rattle.secs_items.specs.declared.item.Item.{Item}
@@ -11,7 +12,7 @@ use Rattle.job_requests.specs.Requests.{is_empty_list}
 -- a list without items
 pub empty_is : (xs : List Item) → nat_eq (length xs) 0 ≡ is_empty_list (list (items_of xs))
 empty_is [] = refl
-empty_is (x ∷ xs) = refl
+empty_is (x ∷ xs) = grind (arith, nat_tests)
 
 -- a list of three items
 pub more_met : (xs : List Item) (x : Item) → length xs ≡ 3 → x ≡ get_or xs 0 x → job_with_more (list (items_of xs)) ≡ text (view x)

@@ -1,5 +1,6 @@
 -- What a scan over the places of a list finds.
-use Rattle.std.proofs.Common.{◌≡◌, ℕ, ◌+◌, ◌≤◌, Bool, true, false, List, [], ◌∷◌, length, find, drop, Some, None, slice_get, refl, ap, ◌∙◌}
+use Rattle.std.proofs.Common.{◌≡◌, ℕ, ◌+◌, ◌≤◌, Bool, true, false, List, [], ◌∷◌, length, find, drop, Some, None, is_some, cond, ◌||◌, slice_get, refl, ap, ◌∙◌}
+use Rattle.std.specs.List.{list_any}
 use Rattle.process_job.proofs.Scans.{drop_here, drop_none, drop_later, drop_end}
 
 module _ {X : Type 0} (test : X → Bool) where
@@ -18,3 +19,11 @@ module _ {X : Type 0} (test : X → Bool) where
   -- the list has ended
   pub found_end : (xs : List X) (place : ℕ) → length xs ≤ place → find test (drop place xs) ≡ None
   found_end xs place l = ap (find test) (drop_end xs place l)
+
+  -- something is found where a test holds of something
+  pub found_any : (xs : List X) → is_some (find test xs) ≡ list_any test xs
+  found_any [] = refl
+  found_any (x ∷ xs) = by_test (test x) (found_any xs) where
+    by_test : (b : Bool) → is_some (find test xs) ≡ list_any test xs → is_some (cond b (Some x) (find test xs)) ≡ (b || list_any test xs)
+    by_test true later = refl
+    by_test false later = later

@@ -2,6 +2,7 @@
 
 ghost use Rattle.std.specs.Prelude.{◌≡◌, IfOk, is_some, option_map, option_and_then, unwrap_or, [], length, filter};
 ghost use Rattle.std.specs.List.{list_all, list_any};
+ghost use Rattle.secs_items.specs.Data.{list};
 ghost use Rattle.secs_items.specs.View.{view, items_of};
 ghost use Rattle.body_parts.specs.Bodies.{all_of, each, flag, text};
 ghost use Rattle.job_requests.specs.Attributes.{has_name, is_offered, value_of, is_given_once, job_with_more, named_jobs, job_form, is_well_formed, is_each_once, are_taken, object_id, processing_control, start_method, object_named, jobs_named, starts_itself};
@@ -229,11 +230,20 @@ fn job_with_more(item: &Item) -> Option<Text80>
     ensures { result ≡ job_with_more (view item.now) }
 {
     match item {
-        Item::List(items) => match items.as_slice() {
-            [job, _, _] => text_of(job),
-            _ => None,
-        },
+        Item::List(items) => first_of_three(items.as_slice()),
         _ => None,
+    }
+}
+
+// The process job that the first of three items names.
+#[tactic(auto, using(crate::proofs::Parts::more_met, crate::proofs::Parts::more_unmet))]
+fn first_of_three(items: &[Item]) -> Option<Text80>
+    ensures { result ≡ job_with_more (list (items_of items.now)) }
+{
+    if items.len() == 3 {
+        text_of(&items[0])
+    } else {
+        None
     }
 }
 

@@ -54,11 +54,7 @@ fn name_error(name: Text80, jobs: &Jobs) -> Option<JobError>
 /// The names of the process jobs that are taken out of the queue, where `cancel_error` has no error: those that are named, each once
 /// and where it is first given, or where none is named those of all that are QUEUED, in the order of creation. `AllocError` where
 /// there is no memory for them.
-pub fn cancelled(
-    alloc: Global,
-    names: &[Text80],
-    jobs: &Jobs,
-) -> Result<Listed<Text80>, AllocError>
+pub fn cancelled(alloc: Global, names: &[Text80], jobs: &Jobs) -> Result<Listed<Text80>, AllocError>
     ensures { IfOk result (λ cancelled_names. cancelled_names ≡ cancelled names.now jobs.now) }
 {
     if names.is_empty() {

@@ -1,7 +1,7 @@
 -- Items that name process jobs.
-use Rattle.std.proofs.Common.{◌≡◌, ℕ, suc, List, [], ◌∷◌, length, get_or, Option, Some, None, option_map, option_and_then, nat_eq, refl, sym, ap, ◌∙◌, arith}
+use Rattle.std.proofs.Common.{◌≡◌, ℕ, List, [], ◌∷◌, length, get_or, Option, Some, None, option_and_then, nat_eq, refl, sym, ap, ◌∙◌, arith}
 use Rattle.std.proofs.lemmas.Bool.Decides.{nat_tests}
-use Rattle.secs_items.specs.Data.{Data, list}
+use Rattle.secs_items.specs.Data.{list}
 use Rattle.secs_items.specs.View.{view, items_of}
 use Rattle.secs_items.specs.declared.item.Item.{Item}
 use Rattle.body_parts.specs.Bodies.{text}

@@ -1,5 +1,5 @@
 -- Why a process job isn't created, test by test.
-use Rattle.std.proofs.Common.{◌≡◌, nat_lt, Bool, true, false, not, List, [], ◌∷◌, length, Option, Some, None, refl}
+use Rattle.std.proofs.Common.{◌≡◌, nat_lt, Bool, true, false, not, [], ◌∷◌, length, Option, Some, None, refl}
 use Rattle.process_job.specs.Jobs.{JobBook, is_known, most_jobs}
 use Rattle.process_job.specs.Creating.{is_recipe, is_some_material, create_fault}
 use Rattle.process_job.specs.declared.job.JobSpec.{JobSpec}

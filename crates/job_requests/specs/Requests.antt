@@ -1,7 +1,7 @@
 -- What the host asks of process jobs and control jobs, and why it isn't done (SEMI E40, S16F5, S16F11 and S16F17; SEMI E94, S14F9 and
 -- S16F27; this tool's profile, messages). What is told of jobs is by the jobs before the message. In ON-LINE LOCAL nothing is done, but
 -- that an unknown command is told first.
-use Rattle.std.specs.Prelude.{ℕ, ◌+◌, nat_le, Bool, true, false, not, ◌&&◌, ◌||◌, if◌then◌else◌, List, [], ◌∷◌, ◌++◌, codes, length, map, filter, Option, Some, None, is_some, Result, Ok, Err}
+use Rattle.std.specs.Prelude.{ℕ, ◌+◌, nat_le, Bool, true, false, not, ◌&&◌, ◌||◌, if◌then◌else◌, List, [], ◌∷◌, ◌++◌, codes, length, map, filter, Option, Some, None, is_some, Result, Ok}
 use Rattle.std.specs.Str.{bytes_eq}
 use Rattle.gem_tables.specs.Table.{firing}
 use Rattle.gem_tables.specs.declared.firing.Firing.{Firing}

@@ -1,4 +1,4 @@
-use Rattle.std.proofs.Common.{sym, ap, ◌∙◌, is_some}
+use Rattle.std.proofs.Common.{ap, ◌∙◌, is_some}
 use Rattle.process_job.specs.Jobs.{job_named}
 use Rattle.process_job.proofs.Apart.{known_found}
 use Rattle.process_job.proofs.Truth.{is_there}

@@ -5,7 +5,7 @@ use anyhow::{Result, bail};
 use gem_ids::{Listed, Text80};
 use job_requests::{
     QueueAct, cancel_error, cancel_rows, cancelled, command_error, command_named, command_row,
-    control_command, control_command_error,
+    control_command, control_command_error, make_head,
 };
 use std::alloc::Global;
 use test_lines::{nothing, number, small, word};
@@ -54,15 +54,24 @@ pub(crate) fn queue(alloc: Global, local: bool, jobs: &mut Jobs, words: &[&str])
     if let Some(error) = control_command_error(local, job, cmd, jobs) {
         return error_text(alloc, error);
     }
-    match control_command(job, cmd, jobs) {
+    let act = control_command(job, cmd, jobs);
+    done(alloc, jobs, job, act)
+}
+
+// What a command on the control job of a name does is done.
+fn done(alloc: Global, jobs: &mut Jobs, job: Text80, act: Option<QueueAct>) -> Result<String> {
+    match act {
         Some(QueueAct::Fires(row)) => row_text(alloc, Some(row)),
-        Some(QueueAct::Heads(id)) => {
-            jobs.head_of_queue(id);
-            let name = words_of(alloc, id.text())?;
-            Ok(format!(in alloc; "head {name}")?)
-        }
+        Some(QueueAct::Heads) => head(alloc, jobs, job),
         None => nothing(alloc),
     }
+}
+
+// A control job becomes the head of the queue.
+fn head(alloc: Global, jobs: &mut Jobs, job: Text80) -> Result<String> {
+    make_head(job, jobs);
+    let name = words_of(alloc, job)?;
+    Ok(format!(in alloc; "head {name}")?)
 }
 
 // A row of a table fires at the job of a number; no answer.

@@ -10,12 +10,17 @@ use job_requests::{
 };
 use std::alloc::Global;
 use test_lines::{nothing, small, word};
+use tool_events::{Recipe, RecipeChambers};
 use tool_jobs::Jobs;
 
 // No jobs, of a tool with one recipe.
 pub(crate) fn none(alloc: Global) -> Result<Jobs> {
-    let recipe = Text80::read(b"R1")?;
-    match Jobs::new(alloc, &[recipe]) {
+    let name = Text80::read(b"R1")?;
+    let chambers = RecipeChambers {
+        one: true,
+        two: true,
+    };
+    match Jobs::new(alloc, &[Recipe { name, chambers }]) {
         Ok(jobs) => Ok(jobs),
         Err(_) => bail!("there is no memory"),
     }

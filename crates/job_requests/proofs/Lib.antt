@@ -3,4 +3,3 @@ pub mod Named
 pub mod Lists
 pub mod Parts
 pub mod Refused
-pub mod Acted

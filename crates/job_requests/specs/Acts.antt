@@ -11,21 +11,16 @@ use Rattle.job_requests.specs.declared.queue.QueueAct.TheVariants.{Fires, Heads}
 -- what it fires
 abbrev pub act_rows : Option QueueAct → List Firing
 act_rows (Some (Fires f)) = f ∷ []
-act_rows (Some (Heads job)) = []
+act_rows (Some Heads) = []
 act_rows None = []
 
--- what it does to the queue
-abbrev pub act_after : Option QueueAct → Jobs → Jobs
-act_after (Some (Fires f)) w = w
-act_after (Some (Heads job)) w = record w { control = headed job w.control }
-act_after None w = w
+-- what it does to the queue, at the job of a name
+abbrev pub act_after : List ℕ → Option QueueAct → Jobs → Jobs
+act_after job (Some (Fires f)) w = w
+act_after job (Some Heads) w = record w { control = headed job w.control }
+act_after job None w = w
 
 -- a row fires at a control job that was looked for
 abbrev pub row_at : ℕ → Option ControlJob → Option QueueAct
 row_at row None = None
 row_at row (Some c) = Some (Fires (firing 15 c.number row))
-
--- or it becomes the head of the queue
-abbrev pub head_of : Option ControlJob → Option QueueAct
-head_of None = None
-head_of (Some c) = Some (Heads c.name)

@@ -2,9 +2,9 @@
 //! S16F17; SEMI E94, S14F9 and S16F27; this tool's profile, messages). The operator's commands on jobs are the same, but for
 //! ON-LINE LOCAL.
 //!
-//! It knows no state of the tool but the jobs, and whether it is ON-LINE LOCAL, and changes nothing: a caller asks for the error
-//! of a message, answers it, and where there is none lets the jobs create what is asked for or fires the rows. Only what builds a
-//! list takes memory. Begin with `command_named` and `command_error`.
+//! It knows no state of the tool but the jobs, and whether it is ON-LINE LOCAL, and but for `make_head` changes nothing: a
+//! caller asks for the error of a message, answers it, and where there is none lets the jobs create what is asked for or fires the
+//! rows. Only what builds a list takes memory. Begin with `command_named` and `command_error`.
 #![tactic(auto)]
 
 mod attributes;
@@ -22,4 +22,4 @@ pub use control::{ControlRequest, control_error, control_names, control_request,
 pub use error::JobError;
 pub use names::job_name;
 pub use process::{process_error, process_row, process_spec};
-pub use queue::{QueueAct, control_command, control_command_error};
+pub use queue::{QueueAct, control_command, control_command_error, make_head};

@@ -1,23 +1,24 @@
 //! Commands on control jobs (SEMI E94, S16F27), which the host and the operator give.
 
-ghost use Rattle.std.specs.Prelude.{◌≡◌};
-ghost use Rattle.control_job.specs.Jobs.{job_named as control_named};
+ghost use Rattle.std.specs.Prelude.{◌≡◌, is_some};
+ghost use Rattle.control_job.specs.Jobs.{job_named as control_named, waiting_named, headed};
 ghost use Rattle.control_job.specs.Commands.{command_answer};
-ghost use Rattle.job_requests.specs.Acts.{act_after, act_rows, row_at, head_of};
+ghost use Rattle.job_requests.specs.Acts.{act_after, act_rows, row_at};
 ghost use Rattle.job_requests.specs.Requests.{is_control_command, control_command_error, control_after, control_command_rows};
 
 use crate::error::JobError;
 use crate::names::{control_id, control_named};
 use control_job::{ControlJobs, CtlAct};
-use gem_ids::{JobId, Text80};
+use gem_ids::Text80;
 use gem_tables::Firing;
 use tool_jobs::Jobs;
 
-/// What a command on a control job does: it fires a row of table 15, or it makes the job of a name the head of the queue.
+/// What a command on a control job does: it fires a row of table 15, or it makes the job the head of the queue,
+/// which `make_head` does.
 #[derive(Clone, Copy, Debug, PartialEq, Eq)]
 pub enum QueueAct {
     Fires(Firing),
-    Heads(JobId),
+    Heads,
 }
 
 /// Why a command on the control job of a name isn't done, the first of these that fits: `UnknownCommand` where it isn't 1 to 8;
@@ -60,12 +61,12 @@ fn control_answer(job: Text80, cmd: u8, control: &ControlJobs) -> Result<CtlAct,
 /// for ON-LINE LOCAL. Takes no memory.
 pub fn control_command(job: Text80, cmd: u8, jobs: &Jobs) -> Option<QueueAct>
     ensures rows { act_rows result ≡ control_command_rows job (command_answer job cmd jobs.now.control.jobs) jobs.now }
-    ensures after { act_after result jobs.now ≡ control_after job (command_answer job cmd jobs.now.control.jobs) jobs.now }
+    ensures after { act_after job result jobs.now ≡ control_after job (command_answer job cmd jobs.now.control.jobs) jobs.now }
 {
     let control = jobs.control();
     match control_answer(job, cmd, control) {
         Ok(CtlAct::Row(row)) => row_at(job, row, control),
-        Ok(CtlAct::Head) => head_of(job, control),
+        Ok(CtlAct::Head) => Some(QueueAct::Heads),
         Err(_) => None,
     }
 }
@@ -80,12 +81,15 @@ fn row_at(job: Text80, row: u8, control: &ControlJobs) -> Option<QueueAct>
     }
 }
 
-// The control job of a name becomes the head of the queue.
-fn head_of(job: Text80, control: &ControlJobs) -> Option<QueueAct>
-    ensures { result ≡ head_of (control_named job control.now.jobs) }
+/// Makes the QUEUED control job of a name the head of the queue; the others keep their order. False exactly where no QUEUED control
+/// job has the name, and then nothing changes (SEMI E94, S16F27). Takes no memory.
+pub fn make_head(job: Text80, jobs: &mut Jobs) -> bool
+    ensures queued { result ≡ is_some (waiting_named job jobs.old.control.jobs) }
+    ensures process { jobs.new.process ≡ jobs.old.process }
+    ensures control { jobs.new.control ≡ headed job jobs.old.control }
 {
-    match control_id(control, job) {
-        Some(id) => Some(QueueAct::Heads(id)),
-        None => None,
+    match control_id(jobs.control(), job) {
+        Some(id) => jobs.head_of_queue(id),
+        None => false,
     }
 }

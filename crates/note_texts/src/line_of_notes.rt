@@ -9,12 +9,12 @@
 //! the first five; and `spool` how full the spool is and how it is emptied, how many notes it has, how many came, and the
 //! oldest.
 
-use crate::spooled::{kind, note_text};
-use anyhow::{Result, bail, ensure};
+use crate::spooled::{add_count, add_note, kind, middle, number, small};
+use anyhow::{Result, bail};
 use hsms_frame::Bytes;
-use note_line::{Around, MOST_TEXT, Note, NoteLine, SpooledKinds};
+use note_line::{Around, Fate, MOST_TEXT, NoteLine, SpooledKinds};
 use std::alloc::Global;
-use test_lines::{Subject, bytes, nothing, number, small, word, words};
+use test_lines::{Subject, bytes, words};
 
 /// The line of notes, and what lies around it.
 #[derive(Drop)]
@@ -25,97 +25,112 @@ pub struct LineOfNotes {
 
 impl LineOfNotes {
     /// A line without a note, of which events are spooled, or no notes.
-    pub fn new(alloc: Global, events: bool) -> Result<LineOfNotes> {
+    pub fn new(alloc: Global, events: bool) -> Option<LineOfNotes> {
         let kinds = SpooledKinds {
             events,
             alarms: false,
         };
-        Ok(LineOfNotes {
-            line: NoteLine::new(alloc, 3, kinds)?,
-            around: Around {
-                communicates: true,
-                overwrites: false,
-                most_sent: 0,
-            },
-        })
+        let around = Around {
+            communicates: true,
+            overwrites: false,
+            most_sent: 0,
+        };
+        match NoteLine::new(alloc, 3, kinds) {
+            Ok(line) => Some(LineOfNotes { line, around }),
+            Err(_) => None,
+        }
     }
 }
 
 impl Subject for LineOfNotes {
     fn answer(&mut self, alloc: Global, said: &str) -> Result<String> {
         let words = words(alloc, said)?;
-        let words = words.as_slice();
-        match word(words, 0)? {
-            "around" => {
-                self.around = around(words)?;
-                nothing(alloc)
-            }
-            "add" => add(alloc, &mut self.line, words),
-            "row" => row_text(alloc, self.line.row_for(self.around).unwrap_or(0)),
-            "fire" => row_text(alloc, fire(&mut self.line, self.around)),
-            "rows" => rows(alloc, &mut self.line, self.around),
-            "ask" => ask(alloc, &mut self.line, self.around, small(words, 1)?),
-            "fail" => {
-                self.line.fail_open(self.around);
-                nothing(alloc)
-            }
-            "answer" | "drop" | "purge" | "spool_kinds" => changed(alloc, &mut self.line, words),
-            _ => shown(alloc, &self.line, words),
+        let mut answer = String::new(alloc);
+        match say(alloc, self, words.as_slice(), &mut answer) {
+            Some(()) => Ok(answer),
+            None => bail!("it says nothing, or there is no memory"),
         }
     }
 }
 
-fn truth(words: &[&str], place: usize) -> Result<bool> {
-    match word(words, place)? {
-        "true" => Ok(true),
-        "false" => Ok(false),
-        _ => bail!("it is true or false"),
+// Says the words of a line; the answer. None where they say nothing.
+fn say(alloc: Global, of: &mut LineOfNotes, words: &[&str], answer: &mut String) -> Option<()> {
+    match *words.first()? {
+        "around" => lie(&mut of.around, words),
+        "add" => add(alloc, &mut of.line, words),
+        _ => turn(alloc, &mut of.line, of.around, words, answer),
     }
 }
 
-fn around(words: &[&str]) -> Result<Around> {
-    Ok(Around {
-        communicates: truth(words, 1)?,
-        overwrites: truth(words, 2)?,
-        most_sent: word(words, 3)?.parse::<u32>()?,
-    })
+// What lies around the line.
+fn lie(around: &mut Around, words: &[&str]) -> Option<()> {
+    let communicates = truth(words, 1)?;
+    let overwrites = truth(words, 2)?;
+    let most_sent = middle(words, 3)?;
+    *around = Around {
+        communicates,
+        overwrites,
+        most_sent,
+    };
+    Some(())
 }
 
-// So many times these bytes.
-fn repeated(alloc: Global, count: u64, once: &[u8]) -> Result<Vec<u8>> {
+fn truth(words: &[&str], place: usize) -> Option<bool> {
+    match *words.get(place)? {
+        "true" => Some(true),
+        "false" => Some(false),
+        _ => None,
+    }
+}
+
+// The text of a note, by the words of a line behind its kind and id: bytes, or so many times these bytes.
+fn text(alloc: Global, words: &[&str]) -> Option<Vec<u8>> {
+    if words.len() < 6 {
+        return bytes(alloc, words.get(3)?).ok();
+    }
+    let count = number(words, 3)?;
+    let once = bytes(alloc, words.get(5)?).ok()?;
     let mut text = Vec::new(alloc);
     for _ in 0..count {
-        text.extend_from_slice(once)?;
+        text.extend_from_slice(once.as_slice()).ok()?;
     }
-    Ok(text)
+    Some(text)
 }
 
-// The text of a note, by the words of a line behind its kind and id.
-fn text(alloc: Global, words: &[&str]) -> Result<Vec<u8>> {
-    if words.len() < 6 {
-        return bytes(alloc, word(words, 3)?);
-    }
-    let once = bytes(alloc, word(words, 5)?)?;
-    repeated(alloc, number(words, 3)?, once.as_slice())
-}
-
-fn add(alloc: Global, line: &mut NoteLine, words: &[&str]) -> Result<String> {
-    let kind = kind(word(words, 1)?)?;
-    let id = word(words, 2)?.parse::<u32>()?;
+// Adds a note, whose text is no longer than any may be.
+fn add(alloc: Global, line: &mut NoteLine, words: &[&str]) -> Option<()> {
+    let kind = kind(words, 1)?;
+    let id = middle(words, 2)?;
     let text = text(alloc, words)?;
     if text.len() > MOST_TEXT {
-        bail!("no note has a text of so many bytes");
+        return None;
     }
-    line.add(kind, id, Bytes::from_vec(text))?;
-    nothing(alloc)
+    line.add(kind, id, Bytes::from_vec(text)).ok()
+}
+
+// What becomes of notes.
+fn turn(
+    alloc: Global,
+    line: &mut NoteLine,
+    around: Around,
+    words: &[&str],
+    answer: &mut String,
+) -> Option<()> {
+    match *words.first()? {
+        "fire" => add_row(answer, fire(line, around)),
+        "rows" => fire_all(answer, line, around),
+        "ask" => ask(answer, line, around, small(words, 1)?),
+        "row" => add_row(answer, line.row_for(around).unwrap_or(0)),
+        "answer" | "drop" | "purge" | "fail" | "spool_kinds" => change(line, around, words),
+        _ => show(alloc, line, words, answer),
+    }
 }
 
 // Fires the row that fires by itself, and gives its number, or 0 where there is none.
 fn fire(line: &mut NoteLine, around: Around) -> u8 {
-    let Some(row) = line.row_for(around) else {
-        return 0;
-    };
+    let row = line.row_for(around).unwrap_or(0);
     match row {
+        0 => {}
         6 => line.purge_oldest(),
         10 => line.spool_head(around),
         11 => line.drop_head(),
@@ -126,107 +141,91 @@ fn fire(line: &mut NoteLine, around: Around) -> u8 {
     row
 }
 
-fn row_text(alloc: Global, row: u8) -> Result<String> {
+fn add_row(answer: &mut String, row: u8) -> Option<()> {
     match row {
-        0 => Ok(format!(in alloc; "none")?),
-        _ => Ok(format!(in alloc; "{row}")?),
+        0 => answer.push_str("none").ok(),
+        _ => add_count(answer, u64::from(row)),
     }
 }
 
 // Fires the rows that fire by themselves in turn, eight at most.
-fn rows(alloc: Global, line: &mut NoteLine, around: Around) -> Result<String> {
-    let mut text = String::new(alloc);
-    for place in 0..8 {
+fn fire_all(answer: &mut String, line: &mut NoteLine, around: Around) -> Option<()> {
+    for _ in 0..8 {
         let row = fire(line, around);
         if row == 0 {
             break;
         }
-        if place > 0 {
-            text.push(' ')?;
+        if !answer.is_empty() {
+            answer.push(' ').ok()?;
         }
-        text.push_str(format!(in alloc; "{row}")?.as_str())?;
+        add_row(answer, row)?;
     }
-    Ok(text)
+    Some(())
 }
 
-fn ask(alloc: Global, line: &mut NoteLine, around: Around, rsdc: u8) -> Result<String> {
+fn ask(answer: &mut String, line: &mut NoteLine, around: Around, rsdc: u8) -> Option<()> {
     if rsdc > 1 {
-        bail!("RSDC is 0 or 1");
+        return None;
     }
-    Ok(format!(in alloc; "{}", line.begin_unload(rsdc, around))?)
+    add_count(answer, u64::from(line.begin_unload(rsdc, around)))
 }
 
-fn changed(alloc: Global, line: &mut NoteLine, words: &[&str]) -> Result<String> {
-    match word(words, 0)? {
+fn change(line: &mut NoteLine, around: Around, words: &[&str]) -> Option<()> {
+    match *words.first()? {
         "answer" => line.answer_open(),
         "drop" => line.drop_head(),
         "purge" => line.purge_oldest(),
-        _ => line.set_kinds(SpooledKinds {
-            events: truth(words, 1)?,
-            alarms: truth(words, 2)?,
-        }),
+        "fail" => line.fail_open(around),
+        _ => {
+            let events = truth(words, 1)?;
+            let alarms = truth(words, 2)?;
+            line.set_kinds(SpooledKinds { events, alarms });
+        }
     }
-    nothing(alloc)
+    Some(())
 }
 
 // What the line says of itself.
-fn shown(alloc: Global, line: &NoteLine, words: &[&str]) -> Result<String> {
-    match word(words, 0)? {
-        "open" => note(alloc, line.open_note()),
-        "head" => note(alloc, line.head()),
-        "oldest" => note(alloc, line.oldest()),
-        "head_bytes" => head_bytes(alloc, line),
-        "next_number" => Ok(format!(in alloc; "{}", line.next_number())?),
-        "waiting" => Ok(format!(in alloc; "{}", line.waiting_len())?),
-        "fate" => fate(alloc, line, number(words, 1)?),
-        "fates" => fates(alloc, line, number(words, 1)?),
-        "rsda" => Ok(format!(in alloc; "{}", line.rsda())?),
-        "kinds" => Ok(format!(in alloc; "{} {}", line.kinds().events, line.kinds().alarms)?),
-        "spool" => spool(alloc, line),
-        _ => bail!("it says nothing"),
+fn show(alloc: Global, line: &NoteLine, words: &[&str], answer: &mut String) -> Option<()> {
+    match *words.first()? {
+        "open" => add_note(alloc, answer, line.open_note()),
+        "head" => add_note(alloc, answer, line.head()),
+        "oldest" => add_note(alloc, answer, line.oldest()),
+        "head_bytes" => add_count(answer, line.head()?.text.as_slice().len() as u64),
+        "next_number" => add_count(answer, line.next_number()),
+        "waiting" => add_count(answer, line.waiting_len() as u64),
+        "fate" => add_fate(answer, line.fate(number(words, 1)?)),
+        "fates" => add_fates(answer, line, small(words, 1)?),
+        "rsda" => add_count(answer, u64::from(line.rsda())),
+        "kinds" => write!(answer, "{} {}", line.kinds().events, line.kinds().alarms).ok(),
+        "spool" => add_spool(alloc, answer, line),
+        _ => None,
     }
 }
 
-fn note(alloc: Global, note: Option<&Note>) -> Result<String> {
-    match note {
-        Some(note) => note_text(alloc, note),
-        None => Ok(format!(in alloc; "none")?),
-    }
-}
-
-// How many bytes the text of the head has.
-fn head_bytes(alloc: Global, line: &NoteLine) -> Result<String> {
-    match line.head() {
-        Some(head) => Ok(format!(in alloc; "{}", head.text.as_slice().len())?),
-        None => bail!("there is no head"),
-    }
-}
-
-fn fate(alloc: Global, line: &NoteLine, number: u64) -> Result<String> {
-    match line.fate(number) {
-        Some(fate) => Ok(format!(in alloc; "{fate:?}")?),
-        None => Ok(format!(in alloc; "none")?),
+fn add_fate(answer: &mut String, fate: Option<Fate>) -> Option<()> {
+    match fate {
+        Some(fate) => write!(answer, "{fate:?}").ok(),
+        None => answer.push_str("none").ok(),
     }
 }
 
 // What became of so many notes, from the first on.
-fn fates(alloc: Global, line: &NoteLine, count: u64) -> Result<String> {
-    ensure!(count < 1000, "no text tells of so many notes");
-    let mut text = String::new(alloc);
+fn add_fates(answer: &mut String, line: &NoteLine, count: u8) -> Option<()> {
     for before in 0..count {
         if before > 0 {
-            text.push(' ')?;
+            answer.push(' ').ok()?;
         }
-        text.push_str(fate(alloc, line, before + 1)?.as_str())?;
+        add_fate(answer, line.fate(u64::from(before) + 1))?;
     }
-    Ok(text)
+    Some(())
 }
 
-fn spool(alloc: Global, line: &NoteLine) -> Result<String> {
+fn add_spool(alloc: Global, answer: &mut String, line: &NoteLine) -> Option<()> {
     let load = line.load();
     let unload = line.unload();
     let len = line.spooled_len();
     let total = line.spooled_total();
-    let oldest = note(alloc, line.oldest())?;
-    Ok(format!(in alloc; "{load:?} {unload:?} {len} of {total}, oldest {oldest}")?)
+    write!(answer, "{load:?} {unload:?} {len} of {total}, oldest ").ok()?;
+    add_note(alloc, answer, line.oldest())
 }

@@ -30,15 +30,26 @@ impl Messages {
 fn names_in(alloc: Global, text: &str) -> Option<Vec<(u8, u8)>> {
     let mut names = Vec::new(alloc);
     for name in text.split_whitespace() {
-        names.push(stream_and_function(name)?).ok()?;
+        let Some(name) = stream_and_function(name) else {
+            return None;
+        };
+        let Ok(()) = names.push(name) else {
+            return None;
+        };
     }
     Some(names)
 }
 
 fn stream_and_function(name: &str) -> Option<(u8, u8)> {
-    let (stream, function) = name.strip_prefix("S")?.split_once('F')?;
-    let stream = stream.parse::<u8>().ok()?;
-    let function = function.parse::<u8>().ok()?;
+    let Some((stream, function)) = name.strip_prefix("S")?.split_once('F') else {
+        return None;
+    };
+    let Ok(stream) = stream.parse::<u8>() else {
+        return None;
+    };
+    let Ok(function) = function.parse::<u8>() else {
+        return None;
+    };
     Some((stream, function))
 }
 
@@ -53,10 +64,14 @@ impl Subject for Messages {
 
 // What messages say of a text, all the same. None where a line tells no text.
 fn said_of_all(alloc: Global, names: &[(u8, u8)], asked: &str) -> Option<String> {
-    let text = text_of(alloc, asked)?;
+    let Some(text) = text_of(alloc, asked) else {
+        return None;
+    };
     let mut answer = String::new(alloc);
     for (place, name) in names.iter().enumerate() {
-        let said = said_of(alloc, *name, text.as_slice())?;
+        let Some(said) = said_of(alloc, *name, text.as_slice()) else {
+            return None;
+        };
         if place > 0 && said.as_str() != answer.as_str() {
             return format!(in alloc; "{answer}; {said} as S{}F{}", name.0, name.1).ok();
         }
@@ -67,11 +82,10 @@ fn said_of_all(alloc: Global, names: &[(u8, u8)], asked: &str) -> Option<String>
 
 // What a message says of a text, or why it says nothing.
 fn said_of(alloc: Global, name: (u8, u8), text: &[u8]) -> Option<String> {
-    let item = read_one(alloc, text).ok()?;
-    match read_gem(alloc, name.0, name.1, item.as_ref()) {
-        Ok(message) => said(alloc, name, &message),
-        Err(fault) => format!(in alloc; "{fault}").ok(),
-    }
+    let Ok(item) = read_one(alloc, text) else {
+        return None;
+    };
+    said(alloc, name, &read_gem(alloc, name.0, name.1, item.as_ref()))
 }
 
 /// S1F14 of the host: whether it accepts communication.
@@ -80,24 +94,38 @@ pub struct Acknowledge;
 
 impl Subject for Acknowledge {
     fn answer(&mut self, alloc: Global, asked: &str) -> Result<String> {
-        match accepted(alloc, asked) {
-            Some(answer) => Ok(answer),
+        let mut answer = String::new(alloc);
+        match add_accepted(alloc, asked, &mut answer) {
+            Some(()) => Ok(answer),
             None => bail!("it says nothing, or there is no memory"),
         }
     }
 }
 
-fn accepted(alloc: Global, asked: &str) -> Option<String> {
-    let text = text_of(alloc, asked)?;
-    let item = read_one(alloc, text.as_slice()).ok()?;
-    format!(in alloc; "{}", accepts_communication(item.as_ref())).ok()
+fn add_accepted(alloc: Global, asked: &str, answer: &mut String) -> Option<()> {
+    let Some(text) = text_of(alloc, asked) else {
+        return None;
+    };
+    let Some(accepts) = accepts(alloc, text.as_slice()) else {
+        return None;
+    };
+    write!(answer, "{accepts}").ok()
+}
+
+fn accepts(alloc: Global, text: &[u8]) -> Option<bool> {
+    let Ok(item) = read_one(alloc, text) else {
+        return None;
+    };
+    Some(accepts_communication(item.as_ref()))
 }
 
 // The text of the digits behind the word `text`.
 fn text_of(alloc: Global, asked: &str) -> Option<Vec<u8>> {
     let mut text = Vec::new(alloc);
     for word in asked.strip_prefix("text ")?.split_whitespace() {
-        add(alloc, &mut text, word)?;
+        if add(alloc, &mut text, word).is_none() {
+            return None;
+        }
     }
     Some(text)
 }
@@ -105,10 +133,16 @@ fn text_of(alloc: Global, asked: &str) -> Option<Vec<u8>> {
 // The bytes of digits, as often as they are counted.
 fn add(alloc: Global, text: &mut Vec<u8>, word: &str) -> Option<()> {
     let (digits, count) = word.split_once('*').unwrap_or((word, "1"));
-    let count = count.parse::<u32>().ok()?;
-    let bytes = bytes(alloc, digits).ok()?;
+    let Ok(count) = count.parse::<u32>() else {
+        return None;
+    };
+    let Ok(bytes) = bytes(alloc, digits) else {
+        return None;
+    };
     for _ in 0..count {
-        text.extend_from_slice(bytes.as_slice()).ok()?;
+        let Ok(()) = text.extend_from_slice(bytes.as_slice()) else {
+            return None;
+        };
     }
     Some(())
 }

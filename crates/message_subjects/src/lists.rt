@@ -18,17 +18,23 @@ pub(crate) fn listed<T: Told>(alloc: Global, list: &[T], as_hex: bool) -> Option
     let mut last = String::new(alloc);
     let mut count: usize = 0;
     for one in list {
-        let word = one.word(alloc, as_hex)?;
+        let Some(word) = one.word(alloc, as_hex) else {
+            return None;
+        };
         if count > 0 && word.as_str() == last.as_str() {
             count = count.saturating_add(1);
         } else {
-            add(&mut all, last.as_str(), count)?;
+            if add(&mut all, last.as_str(), count).is_none() {
+                return None;
+            }
             last = word;
             count = 1;
         }
     }
-    add(&mut all, last.as_str(), count)?;
-    Some(all)
+    match add(&mut all, last.as_str(), count) {
+        Some(()) => Some(all),
+        None => None,
+    }
 }
 
 // Puts a word behind the others, as often as it stands, or counted.
@@ -39,7 +45,9 @@ fn add(all: &mut String, word: &str, count: usize) -> Option<()> {
     }
     for _ in 0..count {
         let gap = gap(all.as_str());
-        write!(all, "{gap}{word}").ok()?;
+        let Ok(()) = write!(all, "{gap}{word}") else {
+            return None;
+        };
     }
     Some(())
 }

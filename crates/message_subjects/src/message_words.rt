@@ -2,17 +2,32 @@
 
 use crate::lists::{Told, gap, listed};
 use gem_ids::{Ids, Text80};
-use msgs_gem::{GemMsg, Parameter, Setting, SpooledStream};
+use msgs_gem::{BodyFault, GemMsg, Parameter, Setting, SpooledStream};
 use secs_items::Item;
 use std::alloc::Global;
 
-/// The parts of a message of this stream and function, or `no parts`. They stand behind the name of the message where it
-/// is another.
-pub(crate) fn said(alloc: Global, name: (u8, u8), message: &GemMsg) -> Option<String> {
+/// The parts of a message of this stream and function, or `no parts`; or why it has no message. They stand behind the name of
+/// the message where it is another.
+pub(crate) fn said(
+    alloc: Global,
+    name: (u8, u8),
+    read: &Result<GemMsg, BodyFault>,
+) -> Option<String> {
+    match read {
+        Ok(message) => said_by(alloc, name, message),
+        Err(fault) => format!(in alloc; "{fault}").ok(),
+    }
+}
+
+fn said_by(alloc: Global, name: (u8, u8), message: &GemMsg) -> Option<String> {
     let (stream, function) = name_of(message);
-    let mut parts = parts(alloc, message)?;
+    let Some(mut parts) = parts(alloc, message) else {
+        return None;
+    };
     if parts.is_empty() {
-        parts.push_str("no parts").ok()?;
+        let Ok(()) = parts.push_str("no parts") else {
+            return None;
+        };
     }
     if name == (stream, function) {
         return Some(parts);
@@ -80,22 +95,30 @@ fn of_number(alloc: Global, message: &GemMsg) -> Option<String> {
 }
 
 fn of_events(alloc: Global, enable: bool, events: &Ids) -> Option<String> {
-    let events = listed(alloc, events.as_slice(), false)?;
+    let Some(events) = listed(alloc, events.as_slice(), false) else {
+        return None;
+    };
     let gap = gap(events.as_str());
     format!(in alloc; "{enable}{gap}{events}").ok()
 }
 
 // DATAID, and groups, each its number and its members.
 fn of_groups(alloc: Global, dataid: u32, groups: &[(u32, Ids)]) -> Option<String> {
-    let groups = listed(alloc, groups, false)?;
+    let Some(groups) = listed(alloc, groups, false) else {
+        return None;
+    };
     let gap = gap(groups.as_str());
     format!(in alloc; "{dataid}{gap}{groups}").ok()
 }
 
 // A command, and its parameters, each its name and its value.
 fn of_command(alloc: Global, command: &Text80, parameters: &[Parameter]) -> Option<String> {
-    let command = String::from_utf8_lossy(alloc, command.as_bytes()).ok()?;
-    let parameters = listed(alloc, parameters, false)?;
+    let Ok(command) = String::from_utf8_lossy(alloc, command.as_bytes()) else {
+        return None;
+    };
+    let Some(parameters) = listed(alloc, parameters, false) else {
+        return None;
+    };
     let gap = gap(parameters.as_str());
     format!(in alloc; "'{command}'{gap}{parameters}").ok()
 }
@@ -118,7 +141,9 @@ impl Told for u8 {
 
 impl Told for (u32, Ids) {
     fn word(&self, alloc: Global, _as_hex: bool) -> Option<String> {
-        let members = listed(alloc, self.1.as_slice(), false)?;
+        let Some(members) = listed(alloc, self.1.as_slice(), false) else {
+            return None;
+        };
         format!(in alloc; "{}[{members}]", self.0).ok()
     }
 }
@@ -126,7 +151,9 @@ impl Told for (u32, Ids) {
 // A constant: its number and its value.
 impl Told for Setting {
     fn word(&self, alloc: Global, _as_hex: bool) -> Option<String> {
-        let value = self.value.word(alloc, false)?;
+        let Some(value) = self.value.word(alloc, false) else {
+            return None;
+        };
         format!(in alloc; "{}:{value}", self.id).ok()
     }
 }
@@ -134,8 +161,12 @@ impl Told for Setting {
 // A parameter: its name and its value.
 impl Told for Parameter {
     fn word(&self, alloc: Global, _as_hex: bool) -> Option<String> {
-        let name = String::from_utf8_lossy(alloc, self.name.as_bytes()).ok()?;
-        let value = self.value.word(alloc, false)?;
+        let Ok(name) = String::from_utf8_lossy(alloc, self.name.as_bytes()) else {
+            return None;
+        };
+        let Some(value) = self.value.word(alloc, false) else {
+            return None;
+        };
         format!(in alloc; "'{name}':{value}").ok()
     }
 }
@@ -143,7 +174,9 @@ impl Told for Parameter {
 // A stream: its number and its functions.
 impl Told for SpooledStream {
     fn word(&self, alloc: Global, _as_hex: bool) -> Option<String> {
-        let functions = listed(alloc, self.functions.as_slice(), false)?;
+        let Some(functions) = listed(alloc, self.functions.as_slice(), false) else {
+            return None;
+        };
         format!(in alloc; "{}[{functions}]", self.stream).ok()
     }
 }

@@ -38,8 +38,11 @@ fn play_spool(alloc: Global, begins: &str, lines: &[Line<'_>]) -> Result<Option<
 
 // A spool with room for so many notes.
 fn spool(alloc: Global, begins: &str) -> Option<Spooled> {
-    Spooled::new(
-        alloc,
-        begins.strip_prefix("to a spool of ")?.parse::<u32>().ok()?,
-    )
+    let Some(room) = begins.strip_prefix("to a spool of ") else {
+        return None;
+    };
+    match room.parse::<u32>() {
+        Ok(room) => Spooled::new(alloc, room),
+        Err(_) => None,
+    }
 }

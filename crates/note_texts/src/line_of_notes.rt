@@ -9,12 +9,12 @@
 //! the first five; and `spool` how full the spool is and how it is emptied, how many notes it has, how many came, and the
 //! oldest.
 
-use crate::spooled::{add_count, add_note, kind, middle, number, small};
+use crate::spooled::{add_count, add_note, bytes_at, kind, number};
 use anyhow::{Result, bail};
 use hsms_frame::Bytes;
-use note_line::{Around, Fate, MOST_TEXT, NoteLine, SpooledKinds};
+use note_line::{Around, Fate, MOST_TEXT, Note, NoteLine, SpooledKinds};
 use std::alloc::Global;
-use test_lines::{Subject, bytes, words};
+use test_lines::{Subject, words};
 
 /// The line of notes, and what lies around it.
 #[derive(Drop)]
@@ -44,7 +44,9 @@ impl LineOfNotes {
 
 impl Subject for LineOfNotes {
     fn answer(&mut self, alloc: Global, said: &str) -> Result<String> {
-        let words = words(alloc, said)?;
+        let Ok(words) = words(alloc, said) else {
+            bail!("there is no memory");
+        };
         let mut answer = String::new(alloc);
         match say(alloc, self, words.as_slice(), &mut answer) {
             Some(()) => Ok(answer),
@@ -55,18 +57,23 @@ impl Subject for LineOfNotes {
 
 // Says the words of a line; the answer. None where they say nothing.
 fn say(alloc: Global, of: &mut LineOfNotes, words: &[&str], answer: &mut String) -> Option<()> {
-    match *words.first()? {
-        "around" => lie(&mut of.around, words),
-        "add" => add(alloc, &mut of.line, words),
-        _ => turn(alloc, &mut of.line, of.around, words, answer),
+    match words.first() {
+        Some(word) => turn(alloc, of, word, words, answer),
+        None => None,
     }
 }
 
 // What lies around the line.
 fn lie(around: &mut Around, words: &[&str]) -> Option<()> {
-    let communicates = truth(words, 1)?;
-    let overwrites = truth(words, 2)?;
-    let most_sent = middle(words, 3)?;
+    let Some(communicates) = number::<bool>(words, 1) else {
+        return None;
+    };
+    let Some(overwrites) = number::<bool>(words, 2) else {
+        return None;
+    };
+    let Some(most_sent) = number::<u32>(words, 3) else {
+        return None;
+    };
     *around = Around {
         communicates,
         overwrites,
@@ -75,33 +82,42 @@ fn lie(around: &mut Around, words: &[&str]) -> Option<()> {
     Some(())
 }
 
-fn truth(words: &[&str], place: usize) -> Option<bool> {
-    match *words.get(place)? {
-        "true" => Some(true),
-        "false" => Some(false),
-        _ => None,
-    }
-}
-
 // The text of a note, by the words of a line behind its kind and id: bytes, or so many times these bytes.
 fn text(alloc: Global, words: &[&str]) -> Option<Vec<u8>> {
     if words.len() < 6 {
-        return bytes(alloc, words.get(3)?).ok();
+        return bytes_at(alloc, words, 3);
     }
-    let count = number(words, 3)?;
-    let once = bytes(alloc, words.get(5)?).ok()?;
+    let Some(count) = number::<u64>(words, 3) else {
+        return None;
+    };
+    match bytes_at(alloc, words, 5) {
+        Some(once) => repeated(alloc, count, once.as_slice()),
+        None => None,
+    }
+}
+
+// So many times these bytes.
+fn repeated(alloc: Global, count: u64, once: &[u8]) -> Option<Vec<u8>> {
     let mut text = Vec::new(alloc);
     for _ in 0..count {
-        text.extend_from_slice(once.as_slice()).ok()?;
+        let Ok(()) = text.extend_from_slice(once) else {
+            return None;
+        };
     }
     Some(text)
 }
 
 // Adds a note, whose text is no longer than any may be.
 fn add(alloc: Global, line: &mut NoteLine, words: &[&str]) -> Option<()> {
-    let kind = kind(words, 1)?;
-    let id = middle(words, 2)?;
-    let text = text(alloc, words)?;
+    let Some(kind) = kind(words, 1) else {
+        return None;
+    };
+    let Some(id) = number::<u32>(words, 2) else {
+        return None;
+    };
+    let Some(text) = text(alloc, words) else {
+        return None;
+    };
     if text.len() > MOST_TEXT {
         return None;
     }
@@ -111,18 +127,21 @@ fn add(alloc: Global, line: &mut NoteLine, words: &[&str]) -> Option<()> {
 // What becomes of notes.
 fn turn(
     alloc: Global,
-    line: &mut NoteLine,
-    around: Around,
+    of: &mut LineOfNotes,
+    word: &str,
     words: &[&str],
     answer: &mut String,
 ) -> Option<()> {
-    match *words.first()? {
-        "fire" => add_row(answer, fire(line, around)),
-        "rows" => fire_all(answer, line, around),
-        "ask" => ask(answer, line, around, small(words, 1)?),
-        "row" => add_row(answer, line.row_for(around).unwrap_or(0)),
-        "answer" | "drop" | "purge" | "fail" | "spool_kinds" => change(line, around, words),
-        _ => show(alloc, line, words, answer),
+    match word {
+        "around" => lie(&mut of.around, words),
+        "add" => add(alloc, &mut of.line, words),
+        "fire" => add_row(answer, fire(&mut of.line, of.around)),
+        "rows" => fire_all(answer, &mut of.line, of.around),
+        "row" => add_row(answer, of.line.row_for(of.around).unwrap_or(0)),
+        "ask" => ask(answer, &mut of.line, of.around, words),
+        "spool_kinds" => set_kinds(&mut of.line, words),
+        "answer" | "drop" | "purge" | "fail" => change(&mut of.line, of.around, word),
+        _ => show(alloc, &of.line, word, words, answer),
     }
 }
 
@@ -156,50 +175,95 @@ fn fire_all(answer: &mut String, line: &mut NoteLine, around: Around) -> Option<
             break;
         }
         if !answer.is_empty() {
-            answer.push(' ').ok()?;
+            let Ok(()) = answer.push(' ') else {
+                return None;
+            };
         }
-        add_row(answer, row)?;
+        if add_row(answer, row).is_none() {
+            return None;
+        }
     }
     Some(())
 }
 
-fn ask(answer: &mut String, line: &mut NoteLine, around: Around, rsdc: u8) -> Option<()> {
+fn ask(answer: &mut String, line: &mut NoteLine, around: Around, words: &[&str]) -> Option<()> {
+    let Some(rsdc) = number::<u8>(words, 1) else {
+        return None;
+    };
     if rsdc > 1 {
         return None;
     }
     add_count(answer, u64::from(line.begin_unload(rsdc, around)))
 }
 
-fn change(line: &mut NoteLine, around: Around, words: &[&str]) -> Option<()> {
-    match *words.first()? {
+fn set_kinds(line: &mut NoteLine, words: &[&str]) -> Option<()> {
+    let Some(events) = number::<bool>(words, 1) else {
+        return None;
+    };
+    let Some(alarms) = number::<bool>(words, 2) else {
+        return None;
+    };
+    line.set_kinds(SpooledKinds { events, alarms });
+    Some(())
+}
+
+fn change(line: &mut NoteLine, around: Around, word: &str) -> Option<()> {
+    match word {
         "answer" => line.answer_open(),
         "drop" => line.drop_head(),
         "purge" => line.purge_oldest(),
-        "fail" => line.fail_open(around),
-        _ => {
-            let events = truth(words, 1)?;
-            let alarms = truth(words, 2)?;
-            line.set_kinds(SpooledKinds { events, alarms });
-        }
+        _ => line.fail_open(around),
     }
     Some(())
 }
 
 // What the line says of itself.
-fn show(alloc: Global, line: &NoteLine, words: &[&str], answer: &mut String) -> Option<()> {
-    match *words.first()? {
+fn show(
+    alloc: Global,
+    line: &NoteLine,
+    word: &str,
+    words: &[&str],
+    answer: &mut String,
+) -> Option<()> {
+    match word {
         "open" => add_note(alloc, answer, line.open_note()),
         "head" => add_note(alloc, answer, line.head()),
         "oldest" => add_note(alloc, answer, line.oldest()),
-        "head_bytes" => add_count(answer, line.head()?.text.as_slice().len() as u64),
+        "head_bytes" => add_length(answer, line.head()),
+        "fate" => add_fate_of(answer, line, number::<u64>(words, 1)),
+        "fates" => add_fates(answer, line, number::<u8>(words, 1)),
+        "spool" => add_spool(alloc, answer, line),
+        _ => count(line, word, answer),
+    }
+}
+
+// The numbers that the line tells.
+fn count(line: &NoteLine, word: &str, answer: &mut String) -> Option<()> {
+    match word {
         "next_number" => add_count(answer, line.next_number()),
         "waiting" => add_count(answer, line.waiting_len() as u64),
-        "fate" => add_fate(answer, line.fate(number(words, 1)?)),
-        "fates" => add_fates(answer, line, small(words, 1)?),
         "rsda" => add_count(answer, u64::from(line.rsda())),
-        "kinds" => write!(answer, "{} {}", line.kinds().events, line.kinds().alarms).ok(),
-        "spool" => add_spool(alloc, answer, line),
+        "kinds" => add_kinds(answer, line.kinds()),
         _ => None,
+    }
+}
+
+fn add_kinds(answer: &mut String, kinds: SpooledKinds) -> Option<()> {
+    write!(answer, "{} {}", kinds.events, kinds.alarms).ok()
+}
+
+// How many bytes the text of a note has.
+fn add_length(answer: &mut String, found: Option<&Note>) -> Option<()> {
+    match found {
+        Some(note) => add_count(answer, note.text.as_slice().len() as u64),
+        None => None,
+    }
+}
+
+fn add_fate_of(answer: &mut String, line: &NoteLine, number: Option<u64>) -> Option<()> {
+    match number {
+        Some(number) => add_fate(answer, line.fate(number)),
+        None => None,
     }
 }
 
@@ -211,12 +275,19 @@ fn add_fate(answer: &mut String, fate: Option<Fate>) -> Option<()> {
 }
 
 // What became of so many notes, from the first on.
-fn add_fates(answer: &mut String, line: &NoteLine, count: u8) -> Option<()> {
+fn add_fates(answer: &mut String, line: &NoteLine, count: Option<u8>) -> Option<()> {
+    let Some(count) = count else {
+        return None;
+    };
     for before in 0..count {
         if before > 0 {
-            answer.push(' ').ok()?;
+            let Ok(()) = answer.push(' ') else {
+                return None;
+            };
         }
-        add_fate(answer, line.fate(u64::from(before) + 1))?;
+        if add_fate(answer, line.fate(u64::from(before) + 1)).is_none() {
+            return None;
+        }
     }
     Some(())
 }
@@ -226,6 +297,8 @@ fn add_spool(alloc: Global, answer: &mut String, line: &NoteLine) -> Option<()> 
     let unload = line.unload();
     let len = line.spooled_len();
     let total = line.spooled_total();
-    write!(answer, "{load:?} {unload:?} {len} of {total}, oldest ").ok()?;
+    let Ok(()) = write!(answer, "{load:?} {unload:?} {len} of {total}, oldest ") else {
+        return None;
+    };
     add_note(alloc, answer, line.oldest())
 }

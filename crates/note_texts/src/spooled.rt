@@ -12,6 +12,7 @@ use anyhow::{Result, bail};
 use hsms_frame::Bytes;
 use spool::{Kind, Note, Pushed, Spool};
 use std::alloc::Global;
+use std::str::FromStr;
 use test_lines::{Subject, bytes, words};
 
 /// A spool.
@@ -35,7 +36,9 @@ impl Spooled {
 
 impl Subject for Spooled {
     fn answer(&mut self, alloc: Global, said: &str) -> Result<String> {
-        let words = words(alloc, said)?;
+        let Ok(words) = words(alloc, said) else {
+            bail!("there is no memory");
+        };
         let mut answer = String::new(alloc);
         match say(alloc, &mut self.spool, words.as_slice(), &mut answer) {
             Some(()) => Ok(answer),
@@ -46,43 +49,55 @@ impl Subject for Spooled {
 
 // Says the words of a line to the spool; the answer. None where they say nothing.
 fn say(alloc: Global, spool: &mut Spool, words: &[&str], answer: &mut String) -> Option<()> {
-    match *words.first()? {
-        "push" | "put" => add_dropped(answer, pushed(alloc, spool, words)?),
-        "next" => add_note(alloc, answer, spool.next().as_ref()),
-        "purge" => add_note(alloc, answer, spool.purge_one().as_ref()),
-        "fire" => write!(answer, "{}", spool.fire(small(words, 1)?)).ok(),
+    let Some(word) = words.first() else {
+        return None;
+    };
+    match *word {
+        "push" | "put" => push(alloc, spool, *word == "push", words, answer),
+        "next" => add_taken(alloc, answer, spool.next()),
+        "purge" => add_taken(alloc, answer, spool.purge_one()),
+        "fire" => fire(spool, words, answer),
         "ask" => ask(spool, words, answer),
-        _ => show(alloc, spool, words, answer),
+        word => show(alloc, spool, word, answer),
     }
 }
 
-// The number at a place of a line.
-pub(crate) fn number(words: &[&str], place: usize) -> Option<u64> {
-    words.get(place)?.parse::<u64>().ok()
-}
-
-// The number below 256 at a place of a line.
-pub(crate) fn small(words: &[&str], place: usize) -> Option<u8> {
-    words.get(place)?.parse::<u8>().ok()
-}
-
-// The number of 32 bits at a place of a line.
-pub(crate) fn middle(words: &[&str], place: usize) -> Option<u32> {
-    words.get(place)?.parse::<u32>().ok()
+// The number, or the truth, at a place of a line.
+pub(crate) fn number<N: FromStr + Drop>(words: &[&str], place: usize) -> Option<N>
+where
+    <N as FromStr>::Err: Drop,
+{
+    let Some(word) = words.get(place) else {
+        return None;
+    };
+    word.parse::<N>().ok()
 }
 
 // The kind of a note, by the word at a place of a line.
 pub(crate) fn kind(words: &[&str], place: usize) -> Option<Kind> {
-    match *words.get(place)? {
+    let Some(word) = words.get(place) else {
+        return None;
+    };
+    match *word {
         "event" => Some(Kind::Event),
         "alarm" => Some(Kind::Alarm),
         _ => None,
     }
 }
 
+// The bytes at a place of a line.
+pub(crate) fn bytes_at(alloc: Global, words: &[&str], place: usize) -> Option<Vec<u8>> {
+    match words.get(place) {
+        Some(digits) => bytes(alloc, digits).ok(),
+        None => None,
+    }
+}
+
 // The note that a line tells of.
 fn note(alloc: Global, words: &[&str]) -> Option<Note> {
-    let number = number(words, 1)?;
+    let Some(number) = number::<u64>(words, 1) else {
+        return None;
+    };
     if words.len() < 5 {
         return Some(Note {
             number,
@@ -91,9 +106,15 @@ fn note(alloc: Global, words: &[&str]) -> Option<Note> {
             text: Bytes::from_vec(Vec::new(alloc)),
         });
     }
-    let kind = kind(words, 2)?;
-    let id = middle(words, 3)?;
-    let text = bytes(alloc, words.get(4)?).ok()?;
+    let Some(kind) = kind(words, 2) else {
+        return None;
+    };
+    let Some(id) = number::<u32>(words, 3) else {
+        return None;
+    };
+    let Some(text) = bytes_at(alloc, words, 4) else {
+        return None;
+    };
     Some(Note {
         number,
         kind,
@@ -102,18 +123,27 @@ fn note(alloc: Global, words: &[&str]) -> Option<Note> {
     })
 }
 
-// What becomes of a note that a line puts to the rear or back to the front, where a full spool may be overwritten.
-fn pushed(alloc: Global, spool: &mut Spool, words: &[&str]) -> Option<Pushed> {
-    let note = note(alloc, words)?;
+// Puts a note to the rear or back to the front; which note was dropped.
+fn push(
+    alloc: Global,
+    spool: &mut Spool,
+    is_rear: bool,
+    words: &[&str],
+    answer: &mut String,
+) -> Option<()> {
+    let Some(note) = note(alloc, words) else {
+        return None;
+    };
     let is_over = matches!(words.last(), Some(&"over"));
-    match words.first() {
-        Some(&"push") => Some(spool.push(note, is_over)),
-        _ => Some(spool.put_back(note, is_over)),
-    }
+    let pushed = if is_rear {
+        spool.push(note, is_over)
+    } else {
+        spool.put_back(note, is_over)
+    };
+    add_dropped(answer, &pushed)
 }
 
-// Which note was dropped.
-fn add_dropped(answer: &mut String, pushed: Pushed) -> Option<()> {
+fn add_dropped(answer: &mut String, pushed: &Pushed) -> Option<()> {
     match pushed {
         Pushed::Kept => answer.push_str("all kept").ok(),
         Pushed::DroppedOldest(note) => write!(answer, "oldest {} dropped", note.number).ok(),
@@ -121,12 +151,26 @@ fn add_dropped(answer: &mut String, pushed: Pushed) -> Option<()> {
     }
 }
 
+// Whether a row fires.
+fn fire(spool: &mut Spool, words: &[&str], answer: &mut String) -> Option<()> {
+    let Some(row) = number::<u8>(words, 1) else {
+        return None;
+    };
+    write!(answer, "{}", spool.fire(row)).ok()
+}
+
+fn add_taken(alloc: Global, answer: &mut String, taken: Option<Note>) -> Option<()> {
+    add_note(alloc, answer, taken.as_ref())
+}
+
 // The number of a note, and its kind, its id and its text where it has a text.
 pub(crate) fn add_note(alloc: Global, answer: &mut String, found: Option<&Note>) -> Option<()> {
     match found {
         Some(note) if note.text.as_slice().is_empty() => add_count(answer, note.number),
         Some(note) => {
-            let text = hex::encode_upper(alloc, note.text.as_slice()).ok()?;
+            let Ok(text) = hex::encode_upper(alloc, note.text.as_slice()) else {
+                return None;
+            };
             write!(answer, "{} {:?} {} {text}", note.number, note.kind, note.id).ok()
         }
         None => answer.push_str("none").ok(),
@@ -139,17 +183,22 @@ pub(crate) fn add_count(answer: &mut String, count: u64) -> Option<()> {
 
 // What the host asks for: RSDA.
 fn ask(spool: &mut Spool, words: &[&str], answer: &mut String) -> Option<()> {
-    let rsdc = small(words, 1)?;
+    let Some(rsdc) = number::<u8>(words, 1) else {
+        return None;
+    };
     if rsdc > 1 {
         return None;
     }
-    let rsda = spool.begin_unload(rsdc, middle(words, 2)?);
+    let Some(most) = number::<u32>(words, 2) else {
+        return None;
+    };
+    let rsda = spool.begin_unload(rsdc, most);
     add_count(answer, u64::from(rsda))
 }
 
 // What the spool says of itself.
-fn show(alloc: Global, spool: &Spool, words: &[&str], answer: &mut String) -> Option<()> {
-    match *words.first()? {
+fn show(alloc: Global, spool: &Spool, word: &str, answer: &mut String) -> Option<()> {
+    match word {
         "len" => add_count(answer, spool.len() as u64),
         "capacity" => add_count(answer, spool.capacity() as u64),
         "total" => add_count(answer, u64::from(spool.total())),

@@ -71,15 +71,6 @@ pub fn reply_text(alloc: Global, reply: &GemReply) -> Result<Bytes, AllocError>
     text_of(alloc, &item)
 }
 
-/// The text of such a reply that is used up: a reply is dropped here alone.
-pub(crate) fn text_of_reply(alloc: Global, reply: GemReply) -> Result<Bytes, AllocError>
-    requires { HasSendableParts reply }
-    ensures text { IfOk result (λ text. text ≡ plain (reply_body reply)) }
-    ensures short { IfOk result (λ text. length text ≤ 2 ^ 31) }
-{
-    reply_text(alloc, &reply)
-}
-
 /// The text of a reply to a message of carriers and ports.
 pub fn shop_text(alloc: Global, reply: &ShopReply) -> Result<Bytes, AllocError>
     ensures text { IfOk result (λ text. text ≡ plain (shop_reply_body reply.now)) }

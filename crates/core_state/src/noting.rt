@@ -13,7 +13,7 @@ ghost use Rattle.gem_model.specs.State.{State};
 ghost use Rattle.gem_model.specs.Values.{value_of};
 ghost use Rattle.gem_model.specs.Noting.{is_event_reported, event_text, line_with_event, line_behind, noted_as, is_alarm_reported, alcd, text_of_alarm, alarm_line, line_with_alarm, sets_alarm, clears_alarm};
 
-use crate::frames::text_of_reply;
+use crate::frames::reply_text;
 use crate::plant::Plant;
 use crate::values::prints;
 use gem_ids::Text80;
@@ -112,7 +112,7 @@ impl Plant {
     {
         let reports = self.reports_on(alloc, ceid, object, row)?;
         let event = GemReply::S6F11(self.line.next_number(), ceid, reports);
-        let text = text_of_reply(alloc, event)?;
+        let text = reply_text(alloc, &event)?;
         Ok(text)
     }
 
@@ -180,7 +180,7 @@ impl Plant {
         ensures short { IfOk result (λ text. length text ≤ most_text) }
     {
         let code = alcd(self.alarms.is_set(alid));
-        text_of_reply(alloc, GemReply::S5F1(code, alid, text_of_alarm(alid)))
+        reply_text(alloc, &GemReply::S5F1(code, alid, text_of_alarm(alid)))
     }
 
     /// The note of an alarm, by whether it is set, waits behind the others.

@@ -12,7 +12,7 @@ ghost use Rattle.gem_model.specs.Wants.{delay_is_over};
 ghost use Rattle.gem_model.specs.Due.{delay_has_come};
 ghost use Rattle.gem_model.specs.Act.{session_ended};
 
-use crate::frames::text_of_reply;
+use crate::frames::reply_text;
 use crate::noting::RowFiring;
 use crate::plant::Plant;
 use gem_ids::{Moment, Text80};
@@ -47,7 +47,7 @@ fn identity_text(alloc: Global, config: &Config) -> Result<Bytes, AllocError>
     ensures short { IfOk result (λ text. length text ≤ 2 ^ 31) }
 {
     let reply = identity(alloc, config)?;
-    text_of_reply(alloc, reply)
+    reply_text(alloc, &reply)
 }
 
 // The ECID of the time that the tool waits before it asks for communication again.

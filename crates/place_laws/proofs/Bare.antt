@@ -106,7 +106,8 @@ shop-bare f s leaves valid b = record {
   rising = b.rising;
   in_slots = b.in_slots;
   same_ports = b.same_ports ∙ sym leaves.ports;
-  free = b.free; jobless = b.jobless;
+  free = b.free;
+  jobless = b.jobless;
   at_rest = b.at_rest;
 }
 
@@ -168,7 +169,8 @@ module _ (n row : ℕ) where
     rising = rising_changed 0 f.places.given f.substrates b.rising;
     in_slots = b.in_slots ∙ sym (slots_changed f.substrates);
     same_ports = b.same_ports;
-    free = b.free; jobless = b.jobless;
+    free = b.free;
+    jobless = b.jobless;
     at_rest = all_changed (λ (s : Substrate). is_in_process s.states.processing ≡ false) (λ s rest. rest) f.substrates b.at_rest;
   }
 

@@ -64,7 +64,8 @@ taken-bare f port name c b valid found =
       rising = subst (λ (n : ℕ). RiseTo 0 n (filter (is_other cs next apart rising name c found) f.substrates)) (sym (removed_given c.number f.substrates f.places)) (rise_fewer (is_other cs next apart rising name c found) 0 f.places.given f.substrates b.rising);
       in_slots = places_fewer cs next apart rising name c found f.substrates f.places b.carried b.in_slots;
       same_ports = removed_ports c.number f.substrates f.places ∙ b.same_ports ∙ sym (same_count 6 port f.shop);
-      free = b.free; jobless = b.jobless;
+      free = b.free;
+      jobless = b.jobless;
       at_rest = all_filtered (λ (s : Substrate). is_in_process s.states.processing ≡ false) (λ (s : Substrate). is_in_process s.states.processing ≡ false) (is_other cs next apart rising name c found) f.substrates (λ s other rest. rest) b.at_rest;
     }
 

@@ -113,7 +113,8 @@ module _ (s : Floor) (valid : IsFloor s) (c e : Carrier) (port : PortNo) (found 
     at_rest = fill.at_rest;
     below = all_follows (IsBelow k) (IsBelow l) f.substrates (λ t b its slot there. let first = b its slot there in omega (arith, first, less)) fill.below;
     same_ports = fill.same_ports;
-    free = fill.free; jobless = fill.jobless;
+    free = fill.free;
+    jobless = fill.jobless;
   }
 
   -- a carrier of its name is it
@@ -202,7 +203,8 @@ module _ (s : Floor) (valid : IsFloor s) (c e : Carrier) (port : PortNo) (found 
         at_rest = all_pushed (λ (t : Substrate). is_in_process t.states.processing ≡ false) f.substrates (new slot f) fill.at_rest refl;
         below = all_pushed (IsBelow (slot.0 + 1)) f.substrates (new slot f) later.below (λ its other same. let slots : slot ≡ other = cc in let numbers : slot.0 ≡ other.0 = ap (λ (x : SlotNo). x.0) slots in omega (arith, numbers));
         same_ports = fill.same_ports;
-        free = fill.free; jobless = fill.jobless;
+        free = fill.free;
+        jobless = fill.jobless;
       }
 
   -- ---- the slots, one after the other

@@ -128,7 +128,8 @@ module _ (f : ToolFloor) (b : Bare f) (n row : ℕ) (reaches : reaches_verified 
       at_rest = b.at_rest;
       below = all_follows (IsCarried f.shop.carriers) (λ (t : Substrate). t.carrier ≡ c.number → (slot : SlotNo) → t.slot ≡ Slot port slot → slot.0 < 1) f.substrates below_one b.carried;
       same_ports = b.same_ports;
-      free = b.free; jobless = b.jobless;
+      free = b.free;
+      jobless = b.jobless;
     }
 
     abbrev full : ToolFloor
@@ -167,7 +168,8 @@ module _ (f : ToolFloor) (b : Bare f) (n row : ℕ) (reaches : reaches_verified 
       rising = filled.filling.rising;
       in_slots = filled.filling.in_slots;
       same_ports = filled.filling.same_ports;
-      free = filled.filling.free; jobless = filled.filling.jobless;
+      free = filled.filling.free;
+      jobless = filled.filling.jobless;
       at_rest = filled.filling.at_rest;
     }
 

@@ -164,7 +164,9 @@ impl ToolFloor {
         ensures { result ≡ floor_starts x self.now }
     {
         match self.jobs.process().numbered(x.object) {
-            Some(job) => self.jobs.starts_process(x.object, x.row.row, self.sight(job)),
+            Some(job) => self
+                .jobs
+                .starts_process(x.object, x.row.row, self.sight(job)),
             None => false,
         }
     }

@@ -106,7 +106,10 @@ fn is_carrier_here(carrier: &Carrier) -> bool
 {
     carrier.present
         && carrier.states.map.is_verified()
-        && matches!(carrier.states.access, Accessing::NotAccessed | Accessing::InAccess)
+        && matches!(
+            carrier.states.access,
+            Accessing::NotAccessed | Accessing::InAccess
+        )
 }
 
 // Whether the carrier that a material names is here.

@@ -71,7 +71,13 @@ impl ToolFloor {
         ensures { result ≡ done_processing number self.now }
     {
         match self.substrate(number) {
-            Some(substrate) => { if self.is_of_aborting(&substrate) { 4 } else { 3 } }
+            Some(substrate) => {
+                if self.is_of_aborting(&substrate) {
+                    4
+                } else {
+                    3
+                }
+            }
             None => 3,
         }
     }

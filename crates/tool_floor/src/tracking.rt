@@ -11,12 +11,12 @@ ghost use Rattle.tool_floor.specs.Substrates.{is_of};
 ghost use Rattle.tool_floor.specs.Modules.{aligned};
 ghost use Rattle.tool_floor.specs.Jobs.{joined, freed};
 
-use gem_ids::{LocId, SubstrateId};
-use std::alloc::{AllocError, Global};
-use std::marker::Model;
 use crate::members::can_join;
+use gem_ids::{LocId, SubstrateId};
 use process_job::ProcessJob;
 use shop_floor::ShopFloor;
+use std::alloc::{AllocError, Global};
+use std::marker::Model;
 use substrate::{MOST_SUBSTRATES, SubstrateRecord};
 
 /// A substrate of a carrier that is here: its number of registration, which is its own for good; its name; the number of creation of

@@ -51,10 +51,10 @@ without name carriers = filter (λ c. not (has_name name c)) carriers
 abbrev pub no_map : List ℕ
 no_map = 0 ∷ 0 ∷ 0 ∷ 0 ∷ 0 ∷ 0 ∷ 0 ∷ 0 ∷ 0 ∷ 0 ∷ 0 ∷ 0 ∷ 0 ∷ 0 ∷ 0 ∷ 0 ∷ 0 ∷ 0 ∷ 0 ∷ 0 ∷ 0 ∷ 0 ∷ 0 ∷ 0 ∷ 0 ∷ []
 
--- a carrier that is created with this number: nothing came of it yet, and no port is its
+-- a carrier that is created with this number: nothing came of it yet, no port is its, and it isn't marked stopped
 abbrev pub created : ℕ → List ℕ → Carrier
 created number name =
-    record { number = number; name = name; states = first_record; is_read = false; map = no_map; host_map = None; port = None; present = false; bound = false }
+    record { number = number; name = name; states = first_record; is_read = false; map = no_map; host_map = None; port = None; present = false; bound = false; stopped = false }
 
 -- it is behind the others
 abbrev pub with_created : ℕ → List ℕ → List Carrier → List Carrier
@@ -108,6 +108,16 @@ binds c = record c { bound = true }
 -- the host gave the carrier's map
 abbrev pub told_map : List ℕ → Carrier → Carrier
 told_map slots c = record c { host_map = Some slots }
+
+-- ---- process jobs
+
+-- the carrier is marked stopped: a process job of it ended after a STOP or an ABORT (this tool's profile, tables 10 and 14)
+abbrev pub marks : Carrier → Carrier
+marks c = record c { stopped = true }
+
+-- that of a name is, where one is known; all else stays
+abbrev pub marked_stopped : List ℕ → List Carrier → List Carrier
+marked_stopped name carriers = change_named name marks carriers
 
 -- ---- what is said of them
 

@@ -22,7 +22,7 @@ pub data CarrierWant : Type 0 where
   map_of_the_host : CarrierWant
   -- a substrate of it is outside its slot
   substrate_outside : CarrierWant
-  -- no process job names it, and each of its substrates is in its slot or removed; a job of it was not stopped, or was
+  -- no process job names it, and each of its substrates is in its slot or removed; it is not marked stopped, or it is
   quiet : CarrierWant
   quiet_and_stopped : CarrierWant
 
@@ -113,7 +113,7 @@ access_number access.InAccess = 1
 access_number access.Complete = 2
 access_number access.Stopped = 3
 
--- Table 10. While no substrates are built, rows 1 to 3 find nothing that they want.
+-- Table 10. What rows 1 to 3 want is so of substrates and process jobs; a carrier alone doesn't tell it.
 abbrev pub accessing_table : List (CarrierRow Accessing)
 accessing_table =
     by_itself 1 (access.NotAccessed ∷ []) substrate_outside access.InAccess no_more

@@ -10,7 +10,8 @@ use Rattle.carrier.specs.declared.carrier.Carrier.{Carrier}
 abbrev pub is_verified : Carrier → Bool
 is_verified c = c.present && is_id_verified c.states.id
 
--- what a row wants is so of the carrier; while no substrates are built, none is outside its slot, and none came back
+-- What a row wants is so of the carrier itself. What rows 1 to 3 of table 10 want is said of its substrates and of process jobs, so
+-- it stands in the crates that know them: by the carrier alone no substrate is outside its slot, and none came back.
 abbrev pub carrier_wants : CarrierWant → Carrier → Bool
 carrier_wants want.nothing_more c = true
 carrier_wants want.present c = c.present

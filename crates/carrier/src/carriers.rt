@@ -3,7 +3,7 @@
 ghost use Rattle.std.specs.Prelude.{◌≡◌, ◌≤◌, ◌<◌, ◌∷◌, ◌++◌, false, [], length, take, slice_get, option_map, Some, None, Err, IsOk, IfOk, IfErr, IfSome};
 ghost use Rattle.gem_tables.specs.Table.{update_at};
 ghost use Rattle.load_port.specs.Caack.{caack_number};
-ghost use Rattle.carrier.specs.Carriers.{has_name, carrier_named, carrier_numbered, is_known, place_of, change_named, change_numbered, without, with_created, fires_row, starts_row, came_to, directed_to, binds, told_map, read_map, is_absent_at, absent_count, most_carriers, view_of, AreCarriers};
+ghost use Rattle.carrier.specs.Carriers.{has_name, carrier_named, carrier_numbered, is_known, place_of, change_named, change_numbered, without, with_created, fires_row, starts_row, came_to, directed_to, binds, told_map, read_map, marked_stopped, is_absent_at, absent_count, most_carriers, view_of, AreCarriers};
 ghost use Rattle.carrier.specs.Creating.{create_fault};
 ghost use Rattle.carrier.specs.Verdict.{is_carrier_name, view_numbered, bind_carrier_code, bind_code, cancel_bind_code, proceed_code, can_be_stopped, cancel_code, notify_code, cancel_notify_code, word_code, carrier_caack};
 ghost use Rattle.carrier.specs.declared.fault.CarrierFault.{CarrierFault};
@@ -405,6 +405,19 @@ impl Carriers {
         if let Some(carrier) = self.named(id.text()) {
             self.replace(Carrier {
                 host_map: Some(map),
+                ..carrier
+            });
+        }
+    }
+
+    /// The carrier of a name is marked stopped from now on, until it is forgotten: a process job of it ended after a STOP or an
+    /// ABORT (this tool's profile, tables 10 and 14). Where none of the name is known, nothing changes. Takes no memory.
+    pub fn mark_stopped(&mut self, name: Text80)
+        ensures { self.new ≡ marked_stopped name self.old }
+    {
+        if let Some(carrier) = self.named(name) {
+            self.replace(Carrier {
+                stopped: true,
                 ..carrier
             });
         }

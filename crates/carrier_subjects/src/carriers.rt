@@ -65,7 +65,7 @@ impl Subject for KnownCarriers {
             "compare" | "usable" => Ok(format!(in alloc; "{}", compared(words)?)?),
             "create" => self.create(alloc, words),
             "fire" | "map" => changed(alloc, &mut self.carriers, words),
-            "len" | "place" | "name" | "finished" => told(alloc, &self.carriers, words),
+            "len" | "place" | "name" | "finished" | "stopped" => told(alloc, &self.carriers, words),
             "view" | "carrier" => shown(alloc, &self.carriers, words),
             _ => {
                 happens(&mut self.carriers, words)?;
@@ -192,8 +192,13 @@ fn number_at(carriers: &Carriers, place: u8) -> u64 {
     }
 }
 
-// What happens to a carrier: it is bound to a port, comes to one with a map, is forgotten, or the host tells its map.
+// What happens to a carrier: it is bound to a port, comes to one with a map, is forgotten, or the host tells its map; or the
+// one of a text, which need be no carrier's name, is marked stopped.
 fn happens(carriers: &mut Carriers, words: &[&str]) -> Result<()> {
+    if word(words, 0)? == "mark" {
+        carriers.mark_stopped(name(word(words, 1)?)?);
+        return Ok(());
+    }
     let name = carrier(words, 1)?;
     match word(words, 0)? {
         "bind" => {
@@ -211,7 +216,8 @@ fn happens(carriers: &mut Carriers, words: &[&str]) -> Result<()> {
     Ok(())
 }
 
-// How many carriers are known, the place of a carrier, the name at a place, or whether the carrier there is finished.
+// How many carriers are known, the place of a carrier, the name at a place, or whether the carrier there is marked stopped or
+// finished.
 fn told(alloc: Global, carriers: &Carriers, words: &[&str]) -> Result<String> {
     match word(words, 0)? {
         "len" => Ok(format!(in alloc; "{}", carriers.len())?),
@@ -220,6 +226,10 @@ fn told(alloc: Global, carriers: &Carriers, words: &[&str]) -> Result<String> {
             Ok(format!(in alloc; "{place:?}")?)
         }
         "name" => name_of(alloc, carriers.get(small(words, 1)? as usize)),
+        "stopped" => {
+            let carrier = at(carriers, small(words, 1)?)?;
+            Ok(format!(in alloc; "{}", carrier.stopped)?)
+        }
         _ => {
             let carrier = at(carriers, small(words, 1)?)?;
             Ok(format!(in alloc; "{}", carrier.states.is_finished())?)
@@ -263,14 +273,15 @@ fn view_text(alloc: Global, view: &CarrierView) -> Result<String> {
     Ok(format!(in alloc; "{states} {map} {port} {} {}", view.present, view.bound)?)
 }
 
-// The name, the three states, whether the id was read, the map, that of the host, the port, and whether the carrier is
-// present and bound.
+// The name, whether the id was read, the map of the host, the three states, the map, the port, and whether the carrier is
+// present, bound and marked stopped.
 fn carrier_text(alloc: Global, carrier: &Carrier) -> Result<String> {
     let name = name_of(alloc, Some(*carrier))?;
     let read = carrier.is_read;
     let host_map = map_text(alloc, carrier.host_map)?;
     let view = view_text(alloc, &carrier.view())?;
-    Ok(format!(in alloc; "{name} {read} {host_map} {view}")?)
+    let stopped = carrier.stopped;
+    Ok(format!(in alloc; "{name} {read} {host_map} {view} {stopped}")?)
 }
 
 fn map_text(alloc: Global, map: Option<[u8; 25]>) -> Result<String> {

@@ -166,7 +166,12 @@ impl Plant {
                 config.spool_capacity,
                 first_kinds(config.spool_streams),
             )?,
-            floor: ToolFloor::new(alloc, config.ports, config.chambers)?,
+            floor: ToolFloor::new(
+                alloc,
+                config.ports,
+                config.chambers,
+                config.recipes.as_slice(),
+            )?,
             waiting: VecDeque::new(alloc),
         })
     }

@@ -38,7 +38,7 @@ impl Subject for Floor {
         match word(words, 0)? {
             "ask" => Ok(format!(in alloc; "{}", self.ask(words)?)?),
             "fired" => self.tell_fired(alloc),
-            "place" | "come" | "remove" | "fire" | "settle" => {
+            "place" | "come" | "remove" | "fire" | "settle" | "mark" => {
                 self.happens(words)?;
                 nothing(alloc)
             }
@@ -98,7 +98,7 @@ impl Floor {
     // ---- what the equipment does
 
     // A carrier is placed at or removed from a port, and rows fire; it comes, and nothing fires by itself yet; a row
-    // fires at a port, or all do that are ready.
+    // fires at a port, or all do that are ready; a carrier is marked stopped.
     fn happens(&mut self, words: &[&str]) -> Result<()> {
         match word(words, 0)? {
             "place" => {
@@ -108,6 +108,7 @@ impl Floor {
             "come" => self.come(words),
             "remove" => self.remove(small(words, 1)?),
             "fire" => self.fire_at(small(words, 1)?, small(words, 2)?, small(words, 3)?),
+            "mark" => self.mark(word(words, 1)?),
             _ => self.settle(),
         }
     }
@@ -130,6 +131,14 @@ impl Floor {
         self.fire_at(4, port, 5)?;
         self.fire_at(7, port, 6)?;
         self.settle()
+    }
+
+    // ---- what process jobs do
+
+    // The carrier of a name is marked stopped.
+    fn mark(&mut self, name: &str) -> Result<()> {
+        self.floor.mark_stopped(Text80::read(name.as_bytes())?);
+        Ok(())
     }
 
     // ---- what the host asks
@@ -180,11 +189,12 @@ impl Floor {
         Ok(String::from_utf8_lossy(alloc, name.as_bytes())?)
     }
 
-    // Whether a carrier is present or known, a port is ready to unload, or a row starts.
+    // Whether a carrier is present, known or marked stopped, a port is ready to unload, or a row starts.
     fn told(&self, words: &[&str]) -> Result<bool> {
         match word(words, 0)? {
             "present" => Ok(self.is_present(carrier(words, 1)?)),
             "known" => Ok(self.is_known(carrier(words, 1)?)),
+            "stopped" => Ok(self.is_stopped(carrier(words, 1)?)),
             "ready" => Ok(self.floor.is_ready_to_unload(PortNo(small(words, 1)?))),
             "starts" => self.starts(words),
             _ => bail!("it says nothing"),
@@ -200,6 +210,13 @@ impl Floor {
 
     fn is_known(&self, name: CarrierId) -> bool {
         self.floor.carrier_named(name.text()).is_some()
+    }
+
+    fn is_stopped(&self, name: CarrierId) -> bool {
+        match self.floor.carrier_named(name.text()) {
+            Some(carrier) => carrier.stopped,
+            None => false,
+        }
     }
 
     fn starts(&self, words: &[&str]) -> Result<bool> {

@@ -32,7 +32,7 @@ use Rattle.tool_floor.specs.Modules.{number_named}
 use Rattle.robot_moves.specs.Modules.{module_at}
 use Rattle.tool_events.specs.declared.answer.Task.{Task}
 use Rattle.tool_events.specs.declared.answer.Task.TheVariants as task
-use Rattle.tool_floor.specs.Signals.{at_module, at_processed, processed_rows, done_at, done_rows, done_row, closing_at, closing_rows, can_be_lost, lost_at, lost_rows}
+use Rattle.tool_floor.specs.Signals.{at_module, at_processed, processed_rows, done_processing, at_done, done_processed, done_at, done_rows, done_row, closing_at, closing_rows, can_be_lost, lost_at, lost_rows}
 use Rattle.tool_floor.specs.Machines.{floor_starts, creation_rows, is_creation, floor_least, object_name as floor_object}
 use Rattle.tool_floor.proofs.Keeping as keeping
 use Rattle.tool_floor.proofs.Keeping.{AreCreations, creation_not, creation_last, not_table_1, not_table_2, not_table_3}
@@ -179,10 +179,20 @@ processed_are row (task.Place sub to) f = tt
 processed_are row (task.Align sub) f = tt
 processed_are row (task.Process sub recipe) f = at_processed_are row (number_named sub f.places)
 
+at_done_are : (o : Option ℕ) (f : ToolFloor) → AreFloorRows (at_done o f)
+at_done_are None f = tt
+at_done_are (Some n) f = (is_13 n (done_processing n f), tt)
+
+done_processed_are : (what : Task) (f : ToolFloor) → AreFloorRows (done_processed what f)
+done_processed_are (task.Pick sub from) f = tt
+done_processed_are (task.Place sub to) f = tt
+done_processed_are (task.Align sub) f = tt
+done_processed_are (task.Process sub recipe) f = at_done_are (number_named sub f.places) f
+
 done_at_are : (number : ℕ) (m : Option Module) (f : ToolFloor) → AreFloorRows (done_at number m f)
 done_at_are number None f = tt
 done_at_are number (Some Idle) f = tt
-done_at_are number (Some (Busy command fetched)) f = (is_16 number (done_row command.task), processed_are 3 command.task f)
+done_at_are number (Some (Busy command fetched)) f = (is_16 number (done_row command.task), done_processed_are command.task f)
 done_at_are number (Some Down) f = tt
 
 pub done_are : (number : ℕ) (f : ToolFloor) → AreFloorRows (done_rows number f)

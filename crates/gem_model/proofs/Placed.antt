@@ -58,7 +58,7 @@ run_rests g (e ∷ entries) h at run =
     run.2
 
 pub run_at : (c : Config) (entries : List Entry) (h : State) → c.ports ≤ most_ports → Run (opening c) entries h → Rests h
-run_at c entries h few run = run_rests (opening c) entries h (record { placed = opening-stands c.ports c.chambers few; rest = opening-rests c }) run
+run_at c entries h few run = run_rests (opening c) entries h (record { placed = opening-stands c.ports c.chambers c.recipes few; rest = opening-rests c }) run
 
 -- where a history leads
 pub run-placed : (c : Config) (entries : List Entry) (h : State) → c.ports ≤ most_ports → Run (opening c) entries h → Standing h.floor

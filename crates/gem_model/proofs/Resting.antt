@@ -22,7 +22,7 @@ abbrev pub AtRest : State → Type 0
 AtRest g = floor_least g.floor ≡ None
 
 pub opening-rests : (c : Config) → AtRest (opening c)
-opening-rests c = opening_quiet c.ports c.chambers
+opening-rests c = opening_quiet c.ports c.chambers c.recipes
 
 -- a path ends where no row is ready
 path_ends : (g : State) (due fs : List Firing) (h : State) → Path g due fs h → least h ≡ None

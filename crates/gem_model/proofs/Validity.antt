@@ -152,7 +152,7 @@ opening_valid c = record {
   settled = least_is (opening c)
       ∙ ap (λ (x : Option Firing). option_or x (option_or (gives_up (opening c)) (ready_floor (opening c)))) (never _ false _ refl)
       ∙ ap (λ (x : Option Firing). option_or x (ready_floor (opening c))) (never_first (is_attempt (first_control c.control)) _ _ (no_attempt c.control))
-      ∙ opening_quiet c.ports c.chambers;
+      ∙ opening_quiet c.ports c.chambers c.recipes;
   quit = λ _. refl;
   establish = omega arith;
   attempt = omega arith;

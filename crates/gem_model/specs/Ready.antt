@@ -10,6 +10,6 @@ use Rattle.gem_model.specs.State.{State, around}
 abbrev pub ready_line : State → Option Firing
 ready_line g = option_map (firing 3 0) (line.least (around g) g.line)
 
--- tables 4 to 10 and 16: the rows of the load ports, the carriers and the modules
+-- tables 4 to 16: the rows of the floor of the tool
 abbrev pub ready_floor : State → Option Firing
 ready_floor g = floor_least g.floor

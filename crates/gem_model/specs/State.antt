@@ -118,7 +118,7 @@ opening c = record {
   reports = no_reports c.ports c.chambers;
   alarms = no_alarms c.ports c.chambers;
   line = notes.opening c.spool_capacity (first_kinds c.spool_streams);
-  floor = floors.opening c.ports c.chambers;
+  floor = floors.opening c.ports c.chambers c.recipes;
   waiting = [];
 }
 

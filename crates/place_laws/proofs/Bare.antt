@@ -1,5 +1,5 @@
 -- What holds at every moment, without what is said of ports: so it holds also between two direct rows of one input.
-use Rattle.std.proofs.Common.{◌≡◌, ◌≤◌, ℕ, zero, suc, ◌+◌, ◌==◌, Bool, true, false, not, ◌||◌, if◌then◌else◌, List, [], ◌∷◌, ◌++◌, length, map, replicate, min, Option, Some, None, slice_get, refl, sym, ◌∙◌, ap, subst, arith}
+use Rattle.std.proofs.Common.{◌≡◌, ◌≤◌, ℕ, zero, suc, ◌+◌, ◌==◌, Bool, true, false, not, ◌||◌, ◌&&◌, if◌then◌else◌, List, [], ◌∷◌, ◌++◌, length, map, replicate, min, Option, Some, None, slice_get, refl, sym, ◌∙◌, ap, subst, arith}
 use Rattle.std.specs.List.{AllByRecursion, list_any}
 use Rattle.std.proofs.lemmas.Bool.{true≢false, and_parts}
 use Rattle.gem_tables.specs.Table.{Row, is_creation, is_among, row_of, found_starts, may_fire, update_at}
@@ -33,11 +33,21 @@ use Rattle.tool_floor.specs.declared.tracking.Substrate.{Substrate}
 use Rattle.tool_floor.specs.Floor.{ToolFloor, opening, with_shop, with_module, substrate_numbered, change_numbered}
 use Rattle.tool_floor.specs.Kept.{RiseTo}
 use Rattle.tool_floor.specs.Modules.{module_behind, in_state, open_task, transferred, aligned_by, found_move}
-use Rattle.tool_floor.specs.Machines.{substrate_moves, with_moved, substrate_starts, moved_by}
-use Rattle.tool_floor.specs.Substrates.{processes, substrate_wants}
+use Rattle.tool_floor.specs.Machines.{process_machine, control_machine, substrate_moves, with_moved, substrate_starts, moved_by}
+use Rattle.tool_floor.specs.Naming.{processes}
+use Rattle.tool_floor.specs.Wants.{substrate_wants}
+use Rattle.tool_floor.specs.Jobs.{job_of, is_job_so, is_processing, is_stopping, is_aborting, found_sight, is_first_here}
+use Rattle.tool_events.specs.declared.recipes.Recipe.{Recipe}
+use Rattle.process_job.specs.Jobs.{job_numbered}
+use Rattle.process_job.specs.declared.job.ProcessJob.{ProcessJob}
+use Rattle.process_job.specs.declared.record.JobState.{JobState}
+use Rattle.control_job.specs.Jobs.{job_numbered as control_numbered}
+use Rattle.control_job.specs.declared.job.ControlJob.{ControlJob}
+use Rattle.tool_jobs.specs.Jobs.{Jobs}
+use Rattle.tool_jobs.specs.Rows.{process_starts, control_starts}
 use Rattle.tool_floor.specs.Views.{view_in, views_of, views, planned}
 use Rattle.place_laws.specs.Ports.{AtPorts}
-use Rattle.place_laws.specs.Standing.{IsCarried, AreApart, AreRegistered, in_its_slot, IsFree, Standing}
+use Rattle.place_laws.specs.Standing.{IsCarried, AreApart, AreRegistered, in_its_slot, IsFree, Jobless, Standing}
 use Rattle.place_laws.proofs.Leaving.{Leaves}
 use Rattle.place_laws.proofs.PortTransfers.{opening-at-ports}
 use Rattle.place_laws.proofs.Stays.{stay-carried}
@@ -51,13 +61,14 @@ pub record Bare (f : ToolFloor) : Type 0 where
   pub in_slots : f.places.held ≡ map in_its_slot f.substrates
   pub same_ports : f.places.ports ≡ length f.shop.ports
   pub free : AllByRecursion IsFree f.modules
+  pub jobless : Jobless f.jobs
   pub at_rest : AllByRecursion (λ (s : Substrate). is_in_process s.states.processing ≡ false) f.substrates
 
 pub bare : (f : ToolFloor) → Standing f → Bare f
-bare f st = record { shop = st.shop; carried = st.carried; registered = st.registered; apart = st.apart; rising = st.rising; in_slots = st.in_slots; same_ports = st.same_ports; free = st.free; at_rest = st.at_rest }
+bare f st = record { shop = st.shop; carried = st.carried; registered = st.registered; apart = st.apart; rising = st.rising; in_slots = st.in_slots; same_ports = st.same_ports; free = st.free; jobless = st.jobless; at_rest = st.at_rest }
 
 pub whole : (f : ToolFloor) → AtPorts f.shop → Bare f → Standing f
-whole f at b = record { shop = b.shop; ports = at; carried = b.carried; registered = b.registered; apart = b.apart; rising = b.rising; in_slots = b.in_slots; same_ports = b.same_ports; free = b.free; at_rest = b.at_rest }
+whole f at b = record { shop = b.shop; ports = at; carried = b.carried; registered = b.registered; apart = b.apart; rising = b.rising; in_slots = b.in_slots; same_ports = b.same_ports; free = b.free; jobless = b.jobless; at_rest = b.at_rest }
 
 -- ---- the beginning
 
@@ -69,8 +80,8 @@ all_idle : (n : ℕ) → AllByRecursion IsFree (replicate n Idle)
 all_idle zero = tt
 all_idle (suc n) = (tt, all_idle n)
 
-pub opening-stands : (ports chambers : ℕ) → ports ≤ most_ports → Standing (opening ports chambers)
-opening-stands ports chambers few = record {
+pub opening-stands : (ports chambers : ℕ) (recipes : List Recipe) → ports ≤ most_ports → Standing (opening ports chambers recipes)
+opening-stands ports chambers recipes few = record {
   shop = opening-valid ports few;
   ports = opening-at-ports ports;
   carried = tt;
@@ -80,6 +91,7 @@ opening-stands ports chambers few = record {
   in_slots = refl;
   same_ports = sym (first_length ports);
   free = all_idle (2 + min chambers 253);
+  jobless = (refl, refl);
   at_rest = tt;
 }
 
@@ -95,13 +107,14 @@ shop-bare f s leaves valid b = record {
   in_slots = b.in_slots;
   same_ports = b.same_ports ∙ sym leaves.ports;
   free = b.free;
+  jobless = b.jobless;
   at_rest = b.at_rest;
 }
 
 -- ---- locations
 
 pub location-bare : (f : ToolFloor) (locations : List LocationRecord) → Bare f → Bare (record f { locations = locations })
-location-bare f locations b = record { shop = b.shop; carried = b.carried; registered = b.registered; apart = b.apart; rising = b.rising; in_slots = b.in_slots; same_ports = b.same_ports; free = b.free; at_rest = b.at_rest }
+location-bare f locations b = record { shop = b.shop; carried = b.carried; registered = b.registered; apart = b.apart; rising = b.rising; in_slots = b.in_slots; same_ports = b.same_ports; free = b.free; jobless = b.jobless; at_rest = b.at_rest }
 
 -- ---- a substrate changes in its transport
 
@@ -157,6 +170,7 @@ module _ (n row : ℕ) where
     in_slots = b.in_slots ∙ sym (slots_changed f.substrates);
     same_ports = b.same_ports;
     free = b.free;
+    jobless = b.jobless;
     at_rest = all_changed (λ (s : Substrate). is_in_process s.states.processing ≡ false) (λ s rest. rest) f.substrates b.at_rest;
   }
 
@@ -196,9 +210,31 @@ rest_found n (x ∷ xs) s all e = of (x.number == n) e (rest_found n xs s all.1)
   of true f later = let same : x ≡ s = cc in ap (λ (t : Substrate). is_in_process t.states.processing) (sym same) ∙ all.0
   of false f later = later f
 
+-- ---- where no job is kept
+
+-- no substrate is of a process job in any state
+none_so : (test : JobState → Bool) (s : Substrate) (w : Jobs) → Jobless w → is_job_so test (job_of s w) ≡ false
+none_so test s w none = ap (λ (js : List ProcessJob). is_job_so test (job_numbered s.job js)) none.0
+
+-- no row of a process job starts, and none of a control job
+pub no_process : (f : ToolFloor) (row n : ℕ) → Jobless f.jobs → process_machine.starts row n f ≡ true → ⊥
+no_process f row n none e = true≢false (sym e ∙ ap (λ (js : List ProcessJob). process_starts row (job_numbered n js) (found_sight (job_numbered n js) f) f.jobs) none.0)
+
+pub no_control : (f : ToolFloor) (row n : ℕ) → Jobless f.jobs → control_machine.starts row n f ≡ true → ⊥
+no_control f row n none e = true≢false (sym e ∙ ap (λ (js : List ControlJob). control_starts row (control_numbered n js) (is_first_here n f) f.jobs) none.1)
+
 -- a row of table 13 that starts, and isn't that of `lost`, is the row of a registration
 pub processing_one : (f : ToolFloor) (row n : ℕ) → Bare f → (row == 8) ≡ false → substrate_starts processing_number processing_table (λ s. s.processing) row (substrate_numbered n f.substrates) f ≡ true → row ≡ 1
 processing_one f row n b not_lost e = of (substrate_numbered n f.substrates) refl e where
+  neither : (x y z : Bool) → x ≡ false → y ≡ false → ((x || y) && z) ≡ false
+  neither true y z e g = absurd (cc)
+  neither false true z e g = absurd (cc)
+  neither false false z e g = refl
+
+  not_both : (x y : Bool) → y ≡ false → (x && y) ≡ false
+  not_both true y e = e
+  not_both false y e = refl
+
   never : {P : Type 0} (x : Bool) → x ≡ false → x ≡ true → P
   never x isnt is = absurd (let clash : true ≡ false = sym is ∙ isnt in cc)
 
@@ -214,7 +250,7 @@ processing_one f row n b not_lost e = of (substrate_numbered n f.substrates) ref
             (λ among wants other. absurd (still among)),
             (
               (λ among wants other. absurd (still among)),
-              ((λ among wants other. absurd (cc)), ((λ among wants other. absurd (cc)), ((λ among wants other. absurd (cc)), ((λ among wants other. absurd (cc)), tt)))),
+              ((λ among wants other. never _ (neither _ _ _ (none_so is_stopping s f.jobs b.jobless) (none_so is_aborting s f.jobs b.jobless)) wants), ((λ among wants other. never _ (not_both _ _ (none_so is_stopping s f.jobs b.jobless)) wants), ((λ among wants other. never _ (not_both _ _ (none_so is_aborting s f.jobs b.jobless)) wants), ((λ among wants other. absurd (cc)), tt)))),
             ),
           ),
         ),
@@ -222,19 +258,19 @@ processing_one f row n b not_lost e = of (substrate_numbered n f.substrates) ref
 
 -- ---- the rows of modules
 
-at_rest_all : (cs : List Carrier) (all rs : List Substrate) → AllByRecursion (IsCarried cs) rs → AllRest (views_of all (map in_its_slot rs))
-at_rest_all cs all [] carried = tt
-at_rest_all cs all (s ∷ ss) carried = of (substrate_numbered s.number all) (at_rest_all cs all ss carried.1) where
+at_rest_all : (w : Jobs) → Jobless w → (cs : List Carrier) (all rs : List Substrate) → AllByRecursion (IsCarried cs) rs → AllRest (views_of w all (map in_its_slot rs))
+at_rest_all w none cs all [] carried = tt
+at_rest_all w none cs all (s ∷ ss) carried = of (substrate_numbered s.number all) (at_rest_all w none cs all ss carried.1) where
   slot_rests : (l : LocId) → l ≡ Slot carried.0.2.port carried.0.2.slot → is_work_place l ≡ false
   slot_rests l is = ap is_work_place is
 
-  of : (o : Option Substrate) → AllRest (views_of all (map in_its_slot ss)) → AllRest (view_in (in_its_slot s) o ++ views_of all (map in_its_slot ss))
+  of : (o : Option Substrate) → AllRest (views_of w all (map in_its_slot ss)) → AllRest (view_in (in_its_slot s) o w ++ views_of w all (map in_its_slot ss))
   of None rest = rest
-  of (Some t) rest = ((slot_rests s.slot carried.0.2.own, refl), rest)
+  of (Some t) rest = ((slot_rests s.slot carried.0.2.own, none_so is_processing t w none), rest)
 
 -- nothing is to be moved
 pub nothing_planned : (f : ToolFloor) (number : ℕ) → Bare f → planned number f ≡ None
-nothing_planned f number b = nothing_moves number (views f) f.modules (subst (λ (rs : List Registered). AllRest (views_of f.substrates rs)) (sym b.in_slots) (at_rest_all f.shop.carriers f.substrates f.substrates b.carried))
+nothing_planned f number b = nothing_moves number (views f) f.modules (subst (λ (rs : List Registered). AllRest (views_of f.jobs f.substrates rs)) (sym b.in_slots) (at_rest_all f.jobs b.jobless f.shop.carriers f.substrates f.substrates b.carried))
 
 free_at : (n : ℕ) (ms : List ToolModule) → AllByRecursion IsFree ms → open_task (slice_get ms n) ≡ None
 free_at n [] free = refl
@@ -283,5 +319,6 @@ module-bare f row number b = subst Bare (sym (moves_alone f row number b)) (reco
   in_slots = b.in_slots;
   same_ports = b.same_ports;
   free = free_behind row number f.modules b.free;
+  jobless = b.jobless;
   at_rest = b.at_rest;
 })

@@ -29,7 +29,7 @@ use Rattle.place_laws.proofs.Stays.{stay_same, NonePresent}
 use Rattle.place_laws.proofs.Leaving.{Leaves, forgotten_leaves}
 use Rattle.place_laws.proofs.ShopRows.{is_gentle, transfer_leaves, mode_leaves, reservation_leaves, association_leaves, id_leaves, map_leaves, accessing_leaves}
 use Rattle.place_laws.proofs.Removing.{apart_fewer, rise_fewer, removed_ports, removed_given, is_other, carried_fewer, places_fewer, registered_fewer}
-use Rattle.place_laws.proofs.Bare.{Bare, shop-bare, location-bare, transport-bare, processing_one, module-bare}
+use Rattle.place_laws.proofs.Bare.{no_process, no_control, Bare, shop-bare, location-bare, transport-bare, processing_one, module-bare}
 use Rattle.place_laws.proofs.Verifying.{slot-bare}
 
 -- ---- a carrier is forgotten
@@ -65,6 +65,7 @@ taken-bare f port name c b valid found =
       in_slots = places_fewer cs next apart rising name c found f.substrates f.places b.carried b.in_slots;
       same_ports = removed_ports c.number f.substrates f.places ∙ b.same_ports ∙ sym (same_count 6 port f.shop);
       free = b.free;
+      jobless = b.jobless;
       at_rest = all_filtered (λ (s : Substrate). is_in_process s.states.processing ≡ false) (λ (s : Substrate). is_in_process s.states.processing ≡ false) (is_other cs next apart rising name c found) f.substrates (λ s other rest. rest) b.at_rest;
     }
 
@@ -126,7 +127,7 @@ row-bare x f starts kind at b =
                     (λ s kind. location-bare f _ b),
                     (
                       (λ s kind. transport-bare x.object x.row.row f b),
-                      ((λ s kind. processing x.object x.row.row (processing_one f x.row.row x.object b (not_lost x.row.row kind) s)), ((λ s kind. module-bare f x.row.row x.object b), tt)),
+                      ((λ s kind. processing x.object x.row.row (processing_one f x.row.row x.object b (not_lost x.row.row kind) s)), ((λ s kind. absurd (no_process f x.row.row x.object b.jobless s)), ((λ s kind. absurd (no_control f x.row.row x.object b.jobless s)), ((λ s kind. module-bare f x.row.row x.object b), tt)))),
                     ),
                   ),
                 ),

@@ -34,6 +34,7 @@ fetched-stands number f st = record {
   in_slots = st.in_slots;
   same_ports = st.same_ports;
   free = free_fetched number f.modules st.free;
+  jobless = st.jobless;
   at_rest = st.at_rest;
 }
 

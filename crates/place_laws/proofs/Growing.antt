@@ -39,7 +39,7 @@ use Rattle.place_laws.proofs.Appended.{not_last}
 use Rattle.place_laws.proofs.Stays.{at_found}
 use Rattle.place_laws.proofs.Removing.{is_other, places_fewer, own_numbers, removed_given}
 use Rattle.place_laws.proofs.QuietPorts.{quiet_port}
-use Rattle.place_laws.proofs.Bare.{Bare, bare, processing_one, moves_alone}
+use Rattle.place_laws.proofs.Bare.{no_process, no_control, Bare, bare, processing_one, moves_alone}
 use Rattle.place_laws.proofs.BareRows.{takes_none, option_number, row-bare}
 use Rattle.place_laws.proofs.ShopRows.{is_gentle}
 use Rattle.place_laws.proofs.Stands.{is_common}
@@ -156,7 +156,7 @@ module _ (May : ℕ → Type 0) where
                         (λ s kind. grown_same f _ refl),
                         (
                           (λ s kind. processing x.row.row (processing_one f x.row.row x.object b (not_lost x.row.row kind) s)),
-                          ((λ s kind. grown_same f _ (ap (λ (g : ToolFloor). g.places) (moves_alone f x.row.row x.object b))), tt),
+                          ((λ s kind. absurd (no_process f x.row.row x.object b.jobless s)), ((λ s kind. absurd (no_control f x.row.row x.object b.jobless s)), ((λ s kind. grown_same f _ (ap (λ (g : ToolFloor). g.places) (moves_alone f x.row.row x.object b))), tt))),
                         ),
                       ),
                     ),

@@ -22,7 +22,7 @@ use Rattle.tool_floor.specs.declared.tracking.Substrate.{Substrate}
 use Rattle.tool_floor.specs.Floor.{ToolFloor, location_at, substrate_numbered}
 use Rattle.tool_floor.specs.Views.{planned}
 use Rattle.tool_floor.specs.Modules.{move_wants, move_ready}
-use Rattle.tool_floor.specs.Substrates.{accessing_wants, location_wants, substrate_wants}
+use Rattle.tool_floor.specs.Wants.{accessing_wants, location_wants, substrate_wants}
 use Rattle.tool_floor.specs.Machines.{accessing_ready, location_ready, substrate_ready, floor_machines, floor_least}
 use Rattle.tool_floor.proofs.Tables.{least_floor}
 use Rattle.place_laws.proofs.Stands.{is_common}
@@ -80,7 +80,7 @@ module _ (f : ToolFloor) where
                       (λ o r s. location o r (location_at o f.locations) s),
                       (
                         (λ o r s. transport o r (substrate_numbered o f.substrates) s),
-                        ((λ o r s. processing o r (substrate_numbered o f.substrates) s), ((λ o r s. moves o r (planned o f) (module_at o f.modules) s), tt)),
+                        ((λ o r s. processing o r (substrate_numbered o f.substrates) s), ((λ o r s. refl), ((λ o r s. refl), ((λ o r s. moves o r (planned o f) (module_at o f.modules) s), tt)))),
                       ),
                     ),
                   ),

@@ -27,7 +27,7 @@ use Rattle.tool_floor.specs.declared.tracking.Substrate.{Substrate}
 use Rattle.tool_floor.specs.Floor.{ToolFloor, with_shop}
 use Rattle.tool_floor.specs.Kept.{RiseTo}
 use Rattle.tool_floor.specs.Substrates.{can_register, first_substrate, registers_at, registers_slot, registers_slots}
-use Rattle.place_laws.specs.Standing.{IsCarried, AreApart, is_that_of, in_its_slot, IsFree}
+use Rattle.place_laws.specs.Standing.{Jobless, IsCarried, AreApart, is_that_of, in_its_slot, IsFree}
 use Rattle.place_laws.proofs.Holding.{found_number, true_of_found}
 use Rattle.place_laws.proofs.Few.{few-substrates}
 use Rattle.place_laws.proofs.SlotNames.{slot_of_name}
@@ -102,6 +102,7 @@ module _ (s : Floor) (valid : IsFloor s) (c e : Carrier) (port : PortNo) (found 
     pub below : AllByRecursion (IsBelow k) f.substrates
     pub same_ports : f.places.ports ≡ length s.ports
     pub free : AllByRecursion IsFree f.modules
+    pub jobless : Jobless f.jobs
 
   higher : (k l : ℕ) (f : ToolFloor) → k ≤ l → Filling k f → Filling l f
   higher k l f less fill = record {
@@ -113,6 +114,7 @@ module _ (s : Floor) (valid : IsFloor s) (c e : Carrier) (port : PortNo) (found 
     below = all_follows (IsBelow k) (IsBelow l) f.substrates (λ t b its slot there. let first = b its slot there in omega (arith, first, less)) fill.below;
     same_ports = fill.same_ports;
     free = fill.free;
+    jobless = fill.jobless;
   }
 
   -- a carrier of its name is it
@@ -202,6 +204,7 @@ module _ (s : Floor) (valid : IsFloor s) (c e : Carrier) (port : PortNo) (found 
         below = all_pushed (IsBelow (slot.0 + 1)) f.substrates (new slot f) later.below (λ its other same. let slots : slot ≡ other = cc in let numbers : slot.0 ≡ other.0 = ap (λ (x : SlotNo). x.0) slots in omega (arith, numbers));
         same_ports = fill.same_ports;
         free = fill.free;
+        jobless = fill.jobless;
       }
 
   -- ---- the slots, one after the other

@@ -27,7 +27,7 @@ use Rattle.place_laws.specs.Standing.{Standing}
 use Rattle.place_laws.proofs.Stays.{NonePresent}
 use Rattle.place_laws.proofs.Leaving.{leaves_then, port_leaves}
 use Rattle.place_laws.proofs.ShopRows.{transfer_leaves}
-use Rattle.place_laws.proofs.Bare.{Bare, bare, whole, shop-bare, processing_one, moves_alone}
+use Rattle.place_laws.proofs.Bare.{no_process, no_control, Bare, bare, whole, shop-bare, processing_one, moves_alone}
 use Rattle.place_laws.proofs.BareRows.{is_kept_alone, row-bare, removal-bare, unbinding-bare}
 use Rattle.place_laws.proofs.PortsKept.{is_plain_row, row-at-ports, forgetting-at-ports, carrier-at-ports, states_left}
 use Rattle.place_laws.proofs.PortPlacing.{placing-at-ports}
@@ -63,7 +63,7 @@ ports_of x f starts common b at =
                       (λ s kind. at),
                       (
                         (λ s kind. of_processing (processing_one f x.row.row x.object b (not_lost x.row.row kind) s)),
-                        ((λ s kind. subst (λ (g : ToolFloor). AtPorts g.shop) (sym (moves_alone f x.row.row x.object b)) at), tt),
+                        ((λ s kind. absurd (no_process f x.row.row x.object b.jobless s)), ((λ s kind. absurd (no_control f x.row.row x.object b.jobless s)), ((λ s kind. subst (λ (g : ToolFloor). AtPorts g.shop) (sym (moves_alone f x.row.row x.object b)) at), tt))),
                       ),
                     ),
                   ),

@@ -17,7 +17,8 @@ use Rattle.tool_floor.specs.declared.tracking.Substrate.{Substrate}
 use Rattle.tool_floor.specs.Floor.{ToolFloor, substrate_numbered, number_of}
 use Rattle.tool_floor.specs.Modules.{number_named}
 use Rattle.tool_floor.specs.Substrates.{is_in_slot}
-use Rattle.tool_floor.specs.Signals.{can_be_lost, module_names, lost_at, lost_rows}
+use Rattle.tool_floor.specs.Signals.{can_be_lost, lost_at, lost_rows}
+use Rattle.tool_floor.specs.Naming.{module_names}
 use Rattle.place_laws.specs.Standing.{IsCarried, in_its_slot, Standing}
 use Rattle.place_laws.proofs.Holding.{true_of_found}
 use Rattle.place_laws.proofs.SlotNames.{slot_of_name}

@@ -129,6 +129,7 @@ module _ (f : ToolFloor) (b : Bare f) (n row : ℕ) (reaches : reaches_verified 
       below = all_follows (IsCarried f.shop.carriers) (λ (t : Substrate). t.carrier ≡ c.number → (slot : SlotNo) → t.slot ≡ Slot port slot → slot.0 < 1) f.substrates below_one b.carried;
       same_ports = b.same_ports;
       free = b.free;
+      jobless = b.jobless;
     }
 
     abbrev full : ToolFloor
@@ -168,6 +169,7 @@ module _ (f : ToolFloor) (b : Bare f) (n row : ℕ) (reaches : reaches_verified 
       in_slots = filled.filling.in_slots;
       same_ports = filled.filling.same_ports;
       free = filled.filling.free;
+      jobless = filled.filling.jobless;
       at_rest = filled.filling.at_rest;
     }
 

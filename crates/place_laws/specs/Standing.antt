@@ -19,6 +19,7 @@ use Rattle.substrate.specs.Locations.{is_same}
 use Rattle.substrate.specs.Record.{is_in_process}
 use Rattle.substrate.specs.declared.registered.Registered.{Registered}
 use Rattle.tool_floor.specs.declared.tracking.Substrate.{Substrate}
+use Rattle.tool_jobs.specs.Jobs.{Jobs}
 use Rattle.tool_floor.specs.Floor.{ToolFloor}
 use Rattle.tool_floor.specs.Kept.{RiseTo}
 use Rattle.place_laws.specs.Ports.{AtPorts}
@@ -81,6 +82,12 @@ abbrev pub IsFree : Module → Type 0
 IsFree (Busy command fetched) = ⊥
 IsFree _ = Unit {0}
 
+-- ---- jobs
+
+-- no job is kept: none can be created yet
+abbrev pub Jobless : Jobs → Type 0
+Jobless w = (w.process.kept ≡ []) × (w.control.jobs ≡ [])
+
 -- ---- all of it
 
 pub record Standing (f : ToolFloor) : Type 0 where
@@ -93,4 +100,5 @@ pub record Standing (f : ToolFloor) : Type 0 where
   pub in_slots : f.places.held ≡ map in_its_slot f.substrates
   pub same_ports : f.places.ports ≡ length f.shop.ports
   pub free : AllByRecursion IsFree f.modules
+  pub jobless : Jobless f.jobs
   pub at_rest : AllByRecursion (λ (s : Substrate). is_in_process s.states.processing ≡ false) f.substrates

@@ -2,6 +2,7 @@
 use Rattle.std.proofs.Common.{◌≡◌, ℕ, zero, suc, ◌+◌, ◌==◌, ◌≤◌, ◌<◌, Bool, true, false, true≢false, cond, not, ◌||◌, List, [], ◌∷◌, ◌++◌, length, remove, Option, Some, None, is_some, slice_get, refl, ap, ◌∙◌, subst, arith}
 use Rattle.std.proofs.lemmas.Bool.Decides.{nat_tests}
 use Rattle.gem_tables.specs.Table.{update_at}
+use Rattle.tool_events.specs.declared.recipes.Recipe.{Recipe}
 use Rattle.process_job.specs.Jobs.{has_name, job_named, is_known, job_numbered, fires_row, are_named_apart, AreNumbered, AreJobs, most_jobs}
 use Rattle.process_job.specs.Kept.{book_of}
 use Rattle.process_job.specs.declared.job.ProcessJob.{ProcessJob}
@@ -118,7 +119,7 @@ length_more : (k : ProcessJob) (js : List ProcessJob) → length (js ++ k ∷ []
 length_more k [] = refl
 length_more k (j ∷ js) = ap suc (length_more k js)
 
-pub jobs_more : (k : ProcessJob) (js : List ProcessJob) (recipes : List (List ℕ)) (given : ℕ) → AreJobs (book_of js recipes given) → k.number ≡ given + 1 → is_known k.id js ≡ false → length js < most_jobs → AreJobs (book_of (js ++ k ∷ []) recipes (given + 1))
+pub jobs_more : (k : ProcessJob) (js : List ProcessJob) (recipes : List Recipe) (given : ℕ) → AreJobs (book_of js recipes given) → k.number ≡ given + 1 → is_known k.id js ≡ false → length js < most_jobs → AreJobs (book_of (js ++ k ∷ []) recipes (given + 1))
 jobs_more k js recipes given h n e l =
     let longer = length_more k js in
     record { apart = apart_more k js h.apart e; numbered = numbered_more 0 given k js h.numbered n; few = omega (arith, longer, l) }
@@ -145,7 +146,7 @@ length_update row place [] = refl
 length_update row zero (j ∷ js) = refl
 length_update row (suc place) (j ∷ js) = ap suc (length_update row place js)
 
-pub jobs_update : (row place : ℕ) (js : List ProcessJob) (recipes : List (List ℕ)) (given : ℕ) → AreJobs (book_of js recipes given) → AreJobs (book_of (update_at place (fires_row row) js) recipes given)
+pub jobs_update : (row place : ℕ) (js : List ProcessJob) (recipes : List Recipe) (given : ℕ) → AreJobs (book_of js recipes given) → AreJobs (book_of (update_at place (fires_row row) js) recipes given)
 jobs_update row place js recipes given h =
     let same = length_update row place js in
     let few = h.few in
@@ -183,12 +184,12 @@ length_fewer (j ∷ js) (suc place) =
     let longer : length (remove (j ∷ js) (suc place)) ≡ suc (length (remove js place)) = refl in
     omega (arith, rest, longer)
 
-pub jobs_fewer : (js : List ProcessJob) (place : ℕ) (recipes : List (List ℕ)) (given : ℕ) → AreJobs (book_of js recipes given) → AreJobs (book_of (remove js place) recipes given)
+pub jobs_fewer : (js : List ProcessJob) (place : ℕ) (recipes : List Recipe) (given : ℕ) → AreJobs (book_of js recipes given) → AreJobs (book_of (remove js place) recipes given)
 jobs_fewer js place recipes given h =
     let shorter = length_fewer js place in
     let few = h.few in
     record { apart = apart_fewer js place h.apart; numbered = numbered_fewer 0 given js place h.numbered; few = omega (arith, shorter, few) }
 
 -- there are none
-pub jobs_none : (recipes : List (List ℕ)) → AreJobs (book_of [] recipes 0)
+pub jobs_none : (recipes : List Recipe) → AreJobs (book_of [] recipes 0)
 jobs_none recipes = record { apart = refl; numbered = omega arith; few = omega arith }

@@ -2,6 +2,7 @@
 use Rattle.std.specs.Prelude.{ℕ, nat_lt, nat_le, Bool, true, false, not, ◌&&◌, if◌then◌else◌, List, [], ◌∷◌, length, Option, Some, None}
 use Rattle.std.specs.List.{list_any, list_all}
 use Rattle.std.specs.Str.{bytes_eq}
+use Rattle.tool_events.specs.declared.recipes.Recipe.{Recipe}
 use Rattle.process_job.specs.Jobs.{JobBook, is_known, most_jobs}
 use Rattle.process_job.specs.declared.job.JobSpec.{JobSpec}
 use Rattle.process_job.specs.declared.job.Material.{Material}
@@ -9,8 +10,8 @@ use Rattle.process_job.specs.declared.fault.JobFault.{JobFault}
 use Rattle.process_job.specs.declared.fault.JobFault.TheVariants.{NameTaken, NoRecipe, NoMaterial, NoSpace}
 
 -- a recipe of the tool has this name
-abbrev pub is_recipe : List ℕ → List (List ℕ) → Bool
-is_recipe name recipes = list_any (λ r. bytes_eq r name) recipes
+abbrev pub is_recipe : List ℕ → List Recipe → Bool
+is_recipe name recipes = list_any (λ r. bytes_eq r.name name) recipes
 
 -- a number is that of a slot: 1 to 25
 abbrev pub is_slot : ℕ → Bool

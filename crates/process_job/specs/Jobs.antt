@@ -2,20 +2,25 @@
 use Rattle.std.specs.Prelude.{◌≡◌, ℕ, ◌+◌, ◌==◌, ◌≤◌, ◌<◌, ◌-◌, Bool, true, false, not, ◌&&◌, if◌then◌else◌, List, [], ◌∷◌, ◌++◌, length, find, Option, Some, None}
 use Rattle.std.specs.List.{list_any}
 use Rattle.std.specs.Str.{bytes_eq}
+use Rattle.tool_events.specs.declared.recipes.Recipe.{Recipe}
 use Rattle.process_job.specs.Record.{first_record, job_starts, job_fired}
 use Rattle.process_job.specs.declared.job.JobSpec.{JobSpec}
 use Rattle.process_job.specs.declared.job.ProcessJob.{ProcessJob}
 
--- The jobs of a tool: those that are kept, in the order in which they were created; the names of the tool's recipes; and the last
+-- The jobs of a tool: those that are kept, in the order in which they were created; the tool's recipes; and the last
 -- number of creation that was given, 0 where none was.
 pub record JobBook : Type 0 where
   pub kept : List ProcessJob
-  pub recipes : List (List ℕ)
+  pub recipes : List Recipe
   pub given : ℕ
 
 -- no job is kept, and none was
-abbrev pub no_jobs : List (List ℕ) → JobBook
+abbrev pub no_jobs : List Recipe → JobBook
 no_jobs recipes = record { kept = []; recipes = recipes; given = 0 }
+
+-- the recipe of a name
+abbrev pub recipe_named : List ℕ → List Recipe → Option Recipe
+recipe_named name recipes = find (λ r. bytes_eq r.name name) recipes
 
 -- ---- jobs
 

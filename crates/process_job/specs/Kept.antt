@@ -1,6 +1,7 @@
 -- How the process jobs are kept.
 use Rattle.std.specs.Prelude.{◌≡◌, ℕ, List, map}
 use Rattle.std.specs.List.{AllByRecursion}
+use Rattle.tool_events.specs.declared.recipes.Recipe.{Recipe}
 use Rattle.process_job.specs.Jobs.{JobBook}
 use Rattle.process_job.specs.declared.job.ProcessJob.{ProcessJob}
 use Rattle.process_job.specs.declared.key.Key.{Key}
@@ -18,5 +19,5 @@ abbrev pub AreKeyed : List (Key × ProcessJob) → Type 0
 AreKeyed entries = AllByRecursion IsKeyed entries
 
 -- what is kept, as one
-abbrev pub book_of : List ProcessJob → List (List ℕ) → ℕ → JobBook
+abbrev pub book_of : List ProcessJob → List Recipe → ℕ → JobBook
 book_of kept recipes given = record { kept = kept; recipes = recipes; given = given }

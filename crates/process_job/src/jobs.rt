@@ -2,7 +2,7 @@
 
 ghost use Rattle.std.specs.Prelude.{ℕ, ◌≡◌, ◌+◌, ◌≤◌, length, slice_get, take, Some, None, Err, IfOk, IfErr, OnOk, OnErr};
 ghost use Rattle.std.specs.Option.{option_copied};
-ghost use Rattle.process_job.specs.Jobs.{no_jobs, job_named, job_numbered, is_numbered, place_numbered, is_known, starts_row, fired, forgotten, with_created, most_jobs, space, AreJobs};
+ghost use Rattle.process_job.specs.Jobs.{no_jobs, recipe_named, job_named, job_numbered, is_numbered, place_numbered, is_known, starts_row, fired, forgotten, with_created, most_jobs, space, AreJobs};
 ghost use Rattle.process_job.specs.Creating.{is_recipe, create_fault};
 ghost use Rattle.process_job.specs.Commands.{command_answer, row_of};
 ghost use Rattle.process_job.specs.Listing.{job_items, joined};
@@ -17,19 +17,19 @@ use gem_ids::{JobId, Text80};
 use secs_items::{Items, NoMemory};
 use std::alloc::Global;
 use std::marker::Model;
-use tool_events::JobWord;
+use tool_events::{JobWord, Recipe};
 
 /// The most process jobs that are kept (this tool's profile, limits).
 pub const MOST_JOBS: usize = 64;
 
 /// The process jobs of the tool (SEMI E40). Contracts see the list of those that are kept, in the order in which they were
-/// created, the names of the tool's recipes, and the last number of creation that was given. Each name is that of one job, the
+/// created, the tool's recipes, and the last number of creation that was given. Each name is that of one job, the
 /// numbers rise, and there are at most 64. Only `new`, `create` and `list` take memory. A job is found by its name without going
 /// through the others.
 #[derive(Drop)]
 pub struct ProcessJobs {
     jobs: ByName,
-    recipes: Vec<Text80>,
+    recipes: Vec<Recipe>,
     given: u64,
 }
 
@@ -45,8 +45,8 @@ impl Model for ProcessJobs {
 }
 
 impl ProcessJobs {
-    /// No job, of a tool with recipes of these names. Takes room for them and for 64 jobs. `NoMemory` where there is none.
-    pub fn new(alloc: Global, recipes: &[Text80]) -> Result<ProcessJobs, NoMemory>
+    /// No job, of a tool with these recipes. Takes room for them and for 64 jobs. `NoMemory` where there is none.
+    pub fn new(alloc: Global, recipes: &[Recipe]) -> Result<ProcessJobs, NoMemory>
         ensures { IfOk result (λ jobs. jobs ≡ no_jobs recipes.now) }
     {
         let jobs = ByName::new(alloc, MOST_JOBS)?;
@@ -116,6 +116,16 @@ impl ProcessJobs {
             }
         }
         None
+    }
+
+    /// The recipe of a name. `None` exactly where none of the tool's has it.
+    pub fn recipe(&self, name: Text80) -> Option<Recipe>
+        ensures { result ≡ recipe_named name self.now.recipes }
+    {
+        self.recipes
+            .iter()
+            .copied()
+            .find(|recipe| recipe.name.as_bytes() == name.as_bytes())
     }
 
     /// What a command to the job of a name fires (SEMI E40, S16F5): the row of table 14, which is 5 for START, 8 for PAUSE, 10 for
@@ -263,11 +273,11 @@ fn row_of(w: JobWord) -> u8
 }
 
 // Whether a recipe of the tool has this name.
-fn is_recipe(name: Text80, recipes: &[Text80]) -> bool
+fn is_recipe(name: Text80, recipes: &[Recipe]) -> bool
     ensures { result ≡ is_recipe name recipes.now }
 {
     for recipe in recipes {
-        if recipe.as_bytes() == name.as_bytes() {
+        if recipe.name.as_bytes() == name.as_bytes() {
             return true;
         }
     }

@@ -21,3 +21,4 @@ pub mod Starts
 pub mod Falls
 pub mod Quiet
 pub mod Fires
+pub mod Marked

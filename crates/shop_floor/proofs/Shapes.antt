@@ -20,7 +20,7 @@ no_access f port row {P} e =
     ready_at_port mode_number access_table (λ s. s.access) (λ to s. record s { access = to }) (λ n r. P) f port row
     (λ place p s. ((λ itself. absurd (true≢false (sym itself))), ((λ itself. absurd (true≢false (sym itself))), tt))) e
 
--- nor does one of table 10, while no substrates are built
+-- nor does one of table 10: what it wants isn't told of the carrier alone
 pub no_accessing : (f : Floor) (carrier row : ℕ) {P : Type 0} → accessing_machine.ready carrier f ≡ Some row → P
 no_accessing f carrier row {P} e =
     ready_at_carrier access_number accessing_table (λ s. s.access) (λ to s. record s { access = to }) (λ r. P) f carrier row

@@ -7,7 +7,7 @@ use Rattle.load_port.specs.declared.port.Arrival.{Arrival}
 use Rattle.load_port.specs.Record.{is_unloadable}
 use Rattle.load_port.specs.Ports.{first_ports, port_numbered, change_port}
 use Rattle.carrier.specs.declared.carrier.Carrier.{Carrier}
-use Rattle.carrier.specs.Carriers.{has_name, change_numbered}
+use Rattle.carrier.specs.Carriers.{has_name, change_numbered, marked_stopped}
 
 -- the ports in the order of their numbers, the carriers in the order in which they were created, and the number that the next
 -- carrier gets
@@ -35,6 +35,10 @@ with_port number change f = record f { ports = change_port number change f.ports
 -- a change of the carrier of a number of creation
 abbrev pub with_carrier : ℕ → (Carrier → Carrier) → Floor → Floor
 with_carrier number change f = record f { carriers = change_numbered number change f.carriers }
+
+-- the carrier of a name is marked stopped, where one is known
+abbrev pub with_marked : List ℕ → Floor → Floor
+with_marked name f = record f { carriers = marked_stopped name f.carriers }
 
 -- the numbers of the ports, the first of which is given
 abbrev pub numbers_from : ℕ → List Port → List ℕ

@@ -5,7 +5,7 @@ ghost use Rattle.gem_tables.specs.Table.{firing};
 ghost use Rattle.load_port.specs.Caack.{is_done_code};
 ghost use Rattle.load_port.specs.Ports.{most_ports, is_no_port};
 ghost use Rattle.carrier.specs.Carriers.{carrier_named, carrier_numbered, is_known};
-ghost use Rattle.shop_floor.specs.Floor.{opening, arrival_of, is_unloadable_port};
+ghost use Rattle.shop_floor.specs.Floor.{opening, with_marked, arrival_of, is_unloadable_port};
 ghost use Rattle.shop_floor.specs.Machines.{floor_starts, floor_fired, floor_least, creates, creation_rows, object_name};
 ghost use Rattle.shop_floor.specs.Requests.{carrier_code, carrier_written, carrier_rows, port_code, came};
 ghost use Rattle.shop_floor.specs.Owning.{number_named, owner_number};
@@ -265,6 +265,16 @@ impl ShopFloor {
         ensures { result.items ≡ carrier_rows a.now self.now }
     {
         requests::carrier_rows(a, &self.carriers, self.next_carrier)
+    }
+
+    // ---- what process jobs do
+
+    /// The carrier of a name is marked stopped from now on, until it is forgotten: a process job of it ended after a STOP or an
+    /// ABORT (this tool's profile, tables 10 and 14). Where none of the name is known, nothing changes. Takes no memory.
+    pub fn mark_stopped(&mut self, name: Text80)
+        ensures { self.new ≡ with_marked name self.old }
+    {
+        self.carriers.mark_stopped(name);
     }
 
     // ---- what the equipment tells

@@ -12,7 +12,7 @@ ghost use Rattle.carrier.specs.declared.action.CarrierWord.TheVariants.{Bind, No
 ghost use Rattle.carrier.specs.declared.carrier.Carrier.{Carrier};
 ghost use Rattle.carrier.specs.Record.{is_id_not_read, is_map_not_read, is_map_verified};
 ghost use Rattle.carrier.specs.Carriers.{is_known, is_present_at, carrier_numbered, most_carriers};
-ghost use Rattle.shop_floor.specs.Floor.{Floor, opening};
+ghost use Rattle.shop_floor.specs.Floor.{Floor, opening, with_marked};
 ghost use Rattle.shop_floor.specs.Rows.{forgets, owner};
 ghost use Rattle.shop_floor.specs.Machines.{floor_starts, floor_fired, floor_least, creation_rows, creates};
 ghost use Rattle.shop_floor.specs.Left.{floor_left, map_falls};
@@ -57,6 +57,12 @@ pub fn the_floor_stays_valid()
     ensures written { (a : CarrierAction) (f : Floor)
         → is_done_code (carrier_code f a) ≡ true → IsFloor f → IsFloor (carrier_written a f) }
     ensures came { (port : ℕ) (a : Arrival) (f : Floor) → IsFloor f → IsFloor (came port a f) }
+{}
+
+/// A carrier that is marked stopped changes nothing of what holds of the floor, nor of what is left to fire by itself.
+pub fn a_mark_leaves_the_floor()
+    ensures valid { (name : List ℕ) (f : Floor) → IsFloor f → IsFloor (with_marked name f) }
+    ensures left { (name : List ℕ) (f : Floor) → floor_left (with_marked name f) ≡ floor_left f }
 {}
 
 /// At most sixteen carriers are known, and there is room for each that is created: by a row that lets one come, by row 4

@@ -145,7 +145,7 @@ fn carrier_wants(row: RowId, carrier: &Carrier) -> bool
         (8, 3) => carrier.present,
         (9, 1) => is_verified(carrier) && carrier.is_usable() && carrier.is_host_map(),
         (9, 2) => is_verified(carrier),
-        // no substrate is outside its slot while none are built
+        // what they want of substrates and process jobs is told above
         (10, 1 | 2 | 3) => false,
         _ => true,
     }

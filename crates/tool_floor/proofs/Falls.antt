@@ -1,5 +1,5 @@
 -- Each row that fires by itself lets what is left fall, by more than the rows count that follow it.
-use Rattle.std.proofs.Common.{◌≡◌, ℕ, zero, suc, ◌+◌, ◌*◌, ◌==◌, ◌<◌, ◌≤◌, Bool, true, false, not, if◌then◌else◌, List, [], ◌∷◌, ◌++◌, length, drop, Option, Some, None, slice_get, find, refl, sym, ap, subst, ◌∙◌, arith}
+use Rattle.std.proofs.Common.{◌≡◌, ℕ, zero, suc, ◌+◌, ◌*◌, ◌==◌, ◌<◌, ◌≤◌, Bool, true, false, not, if◌then◌else◌, List, [], ◌∷◌, ◌++◌, length, drop, map, Option, Some, None, slice_get, find, refl, sym, ap, subst, ◌∙◌, arith}
 use Rattle.std.specs.List.{AllByRecursion}
 use Rattle.std.proofs.lemmas.Bool.{true≢false}
 use Rattle.gem_tables.specs.Machine.{Machine}
@@ -32,8 +32,18 @@ use Rattle.substrate.specs.declared.record.Processing.{Processing}
 use Rattle.substrate.specs.declared.record.Processing.TheVariants as processing
 use Rattle.tool_floor.specs.declared.tracking.Substrate.{Substrate}
 use Rattle.tool_floor.specs.Floor.{ToolFloor, with_shop, location_at, change_location, substrate_numbered, change_numbered}
-use Rattle.tool_floor.specs.Substrates.{accessing_wants, location_wants, substrate_wants, registration_rows, found_does}
-use Rattle.tool_floor.specs.Machines.{registered_by, accessing_ready, location_ready, substrate_ready, substrate_moves, floor_machines, floor_fired, creation_rows, floor_least, moved_by}
+use Rattle.tool_floor.specs.Wants.{accessing_wants, location_wants, substrate_wants}
+use Rattle.tool_floor.specs.Substrates.{registration_rows, found_does}
+use Rattle.tool_floor.specs.Jobs.{can_join, joined, is_member, freed, gets_members, frees, stops_carriers, job_does, found_job_does, found_sight, is_first_here}
+use Rattle.process_job.specs.Tables as effect
+use Rattle.process_job.specs.Tables.{JobRow, JobEffect, job_table}
+use Rattle.process_job.specs.Jobs.{job_numbered as process_numbered}
+use Rattle.process_job.specs.declared.job.ProcessJob.{ProcessJob}
+use Rattle.substrate.specs.declared.record.SubstrateRecord.{SubstrateRecord}
+use Rattle.tool_jobs.specs.Left.{jobs_left}
+use Rattle.tool_jobs.proofs.Falls.{process_falls, control_falls}
+use Rattle.tool_floor.proofs.Marks.{marked_left}
+use Rattle.tool_floor.specs.Machines.{process_machine, control_machine, registered_by, accessing_ready, location_ready, substrate_ready, substrate_moves, floor_machines, floor_fired, creation_rows, floor_least, moved_by}
 use Rattle.tool_floor.specs.Left.{disagrees, locations_left, transport_left, processing_left, substrate_left, substrates_left, modules_left, floor_left}
 use Rattle.shop_floor.specs.Left.{weighs}
 use Rattle.robot_moves.specs.declared.view.Move.{Move}
@@ -80,9 +90,10 @@ falls_9_1 f carrier e =
     let left = registers.left in
     let few = registers.few in
     let modules = ap modules_left registers.modules in
+    let jobs = ap jobs_left registers.jobs in
     let rows : length (registration_rows (drop (length f.substrates) g.substrates)) ≡ 2 * length registers.new =
     ap (λ (ss : List Substrate). length (registration_rows (drop (length f.substrates) ss))) registers.substrates ∙ ap (λ (ss : List Substrate). length (registration_rows ss)) (drop_before f.substrates registers.new) ∙ rows_count registers.new in
-    omega (arith, h, left, few, modules, rows)
+    omega (arith, h, left, few, modules, jobs, rows)
 
 falls_9_2 : (f : ToolFloor) (carrier : ℕ) → map_machine.ready carrier f.shop ≡ Some 2 → Falls f (firing 9 carrier 2)
 falls_9_2 f carrier e =
@@ -252,6 +263,75 @@ processing_at f n row (Some s) at e =
       ),
     ) e
 
+-- ---- jobs
+
+-- what becomes of the members of a process job weighs nothing
+same_left : (change : Substrate → Substrate) → ((s : Substrate) → (change s).states ≡ s.states) → (ss : List Substrate) → substrates_left (map change ss) ≡ substrates_left ss
+same_left change same [] = refl
+same_left change same (s ∷ ss) =
+    let here : substrate_left (change s) ≡ substrate_left s = ap (λ (r : SubstrateRecord). transport_left r.transport + processing_left r.processing) (same s) in
+    let later = same_left change same ss in
+    omega (arith, here, later)
+
+joined_same : (j : ProcessJob) (shop : Floor) (s : Substrate) → (joined j shop s).states ≡ s.states
+joined_same j shop s = of (can_join j shop s) where
+  of : (b : Bool) → (if b then record s { job = j.number } else s).states ≡ s.states
+  of true = refl
+  of false = refl
+
+freed_same : (number : ℕ) (s : Substrate) → (freed number s).states ≡ s.states
+freed_same number s = of (is_member number s) where
+  of : (b : Bool) → (if b then record s { job = 0 } else s).states ≡ s.states
+  of true = refl
+  of false = refl
+
+gets_left : (o : Option ProcessJob) (f : ToolFloor) → floor_left (gets_members o f) ≡ floor_left f
+gets_left None f = refl
+gets_left (Some j) f = let same = same_left (joined j f.shop) (joined_same j f.shop) f.substrates in omega (arith, same)
+
+frees_left : (o : Option ProcessJob) (f : ToolFloor) → floor_left (frees o f) ≡ floor_left f
+frees_left None f = refl
+frees_left (Some j) f = let same = same_left (freed j.number) (freed_same j.number) f.substrates in omega (arith, same)
+
+stops_left : (o : Option ProcessJob) (f : ToolFloor) → floor_left (stops_carriers o f) ≡ floor_left f
+stops_left None f = refl
+stops_left (Some j) f = let same = marked_left j.material f.shop in omega (arith, same)
+
+does_left : (e : JobEffect) (o : Option ProcessJob) (f : ToolFloor) → floor_left (job_does e o f) ≡ floor_left f
+does_left effect.no_more o f = refl
+does_left effect.makes_members o f = gets_left o f
+does_left effect.ends o f = frees_left o f
+does_left effect.ends_stopped o f = stops_left o (frees o f) ∙ frees_left o f
+
+found_left : (r : Option JobRow) (o : Option ProcessJob) (f : ToolFloor) → floor_left (found_job_does r o f) ≡ floor_left f
+found_left None o f = refl
+found_left (Some r) o f = does_left r.does o f
+
+-- it changes no job
+does_jobs : (e : JobEffect) (o : Option ProcessJob) (f : ToolFloor) → (job_does e o f).jobs ≡ f.jobs
+does_jobs effect.no_more o f = refl
+does_jobs effect.makes_members None f = refl
+does_jobs effect.makes_members (Some j) f = refl
+does_jobs effect.ends None f = refl
+does_jobs effect.ends (Some j) f = refl
+does_jobs effect.ends_stopped None f = refl
+does_jobs effect.ends_stopped (Some j) f = refl
+
+found_jobs : (r : Option JobRow) (o : Option ProcessJob) (f : ToolFloor) → (found_job_does r o f).jobs ≡ f.jobs
+found_jobs None o f = refl
+found_jobs (Some r) o f = does_jobs r.does o f
+
+falls_14 : (f : ToolFloor) (number row : ℕ) → process_machine.ready number f ≡ Some row → Falls f (firing 14 number row)
+falls_14 f number row e =
+    let o = process_numbered number f.jobs.process.kept in
+    let less = process_falls f.jobs number row (found_sight o f) e in
+    let same = found_left (row_of job_table row) o f in
+    let jobs = ap jobs_left (found_jobs (row_of job_table row) o f) in
+    omega (arith, less, same, jobs)
+
+falls_15 : (f : ToolFloor) (number row : ℕ) → control_machine.ready number f ≡ Some row → Falls f (firing 15 number row)
+falls_15 f number row e = let less = control_falls f.jobs number row (is_first_here number f) e in omega (arith, less)
+
 -- ---- modules
 
 -- a module that is to do something is Idle, and is given it
@@ -294,7 +374,7 @@ all_fall f =
                       (λ o r e. transport_at f o r (substrate_numbered o f.substrates) refl e),
                       (
                         (λ o r e. processing_at f o r (substrate_numbered o f.substrates) refl e),
-                        ((λ o r e. falls_16 f o r e), tt),
+                        ((λ o r e. falls_14 f o r e), ((λ o r e. falls_15 f o r e), ((λ o r e. falls_16 f o r e), tt))),
                       ),
                     ),
                   ),

@@ -27,13 +27,21 @@ use Rattle.substrate.specs.declared.record.LocationRecord.{LocationRecord}
 use Rattle.substrate.specs.declared.record.SubstrateRecord.{SubstrateRecord}
 use Rattle.tool_floor.specs.declared.tracking.Substrate.{Substrate}
 use Rattle.tool_floor.specs.Floor.{ToolFloor, opening, with_shop, location_at, location_numbers, substrate_numbered, change_numbered}
-use Rattle.tool_floor.specs.Substrates.{accessing_wants, location_wants, substrate_wants, registration_rows, new_rows, found_does}
+use Rattle.tool_floor.specs.Wants.{accessing_wants, location_wants, substrate_wants}
+use Rattle.tool_floor.specs.Substrates.{registration_rows, new_rows, found_does}
+use Rattle.tool_floor.specs.Jobs.{found_sight, is_first_here, process_behind}
+use Rattle.process_job.specs.Tables.{job_table}
+use Rattle.process_job.specs.Jobs.{job_numbered as process_numbered}
+use Rattle.control_job.specs.Jobs.{job_numbered as control_numbered}
+use Rattle.tool_jobs.proofs.Falls.{process_ready_starts, control_ready_starts}
+use Rattle.tool_floor.proofs.Marks.{found_valid}
 use Rattle.tool_floor.specs.Machines.{taken_along, registered_by, accessing_starts, accessing_ready, location_starts, location_ready, substrate_starts, substrate_ready, substrate_moves, floor_machines, floor_starts, floor_fired, creation_rows, is_creation, floor_least, moved_by}
 use Rattle.tool_floor.proofs.Tables.{least_floor, first_location as first_ready_location, first_move}
 use Rattle.tool_floor.proofs.Moves.{none_to_move}
 use Rattle.tool_floor.specs.Views.{planned}
 use Rattle.tool_floor.specs.Modules.{move_wants, move_starts, move_ready, issued, open_task, aligned_by, found_move}
 use Rattle.tool_events.specs.declared.answer.Task.{Task}
+use Rattle.tool_events.specs.declared.recipes.Recipe.{Recipe}
 use Rattle.tool_events.specs.declared.answer.Task.TheVariants as task
 use Rattle.robot_moves.specs.Tables.{MoveRow, move_table, state_number}
 use Rattle.robot_moves.specs.declared.module.Module.{Module}
@@ -45,7 +53,7 @@ use Rattle.tool_floor.proofs.Registrations.{Registers, row_registered, drop_befo
 -- ---- the least row
 
 -- what is true of each table but 1 to 3 is true of the table of the least row
-pub of_tables : (P : ℕ → Type 0) (f : ToolFloor) (x : Firing) → AllByRecursion P (4 ∷ 5 ∷ 6 ∷ 7 ∷ 8 ∷ 9 ∷ 10 ∷ 11 ∷ 12 ∷ 13 ∷ 16 ∷ []) → floor_least f ≡ Some x → P x.row.table
+pub of_tables : (P : ℕ → Type 0) (f : ToolFloor) (x : Firing) → AllByRecursion P (4 ∷ 5 ∷ 6 ∷ 7 ∷ 8 ∷ 9 ∷ 10 ∷ 11 ∷ 12 ∷ 13 ∷ 14 ∷ 15 ∷ 16 ∷ []) → floor_least f ≡ Some x → P x.row.table
 of_tables P f x all e =
     least_cases (λ (y : Firing). P y.row.table) f x floor_machines (
       (λ _ _ _. all.0),
@@ -63,7 +71,7 @@ of_tables P f x all e =
                   (λ _ _ _. all.1.1.1.1.1.1.0),
                   (
                     (λ _ _ _. all.1.1.1.1.1.1.1.0),
-                    ((λ _ _ _. all.1.1.1.1.1.1.1.1.0), ((λ _ _ _. all.1.1.1.1.1.1.1.1.1.0), ((λ _ _ _. all.1.1.1.1.1.1.1.1.1.1.0), tt))),
+                    ((λ _ _ _. all.1.1.1.1.1.1.1.1.0), ((λ _ _ _. all.1.1.1.1.1.1.1.1.1.0), ((λ _ _ _. all.1.1.1.1.1.1.1.1.1.1.0), ((λ _ _ _. all.1.1.1.1.1.1.1.1.1.1.1.0), ((λ _ _ _. all.1.1.1.1.1.1.1.1.1.1.1.1.0), tt))))),
                   ),
                 ),
               ),
@@ -75,13 +83,13 @@ of_tables P f x all e =
 
 -- it is none of communication, control and notes
 pub not_table_1 : (f : ToolFloor) (x : Firing) → floor_least f ≡ Some x → (x.row.table == 1) ≡ false
-not_table_1 f x = of_tables (λ n. (n == 1) ≡ false) f x (refl, (refl, (refl, (refl, (refl, (refl, (refl, (refl, (refl, (refl, (refl, tt)))))))))))
+not_table_1 f x = of_tables (λ n. (n == 1) ≡ false) f x (refl, (refl, (refl, (refl, (refl, (refl, (refl, (refl, (refl, (refl, (refl, (refl, (refl, tt)))))))))))))
 
 pub not_table_2 : (f : ToolFloor) (x : Firing) → floor_least f ≡ Some x → (x.row.table == 2) ≡ false
-not_table_2 f x = of_tables (λ n. (n == 2) ≡ false) f x (refl, (refl, (refl, (refl, (refl, (refl, (refl, (refl, (refl, (refl, (refl, tt)))))))))))
+not_table_2 f x = of_tables (λ n. (n == 2) ≡ false) f x (refl, (refl, (refl, (refl, (refl, (refl, (refl, (refl, (refl, (refl, (refl, (refl, (refl, tt)))))))))))))
 
 pub not_table_3 : (f : ToolFloor) (x : Firing) → floor_least f ≡ Some x → (x.row.table == 3) ≡ false
-not_table_3 f x = of_tables (λ n. (n == 3) ≡ false) f x (refl, (refl, (refl, (refl, (refl, (refl, (refl, (refl, (refl, (refl, (refl, tt)))))))))))
+not_table_3 f x = of_tables (λ n. (n == 3) ≡ false) f x (refl, (refl, (refl, (refl, (refl, (refl, (refl, (refl, (refl, (refl, (refl, (refl, (refl, tt)))))))))))))
 
 -- ---- it starts
 
@@ -125,7 +133,7 @@ all_start f =
                       (λ o r e. substrate_start transport_number transport_table (λ s. s.transport) f r (substrate_numbered o f.substrates) (refl, (refl, (refl, tt))) e),
                       (
                         (λ o r e. substrate_start processing_number processing_table (λ s. s.processing) f r (substrate_numbered o f.substrates) (refl, (refl, (refl, (refl, (refl, (refl, (refl, (refl, tt)))))))) e),
-                        ((λ o r e. move_start f r (planned o f) (module_at o f.modules) e), tt),
+                        ((λ o r e. process_ready_starts (process_numbered o f.jobs.process.kept) r (found_sight (process_numbered o f.jobs.process.kept) f) f.jobs e), ((λ o r e. control_ready_starts (control_numbered o f.jobs.control.jobs) r (is_first_here o f) f.jobs e), ((λ o r e. move_start f r (planned o f) (module_at o f.modules) e), tt))),
                       ),
                     ),
                   ),
@@ -270,7 +278,7 @@ follows x f =
             shop_follow (firing 7 x.object x.row.row) f.shop _ refl,
             (
               shop_follow (firing 8 x.object x.row.row) f.shop _ refl,
-              (map_follow x.row.row x.object f _, (none_follow _, (none_follow _, (none_follow _, (none_follow _, (none_follow _, tt)))))),
+              (map_follow x.row.row x.object f _, (none_follow _, (none_follow _, (none_follow _, (none_follow _, (none_follow _, (none_follow _, (none_follow _, tt)))))))),
             ),
           ),
         ),
@@ -291,6 +299,9 @@ processing_shop : (row n : ℕ) (f : ToolFloor) → IsFloor f.shop → IsFloor (
 processing_shop row n f valid =
     looked_for (λ (o : Option (SubstrateRow Processing)). IsFloor (found_does o (substrate_numbered n f.substrates) f).shop) processing_table row valid
     (valid, (valid, (valid, (valid, (valid, (valid, (valid, (valid, tt))))))))
+
+process_shop : (row n : ℕ) (f : ToolFloor) → IsFloor f.shop → IsFloor (process_behind row n f).shop
+process_shop row n f valid = found_valid (row_of job_table row) (process_numbered n f.jobs.process.kept) f valid
 
 issued_shop : (number : ℕ) (plan : Option Move) (f : ToolFloor) → IsFloor f.shop → IsFloor (issued number plan f).shop
 issued_shop number None f valid = valid
@@ -329,7 +340,7 @@ row-keeps x f starts valid =
               (λ s. shop_keeps (firing 8 x.object x.row.row) f.shop s valid),
               (
                 (λ s. shop_keeps (firing 9 x.object x.row.row) f.shop s valid),
-                ((λ s. accessing-keeps f.shop x.object x.row.row valid), ((λ s. valid), ((λ s. valid), ((λ s. processing_shop x.row.row x.object f valid), ((λ s. move_shop x.row.row x.object f valid), tt))))),
+                ((λ s. accessing-keeps f.shop x.object x.row.row valid), ((λ s. valid), ((λ s. valid), ((λ s. processing_shop x.row.row x.object f valid), ((λ s. process_shop x.row.row x.object f valid), ((λ s. valid), ((λ s. move_shop x.row.row x.object f valid), tt))))))),
               ),
             ),
           ),
@@ -339,19 +350,19 @@ row-keeps x f starts valid =
 
 -- ---- at the beginning
 
-at_first : (number : ℕ) (ports chambers : ℕ) (count place : ℕ) → location_ready number (slice_get (replicate count first_location) place) (opening ports chambers) ≡ None
-at_first number ports chambers zero place = refl
-at_first number ports chambers (suc count) zero = refl
-at_first number ports chambers (suc count) (suc place) = at_first number ports chambers count place
+at_first : (number : ℕ) (ports chambers : ℕ) (recipes : List Recipe) (count place : ℕ) → location_ready number (slice_get (replicate count first_location) place) (opening ports chambers recipes) ≡ None
+at_first number ports chambers recipes zero place = refl
+at_first number ports chambers recipes (suc count) zero = refl
+at_first number ports chambers recipes (suc count) (suc place) = at_first number ports chambers recipes count place
 
-quiet_location : (ports chambers number : ℕ) → location_ready number (location_at number (opening ports chambers).locations) (opening ports chambers) ≡ None
-quiet_location ports chambers zero = refl
-quiet_location ports chambers (suc place) = at_first (suc place) ports chambers (spot_count ports chambers) place
+quiet_location : (ports chambers : ℕ) (recipes : List Recipe) (number : ℕ) → location_ready number (location_at number (opening ports chambers recipes).locations) (opening ports chambers recipes) ≡ None
+quiet_location ports chambers recipes zero = refl
+quiet_location ports chambers recipes (suc place) = at_first (suc place) ports chambers recipes (spot_count ports chambers) place
 
 -- no row is ready
-pub opening_quiet : (ports chambers : ℕ) → floor_least (opening ports chambers) ≡ None
-opening_quiet ports chambers =
-    let f = opening ports chambers in
-    let locations : first_ready_location f ≡ None = none_ready 11 (λ number. location_ready number (location_at number f.locations) f) (location_numbers 1 f.locations) (quiet_location ports chambers) in
+pub opening_quiet : (ports chambers : ℕ) (recipes : List Recipe) → floor_least (opening ports chambers recipes) ≡ None
+opening_quiet ports chambers recipes =
+    let f = opening ports chambers recipes in
+    let locations : first_ready_location f ≡ None = none_ready 11 (λ number. location_ready number (location_at number f.locations) f) (location_numbers 1 f.locations) (quiet_location ports chambers recipes) in
     let moves : first_move f ≡ None = none_to_move f (λ number. nothing_moves number [] (first_modules chambers) tt) in
     least_floor f ∙ rw (shop_quiet ports, locations, moves) refl

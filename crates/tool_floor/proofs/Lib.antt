@@ -1,7 +1,9 @@
 pub mod Tables
 pub mod Behind
 pub mod Scans
+pub mod JobScans
 pub mod Registrations
+pub mod Marks
 pub mod Falls
 pub mod Keeping
 pub mod Working

@@ -107,15 +107,16 @@ pub record Registers (most : ℕ) (f g : ToolFloor) : Type 0 where
   pub left : counts g ≤ counts f + 5 * most
   pub shop : g.shop ≡ f.shop
   pub modules : g.modules ≡ f.modules
+  pub jobs : g.jobs ≡ f.jobs
 
 pub none_registered : (f : ToolFloor) → Registers 0 f f
-none_registered f = record { new = []; substrates = sym (append_none f.substrates); few = omega arith; left = omega arith; shop = refl; modules = refl }
+none_registered f = record { new = []; substrates = sym (append_none f.substrates); few = omega arith; left = omega arith; shop = refl; modules = refl; jobs = refl }
 
 more_registered : (m n : ℕ) (f g : ToolFloor) → m ≤ n → Registers m f g → Registers n f g
 more_registered m n f g l r =
     let few = r.few in
     let left = r.left in
-    record { new = r.new; substrates = r.substrates; few = omega (arith, few, l); left = omega (arith, left, l); shop = r.shop; modules = r.modules }
+    record { new = r.new; substrates = r.substrates; few = omega (arith, few, l); left = omega (arith, left, l); shop = r.shop; modules = r.modules; jobs = r.jobs }
 
 then_registered : (m n : ℕ) (f g h : ToolFloor) → Registers m f g → Registers n g h → Registers (m + n) f h
 then_registered m n f g h r s =
@@ -131,6 +132,7 @@ then_registered m n f g h r s =
       left = omega (arith, left_first, left_second);
       shop = s.shop ∙ r.shop;
       modules = s.modules ∙ r.modules;
+      jobs = s.jobs ∙ r.jobs;
     }
 
 one_registered : (sub : List ℕ) (carrier : ℕ) (loc : LocId) (f : ToolFloor) → Registers 1 f (registers_at sub carrier loc f)
@@ -149,7 +151,7 @@ one_registered sub carrier loc f = of (can_register sub loc f.places) where
   of true =
       let locations = one_more f.places (registered sub loc f.places) (location_number f.places.ports loc) (λ n. any_more (has_number f.places.ports n) f.places.held place) 1 f.locations in
       let substrates = left_more f.substrates new in
-      record { new = new ∷ []; substrates = refl; few = omega arith; left = omega (arith, locations, substrates); shop = refl; modules = refl }
+      record { new = new ∷ []; substrates = refl; few = omega arith; left = omega (arith, locations, substrates); shop = refl; modules = refl; jobs = refl }
 
 slot_registered : (c : Carrier) (port : PortNo) (slot code : ℕ) (f : ToolFloor) → Registers 1 f (registers_slot c port slot code f)
 slot_registered c port slot code f = of (code == 3) where

@@ -1,5 +1,5 @@
 -- Where no row of tables 12 and 13 is ready.
-use Rattle.std.proofs.Common.{◌≡◌, ℕ, ◌==◌, Bool, true, false, ◌&&◌, ◌||◌, cond, List, [], ◌∷◌, map, Option, Some, None, refl, sym}
+use Rattle.std.proofs.Common.{◌≡◌, ℕ, ◌==◌, Bool, true, false, not, ◌&&◌, ◌||◌, if◌then◌else◌, cond, List, [], ◌∷◌, map, Option, Some, None, refl, sym}
 use Rattle.std.specs.List.{list_any}
 use Rattle.std.proofs.lemmas.Bool.{true≢false}
 use Rattle.gem_tables.specs.Table.{first_itself}
@@ -21,7 +21,13 @@ use Rattle.tool_events.specs.declared.answer.Task.TheVariants as task
 use Rattle.tool_floor.specs.declared.tracking.Substrate.{Substrate}
 use Rattle.tool_floor.specs.Floor.{ToolFloor, substrate_numbered, number_of}
 use Rattle.tool_floor.specs.Machines.{substrate_ready, floor_machines}
-use Rattle.tool_floor.specs.Substrates.{is_outside, task_processes, processes, substrate_wants}
+use Rattle.tool_floor.specs.Substrates.{is_outside, is_in_slot}
+use Rattle.tool_floor.specs.Naming.{module_names, task_processes, processes}
+use Rattle.tool_floor.specs.Wants.{substrate_wants}
+use Rattle.process_job.specs.Jobs.{has_number, job_numbered}
+use Rattle.process_job.specs.declared.job.ProcessJob.{ProcessJob}
+use Rattle.process_job.specs.declared.record.JobState.{JobState}
+use Rattle.tool_floor.specs.Jobs.{job_of, is_job_so, is_stopping, is_aborting, is_ending}
 use Rattle.tool_floor.proofs.Working.{none_outside}
 
 -- a substrate that is found by its number fails a test that none passes
@@ -99,25 +105,54 @@ module _ (ss : List Substrate) (n : ℕ) (s : Substrate) (found : substrate_numb
       of true b is e = e
       of false b is e = absurd (true≢false (sym is))
 
--- none of a substrate that none processes
-none_of_processing : (f : ToolFloor) (s : Substrate) (p : Processing) → (is_needing p ≡ true → list_any (processes s.sub) f.modules ≡ false)
-    → first_itself processing_number (λ want. substrate_wants want s f) processing_table p ≡ None
-none_of_processing f s NeedsProcessing none = rw (none refl) refl
-none_of_processing f s InProcess none = refl
-none_of_processing f s Processed none = refl
-none_of_processing f s Aborted none = refl
-none_of_processing f s Stopped none = refl
-none_of_processing f s Rejected none = refl
-none_of_processing f s Lost none = refl
-none_of_processing f s Skipped none = refl
+-- ---- the process jobs
 
--- none where no module has an open command for a substrate that needs it
-pub no_processing : (f : ToolFloor) → list_any (λ m. list_any (is_due m) f.substrates) f.modules ≡ false
+-- where no process job is STOPPING or ABORTING, that of no substrate is
+module _ (n : ℕ) where
+  of_test : (test : JobState → Bool) → ((j : ProcessJob) → is_ending j ≡ false → test j.states.state ≡ false) → (js : List ProcessJob) → list_any is_ending js ≡ false → is_job_so test (job_numbered n js) ≡ false
+  of_test test less [] none = refl
+  of_test test less (j ∷ js) none =
+      let parts = or_false (is_ending j) (list_any is_ending js) none in
+      of (has_number n j) (less j parts.0) (of_test test less js parts.1)
+    where
+      of : (b : Bool) → test j.states.state ≡ false → is_job_so test (job_numbered n js) ≡ false → is_job_so test (if b then Some j else job_numbered n js) ≡ false
+      of true here later = here
+      of false here later = later
+
+  none_stopping : (js : List ProcessJob) → list_any is_ending js ≡ false → is_job_so is_stopping (job_numbered n js) ≡ false
+  none_stopping = of_test is_stopping (λ j none. (or_false (is_stopping j.states.state) (is_aborting j.states.state) none).0)
+
+  none_aborting : (js : List ProcessJob) → list_any is_ending js ≡ false → is_job_so is_aborting (job_numbered n js) ≡ false
+  none_aborting = of_test is_aborting (λ j none. (or_false (is_stopping j.states.state) (is_aborting j.states.state) none).1)
+
+chain : (skipped stopped aborted : Option ℕ) (stops aborts out here : Bool) → stops ≡ false → aborts ≡ false
+    → (if (stops || aborts) && here then skipped else (if out && stops then stopped else (if out && aborts then aborted else None))) ≡ None
+chain skipped stopped aborted true aborts out here e g = absurd (cc)
+chain skipped stopped aborted false true out here e g = absurd (cc)
+chain skipped stopped aborted false false true here e g = refl
+chain skipped stopped aborted false false false here e g = refl
+
+-- none of a substrate that none processes, and whose process job isn't ending
+none_of_processing : (f : ToolFloor) (s : Substrate) (p : Processing) → (is_needing p ≡ true → list_any (processes s.sub) f.modules ≡ false)
+    → is_job_so is_stopping (job_of s f.jobs) ≡ false → is_job_so is_aborting (job_of s f.jobs) ≡ false
+    → first_itself processing_number (λ want. substrate_wants want s f) processing_table p ≡ None
+none_of_processing f s NeedsProcessing none stops aborts =
+    rw (none refl) (chain (Some 5) (Some 6) (Some 7) (is_job_so is_stopping (job_of s f.jobs)) (is_job_so is_aborting (job_of s f.jobs)) (is_outside s f.places) (is_in_slot s f.places && not (list_any (module_names s.sub) f.modules)) stops aborts)
+none_of_processing f s InProcess none stops aborts = refl
+none_of_processing f s Processed none stops aborts = refl
+none_of_processing f s Aborted none stops aborts = refl
+none_of_processing f s Stopped none stops aborts = refl
+none_of_processing f s Rejected none stops aborts = refl
+none_of_processing f s Lost none stops aborts = refl
+none_of_processing f s Skipped none stops aborts = refl
+
+-- none where no module has an open command for a substrate that needs it, and no process job is STOPPING or ABORTING
+pub no_processing : (f : ToolFloor) → list_any (λ m. list_any (is_due m) f.substrates) f.modules ≡ false → list_any is_ending f.jobs.process.kept ≡ false
     → first_ready 13 (λ n. ready_in floor_machines 13 n f) (map number_of f.substrates) ≡ None
-no_processing f none =
+no_processing f none calm =
     none_ready 13 (λ n. ready_in floor_machines 13 n f) (map number_of f.substrates)
     (λ n. of (substrate_numbered n f.substrates) (λ s e needs. none_processes f.substrates n s e needs f.modules none))
   where
     of : (o : Option Substrate) → ((s : Substrate) → o ≡ Some s → is_needing s.states.processing ≡ true → list_any (processes s.sub) f.modules ≡ false) → substrate_ready processing_number processing_table (λ r. r.processing) o f ≡ None
     of None fails = refl
-    of (Some s) fails = none_of_processing f s s.states.processing (fails s refl)
+    of (Some s) fails = none_of_processing f s s.states.processing (fails s refl) (none_stopping s.job f.jobs.process.kept calm) (none_aborting s.job f.jobs.process.kept calm)

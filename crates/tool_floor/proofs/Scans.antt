@@ -126,6 +126,13 @@ rise_changed last given n change (s ∷ ss) same r = of (s.number == n) (rise_ch
   of false later = (r.0, later)
 
 -- more were given
+pub rise_mapped : (last given : ℕ) (change : Substrate → Substrate) (ss : List Substrate) → ((s : Substrate) → (change s).number ≡ s.number) → RiseTo last given ss → RiseTo last given (map change ss)
+rise_mapped last given change [] same r = r
+rise_mapped last given change (s ∷ ss) same r =
+    let number = same s in
+    let first = r.0 in
+    (omega (arith, number, first), subst (λ (n : ℕ). RiseTo n given (map change ss)) (sym number) (rise_mapped s.number given change ss same r.1))
+
 pub rise_given : (last given more : ℕ) (ss : List Substrate) → given ≤ more → RiseTo last given ss → RiseTo last more ss
 rise_given last given more [] l r = omega (arith, l, r)
 rise_given last given more (s ∷ ss) l r = (r.0, rise_given s.number given more ss l r.1)

@@ -1,5 +1,5 @@
 -- What is told to the planner, and that it tells nothing to do where all rest.
-use Rattle.std.proofs.Common.{◌≡◌, ℕ, ◌+◌, Bool, true, false, ◌||◌, List, [], ◌∷◌, ◌++◌, length, drop, Option, Some, None, slice_get, refl, sym, ap, ◌∙◌, arith}
+use Rattle.std.proofs.Common.{◌≡◌, ℕ, ◌+◌, Bool, true, false, ◌||◌, if◌then◌else◌, List, [], ◌∷◌, ◌++◌, length, drop, Option, Some, None, slice_get, refl, sym, ap, ◌∙◌, arith}
 use Rattle.std.specs.List.{list_any}
 use Rattle.carrier.proofs.Scans.{drop_here, drop_past}
 use Rattle.substrate.specs.Locations.{is_work_place}
@@ -10,6 +10,10 @@ use Rattle.robot_moves.specs.declared.view.PlaceView.{PlaceView}
 use Rattle.robot_moves.proofs.Giving.{nothing_moves}
 use Rattle.tool_floor.specs.declared.tracking.Substrate.{Substrate}
 use Rattle.tool_floor.specs.Floor.{ToolFloor, substrate_numbered}
+use Rattle.process_job.specs.Jobs.{has_number, job_numbered}
+use Rattle.process_job.specs.declared.job.ProcessJob.{ProcessJob}
+use Rattle.tool_jobs.specs.Jobs.{Jobs}
+use Rattle.tool_floor.specs.Jobs.{job_of, is_job_so, is_processing}
 use Rattle.tool_floor.specs.Views.{view_of, view_in, views_of, views, planned}
 
 append_again : (vs : List PlaceView) (v : PlaceView) (more : List PlaceView) → (vs ++ v ∷ []) ++ more ≡ vs ++ (v ∷ more)
@@ -20,37 +24,55 @@ pub one_longer : (vs : List PlaceView) (v : PlaceView) → length (vs ++ v ∷ [
 one_longer [] v = omega arith
 one_longer (x ∷ xs) v = let later = one_longer xs v in omega (arith, later)
 
-module _ (ss : List Substrate) (held : List Registered) (place : ℕ) (vs : List PlaceView) where
-  pub views_next : (r : Registered) (s : Substrate) → slice_get held place ≡ Some r → substrate_numbered r.number ss ≡ Some s → (vs ++ view_of r s ∷ []) ++ views_of ss (drop (place + 1) held) ≡ vs ++ views_of ss (drop place held)
+-- what is told of a substrate with its process job
+abbrev pub told : Jobs → Registered → Substrate → PlaceView
+told w r s = view_of r s (job_of s w) w.process.recipes
+
+module _ (w : Jobs) (ss : List Substrate) (held : List Registered) (place : ℕ) (vs : List PlaceView) where
+  pub views_next : (r : Registered) (s : Substrate) → slice_get held place ≡ Some r → substrate_numbered r.number ss ≡ Some s → (vs ++ told w r s ∷ []) ++ views_of w ss (drop (place + 1) held) ≡ vs ++ views_of w ss (drop place held)
   views_next r s at found =
-      append_again vs (view_of r s) (views_of ss (drop (place + 1) held))
-      ∙ ap (λ (o : Option Substrate). vs ++ (view_in r o ++ views_of ss (drop (place + 1) held))) (sym found)
-      ∙ ap (λ (rs : List Registered). vs ++ views_of ss rs) (sym (drop_here held place r at))
+      append_again vs (told w r s) (views_of w ss (drop (place + 1) held))
+      ∙ ap (λ (o : Option Substrate). vs ++ (view_in r o w ++ views_of w ss (drop (place + 1) held))) (sym found)
+      ∙ ap (λ (rs : List Registered). vs ++ views_of w ss rs) (sym (drop_here held place r at))
 
-  pub views_none : (r : Registered) → slice_get held place ≡ Some r → substrate_numbered r.number ss ≡ None → vs ++ views_of ss (drop (place + 1) held) ≡ vs ++ views_of ss (drop place held)
+  pub views_none : (r : Registered) → slice_get held place ≡ Some r → substrate_numbered r.number ss ≡ None → vs ++ views_of w ss (drop (place + 1) held) ≡ vs ++ views_of w ss (drop place held)
   views_none r at found =
-      ap (λ (o : Option Substrate). vs ++ (view_in r o ++ views_of ss (drop (place + 1) held))) (sym found)
-      ∙ ap (λ (rs : List Registered). vs ++ views_of ss rs) (sym (drop_here held place r at))
+      ap (λ (o : Option Substrate). vs ++ (view_in r o w ++ views_of w ss (drop (place + 1) held))) (sym found)
+      ∙ ap (λ (rs : List Registered). vs ++ views_of w ss rs) (sym (drop_here held place r at))
 
-  pub views_past : slice_get held place ≡ None → vs ++ views_of ss (drop (place + 1) held) ≡ vs ++ views_of ss (drop place held)
-  views_past at = ap (λ (rs : List Registered). vs ++ views_of ss rs) (sym (drop_past held place at))
+  pub views_past : slice_get held place ≡ None → vs ++ views_of w ss (drop (place + 1) held) ≡ vs ++ views_of w ss (drop place held)
+  views_past at = ap (λ (rs : List Registered). vs ++ views_of w ss rs) (sym (drop_past held place at))
 
 or_both : (a b : Bool) → (a || b) ≡ false → (a ≡ false) × (b ≡ false)
 or_both true b e = absurd (cc)
 or_both false b e = (refl, e)
 
-all_rest : (ss : List Substrate) (rs : List Registered) → list_any (λ r. is_work_place r.at) rs ≡ false → AllRest (views_of ss rs)
-all_rest ss [] none = tt
-all_rest ss (r ∷ rs) none =
-    let parts = or_both (is_work_place r.at) (list_any (λ (x : Registered). is_work_place x.at) rs) none in
-    of (substrate_numbered r.number ss) (all_rest ss rs parts.1)
+-- no process job of these is PROCESSING
+abbrev pub none_processes : List ProcessJob → Bool
+none_processes js = list_any (λ j. is_processing j.states.state) js
+
+found_not : (n : ℕ) (js : List ProcessJob) → none_processes js ≡ false → is_job_so is_processing (job_numbered n js) ≡ false
+found_not n [] none = refl
+found_not n (j ∷ js) none =
+    let parts = or_both (is_processing j.states.state) (none_processes js) none in
+    of (has_number n j) parts.0 (found_not n js parts.1)
   where
-    of : (o : Option Substrate) → AllRest (views_of ss rs) → AllRest (view_in r o ++ views_of ss rs)
+    of : (b : Bool) → is_processing j.states.state ≡ false → is_job_so is_processing (job_numbered n js) ≡ false → is_job_so is_processing (if b then Some j else job_numbered n js) ≡ false
+    of true here later = here
+    of false here later = later
+
+all_rest : (w : Jobs) (ss : List Substrate) (rs : List Registered) → none_processes w.process.kept ≡ false → list_any (λ r. is_work_place r.at) rs ≡ false → AllRest (views_of w ss rs)
+all_rest w ss [] idle none = tt
+all_rest w ss (r ∷ rs) idle none =
+    let parts = or_both (is_work_place r.at) (list_any (λ (x : Registered). is_work_place x.at) rs) none in
+    of (substrate_numbered r.number ss) (all_rest w ss rs idle parts.1)
+  where
+    of : (o : Option Substrate) → AllRest (views_of w ss rs) → AllRest (view_in r o w ++ views_of w ss rs)
     of None later = later
     of (Some s) later =
         let parts = or_both (is_work_place r.at) (list_any (λ (x : Registered). is_work_place x.at) rs) none in
-        ((parts.0, refl), later)
+        ((parts.0, found_not s.job w.process.kept idle), later)
 
--- where none is at work, no module has anything to do
-pub none_planned : (f : ToolFloor) → is_any_at_work f.places ≡ false → (number : ℕ) → planned number f ≡ None
-none_planned f none number = nothing_moves number (views f) f.modules (all_rest f.substrates f.places.held none)
+-- where none is at work and no process job is PROCESSING, no module has anything to do
+pub none_planned : (f : ToolFloor) → is_any_at_work f.places ≡ false → none_processes f.jobs.process.kept ≡ false → (number : ℕ) → planned number f ≡ None
+none_planned f none idle number = nothing_moves number (views f) f.modules (all_rest f.jobs f.substrates f.places.held idle none)

@@ -13,12 +13,15 @@ use Rattle.robot_moves.specs.declared.module.Module.TheVariants.{Idle, Busy, Dow
 use Rattle.shop_floor.specs.Floor.{Floor, numbers_from, number_of as carrier_number}
 use Rattle.shop_floor.specs.Machines.{transfer_machine, access_machine, reservation_machine, association_machine, id_machine, map_machine, accessing_machine, floor_starts as shop_starts, floor_fired as shop_fired, creation_rows as shop_creations, floor_least as shop_least, object_name as shop_object}
 use Rattle.shop_floor.proofs.Shapes.{no_accessing}
-use Rattle.tool_floor.specs.Floor.{ToolFloor, with_shop, with_module, module_numbers, number_of, location_at, change_location, location_numbers, substrate_numbered}
+use Rattle.control_job.specs.Jobs.{numbers_of as control_numbers}
+use Rattle.tool_jobs.specs.Rows.{control_fired as control_row_fired}
+use Rattle.tool_floor.specs.Jobs.{process_behind}
+use Rattle.tool_floor.specs.Floor.{ToolFloor, with_shop, with_jobs, with_module, module_numbers, number_of, location_at, change_location, location_numbers, substrate_numbered}
 use Rattle.substrate.specs.Record.{location_fired}
 use Rattle.tool_floor.specs.Views.{planned}
 use Rattle.tool_floor.specs.Modules.{move_starts, move_ready}
 use Rattle.tool_floor.specs.Substrates.{new_rows}
-use Rattle.tool_floor.specs.Machines.{moved_by, registered_by, accessing_ready, location_ready, location_machine, transport_machine, processing_machine, move_machine, floor_starts, floor_fired, creation_rows, floor_least, object_name}
+use Rattle.tool_floor.specs.Machines.{moved_by, registered_by, accessing_ready, location_ready, location_machine, transport_machine, processing_machine, process_numbers, process_machine, control_machine, move_machine, floor_starts, floor_fired, creation_rows, floor_least, object_name}
 
 -- ---- numbers of tables
 
@@ -37,31 +40,37 @@ none_of n ns t e =
 
 -- the tables that find something else than the load ports and the carriers do alone
 abbrev pub others : List ℕ
-others = 10 ∷ 11 ∷ 12 ∷ 13 ∷ 16 ∷ []
+others = 10 ∷ 11 ∷ 12 ∷ 13 ∷ 14 ∷ 15 ∷ 16 ∷ []
 
 -- the tables that do something else
 abbrev pub other_effects : List ℕ
 other_effects = 7 ∷ 9 ∷ others
 
 module _ (x : Firing) (f : ToolFloor) (other : is_one_of others x.row.table ≡ false) where
-  not_10 : ((x.row.table == 10) ≡ false) × (is_one_of (11 ∷ 12 ∷ 13 ∷ 16 ∷ []) x.row.table ≡ false)
-  not_10 = none_of 10 (11 ∷ 12 ∷ 13 ∷ 16 ∷ []) x.row.table other
+  not_10 : ((x.row.table == 10) ≡ false) × (is_one_of (11 ∷ 12 ∷ 13 ∷ 14 ∷ 15 ∷ 16 ∷ []) x.row.table ≡ false)
+  not_10 = none_of 10 (11 ∷ 12 ∷ 13 ∷ 14 ∷ 15 ∷ 16 ∷ []) x.row.table other
 
-  not_11 : ((x.row.table == 11) ≡ false) × (is_one_of (12 ∷ 13 ∷ 16 ∷ []) x.row.table ≡ false)
-  not_11 = none_of 11 (12 ∷ 13 ∷ 16 ∷ []) x.row.table not_10.1
+  not_11 : ((x.row.table == 11) ≡ false) × (is_one_of (12 ∷ 13 ∷ 14 ∷ 15 ∷ 16 ∷ []) x.row.table ≡ false)
+  not_11 = none_of 11 (12 ∷ 13 ∷ 14 ∷ 15 ∷ 16 ∷ []) x.row.table not_10.1
 
-  not_12 : ((x.row.table == 12) ≡ false) × (is_one_of (13 ∷ 16 ∷ []) x.row.table ≡ false)
-  not_12 = none_of 12 (13 ∷ 16 ∷ []) x.row.table not_11.1
+  not_12 : ((x.row.table == 12) ≡ false) × (is_one_of (13 ∷ 14 ∷ 15 ∷ 16 ∷ []) x.row.table ≡ false)
+  not_12 = none_of 12 (13 ∷ 14 ∷ 15 ∷ 16 ∷ []) x.row.table not_11.1
 
-  not_13 : ((x.row.table == 13) ≡ false) × (is_one_of (16 ∷ []) x.row.table ≡ false)
-  not_13 = none_of 13 (16 ∷ []) x.row.table not_12.1
+  not_13 : ((x.row.table == 13) ≡ false) × (is_one_of (14 ∷ 15 ∷ 16 ∷ []) x.row.table ≡ false)
+  not_13 = none_of 13 (14 ∷ 15 ∷ 16 ∷ []) x.row.table not_12.1
 
-  not_16 : ((x.row.table == 16) ≡ false) × (is_one_of ([]) x.row.table ≡ false)
-  not_16 = none_of 16 [] x.row.table not_13.1
+  not_14 : ((x.row.table == 14) ≡ false) × (is_one_of (15 ∷ 16 ∷ []) x.row.table ≡ false)
+  not_14 = none_of 14 (15 ∷ 16 ∷ []) x.row.table not_13.1
+
+  not_15 : ((x.row.table == 15) ≡ false) × (is_one_of (16 ∷ []) x.row.table ≡ false)
+  not_15 = none_of 15 (16 ∷ []) x.row.table not_14.1
+
+  not_16 : ((x.row.table == 16) ≡ false) × (is_one_of [] x.row.table ≡ false)
+  not_16 = none_of 16 [] x.row.table not_15.1
 
   -- it starts where it does of the load ports and the carriers
   pub starts_shop : floor_starts x f ≡ shop_starts x f.shop
-  starts_shop = rw (not_10.0, not_11.0, not_12.0, not_13.0, not_16.0) refl
+  starts_shop = rw (not_10.0, not_11.0, not_12.0, not_13.0, not_14.0, not_15.0, not_16.0) refl
 
 module _ (x : Firing) (f : ToolFloor) (other : is_one_of other_effects x.row.table ≡ false) where
   not_7 : ((x.row.table == 7) ≡ false) × (is_one_of (9 ∷ others) x.row.table ≡ false)
@@ -73,24 +82,30 @@ module _ (x : Firing) (f : ToolFloor) (other : is_one_of other_effects x.row.tab
   pub is_other : is_one_of others x.row.table ≡ false
   is_other = not_9.1
 
-  none_10 : ((x.row.table == 10) ≡ false) × (is_one_of (11 ∷ 12 ∷ 13 ∷ 16 ∷ []) x.row.table ≡ false)
-  none_10 = none_of 10 (11 ∷ 12 ∷ 13 ∷ 16 ∷ []) x.row.table not_9.1
+  none_10 : ((x.row.table == 10) ≡ false) × (is_one_of (11 ∷ 12 ∷ 13 ∷ 14 ∷ 15 ∷ 16 ∷ []) x.row.table ≡ false)
+  none_10 = none_of 10 (11 ∷ 12 ∷ 13 ∷ 14 ∷ 15 ∷ 16 ∷ []) x.row.table not_9.1
 
-  none_11 : ((x.row.table == 11) ≡ false) × (is_one_of (12 ∷ 13 ∷ 16 ∷ []) x.row.table ≡ false)
-  none_11 = none_of 11 (12 ∷ 13 ∷ 16 ∷ []) x.row.table none_10.1
+  none_11 : ((x.row.table == 11) ≡ false) × (is_one_of (12 ∷ 13 ∷ 14 ∷ 15 ∷ 16 ∷ []) x.row.table ≡ false)
+  none_11 = none_of 11 (12 ∷ 13 ∷ 14 ∷ 15 ∷ 16 ∷ []) x.row.table none_10.1
 
-  none_12 : ((x.row.table == 12) ≡ false) × (is_one_of (13 ∷ 16 ∷ []) x.row.table ≡ false)
-  none_12 = none_of 12 (13 ∷ 16 ∷ []) x.row.table none_11.1
+  none_12 : ((x.row.table == 12) ≡ false) × (is_one_of (13 ∷ 14 ∷ 15 ∷ 16 ∷ []) x.row.table ≡ false)
+  none_12 = none_of 12 (13 ∷ 14 ∷ 15 ∷ 16 ∷ []) x.row.table none_11.1
 
-  none_13 : ((x.row.table == 13) ≡ false) × (is_one_of (16 ∷ []) x.row.table ≡ false)
-  none_13 = none_of 13 (16 ∷ []) x.row.table none_12.1
+  none_13 : ((x.row.table == 13) ≡ false) × (is_one_of (14 ∷ 15 ∷ 16 ∷ []) x.row.table ≡ false)
+  none_13 = none_of 13 (14 ∷ 15 ∷ 16 ∷ []) x.row.table none_12.1
 
-  none_16 : ((x.row.table == 16) ≡ false) × (is_one_of ([]) x.row.table ≡ false)
-  none_16 = none_of 16 [] x.row.table none_13.1
+  none_14 : ((x.row.table == 14) ≡ false) × (is_one_of (15 ∷ 16 ∷ []) x.row.table ≡ false)
+  none_14 = none_of 14 (15 ∷ 16 ∷ []) x.row.table none_13.1
+
+  none_15 : ((x.row.table == 15) ≡ false) × (is_one_of (16 ∷ []) x.row.table ≡ false)
+  none_15 = none_of 15 (16 ∷ []) x.row.table none_14.1
+
+  none_16 : ((x.row.table == 16) ≡ false) × (is_one_of [] x.row.table ≡ false)
+  none_16 = none_of 16 [] x.row.table none_15.1
 
   -- what it does to them is all that it does
   pub fired_shop : floor_fired x f ≡ with_shop (shop_fired x f.shop) f
-  fired_shop = rw (not_7.0, not_9.0, none_10.0, none_11.0, none_12.0, none_13.0, none_16.0) (of (x.row.table == 4) (x.row.table == 5) (x.row.table == 6) (x.row.table == 8)) where
+  fired_shop = rw (not_7.0, not_9.0, none_10.0, none_11.0, none_12.0, none_13.0, none_14.0, none_15.0, none_16.0) (of (x.row.table == 4) (x.row.table == 5) (x.row.table == 6) (x.row.table == 8)) where
     of : (a b c d : Bool) → (if a then with_shop (transfer_machine.fired x.row.row x.object f.shop) f else (if b then with_shop (access_machine.fired x.row.row x.object f.shop) f else (if c then with_shop (reservation_machine.fired x.row.row x.object f.shop) f else (if d then with_shop (id_machine.fired x.row.row x.object f.shop) f else f))))
         ≡ with_shop (if a then transfer_machine.fired x.row.row x.object f.shop else (if b then access_machine.fired x.row.row x.object f.shop else (if c then reservation_machine.fired x.row.row x.object f.shop else (if d then id_machine.fired x.row.row x.object f.shop else f.shop)))) f
     of true b c d = refl
@@ -100,7 +115,7 @@ module _ (x : Firing) (f : ToolFloor) (other : is_one_of other_effects x.row.tab
     of false false false false = refl
 
   pub creates_shop : creation_rows x f ≡ shop_creations x f.shop
-  creates_shop = rw (not_7.0, not_9.0, none_10.0, none_11.0, none_12.0, none_13.0, none_16.0) refl
+  creates_shop = rw (not_7.0, not_9.0, none_10.0, none_11.0, none_12.0, none_13.0, none_14.0, none_15.0, none_16.0) refl
 
 -- ---- a row of one of those tables
 
@@ -132,11 +147,17 @@ first_transport f = first_ready 12 (λ n. transport_machine.ready n f) (map numb
 abbrev pub first_processing : ToolFloor → Option Firing
 first_processing f = first_ready 13 (λ n. processing_machine.ready n f) (map number_of f.substrates)
 
+abbrev pub first_process : ToolFloor → Option Firing
+first_process f = first_ready 14 (λ n. process_machine.ready n f) (process_numbers f.jobs.process.kept)
+
+abbrev pub first_control : ToolFloor → Option Firing
+first_control f = first_ready 15 (λ n. control_machine.ready n f) (control_numbers f.jobs.control.jobs)
+
 abbrev pub first_move : ToolFloor → Option Firing
 first_move f = first_ready 16 (λ number. move_ready (planned number f) (module_at number f.modules)) (module_numbers 1 f.modules)
 
 abbrev pub first_of_others : ToolFloor → Option Firing
-first_of_others f = option_or (first_accessing f) (option_or (first_location f) (option_or (first_transport f) (option_or (first_processing f) (first_move f))))
+first_of_others f = option_or (first_accessing f) (option_or (first_location f) (option_or (first_transport f) (option_or (first_processing f) (option_or (first_process f) (option_or (first_control f) (first_move f))))))
 
 or_nothing : {A : Type 0} (o : Option A) → option_or o None ≡ o
 or_nothing None = refl
@@ -177,6 +198,18 @@ module _ (x : Firing) (f : ToolFloor) where
   pub created_map : x.row.table ≡ 9 → creation_rows x f ≡ new_rows f (registered_by x.row.row x.object f)
   created_map is = subst (λ (t : ℕ). creation_rows (firing t x.object x.row.row) f ≡ new_rows f (registered_by x.row.row x.object f)) (sym is) refl
 
+  pub fired_process : x.row.table ≡ 14 → floor_fired x f ≡ process_behind x.row.row x.object f
+  fired_process is = subst (λ (t : ℕ). floor_fired (firing t x.object x.row.row) f ≡ process_behind x.row.row x.object f) (sym is) refl
+
+  pub starts_process : x.row.table ≡ 14 → floor_starts x f ≡ process_machine.starts x.row.row x.object f
+  starts_process is = subst (λ (t : ℕ). floor_starts (firing t x.object x.row.row) f ≡ process_machine.starts x.row.row x.object f) (sym is) refl
+
+  pub fired_control : x.row.table ≡ 15 → floor_fired x f ≡ with_jobs (control_row_fired x.row.row x.object f.jobs) f
+  fired_control is = subst (λ (t : ℕ). floor_fired (firing t x.object x.row.row) f ≡ with_jobs (control_row_fired x.row.row x.object f.jobs) f) (sym is) refl
+
+  pub starts_control : x.row.table ≡ 15 → floor_starts x f ≡ control_machine.starts x.row.row x.object f
+  starts_control is = subst (λ (t : ℕ). floor_starts (firing t x.object x.row.row) f ≡ control_machine.starts x.row.row x.object f) (sym is) refl
+
   pub fired_move : x.row.table ≡ 16 → floor_fired x f ≡ moved_by x.row.row x.object f
   fired_move is = subst (λ (t : ℕ). floor_fired (firing t x.object x.row.row) f ≡ moved_by x.row.row x.object f) (sym is) refl
 
@@ -198,8 +231,15 @@ module _ (f : ToolFloor) (x : Firing) where
   pub least_fourth : shop_least f.shop ≡ None → first_accessing f ≡ None → first_location f ≡ None → first_transport f ≡ Some x → Some x ≡ floor_least f
   least_fourth e a l t = sym (least_floor f ∙ rw (e, a, l, t) refl)
 
-pub least_fifth : (f : ToolFloor) (x : Firing) → shop_least f.shop ≡ None → first_accessing f ≡ None → first_location f ≡ None → first_transport f ≡ None → first_processing f ≡ Some x → Some x ≡ floor_least f
-least_fifth f x e a l t p = sym (least_floor f ∙ rw (e, a, l, t, p) refl)
+module _ (f : ToolFloor) (x : Firing) (e : shop_least f.shop ≡ None) (a : first_accessing f ≡ None) (l : first_location f ≡ None) (t : first_transport f ≡ None) where
+  pub least_fifth : first_processing f ≡ Some x → Some x ≡ floor_least f
+  least_fifth p = sym (least_floor f ∙ rw (e, a, l, t, p) refl)
 
-pub least_last : (f : ToolFloor) → shop_least f.shop ≡ None → first_accessing f ≡ None → first_location f ≡ None → first_transport f ≡ None → first_processing f ≡ None → first_move f ≡ floor_least f
-least_last f e a l t p = sym (least_floor f ∙ rw (e, a, l, t, p) refl)
+  pub least_sixth : first_processing f ≡ None → first_process f ≡ Some x → Some x ≡ floor_least f
+  least_sixth p j = sym (least_floor f ∙ rw (e, a, l, t, p, j) refl)
+
+  pub least_seventh : first_processing f ≡ None → first_process f ≡ None → first_control f ≡ Some x → Some x ≡ floor_least f
+  least_seventh p j c = sym (least_floor f ∙ rw (e, a, l, t, p, j, c) refl)
+
+pub least_last : (f : ToolFloor) → shop_least f.shop ≡ None → first_accessing f ≡ None → first_location f ≡ None → first_transport f ≡ None → first_processing f ≡ None → first_process f ≡ None → first_control f ≡ None → first_move f ≡ floor_least f
+least_last f e a l t p j c = sym (least_floor f ∙ rw (e, a, l, t, p, j, c) refl)

@@ -6,7 +6,8 @@ use Rattle.substrate.specs.Places.{PlaceMap, has_name, substrate_named, is_any_a
 use Rattle.substrate.specs.declared.registered.Registered.{Registered}
 use Rattle.tool_floor.specs.declared.tracking.Substrate.{Substrate}
 use Rattle.tool_floor.specs.Floor.{ToolFloor}
-use Rattle.tool_floor.specs.Substrates.{is_at_work, is_outside, is_of, has_outside}
+use Rattle.tool_floor.specs.Substrates.{is_at_work, is_outside, is_of}
+use Rattle.tool_floor.specs.Wants.{has_outside}
 
 or_both : (a b : Bool) → (a || b) ≡ false → (a ≡ false) × (b ≡ false)
 or_both true b e = absurd (cc)

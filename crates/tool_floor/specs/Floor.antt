@@ -13,12 +13,14 @@ use Rattle.substrate.specs.Places.{PlaceMap, no_places}
 use Rattle.substrate.specs.Board.{spot_count}
 use Rattle.substrate.specs.Record.{first_location}
 use Rattle.substrate.specs.declared.record.LocationRecord.{LocationRecord}
+use Rattle.tool_events.specs.declared.recipes.Recipe.{Recipe}
+use Rattle.tool_jobs.specs.Jobs.{Jobs, no_jobs}
 use Rattle.tool_floor.specs.declared.tracking.Substrate.{Substrate}
 
 -- the load ports with the carriers; the modules by their numbers: 1 is the robot, 2 the aligner, and 2 + c chamber c; which
 -- substrate has which place; the states of the locations by their numbers: slots port by port, then aligner, arm and chambers; and
--- the substrates of the carriers that are here, in the order of their registration; and the number of the last command that was
--- given, 0 where none was
+-- the substrates of the carriers that are here, in the order of their registration; the number of the last command that was given, 0
+-- where none was; and the process jobs and control jobs
 pub record ToolFloor : Type 0 where
   pub shop : Floor
   pub modules : List Module
@@ -26,16 +28,19 @@ pub record ToolFloor : Type 0 where
   pub locations : List LocationRecord
   pub substrates : List Substrate
   pub commands : ℕ
+  pub jobs : Jobs
 
--- so many ports without a carrier, and so many chambers; each module is Idle, and no substrate has a place
-abbrev pub opening : ℕ → ℕ → ToolFloor
-opening ports chambers = record {
+-- so many ports without a carrier, so many chambers, and these recipes; each module is Idle, no substrate has a place, and there is no
+-- job
+abbrev pub opening : ℕ → ℕ → List Recipe → ToolFloor
+opening ports chambers recipes = record {
   shop = shop.opening ports;
   modules = first_modules chambers;
   places = no_places ports chambers;
   locations = replicate (spot_count ports chambers) first_location;
   substrates = [];
   commands = 0;
+  jobs = no_jobs recipes;
 }
 
 -- ---- what changes
@@ -43,6 +48,10 @@ opening ports chambers = record {
 -- the load ports and the carriers are these now
 abbrev pub with_shop : Floor → ToolFloor → ToolFloor
 with_shop s f = record f { shop = s }
+
+-- the jobs are these now
+abbrev pub with_jobs : Jobs → ToolFloor → ToolFloor
+with_jobs w f = record f { jobs = w }
 
 -- a change of the module of a number
 abbrev pub with_module : ℕ → (Module → Module) → ToolFloor → ToolFloor

@@ -6,7 +6,7 @@ use Rattle.tool_floor.specs.Floor.{ToolFloor}
 
 -- what callers see
 abbrev pub kept_floor : Inside → ToolFloor
-kept_floor k = record { shop = k.shop; modules = k.modules; places = k.places; locations = k.locations.items; substrates = k.substrates; commands = k.commands }
+kept_floor k = record { shop = k.shop; modules = k.modules; places = k.places; locations = k.locations.items; substrates = k.substrates; commands = k.commands; jobs = k.jobs }
 
 -- the numbers of substrates rise from behind one number on, and were given
 abbrev pub RiseTo : ℕ → ℕ → List Substrate → Type 0

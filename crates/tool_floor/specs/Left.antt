@@ -11,6 +11,7 @@ use Rattle.substrate.specs.declared.record.Transport.TheVariants.{AtSource, AtWo
 use Rattle.substrate.specs.declared.record.Processing.{Processing}
 use Rattle.substrate.specs.declared.record.Processing.TheVariants.{NeedsProcessing, InProcess}
 use Rattle.substrate.specs.declared.record.LocationRecord.{LocationRecord}
+use Rattle.tool_jobs.specs.Left.{jobs_left}
 use Rattle.tool_floor.specs.declared.tracking.Substrate.{Substrate}
 use Rattle.tool_floor.specs.Floor.{ToolFloor}
 
@@ -51,4 +52,5 @@ substrates_left (s ∷ ss) = substrate_left s + substrates_left ss
 
 -- what is left to fire by itself
 abbrev pub floor_left : ToolFloor → ℕ
-floor_left f = shop_left f.shop + (locations_left 1 f.places f.locations + (substrates_left f.substrates + modules_left f.modules))
+floor_left f =
+    shop_left f.shop + (locations_left 1 f.places f.locations + (substrates_left f.substrates + (modules_left f.modules + jobs_left f.jobs)))

@@ -1,7 +1,10 @@
 pub mod Floor
-pub mod Views
 pub mod Modules
+pub mod Naming
 pub mod Substrates
+pub mod Jobs
+pub mod Wants
+pub mod Views
 pub mod Machines
 pub mod Left
 pub mod Signals

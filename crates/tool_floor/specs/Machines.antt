@@ -1,5 +1,5 @@
--- Tables 4 to 13 and 16 at work on the floor of the tool (after SEMI E87 and SEMI E90; this tool's profile, tables 4 to 13 and 16,
--- and settling).
+-- Tables 4 to 16 at work on the floor of the tool (after SEMI E40, SEMI E87, SEMI E90 and SEMI E94; this tool's profile, tables 4 to
+-- 16, and settling).
 use Rattle.std.specs.Prelude.{ℕ, ◌==◌, Bool, false, ◌&&◌, if◌then◌else◌, List, [], ◌∷◌, map, Option, Some, None}
 use Rattle.gem_tables.specs.Table.{is_one_of, may_fire, first_itself, row_of}
 use Rattle.gem_tables.specs.Machine.{Machine, starts_in, fired_in, creates_in, object_in, least_in}
@@ -17,11 +17,18 @@ use Rattle.substrate.specs.declared.record.SubstrateRecord.{SubstrateRecord}
 use Rattle.substrate.specs.declared.record.LocationRecord.{LocationRecord}
 use Rattle.substrate.specs.Places.{found_location}
 use Rattle.tool_floor.specs.declared.tracking.Substrate.{Substrate}
-use Rattle.tool_floor.specs.Floor.{ToolFloor, with_shop, with_module, module_numbers, location_at, change_location, location_numbers, name_of_place, substrate_numbered, change_numbered, substrate_name, number_of}
+use Rattle.tool_floor.specs.Floor.{ToolFloor, with_shop, with_jobs, with_module, module_numbers, location_at, change_location, location_numbers, name_of_place, substrate_numbered, change_numbered, substrate_name, number_of}
 use Rattle.robot_moves.specs.Tables.{move_table}
 use Rattle.tool_floor.specs.Views.{planned}
 use Rattle.tool_floor.specs.Modules.{move_starts, move_ready, module_behind, found_move}
-use Rattle.tool_floor.specs.Substrates.{accessing_wants, location_wants, substrate_wants, reaches_verified, registers_found, new_rows, without_carrier, found_does}
+use Rattle.tool_floor.specs.Wants.{accessing_wants, location_wants, substrate_wants}
+use Rattle.tool_floor.specs.Jobs.{found_sight, is_first_here, process_behind}
+use Rattle.process_job.specs.Jobs.{job_numbered as process_numbered}
+use Rattle.process_job.specs.declared.job.ProcessJob.{ProcessJob}
+use Rattle.control_job.specs.Jobs.{job_numbered as control_numbered, numbers_of as control_numbers}
+use Rattle.tool_jobs.specs.Jobs.{process_name, control_name}
+use Rattle.tool_jobs.specs.Rows.{process_starts, process_ready, control_starts, control_ready, control_fired}
+use Rattle.tool_floor.specs.Substrates.{reaches_verified, registers_found, new_rows, without_carrier, found_does}
 
 -- ---- the load ports and the carriers
 
@@ -145,6 +152,36 @@ processing_machine = record {
   name = λ n f. substrate_name (substrate_numbered n f.substrates);
 }
 
+-- ---- the jobs
+
+-- the numbers of the process jobs, and of the control jobs, by creation
+abbrev pub process_numbers : List ProcessJob → List ℕ
+process_numbers js = map (λ j. j.number) js
+
+-- table 14, process jobs
+abbrev pub process_machine : Machine ToolFloor
+process_machine = record {
+  table = 14;
+  objects = λ f. process_numbers f.jobs.process.kept;
+  starts = λ row n f. process_starts row (process_numbered n f.jobs.process.kept) (found_sight (process_numbered n f.jobs.process.kept) f) f.jobs;
+  ready = λ n f. process_ready (process_numbered n f.jobs.process.kept) (found_sight (process_numbered n f.jobs.process.kept) f) f.jobs;
+  fired = λ row n f. process_behind row n f;
+  creates = λ row n f. [];
+  name = λ n f. process_name (process_numbered n f.jobs.process.kept);
+}
+
+-- table 15, control jobs
+abbrev pub control_machine : Machine ToolFloor
+control_machine = record {
+  table = 15;
+  objects = λ f. control_numbers f.jobs.control.jobs;
+  starts = λ row n f. control_starts row (control_numbered n f.jobs.control.jobs) (is_first_here n f) f.jobs;
+  ready = λ n f. control_ready (control_numbered n f.jobs.control.jobs) (is_first_here n f) f.jobs;
+  fired = λ row n f. with_jobs (control_fired row n f.jobs) f;
+  creates = λ row n f. [];
+  name = λ n f. control_name (control_numbered n f.jobs.control.jobs);
+}
+
 -- ---- the modules
 
 -- the floor behind the row of a number at the module of a number
@@ -166,7 +203,7 @@ move_machine = record {
 abbrev pub floor_machines : List (Machine ToolFloor)
 floor_machines =
     on_shop transfer_machine ∷ on_shop access_machine ∷ on_shop reservation_machine ∷ port_machine ∷ on_shop id_machine ∷ slot_machine
-    ∷ carrier_machine ∷ location_machine ∷ transport_machine ∷ processing_machine ∷ move_machine ∷ []
+    ∷ carrier_machine ∷ location_machine ∷ transport_machine ∷ processing_machine ∷ process_machine ∷ control_machine ∷ move_machine ∷ []
 
 -- ---- all of them
 
@@ -186,12 +223,12 @@ creation_rows x f = creates_in floor_machines x f
 abbrev pub is_creation : Firing → Bool
 is_creation x = is_one_of (8 ∷ 12 ∷ 13 ∷ []) x.row.table && (x.row.row == 1)
 
--- the least row that is ready by itself, by table, object and row: ports, locations and modules by number, carriers by creation,
--- substrates by registration
+-- the least row that is ready by itself, by table, object and row: ports, locations and modules by number, carriers and jobs by
+-- creation, substrates by registration
 abbrev pub floor_least : ToolFloor → Option Firing
 floor_least f = least_in floor_machines f
 
--- the name of the object of a firing: a port's, a carrier's, a location's or a substrate's; a module has none (this tool's profile,
--- object names)
+-- the name of the object of a firing: a port's, a carrier's, a location's, a substrate's or a job's; a module has none (this tool's
+-- profile, object names)
 abbrev pub object_name : Firing → ToolFloor → List ℕ
 object_name x f = object_in floor_machines x f

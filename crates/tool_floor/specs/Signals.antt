@@ -14,6 +14,8 @@ use Rattle.tool_floor.specs.declared.tracking.Substrate.{Substrate}
 use Rattle.tool_floor.specs.Floor.{ToolFloor, substrate_numbered}
 use Rattle.tool_floor.specs.Substrates.{is_in_slot}
 use Rattle.tool_floor.specs.Modules.{number_named}
+use Rattle.tool_floor.specs.Naming.{module_names}
+use Rattle.tool_floor.specs.Jobs.{job_of, is_job_so, is_aborting}
 
 -- the tool has no module of this number
 abbrev pub is_no_module : ℕ → ToolFloor → Bool
@@ -40,9 +42,28 @@ abbrev pub processed_rows : ℕ → Task → ToolFloor → List Firing
 processed_rows row (task.Process sub recipe) f = at_processed row (number_named sub f.places)
 processed_rows row _ f = []
 
--- the direct rows of Done of the open command of a module: that of its task, and behind a Process row 3 of processing
+-- the process job of a substrate that was looked for is ABORTING
+abbrev pub is_of_aborting : Option Substrate → ToolFloor → Bool
+is_of_aborting None f = false
+is_of_aborting (Some s) f = is_job_so is_aborting (job_of s f.jobs)
+
+-- the row of processing of the substrate of a number that was processed: 4 where its process job is ABORTING, else 3
+abbrev pub done_processing : ℕ → ToolFloor → ℕ
+done_processing n f = if is_of_aborting (substrate_numbered n f.substrates) f then 4 else 3
+
+-- that row, where a substrate is given
+abbrev pub at_done : Option ℕ → ToolFloor → List Firing
+at_done None f = []
+at_done (Some n) f = firing 13 n (done_processing n f) ∷ []
+
+-- that of the substrate that a task processes
+abbrev pub done_processed : Task → ToolFloor → List Firing
+done_processed (task.Process sub recipe) f = at_done (number_named sub f.places) f
+done_processed _ f = []
+
+-- the direct rows of Done of the open command of a module: that of its task, and behind a Process row 3 or 4 of processing
 abbrev pub done_at : ℕ → Option Module → ToolFloor → List Firing
-done_at number (Some (Busy command fetched)) f = at_module (done_row command.task) number ++ processed_rows 3 command.task f
+done_at number (Some (Busy command fetched)) f = at_module (done_row command.task) number ++ done_processed command.task f
 done_at number _ f = []
 
 abbrev pub done_rows : ℕ → ToolFloor → List Firing
@@ -57,18 +78,6 @@ abbrev pub closing_rows : ℕ → ℕ → ToolFloor → List Firing
 closing_rows row number f = closing_at row number (module_at number f.modules) f
 
 -- ---- what the operator says
-
--- the substrate that a task names
-abbrev pub named_by : Task → List ℕ
-named_by (task.Pick sub from) = sub
-named_by (task.Place sub to) = sub
-named_by (task.Align sub) = sub
-named_by (task.Process sub recipe) = sub
-
--- an open command of a module names the substrate
-abbrev pub module_names : List ℕ → Module → Bool
-module_names sub (Busy command fetched) = bytes_eq (named_by command.task) sub
-module_names sub _ = false
 
 -- it is outside its slot, and no open command names it
 abbrev pub can_be_lost : Option Substrate → ToolFloor → Bool

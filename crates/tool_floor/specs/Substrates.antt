@@ -1,5 +1,5 @@
--- What the rows of carriers, locations and substrates want of each other, and what they do (after SEMI E87 and SEMI E90; this tool's
--- profile, tables 9 to 13). The tables are in carrier and substrate.
+-- Where the substrates are, and how they are registered, removed and lost (after SEMI E87 and SEMI E90; this tool's profile, tables 9 to
+-- 13). The tables are in carrier and substrate.
 use Rattle.std.specs.Prelude.{ℕ, zero, suc, ◌+◌, ◌==◌, Bool, true, false, not, ◌&&◌, ◌||◌, if◌then◌else◌, List, [], ◌∷◌, ◌++◌, drop, length, filter, Option, Some, None, is_some, option_map}
 use Rattle.std.specs.List.{list_any, list_all}
 use Rattle.std.specs.Str.{bytes_eq}
@@ -49,61 +49,16 @@ is_removed s p = not (is_some (substrate_named s.sub p.held))
 abbrev pub is_of : ℕ → Substrate → Bool
 is_of carrier s = s.carrier == carrier
 
--- ---- what rows want
-
--- a substrate of the carrier of this number is outside
-abbrev pub has_outside : ℕ → ToolFloor → Bool
-has_outside carrier f = list_any (λ s. is_of carrier s && is_outside s f.places) f.substrates
-
--- the substrate is in its slot, or removed, where it is of the carrier of this number
-abbrev pub is_back : ℕ → PlaceMap → Substrate → Bool
-is_back carrier p s = not (is_of carrier s) || (is_in_slot s p || is_removed s p)
-
--- a carrier is quiet: each of its substrates is in its slot or removed; no process job names it yet (this tool's profile, table 10)
-abbrev pub is_quiet : ℕ → ToolFloor → Bool
-is_quiet carrier f = list_all (is_back carrier f.places) f.substrates
-
--- what a row of accessing wants; no carrier is marked stopped yet
-abbrev pub accessing_wants : CarrierWant → Carrier → ToolFloor → Bool
-accessing_wants carrier_want.substrate_outside c f = has_outside c.number f
-accessing_wants carrier_want.quiet c f = is_quiet c.number f
-accessing_wants other c f = carrier_wants other c
-
--- what a row of the location of a number wants: a substrate is there, or none is
-abbrev pub location_wants : SubstrateWant → ℕ → PlaceMap → Bool
-location_wants want.nothing_more number p = true
-location_wants want.substrate_there number p = is_taken_at number p
-location_wants want.none_there number p = not (is_taken_at number p)
-location_wants _ number p = false
-
--- a task processes the substrate of this name
-abbrev pub task_processes : List ℕ → Task → Bool
-task_processes sub (task.Process name recipe) = bytes_eq name sub
-task_processes sub _ = false
-
--- a module has an open command that does
-abbrev pub processes : List ℕ → Module → Bool
-processes sub (Busy command fetched) = task_processes sub command.task
-processes sub _ = false
-
--- what a row of a substrate wants; it is of no job yet
-abbrev pub substrate_wants : SubstrateWant → Substrate → ToolFloor → Bool
-substrate_wants want.nothing_more s f = true
-substrate_wants want.outside s f = is_outside s f.places
-substrate_wants want.in_slot s f = is_in_slot s f.places
-substrate_wants want.process_names_it s f = list_any (processes s.sub) f.modules
-substrate_wants _ s f = false
-
 -- ---- registration
 
 -- a substrate of this name can be registered at this place: it is one of the tool, and no fault stands against it
 abbrev pub can_register : List ℕ → LocId → PlaceMap → Bool
 can_register sub loc p = is_location p.ports p.chambers loc && not (is_some (register_fault sub loc p.held))
 
--- a substrate that is registered, in its slot, of the carrier of this number
+-- a substrate that is registered, in its slot, of the carrier of this number, and in no job
 abbrev pub first_substrate : ℕ → List ℕ → ℕ → LocId → Substrate
 first_substrate number sub carrier loc =
-    record { number = number; sub = sub; carrier = carrier; slot = loc; states = first_record; aligned = false }
+    record { number = number; sub = sub; carrier = carrier; slot = loc; states = first_record; aligned = false; job = 0 }
 
 -- a substrate is registered at a place, behind the others, where it can be
 abbrev pub registers_at : List ℕ → ℕ → LocId → ToolFloor → ToolFloor

@@ -1,12 +1,14 @@
 //! Where the substrates are, and what the rows of carriers, locations and substrates want (this tool's profile, tables 10 to 13).
 
-ghost use Rattle.std.specs.Prelude.{◌≡◌, ◌&&◌, Some, None};
+ghost use Rattle.std.specs.Prelude.{◌≡◌, ◌&&◌, not, Some, None};
 ghost use Rattle.std.specs.List.{list_any};
 ghost use Rattle.gem_tables.specs.Table.{row_of, wants_found};
 ghost use Rattle.carrier.specs.Tables.{accessing_table};
 ghost use Rattle.substrate.specs.Record.{is_needing};
 ghost use Rattle.substrate.specs.Tables.{occupancy_table, transport_table, processing_table};
-ghost use Rattle.tool_floor.specs.Substrates.{is_outside, is_in_slot, is_removed, is_of, has_outside, is_back, is_quiet, accessing_wants, location_wants, task_processes, processes, substrate_wants};
+ghost use Rattle.tool_floor.specs.Naming.{task_processes, processes};
+ghost use Rattle.tool_floor.specs.Substrates.{is_outside, is_in_slot, is_removed, is_of};
+ghost use Rattle.tool_floor.specs.Wants.{has_outside, is_back, are_back, is_quiet, accessing_wants, location_wants, is_skipped, substrate_wants};
 
 use crate::floor::ToolFloor;
 use crate::tracking::Substrate;
@@ -66,7 +68,7 @@ impl ToolFloor {
     }
 
     // Whether it has no place any more.
-    fn is_removed(&self, s: &Substrate) -> bool
+    pub(crate) fn is_removed(&self, s: &Substrate) -> bool
         ensures { result ≡ is_removed s.now self.now.places }
     {
         self.places.find(s.sub).is_none()
@@ -153,9 +155,16 @@ impl ToolFloor {
         false
     }
 
+    // Whether a carrier is quiet: no process job names it, and each of its substrates is in its slot or removed.
+    pub(crate) fn is_quiet(&self, c: &Carrier) -> bool
+        ensures { result ≡ is_quiet c.now self.now }
+    {
+        !self.is_any_of_carrier(c) && self.are_back(c.number)
+    }
+
     // Whether each substrate of the carrier of this number is in its slot or removed.
-    pub(crate) fn is_quiet(&self, carrier: u64) -> bool
-        ensures { result ≡ is_quiet carrier self.now }
+    fn are_back(&self, carrier: u64) -> bool
+        ensures { result ≡ are_back carrier self.now }
     {
         for place in 0..self.substrate_count() {
             if let Some(s) = self.substrate_at(place) {
@@ -175,8 +184,8 @@ impl ToolFloor {
     {
         match row {
             1 => self.has_outside(c.number),
-            2 => self.is_quiet(c.number),
-            3 => false,
+            2 => self.is_quiet(c) && !c.stopped,
+            3 => self.is_quiet(c) && c.stopped,
             _ => true,
         }
     }
@@ -192,6 +201,14 @@ impl ToolFloor {
         }
     }
 
+    // Whether a substrate is in its slot, its process job is STOPPING or ABORTING, and no open command names it.
+    pub(crate) fn is_skipped(&self, s: &Substrate) -> bool
+        ensures { result ≡ is_skipped s.now self.now }
+    {
+        (self.is_of_stopping(s) || self.is_of_aborting(s))
+            && (self.is_in_slot(s) && !self.is_named(s.sub))
+    }
+
     // Whether what a row of table 12 or 13 wants is so of a substrate.
     pub(crate) fn substrate_wants(&self, row: RowId, s: &Substrate) -> bool
         ensures transport { row.table ≡ 12 → result ≡ wants_found (λ want. substrate_wants want s.now self.now) (row_of transport_table row.row) }
@@ -201,8 +218,9 @@ impl ToolFloor {
             (12, 2) => self.is_outside(s),
             (12, 3) => self.is_in_slot(s),
             (13, 2) => self.is_processed(s),
-            // no substrate is of a job yet
-            (13, 5 | 6 | 7) => false,
+            (13, 5) => self.is_skipped(s),
+            (13, 6) => self.is_outside(s) && self.is_of_stopping(s),
+            (13, 7) => self.is_outside(s) && self.is_of_aborting(s),
             _ => true,
         }
     }

@@ -16,6 +16,7 @@ ghost use Rattle.tool_floor.specs.Kept.{RiseTo};
 ghost use Rattle.tool_floor.specs.Machines.{registered_by, floor_starts, floor_fired, floor_least, creation_rows, object_name};
 ghost use Rattle.tool_floor.specs.Signals.{is_no_module};
 
+use crate::jobs::{CONTROL_JOB, PROCESS_JOB};
 use crate::naming::place_name;
 use crate::readiness::{ACCESSING, LOCATION, PROCESSING, TRANSPORT};
 use crate::rows::MOVES;
@@ -30,14 +31,16 @@ use shop_floor::ShopFloor;
 use std::alloc::{AllocError, Global};
 use std::marker::Model;
 use substrate::{LocationRecord, Places, Registered};
-use tool_events::{Command, Task};
+use tool_events::{Command, Recipe, Task};
+use tool_jobs::Jobs;
 
 /// The most rows of objects that one row creates: two of each substrate of a carrier.
 pub const MOST_CREATED: usize = 50;
 
 /// The floor of the tool, which contracts see as the load ports with the carriers; the list of the modules by their numbers: 1 is the
-/// robot, 2 the aligner, and 2 + c chamber c; which substrate has which place; the states of the locations by their numbers; and the
-/// substrates of the carriers that are here, in the order of their registration. Only `new`, `fire` and `write` take memory.
+/// robot, 2 the aligner, and 2 + c chamber c; which substrate has which place; the states of the locations by their numbers; the
+/// substrates of the carriers that are here, in the order of their registration; and the process jobs and control jobs. Only `new`,
+/// `fire` and `write` take memory.
 #[derive(Drop)]
 pub struct ToolFloor {
     pub(crate) shop: ShopFloor,
@@ -46,6 +49,7 @@ pub struct ToolFloor {
     pub(crate) locations: Vec<LocationRecord>,
     pub(crate) substrates: Substrates,
     pub(crate) commands: u64,
+    pub(crate) jobs: Jobs,
 }
 
 impl Model for ToolFloor {
@@ -60,11 +64,16 @@ impl Model for ToolFloor {
 }
 
 impl ToolFloor {
-    /// So many ports as they begin, 0 to 4, no carrier, and the modules of a tool with so many chambers, each Idle. `AllocError`:
-    /// there is no room.
-    pub fn new(alloc: Global, ports: u8, chambers: u8) -> Result<ToolFloor, AllocError>
+    /// So many ports as they begin, 0 to 4, no carrier, the modules of a tool with so many chambers, each Idle, and no job, of a tool
+    /// with these recipes. `AllocError`: there is no room.
+    pub fn new(
+        alloc: Global,
+        ports: u8,
+        chambers: u8,
+        recipes: &[Recipe],
+    ) -> Result<ToolFloor, AllocError>
         requires { ports ≤ most_ports }
-        ensures { IfOk result (λ floor. floor ≡ opening ports chambers) }
+        ensures { IfOk result (λ floor. floor ≡ opening ports chambers recipes.now) }
     {
         // The borrow checker has to be told here of the types that a command holds.
         let _: Option<(Command, Task)> = None;
@@ -73,6 +82,7 @@ impl ToolFloor {
         let places = Places::new(alloc, ports, chambers)?;
         let locations = vec![in alloc; LocationRecord::new(); places.location_count()]?;
         let substrates = Substrates::new(alloc)?;
+        let jobs = Jobs::new(alloc, recipes)?;
         Ok(ToolFloor {
             shop,
             modules,
@@ -80,6 +90,7 @@ impl ToolFloor {
             locations,
             substrates,
             commands: 0,
+            jobs,
         })
     }
 
@@ -90,6 +101,13 @@ impl ToolFloor {
         ensures { result.now ≡ self.now.shop }
     {
         &self.shop
+    }
+
+    /// The process jobs and the control jobs.
+    pub fn jobs(&self) -> &Jobs
+        ensures { result.now ≡ self.now.jobs }
+    {
+        &self.jobs
     }
 
     /// The name of the substrate at a location. `None` exactly where none is there.
@@ -232,14 +250,16 @@ impl ToolFloor {
         self.substrates.numbered(number)
     }
 
-    /// The name of the object of a row: P and the digit of a port's number; a carrier's or a substrate's name; a location's, as P1.01, AL,
-    /// ARM or C1; the empty text where there is no such object, and for a row of another table (this tool's profile, object names).
+    /// The name of the object of a row: P and the digit of a port's number; a carrier's, a substrate's or a job's name; a location's, as P1.01,
+    /// AL, ARM or C1; the empty text where there is no such object, and for a row of another table (this tool's profile, object names).
     pub fn object_name(&self, x: Firing) -> Text80
         ensures { result ≡ object_name x self.now }
     {
         match x.row.table {
             LOCATION => self.location_name(x.object),
             TRANSPORT | PROCESSING => self.substrate_name(x.object),
+            PROCESS_JOB => self.jobs.process_name(x.object),
+            CONTROL_JOB => self.jobs.control_name(x.object),
             MOVES => Text80::empty(),
             _ => self.shop.object_name(x),
         }
@@ -269,8 +289,8 @@ impl ToolFloor {
     }
 
     /// The least row that is ready by itself: that of the least table, in it that of the first object, and of that object the row of the
-    /// least number; ports, locations and modules by number, carriers by creation, substrates by registration (this tool's profile,
-    /// settling). `None` exactly where no row is ready.
+    /// least number; ports, locations and modules by number, carriers and jobs by creation, substrates by registration (this
+    /// tool's profile, settling). `None` exactly where no row is ready.
     pub fn least(&self) -> Option<Firing>
         ensures { result ≡ floor_least self.now }
     {
@@ -289,11 +309,17 @@ impl ToolFloor {
         if let Some(x) = self.ready_processing() {
             return Some(x);
         }
+        if let Some(x) = self.ready_process() {
+            return Some(x);
+        }
+        if let Some(x) = self.ready_control() {
+            return Some(x);
+        }
         self.ready_move()
     }
 
     /// Whether a row starts: its object is there, in a state in which the row starts, and what the row wants besides is so (this tool's
-    /// profile, tables 4 to 13 and 16). A row that a registration fires starts for any substrate that is there. A row of another table
+    /// profile, tables 4 to 16). A row that a registration fires starts for any substrate that is there. A row of another table
     /// never starts.
     pub fn starts(&self, x: Firing) -> bool
         ensures { result ≡ floor_starts x self.now }
@@ -302,6 +328,8 @@ impl ToolFloor {
             ACCESSING => self.starts_at_carrier(x),
             LOCATION => self.starts_at_location(x),
             TRANSPORT | PROCESSING => self.starts_at_substrate(x),
+            PROCESS_JOB => self.starts_at_process(x),
+            CONTROL_JOB => self.starts_at_control(x),
             MOVES => self.module_starts(x),
             _ => self.shop.starts(x),
         }
@@ -324,7 +352,7 @@ impl ToolFloor {
 
     // ---- what rows do
 
-    /// A row fires that starts: its effect, and the state of its object (this tool's profile, tables 4 to 13 and 16). It gives the rows of
+    /// A row fires that starts: its effect, and the state of its object (this tool's profile, tables 4 to 16). It gives the rows of
     /// the objects that it creates, which are to be fired straight behind it (this tool's profile, settling): of a carrier, or of
     /// the substrates that it registers. `AllocError`: there is no memory for what it creates, or the last number was given, of
     /// a carrier, a substrate or a command; but for a row of the slot map, nothing has changed.
@@ -340,6 +368,8 @@ impl ToolFloor {
             ACCESSING => self.shop.fire_accessing(x.object, x.row.row),
             LOCATION => self.fire_location(x),
             TRANSPORT | PROCESSING => self.fire_substrate(x),
+            PROCESS_JOB => self.fire_process(x.object, x.row.row),
+            CONTROL_JOB => self.fire_control(x),
             MOVES => self.fire_move(x)?,
             _ => return self.fire_shop(x),
         }
@@ -348,7 +378,7 @@ impl ToolFloor {
 
     // A row of tables 4 to 6 or 8 fires that starts.
     fn fire_shop(&mut self, x: Firing) -> Result<ArrayVec<Firing, MOST_CREATED>, AllocError>
-        requires other { is_one_of (7 ∷ 9 ∷ 10 ∷ 11 ∷ 12 ∷ 13 ∷ 16 ∷ []) x.row.table ≡ false }
+        requires other { is_one_of (7 ∷ 9 ∷ 10 ∷ 11 ∷ 12 ∷ 13 ∷ 14 ∷ 15 ∷ 16 ∷ []) x.row.table ≡ false }
         requires starts { floor_starts x self.old ≡ true }
         ensures ok { IfOk result (λ _. self.new ≡ floor_fired x self.old) }
         ensures follow { IfOk result (λ rows. rows.items ≡ creation_rows x self.old) }

@@ -1,11 +1,12 @@
 //! What the modules are to do next (this tool's profile, moves).
 
-ghost use Rattle.std.specs.Prelude.{◌≡◌, ◌≤◌, [], true, false, length, Some};
+ghost use Rattle.std.specs.Prelude.{◌≡◌, ◌≤◌, [], true, false, length, Some, option_copied};
 ghost use Rattle.gem_tables.specs.Machine.{first_ready};
 ghost use Rattle.robot_moves.specs.Modules.{module_at};
 ghost use Rattle.robot_moves.specs.Moves.{next_move};
 ghost use Rattle.tool_floor.specs.Floor.{module_numbers};
-ghost use Rattle.tool_floor.specs.Views.{view_of, views, planned};
+ghost use Rattle.tool_floor.specs.Jobs.{job_of, is_job_so, is_processing};
+ghost use Rattle.tool_floor.specs.Views.{chamber_bits, chambers_of, recipe_of, view_of, views, planned};
 ghost use Rattle.tool_floor.specs.Modules.{is_by, move_ready, move_starts};
 
 use crate::floor::ToolFloor;
@@ -14,13 +15,55 @@ use crate::tracking::Substrate;
 use crate::viewing::Views;
 use gem_ids::{ModuleId, Text80};
 use gem_tables::Firing;
+use process_job::{JobState, ProcessJob};
 use robot_moves::{Module, Move, PlaceView, Planner};
 use substrate::Registered;
+use tool_events::{Recipe, RecipeChambers};
+use tool_jobs::Jobs;
 
-// What the planner is told of a substrate and its place.
-fn view_of(r: &Registered, s: &Substrate) -> PlaceView
-    ensures { result ≡ view_of r.now s.now }
+// The chambers of a recipe as a set of bits.
+fn chamber_bits(chambers: RecipeChambers) -> u8
+    ensures { result ≡ chamber_bits chambers }
 {
+    (if chambers.one { 1 } else { 0 }) + (if chambers.two { 2 } else { 0 })
+}
+
+// The chambers of a recipe, none where there is none.
+fn chambers_of(recipe: Option<Recipe>) -> u8
+    ensures { result ≡ chambers_of recipe }
+{
+    match recipe {
+        Some(recipe) => chamber_bits(recipe.chambers),
+        None => 0,
+    }
+}
+
+// The name of the recipe of a process job, empty where there is none.
+fn recipe_of(job: Option<&ProcessJob>) -> Text80
+    ensures { result ≡ recipe_of (option_copied job.entry) }
+{
+    match job {
+        Some(job) => job.recipe,
+        None => Text80::empty(),
+    }
+}
+
+// Whether a process job is there, and PROCESSING.
+fn is_processing(job: Option<&ProcessJob>) -> bool
+    ensures { result ≡ is_job_so is_processing (option_copied job.entry) }
+{
+    match job {
+        Some(job) => matches!(job.states.state, JobState::Processing),
+        None => false,
+    }
+}
+
+// What the planner is told of a substrate and its place, with its process job where it is in one, in a tool with these jobs.
+fn view_of(r: &Registered, s: &Substrate, jobs: &Jobs) -> PlaceView
+    ensures { result ≡ view_of r.now s.now (job_of s.now jobs.now) jobs.now.process.recipes }
+{
+    let job = jobs.process().numbered(s.job);
+    let recipe = recipe_of(job);
     PlaceView {
         sub: r.sub,
         number: r.number,
@@ -29,9 +72,9 @@ fn view_of(r: &Registered, s: &Substrate) -> PlaceView
         aligned: s.aligned,
         finished: s.states.processing.is_finished(),
         in_process: s.states.processing.is_in_process(),
-        may_start: false,
-        chambers: 0,
-        recipe: Text80::empty(),
+        may_start: is_processing(job),
+        chambers: chambers_of(jobs.process().recipe(recipe)),
+        recipe,
     }
 }
 
@@ -44,7 +87,7 @@ impl ToolFloor {
         for place in 0..self.place_count() {
             if let Some(registered) = self.registered_at(place) {
                 if let Some(substrate) = self.substrate(registered.number) {
-                    views.push(view_of(&registered, &substrate));
+                    views.push(view_of(&registered, &substrate, &self.jobs));
                 }
             }
         }
@@ -55,7 +98,7 @@ impl ToolFloor {
     pub(crate) fn planned(&self, m: ModuleId) -> Option<Move>
         ensures { result ≡ planned m.0 self.now }
     {
-        if !self.is_any_at_work() {
+        if !self.is_any_at_work() && !self.is_any_processing() {
             return None;
         }
         self.plan_of(m)
@@ -81,7 +124,7 @@ impl ToolFloor {
     pub(crate) fn ready_move(&self) -> Option<Firing>
         ensures { result ≡ first_ready 16 (λ number. move_ready (planned number self.now) (module_at number self.now.modules)) (module_numbers 1 self.now.modules) }
     {
-        if !self.is_any_at_work() {
+        if !self.is_any_at_work() && !self.is_any_processing() {
             return None;
         }
         match self.next_move() {

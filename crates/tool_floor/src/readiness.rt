@@ -8,7 +8,7 @@ ghost use Rattle.carrier.specs.Carriers.{carrier_numbered};
 ghost use Rattle.substrate.specs.Tables.{occupancy_number, occupancy_table, transport_number, transport_table, processing_number, processing_table};
 ghost use Rattle.shop_floor.specs.Floor.{number_of as carrier_number};
 ghost use Rattle.tool_floor.specs.Floor.{ToolFloor, location_at, location_numbers, substrate_numbered, number_of};
-ghost use Rattle.tool_floor.specs.Substrates.{accessing_wants, location_wants, substrate_wants};
+ghost use Rattle.tool_floor.specs.Wants.{accessing_wants, location_wants, substrate_wants, ending_row};
 ghost use Rattle.tool_floor.specs.Machines.{floor_machines, floor_starts, location_ready};
 
 use crate::floor::ToolFloor;
@@ -56,8 +56,8 @@ impl ToolFloor {
                 }
             }
             Accessing::InAccess => {
-                if self.is_quiet(carrier.number) {
-                    Some(2)
+                if self.is_quiet(carrier) {
+                    Some(if carrier.stopped { 3 } else { 2 })
                 } else {
                     None
                 }
@@ -167,11 +167,30 @@ impl ToolFloor {
     fn processing_row(&self, s: &Substrate) -> Option<u8>
         ensures { result ≡ first_itself processing_number (λ want. substrate_wants want s.now self.now) processing_table s.now.states.processing }
     {
-        if matches!(s.states.processing, Processing::NeedsProcessing) && self.is_processed(s) {
-            Some(2)
-        } else {
-            None
+        if !matches!(s.states.processing, Processing::NeedsProcessing) {
+            return None;
         }
+        if self.is_processed(s) {
+            return Some(2);
+        }
+        self.ending_row(s)
+    }
+
+    // The row of table 13 by which a substrate that NEEDS PROCESSING ends with its process job.
+    fn ending_row(&self, s: &Substrate) -> Option<u8>
+        ensures { result ≡ ending_row s.now self.now }
+    {
+        let stops = self.is_of_stopping(s);
+        if !stops && !self.is_of_aborting(s) {
+            return None;
+        }
+        if self.is_skipped(s) {
+            return Some(5);
+        }
+        if !self.is_outside(s) {
+            return None;
+        }
+        Some(if stops { 6 } else { 7 })
     }
 
     // The row of table 12 or 13 that is ready at a substrate.
@@ -201,8 +220,8 @@ impl ToolFloor {
     pub(crate) fn ready_processing(&self) -> Option<Firing>
         ensures { result ≡ first_ready 13 (λ n. ready_in floor_machines 13 n self.now) (map number_of self.now.substrates) }
     {
-        // the few modules are asked first, since each substrate would have to ask all of them
-        if !self.is_any_due() {
+        // the few modules and jobs are asked first, since each substrate would have to ask all of them
+        if !self.is_any_due() && !self.is_any_ending() {
             return None;
         }
         self.ready_substrate(PROCESSING)

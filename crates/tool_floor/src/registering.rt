@@ -39,6 +39,7 @@ impl ToolFloor {
                 slot: loc,
                 states: SubstrateRecord::new(),
                 aligned: false,
+                job: 0,
             }),
             Err(PlaceFault::NoMemory) => Err(AllocError),
             Err(_) => Ok(()),

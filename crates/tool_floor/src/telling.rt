@@ -5,7 +5,8 @@ ghost use Rattle.std.specs.Prelude.{◌≡◌, ◌≤◌, ◌∷◌, ◌++◌, [
 ghost use Rattle.std.specs.Option.{option_to_list};
 ghost use Rattle.std.specs.List.{list_any};
 ghost use Rattle.robot_moves.specs.Modules.{module_at};
-ghost use Rattle.tool_floor.specs.Signals.{at_module, at_processed, processed_rows, done_at, done_rows, closing_at, closing_rows, named_by, module_names, can_be_lost, lost_at, lost_rows};
+ghost use Rattle.tool_floor.specs.Naming.{named_by, module_names};
+ghost use Rattle.tool_floor.specs.Signals.{at_module, at_processed, processed_rows, done_at, done_rows, closing_at, closing_rows, done_processing, at_done, done_processed, can_be_lost, lost_at, lost_rows};
 
 use crate::floor::ToolFloor;
 use crate::readiness::PROCESSING;
@@ -65,15 +66,46 @@ impl ToolFloor {
         }
     }
 
+    // The row of processing of the substrate of a number that was processed: 4 where its process job is ABORTING, else 3.
+    fn done_processing(&self, number: u64) -> u8
+        ensures { result ≡ done_processing number self.now }
+    {
+        match self.substrate(number) {
+            Some(substrate) => {
+                if self.is_of_aborting(&substrate) {
+                    4
+                } else {
+                    3
+                }
+            }
+            None => 3,
+        }
+    }
+
+    // That row of the substrate that a task processes, where one is.
+    fn done_processed(&self, task: &Task) -> Option<Firing>
+        ensures { option_to_list result ≡ done_processed task.now self.now }
+    {
+        match task {
+            Task::Process { sub, .. } => match self.number_named(*sub) {
+                Some(number) => {
+                    Some(Firing::new(PROCESSING, number, self.done_processing(number)))
+                }
+                None => None,
+            },
+            _ => None,
+        }
+    }
+
     /// The rows that Done of the open command of a module fires: row 5, 6 or 7 of table 16 by its task, and behind a Process row 3 of
-    /// processing. There are none exactly where it has no open command.
+    /// processing, or row 4 where the process job of its substrate is ABORTING. There are none exactly where it has no open command.
     pub fn done_rows(&self, m: ModuleId) -> ArrayVec<Firing, 2>
         ensures { result.items ≡ done_rows m.0 self.now }
     {
         match self.modules.get(m) {
             Some(Module::Busy { command, .. }) => one_or_two(
                 Firing::new(MOVES, u64::from(m.0), done_row(&command.task)),
-                self.processed_row(3, &command.task),
+                self.done_processed(&command.task),
             ),
             _ => ArrayVec::new(),
         }
@@ -95,7 +127,7 @@ impl ToolFloor {
     // ---- what the operator says
 
     // Whether an open command of a module names a substrate.
-    fn is_named(&self, sub: SubstrateId) -> bool
+    pub(crate) fn is_named(&self, sub: SubstrateId) -> bool
         ensures { result ≡ list_any (module_names sub) self.now.modules }
     {
         for place in 0..self.module_count() {

@@ -1,6 +1,6 @@
 //! The substrates of the carriers that are here.
 
-ghost use Rattle.std.specs.Prelude.{◌≡◌, ◌==◌, ◌&&◌, ◌∷◌, ◌++◌, [], ◌≤◌, length, filter, not, option_map, slice_get, IfOk, IfErr};
+ghost use Rattle.std.specs.Prelude.{◌≡◌, ◌==◌, ◌&&◌, ◌∷◌, ◌++◌, [], ◌≤◌, length, filter, map, not, option_map, slice_get, IfOk, IfErr};
 ghost use Rattle.std.specs.List.{list_any};
 ghost use Rattle.std.specs.Str.{bytes_eq};
 ghost use Rattle.substrate.specs.Tables.{transport_number};
@@ -9,14 +9,19 @@ ghost use Rattle.tool_floor.specs.Floor.{substrate_numbered, change_numbered};
 ghost use Rattle.tool_floor.specs.Machines.{substrate_moves};
 ghost use Rattle.tool_floor.specs.Substrates.{is_of};
 ghost use Rattle.tool_floor.specs.Modules.{aligned};
+ghost use Rattle.tool_floor.specs.Jobs.{joined, freed};
 
+use crate::members::can_join;
 use gem_ids::{LocId, SubstrateId};
+use process_job::ProcessJob;
+use shop_floor::ShopFloor;
 use std::alloc::{AllocError, Global};
 use std::marker::Model;
 use substrate::{MOST_SUBSTRATES, SubstrateRecord};
 
 /// A substrate of a carrier that is here: its number of registration, which is its own for good; its name; the number of creation of
-/// its carrier; its slot; its states (SEMI E90); and whether it is aligned.
+/// its carrier; its slot; its states (SEMI E90); whether it is aligned; and the number of creation of the process job that it is a member
+/// of, 0 where it is in none.
 #[derive(Clone, Copy, Debug, PartialEq, Eq)]
 pub struct Substrate {
     pub number: u64,
@@ -25,6 +30,7 @@ pub struct Substrate {
     pub slot: LocId,
     pub states: SubstrateRecord,
     pub aligned: bool,
+    pub job: u64,
 }
 
 // The substrates of the carriers that are here, in the order of their registration, which contracts see as the list of them.
@@ -129,10 +135,62 @@ impl Substrates {
         }
     }
 
+    // Those that a process job names become its members, where they can.
+    pub(crate) fn join(&mut self, job: &ProcessJob, shop: &ShopFloor)
+        ensures { self.new ≡ map (joined job.now shop.now) self.old }
+    {
+        join_all(job, shop, &mut self.list);
+    }
+
+    // The members of the process job of a number are in no job.
+    pub(crate) fn free(&mut self, number: u64)
+        ensures { self.new ≡ map (freed number) self.old }
+    {
+        free_all(number, &mut self.list);
+    }
+
     // The substrates of the carrier of a number are forgotten.
     pub(crate) fn forget(&mut self, carrier: u64)
         ensures { self.new ≡ filter (λ s. not (is_of carrier s)) self.old }
     {
         self.list.retain(|s| s.carrier != carrier);
+    }
+}
+
+impl Substrate {
+    // It becomes a member of a process job, where it can.
+    fn join(&mut self, job: &ProcessJob, shop: &ShopFloor)
+        ensures { self.new ≡ joined job.now shop.now self.old }
+    {
+        if can_join(job, shop, self) {
+            self.job = job.number;
+        }
+    }
+
+    // It is in no job, where it was a member of the process job of a number.
+    fn free(&mut self, number: u64)
+        ensures { self.new ≡ freed number self.old }
+    {
+        if self.job == number {
+            self.job = 0;
+        }
+    }
+}
+
+// Each of these becomes a member of a process job, where it can.
+fn join_all(job: &ProcessJob, shop: &ShopFloor, list: &mut [Substrate])
+    ensures { list.new ≡ map (joined job.now shop.now) list.old }
+{
+    for substrate in list {
+        substrate.join(job, shop);
+    }
+}
+
+// Each of these that was a member of the process job of a number is in no job.
+fn free_all(number: u64, list: &mut [Substrate])
+    ensures { list.new ≡ map (freed number) list.old }
+{
+    for substrate in list {
+        substrate.free(number);
     }
 }

@@ -2,6 +2,7 @@
 use Rattle.std.proofs.Common.{◌≡◌, ℕ, ◌+◌, ◌==◌, ◌≤◌, Bool, true, false, true≢false, cond, not, ◌&&◌, ◌||◌, List, [], ◌∷◌, ◌++◌, length, map, filter, Option, Some, None, is_some, bytes_eq, refl, sym, ◌∙◌, subst, arith}
 use Rattle.std.specs.List.{list_all}
 use Rattle.std.proofs.lemmas.Bool.Decides.{nat_tests}
+use Rattle.tool_events.specs.declared.recipes.Recipe.{Recipe}
 use Rattle.process_job.specs.Jobs as process
 use Rattle.process_job.specs.Jobs.{JobBook, is_known, change_numbered, without_numbered}
 use Rattle.process_job.specs.Creating.{create_fault as process_fault}
@@ -26,7 +27,7 @@ use Rattle.tool_jobs.proofs.Process.{jobs_fired as process_jobs_fired, jobs_forg
 use Rattle.tool_jobs.proofs.Control.{jobs_fired as control_jobs_fired, jobs_left_by, jobs_headed, jobs_created as control_jobs_created, open_before, owns_fired, owns_left, active_left, active_fired, active_at}
 
 -- there are none
-pub together_none : (recipes : List (List ℕ)) → AreTogether (no_jobs recipes)
+pub together_none : (recipes : List Recipe) → AreTogether (no_jobs recipes)
 together_none recipes = record {
   process = jobs_none recipes;
   control = record { named_apart = refl; rising = omega arith; few = omega arith; ordered = refl; once = refl; as_many = refl; were_given = refl };

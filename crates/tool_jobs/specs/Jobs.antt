@@ -1,6 +1,7 @@
 -- The process jobs and the control jobs of the tool together: what belongs to what (after SEMI E40 and SEMI E94; this tool's profile,
 -- tables 14 and 15). The tables are in process_job and control_job.
 use Rattle.std.specs.Prelude.{ℕ, List, [], ◌∷◌, find, Option, Some, None}
+use Rattle.tool_events.specs.declared.recipes.Recipe.{Recipe}
 use Rattle.process_job.specs.Jobs as process
 use Rattle.process_job.specs.Jobs.{JobBook}
 use Rattle.process_job.specs.declared.job.ProcessJob.{ProcessJob}
@@ -13,8 +14,8 @@ pub record Jobs : Type 0 where
   pub process : JobBook
   pub control : JobStore
 
--- there are none, of a tool with recipes of these names
-abbrev pub no_jobs : List (List ℕ) → Jobs
+-- there are none, of a tool with these recipes
+abbrev pub no_jobs : List Recipe → Jobs
 no_jobs recipes = record { process = process.no_jobs recipes; control = control.no_jobs }
 
 -- ---- what belongs to what

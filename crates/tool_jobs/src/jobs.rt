@@ -12,6 +12,7 @@ use gem_ids::{JobId, Text80};
 use process_job::{ProcessJob, ProcessJobs};
 use std::alloc::{AllocError, Global};
 use std::marker::Model;
+use tool_events::Recipe;
 
 /// The process jobs and the control jobs of the tool, which contracts see as both. A process job that is left in a control job is
 /// kept, and belongs to no other; one control job is active at most. Only `new` and the calls that create take memory.
@@ -33,9 +34,9 @@ impl Model for Jobs {
 }
 
 impl Jobs {
-    /// No job, of a tool with recipes of these names. Takes room for 64 process jobs and 32 control jobs. `AllocError` where there is
+    /// No job, of a tool with these recipes. Takes room for 64 process jobs and 32 control jobs. `AllocError` where there is
     /// none.
-    pub fn new(alloc: Global, recipes: &[Text80]) -> Result<Jobs, AllocError>
+    pub fn new(alloc: Global, recipes: &[Recipe]) -> Result<Jobs, AllocError>
         ensures { IfOk result (λ jobs. jobs ≡ no_jobs recipes.now) }
     {
         let Ok(process) = ProcessJobs::new(alloc, recipes) else {

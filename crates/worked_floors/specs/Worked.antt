@@ -33,6 +33,8 @@ use Rattle.substrate.specs.declared.record.Processing.TheVariants.{NeedsProcessi
 use Rattle.substrate.specs.declared.record.LocationRecord.{LocationRecord}
 use Rattle.robot_moves.specs.Modules.{first_modules}
 use Rattle.robot_moves.specs.declared.module.Module.TheVariants.{Busy, Down}
+use Rattle.tool_events.specs.declared.recipes.Recipe.{Recipe}
+use Rattle.tool_jobs.specs.Jobs.{no_jobs}
 use Rattle.tool_floor.specs.declared.tracking.Substrate.{Substrate}
 use Rattle.tool_floor.specs.Floor.{ToolFloor, with_module, fetched, change_location, change_numbered}
 use Rattle.tool_floor.specs.Machines.{floor_starts, floor_fired, floor_least, creation_rows}
@@ -40,6 +42,10 @@ use Rattle.tool_floor.specs.Modules.{command, aligned}
 use Rattle.tool_floor.specs.Signals.{at_module, done_rows, closing_rows, lost_rows}
 
 -- ---- what the floors are made of
+
+-- the recipe of the tool, by which both chambers process
+abbrev pub recipes : List Recipe
+recipes = record { name = codes "R1"; chambers = record { one = true; two = true } } ∷ []
 
 -- the name of the substrate
 abbrev pub wafer : List ℕ
@@ -69,6 +75,7 @@ lot map accessing = record {
   port = Some (record { 0 = 1 });
   present = true;
   bound = false;
+  stopped = false;
 }
 
 -- the load port and the carrier
@@ -100,6 +107,7 @@ wafer_with transport = record {
   slot = own_slot;
   states = record { transport = transport; processing = NeedsProcessing };
   aligned = false;
+  job = 0;
 }
 
 -- the floor with the substrate at a place, where each module is Idle and no command was given
@@ -111,6 +119,7 @@ floor_with loc transfer accessing transport = record {
   locations = change_location (location_number 1 loc) occupied empty_locations;
   substrates = wafer_with transport ∷ [];
   commands = 0;
+  jobs = no_jobs recipes;
 }
 
 -- a substrate with this state of processing
@@ -158,6 +167,7 @@ waiting = record {
   locations = empty_locations;
   substrates = [];
   commands = 0;
+  jobs = no_jobs recipes;
 }
 
 -- the substrate is in its slot, and was nowhere else; each module is Idle
@@ -225,6 +235,7 @@ emptied = record {
   locations = empty_locations;
   substrates = [];
   commands = 8;
+  jobs = no_jobs recipes;
 }
 
 -- ---- the floors with a second substrate
@@ -250,6 +261,7 @@ second_with transport processing is_so = record {
   slot = second_slot;
   states = record { transport = transport; processing = processing };
   aligned = is_so;
+  job = 0;
 }
 
 -- it is at a place, behind the first

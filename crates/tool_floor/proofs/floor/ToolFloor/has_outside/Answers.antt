@@ -1,7 +1,8 @@
 use Rattle.std.proofs.Common.{◌&&◌, ◌∙◌, sym, ap}
 use Rattle.carrier.proofs.Scans.{any_here, any_next, any_past}
 use Rattle.tool_floor.specs.declared.tracking.Substrate.{Substrate}
-use Rattle.tool_floor.specs.Substrates.{is_of, is_outside, has_outside}
+use Rattle.tool_floor.specs.Substrates.{is_of, is_outside}
+use Rattle.tool_floor.specs.Wants.{has_outside}
 use Rattle.tool_floor.specs.Floor.{ToolFloor}
 use Rattle.tool_floor.proofs.Working.{has_none_outside}
 use Rattle.tool_floor.proofs.Scans.{shown}

@@ -1,5 +1,5 @@
 use Rattle.std.proofs.Common.{sym, ◌∙◌}
-use Rattle.tool_floor.proofs.Tables.{least_first, least_second, least_third, least_fourth, least_fifth, least_last}
+use Rattle.tool_floor.proofs.Tables.{least_first, least_second, least_third, least_fourth, least_fifth, least_sixth, least_seventh, least_last}
 use Rattle.tool_floor.proofs.floor.ToolFloor.least.Goals as goal
 
 pub returns-in-Some : goal.returns-in-Some
@@ -24,8 +24,21 @@ returns-in-Some-ready_processing c =
     least_fifth c.args.self.now c.in-Some-ready_processing.x (sym c.least_of_shop.ensures ∙ c.in_default.is) (sym c.ready_accessing.ensures ∙ c.in_default-ready_accessing.is)
     (sym c.ready_location.ensures ∙ c.in_default-ready_location.is) (sym c.ready_transport.ensures ∙ c.in_default-ready_transport.is) (sym c.ready_processing.ensures ∙ c.in-Some-ready_processing.is)
 
+pub returns-in-Some-ready_process : goal.returns-in-Some-ready_process
+returns-in-Some-ready_process c =
+    least_sixth c.args.self.now c.in-Some-ready_process.x (sym c.least_of_shop.ensures ∙ c.in_default.is) (sym c.ready_accessing.ensures ∙ c.in_default-ready_accessing.is)
+    (sym c.ready_location.ensures ∙ c.in_default-ready_location.is) (sym c.ready_transport.ensures ∙ c.in_default-ready_transport.is) (sym c.ready_processing.ensures ∙ c.in_default-ready_processing.is)
+    (sym c.ready_process.ensures ∙ c.in-Some-ready_process.is)
+
+pub returns-in-Some-ready_control : goal.returns-in-Some-ready_control
+returns-in-Some-ready_control c =
+    least_seventh c.args.self.now c.in-Some-ready_control.x (sym c.least_of_shop.ensures ∙ c.in_default.is) (sym c.ready_accessing.ensures ∙ c.in_default-ready_accessing.is)
+    (sym c.ready_location.ensures ∙ c.in_default-ready_location.is) (sym c.ready_transport.ensures ∙ c.in_default-ready_transport.is) (sym c.ready_processing.ensures ∙ c.in_default-ready_processing.is)
+    (sym c.ready_process.ensures ∙ c.in_default-ready_process.is) (sym c.ready_control.ensures ∙ c.in-Some-ready_control.is)
+
 pub returns : goal.returns
 returns c =
     c.ready_move.ensures
     ∙ least_last c.args.self.now (sym c.least_of_shop.ensures ∙ c.in_default.is) (sym c.ready_accessing.ensures ∙ c.in_default-ready_accessing.is)
     (sym c.ready_location.ensures ∙ c.in_default-ready_location.is) (sym c.ready_transport.ensures ∙ c.in_default-ready_transport.is) (sym c.ready_processing.ensures ∙ c.in_default-ready_processing.is)
+    (sym c.ready_process.ensures ∙ c.in_default-ready_process.is) (sym c.ready_control.ensures ∙ c.in_default-ready_control.is)

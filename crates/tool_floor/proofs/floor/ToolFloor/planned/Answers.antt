@@ -2,6 +2,6 @@ use Rattle.std.proofs.Common.{sym, ◌∙◌}
 use Rattle.tool_floor.proofs.Showing.{none_planned}
 use Rattle.tool_floor.proofs.floor.ToolFloor.planned.Goals as goal
 
-pub returns-then-not-is_any_at_work : goal.returns-then-not-is_any_at_work
-returns-then-not-is_any_at_work c =
-    sym (none_planned c.args.self.now (sym c.is_any_at_work.ensures ∙ c.if-not-is_any_at_work.true) c.args.m.0)
+pub returns-then-not-is_any_processing : goal.returns-then-not-is_any_processing
+returns-then-not-is_any_processing c =
+    sym (none_planned c.args.self.now (sym c.is_any_at_work.ensures ∙ c.if-not-is_any_at_work.true) (sym c.is_any_processing.ensures ∙ c.if-not-is_any_processing.true) c.args.m.0)

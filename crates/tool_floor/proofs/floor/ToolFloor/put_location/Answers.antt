@@ -8,7 +8,7 @@ pub returns-then-number-len : goal.returns-then-number-len
 returns-then-number-len c =
     let some : 0 < c.args.number = omega (arith, c.if-number-eq0.false) in
     let within : c.args.number ≤ length c.self.inside.locations.items = omega (arith, c.if-number-len.true, c.len.ensures) in
-    ap (λ (ls : List LocationRecord). record { shop = c.self.inside.shop; modules = c.self.inside.modules; places = c.self.inside.places; locations = ls; substrates = c.self.inside.substrates; commands = c.self.inside.commands })
+    ap (λ (ls : List LocationRecord). record { shop = c.self.inside.shop; modules = c.self.inside.modules; places = c.self.inside.places; locations = ls; substrates = c.self.inside.substrates; commands = c.self.inside.commands; jobs = c.self.inside.jobs })
     (location_set c.args.number c.self.inside.locations.items c.args.states some within)
     ∙ ap (λ (f : ToolFloor). record f { locations = change_location c.args.number (λ _. c.args.states) f.locations }) c.self.view_is
 

@@ -6,9 +6,9 @@ use Rattle.tool_floor.proofs.Moves.{first_move_is, firing_of, none_to_move}
 use Rattle.tool_floor.proofs.Showing.{none_planned}
 use Rattle.tool_floor.proofs.floor.ToolFloor.ready_move.Goals as goal
 
-pub returns-then-not-is_any_at_work : goal.returns-then-not-is_any_at_work
-returns-then-not-is_any_at_work c =
-    sym (none_to_move c.args.self.now (none_planned c.args.self.now (sym c.is_any_at_work.ensures ∙ c.if-not-is_any_at_work.true)))
+pub returns-then-not-is_any_processing : goal.returns-then-not-is_any_processing
+returns-then-not-is_any_processing c =
+    sym (none_to_move c.args.self.now (none_planned c.args.self.now (sym c.is_any_at_work.ensures ∙ c.if-not-is_any_at_work.true) (sym c.is_any_processing.ensures ∙ c.if-not-is_any_processing.true)))
 
 pub returns-in-Some : goal.returns-in-Some
 returns-in-Some c =

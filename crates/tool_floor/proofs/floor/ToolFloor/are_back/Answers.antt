@@ -1,8 +1,8 @@
 use Rattle.std.proofs.Common.{◌∙◌, sym}
 use Rattle.tool_floor.proofs.Scans.{shown, all_here, all_next, all_past}
-use Rattle.tool_floor.specs.Substrates.{is_back}
-use Rattle.tool_floor.proofs.floor.ToolFloor.is_quiet.Goals.{in-Some+else-not-is_back, in_default}
-use Rattle.tool_floor.proofs.floor.ToolFloor.is_quiet.Goals as goal
+use Rattle.tool_floor.specs.Wants.{is_back}
+use Rattle.tool_floor.proofs.floor.ToolFloor.are_back.Goals.{in-Some+else-not-is_back, in_default}
+use Rattle.tool_floor.proofs.floor.ToolFloor.are_back.Goals as goal
 
 pub returns-then-not-is_back : goal.returns-then-not-is_back
 returns-then-not-is_back c =

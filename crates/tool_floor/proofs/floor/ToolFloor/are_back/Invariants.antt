@@ -1,7 +1,7 @@
 use Rattle.std.proofs.Common.{◌≡◌, drop}
 use Rattle.std.specs.List.{list_all}
-use Rattle.tool_floor.specs.Substrates.{is_back}
-use Rattle.tool_floor.proofs.floor.ToolFloor.is_quiet.Given as goal
+use Rattle.tool_floor.specs.Wants.{is_back}
+use Rattle.tool_floor.proofs.floor.ToolFloor.are_back.Given as goal
 
 abbrev pub invariant-loop-place : goal.invariant-loop-place
 invariant-loop-place l = list_all (is_back l.carrier l.self.places) (drop l.place l.self.substrates) ≡ list_all (is_back l.carrier l.self.places) l.self.substrates

@@ -1,0 +1,12 @@
+use Rattle.std.proofs.Common.{List, sym, subst}
+use Rattle.tool_floor.specs.declared.tracking.Substrate.{Substrate}
+use Rattle.tool_floor.specs.Kept.{RiseTo}
+use Rattle.tool_floor.specs.Jobs.{freed}
+use Rattle.tool_floor.proofs.Scans.{rise_mapped}
+use Rattle.tool_floor.proofs.Marks.{freed_number}
+use Rattle.tool_floor.proofs.floor.ToolFloor.free_members.Goals as goal
+
+pub invariant_of-self : goal.invariant_of-self
+invariant_of-self c =
+    subst (λ (ss : List Substrate). RiseTo 0 c.self.inside.places.given ss) (sym c.free.ensures)
+    (rise_mapped 0 c.self.inside.places.given (freed c.in-Some.job.now.number) c.self.inside.substrates (freed_number c.in-Some.job.now.number) c.self.invariant)

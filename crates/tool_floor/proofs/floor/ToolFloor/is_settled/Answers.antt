@@ -1,0 +1,20 @@
+use Rattle.std.proofs.Common.{◌∙◌, sym}
+use Rattle.tool_floor.proofs.Scans.{shown, all_here, all_next, all_past}
+use Rattle.tool_floor.specs.Jobs.{is_done_with}
+use Rattle.tool_floor.proofs.floor.ToolFloor.is_settled.Goals.{in-Some+else-not-is_done_with, in_default}
+use Rattle.tool_floor.proofs.floor.ToolFloor.is_settled.Goals as goal
+
+pub returns-then-not-is_done_with : goal.returns-then-not-is_done_with
+returns-then-not-is_done_with c =
+    sym (all_here (is_done_with c.args.number c.args.self.now.places) c.args.self.now.substrates c.loop-place.place c.in-Some.s.now (shown c.substrate_at.ensures c.in-Some.is) (sym c.is_done_with.ensures ∙ c.if-not-is_done_with.true))
+    ∙ c.loop-place.invariant
+
+pub loop-place-preserved : goal.loop-place-preserved
+loop-place-preserved c = elim c.match-substrate_at.branch [
+  | in-Some+else-not-is_done_with w ↦
+      sym (all_next (is_done_with c.args.number c.args.self.now.places) c.args.self.now.substrates c.loop-place.place w.in-Some.s.now (shown c.substrate_at.ensures w.in-Some.is) (sym w.is_done_with.ensures ∙ w.if-not-is_done_with.false))
+      ∙ c.loop-place.invariant
+  | in_default w ↦
+      sym (all_past (is_done_with c.args.number c.args.self.now.places) c.args.self.now.substrates c.loop-place.place (shown c.substrate_at.ensures w.in_default.is))
+      ∙ c.loop-place.invariant
+]

@@ -1,0 +1,95 @@
+-- Floors of the tool with a process job and a control job, made by hand, and what the host does to the jobs.
+use Rattle.std.specs.Prelude.{ℕ, Bool, true, List, [], ◌∷◌, codes}
+use Rattle.gem_tables.specs.Table.{firing}
+use Rattle.gem_tables.specs.declared.firing.Firing.{Firing}
+use Rattle.process_job.specs.declared.job.Material.{Material}
+use Rattle.process_job.specs.declared.job.ProcessJob.{ProcessJob}
+use Rattle.process_job.specs.declared.record.JobState.{JobState}
+use Rattle.process_job.specs.declared.record.JobState.TheVariants as process
+use Rattle.control_job.specs.declared.job.ControlJob.{ControlJob}
+use Rattle.control_job.specs.declared.record.ControlState.{ControlState}
+use Rattle.control_job.specs.declared.record.ControlState.TheVariants as control
+use Rattle.control_job.specs.declared.record.Ending.TheVariants.{No}
+use Rattle.substrate.specs.declared.record.Processing.{Processing}
+use Rattle.tool_floor.specs.declared.tracking.Substrate.{Substrate}
+use Rattle.tool_floor.specs.Floor.{ToolFloor, change_numbered}
+use Rattle.worked_floors.specs.Worked.{recipes, in_slot}
+
+-- ---- the jobs
+
+-- the process job: each slot of the carrier, by the recipe of the tool
+abbrev pub process_with : JobState → Bool → ProcessJob
+process_with state auto = record {
+  number = 1;
+  id = codes "PJ1";
+  states = record { state = state };
+  auto = auto;
+  recipe = codes "R1";
+  material = record { carrier = codes "LOT7"; slots = [] } ∷ [];
+}
+
+-- the control job of it, or of none any more, which starts automatically and isn't ending
+abbrev pub control_with : ControlState → List (List ℕ) → ControlJob
+control_with state left = record {
+  number = 1;
+  name = codes "CJ1";
+  states = record { state = state; ending = No };
+  auto = true;
+  named = codes "PJ1" ∷ [];
+  left = left;
+}
+
+-- a floor with these jobs
+abbrev pub with_both : List ProcessJob → List ControlJob → ToolFloor → ToolFloor
+with_both js cs f = record f {
+  jobs = record {
+    process = record { kept = js; recipes = recipes; given = 1 };
+    control = record { jobs = cs; order = 1 ∷ []; given = 1 };
+  };
+}
+
+-- the process job in this state, in the control job, which is EXECUTING
+abbrev pub running : JobState → ToolFloor → ToolFloor
+running state f = with_both (process_with state true ∷ []) (control_with control.Executing (codes "PJ1" ∷ []) ∷ []) f
+
+-- the process job has ended, and the control job is COMPLETED
+abbrev pub ended : ToolFloor → ToolFloor
+ended f = with_both [] (control_with control.Completed [] ∷ []) f
+
+-- the substrate is a member of the process job
+abbrev pub joins : Substrate → Substrate
+joins s = record s { job = 1 }
+
+abbrev pub is_member : ToolFloor → ToolFloor
+is_member f = record f { substrates = change_numbered 1 joins f.substrates }
+
+-- ---- the floors
+
+-- both jobs were created, and the material is here; the process job starts automatically, or by hand
+abbrev pub created : Bool → ToolFloor
+created auto = with_both (process_with process.Queued auto ∷ []) (control_with control.Queued (codes "PJ1" ∷ []) ∷ []) in_slot
+
+-- ---- what the host and the operator do
+
+-- a row at the process job, or at the control job
+abbrev pub at_process : ℕ → ToolFloor → List Firing
+at_process row f = firing 14 1 row ∷ []
+
+abbrev pub at_control : ℕ → ToolFloor → List Firing
+at_control row f = firing 15 1 row ∷ []
+
+-- START, PAUSE, RESUME, STOP and ABORT of the process job
+abbrev pub started : ToolFloor → List Firing
+started = at_process 5
+
+abbrev pub paused : ToolFloor → List Firing
+paused = at_process 8
+
+abbrev pub resumed : ToolFloor → List Firing
+resumed = at_process 10
+
+abbrev pub stopped : ToolFloor → List Firing
+stopped = at_process 11
+
+abbrev pub aborted : ToolFloor → List Firing
+aborted = at_process 12

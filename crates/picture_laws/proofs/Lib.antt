@@ -10,3 +10,4 @@ mod Losing
 mod Lost
 mod CarrierColumns
 mod Coming
+mod JobViews

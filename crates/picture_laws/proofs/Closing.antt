@@ -69,7 +69,7 @@ module _ (m : ℕ) (change : Module → Module) (x : Module) (state : ByNumber) 
     present_at = λ c. refl;
     is_verified = λ c _. refl;
     access = λ c _. refl;
-    jobs = substrates_alike _ f.jobs f.shop.carriers f.substrates _ (λ else_ says k. says_same n aligned (λ s. refl) else_ (λ s. says s.job) (λ s. refl) k f.substrates);
+    jobs = substrates_alike _ f.jobs f.shop.carriers f.substrates _ (λ B else_ says k. says_same n aligned (λ s. refl) else_ (λ s. says s.job) (λ s. refl) k f.substrates);
     chambers = refl;
     equipment = modules_behind here is;
     next_command = refl;

@@ -26,7 +26,7 @@ alike_same at v = record {
 
 -- what is said of substrates by their jobs alone is the same
 abbrev pub SameJobs : List Substrate → List Substrate → Type 1
-SameJobs ss ts = {B : Type 0} (else_ : B) (says : ℕ → B) (k : ℕ) → of_one else_ (λ (s : Substrate). says s.job) (substrate_numbered k ts) ≡ of_one else_ (λ (s : Substrate). says s.job) (substrate_numbered k ss)
+SameJobs ss ts = (B : Type 0) (else_ : B) (says : ℕ → B) (k : ℕ) → of_one else_ (λ (s : Substrate). says s.job) (substrate_numbered k ts) ≡ of_one else_ (λ (s : Substrate). says s.job) (substrate_numbered k ss)
 
 module _ (at : ℕ → Option ℕ) (w : Jobs) where
   -- what is said of a process job, by its number
@@ -35,12 +35,12 @@ module _ (at : ℕ → Option ℕ) (w : Jobs) where
 
   pub substrates_alike : (cs : List Carrier) (ss ts : List Substrate) → SameJobs ss ts → SayAlike at (job_view ss cs w) (job_view ts cs w)
   substrates_alike cs ss ts same = record {
-    is_member = λ n. same false (said_of false (λ j. true)) n;
-    may_start = λ n. same false (said_of false (λ j. is_processing j.states.state)) n;
-    is_stopping = λ n. same false (said_of false (λ j. is_stopping j.states.state)) n;
-    is_aborting = λ n. same false (said_of false (λ j. is_aborting j.states.state)) n;
-    is_complete = λ n. same false (said_of false (λ j. is_complete j.states.state)) n;
-    chambers_of = λ n. same [] (said_of [] (λ j. chambers_in (recipe_named j.recipe w.process.recipes))) n;
+    is_member = λ n. same Bool false (said_of false (λ j. true)) n;
+    may_start = λ n. same Bool false (said_of false (λ j. is_processing j.states.state)) n;
+    is_stopping = λ n. same Bool false (said_of false (λ j. is_stopping j.states.state)) n;
+    is_aborting = λ n. same Bool false (said_of false (λ j. is_aborting j.states.state)) n;
+    is_complete = λ n. same Bool false (said_of false (λ j. is_complete j.states.state)) n;
+    chambers_of = λ n. same (List ℕ) [] (said_of [] (λ j. chambers_in (recipe_named j.recipe w.process.recipes))) n;
     names_carrier = λ c p here. refl;
     is_marked = λ c p here. refl;
   }

@@ -1,8 +1,9 @@
 -- What holds at every moment holds of the floor of the tool as it begins.
-use Rattle.std.proofs.Common.{◌≡◌, ℕ, zero, suc, ◌+◌, replicate, min, slice_get, refl}
+use Rattle.std.proofs.Common.{◌≡◌, ℕ, zero, suc, ◌+◌, List, replicate, min, slice_get, refl}
 use Rattle.robot_moves.specs.declared.module.Module.TheVariants.{Idle}
 use Rattle.robot_moves.specs.Modules.{module_at, first_modules}
 use Rattle.substrate.specs.Places.{no_places}
+use Rattle.tool_events.specs.declared.recipes.Recipe.{Recipe}
 use Rattle.tool_floor.specs.Floor.{opening}
 use Rattle.floor_moves.specs.Floor.{idle, opening as opening_by_numbers}
 use Rattle.floor_moves.specs.Agree.{Agree}
@@ -11,7 +12,7 @@ use Rattle.floor_moves.proofs.Agreeing.{agree-keeps}
 use Rattle.floor_moves.proofs.Carrying.{opening-valid}
 use Rattle.place_laws.specs.Picture.{picture, module_of, numbers_from}
 
-module _ (ports chambers : ℕ) where
+module _ (ports chambers : ℕ) (recipes : List Recipe) where
   one_idle : (count n : ℕ) → module_of (slice_get (replicate count Idle) n) (no_places ports chambers) ≡ idle
   one_idle zero n = refl
   one_idle (suc count) zero = refl
@@ -21,7 +22,7 @@ module _ (ports chambers : ℕ) where
   all_idle zero = refl
   all_idle (suc n) = one_idle (2 + min chambers 253) n
 
-  begins : Agree (opening_by_numbers (numbers_from 1 chambers)) (picture (opening ports chambers))
+  begins : Agree (opening_by_numbers (numbers_from 1 chambers)) (picture (opening ports chambers recipes))
   begins = record {
     substrates = refl;
     next_substrate = refl;
@@ -51,5 +52,5 @@ module _ (ports chambers : ℕ) where
     next_command = refl;
   }
 
-  pub opening-keeps : Valid (picture (opening ports chambers))
+  pub opening-keeps : Valid (picture (opening ports chambers recipes))
   opening-keeps = agree-keeps _ _ begins (opening-valid (numbers_from 1 chambers))

@@ -41,7 +41,7 @@ module _ (f : ToolFloor) (n row : ℕ) where
     present_at = λ c. refl;
     is_verified = λ c _. refl;
     access = λ c _. refl;
-    jobs = substrates_alike _ f.jobs f.shop.carriers f.substrates _ (λ else_ says k. says_same n (substrate_moves 12 row) (λ s. refl) else_ (λ s. says s.job) (λ s. refl) k f.substrates);
+    jobs = substrates_alike _ f.jobs f.shop.carriers f.substrates _ (λ B else_ says k. says_same n (substrate_moves 12 row) (λ s. refl) else_ (λ s. says s.job) (λ s. refl) k f.substrates);
     chambers = refl;
     equipment = λ m. refl;
     next_command = refl;
@@ -68,7 +68,7 @@ module _ (f : ToolFloor) (n row : ℕ) where
     present_at = λ c. refl;
     is_verified = λ c _. refl;
     access = λ c _. refl;
-    jobs = substrates_alike _ f.jobs f.shop.carriers f.substrates _ (λ else_ says k. says_same n (substrate_moves 13 row) (λ s. refl) else_ (λ s. says s.job) (λ s. refl) k f.substrates);
+    jobs = substrates_alike _ f.jobs f.shop.carriers f.substrates _ (λ B else_ says k. says_same n (substrate_moves 13 row) (λ s. refl) else_ (λ s. says s.job) (λ s. refl) k f.substrates);
     chambers = refl;
     equipment = λ m. refl;
     next_command = refl;

@@ -17,6 +17,7 @@ ghost use Rattle.robot_moves.specs.Modules.{module_at};
 ghost use Rattle.robot_moves.specs.declared.module.Module.{Module};
 ghost use Rattle.robot_moves.specs.declared.module.Module.TheVariants.{Idle};
 ghost use Rattle.robot_moves.specs.declared.view.Move.{Move};
+ghost use Rattle.tool_events.specs.declared.recipes.Recipe.{Recipe};
 ghost use Rattle.substrate.specs.Places.{registered as registered_there, ArePlaces, substrate_named, moved, removed};
 ghost use Rattle.gem_ids.specs.declared.numbers.LocId.{LocId};
 ghost use Rattle.substrate.specs.declared.registered.Registered.{Registered};
@@ -36,7 +37,7 @@ ghost use Rattle.place_laws.specs.Picture.{picture, loc_of, module_of, task_of};
 
 /// What holds at every moment holds of the floor of the tool as it begins.
 pub fn it_holds_as_the_tool_begins()
-    ensures { (ports chambers : ℕ) → Valid (picture (opening ports chambers)) }
+    ensures { (ports chambers : ℕ) (recipes : List Recipe) → Valid (picture (opening ports chambers recipes)) }
 {}
 
 /// Rows of one location or substrate do to the floor by numbers what the laws of the moves have: those of tables 11 and 12 leave all

@@ -30,7 +30,7 @@ use Rattle.tool_floor.specs.Kept.{RiseTo}
 use Rattle.floor_moves.specs.Floor.{Loc, slot, chamber, Command, busy, own, is_outside}
 use Rattle.floor_moves.specs.Valid.{IsDistinct, Places, Carriers, Commands, Members, Valid}
 use Rattle.place_laws.specs.Picture.{picture, loc_of, port_in, slot_in, port_number, where_present, module_of, of_one}
-use Rattle.place_laws.specs.Standing.{IsOf, IsCarried, AreApart, in_its_slot, IsFree, Standing}
+use Rattle.place_laws.specs.Standing.{IsOf, IsCarried, AreApart}
 
 abbrev IsOne : ℕ → Type 0
 IsOne k = k ≡ 1

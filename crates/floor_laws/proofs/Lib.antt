@@ -1,1 +1,2 @@
 pub mod ShopBase
+pub mod ShopAccess

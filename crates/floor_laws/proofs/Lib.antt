@@ -1,2 +1,3 @@
 pub mod ShopBase
 pub mod ShopAccess
+pub mod ShopTables

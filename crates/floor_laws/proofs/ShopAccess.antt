@@ -1,8 +1,8 @@
 -- What changes of carriers leave of the states of accessing: a carrier that is present is found behind them in the same state.
-use Rattle.std.proofs.Common.{◌≡◌, ◌≤◌, ℕ, suc, ◌==◌, Bool, true, false, not, ◌&&◌, if◌then◌else◌, List, [], ◌∷◌, ◌++◌, find, Option, Some, None, is_some, slice_get, refl, sym, ◌∙◌, ap, subst}
+use Rattle.std.proofs.Common.{◌≡◌, ◌≤◌, ℕ, suc, ◌==◌, Bool, true, false, if◌then◌else◌, List, [], ◌∷◌, ◌++◌, find, Option, Some, None, is_some, slice_get, refl, sym, ◌∙◌, ap, subst}
 use Rattle.std.proofs.lemmas.Bool.{and_parts}
 use Rattle.std.proofs.lemmas.Bool.Decides.{Decides-eqb}
-use Rattle.gem_tables.specs.Table.{firing, is_one_of}
+use Rattle.gem_tables.specs.Table.{firing}
 use Rattle.gem_tables.proofs.Rows.{looked_for}
 use Rattle.load_port.specs.declared.port.Port.{Port}
 use Rattle.load_port.specs.declared.port.Arrival.{Arrival}
@@ -17,7 +17,7 @@ use Rattle.carrier.specs.declared.carrier.Carrier.{Carrier}
 use Rattle.carrier.specs.Carriers as carriers
 use Rattle.carrier.specs.Carriers.{has_name, carrier_numbered, change_numbered, change_named, without, with_created, found_or_created, is_known, created, came_to, binds}
 use Rattle.shop_floor.specs.Floor.{Floor, with_port}
-use Rattle.shop_floor.specs.Rows.{bound_to, binding, is_directed, owner, forgets, arrived, arriving, arrival_at, without_owner, found_does}
+use Rattle.shop_floor.specs.Rows.{bound_to, is_directed, owner, forgets, arrived, arrival_at, without_owner, found_does}
 use Rattle.shop_floor.specs.Machines.{floor_starts, floor_fired}
 use Rattle.shop_floor.proofs.Cases.{starts_at_port}
 use Rattle.shop_floor.proofs.Keeps.{with_arrival}

@@ -1,8 +1,7 @@
 -- The load ports and the carriers change, and what holds goes on to hold: the carriers of substrates stay, and those of members of
 -- process jobs are NOT ACCESSED or IN ACCESS still.
-use Rattle.std.proofs.Common.{◌≡◌, ◌≤◌, ℕ, Bool, true, false, List, [], ◌∷◌, map, Option, Some, None, refl, sym, ◌∙◌, ap, subst}
+use Rattle.std.proofs.Common.{◌≡◌, ◌≤◌, ℕ, true, false, List, [], ◌∷◌, Some, None, sym, ◌∙◌, ap, subst}
 use Rattle.std.specs.List.{AllByRecursion}
-use Rattle.gem_tables.specs.Table.{is_one_of}
 use Rattle.carrier.specs.declared.carrier.Carrier.{Carrier}
 use Rattle.carrier.specs.Tables.{access_number}
 use Rattle.carrier.specs.Record.{is_map_verified}
@@ -12,19 +11,18 @@ use Rattle.shop_floor.specs.Floor as shop
 use Rattle.shop_floor.specs.Valid.{IsFloor}
 use Rattle.shop_floor.proofs.Present.{one_number}
 use Rattle.substrate.specs.declared.record.LocationRecord.{LocationRecord}
-use Rattle.process_job.specs.declared.job.ProcessJob.{ProcessJob}
 use Rattle.tool_jobs.specs.Jobs.{Jobs}
 use Rattle.tool_floor.specs.declared.tracking.Substrate.{Substrate}
-use Rattle.tool_floor.specs.Floor.{ToolFloor, with_shop, number_of}
+use Rattle.tool_floor.specs.Floor.{ToolFloor, with_shop}
 use Rattle.tool_floor.specs.Jobs.{names_carrier, is_any_of_carrier}
 use Rattle.floor_moves.specs.Valid.{Carriers, Members, Valid}
 use Rattle.place_laws.specs.Picture.{picture, of_one, where_present}
 use Rattle.place_laws.specs.Ports.{AtPorts}
 use Rattle.place_laws.specs.Standing.{IsCarried}
-use Rattle.place_laws.specs.Sound.{IsOfJob, IsInItsJob, Base, Sound}
+use Rattle.place_laws.specs.Sound.{IsInItsJob, Base, Sound}
 use Rattle.place_laws.proofs.Stays.{Stay, stay-carried}
 use Rattle.place_laws.proofs.Leaving.{Leaves}
-use Rattle.place_laws.proofs.Holding.{found_among, IsThere, kept_there, its_carrier, its_port, own_port, present_tells}
+use Rattle.place_laws.proofs.Holding.{found_among, kept_there, its_carrier, its_port, own_port, present_tells}
 
 -- ---- besides what holds by numbers
 

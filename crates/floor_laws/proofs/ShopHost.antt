@@ -1,6 +1,5 @@
 -- What the host writes of a carrier keeps what holds; so do a binding that is cancelled and a carrier that is placed.
-use Rattle.std.proofs.Common.{◌≡◌, ℕ, zero, suc, ◌==◌, Bool, true, false, not, ◌&&◌, ◌||◌, List, length, map, Option, Some, None, slice_get, refl, sym, ◌∙◌, ap, subst}
-use Rattle.std.specs.List.{AllByRecursion}
+use Rattle.std.proofs.Common.{◌≡◌, ℕ, zero, suc, Bool, true, false, ◌||◌, List, length, Option, Some, None, slice_get, refl, sym, ◌∙◌, ap}
 use Rattle.std.proofs.lemmas.Bool.{true≢false, both_ways, or_parts}
 use Rattle.gem_tables.specs.Table.{firing}
 use Rattle.load_port.specs.declared.port.Port.{Port}

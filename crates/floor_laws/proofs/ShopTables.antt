@@ -1,6 +1,5 @@
 -- The rows of tables 4 to 11 that forget no carrier that is present, and register no substrate, keep what holds.
-use Rattle.std.proofs.Common.{◌≡◌, ◌≤◌, ◌⊎◌, inl, inr, ℕ, ◌==◌, Bool, true, false, not, ◌&&◌, ◌||◌, if◌then◌else◌, List, [], ◌∷◌, Option, Some, None, refl, sym, ◌∙◌, ap, subst, arith}
-use Rattle.std.specs.List.{AllByRecursion}
+use Rattle.std.proofs.Common.{◌≡◌, ◌≤◌, ◌⊎◌, inl, inr, ℕ, ◌==◌, Bool, true, false, not, ◌&&◌, ◌||◌, if◌then◌else◌, [], ◌∷◌, Option, Some, None, refl, sym, ◌∙◌, ap, subst, arith}
 use Rattle.std.proofs.lemmas.Bool.{true≢false, and_parts, not-true}
 use Rattle.std.proofs.lemmas.Bool.Decides.{Decides-eqb}
 use Rattle.gem_tables.specs.Table.{firing, is_one_of, is_creation, is_among, row_of, found_starts, after}
@@ -13,7 +12,7 @@ use Rattle.carrier.specs.declared.record.Accessing.TheVariants as access
 use Rattle.carrier.specs.Tables.{CarrierRow, access_number, accessing_table}
 use Rattle.carrier.specs.Carriers as carriers
 use Rattle.carrier.specs.Carriers.{carrier_numbered, change_numbered}
-use Rattle.shop_floor.specs.Floor.{Floor, with_carrier}
+use Rattle.shop_floor.specs.Floor.{with_carrier}
 use Rattle.shop_floor.specs.Machines as shop
 use Rattle.shop_floor.proofs.Keeps.{row-keeps as shop_keeps, accessing-keeps}
 use Rattle.tool_floor.specs.declared.tracking.Substrate.{Substrate}
@@ -23,14 +22,26 @@ use Rattle.tool_floor.specs.Machines.{floor_machines, floor_starts, floor_fired,
 use Rattle.tool_floor.specs.Wants.{accessing_wants, is_quiet, are_back}
 use Rattle.tool_floor.specs.Substrates.{reaches_verified, without_carrier, registers_found}
 use Rattle.shop_floor.specs.Owning.{owner_number}
+use Rattle.floor_moves.specs.Valid.{Valid}
 use Rattle.place_laws.specs.Picture.{picture, of_one}
 use Rattle.place_laws.specs.Sound.{Base, Sound}
 use Rattle.place_laws.proofs.Leaving.{Leaves}
 use Rattle.place_laws.proofs.ShopRows.{is_gentle, transfer_leaves, mode_leaves, reservation_leaves, association_leaves, id_leaves, map_leaves, accessing_leaves}
 use Rattle.place_laws.proofs.PortsKept.{is_plain_row, row-at-ports, carrier-at-ports, states_left}
 use Rattle.place_laws.proofs.Holding.{kept_there, its_carrier}
-use Rattle.floor_laws.proofs.ShopBase.{accessing, StayOpen, shop_sound, location_sound}
+use Rattle.floor_laws.proofs.ShopBase.{accessing, StayOpen, shop_base, shop_valid, shop_sound, location_sound}
 use Rattle.floor_laws.proofs.ShopAccess.{SameAccess, found_numbered, stays_open, transfer_access, mode_access, reservation_access, association_access, id_access, map_access}
+
+-- ---- table 4, also where it is not told what holds of ports: so behind row 5, which removes a carrier
+
+module _ (f : ToolFloor) (port row : ℕ) (starts : floor_starts (firing 4 port row) f ≡ true) (b : Base f) where
+  pub transfer_base : Base (floor_fired (firing 4 port row) f)
+  transfer_base = shop_base f (shop.floor_fired (firing 4 port row) f.shop) (transfer_leaves f.substrates f.shop port row) (shop_keeps (firing 4 port row) f.shop starts b.shop) b
+
+  pub transfer_valid : Valid (picture f) → Valid (picture (floor_fired (firing 4 port row) f))
+  transfer_valid v =
+      let g = shop.floor_fired (firing 4 port row) f.shop in
+      shop_valid f g b.carried (transfer_leaves f.substrates f.shop port row).stay (shop_keeps (firing 4 port row) f.shop starts b.shop) (stays_open f g b (transfer_access f.shop port row) v) v
 
 -- ---- table 10
 

@@ -1,0 +1,4 @@
+pub mod ShopBase
+pub mod ShopAccess
+pub mod ShopTables
+pub mod ShopHost

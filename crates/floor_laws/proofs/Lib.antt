@@ -1,0 +1,2 @@
+pub mod IssueHeld
+pub mod IssueViews

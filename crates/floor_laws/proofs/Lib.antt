@@ -1,2 +1,6 @@
 pub mod IssueHeld
 pub mod IssueViews
+pub mod IssueTargets
+pub mod IssueKeeps
+pub mod IssueAgrees
+pub mod IssueRobot

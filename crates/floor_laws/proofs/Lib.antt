@@ -4,3 +4,5 @@ pub mod IssueTargets
 pub mod IssueKeeps
 pub mod IssueAgrees
 pub mod IssueRobot
+pub mod IssuePicks
+pub mod IssueWork

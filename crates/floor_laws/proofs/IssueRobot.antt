@@ -111,7 +111,7 @@ module _ (f : ToolFloor) (b : Base f) (v : Valid (picture f)) (rests : is_idle (
       (λ m c open_ s. let at = one_place (picture f) n arm aligner here s.stands in cc)
       (λ m c open_ s. let at = one_place (picture f) n arm (chamber s.0) here s.2 in cc)
 
-  may_place : (n : ℕ) (w : PlaceView) (loc : LocId) → IsSeen f n w → w.at ≡ Arm → free_target (views f) f.modules w ≡ Some loc → MayIssue 1 (place n (loc_of loc)) (picture f)
+  pub may_place : (n : ℕ) (w : PlaceView) (loc : LocId) → IsSeen f n w → w.at ≡ Arm → free_target (views f) f.modules w ≡ Some loc → MayIssue 1 (place n (loc_of loc)) (picture f)
   may_place n w loc s there e =
       let stands = place_stands n w loc s there e in
       record {

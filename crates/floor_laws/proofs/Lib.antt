@@ -6,3 +6,5 @@ pub mod IssueAgrees
 pub mod IssueRobot
 pub mod IssuePicks
 pub mod IssueWork
+pub mod IssuePlans
+pub mod IssueSound

@@ -1,9 +1,8 @@
 -- Each place that is held is found by its number and by its name, and is that of a substrate that is kept.
-use Rattle.std.proofs.Common.{◌≡◌, ◌<◌, ℕ, ◌==◌, Bool, true, false, ◌||◌, ◌&&◌, not, if◌then◌else◌, List, [], ◌∷◌, find, Option, Some, None, refl, sym, ◌∙◌, ap, subst, arith}
+use Rattle.std.proofs.Common.{◌≡◌, ◌<◌, ℕ, ◌==◌, Bool, true, false, ◌||◌, if◌then◌else◌, List, [], ◌∷◌, find, Some, None, refl, sym, ◌∙◌, ap, subst, arith}
 use Rattle.std.specs.List.{AllByRecursion, list_any}
-use Rattle.std.specs.Str.{bytes_eq}
 use Rattle.std.proofs.lemmas.Bool.Decides.{Decides-eqb}
-use Rattle.substrate.specs.Places.{has_name, substrate_named, is_known, are_named_apart, AreNumbered}
+use Rattle.substrate.specs.Places.{has_name, substrate_named, are_named_apart, AreNumbered}
 use Rattle.substrate.specs.declared.registered.Registered.{Registered}
 use Rattle.substrate.proofs.Texts.{same_name, own_name}
 use Rattle.substrate.proofs.Apart.{first_apart, rest_apart, unknown_none}
@@ -67,9 +66,10 @@ IsNumbered rs r = find (λ (x : Registered). x.number == r.number) rs ≡ Some r
 -- each is found by its number
 numbers_found : (last given : ℕ) (rs : List Registered) → AreNumbered last given rs → AllByRecursion (IsNumbered rs) rs
 numbers_found last given [] rising = tt
-numbers_found last given (r ∷ rs) rising =
-    (rw ((Decides-eqb r.number r.number).1 refl) refl,
-    all_both (λ (x : Registered). r.number < x.number) (IsNumbered rs) (IsNumbered (r ∷ rs)) rs (λ x less found. later x less found (r.number == x.number) refl) (above r.number given rs rising.1) (numbers_found r.number given rs rising.1)) where
+numbers_found last given (r ∷ rs) rising = (
+  rw ((Decides-eqb r.number r.number).1 refl) refl,
+  all_both (λ (x : Registered). r.number < x.number) (IsNumbered rs) (IsNumbered (r ∷ rs)) rs (λ x less found. later x less found (r.number == x.number) refl) (above r.number given rs rising.1) (numbers_found r.number given rs rising.1),
+) where
   later : (x : Registered) → r.number < x.number → IsNumbered rs x → (b : Bool) → (r.number == x.number) ≡ b → IsNumbered (r ∷ rs) x
   later x less found true q = let same = (Decides-eqb r.number x.number).0 q in absurd (omega (arith, less, same))
   later x less found false q = rw q found
@@ -82,9 +82,10 @@ IsNamed rs r = substrate_named r.sub rs ≡ Some r
 -- each is found by its name
 names_found : (rs : List Registered) → are_named_apart rs ≡ true → AllByRecursion (IsNamed rs) rs
 names_found [] apart = tt
-names_found (r ∷ rs) apart =
-    (rw (own_name r.sub) refl,
-    all_so (IsNamed rs) (IsNamed (r ∷ rs)) rs (λ x found. later x found (has_name x.sub r) refl) (names_found rs (rest_apart r rs apart))) where
+names_found (r ∷ rs) apart = (
+  rw (own_name r.sub) refl,
+  all_so (IsNamed rs) (IsNamed (r ∷ rs)) rs (λ x found. later x found (has_name x.sub r) refl) (names_found rs (rest_apart r rs apart)),
+) where
   later : (x : Registered) → IsNamed rs x → (b : Bool) → has_name x.sub r ≡ b → IsNamed (r ∷ rs) x
   later x found true q =
       let same : r.sub ≡ x.sub = same_name r.sub x.sub q in

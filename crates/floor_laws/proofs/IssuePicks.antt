@@ -1,13 +1,12 @@
 -- What the robot is to pick fits the places: row 2 of table 16 may be issued.
-use Rattle.std.proofs.Common.{◌≡◌, ◌⊎◌, inl, inr, ℕ, zero, suc, ◌==◌, Bool, true, false, ◌||◌, ◌&&◌, not, List, Option, Some, None, option_map, is_some, slice_get, refl, sym, ◌∙◌, ap, subst, arith}
+use Rattle.std.proofs.Common.{◌≡◌, ℕ, Bool, true, false, ◌||◌, ◌&&◌, not, List, Option, Some, None, is_some, refl, sym, ◌∙◌, ap, subst}
 use Rattle.std.proofs.lemmas.Bool.{and_parts}
-use Rattle.gem_tables.specs.Table.{is_one_of}
 use Rattle.gem_ids.specs.declared.numbers.LocId.{LocId}
 use Rattle.gem_ids.specs.declared.numbers.LocId.TheVariants.{Slot, Aligner, Arm, Chamber}
 use Rattle.gem_ids.specs.declared.numbers.PortNo.{PortNo}
 use Rattle.gem_ids.specs.declared.numbers.SlotNo.{SlotNo}
 use Rattle.robot_moves.specs.Modules.{module_at, is_idle, chamber_module as chamber_number}
-use Rattle.robot_moves.specs.Moves.{holder, free_target, may_leave, is_useful, best_pick}
+use Rattle.robot_moves.specs.Moves.{free_target, may_leave, is_useful, best_pick}
 use Rattle.robot_moves.specs.declared.module.Module.{Module}
 use Rattle.robot_moves.specs.declared.view.PlaceView.{PlaceView}
 use Rattle.robot_moves.proofs.Best.{best_is}
@@ -15,11 +14,11 @@ use Rattle.substrate.specs.Locations.{is_same}
 use Rattle.substrate.proofs.Truth.{not_true}
 use Rattle.tool_floor.specs.Floor.{ToolFloor}
 use Rattle.tool_floor.specs.Views.{views}
-use Rattle.floor_moves.specs.Floor.{Loc, slot, aligner, arm, chamber, pick, place, align, process, Command, Floor, idle, busy, modules, is_outside, is_finished, chamber_module}
+use Rattle.floor_moves.specs.Floor.{Loc, slot, aligner, arm, chamber, pick, Command, idle, busy, is_outside, is_finished, chamber_module}
 use Rattle.floor_moves.specs.Valid.{Empty, PickStands, IsUnnamed, Valid}
 use Rattle.place_laws.specs.Picture.{picture, loc_of}
 use Rattle.place_laws.specs.Sound.{Base}
-use Rattle.floor_laws.proofs.IssueViews.{IsSeen, IsView, view_seen}
+use Rattle.floor_laws.proofs.IssueViews.{IsSeen, view_seen}
 use Rattle.floor_laws.proofs.IssueTargets.{idle_seen, module_within, room_seen}
 use Rattle.floor_laws.proofs.IssueKeeps.{MayIssue}
 use Rattle.floor_laws.proofs.IssueRobot.{unnamed_by, idle_not_busy, one_place}
@@ -66,6 +65,7 @@ is_this (Some x) e = (x, refl)
 is_this None e = absurd (cc)
 
 module _ (f : ToolFloor) (b : Base f) (v : Valid (picture f)) (rests : is_idle (module_at 1 f.modules) ≡ true) (none : Empty arm (picture f)) where
+  -- the robot is idle by numbers
   robot_idle : (picture f).equipment 1 ≡ idle
   robot_idle = idle_seen f b 1 rests
 
@@ -139,7 +139,7 @@ module _ (f : ToolFloor) (b : Base f) (v : Valid (picture f)) (rests : is_idle (
           let same : i ≡ d = cc in
           idle_not_busy (picture f) (chamber_module i) m c (idle_seen f b (chamber_number i) (l.from_chamber i refl).0) (its ∙ ap chamber_module (sym same)) open_
 
-  -- the best pick may be issued
+  -- a useful pick may be issued
   may_pick : (n : ℕ) (w : PlaceView) → IsSeen f n w → is_useful (views f) f.modules w ≡ true → MayIssue 1 (pick n (loc_of w.at)) (picture f)
   may_pick n w s useful =
       let parts = and_parts (may_leave w.at f.modules w) (is_some (free_target (views f) f.modules w)) useful in
@@ -162,6 +162,7 @@ module _ (f : ToolFloor) (b : Base f) (v : Valid (picture f)) (rests : is_idle (
           let start : loc_of w.at ≡ from = cc in
           subst (λ (i : ℕ). PickStands 1 i from (picture f)) number (subst (λ (x : Loc). PickStands 1 n x (picture f)) start stands)
 
+  -- the best one is useful, so row 2 may be issued
   pub may_pick_best : (w : PlaceView) → best_pick (views f) f.modules ≡ Some w → (n : ℕ) × IsSeen f n w × MayIssue 1 (pick n (loc_of w.at)) (picture f)
   may_pick_best w e =
       let best = best_is (views f) f.modules w e in

@@ -1,33 +1,22 @@
 -- What the robot is to do fits the places: rows 1 and 2 of table 16 may be issued.
-use Rattle.std.proofs.Common.{◌≡◌, ◌⊎◌, inl, inr, ℕ, zero, suc, ◌==◌, Bool, true, false, ◌||◌, ◌&&◌, not, List, Option, Some, None, option_map, is_some, slice_get, refl, sym, ◌∙◌, ap, subst, arith}
-use Rattle.std.proofs.lemmas.Bool.{and_parts}
+use Rattle.std.proofs.Common.{◌≡◌, inl, inr, ℕ, true, Some, refl, sym, ◌∙◌, ap, subst}
 use Rattle.gem_tables.specs.Table.{is_one_of}
 use Rattle.gem_ids.specs.declared.numbers.LocId.{LocId}
-use Rattle.gem_ids.specs.declared.numbers.LocId.TheVariants.{Slot, Aligner, Arm, Chamber}
+use Rattle.gem_ids.specs.declared.numbers.LocId.TheVariants.{Arm}
 use Rattle.robot_moves.specs.Modules.{module_at, is_idle}
-use Rattle.robot_moves.specs.Modules as tool
-use Rattle.robot_moves.specs.Moves.{holder, is_free, free_target, may_leave, is_useful, best_pick, place_move, pick_move, arm_move, robot_move}
-use Rattle.robot_moves.specs.Best.{IsBestPick}
-use Rattle.robot_moves.specs.declared.module.Module.{Module}
+use Rattle.robot_moves.specs.Moves.{is_free, free_target}
 use Rattle.robot_moves.specs.declared.view.PlaceView.{PlaceView}
-use Rattle.robot_moves.specs.declared.view.Move.{Move}
-use Rattle.robot_moves.proofs.Best.{best_is}
-use Rattle.substrate.proofs.Truth.{not_true}
 use Rattle.tool_floor.specs.Floor.{ToolFloor}
 use Rattle.tool_floor.specs.Views.{views}
-use Rattle.floor_moves.specs.Floor.{Loc, slot, aligner, arm, chamber, Task, pick, place, align, process, named, Command, Floor, idle, busy, modules, own, is_outside, is_finished, chamber_module}
-use Rattle.floor_moves.specs.Valid.{Empty, HasRoom, PickStands, PlaceStands, AlignStands, ProcessStands, IsUnnamed, Valid}
+use Rattle.floor_moves.specs.Floor.{Loc, slot, aligner, arm, chamber, Task, pick, place, align, process, named, Command, Floor, idle, busy, is_outside}
+use Rattle.floor_moves.specs.Valid.{PickStands, PlaceStands, AlignStands, ProcessStands, IsUnnamed, Valid}
 use Rattle.floor_laws.proofs.IssueKeeps.{MayIssue}
-use Rattle.place_laws.specs.Picture.{picture, loc_of, task_of}
+use Rattle.place_laws.specs.Picture.{picture, loc_of}
 use Rattle.place_laws.specs.Sound.{Base}
-use Rattle.floor_laws.proofs.IssueViews.{IsSeen, IsView, empty_seen, holder_seen, none_seen, view_seen}
-use Rattle.floor_laws.proofs.IssueTargets.{idle_seen, module_within, IsTarget, free_target_is, free_empty, free_chamber_within, room_seen}
+use Rattle.floor_laws.proofs.IssueViews.{IsSeen}
+use Rattle.floor_laws.proofs.IssueTargets.{idle_seen, module_within, IsTarget, free_target_is, free_empty, free_chamber_within}
 
 -- ---- commands that name one
-
--- an open command of each kind
-abbrev pub IsOpen : Floor → ℕ → Task → Type 0
-IsOpen g m t = (c : Command) × (g.equipment m ≡ busy c) × (c.task ≡ t)
 
 -- where no open command of any kind names a substrate, none does
 pub unnamed_by : (g : Floor) (v : Valid g) (n : ℕ)
@@ -54,6 +43,7 @@ one_place g n l m e d = cc
 -- ---- the robot
 
 module _ (f : ToolFloor) (b : Base f) (v : Valid (picture f)) (rests : is_idle (module_at 1 f.modules) ≡ true) where
+  -- the robot is idle by numbers
   robot_idle : (picture f).equipment 1 ≡ idle
   robot_idle = idle_seen f b 1 rests
 
@@ -65,7 +55,7 @@ module _ (f : ToolFloor) (b : Base f) (v : Valid (picture f)) (rests : is_idle (
     here : (picture f).place_of n ≡ Some arm
     here = s.at ∙ ap (λ (l : LocId). Some (loc_of l)) there
 
-    of : IsTarget (views f) w loc × (is_free (views f) f.modules loc ≡ true) → PlaceStands 1 n (loc_of loc) (picture f)
+    of : IsTarget w loc × (is_free (views f) f.modules loc ≡ true) → PlaceStands 1 n (loc_of loc) (picture f)
     of (inl h, free) =
         let home = s.home in
         let slot_is : loc_of loc ≡ slot home.0.0 home.1.0 = ap loc_of (h.its_own ∙ home.2) in
@@ -111,6 +101,7 @@ module _ (f : ToolFloor) (b : Base f) (v : Valid (picture f)) (rests : is_idle (
       (λ m c open_ s. let at = one_place (picture f) n arm aligner here s.stands in cc)
       (λ m c open_ s. let at = one_place (picture f) n arm (chamber s.0) here s.2 in cc)
 
+  -- row 1 may be issued
   pub may_place : (n : ℕ) (w : PlaceView) (loc : LocId) → IsSeen f n w → w.at ≡ Arm → free_target (views f) f.modules w ≡ Some loc → MayIssue 1 (place n (loc_of loc)) (picture f)
   may_place n w loc s there e =
       let stands = place_stands n w loc s there e in

@@ -1,19 +1,18 @@
 -- Rows 1 to 4 of table 16, by which a command is issued, keep what holds of the floor of the tool.
-use Rattle.std.proofs.Common.{◌≡◌, ◌≤◌, ℕ, zero, suc, ◌+◌, Bool, true, List, [], ◌∷◌, length, Option, Some, None, refl, sym, ◌∙◌, ap, subst}
+use Rattle.std.proofs.Common.{◌≡◌, ◌≤◌, ℕ, zero, suc, ◌+◌, true, List, [], ◌∷◌, length, Option, Some, None, refl, sym, ap, subst}
 use Rattle.gem_tables.specs.Table.{firing, is_one_of, update_at}
 use Rattle.robot_moves.specs.declared.module.Module.{Module}
-use Rattle.robot_moves.specs.declared.module.Module.TheVariants.{Idle}
-use Rattle.robot_moves.specs.Modules.{module_at, change_module, is_idle, given}
+use Rattle.robot_moves.specs.Modules.{module_at, change_module, given}
 use Rattle.robot_moves.specs.declared.view.Move.{Move}
-use Rattle.robot_moves.proofs.Giving.{IsOf, move_is}
+use Rattle.robot_moves.proofs.Giving.{move_is}
 use Rattle.tool_floor.specs.Floor.{ToolFloor}
 use Rattle.tool_floor.specs.Views.{views, planned}
 use Rattle.tool_floor.specs.Modules.{command, issued as given_to}
-use Rattle.tool_floor.specs.Machines.{moved_by, floor_starts, floor_fired}
+use Rattle.tool_floor.specs.Machines.{floor_starts, floor_fired}
 use Rattle.tool_floor.proofs.Moves.{is_idle_module, gives}
 use Rattle.floor_moves.proofs.Agreeing.{agree-keeps}
 use Rattle.place_laws.specs.Picture.{picture, task_of}
-use Rattle.place_laws.specs.Sound.{Base, Sound}
+use Rattle.place_laws.specs.Sound.{Sound}
 use Rattle.floor_laws.proofs.IssueKeeps.{issued-keeps}
 use Rattle.floor_laws.proofs.IssueAgrees.{issuing_agrees}
 use Rattle.floor_laws.proofs.IssuePlans.{planned_may}

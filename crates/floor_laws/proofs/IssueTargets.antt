@@ -1,13 +1,11 @@
 -- Where a substrate is to go, by numbers: its own slot, the aligner, or a chamber of its recipe, each where it is empty and Idle.
-use Rattle.std.proofs.Common.{◌≡◌, ◌≤◌, ◌<◌, ◌⊎◌, inl, inr, ℕ, zero, suc, ◌+◌, ◌==◌, Bool, true, false, ◌||◌, ◌&&◌, not, if◌then◌else◌, List, [], ◌∷◌, length, map, Option, Some, None, option_map, is_some, slice_get, refl, sym, ◌∙◌, ap, subst, arith}
+use Rattle.std.proofs.Common.{◌≡◌, ◌≤◌, ◌<◌, ◌⊎◌, inl, inr, ℕ, zero, suc, ◌+◌, ◌==◌, Bool, true, false, ◌||◌, ◌&&◌, not, if◌then◌else◌, List, [], ◌∷◌, length, map, Option, Some, None, option_map, slice_get, refl, ◌∙◌, ap, subst, arith}
 use Rattle.std.specs.Option.{option_or}
 use Rattle.std.proofs.lemmas.Bool.{and_parts, or_right}
 use Rattle.std.proofs.lemmas.Bool.Decides.{Decides-eqb, nat_tests}
 use Rattle.gem_tables.specs.Table.{is_one_of}
 use Rattle.gem_ids.specs.declared.numbers.LocId.{LocId}
 use Rattle.gem_ids.specs.declared.numbers.LocId.TheVariants.{Slot, Aligner, Arm, Chamber}
-use Rattle.gem_ids.specs.declared.numbers.PortNo.{PortNo}
-use Rattle.gem_ids.specs.declared.numbers.SlotNo.{SlotNo}
 use Rattle.robot_moves.specs.Modules.{module_at, chamber_module, is_idle}
 use Rattle.robot_moves.specs.Moves.{first_of, is_empty, is_free, has_chamber, chamber_where_free, free_chamber, target, where_free, free_target}
 use Rattle.robot_moves.specs.declared.module.Module.{Module}
@@ -16,7 +14,7 @@ use Rattle.robot_moves.specs.declared.view.PlaceView.{PlaceView}
 use Rattle.tool_floor.specs.Floor.{ToolFloor}
 use Rattle.tool_floor.specs.Views.{views}
 use Rattle.tool_floor.proofs.Moves.{is_idle_module}
-use Rattle.floor_moves.specs.Floor.{Loc, slot, aligner, arm, chamber, idle, modules, own, is_finished, chamber_module as its_module}
+use Rattle.floor_moves.specs.Floor.{aligner, chamber, idle, modules, is_finished, chamber_module as its_module}
 use Rattle.floor_moves.specs.Valid.{Empty, HasRoom}
 use Rattle.place_laws.specs.Picture.{picture, loc_of, module_of, numbers_from}
 use Rattle.place_laws.specs.Sound.{Base}
@@ -32,6 +30,7 @@ among_numbers first (suc count) n least most = of (first == n) refl (λ other. a
   of true e rest = refl
   of false e rest = rest (λ same. let t = (Decides-eqb first n).1 same in cc)
 
+-- modules of two chambers are the same where the chambers are
 same_chamber : (c d : ℕ) → (its_module d == its_module c) ≡ (d == c)
 same_chamber c d = grind (arith, nat_tests)
 
@@ -46,6 +45,7 @@ get_within n [] x e = absurd (cc)
 get_within zero (y ∷ ys) x e = omega arith
 get_within (suc n) (y ∷ ys) x e = let later = get_within n ys x e in omega (arith, later)
 
+-- so has the module of a number, counted from 1
 at_within : (m : ℕ) (ms : List Module) (x : Module) → module_at m ms ≡ Some x → (1 ≤ m) × (m ≤ length ms)
 at_within zero ms x e = absurd (cc)
 at_within (suc n) ms x e = let less = get_within n ms x e in (omega arith, omega (arith, less))
@@ -55,6 +55,7 @@ module _ (f : ToolFloor) (b : Base f) where
   pub idle_seen : (m : ℕ) → is_idle (module_at m f.modules) ≡ true → (picture f).equipment m ≡ idle
   idle_seen m e = ap (λ (o : Option Module). module_of o f.places) (is_idle_module (module_at m f.modules) e)
 
+  -- so is the chamber of an Idle module
   pub chamber_within : (c : ℕ) → 1 ≤ c → is_idle (module_at (chamber_module c) f.modules) ≡ true → is_one_of (picture f).chambers c ≡ true
   chamber_within c least e =
       let within = at_within (chamber_module c) f.modules Idle (is_idle_module (module_at (chamber_module c) f.modules) e) in
@@ -62,6 +63,7 @@ module _ (f : ToolFloor) (b : Base f) where
       let few = b.modules in
       among_numbers 1 f.places.chambers c least (omega (arith, most, few))
 
+  -- and the module itself
   pub module_within : (m : ℕ) → is_idle (module_at m f.modules) ≡ true → is_one_of (modules (picture f)) m ≡ true
   module_within zero e = absurd (cc)
   module_within (suc zero) e = refl
@@ -73,16 +75,18 @@ module _ (f : ToolFloor) (b : Base f) where
 
 -- ---- targets
 
--- a target that is free, by what the planner is told
-pub record IsHome (vs : List PlaceView) (v : PlaceView) (loc : LocId) : Type 0 where
+-- of a finished substrate, its own slot
+pub record IsHome (v : PlaceView) (loc : LocId) : Type 0 where
   pub finished : v.finished ≡ true
   pub its_own : loc ≡ v.slot
 
+-- of one that isn't aligned, the aligner
 pub record IsAligner (v : PlaceView) (loc : LocId) : Type 0 where
   pub unfinished : v.finished ≡ false
   pub unaligned : v.aligned ≡ false
   pub at : loc ≡ Aligner
 
+-- of an aligned one, a chamber of 1 to 8 that its recipe has
 pub record IsChamber (v : PlaceView) (loc : LocId) : Type 0 where
   pub unfinished : v.finished ≡ false
   pub aligned : v.aligned ≡ true
@@ -92,8 +96,9 @@ pub record IsChamber (v : PlaceView) (loc : LocId) : Type 0 where
   pub has : has_chamber v.chambers c ≡ true
   pub at : loc ≡ Chamber c
 
-abbrev pub IsTarget : List PlaceView → PlaceView → LocId → Type 0
-IsTarget vs v loc = IsHome vs v loc ⊎ (IsAligner v loc ⊎ IsChamber v loc)
+-- one of them
+abbrev pub IsTarget : PlaceView → LocId → Type 0
+IsTarget v loc = IsHome v loc ⊎ (IsAligner v loc ⊎ IsChamber v loc)
 
 module _ (vs : List PlaceView) (ms : List Module) (v : PlaceView) where
   -- the first chamber that is found has the bit, and is one of those that were looked at
@@ -111,9 +116,10 @@ module _ (vs : List PlaceView) (ms : List Module) (v : PlaceView) where
         let most = later.1 in
         (omega (arith, least), omega (arith, most), later.2)
 
-  target_is : (loc : LocId) → target vs ms v ≡ Some loc → IsTarget vs v loc
+  -- a target is one of the three
+  target_is : (loc : LocId) → target vs ms v ≡ Some loc → IsTarget v loc
   target_is loc e = of v.finished refl v.aligned refl e where
-    in_chamber : v.finished ≡ false → v.aligned ≡ true → (o : Option ℕ) → free_chamber vs ms v ≡ o → option_map (λ (c : ℕ). Chamber c) o ≡ Some loc → IsTarget vs v loc
+    in_chamber : v.finished ≡ false → v.aligned ≡ true → (o : Option ℕ) → free_chamber vs ms v ≡ o → option_map (λ (c : ℕ). Chamber c) o ≡ Some loc → IsTarget v loc
     in_chamber p q None r e = absurd (cc)
     in_chamber p q (Some c) r e =
         let found = chamber_found 1 8 c r in
@@ -121,19 +127,19 @@ module _ (vs : List PlaceView) (ms : List Module) (v : PlaceView) where
         inr (inr (record { unfinished = p; aligned = q; c = c; least = found.0; most = omega (arith, most); has = found.2; at = cc }))
 
     of : (finished : Bool) → v.finished ≡ finished → (aligned : Bool) → v.aligned ≡ aligned
-        → (if finished then Some v.slot else (if not aligned then Some Aligner else option_map (λ (c : ℕ). Chamber c) (free_chamber vs ms v))) ≡ Some loc → IsTarget vs v loc
+        → (if finished then Some v.slot else (if not aligned then Some Aligner else option_map (λ (c : ℕ). Chamber c) (free_chamber vs ms v))) ≡ Some loc → IsTarget v loc
     of true p aligned q e = inl (record { finished = p; its_own = cc })
     of false p false q e = inr (inl (record { unfinished = p; unaligned = q; at = cc }))
     of false p true q e = in_chamber p q (free_chamber vs ms v) refl e
 
   -- a free target is a target, and is free
-  pub free_target_is : (loc : LocId) → free_target vs ms v ≡ Some loc → IsTarget vs v loc × (is_free vs ms loc ≡ true)
+  pub free_target_is : (loc : LocId) → free_target vs ms v ≡ Some loc → IsTarget v loc × (is_free vs ms loc ≡ true)
   free_target_is loc e = of (target vs ms v) refl e where
     where_tested : (at : LocId) (t : Bool) → is_free vs ms at ≡ t → (if t then Some at else None) ≡ Some loc → (at ≡ loc) × (is_free vs ms at ≡ true)
     where_tested at true q e = (cc, q)
     where_tested at false q e = absurd (cc)
 
-    of : (o : Option LocId) → target vs ms v ≡ o → where_free vs ms o ≡ Some loc → IsTarget vs v loc × (is_free vs ms loc ≡ true)
+    of : (o : Option LocId) → target vs ms v ≡ o → where_free vs ms o ≡ Some loc → IsTarget v loc × (is_free vs ms loc ≡ true)
     of None q e = absurd (cc)
     of (Some at) q e =
         let here = where_tested at (is_free vs ms at) refl e in
@@ -156,7 +162,7 @@ module _ (f : ToolFloor) (b : Base f) where
   -- where a target is free there is room for a substrate in a job
   pub room_seen : (n : ℕ) (v : PlaceView) (loc : LocId) → IsSeen f n v → (picture f).jobs.is_member n ≡ true → free_target (views f) f.modules v ≡ Some loc → HasRoom n (picture f)
   room_seen n v loc s member e unfinished = of (free_target_is (views f) f.modules v loc e) where
-    of : IsTarget (views f) v loc × (is_free (views f) f.modules loc ≡ true) → record {
+    of : IsTarget v loc × (is_free (views f) f.modules loc ≡ true) → record {
       at_aligner : (picture f).is_aligned n ≡ false → Empty aligner (picture f);
       in_chamber : (picture f).is_aligned n ≡ true → (c : ℕ) × (is_one_of ((picture f).jobs.chambers_of n) c ≡ true) × (is_one_of (picture f).chambers c ≡ true) × Empty (chamber c) (picture f);
     }

@@ -12,7 +12,7 @@ use Rattle.robot_moves.specs.declared.view.PlaceView.{PlaceView}
 use Rattle.shop_floor.proofs.Belonging.{all_at}
 use Rattle.substrate.specs.Locations.{is_same}
 use Rattle.substrate.specs.Places.{stands_at}
-use Rattle.substrate.specs.Record.{is_finished, is_in_process}
+use Rattle.substrate.specs.Record.{is_finished}
 use Rattle.substrate.specs.Tables.{processing_number}
 use Rattle.substrate.specs.declared.record.Processing.{Processing}
 use Rattle.substrate.specs.declared.record.Processing.TheVariants as processing
@@ -20,17 +20,15 @@ use Rattle.substrate.specs.declared.registered.Registered.{Registered}
 use Rattle.substrate.proofs.Sites.{same_is}
 use Rattle.substrate.proofs.Truth.{not_true}
 use Rattle.tool_events.specs.declared.recipes.Recipe.{Recipe}
-use Rattle.tool_events.specs.declared.recipes.RecipeChambers.{RecipeChambers}
 use Rattle.process_job.specs.Jobs.{recipe_named}
 use Rattle.process_job.specs.declared.job.ProcessJob.{ProcessJob}
 use Rattle.tool_floor.specs.declared.tracking.Substrate.{Substrate}
 use Rattle.tool_floor.specs.Floor.{ToolFloor, substrate_numbered, number_of}
 use Rattle.tool_floor.specs.Jobs.{job_of, is_job_so, is_processing}
-use Rattle.tool_floor.specs.Views.{chamber_bits, chambers_of, recipe_of, view_of, view_in, views_of, views}
-use Rattle.floor_moves.specs.Floor.{Loc, slot, aligner, arm, chamber, own, is_finished as is_finished_state}
+use Rattle.tool_floor.specs.Views.{chambers_of, recipe_of, view_of, view_in, views_of, views}
+use Rattle.floor_moves.specs.Floor.{own, is_finished as is_finished_state}
 use Rattle.floor_moves.specs.Valid.{Empty}
-use Rattle.place_laws.specs.Picture.{picture, loc_of, place_in, numbered, chambers_in, of_one, of_job}
-use Rattle.place_laws.specs.Standing.{IsOf, IsCarried}
+use Rattle.place_laws.specs.Picture.{picture, loc_of, numbered, chambers_in, of_one, of_job}
 use Rattle.place_laws.specs.Sound.{Base}
 use Rattle.place_laws.proofs.Holding.{found_among, kept_there, own_place, IsThere}
 use Rattle.floor_laws.proofs.IssueHeld.{found_so, found_any, none_any, IsHeld, HasKept, all_held}

@@ -1,13 +1,11 @@
 -- What the aligner and the chambers are to do fits the places: rows 3 and 4 of table 16 may be issued.
-use Rattle.std.proofs.Common.{◌≡◌, ◌⊎◌, inl, inr, ℕ, zero, suc, ◌==◌, ◌-◌, Bool, true, false, ◌||◌, ◌&&◌, not, List, Option, Some, None, option_map, is_some, slice_get, refl, sym, ◌∙◌, ap, subst, arith}
-use Rattle.gem_tables.specs.Table.{is_one_of}
+use Rattle.std.proofs.Common.{◌≡◌, ℕ, Bool, true, false, ◌||◌, Some, refl, ◌∙◌, ap, subst}
 use Rattle.gem_ids.specs.declared.numbers.LocId.{LocId}
-use Rattle.gem_ids.specs.declared.numbers.LocId.TheVariants.{Slot, Aligner, Arm, Chamber}
+use Rattle.gem_ids.specs.declared.numbers.LocId.TheVariants.{Aligner, Chamber}
 use Rattle.robot_moves.specs.Modules.{module_at, is_idle, chamber_module as chamber_number}
-use Rattle.robot_moves.specs.declared.module.Module.{Module}
 use Rattle.robot_moves.specs.declared.view.PlaceView.{PlaceView}
 use Rattle.tool_floor.specs.Floor.{ToolFloor}
-use Rattle.floor_moves.specs.Floor.{Loc, slot, aligner, arm, chamber, pick, place, align, process, Command, Floor, idle, busy, modules, is_outside, is_finished, chamber_module}
+use Rattle.floor_moves.specs.Floor.{Loc, aligner, arm, chamber, align, process, Command, idle, busy, is_outside, is_finished, chamber_module}
 use Rattle.floor_moves.specs.Valid.{AlignStands, ProcessStands, PickStands, PlaceStands, Valid}
 use Rattle.place_laws.specs.Picture.{picture, loc_of}
 use Rattle.place_laws.specs.Sound.{Base}

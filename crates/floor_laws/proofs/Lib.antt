@@ -2,3 +2,13 @@ pub mod ShopBase
 pub mod ShopAccess
 pub mod ShopTables
 pub mod ShopHost
+pub mod IssueHeld
+pub mod IssueViews
+pub mod IssueTargets
+pub mod IssueKeeps
+pub mod IssueAgrees
+pub mod IssueRobot
+pub mod IssuePicks
+pub mod IssueWork
+pub mod IssuePlans
+pub mod IssueSound

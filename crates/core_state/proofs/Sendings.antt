@@ -1,5 +1,5 @@
 -- The first of some notes is sent.
-use Rattle.std.proofs.Common.{◌≡◌, List, [], ◌∷◌, Some, slice_get, sym, ap}
+use Rattle.std.proofs.Common.{◌≡◌, List, [], ◌∷◌, Some, None, slice_get, refl, sym, ap}
 use Rattle.spool.specs.declared.note.Note.{Note}
 use Rattle.transactions.specs.declared.transaction.What.TheVariants as what
 use Rattle.gem_model.specs.State.{State}
@@ -11,3 +11,8 @@ first_asks [] g note e = absurd (cc)
 first_asks (n ∷ ns) g note e =
     let same : note ≡ n = cc in
     ap (λ (x : Note). asks (stream_of_kind x.kind) (function_of_kind x.kind) (what.Note x.number) x.text g) same
+
+-- none is sent where there is none
+pub none_asks : (notes : List Note) (g : State) → None ≡ slice_get notes 0 → g ≡ asks_first notes g
+none_asks [] g e = refl
+none_asks (n ∷ ns) g e = absurd (cc)

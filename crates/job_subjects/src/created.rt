@@ -6,11 +6,18 @@ use gem_ids::{JobId, Text80};
 use process_job::{JobSpec, Material, Materials, Slots};
 use std::alloc::Global;
 use test_lines::{nothing, small};
+use tool_events::{Recipe, RecipeChambers};
 use tool_jobs::Jobs;
 
 // No jobs, of a tool with one recipe.
 pub(crate) fn none(alloc: Global) -> Result<Jobs> {
-    let recipe = Text80::read(b"R1")?;
+    let recipe = Recipe {
+        name: Text80::read(b"R1")?,
+        chambers: RecipeChambers {
+            one: true,
+            two: true,
+        },
+    };
     match Jobs::new(alloc, &[recipe]) {
         Ok(jobs) => Ok(jobs),
         Err(_) => bail!("there is no memory"),

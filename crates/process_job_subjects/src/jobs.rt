@@ -14,7 +14,7 @@ use process_job::ProcessJobs;
 use secs_items::Items;
 use std::alloc::Global;
 use test_lines::{Subject, words};
-use tool_events::JobWord;
+use tool_events::{JobWord, Recipe, RecipeChambers};
 
 /// The process jobs of a tool.
 #[derive(Drop)]
@@ -33,10 +33,27 @@ impl JobsOf {
     }
 }
 
+// Recipes of these names, each for all chambers.
+fn recipes_of(alloc: Global, names: &[Text80]) -> Option<Vec<Recipe>> {
+    let mut recipes = Vec::new(alloc);
+    for name in names {
+        let recipe = Recipe {
+            name: *name,
+            chambers: RecipeChambers {
+                one: true,
+                two: true,
+            },
+        };
+        recipes.push(recipe).ok()?;
+    }
+    Some(recipes)
+}
+
 // No jobs, of a tool with recipes of these names.
 fn of(alloc: Global, words: &[&str]) -> Option<JobsOf> {
-    let recipes = names(alloc, words)?;
-    let recipe = *recipes.as_slice().first()?;
+    let names = names(alloc, words)?;
+    let recipe = *names.as_slice().first()?;
+    let recipes = recipes_of(alloc, names.as_slice())?;
     let jobs = ProcessJobs::new(alloc, recipes.as_slice()).ok()?;
     Some(JobsOf { jobs, recipe })
 }

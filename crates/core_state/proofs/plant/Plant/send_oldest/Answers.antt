@@ -1,9 +1,9 @@
-use Rattle.std.proofs.Common.{◌≡◌, ℕ, List, OnOk, Some, slice_get, sym, ap, subst, ◌∙◌}
+use Rattle.std.proofs.Common.{◌≡◌, ℕ, List, OnOk, Some, None, slice_get, sym, ap, subst, ◌∙◌}
 use Rattle.transactions.specs.declared.transaction.What.TheVariants as what
 use Rattle.gem_model.specs.State.{State}
 use Rattle.gem_model.specs.Sending.{asks}
 use Rattle.gem_model.specs.Effects.{stream_of_kind, function_of_kind, asks_first}
-use Rattle.core_state.proofs.Sendings.{first_asks}
+use Rattle.core_state.proofs.Sendings.{first_asks, none_asks}
 use Rattle.core_state.proofs.plant.Plant.send_oldest.Goals as goal
 
 pub returns : goal.returns
@@ -15,3 +15,8 @@ returns c =
     ∙ ap (λ (text : List ℕ). asks (stream_of_kind c.in-Some.note.now.kind) (function_of_kind c.in-Some.note.now.kind) (what.Note c.in-Some.note.now.number) text now) c.in_ok-kept.ensures
     ∙ first_asks now.line.spool.notes now c.in-Some.note.now found in
     subst (λ (g : State). OnOk c.ask.result (c.ask.new.self ≡ g)) same c.ask.ensures
+
+pub returns-in_default : goal.returns-in_default
+returns-in_default c =
+    let now : State = c.args.self.now in
+    none_asks now.line.spool.notes now (subst (λ (g : State). None ≡ slice_get g.line.spool.notes 0) c.self.view_is c.in_default.ensures.note)

@@ -231,8 +231,16 @@ impl ShopFloor {
     pub fn carrier_code(&self, a: &CarrierAction) -> Caack
         ensures { result ≡ carrier_code self.now a.now }
     {
+        self.code_by_jobs(a, false)
+    }
+
+    /// The same, where a process job names the carrier or none does: one that a job names isn't cancelled where its slot map is
+    /// VERIFIED (this tool's profile, S3F17). Changes nothing.
+    pub fn code_by_jobs(&self, a: &CarrierAction, is_named: bool) -> Caack
+        ensures { result ≡ carrier_caack self.now.carriers (map view_of self.now.ports) a.now is_named }
+    {
         let views = self.ports.views();
-        self.carriers.code(views.as_slice(), a, false)
+        self.carriers.code(views.as_slice(), a, is_named)
     }
 
     /// What the host is answered of an action on ports by the states before it, CAACK (SEMI E87, S3F26 and S3F28; this tool's

@@ -8,7 +8,7 @@ ghost use Rattle.load_port.specs.Ports.{most_ports, is_no_port};
 ghost use Rattle.robot_moves.specs.Modules.{module_at, unfetched, is_open, is_up, is_down};
 ghost use Rattle.shop_floor.specs.Machines.{floor_least as shop_least};
 ghost use Rattle.shop_floor.specs.Valid.{IsFloor};
-ghost use Rattle.shop_floor.specs.Requests.{carrier_code, carrier_written, came};
+ghost use Rattle.shop_floor.specs.Requests.{carrier_written, came};
 ghost use Rattle.substrate.specs.Places.{found_location, is_any_at_work, most_substrates, substrate_at};
 ghost use Rattle.tool_floor.specs.Floor.{opening, with_shop, fetched, change_location, substrate_numbered, name_of_place, substrate_name};
 ghost use Rattle.tool_floor.specs.Substrates.{without_carrier, removed_where};
@@ -486,10 +486,20 @@ impl ToolFloor {
 
     // ---- what the host asks
 
+    /// What the host is answered of an action on a carrier by the states before it, CAACK (SEMI E87, S3F17; this tool's
+    /// profile, S3F17): that it is done where it can be. A carrier that a kept process job names isn't cancelled where its slot map is
+    /// VERIFIED. Changes nothing.
+    pub fn carrier_code(&self, a: &CarrierAction) -> Caack
+        ensures { result ≡ carrier_code a.now self.now }
+    {
+        self.shop.code_by_jobs(a, self.is_any_of_carrier(a.id))
+    }
+
     /// What an action on a carrier writes that can be done (SEMI E87, S3F17), as `ShopFloor::write` says. `AllocError`: there is
     /// no memory for a carrier, or the last number was given; nothing has changed.
+    #[tactic(auto, using(crate::proofs::Asked::done_by_jobs))]
     pub fn write(&mut self, a: &CarrierAction) -> Result<(), AllocError>
-        requires { is_done_code (carrier_code self.old.shop a.now) ≡ true }
+        requires { is_done_code (carrier_code a.now self.old) ≡ true }
         ensures ok { IfOk result (λ _. self.new ≡ with_shop (carrier_written a.now self.old.shop) self.old) }
         ensures err { IfErr result (λ _. self.new ≡ self.old) }
     {

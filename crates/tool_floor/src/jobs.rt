@@ -272,15 +272,51 @@ impl ToolFloor {
         self.jobs.fire_control(x.object, x.row.row);
     }
 
+    // ---- how jobs are created, and their queue
+
+    /// Creates a process job (SEMI E40, S16F11) that was asked for, as `Jobs::create_process` says; all else stays.
+    pub fn create_process(&mut self, job: JobSpec) -> Result<(), JobFault>
+        ensures created { IfOk result (λ _. self.new ≡ with_jobs (with_process job self.old.jobs) self.old) }
+        ensures unchanged { IfErr result (λ _. self.new ≡ self.old) }
+        ensures refused { (fault : JobFault) → process_fault job self.old.jobs.process ≡ Some fault → result ≡ Err fault }
+        ensures memory { process_fault job self.old.jobs.process ≡ None → IfErr result (λ fault. fault ≡ process_faults.NoMemory) }
+    {
+        self.jobs.create_process(job)
+    }
+
+    /// Creates a control job (SEMI E94, S14F9) of these process jobs, as `Jobs::create_control` says; all else stays.
+    pub fn create_control(
+        &mut self,
+        alloc: Global,
+        id: JobId,
+        jobs: &[JobId],
+        auto: bool,
+    ) -> Result<(), ControlFault>
+        ensures created { IfOk result (λ _. self.new ≡ with_jobs (with_control id jobs.now auto self.old.jobs) self.old) }
+        ensures unchanged { IfErr result (λ _. self.new ≡ self.old) }
+        ensures refused { (fault : ControlFault) → control_fault id jobs.now self.old.jobs ≡ Some fault → result ≡ Err fault }
+        ensures memory { control_fault id jobs.now self.old.jobs ≡ None → IfErr result (λ fault. fault ≡ control_faults.NoMemory) }
+    {
+        self.jobs.create_control(alloc, id, jobs, auto)
+    }
+
+    /// The QUEUED control job of a name goes first in the queue (SEMI E94, S16F27), as `Jobs::head_of_queue` says; all else stays.
+    pub fn head_of_queue(&mut self, id: JobId) -> bool
+        ensures queued { result ≡ is_some (waiting_named id self.old.jobs.control.jobs) }
+        ensures headed { self.new ≡ with_jobs (record self.old.jobs { control = headed id self.old.jobs.control }) self.old }
+    {
+        self.jobs.head_of_queue(id)
+    }
+
     // ---- what rows of carriers and substrates want of jobs
 
-    // Whether a process job that is kept names a carrier.
-    pub(crate) fn is_any_of_carrier(&self, carrier: &Carrier) -> bool
-        ensures { result ≡ is_any_of_carrier carrier.now.name self.now.jobs }
+    // Whether a process job that is kept names the carrier of a name.
+    pub(crate) fn is_any_of_carrier(&self, name: Text80) -> bool
+        ensures { result ≡ is_any_of_carrier name self.now.jobs }
     {
         for place in 0..self.process_count() {
             if let Some(job) = self.process_at(place) {
-                if names_carrier(carrier.name, job) {
+                if names_carrier(name, job) {
                     return true;
                 }
             }

@@ -1,0 +1,2 @@
+pub mod GrowFound
+pub mod GrowPlaces

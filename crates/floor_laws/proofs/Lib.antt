@@ -1,2 +1,3 @@
 pub mod GrowFound
 pub mod GrowPlaces
+pub mod GrowRows

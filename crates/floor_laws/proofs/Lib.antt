@@ -1,3 +1,4 @@
 pub mod GrowFound
 pub mod GrowPlaces
 pub mod GrowRows
+pub mod GrowTaken

@@ -117,9 +117,9 @@ all_from P (d ∷ ds) f = (f 0 d refl, all_from P ds (λ place x e. f (suc place
 abbrev pub IsHere : ℕ → Floor → Type 0
 IsHere port f = is_elsewhere port (owner (port_numbered port f.ports)) f.carriers ≡ false
 
--- the carrier of a port, where it is known, is CARRIER COMPLETE or CARRIER STOPPED, or its map is not VERIFIED
+-- the carrier of a port, where it is present, is CARRIER COMPLETE or CARRIER STOPPED, or its map is not VERIFIED
 abbrev pub EndsAt : ℕ → ToolFloor → Type 0
-EndsAt port f = (name : List ℕ) (c : Carrier) → owner (port_numbered port f.shop.ports) ≡ Some name → carrier_named name f.shop.carriers ≡ Some c → HasEnded c.number (picture f)
+EndsAt port f = (name : List ℕ) (c : Carrier) → owner (port_numbered port f.shop.ports) ≡ Some name → carrier_named name f.shop.carriers ≡ Some c → c.present ≡ true → HasEnded c.number (picture f)
 
 -- the place of what was looked for
 abbrev loc_there : Option Registered → Option Loc
@@ -179,12 +179,16 @@ module _ (May : ℕ → Type 0) (f : ToolFloor) (b : Base f) (v : Valid (picture
           let names : (kept.0).sub ≡ (other.0).sub = kept.2 ∙ has_it (other.0).sub r parts.1 in
           (kept.0, known, carried, one_carrier f.shop.carriers b.shop.apart kept.0 other.0 carried other.2 names ∙ of_it)
 
-      -- so it is not outside
+      -- that carrier is this one
+      its_carrier : (its_own.2).0 ≡ c
+      its_carrier = let one : Some (its_own.2).0 ≡ Some c = sym (its_own.2).1 ∙ ap (λ (k : ℕ). carrier_numbered k f.shop.carriers) its_own.3 ∙ by_its_number in cc
+
+      -- so the substrate is not outside
       inside : is_outside (place_in f.places n) ≡ false
       inside =
-          let own_one = its_own in
-          let of_it : (picture f).carrier_of n ≡ c.number = ap (of_one 0 (λ (s : Substrate). s.carrier)) own_one.1 ∙ own_one.3 in
-          (one_place (picture f) v).ended_inside n (subst (λ (d : ℕ). HasEnded d (picture f)) (sym of_it) (ends name c its found))
+          let of_it : (picture f).carrier_of n ≡ c.number = ap (of_one 0 (λ (s : Substrate). s.carrier)) its_own.1 ∙ its_own.3 in
+          let present : c.present ≡ true = sym (ap (λ (x : Carrier). x.present) its_carrier) ∙ (its_own.2).2.present in
+          (one_place (picture f) v).ended_inside n (subst (λ (d : ℕ). HasEnded d (picture f)) (sym of_it) (ends name c its found present))
 
       in_port : (k : ℕ) × (loc_of r.at ≡ slot port k)
       in_port =
@@ -195,10 +199,8 @@ module _ (May : ℕ → Type 0) (f : ToolFloor) (b : Base f) (v : Valid (picture
           let at = slot_of (loc_of r.at) (ap is_outside (sym place) ∙ inside) in
           let home = v.places.home n at.0 at.1 (place ∙ ap (λ (l : Loc). Some l) at.2) in
           let own_is : own n (picture f) ≡ loc_of s.slot = own_place f n (record { one = s; found = own_one.1; its = carried.0; known = carried.1; of = carried.2 }) in
-          let one : Some carried.0 ≡ Some c = sym carried.1 ∙ ap (λ (k : ℕ). carrier_numbered k f.shop.carriers) own_one.3 ∙ by_its_number in
-          let equal : carried.0 ≡ c = cc in
           let of = carried.2 in
-          let port_is = at_port of.port (sym (ap (λ (x : Carrier). x.present) equal) ∙ of.present) (sym (ap (λ (x : Carrier). x.port) equal) ∙ of.at) in
+          let port_is = at_port of.port (sym (ap (λ (x : Carrier). x.present) its_carrier) ∙ of.present) (sym (ap (λ (x : Carrier). x.port) its_carrier) ∙ of.at) in
           (of.slot.0, at.2 ∙ home ∙ own_is ∙ ap loc_of of.own ∙ ap (λ (k : ℕ). slot k of.slot.0) port_is)
 
     taken : (s : Floor) → Grown May f (with_shop s (without_carrier (Some c.number) f))

@@ -2,3 +2,4 @@ pub mod GrowFound
 pub mod GrowPlaces
 pub mod GrowRows
 pub mod GrowTaken
+pub mod GrowRemoved

@@ -3,3 +3,5 @@ pub mod GrowPlaces
 pub mod GrowRows
 pub mod GrowTaken
 pub mod GrowRemoved
+pub mod GrowMoved
+pub mod GrowLost

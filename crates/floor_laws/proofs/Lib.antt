@@ -5,3 +5,4 @@ pub mod GrowTaken
 pub mod GrowRemoved
 pub mod GrowMoved
 pub mod GrowLost
+pub mod GrowTransfer

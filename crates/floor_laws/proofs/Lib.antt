@@ -6,3 +6,5 @@ pub mod GrowRemoved
 pub mod GrowMoved
 pub mod GrowLost
 pub mod GrowTransfer
+pub mod OpenCommands
+pub mod OpenRows

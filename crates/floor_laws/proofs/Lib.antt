@@ -8,3 +8,4 @@ pub mod GrowLost
 pub mod GrowTransfer
 pub mod OpenCommands
 pub mod OpenRows
+pub mod OpenClosed

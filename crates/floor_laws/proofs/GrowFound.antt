@@ -1,16 +1,16 @@
 -- What is found among the substrates that have a place, where some of them go and where some of them change.
-use Rattle.std.proofs.Common.{◌≡◌, ◌≤◌, ◌<◌, ℕ, ◌+◌, ◌==◌, Bool, true, false, not, ◌||◌, if◌then◌else◌, List, [], ◌∷◌, filter, find, map, Option, Some, None, option_map, refl, sym, ◌∙◌, ap, subst, arith}
-use Rattle.std.specs.List.{AllByRecursion, list_any}
+use Rattle.std.proofs.Common.{◌≡◌, ◌≤◌, ◌<◌, ℕ, ◌==◌, Bool, true, false, if◌then◌else◌, List, [], ◌∷◌, filter, find, map, Option, Some, None, option_map, refl, sym, ◌∙◌, ap, subst, arith}
+use Rattle.std.specs.List.{AllByRecursion}
 use Rattle.std.proofs.lemmas.Bool.{or_parts}
 use Rattle.std.proofs.lemmas.Bool.Decides.{Decides-eqb}
 use Rattle.shop_floor.proofs.Apart.{all_both, all_follows}
 use Rattle.substrate.specs.Places.{PlaceMap, AreNumbered, are_named_apart, has_name, is_known, substrate_named}
 use Rattle.substrate.specs.declared.registered.Registered.{Registered}
-use Rattle.substrate.proofs.Apart.{has_it, first_apart, rest_apart}
+use Rattle.substrate.proofs.Apart.{first_apart, rest_apart}
 use Rattle.substrate.proofs.Texts.{own_name, turned}
 use Rattle.floor_moves.specs.Floor.{Loc}
 use Rattle.place_laws.specs.Picture.{loc_of, place_in}
-use Rattle.place_laws.proofs.Holding.{found_number, true_of_found}
+use Rattle.place_laws.proofs.Holding.{found_number}
 
 -- the substrate of a number
 abbrev pub numbered_in : ℕ → List Registered → Option Registered

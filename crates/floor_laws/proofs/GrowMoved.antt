@@ -1,5 +1,5 @@
 -- What becomes of the places where the substrate of a name has none any more, or goes to another.
-use Rattle.std.proofs.Common.{◌≡◌, ◌≤◌, ◌<◌, ℕ, ◌==◌, Bool, true, false, not, ◌||◌, if◌then◌else◌, List, [], ◌∷◌, find, Option, Some, None, option_map, refl, sym, ◌∙◌, ap, subst, arith}
+use Rattle.std.proofs.Common.{◌≡◌, ◌<◌, ℕ, Bool, true, false, not, ◌||◌, if◌then◌else◌, List, [], ◌∷◌, Option, Some, None, option_map, refl, sym, ◌∙◌, ap, subst}
 use Rattle.std.specs.List.{AllByRecursion, list_any}
 use Rattle.gem_ids.specs.declared.numbers.LocId.{LocId}
 use Rattle.gem_ids.specs.declared.numbers.LocId.TheVariants.{Slot, Aligner, Arm, Chamber}
@@ -10,7 +10,7 @@ use Rattle.substrate.specs.declared.registered.Registered.{Registered}
 use Rattle.substrate.proofs.Apart.{has_it, found_name}
 use Rattle.substrate.proofs.Sites.{same_is}
 use Rattle.substrate.proofs.Texts.{own_name}
-use Rattle.floor_moves.specs.Floor.{Loc, slot}
+use Rattle.floor_moves.specs.Floor.{Loc}
 use Rattle.place_laws.specs.Picture.{loc_of, place_in}
 use Rattle.place_laws.proofs.Holding.{found_number}
 use Rattle.floor_laws.proofs.GrowFound.{numbered_in, passing, found_fewer, found_changed, each_numbered, by_number, by_name}

@@ -1,13 +1,11 @@
 -- What becomes of the places of substrates where a carrier is removed from a port, by row 5 of table 4 and row 6 of table 7.
-use Rattle.std.proofs.Common.{◌≡◌, ℕ, zero, suc, true, List, Option, Some, None, slice_get, refl, sym, ◌∙◌, ap, subst}
+use Rattle.std.proofs.Common.{◌≡◌, ℕ, zero, suc, true, List, Option, Some, None, slice_get, refl, sym, ◌∙◌, ap}
 use Rattle.std.proofs.lemmas.Bool.{true≢false}
 use Rattle.gem_tables.specs.Table.{firing}
-use Rattle.gem_ids.specs.declared.numbers.PortNo.{PortNo}
 use Rattle.load_port.specs.declared.port.Port.{Port}
 use Rattle.load_port.specs.Tables.{transfer_number, transfer_table}
 use Rattle.load_port.specs.Ports as ports
 use Rattle.load_port.specs.Ports.{port_numbered}
-use Rattle.carrier.specs.declared.carrier.Carrier.{Carrier}
 use Rattle.shop_floor.specs.Rows.{owner, is_elsewhere}
 use Rattle.shop_floor.specs.Valid.{IsFloor}
 use Rattle.shop_floor.specs.Machines as shop

@@ -1,28 +1,25 @@
 -- What becomes of the places of substrates at each row of the floor of the tool but those that move a substrate or take one away.
-use Rattle.std.proofs.Common.{◌≡◌, ℕ, ◌==◌, Bool, true, false, not, ◌&&◌, ◌||◌, if◌then◌else◌, Option, Some, None, refl, sym, ◌∙◌, ap, subst}
-use Rattle.std.proofs.lemmas.Bool.Decides.{Decides-eqb}
+use Rattle.std.proofs.Common.{◌≡◌, ℕ, ◌==◌, Bool, true, false, not, ◌&&◌, ◌||◌, if◌then◌else◌, Option, Some, None, refl, ◌∙◌, ap}
 use Rattle.gem_tables.specs.Table.{firing, row_of}
 use Rattle.gem_tables.specs.declared.firing.Firing.{Firing}
 use Rattle.gem_tables.proofs.Machines.{starts_cases}
-use Rattle.gem_tables.proofs.Rows.{found_row, looked_for}
+use Rattle.gem_tables.proofs.Rows.{found_row}
 use Rattle.tool_events.specs.declared.answer.Task.{Task}
 use Rattle.tool_events.specs.declared.answer.Task.TheVariants as task
 use Rattle.carrier.specs.Carriers.{carrier_numbered}
 use Rattle.process_job.specs.Tables as effect
 use Rattle.process_job.specs.Tables.{JobRow, JobEffect}
 use Rattle.process_job.specs.declared.job.ProcessJob.{ProcessJob}
-use Rattle.robot_moves.specs.Tables as want
-use Rattle.robot_moves.specs.Tables.{MoveRow, MoveEffect, move_table}
+use Rattle.robot_moves.specs.Tables.{MoveRow, move_table}
 use Rattle.robot_moves.specs.Modules.{module_at}
 use Rattle.robot_moves.specs.declared.view.Move.{Move}
 use Rattle.shop_floor.specs.Floor.{Floor}
 use Rattle.shop_floor.specs.Owning.{owner_number}
 use Rattle.shop_floor.specs.Machines as shop
 use Rattle.substrate.specs.Tables.{SubstrateRow, processing_table}
-use Rattle.substrate.specs.Places.{PlaceMap}
 use Rattle.substrate.specs.declared.record.Processing.{Processing}
 use Rattle.tool_floor.specs.declared.tracking.Substrate.{Substrate}
-use Rattle.tool_floor.specs.Floor.{ToolFloor, with_shop, with_module, substrate_numbered}
+use Rattle.tool_floor.specs.Floor.{ToolFloor, with_shop, substrate_numbered}
 use Rattle.tool_floor.specs.Jobs.{job_does, found_job_does, frees, stops_carriers, gets_members}
 use Rattle.tool_floor.specs.Modules.{issued, open_task, aligned_by, move_does, found_move}
 use Rattle.tool_floor.specs.Machines.{floor_machines, floor_starts, floor_fired}

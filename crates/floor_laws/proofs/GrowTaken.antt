@@ -1,6 +1,6 @@
 -- What becomes of the places of substrates where a carrier is taken away: each of its substrates is in a slot of the port, and has no place
 -- any more; each other stays.
-use Rattle.std.proofs.Common.{◌≡◌, ◌⊎◌, ◌≤◌, ◌<◌, ℕ, zero, suc, ◌==◌, Bool, true, false, not, ◌&&◌, ◌||◌, if◌then◌else◌, List, [], ◌∷◌, filter, find, Option, Some, None, option_map, slice_get, inl, inr, refl, sym, ◌∙◌, ap, subst, arith}
+use Rattle.std.proofs.Common.{◌≡◌, ◌⊎◌, ℕ, suc, ◌==◌, Bool, true, false, not, ◌&&◌, ◌||◌, if◌then◌else◌, List, [], ◌∷◌, filter, Option, Some, None, option_map, slice_get, inl, inr, refl, sym, ◌∙◌, ap, subst, arith}
 use Rattle.std.specs.List.{AllByRecursion, list_any}
 use Rattle.std.proofs.lemmas.Bool.{and_parts, or_parts}
 use Rattle.std.proofs.lemmas.Bool.Decides.{Decides-eqb}
@@ -29,7 +29,7 @@ use Rattle.floor_moves.proofs.Promised.{one_place}
 use Rattle.place_laws.specs.Picture.{loc_of, of_one, place_in, picture}
 use Rattle.place_laws.specs.Sound.{IsOfKept, Base}
 use Rattle.place_laws.specs.Standing.{IsCarried}
-use Rattle.place_laws.proofs.Holding.{IsThere, found_number, true_of_found, own_place}
+use Rattle.place_laws.proofs.Holding.{found_number, true_of_found, own_place}
 use Rattle.place_laws.proofs.SlotNames.{slot_of_name}
 use Rattle.place_laws.proofs.Stays.{at_found}
 use Rattle.floor_laws.proofs.GrowFound.{numbered_in, passing, found_so, found_fewer}

@@ -1,6 +1,6 @@
 -- What becomes of the places of substrates where a Pick or a Place is done: the substrate that it names goes from its start to its end, and
 -- each other stays.
-use Rattle.std.proofs.Common.{◌≡◌, ◌⊎◌, ◌≤◌, ◌<◌, ℕ, zero, suc, ◌+◌, ◌==◌, nat_le, Bool, true, false, not, ◌&&◌, ◌||◌, if◌then◌else◌, List, [], ◌∷◌, length, Option, Some, None, option_map, slice_get, refl, sym, ◌∙◌, ap, subst, arith}
+use Rattle.std.proofs.Common.{◌≡◌, ◌≤◌, ◌<◌, ℕ, zero, suc, ◌+◌, ◌==◌, nat_le, Bool, true, false, ◌||◌, List, [], ◌∷◌, length, Option, Some, None, option_map, slice_get, refl, sym, ◌∙◌, ap, subst, arith}
 use Rattle.std.proofs.lemmas.Bool.Decides.{Decides-eqb, nat_tests}
 use Rattle.gem_tables.specs.Table.{firing, is_one_of}
 use Rattle.gem_ids.specs.declared.numbers.LocId.{LocId}
@@ -18,21 +18,19 @@ use Rattle.robot_moves.specs.Modules.{module_at}
 use Rattle.shop_floor.specs.Rows.{owner}
 use Rattle.shop_floor.specs.Valid.{Belongs, port_of}
 use Rattle.substrate.specs.Locations.{is_location}
-use Rattle.substrate.specs.Places.{PlaceMap, ArePlaces, substrate_named, stands_at, is_taken, moved}
+use Rattle.substrate.specs.Places.{PlaceMap, substrate_named, stands_at, moved}
 use Rattle.substrate.specs.declared.registered.Registered.{Registered}
 use Rattle.substrate.proofs.Sites.{own_place as at_itself}
 use Rattle.substrate.proofs.Standing.{found_all}
-use Rattle.tool_floor.specs.declared.tracking.Substrate.{Substrate}
 use Rattle.tool_floor.specs.Floor.{ToolFloor}
 use Rattle.tool_floor.specs.Machines.{floor_fired}
 use Rattle.tool_floor.specs.Modules.{open_task, goes, transferred, number_named}
-use Rattle.floor_moves.specs.Floor.{Loc, arm, Command as ByNumber, busy, own}
-use Rattle.floor_moves.specs.Valid.{Empty, PickStands, PlaceStands, Valid}
+use Rattle.floor_moves.specs.Floor.{Loc, arm, Command as ByNumber, busy}
+use Rattle.floor_moves.specs.Valid.{Empty, PickStands, PlaceStands}
 use Rattle.place_laws.specs.Picture.{loc_of, place_in, numbered, number_or_none, task_of, module_of, numbers_from, picture}
 use Rattle.place_laws.specs.Sound.{Base, Sound}
-use Rattle.place_laws.specs.Standing.{IsCarried, IsOf}
 use Rattle.place_laws.proofs.Holding.{IsThere, kept_there, own_place, true_of_found}
-use Rattle.floor_laws.proofs.GrowFound.{numbered_in, none_before}
+use Rattle.floor_laws.proofs.GrowFound.{none_before}
 use Rattle.floor_laws.proofs.GrowMoved.{loc_there, loc_same, none_taken, its_place, moved_here, moved_else}
 
 -- the substrate of a name goes from a place to another, and each other stays where it is

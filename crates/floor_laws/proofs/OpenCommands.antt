@@ -1,5 +1,5 @@
 -- Which commands are open: each is open before or is new; and which changes open none.
-use Rattle.std.proofs.Common.{◌≡◌, ◌⊎◌, ◌≤◌, ◌<◌, ℕ, zero, suc, ◌+◌, ◌==◌, Bool, true, false, if◌then◌else◌, List, [], ◌∷◌, Option, Some, None, option_map, slice_get, inl, inr, refl, sym, ◌∙◌, ap, subst, arith}
+use Rattle.std.proofs.Common.{◌≡◌, ◌⊎◌, ◌≤◌, ◌<◌, ℕ, zero, suc, ◌==◌, Bool, true, false, List, [], ◌∷◌, Option, Some, None, option_map, slice_get, inl, inr, refl, sym, ◌∙◌, ap, subst, arith}
 use Rattle.std.proofs.lemmas.Bool.Decides.{Decides-eqb}
 use Rattle.gem_tables.specs.Table.{update_at}
 use Rattle.tool_events.specs.declared.answer.Command.{Command}
@@ -7,7 +7,7 @@ use Rattle.robot_moves.specs.declared.module.Module.{Module}
 use Rattle.robot_moves.specs.declared.module.Module.TheVariants.{Idle, Busy, Down}
 use Rattle.robot_moves.specs.Modules.{module_at, change_module, taken}
 use Rattle.tool_floor.specs.Floor.{ToolFloor, fetched}
-use Rattle.place_laws.specs.Picture.{module_of, picture}
+use Rattle.place_laws.specs.Picture.{module_of}
 use Rattle.place_laws.specs.Sound.{Sound}
 
 -- what is open behind was open before, or has a new number

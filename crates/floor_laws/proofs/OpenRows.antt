@@ -1,10 +1,8 @@
 -- Each row of the floor of the tool opens only commands of new numbers; and behind a row that closes a command none of its number is open.
-use Rattle.std.proofs.Common.{◌≡◌, ◌⊎◌, ◌≤◌, ◌<◌, ℕ, zero, suc, ◌+◌, ◌==◌, Bool, true, false, if◌then◌else◌, List, [], ◌∷◌, ◌++◌, Option, Some, None, option_map, inl, inr, refl, sym, ◌∙◌, ap, subst, arith}
-use Rattle.std.proofs.lemmas.Bool.Decides.{Decides-eqb}
-use Rattle.gem_tables.specs.Table.{firing, is_one_of, row_of, after}
+use Rattle.std.proofs.Common.{◌≡◌, ◌⊎◌, ◌<◌, ℕ, zero, suc, ◌+◌, ◌==◌, Bool, true, false, if◌then◌else◌, List, [], ◌∷◌, ◌++◌, Option, Some, None, inl, inr, refl, ◌∙◌, ap, arith}
+use Rattle.gem_tables.specs.Table.{firing, row_of, after}
 use Rattle.gem_tables.specs.declared.firing.Firing.{Firing}
 use Rattle.gem_tables.proofs.Machines.{starts_cases}
-use Rattle.gem_tables.proofs.Rows.{looked_for, one_of_cases}
 use Rattle.gem_ids.specs.declared.numbers.LocId.{LocId}
 use Rattle.gem_ids.specs.declared.numbers.LocId.TheVariants.{Slot}
 use Rattle.gem_ids.specs.declared.numbers.PortNo.{PortNo}
@@ -24,7 +22,7 @@ use Rattle.robot_moves.specs.declared.module.ModuleState.TheVariants as state
 use Rattle.robot_moves.specs.declared.view.Move.{Move}
 use Rattle.robot_moves.specs.Tables as want
 use Rattle.robot_moves.specs.Tables.{MoveRow, MoveEffect, move_table, state_number}
-use Rattle.robot_moves.specs.Modules.{module_at, change_module, given, state_of}
+use Rattle.robot_moves.specs.Modules.{module_at, given, state_of}
 use Rattle.shop_floor.specs.Owning.{owner_number}
 use Rattle.substrate.specs.Tables as substrates
 use Rattle.substrate.specs.Tables.{SubstrateRow, SubstrateEffect}
@@ -37,9 +35,7 @@ use Rattle.tool_floor.specs.Modules.{in_state, module_behind, command, issued, o
 use Rattle.tool_floor.specs.Machines.{floor_machines, floor_starts, floor_fired, taken_along, registered_by, moved_by}
 use Rattle.tool_floor.specs.Substrates.{can_register, first_substrate, registers_at, registers_slot, registers_slots, registers_at_port, registers_found, reaches_verified, without_carrier, substrate_does, found_does}
 use Rattle.tool_floor.specs.Views.{planned}
-use Rattle.place_laws.specs.Picture.{module_of, task_of, picture}
-use Rattle.place_laws.specs.Sound.{Sound}
-use Rattle.floor_laws.proofs.OpenCommands.{Opens, IsShut, opens_same, opens_then, module_there, module_else, change_opens}
+use Rattle.floor_laws.proofs.OpenCommands.{Opens, opens_same, opens_then, change_opens}
 
 -- the modules and the last number of a command are those of before
 record Quiet (f g : ToolFloor) : Type 0 where

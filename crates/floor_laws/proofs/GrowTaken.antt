@@ -12,6 +12,7 @@ use Rattle.carrier.specs.Carriers.{has_name, is_port, carrier_named, carrier_num
 use Rattle.shop_floor.specs.Floor.{Floor, number_of}
 use Rattle.shop_floor.specs.Owning.{number_named}
 use Rattle.shop_floor.specs.Rows.{owner, is_elsewhere}
+use Rattle.shop_floor.specs.Valid.{IsFloor}
 use Rattle.shop_floor.specs.Machines as shop
 use Rattle.shop_floor.proofs.Apart.{found_only, found_passes, has_its_name, IsOnly}
 use Rattle.shop_floor.proofs.Scans.{numbered_at}
@@ -117,6 +118,29 @@ all_from P (d ∷ ds) f = (f 0 d refl, all_from P ds (λ place x e. f (suc place
 abbrev pub IsHere : ℕ → Floor → Type 0
 IsHere port f = is_elsewhere port (owner (port_numbered port f.ports)) f.carriers ≡ false
 
+none_of : (test : Carrier → Bool) (cs : List Carrier) → list_any test cs ≡ false → AllByRecursion (λ (c : Carrier). test c ≡ false) cs
+none_of test [] e = tt
+none_of test (c ∷ cs) e = let parts = or_parts (test c) (list_any test cs) e in (parts.0, none_of test cs parts.1)
+
+all_three : (a p h : Bool) → (a && (p && not h)) ≡ false → a ≡ true → p ≡ true → h ≡ true
+all_three true true true e one two = refl
+all_three true true false e one two = absurd (cc)
+all_three true false h e one two = absurd (cc)
+all_three false p h e one two = absurd (cc)
+
+-- where it is present, it is at the port
+pub at_its_port : (port : ℕ) (s : Floor) → IsHere port s → (name : List ℕ) → owner (port_numbered port s.ports) ≡ Some name → (c : Carrier) → carrier_named name s.carriers ≡ Some c → c.present ≡ true → is_port port c.port ≡ true
+at_its_port port s here name its c found present =
+    let none : is_elsewhere port (Some name) s.carriers ≡ false = ap (λ (o : Option (List ℕ)). is_elsewhere port o s.carriers) (sym its) ∙ here in
+    let test = at_found (λ (d : Carrier). (has_name name d && (d.present && not (is_port port d.port))) ≡ false) (has_name name) s.carriers c (none_of _ s.carriers none) found in
+    all_three (has_name name c) c.present (is_port port c.port) test (found_passes (has_name name) s.carriers c found) present
+
+-- a carrier that is found by its name is found by its number
+pub by_its_number : (s : Floor) → IsFloor s → (name : List ℕ) (c : Carrier) → carrier_named name s.carriers ≡ Some c → carrier_numbered c.number s.carriers ≡ Some c
+by_its_number s valid name c found =
+    at_found (λ (d : Carrier). carrier_numbered d.number s.carriers ≡ Some d) (has_name name) s.carriers c
+    (all_from (λ (d : Carrier). carrier_numbered d.number s.carriers ≡ Some d) s.carriers (λ place d e. numbered_at 1 s.next_carrier s.carriers place d valid.rising e)) found
+
 -- the carrier of a port, where it is present, is CARRIER COMPLETE or CARRIER STOPPED, or its map is not VERIFIED
 abbrev pub EndsAt : ℕ → ToolFloor → Type 0
 EndsAt port f = (name : List ℕ) (c : Carrier) → owner (port_numbered port f.shop.ports) ≡ Some name → carrier_named name f.shop.carriers ≡ Some c → c.present ≡ true → HasEnded c.number (picture f)
@@ -140,29 +164,10 @@ same_port : (p q k m : ℕ) → slot p k ≡ slot q m → p ≡ q
 same_port p q k m e = cc
 
 module _ (May : ℕ → Type 0) (f : ToolFloor) (b : Base f) (v : Valid (picture f)) (port : ℕ) (may : May port) (here : IsHere port f.shop) (ends : EndsAt port f) where
-  none_of : (test : Carrier → Bool) (cs : List Carrier) → list_any test cs ≡ false → AllByRecursion (λ (c : Carrier). test c ≡ false) cs
-  none_of test [] e = tt
-  none_of test (c ∷ cs) e = let parts = or_parts (test c) (list_any test cs) e in (parts.0, none_of test cs parts.1)
-
-  all_three : (a p h : Bool) → (a && (p && not h)) ≡ false → a ≡ true → p ≡ true → h ≡ true
-  all_three true true true e one two = refl
-  all_three true true false e one two = absurd (cc)
-  all_three true false h e one two = absurd (cc)
-  all_three false p h e one two = absurd (cc)
-
   -- its substrates are in slots of this port
   module _ (name : List ℕ) (its : owner (port_numbered port f.shop.ports) ≡ Some name) (c : Carrier) (found : carrier_named name f.shop.carriers ≡ Some c) where
     at_port : (p : PortNo) → c.present ≡ true → c.port ≡ Some p → p.0 ≡ port
-    at_port p present at =
-        let none : is_elsewhere port (Some name) f.shop.carriers ≡ false = ap (λ (o : Option (List ℕ)). is_elsewhere port o f.shop.carriers) (sym its) ∙ here in
-        let test = at_found (λ (d : Carrier). (has_name name d && (d.present && not (is_port port d.port))) ≡ false) (has_name name) f.shop.carriers c (none_of _ f.shop.carriers none) found in
-        let is : is_port port c.port ≡ true = all_three (has_name name c) c.present (is_port port c.port) test (found_passes (has_name name) f.shop.carriers c found) present in
-        (Decides-eqb p.0 port).0 (sym (ap (is_port port) at) ∙ is)
-
-    by_its_number : carrier_numbered c.number f.shop.carriers ≡ Some c
-    by_its_number =
-        at_found (λ (d : Carrier). carrier_numbered d.number f.shop.carriers ≡ Some d) (has_name name) f.shop.carriers c
-        (all_from (λ (d : Carrier). carrier_numbered d.number f.shop.carriers ≡ Some d) f.shop.carriers (λ place d e. numbered_at 1 f.shop.next_carrier f.shop.carriers place d b.shop.rising e)) found
+    at_port p present at = (Decides-eqb p.0 port).0 (sym (ap (is_port port) at) ∙ at_its_port port f.shop here name its c found present)
 
     -- a substrate of it that has a place, by its number
     module _ (n : ℕ) (r : Registered) (there : numbered_in n f.places.held ≡ Some r) (any : list_any (named_of c.number r) f.substrates ≡ true) where
@@ -181,7 +186,7 @@ module _ (May : ℕ → Type 0) (f : ToolFloor) (b : Base f) (v : Valid (picture
 
       -- that carrier is this one
       its_carrier : (its_own.2).0 ≡ c
-      its_carrier = let one : Some (its_own.2).0 ≡ Some c = sym (its_own.2).1 ∙ ap (λ (k : ℕ). carrier_numbered k f.shop.carriers) its_own.3 ∙ by_its_number in cc
+      its_carrier = let one : Some (its_own.2).0 ≡ Some c = sym (its_own.2).1 ∙ ap (λ (k : ℕ). carrier_numbered k f.shop.carriers) its_own.3 ∙ by_its_number f.shop b.shop name c found in cc
 
       -- so the substrate is not outside
       inside : is_outside (place_in f.places n) ≡ false

@@ -3,6 +3,7 @@ pub mod GrowPlaces
 pub mod GrowRows
 pub mod GrowTaken
 pub mod GrowRemoved
+pub mod GrowEnds
 pub mod GrowMoved
 pub mod GrowLost
 pub mod GrowTransfer

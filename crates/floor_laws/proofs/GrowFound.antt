@@ -99,7 +99,7 @@ each_numbered last given [] rising = tt
 each_numbered last given (r ∷ rs) rising = (
   (rising.0, ap (λ (b : Bool). if b then Some r else numbered_in r.number rs) ((Decides-eqb r.number r.number).1 refl)),
   all_follows (λ (x : Registered). (r.number < x.number) × (numbered_in x.number rs ≡ Some x)) (λ (x : Registered). (last < x.number) × (numbered_in x.number (r ∷ rs) ≡ Some x)) rs
-  (λ x its. (let a = rising.0 in let b = its.0 in omega (arith, a, b), later x its.0 its.1 (r.number == x.number) refl)) (each_numbered r.number given rs rising.1),
+      (λ x its. (let a = rising.0 in let b = its.0 in omega (arith, a, b), later x its.0 its.1 (r.number == x.number) refl)) (each_numbered r.number given rs rising.1),
 ) where
   later : (x : Registered) → r.number < x.number → numbered_in x.number rs ≡ Some x → (b : Bool) → (r.number == x.number) ≡ b → (if r.number == x.number then Some r else numbered_in x.number rs) ≡ Some x
   later x more its true e = let same = (Decides-eqb r.number x.number).0 e in absurd (omega (arith, same, more))
@@ -111,8 +111,8 @@ each_named [] apart = tt
 each_named (r ∷ rs) apart = (
   ap (λ (b : Bool). if b then Some r else substrate_named r.sub rs) (own_name r.sub),
   all_follows (λ (x : Registered). (has_name r.sub x ≡ false) × (substrate_named x.sub rs ≡ Some x)) (λ (x : Registered). substrate_named x.sub (r ∷ rs) ≡ Some x) rs
-  (λ x its. ap (λ (b : Bool). if b then Some r else substrate_named x.sub rs) (turned r.sub x.sub ∙ its.0) ∙ its.1)
-  (all_both (λ (x : Registered). has_name r.sub x ≡ false) (λ (x : Registered). substrate_named x.sub rs ≡ Some x) rs (others rs (first_apart r rs apart)) (each_named rs (rest_apart r rs apart))),
+      (λ x its. ap (λ (b : Bool). if b then Some r else substrate_named x.sub rs) (turned r.sub x.sub ∙ its.0) ∙ its.1)
+      (all_both (λ (x : Registered). has_name r.sub x ≡ false) (λ (x : Registered). substrate_named x.sub rs ≡ Some x) rs (others rs (first_apart r rs apart)) (each_named rs (rest_apart r rs apart))),
 ) where
   others : (xs : List Registered) → is_known r.sub xs ≡ false → AllByRecursion (λ (x : Registered). has_name r.sub x ≡ false) xs
   others [] e = tt

@@ -46,7 +46,7 @@ processing_same row o f other = of (row_of processing_table row) refl where
   of None is = refl
   of (Some r) is =
       let here = found_row (λ (x : SubstrateRow Processing). (x.number == 8) ≡ false → (substrate_does x.does o f).places ≡ f.places) processing_table row r
-          ((λ k. refl), ((λ k. refl), ((λ k. refl), ((λ k. refl), ((λ k. refl), ((λ k. refl), ((λ k. refl), ((λ k. absurd (cc)), tt)))))))) is in
+      ((λ k. refl), ((λ k. refl), ((λ k. refl), ((λ k. refl), ((λ k. refl), ((λ k. refl), ((λ k. refl), ((λ k. absurd (cc)), tt)))))))) is in
       here.0 (ap (λ (n : ℕ). n == 8) here.1 ∙ other)
 
 -- each row of a process job
@@ -90,7 +90,7 @@ move_same row m o f other = of (row_of move_table row) refl where
   of None is = refl
   of (Some r) is =
       let here = found_row (λ (x : MoveRow). (x.number == 5) ≡ false → (move_does x.does m o f).places ≡ f.places) move_table row r
-          ((λ k. issued_same m o f), ((λ k. issued_same m o f), ((λ k. issued_same m o f), ((λ k. issued_same m o f), ((λ k. absurd (cc)), ((λ k. aligned_same (open_task (module_at m f.modules)) f), ((λ k. refl), ((λ k. refl), ((λ k. refl), ((λ k. refl), tt)))))))))) is in
+      ((λ k. issued_same m o f), ((λ k. issued_same m o f), ((λ k. issued_same m o f), ((λ k. issued_same m o f), ((λ k. absurd (cc)), ((λ k. aligned_same (open_task (module_at m f.modules)) f), ((λ k. refl), ((λ k. refl), ((λ k. refl), ((λ k. refl), tt)))))))))) is in
       here.0 (ap (λ (n : ℕ). n == 5) here.1 ∙ other)
 
 -- ---- each row

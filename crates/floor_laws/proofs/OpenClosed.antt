@@ -15,7 +15,8 @@ use Rattle.tool_floor.specs.Modules.{module_behind, open_task, aligned_by}
 use Rattle.floor_moves.specs.Floor.{Command as ByNumber, busy}
 use Rattle.place_laws.specs.Picture.{task_of, module_of, picture}
 use Rattle.place_laws.specs.Sound.{Sound}
-use Rattle.floor_laws.proofs.OpenCommands.{IsShut, module_there, module_else}
+use Rattle.picture_laws.proofs.Issuing.{changed_there, changed_else}
+use Rattle.floor_laws.proofs.OpenCommands.{IsShut}
 
 -- the rows that close a command: Done, Failed and Down
 abbrev pub closing : List ℕ
@@ -58,12 +59,12 @@ module _ (m row : ℕ) (c : Command) (b : Bool) (f : ToolFloor) (is : is_one_of 
   pub closed_none : (d : Command) (t : Bool) → module_at m (floor_fired (firing 16 m row) f).modules ≡ Some (Busy d t) → ⊥
   closed_none d t open_there =
       let w = closes m row f is in
-      let behind : Some (module_behind row (Busy c b)) ≡ Some (Busy d t) = sym (ap (module_at m) w.modules ∙ module_there m (module_behind row) f.modules ∙ ap (option_map (module_behind row)) here) ∙ open_there in
+      let behind : Some (module_behind row (Busy c b)) ≡ Some (Busy d t) = sym (ap (module_at m) w.modules ∙ changed_there m (module_behind row) f.modules ∙ ap (option_map (module_behind row)) here) ∙ open_there in
       w.none c b d t (let same : module_behind row (Busy c b) ≡ Busy d t = cc in same)
 
   -- each other module is as before
   pub closed_else : (k : ℕ) → (k ≡ m → ⊥) → module_at k (floor_fired (firing 16 m row) f).modules ≡ module_at k f.modules
-  closed_else k other = ap (module_at k) (closes m row f is).modules ∙ module_else m k other (module_behind row) f.modules
+  closed_else k other = ap (module_at k) (closes m row f is).modules ∙ changed_else m k other (module_behind row) f.modules
 
   -- so none of the number of the command is open
   pub closed_gone : Sound f → IsShut c.number.0 (floor_fired (firing 16 m row) f)

@@ -1,7 +1,6 @@
 -- Which commands are open: each is open before or is new; and which changes open none.
-use Rattle.std.proofs.Common.{◌≡◌, ◌⊎◌, ◌≤◌, ◌<◌, ℕ, zero, suc, ◌==◌, Bool, true, false, List, [], ◌∷◌, Option, Some, None, option_map, slice_get, inl, inr, refl, sym, ◌∙◌, ap, subst, arith}
+use Rattle.std.proofs.Common.{◌≡◌, ◌⊎◌, ◌≤◌, ◌<◌, ℕ, ◌==◌, Bool, true, false, Option, Some, None, option_map, inl, inr, refl, sym, ◌∙◌, ap, subst, arith}
 use Rattle.std.proofs.lemmas.Bool.Decides.{Decides-eqb}
-use Rattle.gem_tables.specs.Table.{update_at}
 use Rattle.tool_events.specs.declared.answer.Command.{Command}
 use Rattle.robot_moves.specs.declared.module.Module.{Module}
 use Rattle.robot_moves.specs.declared.module.Module.TheVariants.{Idle, Busy, Down}
@@ -9,6 +8,7 @@ use Rattle.robot_moves.specs.Modules.{module_at, change_module, taken}
 use Rattle.tool_floor.specs.Floor.{ToolFloor, fetched}
 use Rattle.place_laws.specs.Picture.{module_of}
 use Rattle.place_laws.specs.Sound.{Sound}
+use Rattle.picture_laws.proofs.Issuing.{changed_there, changed_else}
 
 -- what is open behind was open before, or has a new number
 pub record Opens (f g : ToolFloor) : Type 0 where
@@ -43,29 +43,6 @@ shut_stays f g number opens within shut m c b is same = of (opens.opened m c b i
 
 -- ---- a module changes
 
-module _ {A : Type 0} (change : A → A) where
-  updated_there : (n : ℕ) (xs : List A) → slice_get (update_at n change xs) n ≡ option_map change (slice_get xs n)
-  updated_there n [] = refl
-  updated_there zero (x ∷ xs) = refl
-  updated_there (suc n) (x ∷ xs) = updated_there n xs
-
-  updated_else : (n k : ℕ) → (k ≡ n → ⊥) → (xs : List A) → slice_get (update_at n change xs) k ≡ slice_get xs k
-  updated_else n k other [] = refl
-  updated_else zero zero other (x ∷ xs) = absurd (other refl)
-  updated_else zero (suc k) other (x ∷ xs) = refl
-  updated_else (suc n) zero other (x ∷ xs) = refl
-  updated_else (suc n) (suc k) other (x ∷ xs) = updated_else n k (λ e. other (ap suc e)) xs
-
--- the module of a number behind a change of its own or of that of another
-pub module_there : (m : ℕ) (change : Module → Module) (modules : List Module) → module_at m (change_module m change modules) ≡ option_map change (module_at m modules)
-module_there zero change modules = refl
-module_there (suc n) change modules = updated_there change n modules
-
-pub module_else : (m k : ℕ) → (k ≡ m → ⊥) → (change : Module → Module) (modules : List Module) → module_at k (change_module m change modules) ≡ module_at k modules
-module_else m zero other change modules = refl
-module_else zero (suc k) other change modules = refl
-module_else (suc m) (suc k) other change modules = updated_else change m k (λ e. other (ap suc e)) modules
-
 module _ (f g : ToolFloor) (number : ℕ) (change : Module → Module) (given : f.commands ≤ g.commands) (behind : g.modules ≡ change_module number change f.modules)
     (opens : (x : Module) (c : Command) (b : Bool) → change x ≡ Busy c b → ((b' : Bool) × (x ≡ Busy c b')) ⊎ (f.commands < c.number.0)) where
   -- a change of a module that opens only what is new
@@ -82,9 +59,9 @@ module _ (f g : ToolFloor) (number : ℕ) (change : Module → Module) (given : 
     by m c b is true e =
         let same : number ≡ m = sym ((Decides-eqb m number).0 e) in
         of c b (module_at m f.modules)
-        (sym (subst (λ (k : ℕ). module_at k (change_module number change f.modules) ≡ option_map change (module_at k f.modules)) same (module_there number change f.modules)) ∙ sym (ap (module_at m) behind) ∙ is)
+        (sym (subst (λ (k : ℕ). module_at k (change_module number change f.modules) ≡ option_map change (module_at k f.modules)) same (changed_there number change f.modules)) ∙ sym (ap (module_at m) behind) ∙ is)
     by m c b is false e =
-        inl (b, sym (module_else number m (λ same. let t = (Decides-eqb m number).1 same in cc) change f.modules) ∙ sym (ap (module_at m) behind) ∙ is)
+        inl (b, sym (changed_else number m (λ same. let t = (Decides-eqb m number).1 same in cc) change f.modules) ∙ sym (ap (module_at m) behind) ∙ is)
 
 -- an open command is fetched
 pub fetched_opens : (number : ℕ) (f : ToolFloor) → Opens f (fetched number f)

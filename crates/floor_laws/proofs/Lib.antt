@@ -12,3 +12,15 @@ pub mod IssuePicks
 pub mod IssueWork
 pub mod IssuePlans
 pub mod IssueSound
+pub mod GrowFound
+pub mod GrowPlaces
+pub mod GrowRows
+pub mod GrowTaken
+pub mod GrowRemoved
+pub mod GrowEnds
+pub mod GrowMoved
+pub mod GrowLost
+pub mod GrowTransfer
+pub mod OpenCommands
+pub mod OpenRows
+pub mod OpenClosed

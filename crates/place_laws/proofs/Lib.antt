@@ -15,3 +15,7 @@ pub mod PortPlacing
 pub mod PortRemoval
 pub mod PortRequests
 pub mod Written
+pub mod UnloadStates
+pub mod UnloadPorts
+pub mod UnloadRows
+pub mod UnloadRequests

@@ -1,7 +1,8 @@
 -- What holds of the floor of the tool at every moment (after SEMI E40, SEMI E87 and SEMI E90; this tool's profile, carriers, substrates,
 -- moves and process jobs): each substrate that is kept is of a carrier that is present; what has a place is kept; a process job names the
--- carriers of its members; and by numbers the floor is as the laws of the moves have it.
-use Rattle.std.specs.Prelude.{◌≡◌, ◌≤◌, ℕ, ◌+◌, Bool, true, false, List, length, Option, Some}
+-- carriers of its members; a carrier at a port that is READY TO UNLOAD has finished; and by numbers the floor is as the laws of the moves
+-- have it.
+use Rattle.std.specs.Prelude.{◌≡◌, ◌≤◌, ℕ, ◌+◌, Bool, true, false, List, length, Some}
 use Rattle.std.specs.List.{AllByRecursion}
 use Rattle.carrier.specs.declared.carrier.Carrier.{Carrier}
 use Rattle.carrier.specs.Carriers.{carrier_numbered}
@@ -19,7 +20,7 @@ use Rattle.tool_floor.specs.Kept.{RiseTo}
 use Rattle.tool_floor.specs.Jobs.{job_of, names_carrier}
 use Rattle.floor_moves.specs.Valid.{Valid, ValidBut}
 use Rattle.place_laws.specs.Picture.{picture}
-use Rattle.place_laws.specs.Ports.{AtPorts}
+use Rattle.place_laws.specs.Ports.{AtPorts, Unloading}
 use Rattle.place_laws.specs.Standing.{IsCarried, AreApart, AreRegistered}
 
 -- ---- places
@@ -71,6 +72,7 @@ pub record Base (f : ToolFloor) : Type 0 where
 pub record Sound (f : ToolFloor) : Type 0 where
   pub base : Base f
   pub ports : AtPorts f.shop
+  pub unloading : Unloading f.shop
   pub valid : Valid (picture f)
 
 -- what holds between row 7, 8 or 9 of table 16, which closes a Process, and the row of table 13 of the substrate of this number, which
@@ -78,4 +80,5 @@ pub record Sound (f : ToolFloor) : Type 0 where
 pub record SoundBut (n : ℕ) (f : ToolFloor) : Type 0 where
   pub base : Base f
   pub ports : AtPorts f.shop
+  pub unloading : Unloading f.shop
   pub valid : ValidBut n (picture f)

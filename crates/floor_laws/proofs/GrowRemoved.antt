@@ -17,7 +17,8 @@ use Rattle.tool_floor.specs.Machines.{floor_starts, floor_fired}
 use Rattle.place_laws.specs.Sound.{Base, Sound}
 use Rattle.place_laws.proofs.QuietPorts.{quiet_port}
 use Rattle.floor_laws.proofs.GrowPlaces.{Grown, grown_same, grown_then}
-use Rattle.floor_laws.proofs.GrowTaken.{IsHere, EndsAt, taken_grows}
+use Rattle.floor_laws.proofs.GrowTaken.{IsHere, taken_grows}
+use Rattle.floor_laws.proofs.GrowEnds.{ends_at}
 
 -- the floor behind row 5 of table 4 at a port
 abbrev pub unloaded : ℕ → ToolFloor → ToolFloor
@@ -53,9 +54,11 @@ quiet_here (suc place) f starts rests valid = of (slice_get f.shop.ports place) 
       let quiet = quiet_port f.shop place p is rests valid in
       ap (λ (o : Option (List ℕ)). is_elsewhere (suc place) o f.shop.carriers) (owner_stays (suc place) f ∙ ap owner is) ∙ quiet.not_elsewhere
 
-pub removal_grows : (May : ℕ → Type 0) (port : ℕ) (f : ToolFloor) → May port → floor_starts (firing 4 port 5) f ≡ true → shop.floor_least f.shop ≡ None → EndsAt port f → Sound f
+-- where no row is ready by itself
+pub removal_grows : (May : ℕ → Type 0) (port : ℕ) (f : ToolFloor) → May port → floor_starts (firing 4 port 5) f ≡ true → shop.floor_least f.shop ≡ None → Sound f
     → Grown May f (floor_fired (firing 7 port 6) (floor_fired (firing 4 port 5) f))
-removal_grows May port f may starts rests ends sound =
+removal_grows May port f may starts rests sound =
     let g = unloaded port f in
+    let ends = ends_at port f starts rests sound.base.shop sound.unloading in
     grown_then May f g (floor_fired (firing 7 port 6) g) (grown_same May f g refl)
     (taken_grows May g (unloaded_base port f starts sound.base) sound.valid port may (quiet_here port f starts rests sound.base.shop) (λ name c its found present. ends name c (sym (owner_stays port f) ∙ its) found present))

@@ -50,6 +50,7 @@ module _ (f : ToolFloor) (s : Sound f) where
           jobs = record { numbered = b.jobs.numbered; given = b.jobs.given; members = b.jobs.members };
         };
         ports = s.ports;
+        unloading = s.unloading;
         valid = agree-keeps _ _ (issuing_agrees m move f (is_idle_module (module_at m f.modules) (move_is m (views f) f.modules move e).idle))
             (issued-keeps (picture f) m (task_of move.task f.places) (planned_may f b s.valid m move e) s.valid);
       }

@@ -2,6 +2,7 @@ pub mod ShopBase
 pub mod ShopAccess
 pub mod ShopTables
 pub mod ShopHost
+pub mod UnloadMarked
 pub mod IssueHeld
 pub mod IssueViews
 pub mod IssueTargets
@@ -16,8 +17,8 @@ pub mod GrowFound
 pub mod GrowPlaces
 pub mod GrowRows
 pub mod GrowTaken
-pub mod GrowRemoved
 pub mod GrowEnds
+pub mod GrowRemoved
 pub mod GrowMoved
 pub mod GrowLost
 pub mod GrowTransfer

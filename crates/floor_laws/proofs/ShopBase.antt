@@ -17,7 +17,7 @@ use Rattle.tool_floor.specs.Floor.{ToolFloor, with_shop}
 use Rattle.tool_floor.specs.Jobs.{names_carrier, is_any_of_carrier}
 use Rattle.floor_moves.specs.Valid.{Carriers, Members, Valid}
 use Rattle.place_laws.specs.Picture.{picture, of_one, where_present}
-use Rattle.place_laws.specs.Ports.{AtPorts}
+use Rattle.place_laws.specs.Ports.{AtPorts, Unloading}
 use Rattle.place_laws.specs.Standing.{IsCarried}
 use Rattle.place_laws.specs.Sound.{IsInItsJob, Base, Sound}
 use Rattle.place_laws.proofs.Stays.{Stay, stay-carried}
@@ -108,10 +108,11 @@ module _ (f : ToolFloor) (s : Floor) where
   }
 
   -- all of it
-  pub shop_sound : Leaves f.substrates f.shop s → IsFloor s → AtPorts s → StayOpen f s → Sound f → Sound (with_shop s f)
-  shop_sound leaves valid at here sound = record {
+  pub shop_sound : Leaves f.substrates f.shop s → IsFloor s → AtPorts s → Unloading s → StayOpen f s → Sound f → Sound (with_shop s f)
+  shop_sound leaves valid at unloading here sound = record {
     base = shop_base f s leaves valid sound.base;
     ports = at;
+    unloading = unloading;
     valid = shop_valid sound.base.carried leaves.stay valid here sound.valid;
   }
 
@@ -127,5 +128,6 @@ location_sound f locations sound =
     record {
       base = record { shop = b.shop; carried = b.carried; registered = b.registered; apart = b.apart; rising = b.rising; same_ports = b.same_ports; modules = b.modules; places = b.places; held = b.held; jobs = record { numbered = b.jobs.numbered; given = b.jobs.given; members = b.jobs.members } };
       ports = sound.ports;
+      unloading = sound.unloading;
       valid = sound.valid;
     }

@@ -36,6 +36,9 @@ use Rattle.place_laws.proofs.PortsKept.{forgetting-at-ports}
 use Rattle.place_laws.proofs.PortPlacing.{placing-at-ports}
 use Rattle.place_laws.proofs.PortRequests.{answer_of, answer_second, written-at-ports, action}
 use Rattle.place_laws.proofs.Written.{written_leaves}
+use Rattle.place_laws.proofs.UnloadPorts.{placing-unloading}
+use Rattle.place_laws.proofs.UnloadRows.{unbound-unloading}
+use Rattle.place_laws.proofs.UnloadRequests.{written-unloading}
 use Rattle.floor_laws.proofs.ShopBase.{shop_sound}
 use Rattle.floor_laws.proofs.ShopAccess.{SameAccess, finds_without, finds_forgets, finds_more, finds_found, access_found, access_same, access_named, stays_open, transfer_access}
 
@@ -76,6 +79,7 @@ written_sound a f code sound =
     let g = carrier_written a f.shop in
     let valid = sound.base.shop in
     shop_sound f g (written_leaves f.substrates f.shop valid a code) (written-keeps a f.shop code valid) (written-at-ports a f.shop code valid sound.ports)
+    (written-unloading a f.shop code valid sound.unloading)
     (stays_open f g sound.base (written_access a.word a.id a.port a.map a.bad_attr f.shop valid code) sound.valid) sound
 
 -- ---- a binding is cancelled
@@ -99,6 +103,7 @@ unbinding_sound port f starts none sound =
     let g = shop.floor_fired (firing 7 port 2) f.shop in
     let o = owner (port_numbered port f.shop.ports) in
     shop_sound f g (forgets_leaves f.substrates 2 port o f.shop none) (shop_keeps (firing 7 port 2) f.shop starts sound.base.shop) (forgetting-at-ports 2 port f.shop refl starts sound.base.shop sound.ports)
+    (unbound-unloading port f.shop sound.unloading)
     (stays_open f g sound.base (access_found f.shop.carriers g.carriers (finds_forgets o f.shop.carriers none)) sound.valid) sound
 
 -- ---- a carrier is placed
@@ -122,4 +127,5 @@ placing_sound port name slots f starts rests sound =
     let valid = sound.base.shop in
     shop_sound f h (leaves_then f.substrates f.shop g h (port_leaves f.substrates port _ f.shop) (transfer_leaves f.substrates g port 3))
     (shop_keeps (firing 4 port 3) g (still_placed port a f.shop starts) (came-keeps port a f.shop valid)) (placing-at-ports port name slots f.shop starts rests valid sound.ports)
+    (placing-unloading port a f.shop sound.unloading)
     (stays_open f h sound.base (transfer_access g port 3) sound.valid) sound

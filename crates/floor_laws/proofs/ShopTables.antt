@@ -28,6 +28,7 @@ use Rattle.place_laws.specs.Sound.{Base, Sound}
 use Rattle.place_laws.proofs.Leaving.{Leaves}
 use Rattle.place_laws.proofs.ShopRows.{is_gentle, transfer_leaves, mode_leaves, reservation_leaves, association_leaves, id_leaves, map_leaves, accessing_leaves}
 use Rattle.place_laws.proofs.PortsKept.{is_plain_row, row-at-ports, carrier-at-ports, states_left}
+use Rattle.place_laws.proofs.UnloadRows.{accessing-unloading, row-unloading}
 use Rattle.place_laws.proofs.Holding.{kept_there, its_carrier}
 use Rattle.floor_laws.proofs.ShopBase.{accessing, StayOpen, shop_base, shop_valid, shop_sound, location_sound}
 use Rattle.floor_laws.proofs.ShopAccess.{SameAccess, found_numbered, stays_open, transfer_access, mode_access, reservation_access, association_access, id_access, map_access}
@@ -74,7 +75,7 @@ module _ (f : ToolFloor) (sound : Sound f) (n row : ℕ) (c : Carrier) (known : 
   accessed_sound : Sound (floor_fired (firing 10 n row) f)
   accessed_sound =
       shop_sound f (with_carrier n (carriers.fires_row 10 row) f.shop) (accessing_leaves f.substrates f.shop n row) (accessing-keeps f.shop n row sound.base.shop)
-      (carrier-at-ports n (carriers.fires_row 10 row) f.shop (states_left 10 row) sound.ports) accessed_open sound
+      (carrier-at-ports n (carriers.fires_row 10 row) f.shop (states_left 10 row) sound.ports) (accessing-unloading f.shop n row sound.unloading) accessed_open sound
 
 -- row 4, CancelCarrier of a carrier that no process job names
 pub cancel_sound : (f : ToolFloor) (n : ℕ) (c : Carrier) → carrier_numbered n f.shop.carriers ≡ Some c → floor_starts (firing 10 n 4) f ≡ true → is_any_of_carrier c.name f.jobs ≡ false → Sound f → Sound (floor_fired (firing 10 n 4) f)
@@ -173,6 +174,7 @@ shop_row_sound x f starts kind sound =
       by_shop table object row s plain leaves same =
           let g = shop.floor_fired (firing table object row) f.shop in
           shop_sound f g leaves (shop_keeps (firing table object row) f.shop s sound.base.shop) (row-at-ports (firing table object row) f.shop s sound.base.shop plain sound.ports)
+          (row-unloading (firing table object row) f.shop s sound.base.shop sound.ports sound.unloading)
           (stays_open f g sound.base same sound.valid) sound
 
       association : (port row : ℕ) → shop.floor_starts (firing 7 port row) f.shop ≡ true → is_gentle row ≡ true → Sound (floor_fired (firing 7 port row) f)

@@ -1,6 +1,7 @@
 -- A carrier that has finished goes on to have, and its slot map is read only where its id is VERIFIED: what the rows of tables 8 to 10 do.
 use Rattle.std.proofs.Common.{◌≡◌, ℕ, ◌==◌, Bool, true, false, ◌&&◌, ◌||◌, [], ◌∷◌, Option, Some, refl, subst}
-use Rattle.std.proofs.lemmas.Bool.{true≢false, and_parts}
+use Rattle.std.proofs.Math.Bool.{and-false}
+use Rattle.std.proofs.lemmas.Bool.{or_left, or_right, and_parts}
 use Rattle.gem_tables.specs.Table.{is_among, after}
 use Rattle.carrier.specs.declared.carrier.Carrier.{Carrier}
 use Rattle.carrier.specs.declared.record.CarrierRecord.{CarrierRecord}
@@ -19,49 +20,42 @@ use Rattle.shop_floor.specs.Machines.{carrier_starts}
 use Rattle.shop_floor.proofs.Cases.{starts_at_carrier}
 use Rattle.place_laws.specs.Ports.{IsReadById}
 
-and_false : (b : Bool) → (b && false) ≡ false
-and_false true = refl
-and_false false = refl
-
 -- ---- no row leaves these states
 
 still_id : (row : ℕ) (s : IdState) → is_id_verified s ≡ true → is_id_verified (after id_number id_table row s) ≡ true
 still_id row id.NotRead e = absurd (cc)
 still_id row id.WaitingForHost e = absurd (cc)
-still_id row id.Verified e = rw (and_false (1 == row), and_false (2 == row), and_false (3 == row), and_false (4 == row), and_false (5 == row)) refl
+still_id row id.Verified e = rw (and-false (1 == row), and-false (2 == row), and-false (3 == row), and-false (4 == row), and-false (5 == row)) refl
 still_id row id.VerificationFailed e = absurd (cc)
 
 failed_id : (row : ℕ) (s : IdState) → is_id_failed s ≡ true → is_id_failed (after id_number id_table row s) ≡ true
 failed_id row id.NotRead e = absurd (cc)
 failed_id row id.WaitingForHost e = absurd (cc)
 failed_id row id.Verified e = absurd (cc)
-failed_id row id.VerificationFailed e = rw (and_false (1 == row), and_false (2 == row), and_false (3 == row), and_false (4 == row), and_false (5 == row)) refl
+failed_id row id.VerificationFailed e = rw (and-false (1 == row), and-false (2 == row), and-false (3 == row), and-false (4 == row), and-false (5 == row)) refl
 
 failed_map : (row : ℕ) (s : MapState) → is_map_failed s ≡ true → is_map_failed (after map_number map_table row s) ≡ true
 failed_map row slots.NotRead e = absurd (cc)
 failed_map row slots.WaitingForHost e = absurd (cc)
 failed_map row slots.Verified e = absurd (cc)
-failed_map row slots.VerificationFailed e = rw (and_false (1 == row), and_false (2 == row), and_false (3 == row), and_false (4 == row)) refl
+failed_map row slots.VerificationFailed e = rw (and-false (1 == row), and-false (2 == row), and-false (3 == row), and-false (4 == row)) refl
 
 still_done : (row : ℕ) (a : Accessing) → is_done a ≡ true → is_done (after access_number accessing_table row a) ≡ true
 still_done row access.NotAccessed e = absurd (cc)
 still_done row access.InAccess e = absurd (cc)
-still_done row access.Complete e = rw (and_false (1 == row), and_false (2 == row), and_false (3 == row), and_false (4 == row)) refl
-still_done row access.Stopped e = rw (and_false (1 == row), and_false (2 == row), and_false (3 == row), and_false (4 == row)) refl
+still_done row access.Complete e = rw (and-false (1 == row), and-false (2 == row), and-false (3 == row), and-false (4 == row)) refl
+still_done row access.Stopped e = rw (and-false (1 == row), and-false (2 == row), and-false (3 == row), and-false (4 == row)) refl
 
 -- ---- a carrier that has finished
 
--- one of three goes on to be so
+-- one of two goes on to be so
+either_on : (a b x y : Bool) → (a ≡ true → x ≡ true) → (b ≡ true → y ≡ true) → (a || b) ≡ true → (x || y) ≡ true
+either_on true b x y f g e = or_left x y (f refl)
+either_on false b x y f g e = or_right x y (g e)
+
+-- and one of three
 one_on : (a b c x y z : Bool) → (a ≡ true → x ≡ true) → (b ≡ true → y ≡ true) → (c ≡ true → z ≡ true) → (a || (b || c)) ≡ true → (x || (y || z)) ≡ true
-one_on true b c x y z f g h e = rw (f refl) refl
-one_on false true c true y z f g h e = refl
-one_on false true c false y z f g h e = rw (g refl) refl
-one_on false false true true y z f g h e = refl
-one_on false false true false true z f g h e = refl
-one_on false false true false false z f g h e = h refl
-one_on false false false x y z f g h e = absurd (true≢false (sym_of e)) where
-  sym_of : false ≡ true → true ≡ false
-  sym_of e = cc
+one_on a b c x y z f g h e = either_on a (b || c) x (y || z) f (λ t. either_on b c y z g h t) e
 
 -- the states of a carrier that has finished are so behind a row of this table
 abbrev pub StaysFinished : ℕ → ℕ → Type 0

@@ -40,7 +40,7 @@ use Rattle.place_laws.proofs.SlotNames.{slot_of_name}
 pub some_same : {A : Type 0} (x y : A) → Some x ≡ Some y → x ≡ y
 some_same x y e = cc
 
-none_some : {A P : Type 0} (x : A) → None ≡ Some x → P
+pub none_some : {A P : Type 0} (x : A) → None ≡ Some x → P
 none_some x e = absurd (cc)
 
 -- tests that agree on each find the same
@@ -249,7 +249,7 @@ module _ (f : ToolFloor) (b : Base f) (n : ℕ) (s : Substrate) (found : substra
   -- ---- its name in open commands
 
   -- a name that has its number is its name
-  name_of_number : (sub : List ℕ) → numbered sub f.places ≡ n → sub ≡ s.sub
+  pub name_of_number : (sub : List ℕ) → numbered sub f.places ≡ n → sub ≡ s.sub
   name_of_number sub e = of (substrate_named sub f.places.held) refl where
     of : (o : Option Registered) → substrate_named sub f.places.held ≡ o → sub ≡ s.sub
     of None q =
@@ -291,21 +291,25 @@ module _ (f : ToolFloor) (b : Base f) (n : ℕ) (s : Substrate) (found : substra
         busy_same e = cc
     of (Some Down) q e = absurd (cc)
 
-  -- one that a module names by its name has a place, so that an open command names it
-  pub named_from : Valid (picture f) → list_any (module_names s.sub) f.modules ≡ true → (m : ℕ) × (c : Command) × ((picture f).equipment m ≡ busy c) × (named c.task ≡ n)
-  named_from v e = let w = any_there (module_names s.sub) f.modules e in of w.0 w.1 w.2 w.3 where
-    with_place : (m : ℕ) (c : Command) → (picture f).equipment m ≡ busy c → named c.task ≡ numbered s.sub f.places → (o : Option Registered) → substrate_named s.sub f.places.held ≡ o → named c.task ≡ n
-    with_place m c is its None q =
+  -- the number of its name is its number where an open command has it
+  pub number_of_command : Valid (picture f) → (m : ℕ) (c : Command) → (picture f).equipment m ≡ busy c → named c.task ≡ numbered s.sub f.places → numbered s.sub f.places ≡ n
+  number_of_command v m c is its = of (substrate_named s.sub f.places.held) refl where
+    of : (o : Option Registered) → substrate_named s.sub f.places.held ≡ o → numbered s.sub f.places ≡ n
+    of None q =
         let zero_is : named c.task ≡ 0 = its ∙ ap (λ (o : Option Registered). number_or_none (option_map (λ (r : Registered). r.number) o)) q in
         let known = v.members.kept (named c.task) (v.members.named m c is) in
         let none = none_before 0 f.places.given f.substrates (named c.task) b.rising (omega (arith, zero_is)) in
         absurd (true≢false (sym known ∙ none))
-    with_place m c is its (Some r) q = its ∙ number_of_name r q
+    of (Some r) q = number_of_name r q
 
+  -- one that a module names by its name has a place, so an open command names it
+  pub named_from : Valid (picture f) → list_any (module_names s.sub) f.modules ≡ true → (m : ℕ) × (c : Command) × ((picture f).equipment m ≡ busy c) × (named c.task ≡ n)
+  named_from v e = let w = any_there (module_names s.sub) f.modules e in of w.0 w.1 w.2 w.3 where
     of : (m : ℕ) (x : ToolModule) → module_at m f.modules ≡ Some x → module_names s.sub x ≡ true → (m : ℕ) × (c : Command) × ((picture f).equipment m ≡ busy c) × (named c.task ≡ n)
     of m Idle q t = absurd (true≢false (sym t))
     of m (Busy command fetched) q t =
-        let is : (picture f).equipment m ≡ busy (record { number = command.number.0; task = task_of command.task f.places }) = ap (λ (o : Option ToolModule). module_of o f.places) q in
-        let its : named (task_of command.task f.places) ≡ numbered s.sub f.places = task_name command.task ∙ ap (λ (sub : List ℕ). numbered sub f.places) ((bytes_eq-Decides (named_by command.task) s.sub).0 t) in
-        (m, record { number = command.number.0; task = task_of command.task f.places }, is, with_place m (record { number = command.number.0; task = task_of command.task f.places }) is its (substrate_named s.sub f.places.held) refl)
+        let c : Command = record { number = command.number.0; task = task_of command.task f.places } in
+        let is : (picture f).equipment m ≡ busy c = ap (λ (o : Option ToolModule). module_of o f.places) q in
+        let its : named c.task ≡ numbered s.sub f.places = task_name command.task ∙ ap (λ (sub : List ℕ). numbered sub f.places) ((bytes_eq-Decides (named_by command.task) s.sub).0 t) in
+        (m, c, is, its ∙ number_of_command v m c is its)
     of m Down q t = absurd (true≢false (sym t))

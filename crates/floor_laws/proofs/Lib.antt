@@ -1,1 +1,2 @@
 pub mod JobSight
+pub mod JobWork

@@ -1,2 +1,3 @@
 pub mod JobSight
 pub mod JobWork
+pub mod JobChanges

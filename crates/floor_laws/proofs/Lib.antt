@@ -1,3 +1,4 @@
 pub mod JobSight
 pub mod JobWork
 pub mod JobChanges
+pub mod JobSays

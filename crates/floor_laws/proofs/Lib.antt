@@ -2,3 +2,4 @@ pub mod JobSight
 pub mod JobWork
 pub mod JobChanges
 pub mod JobSays
+pub mod JobLists

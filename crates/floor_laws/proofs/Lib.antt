@@ -3,3 +3,5 @@ pub mod JobWork
 pub mod JobChanges
 pub mod JobSays
 pub mod JobLists
+pub mod JobStates
+pub mod JobFires

@@ -59,7 +59,7 @@ fired_jobs n row w = record w { process = fired n row w.process }
 
 module _ (f : ToolFloor) (n row : ℕ) where
   -- a substrate in its job, which is begun, is in it behind the row
-  fired_member : (s : Substrate) → IsInItsJob f.shop.carriers f.jobs s → IsInItsJob f.shop.carriers (fired_jobs n row f.jobs) s
+  pub fired_member : (s : Substrate) → IsInItsJob f.shop.carriers f.jobs s → IsInItsJob f.shop.carriers (fired_jobs n row f.jobs) s
   fired_member s is i e = let w = fired_was n row s.job f.jobs.process.kept i e in of w.job (is w.job w.found) w.is where
     of : (j : ProcessJob) → IsOfJob f.shop.carriers s j → (i ≡ j) ⊎ ((s.job ≡ n) × (i ≡ fires_row row j)) → IsOfJob f.shop.carriers s i
     of j its (inl same) = subst (λ (x : ProcessJob). IsOfJob f.shop.carriers s x) (sym same) its

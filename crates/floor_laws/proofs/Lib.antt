@@ -5,3 +5,4 @@ pub mod JobSays
 pub mod JobLists
 pub mod JobStates
 pub mod JobFires
+pub mod JobEnds

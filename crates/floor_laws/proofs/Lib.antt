@@ -6,3 +6,4 @@ pub mod JobLists
 pub mod JobStates
 pub mod JobFires
 pub mod JobEnds
+pub mod JobJoins

@@ -73,7 +73,7 @@ module _ (f : ToolFloor) (n row : ℕ) where
   }
 
 -- nothing changes of a substrate
-stays_alone : IsJobAlone (λ (s : Substrate). s)
+pub stays_alone : IsJobAlone (λ (s : Substrate). s)
 stays_alone s = refl
 
 module _ (f : ToolFloor) (n row : ℕ) (h : Sound f) (six : row ≡ 6 → is_settled n f ≡ true) where

@@ -7,3 +7,5 @@ pub mod JobStates
 pub mod JobFires
 pub mod JobEnds
 pub mod JobJoins
+pub mod JobCreated
+pub mod JobProcess

@@ -1,6 +1,5 @@
 -- What holds goes on where a process job is created, and where control jobs change.
-use Rattle.std.proofs.Common.{◌≡◌, ◌≤◌, ℕ, ◌+◌, List, [], ◌∷◌, ◌++◌, map, Option, Some, None, refl, sym, ◌∙◌, ap, subst, arith}
-use Rattle.std.specs.List.{AllByRecursion}
+use Rattle.std.proofs.Common.{◌≡◌, ◌≤◌, ℕ, ◌+◌, List, [], ◌∷◌, ◌++◌, map, Some, refl, sym, ◌∙◌, subst, arith}
 use Rattle.gem_tables.specs.Table.{firing}
 use Rattle.process_job.specs.Jobs.{job_numbered, created, with_created}
 use Rattle.process_job.specs.declared.job.JobSpec.{JobSpec}
@@ -12,12 +11,12 @@ use Rattle.tool_floor.specs.Floor.{ToolFloor, with_jobs, substrate_numbered, num
 use Rattle.tool_floor.specs.Jobs.{job_of}
 use Rattle.tool_floor.specs.Machines.{floor_fired}
 use Rattle.tool_jobs.specs.Rows.{control_fired}
-use Rattle.place_laws.specs.Sound.{IsInItsJob, JobsSound, Base, Sound}
+use Rattle.shop_floor.proofs.Apart.{all_both, all_follows}
+use Rattle.place_laws.specs.Sound.{IsInItsJob, JobsSound, Sound}
 use Rattle.place_laws.proofs.Holding.{true_of_found}
-use Rattle.floor_laws.proofs.JobSight.{each_follows}
 use Rattle.floor_laws.proofs.JobChanges.{map_same}
 use Rattle.floor_laws.proofs.JobSays.{behind, GoesOn, sound_on}
-use Rattle.floor_laws.proofs.JobLists.{job_number_is, numbered_more, found_more}
+use Rattle.floor_laws.proofs.JobLists.{numbered_more, found_more}
 use Rattle.floor_laws.proofs.JobFires.{here_before, over_before, stays_alone}
 
 -- ---- control jobs
@@ -52,6 +51,7 @@ abbrev pub more_jobs : JobSpec → Jobs → Jobs
 more_jobs j w = record w { process = with_created j w.process }
 
 module _ (f : ToolFloor) (j : JobSpec) (h : Sound f) where
+  -- the job that is created
   abbrev new : ProcessJob
   new = created (f.jobs.process.given + 1) j
 
@@ -59,20 +59,19 @@ module _ (f : ToolFloor) (j : JobSpec) (h : Sound f) where
   same_job : (k : ℕ) → k ≤ f.jobs.process.given → job_numbered k (f.jobs.process.kept ++ new ∷ []) ≡ job_numbered k f.jobs.process.kept
   same_job k less = found_more k new f.jobs.process.kept (λ same. omega (arith, same, less))
 
-  both_all : (P Q : Substrate → Type 0) (ss : List Substrate) → AllByRecursion P ss → AllByRecursion Q ss → AllByRecursion (λ (s : Substrate). P s × Q s) ss
-  both_all P Q [] a b = tt
-  both_all P Q (s ∷ ss) a b = ((a.0, b.0), both_all P Q ss a.1 b.1)
-
+  -- what holds of jobs
   jobs_created : JobsSound (with_jobs (more_jobs j f.jobs) f)
   jobs_created = record {
     numbered = numbered_more 0 f.jobs.process.given new f.jobs.process.kept h.base.jobs.numbered refl;
-    given = each_follows (λ (s : Substrate). s.job ≤ f.jobs.process.given) (λ (s : Substrate). s.job ≤ f.jobs.process.given + 1) f.substrates (λ s less. omega (arith, less)) h.base.jobs.given;
-    members = each_follows (λ (s : Substrate). (s.job ≤ f.jobs.process.given) × IsInItsJob f.shop.carriers f.jobs s) (IsInItsJob f.shop.carriers (more_jobs j f.jobs)) f.substrates (λ s both i e. both.1 i (sym (same_job s.job both.0) ∙ e)) (both_all _ _ f.substrates h.base.jobs.given h.base.jobs.members);
+    given = all_follows (λ (s : Substrate). s.job ≤ f.jobs.process.given) (λ (s : Substrate). s.job ≤ f.jobs.process.given + 1) f.substrates (λ s less. omega (arith, less)) h.base.jobs.given;
+    members = all_follows (λ (s : Substrate). (s.job ≤ f.jobs.process.given) × IsInItsJob f.shop.carriers f.jobs s) (IsInItsJob f.shop.carriers (more_jobs j f.jobs)) f.substrates (λ s both i e. both.1 i (sym (same_job s.job both.0) ∙ e)) (all_both _ _ f.substrates h.base.jobs.given h.base.jobs.members);
   }
 
+  -- who is in a job was in it before
   was_in : (k : ℕ) (s : Substrate) (i : ProcessJob) → substrate_numbered k f.substrates ≡ Some s → job_of s (more_jobs j f.jobs) ≡ Some i → job_of s f.jobs ≡ Some i
   was_in k s i found its = sym (same_job s.job (true_of_found number_of k (λ (s : Substrate). s.job ≤ f.jobs.process.given) f.substrates s h.base.jobs.given found)) ∙ its
 
+  -- and so all that is said of members
   goes_created : GoesOn f [] (λ (s : Substrate). s) stays_alone (more_jobs j f.jobs)
   goes_created = record {
     recipes = refl;
@@ -81,6 +80,7 @@ module _ (f : ToolFloor) (j : JobSpec) (h : Sound f) where
     over = λ k s i found its done. over_before f h.valid k s i found (was_in k s i found its) done;
   }
 
+  -- so all holds
   created_is : Sound (with_jobs (more_jobs j f.jobs) f)
   created_is =
       let same : map (λ (s : Substrate). s) f.substrates ≡ f.substrates = map_same f.substrates in
@@ -88,5 +88,6 @@ module _ (f : ToolFloor) (j : JobSpec) (h : Sound f) where
       subst (λ (ss : List Substrate). Sound (record f { substrates = ss; jobs = more_jobs j f.jobs })) same
       (sound_on f [] (λ (s : Substrate). s) stays_alone (more_jobs j f.jobs) h jobs goes_created)
 
+-- a job that is created is in no substrate
 pub created_sound : (f : ToolFloor) (j : JobSpec) → Sound f → Sound (with_jobs (record f.jobs { process = with_created j f.jobs.process }) f)
 created_sound f j h = created_is f j h

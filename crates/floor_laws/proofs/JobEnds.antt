@@ -1,5 +1,5 @@
 -- What holds goes on where a process job ends: it is forgotten, and its members are in no job any more.
-use Rattle.std.proofs.Common.{◌≡◌, ◌≤◌, ℕ, ◌==◌, Bool, true, false, if◌then◌else◌, List, [], ◌∷◌, map, Option, Some, None, refl, sym, ◌∙◌, ap, subst, ◌⊎◌, inl, inr, arith}
+use Rattle.std.proofs.Common.{◌≡◌, ◌≤◌, ℕ, Bool, true, false, if◌then◌else◌, List, [], ◌∷◌, map, Some, refl, sym, ◌∙◌, ap, subst, ◌⊎◌, inl, inr, arith}
 use Rattle.std.specs.List.{AllByRecursion}
 use Rattle.std.proofs.lemmas.Bool.{true≢false}
 use Rattle.std.proofs.lemmas.Bool.Decides.{Decides-eqb}
@@ -12,7 +12,7 @@ use Rattle.tool_floor.specs.declared.tracking.Substrate.{Substrate}
 use Rattle.tool_floor.specs.Floor.{ToolFloor, substrate_numbered}
 use Rattle.tool_floor.specs.Jobs.{job_of, is_member, freed, all_marked, names_carrier}
 use Rattle.floor_moves.specs.Floor.{is_done}
-use Rattle.place_laws.specs.Picture.{picture, is_complete}
+use Rattle.place_laws.specs.Picture.{picture}
 use Rattle.place_laws.specs.Sound.{IsOfJob, IsInItsJob, JobsSound, Sound}
 use Rattle.floor_laws.proofs.JobSight.{none_some}
 use Rattle.floor_laws.proofs.JobChanges.{IsJobAlone, marked_found}
@@ -34,6 +34,7 @@ freed_cases n s = of (is_member n s) refl where
   of true e = inl ((Decides-eqb s.job n).0 e, ap (λ (b : Bool). (if b then record s { job = 0 } else s).job) e)
   of false e = inr ((λ same. true≢false (sym ((Decides-eqb s.job n).1 same) ∙ e)), ap (λ (b : Bool). if b then record s { job = 0 } else s) e)
 
+-- no more than its job changes
 pub freed_alone : (n : ℕ) → IsJobAlone (freed n)
 freed_alone n s = of (is_member n s) where
   of : (b : Bool) → record (if b then record s { job = 0 } else s) { job = s.job } ≡ s
@@ -47,9 +48,11 @@ abbrev pub ended_jobs : ℕ → ℕ → Jobs → Jobs
 ended_jobs n row w = ended n (fired_jobs n row w)
 
 module _ (f : ToolFloor) (n row : ℕ) (h : Sound f) where
+  -- the jobs that are kept behind
   abbrev kept : List ProcessJob
   kept = without_numbered n (change_numbered n (fires_row row) f.jobs.process.kept)
 
+  -- their numbers rise
   kept_numbered : AreNumbered 0 f.jobs.process.given kept
   kept_numbered = numbered_without n 0 f.jobs.process.given (change_numbered n (fires_row row) f.jobs.process.kept) (numbered_fired n row 0 f.jobs.process.given f.jobs.process.kept h.base.jobs.numbered)
 
@@ -65,6 +68,7 @@ module _ (f : ToolFloor) (n row : ℕ) (h : Sound f) where
     of (inr t) = (t.1, sym (other_kept s.job t.0) ∙ sym (ap (λ (x : Substrate). job_numbered x.job kept) t.1) ∙ e)
 
   module _ (ms : List Material) where
+    -- what holds of jobs
     jobs_ended : JobsSound (behind f ms (freed n) (freed_alone n) (ended_jobs n row f.jobs))
     jobs_ended = record {
       numbered = kept_numbered;

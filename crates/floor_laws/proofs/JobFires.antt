@@ -1,26 +1,26 @@
 -- What holds goes on where a row of a process job changes its state alone.
-use Rattle.std.proofs.Common.{◌≡◌, ◌≤◌, ℕ, ◌==◌, Bool, true, false, not, ◌&&◌, ◌||◌, if◌then◌else◌, List, [], ◌∷◌, map, find, Option, Some, None, refl, sym, ◌∙◌, ap, subst, ◌⊎◌, inl, inr}
-use Rattle.std.specs.List.{AllByRecursion, list_all}
+use Rattle.std.proofs.Common.{◌≡◌, ◌≤◌, ℕ, ◌==◌, Bool, true, false, not, ◌&&◌, ◌||◌, if◌then◌else◌, List, [], ◌∷◌, map, find, Some, refl, sym, ◌∙◌, ap, subst, ◌⊎◌, inl, inr}
+use Rattle.std.specs.List.{list_all}
 use Rattle.std.proofs.lemmas.Bool.{true≢false, and_parts}
 use Rattle.std.proofs.lemmas.Bool.Decides.{Decides-eqb}
-use Rattle.carrier.specs.declared.carrier.Carrier.{Carrier}
+use Rattle.shop_floor.proofs.Apart.{all_follows}
 use Rattle.substrate.specs.Record.{is_finished}
-use Rattle.process_job.specs.Jobs.{job_numbered, fires_row, fired}
+use Rattle.process_job.specs.Jobs.{fires_row, fired}
 use Rattle.process_job.specs.declared.job.ProcessJob.{ProcessJob}
 use Rattle.tool_jobs.specs.Jobs.{Jobs}
 use Rattle.tool_floor.specs.declared.tracking.Substrate.{Substrate}
-use Rattle.tool_floor.specs.Floor.{ToolFloor, with_jobs, substrate_numbered, number_of}
+use Rattle.tool_floor.specs.Floor.{ToolFloor, with_jobs, substrate_numbered}
 use Rattle.tool_floor.specs.Substrates.{is_in_slot, is_removed}
 use Rattle.tool_floor.specs.Jobs.{job_of, is_member, is_done_with, is_settled}
 use Rattle.floor_moves.specs.Floor.{is_done}
 use Rattle.floor_moves.specs.Valid.{Valid}
 use Rattle.place_laws.specs.Picture.{picture, of_one, is_complete}
-use Rattle.place_laws.specs.Sound.{is_queued, IsOfJob, IsInItsJob, JobsSound, Base, Sound}
-use Rattle.floor_laws.proofs.JobSight.{none_some, some_same, each_follows}
+use Rattle.place_laws.specs.Sound.{IsOfJob, IsInItsJob, JobsSound, Base, Sound}
+use Rattle.floor_laws.proofs.JobSight.{none_some, some_same}
 use Rattle.floor_laws.proofs.JobWork.{done_from}
 use Rattle.floor_laws.proofs.JobChanges.{IsJobAlone, map_same}
 use Rattle.floor_laws.proofs.JobSays.{said_there, behind, GoesOn, sound_on}
-use Rattle.floor_laws.proofs.JobLists.{job_number_is, numbered_fired, WasFound, fired_was, fired_on}
+use Rattle.floor_laws.proofs.JobLists.{numbered_fired, fired_was, fired_on}
 use Rattle.floor_laws.proofs.JobStates.{after_begun, after_complete}
 
 -- what all pass, one that is found passes
@@ -34,11 +34,13 @@ all_found t u (y ∷ ys) x e all = let parts = and_parts (u y) (list_all u ys) a
 -- ---- what holds of members before
 
 module _ (f : ToolFloor) (v : Valid (picture f)) (n : ℕ) (s : Substrate) (j : ProcessJob) (found : substrate_numbered n f.substrates ≡ Some s) (its : job_of s f.jobs ≡ Some j) where
+  -- its carrier is NOT ACCESSED or IN ACCESS
   pub here_before : (picture f).access s.carrier ≤ 1
   here_before =
       subst (λ (c : ℕ). (picture f).access c ≤ 1) (ap (of_one 0 (λ (s : Substrate). s.carrier)) found)
       (v.members.here n (said_there f.substrates f.jobs n false (λ j. true) s j found its))
 
+  -- it is done where its job is PROCESS COMPLETE
   pub over_before : is_complete j.states.state ≡ true → is_done n (picture f) ≡ true
   over_before e =
       v.members.complete n (said_there f.substrates f.jobs n false (λ j. true) s j found its)
@@ -65,11 +67,12 @@ module _ (f : ToolFloor) (n row : ℕ) where
     of j its (inl same) = subst (λ (x : ProcessJob). IsOfJob f.shop.carriers s x) (sym same) its
     of j its (inr t) = subst (λ (x : ProcessJob). IsOfJob f.shop.carriers s x) (sym t.1) (record { begun = after_begun row j.states.state its.begun; carrier = its.carrier; its = its.its; named = its.named })
 
+  -- what holds of jobs
   pub jobs_fired : JobsSound f → JobsSound (with_jobs (fired_jobs n row f.jobs) f)
   jobs_fired h = record {
     numbered = numbered_fired n row 0 f.jobs.process.given f.jobs.process.kept h.numbered;
     given = h.given;
-    members = each_follows (IsInItsJob f.shop.carriers f.jobs) (IsInItsJob f.shop.carriers (fired_jobs n row f.jobs)) f.substrates fired_member h.members;
+    members = all_follows (IsInItsJob f.shop.carriers f.jobs) (IsInItsJob f.shop.carriers (fired_jobs n row f.jobs)) f.substrates fired_member h.members;
   }
 
 -- nothing changes of a substrate
@@ -77,6 +80,7 @@ pub stays_alone : IsJobAlone (λ (s : Substrate). s)
 stays_alone s = refl
 
 module _ (f : ToolFloor) (n row : ℕ) (h : Sound f) (six : row ≡ 6 → is_settled n f ≡ true) where
+  -- members stay in their jobs
   goes_fired : GoesOn f [] (λ (s : Substrate). s) stays_alone (fired_jobs n row f.jobs)
   goes_fired = record {
     recipes = refl;

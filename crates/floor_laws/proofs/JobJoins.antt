@@ -1,11 +1,11 @@
 -- What holds goes on where a process job that is set up gets its members.
-use Rattle.std.proofs.Common.{◌≡◌, ◌≤◌, ℕ, ◌+◌, ◌==◌, Bool, true, false, ◌&&◌, ◌||◌, if◌then◌else◌, List, [], ◌∷◌, map, find, Option, Some, None, option_map, refl, sym, ◌∙◌, ap, subst, ◌⊎◌, inl, inr, arith}
-use Rattle.std.specs.List.{AllByRecursion, list_any, list_all}
+use Rattle.std.proofs.Common.{◌≡◌, ◌≤◌, ℕ, ◌+◌, ◌==◌, Bool, true, false, ◌&&◌, ◌||◌, if◌then◌else◌, List, [], ◌∷◌, Option, Some, None, option_map, refl, sym, ◌∙◌, ap, subst, ◌⊎◌, inl, inr, arith}
+use Rattle.std.specs.List.{list_any, list_all}
 use Rattle.std.specs.Str.{bytes_eq}
 use Rattle.std.proofs.lemmas.Bool.{true≢false, and_parts, or_left, or_right}
 use Rattle.std.proofs.lemmas.Bool.Decides.{Decides-eqb}
 use Rattle.std.proofs.lemmas.Slice.Eq.{bytes_eq-Decides}
-use Rattle.gem_tables.specs.Table.{is_among, after}
+use Rattle.gem_tables.specs.Table.{is_among}
 use Rattle.carrier.specs.declared.carrier.Carrier.{Carrier}
 use Rattle.carrier.specs.declared.record.Accessing.{Accessing}
 use Rattle.carrier.specs.declared.record.Accessing.TheVariants as accessing
@@ -13,12 +13,10 @@ use Rattle.carrier.specs.Tables.{access_number}
 use Rattle.carrier.specs.Record.{is_map_verified}
 use Rattle.carrier.specs.Carriers.{has_name, carrier_named, carrier_numbered}
 use Rattle.shop_floor.specs.Valid.{RiseFrom}
-use Rattle.shop_floor.proofs.Apart.{IsOnly, found_only, found_passes, has_its_name, named_so}
-use Rattle.process_job.specs.Tables.{job_number, job_table}
+use Rattle.shop_floor.proofs.Apart.{all_both, IsOnly, found_only, found_passes, has_its_name, named_so}
+use Rattle.process_job.specs.Tables.{job_number}
 use Rattle.process_job.specs.Jobs.{job_numbered, change_numbered, fires_row}
-use Rattle.process_job.specs.declared.job.Material.{Material}
 use Rattle.process_job.specs.declared.job.ProcessJob.{ProcessJob}
-use Rattle.process_job.specs.declared.record.JobState.{JobState}
 use Rattle.process_job.specs.declared.record.JobState.TheVariants.{Queued, SettingUp}
 use Rattle.substrate.specs.Record.{is_at_source, is_needing}
 use Rattle.tool_floor.specs.declared.tracking.Substrate.{Substrate}
@@ -27,7 +25,7 @@ use Rattle.tool_floor.specs.Jobs.{is_carrier_of, is_slot_named, names_slot_of, c
 use Rattle.floor_moves.specs.Floor.{is_done}
 use Rattle.place_laws.specs.Picture.{picture, of_one, is_complete}
 use Rattle.place_laws.specs.Standing.{IsCarried}
-use Rattle.place_laws.specs.Sound.{is_queued, IsOfJob, IsInItsJob, JobsSound, Base, Sound}
+use Rattle.place_laws.specs.Sound.{is_queued, IsOfJob, IsInItsJob, JobsSound, Sound}
 use Rattle.place_laws.proofs.Holding.{true_of_found}
 use Rattle.floor_laws.proofs.JobSight.{none_some, some_same, each_found}
 use Rattle.floor_laws.proofs.JobChanges.{IsJobAlone}
@@ -46,6 +44,7 @@ pub record Both {A : Type 0} (t u : A → Bool) (xs : List A) : Type 0 where
   pub second : u one ≡ true
   pub some : (r : A → Bool) → r one ≡ true → list_any r xs ≡ true
 
+-- there is such a one
 pub both_pass : {A : Type 0} (t u : A → Bool) (xs : List A) → list_any t xs ≡ true → list_all u xs ≡ true → Both t u xs
 both_pass t u [] e all = absurd (true≢false (sym e))
 both_pass t u (x ∷ xs) e all = let parts = and_parts (u x) (list_all u xs) all in of (t x) refl e parts.0 (λ q. both_pass t u xs q parts.1) where
@@ -90,6 +89,7 @@ record IsNew (f : ToolFloor) (j : ProcessJob) (s : Substrate) : Type 0 where
   named : names_carrier carrier.name j ≡ true
   here : access_number carrier.states.access ≤ 1
 
+-- no more than the job of a substrate changes
 pub joined_alone : (f : ToolFloor) (j : ProcessJob) → IsJobAlone (joined j f.shop)
 joined_alone f j s = of (can_join j f.shop s) where
   of : (b : Bool) → record (if b then record s { job = j.number } else s) { job = s.job } ≡ s
@@ -97,9 +97,11 @@ joined_alone f j s = of (can_join j f.shop s) where
   of false = refl
 
 module _ (f : ToolFloor) (n : ℕ) (j : ProcessJob) (h : Sound f) (known : job_numbered n f.jobs.process.kept ≡ Some j) (is_queued_ : is_among job_number (Queued ∷ []) j.states.state ≡ true) (present : is_here j f.shop ≡ true) where
+  -- the number of the job, which was given
   number_is : (j.number ≡ n) × (0 + 1 ≤ n) × (n ≤ f.jobs.process.given)
   number_is = let r = job_number_is n 0 f.jobs.process.given f.jobs.process.kept j h.base.jobs.numbered known in (r.0, r.1, r.2)
 
+  -- one that can join is new
   new_tells : (s : Substrate) → IsCarried f.shop.carriers s → can_join j f.shop s ≡ true → IsNew f j s
   new_tells s of e =
       let outer = and_parts (is_at_source s.states.transport && is_needing s.states.processing) ((s.job == 0) && list_any (names_slot_of f.shop s) j.material) e in
@@ -126,12 +128,14 @@ module _ (f : ToolFloor) (n : ℕ) (j : ProcessJob) (h : Sound f) (known : job_n
   abbrev Cases : Substrate → Type 0
   Cases s = (IsNew f j s × ((joined j f.shop s).job ≡ n)) ⊎ (joined j f.shop s ≡ s)
 
+  -- one of the two is so
   joined_cases : (s : Substrate) → IsCarried f.shop.carriers s → Cases s
   joined_cases s of = by (can_join j f.shop s) refl where
     by : (b : Bool) → can_join j f.shop s ≡ b → Cases s
     by true e = inl (new_tells s of e, ap (λ (b : Bool). (if b then record s { job = j.number } else s).job) e ∙ number_is.0)
     by false e = inr (ap (λ (b : Bool). if b then record s { job = j.number } else s) e)
 
+  -- one that is kept has its carrier
   carried_at : (k : ℕ) (s : Substrate) → substrate_numbered k f.substrates ≡ Some s → IsCarried f.shop.carriers s
   carried_at k s found = true_of_found number_of k (IsCarried f.shop.carriers) f.substrates s h.base.carried found
 
@@ -141,14 +145,17 @@ module _ (f : ToolFloor) (n : ℕ) (j : ProcessJob) (h : Sound f) (known : job_n
       some_same i (fires_row 2 j)
       (sym e ∙ ap (λ (k : ℕ). job_numbered k (change_numbered n (fires_row 2) f.jobs.process.kept)) its ∙ fired_there n 2 f.jobs.process.kept ∙ ap (option_map (fires_row 2)) known)
 
+  -- the job is SETTING UP behind the row
   state_is : (fires_row 2 j).states.state ≡ SettingUp
   state_is = after_set_up j.states.state is_queued_
 
+  -- so it isn't PROCESS COMPLETE
   not_complete : (i : ProcessJob) → i ≡ fires_row 2 j → is_complete i.states.state ≡ true → ⊥
   not_complete i same e = true≢false (sym e ∙ ap (λ (x : ProcessJob). is_complete x.states.state) same ∙ ap is_complete state_is)
 
   -- ---- what holds behind
 
+  -- each member is in its job
   member : (s : Substrate) → IsCarried f.shop.carriers s × IsInItsJob f.shop.carriers f.jobs s → IsInItsJob f.shop.carriers (fired_jobs n 2 f.jobs) (joined j f.shop s)
   member s both i e = by (joined_cases s both.0) where
     new : IsNew f j s → i ≡ fires_row 2 j → IsOfJob f.shop.carriers (joined j f.shop s) i
@@ -163,23 +170,22 @@ module _ (f : ToolFloor) (n : ℕ) (j : ProcessJob) (h : Sound f) (known : job_n
     by (inl t) = new t.0 (new_job s i t.1 e)
     by (inr same) = subst (λ (x : Substrate). IsOfJob f.shop.carriers x i) (sym same) (fired_member f n 2 s both.1 i (sym (ap (λ (x : Substrate). job_of x (fired_jobs n 2 f.jobs)) same) ∙ e))
 
-  both_all : (ss : List Substrate) → AllByRecursion (IsCarried f.shop.carriers) ss → AllByRecursion (IsInItsJob f.shop.carriers f.jobs) ss → AllByRecursion (λ (s : Substrate). IsCarried f.shop.carriers s × IsInItsJob f.shop.carriers f.jobs s) ss
-  both_all [] a b = tt
-  both_all (s ∷ ss) a b = ((a.0, b.0), both_all ss a.1 b.1)
-
+  -- and its job was given
   given_on : (s : Substrate) → s.job ≤ f.jobs.process.given → (joined j f.shop s).job ≤ f.jobs.process.given
   given_on s less = by (can_join j f.shop s) where
     by : (b : Bool) → (if b then record s { job = j.number } else s).job ≤ f.jobs.process.given
     by true = subst (λ (k : ℕ). k ≤ f.jobs.process.given) (sym number_is.0) number_is.2
     by false = less
 
+  -- what holds of jobs
   jobs_joined : JobsSound (behind f [] (joined j f.shop) (joined_alone f j) (fired_jobs n 2 f.jobs))
   jobs_joined = record {
     numbered = numbered_fired n 2 0 f.jobs.process.given f.jobs.process.kept h.base.jobs.numbered;
     given = each_mapped (λ (s : Substrate). s.job ≤ f.jobs.process.given) (λ (s : Substrate). s.job ≤ f.jobs.process.given) (joined j f.shop) f.substrates given_on h.base.jobs.given;
-    members = each_mapped (λ (s : Substrate). IsCarried f.shop.carriers s × IsInItsJob f.shop.carriers f.jobs s) (IsInItsJob f.shop.carriers (fired_jobs n 2 f.jobs)) (joined j f.shop) f.substrates member (both_all f.substrates h.base.carried h.base.jobs.members);
+    members = each_mapped (λ (s : Substrate). IsCarried f.shop.carriers s × IsInItsJob f.shop.carriers f.jobs s) (IsInItsJob f.shop.carriers (fired_jobs n 2 f.jobs)) (joined j f.shop) f.substrates member (all_both (IsCarried f.shop.carriers) (IsInItsJob f.shop.carriers f.jobs) f.substrates h.base.carried h.base.jobs.members);
   }
 
+  -- members stay in their jobs
   goes_joined : GoesOn f [] (joined j f.shop) (joined_alone f j) (fired_jobs n 2 f.jobs)
   goes_joined = record {
     recipes = refl;
@@ -205,5 +211,6 @@ module _ (f : ToolFloor) (n : ℕ) (j : ProcessJob) (h : Sound f) (known : job_n
     over k s i found its done (inl t) = absurd (not_complete i (new_job s i t.1 its) done)
     over k s i found its done (inr same) = let w = fired_was n 2 s.job f.jobs.process.kept i (sym (ap (λ (x : Substrate). job_of x (fired_jobs n 2 f.jobs)) same) ∙ its) in old k s i w.job found w.found done w.is
 
+  -- the job of a number gets its members, by row 2
   pub joined_sound : Sound (behind f [] (joined j f.shop) (joined_alone f j) (fired_jobs n 2 f.jobs))
   joined_sound = sound_on f [] (joined j f.shop) (joined_alone f j) (fired_jobs n 2 f.jobs) h jobs_joined goes_joined

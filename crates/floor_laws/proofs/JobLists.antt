@@ -1,17 +1,10 @@
 -- Process jobs by their numbers, where the state of one changes or one is forgotten.
-use Rattle.std.proofs.Common.{◌≡◌, ◌≤◌, ◌<◌, ℕ, ◌+◌, ◌==◌, Bool, true, false, ◌&&◌, ◌||◌, if◌then◌else◌, List, [], ◌∷◌, ◌++◌, Option, Some, None, option_map, refl, sym, ◌∙◌, ap, subst, ◌⊎◌, inl, inr, arith}
-use Rattle.std.specs.List.{AllByRecursion, list_all}
-use Rattle.std.proofs.lemmas.Bool.{true≢false, and_parts}
+use Rattle.std.proofs.Common.{◌≡◌, ◌≤◌, ◌<◌, ℕ, ◌+◌, ◌==◌, Bool, true, false, if◌then◌else◌, List, [], ◌∷◌, ◌++◌, Option, Some, None, option_map, refl, sym, ◌∙◌, ap, subst, ◌⊎◌, inl, inr, arith}
+use Rattle.std.proofs.lemmas.Bool.{true≢false}
 use Rattle.std.proofs.lemmas.Bool.Decides.{Decides-eqb}
-use Rattle.gem_tables.specs.Table.{Row, is_among, row_starts, after}
-use Rattle.process_job.specs.Tables.{job_table, job_number}
-use Rattle.process_job.specs.Jobs.{has_number, job_numbered, change_numbered, without_numbered, fires_row, AreNumbered}
+use Rattle.process_job.specs.Jobs.{job_numbered, change_numbered, without_numbered, fires_row, AreNumbered}
 use Rattle.process_job.specs.declared.job.ProcessJob.{ProcessJob}
-use Rattle.process_job.specs.declared.record.JobState.{JobState}
-use Rattle.process_job.specs.declared.record.JobState.TheVariants.{Queued, SettingUp, WaitingForStart, Processing, Complete, Pausing, Paused, Stopping, Aborting}
 use Rattle.process_job.proofs.Apart.{last_given}
-use Rattle.place_laws.specs.Picture.{is_complete}
-use Rattle.place_laws.specs.Sound.{is_queued}
 use Rattle.floor_laws.proofs.JobSight.{none_some, some_same}
 
 -- ---- numbers
@@ -50,6 +43,7 @@ lower low last given (j ∷ js) less numbered = (omega (arith, less, numbered.0)
 -- ---- a row fires at one
 
 module _ (n row : ℕ) where
+  -- the numbers rise behind it
   pub numbered_fired : (last given : ℕ) (js : List ProcessJob) → AreNumbered last given js → AreNumbered last given (change_numbered n (fires_row row) js)
   numbered_fired last given [] numbered = numbered
   numbered_fired last given (j ∷ js) numbered = of (j.number == n) (numbered_fired j.number given js numbered.1) where
@@ -57,6 +51,7 @@ module _ (n row : ℕ) where
     of true rest = numbered
     of false rest = (numbered.0, rest)
 
+  -- the job of the number is found behind the row
   pub fired_there : (js : List ProcessJob) → job_numbered n (change_numbered n (fires_row row) js) ≡ option_map (fires_row row) (job_numbered n js)
   fired_there [] = refl
   fired_there (j ∷ js) = of (j.number == n) refl (fired_there js) where
@@ -64,6 +59,7 @@ module _ (n row : ℕ) where
     of true e rest = ap (λ (b : Bool). if b then Some (fires_row row j) else job_numbered n js) e
     of false e rest = ap (λ (b : Bool). if b then Some j else job_numbered n (change_numbered n (fires_row row) js)) e ∙ rest
 
+  -- each other is found as it was
   pub fired_else : (k : ℕ) → (k ≡ n → ⊥) → (js : List ProcessJob) → job_numbered k (change_numbered n (fires_row row) js) ≡ job_numbered k js
   fired_else k other [] = refl
   fired_else k other (j ∷ js) = of (j.number == n) refl (fired_else k other js) where
@@ -79,6 +75,7 @@ module _ (n row : ℕ) where
     pub found : job_numbered k js ≡ Some job
     pub is : (i ≡ job) ⊎ ((k ≡ n) × (i ≡ fires_row row job))
 
+  -- there is such a job
   pub fired_was : (k : ℕ) (js : List ProcessJob) (i : ProcessJob) → job_numbered k (change_numbered n (fires_row row) js) ≡ Some i → WasFound k js i
   fired_was k js i e = of (k == n) refl where
     at_row : (o : Option ProcessJob) → job_numbered k js ≡ o → option_map (fires_row row) o ≡ Some i → k ≡ n → WasFound k js i
@@ -103,6 +100,7 @@ module _ (n row : ℕ) where
 
 -- ---- one is forgotten
 
+-- the numbers of the others rise
 pub numbered_without : (n last given : ℕ) (js : List ProcessJob) → AreNumbered last given js → AreNumbered last given (without_numbered n js)
 numbered_without n last given [] numbered = numbered
 numbered_without n last given (j ∷ js) numbered = of (j.number == n) (numbered_without n j.number given js numbered.1) where
@@ -120,6 +118,7 @@ without_else n k other (j ∷ js) = of (j.number == n) refl (without_else n k ot
 
 -- ---- one is created
 
+-- the numbers rise, with that of the new one
 pub numbered_more : (last given : ℕ) (k : ProcessJob) (js : List ProcessJob) → AreNumbered last given js → k.number ≡ given + 1 → AreNumbered last (given + 1) (js ++ k ∷ [])
 numbered_more last given k [] numbered e = (omega (arith, numbered, e), omega (arith, e))
 numbered_more last given k (j ∷ js) numbered e = (numbered.0, numbered_more j.number given k js numbered.1 e)

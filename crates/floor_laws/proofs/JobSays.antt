@@ -1,14 +1,12 @@
 -- What holds goes on where the process jobs, the jobs of substrates and the marks of carriers change.
-use Rattle.std.proofs.Common.{◌≡◌, ◌≤◌, ℕ, Bool, true, false, not, ◌&&◌, ◌||◌, if◌then◌else◌, List, [], ◌∷◌, map, find, Option, Some, None, option_map, refl, sym, ◌∙◌, ap, subst, arith}
-use Rattle.std.specs.List.{AllByRecursion, list_any}
+use Rattle.std.proofs.Common.{◌≡◌, ◌≤◌, ℕ, Bool, true, false, ◌||◌, if◌then◌else◌, List, [], ◌∷◌, map, find, Option, Some, None, option_map, refl, sym, ◌∙◌, ap, subst, arith}
+use Rattle.std.specs.List.{list_any}
 use Rattle.std.proofs.lemmas.Bool.{true≢false, or_left, or_right}
-use Rattle.gem_tables.specs.Table.{is_one_of}
 use Rattle.tool_events.specs.declared.recipes.Recipe.{Recipe}
 use Rattle.carrier.specs.declared.carrier.Carrier.{Carrier}
 use Rattle.carrier.specs.Record.{is_map_verified}
-use Rattle.carrier.specs.Carriers.{carrier_numbered}
 use Rattle.carrier.specs.Tables.{access_number}
-use Rattle.substrate.specs.Tables.{transport_number, processing_number}
+use Rattle.substrate.specs.Tables.{processing_number}
 use Rattle.process_job.specs.Jobs.{recipe_named}
 use Rattle.process_job.specs.declared.job.Material.{Material}
 use Rattle.process_job.specs.declared.job.ProcessJob.{ProcessJob}
@@ -19,7 +17,7 @@ use Rattle.tool_floor.specs.Jobs.{all_marked, job_of, names_carrier, is_any_of_c
 use Rattle.tool_floor.proofs.Marks.{marked_valid}
 use Rattle.floor_moves.specs.Floor as law
 use Rattle.floor_moves.specs.Floor.{arm, Task, pick, place, align, process, named, Command, busy, JobView, is_done}
-use Rattle.floor_moves.specs.Agree.{Agree, SayAlike}
+use Rattle.floor_moves.specs.Agree.{Agree}
 use Rattle.floor_moves.specs.Carriers.{with_jobs}
 use Rattle.floor_moves.specs.Valid.{Members, Valid, MaySay}
 use Rattle.floor_moves.proofs.Agreeing.{agree-keeps}
@@ -30,6 +28,8 @@ use Rattle.place_laws.specs.Sound.{IsOfJob, IsInItsJob, JobsSound, Base, Sound}
 use Rattle.place_laws.proofs.Holding.{found_among, true_of_found}
 use Rattle.place_laws.proofs.Leaving.{Leaves}
 use Rattle.place_laws.proofs.Stays.{stay-carried}
+use Rattle.picture_laws.proofs.Columns.{unknown_none}
+use Rattle.picture_laws.proofs.JobViews.{alike_same}
 use Rattle.floor_laws.proofs.JobSight.{some_same, none_some}
 use Rattle.floor_laws.proofs.JobChanges.{IsJobAlone, numbers_map, found_map, says_map, carried_map, registered_map, apart_map, rising_map, held_map, marked_leaves, marked_at_ports, marked_numbers, marked_says}
 
@@ -44,6 +44,7 @@ pub record IsMember (ts : List Substrate) (w : Jobs) (says : ProcessJob → Bool
   pub so : says job ≡ true
 
 module _ (ts : List Substrate) (w : Jobs) (n : ℕ) where
+  -- there is such a one
   pub member_tells : (says : ProcessJob → Bool) → of_one false (of_job false says w) (substrate_numbered n ts) ≡ true → IsMember ts w says n
   member_tells says e = of (substrate_numbered n ts) refl e where
     in_job : (s : Substrate) → substrate_numbered n ts ≡ Some s → (o : Option ProcessJob) → job_of s w ≡ o → of_one false says o ≡ true → IsMember ts w says n
@@ -66,17 +67,20 @@ any_found t u (y ∷ ys) x e is = of (t y) e (any_found t u ys x) where
   of true e rest = or_left (u y) (list_any u ys) (ap u (some_same y x e) ∙ is)
   of false e rest = or_right (u y) (list_any u ys) (rest e is)
 
+-- a number is 1
 abbrev IsOne : ℕ → Type 0
 IsOne k = k ≡ 1
 
 module _ (f : ToolFloor) (ms : List Material) (change : Substrate → Substrate) (alone : IsJobAlone change) (w : Jobs) where
-  -- the floor behind the change, and what its jobs say
+  -- the floor behind the change
   abbrev pub behind : ToolFloor
   behind = record f { shop = all_marked ms f.shop; substrates = map change f.substrates; jobs = w }
 
+  -- what its jobs say
   abbrev pub view : JobView
   view = job_view (map change f.substrates) (all_marked ms f.shop).carriers w
 
+  -- what holds besides the floor by numbers
   pub base_on : Base f → JobsSound behind → Base behind
   base_on b jobs = record {
     shop = marked_valid ms f.shop b.shop;
@@ -103,34 +107,19 @@ module _ (f : ToolFloor) (ms : List Material) (change : Substrate → Substrate)
     slot_of = λ n _. says_map change alone 0 (λ (s : Substrate). slot_in s.slot) (λ s. ap (λ (x : Substrate). slot_in x.slot) (alone s)) n f.substrates;
     place_of = λ n. refl;
     processing = λ n _. processing_same n;
-    unknown = λ n e one. let z : IsOne 0 = sym (ap (of_one 0 (λ (s : Substrate). processing_number s.states.processing)) (none_found n f.substrates e)) ∙ sym (processing_same n) ∙ one in omega (arith, z);
+    unknown = λ n e one. let z : IsOne 0 = sym (ap (of_one 0 (λ (s : Substrate). processing_number s.states.processing)) (unknown_none n f.substrates e)) ∙ sym (processing_same n) ∙ one in omega (arith, z);
     is_aligned = λ n _. says_map change alone false (λ (s : Substrate). s.aligned) (λ s. ap (λ (x : Substrate). x.aligned) (alone s)) n f.substrates;
     carriers = marked_numbers ms f.shop;
     present_at = λ c. marked_says None where_present (λ x. refl) ms f.shop c;
     is_verified = λ c _. marked_says false (λ (x : Carrier). is_map_verified x.states.map) (λ x. refl) ms f.shop c;
     access = λ c _. marked_says 0 (λ (x : Carrier). access_number x.states.access) (λ x. refl) ms f.shop c;
-    jobs = record {
-      is_member = λ n. refl;
-      may_start = λ n. refl;
-      is_stopping = λ n. refl;
-      is_aborting = λ n. refl;
-      is_complete = λ n. refl;
-      chambers_of = λ n. refl;
-      names_carrier = λ c p here. refl;
-      is_marked = λ c p here. refl;
-    };
+    jobs = alike_same _ _;
     chambers = refl;
     equipment = λ m. refl;
     next_command = refl;
   } where
     processing_same : (n : ℕ) → of_one 0 (λ (s : Substrate). processing_number s.states.processing) (substrate_numbered n (map change f.substrates)) ≡ of_one 0 (λ (s : Substrate). processing_number s.states.processing) (substrate_numbered n f.substrates)
     processing_same n = says_map change alone 0 (λ (s : Substrate). processing_number s.states.processing) (λ s. ap (λ (x : Substrate). processing_number x.states.processing) (alone s)) n f.substrates
-
-    none_found : (n : ℕ) (ss : List Substrate) → is_one_of (map number_of ss) n ≡ false → substrate_numbered n ss ≡ None
-    none_found n ss e = of (substrate_numbered n ss) refl where
-      of : (o : Option Substrate) → substrate_numbered n ss ≡ o → o ≡ None
-      of None q = refl
-      of (Some s) q = absurd (true≢false (sym (found_among number_of n ss s q) ∙ e))
 
   -- ---- when it may be so
 
@@ -150,6 +139,7 @@ module _ (f : ToolFloor) (ms : List Material) (change : Substrate → Substrate)
       of None q e = none_some t e
       of (Some s) q e = (s, q, some_same (change s) t e)
 
+    -- one that is kept is found behind the change
     found_behind : (n : ℕ) (s : Substrate) → substrate_numbered n f.substrates ≡ Some s → substrate_numbered n (map change f.substrates) ≡ Some (change s)
     found_behind n s e = found_map change alone n f.substrates ∙ ap (option_map change) e
 
@@ -179,6 +169,7 @@ module _ (f : ToolFloor) (ms : List Material) (change : Substrate → Substrate)
       of (align n) is = outside_not_done (picture f) n (ap law.is_outside (v.commands.aligns m n c e is).stands)
       of (process n) is = outside_not_done (picture f) n (ap law.is_outside (v.commands.processes m n c e is).2)
 
+    -- what the jobs say is right
     right : Members (with_jobs view (picture f))
     right = record {
       outside = λ n out. member_on n (outside_not_done (picture f) n out) (v.members.outside n out);
@@ -210,6 +201,7 @@ module _ (f : ToolFloor) (ms : List Material) (change : Substrate → Substrate)
       over : (n : ℕ) → IsMember (map change f.substrates) w (λ j. is_complete j.states.state) n → is_done n (picture f) ≡ true
       over n m = let s = before n m.one m.found in goes.over n s.0 m.job s.1 (ap (λ (x : Substrate). job_of x w) s.2 ∙ m.its) m.so
 
+    -- and the recipes of those on the arm or named stay
     may_say : MaySay view (picture f)
     may_say = record {
       right = right;
@@ -217,8 +209,10 @@ module _ (f : ToolFloor) (ms : List Material) (change : Substrate → Substrate)
       named_same = λ m c e. chambers_on (named c.task) (named_left m c e) (v.members.named m c e);
     }
 
+    -- so it holds by numbers
     valid_on : Valid (picture behind)
     valid_on = agree-keeps (with_jobs view (picture f)) (picture behind) agree_on (jobs_say-keeps (picture f) view may_say v)
 
+  -- and all holds
   pub sound_on : Sound f → JobsSound behind → GoesOn → Sound behind
   sound_on s jobs goes = record { base = base_on s.base jobs; ports = marked_at_ports ms f.shop s.ports; valid = valid_on s.valid jobs goes }

@@ -1,7 +1,7 @@
 -- What is said of a substrate by its name is said of it by its number.
-use Rattle.std.proofs.Common.{◌≡◌, ◌≤◌, ℕ, zero, suc, ◌==◌, Bool, true, false, not, ◌&&◌, ◌||◌, if◌then◌else◌, List, [], ◌∷◌, find, map, Option, Some, None, option_map, is_some, refl, sym, ◌∙◌, ap, subst, ◌⊎◌, inl, inr, arith}
+use Rattle.std.proofs.Common.{◌≡◌, ℕ, zero, suc, ◌==◌, Bool, true, false, not, ◌||◌, if◌then◌else◌, List, [], ◌∷◌, find, map, Option, Some, None, option_map, is_some, refl, sym, ◌∙◌, ap, subst}
 use Rattle.std.specs.List.{AllByRecursion, list_any}
-use Rattle.std.proofs.lemmas.Bool.{true≢false, and_parts, cases_Bool}
+use Rattle.std.proofs.lemmas.Bool.{true≢false, and_parts}
 use Rattle.std.proofs.lemmas.Bool.Decides.{Decides-eqb}
 use Rattle.std.proofs.lemmas.Slice.Eq.{bytes_eq-Decides}
 use Rattle.gem_tables.specs.Table.{is_one_of}
@@ -9,29 +9,23 @@ use Rattle.gem_ids.specs.declared.numbers.LocId.{LocId}
 use Rattle.gem_ids.specs.declared.numbers.LocId.TheVariants.{Slot, Aligner, Arm, Chamber}
 use Rattle.gem_ids.specs.declared.numbers.PortNo.{PortNo}
 use Rattle.gem_ids.specs.declared.numbers.SlotNo.{SlotNo}
-use Rattle.tool_events.specs.declared.answer.Task.{Task as ToolTask}
-use Rattle.tool_events.specs.declared.answer.Task.TheVariants as task
 use Rattle.robot_moves.specs.declared.module.Module.{Module as ToolModule}
-use Rattle.robot_moves.specs.declared.module.Module.TheVariants.{Idle, Busy, Down}
 use Rattle.robot_moves.specs.Modules.{module_at}
 use Rattle.carrier.specs.declared.carrier.Carrier.{Carrier}
 use Rattle.carrier.specs.Carriers.{carrier_numbered}
-use Rattle.shop_floor.proofs.Apart.{IsOnly, found_only, found_passes, has_its_name}
+use Rattle.shop_floor.proofs.Apart.{all_follows, IsOnly, found_only, has_its_name}
 use Rattle.substrate.specs.Locations.{is_same, is_work_place}
-use Rattle.substrate.specs.Places.{PlaceMap, has_name, substrate_named, is_there, stands_at}
+use Rattle.substrate.specs.Places.{has_name, substrate_named, is_there}
 use Rattle.substrate.specs.declared.registered.Registered.{Registered}
 use Rattle.tool_floor.specs.declared.tracking.Substrate.{Substrate}
 use Rattle.tool_floor.specs.Floor.{ToolFloor, substrate_numbered, number_of}
-use Rattle.tool_floor.specs.Modules.{number_named}
-use Rattle.tool_floor.specs.Naming.{named_by, module_names, processes, task_processes}
 use Rattle.tool_floor.specs.Substrates.{is_at_work, is_outside, is_in_slot, is_removed}
 use Rattle.floor_moves.specs.Floor as law
 use Rattle.floor_moves.specs.Floor.{Loc, slot, Command, busy, idle, down, named, own}
-use Rattle.floor_moves.specs.Valid.{Valid}
-use Rattle.place_laws.specs.Picture.{picture, loc_of, numbered, number_or_none, task_of, module_of}
-use Rattle.place_laws.specs.Standing.{IsCarried, IsOf}
+use Rattle.place_laws.specs.Picture.{picture, loc_of}
+use Rattle.place_laws.specs.Standing.{IsCarried}
 use Rattle.place_laws.specs.Sound.{IsOfKept, Base}
-use Rattle.place_laws.proofs.Holding.{one_found, found_number, found_among, true_of_found, none_before, one_of_slot, own_place}
+use Rattle.place_laws.proofs.Holding.{found_number, found_among, true_of_found, one_of_slot, own_place}
 use Rattle.place_laws.proofs.SlotNames.{slot_of_name}
 
 -- ---- lists
@@ -40,6 +34,7 @@ use Rattle.place_laws.proofs.SlotNames.{slot_of_name}
 pub some_same : {A : Type 0} (x y : A) → Some x ≡ Some y → x ≡ y
 some_same x y e = cc
 
+-- none is no one
 pub none_some : {A P : Type 0} (x : A) → None ≡ Some x → P
 none_some x e = absurd (cc)
 
@@ -47,11 +42,6 @@ none_some x e = absurd (cc)
 pub find_alike : {A : Type 0} (t u : A → Bool) (xs : List A) → AllByRecursion (λ x. t x ≡ u x) xs → find t xs ≡ find u xs
 find_alike t u [] all = refl
 find_alike t u (x ∷ xs) all = ap (λ b. if b then Some x else find t xs) all.0 ∙ ap (λ o. if u x then Some x else o) (find_alike t u xs all.1)
-
--- what follows for each of a list
-pub each_follows : {A : Type 0} (P Q : A → Type 0) (xs : List A) → ((x : A) → P x → Q x) → AllByRecursion P xs → AllByRecursion Q xs
-each_follows P Q [] next all = tt
-each_follows P Q (x ∷ xs) next all = (next x all.0, each_follows P Q xs next all.1)
 
 -- what is true of each is true of one that is found
 pub each_found : {A : Type 0} (P : A → Type 0) (t : A → Bool) (xs : List A) (x : A) → AllByRecursion P xs → find t xs ≡ Some x → P x
@@ -63,6 +53,7 @@ each_found P t (y ∷ ys) x all e = of (t y) e (each_found P t ys x all.1) where
 
 -- a module that passes a test is at a number
 module _ (t : ToolModule → Bool) where
+  -- where one at a number passes, some do
   pub any_at : (xs : List ToolModule) (m : ℕ) (x : ToolModule) → module_at m xs ≡ Some x → t x ≡ true → list_any t xs ≡ true
   any_at xs zero x e is = none_some x e
   any_at [] (suc zero) x e is = none_some x e
@@ -73,6 +64,7 @@ module _ (t : ToolModule → Bool) where
     of true r = refl
     of false r = r
 
+  -- where some pass, one at a number does
   pub any_there : (xs : List ToolModule) → list_any t xs ≡ true → (m : ℕ) × (x : ToolModule) × (module_at m xs ≡ Some x) × (t x ≡ true)
   any_there [] e = absurd (true≢false (sym e))
   any_there (y ∷ ys) e = of (t y) refl e (any_there ys) where
@@ -120,9 +112,11 @@ module _ (f : ToolFloor) (b : Base f) where
 -- ---- the substrate of a number
 
 module _ (f : ToolFloor) (b : Base f) (n : ℕ) (s : Substrate) (found : substrate_numbered n f.substrates ≡ Some s) where
+  -- it has the number
   pub number_is : s.number ≡ n
   number_is = found_number number_of n f.substrates s found
 
+  -- the number is one of those that are kept
   pub kept_here : is_one_of (map number_of f.substrates) n ≡ true
   kept_here = found_among number_of n f.substrates s found
 
@@ -146,7 +140,7 @@ module _ (f : ToolFloor) (b : Base f) (n : ℕ) (s : Substrate) (found : substra
 
   -- by its number it is found where it is by its name
   pub found_alike : find (λ (r : Registered). r.number == n) f.places.held ≡ substrate_named s.sub f.places.held
-  found_alike = find_alike (λ (r : Registered). r.number == n) (has_name s.sub) f.places.held (each_follows (IsOfKept f.substrates) (λ (r : Registered). (r.number == n) ≡ has_name s.sub r) f.places.held same_test b.held)
+  found_alike = find_alike (λ (r : Registered). r.number == n) (has_name s.sub) f.places.held (all_follows (IsOfKept f.substrates) (λ (r : Registered). (r.number == n) ≡ has_name s.sub r) f.places.held same_test b.held)
 
   -- its place
   pub place_is : (picture f).place_of n ≡ option_map (λ (r : Registered). loc_of r.at) (substrate_named s.sub f.places.held)
@@ -172,6 +166,7 @@ module _ (f : ToolFloor) (b : Base f) (n : ℕ) (s : Substrate) (found : substra
     of None q = refl
     of (Some r) q = absurd (true≢false (sym e ∙ ap (λ (o : Option Registered). not (is_some o)) q))
 
+  -- and one without a place is removed
   pub removed_from : (picture f).place_of n ≡ None → is_removed s f.places ≡ true
   removed_from e = of (substrate_named s.sub f.places.held) refl where
     of : (o : Option Registered) → substrate_named s.sub f.places.held ≡ o → is_removed s f.places ≡ true
@@ -182,6 +177,7 @@ module _ (f : ToolFloor) (b : Base f) (n : ℕ) (s : Substrate) (found : substra
   its_own : IsCarried f.shop.carriers s
   its_own = true_of_found number_of n (IsCarried f.shop.carriers) f.substrates s b.carried found
 
+  -- its own place is its slot
   pub own_is : own n (picture f) ≡ loc_of s.slot
   own_is = own_place f n (record { one = s; found = found; its = its_own.0; known = its_own.1; of = its_own.2 })
 
@@ -212,6 +208,7 @@ module _ (f : ToolFloor) (b : Base f) (n : ℕ) (s : Substrate) (found : substra
     of None e = absurd (true≢false (sym e))
     of (Some r) e = ap (λ (l : Loc). Some l) (same_place r.at s.slot e)
 
+  -- and one there is in its slot
   pub in_slot_from : (picture f).place_of n ≡ Some (own n (picture f)) → is_in_slot s f.places ≡ true
   in_slot_from e = of (substrate_named s.sub f.places.held) (sym place_is ∙ e ∙ ap (λ (l : Loc). Some l) (own_is ∙ ap loc_of its_own.2.own)) where
     same_slot : (l : LocId) → loc_of l ≡ loc_of (Slot its_own.2.port its_own.2.slot) → is_same l (Slot its_own.2.port its_own.2.slot) ≡ true
@@ -245,71 +242,3 @@ module _ (f : ToolFloor) (b : Base f) (n : ℕ) (s : Substrate) (found : substra
     of (Some r) q =
         let there : is_there s.slot (Some r) ≡ true = or_false (is_there s.slot (Some r)) (sym (ap (λ (o : Option Registered). is_there s.slot o || not (is_some o)) q) ∙ e) in
         ap is_at_work q ∙ slot_apart r.at (sym (ap (is_same r.at) its_own.2.own) ∙ there)
-
-  -- ---- its name in open commands
-
-  -- a name that has its number is its name
-  pub name_of_number : (sub : List ℕ) → numbered sub f.places ≡ n → sub ≡ s.sub
-  name_of_number sub e = of (substrate_named sub f.places.held) refl where
-    of : (o : Option Registered) → substrate_named sub f.places.held ≡ o → sub ≡ s.sub
-    of None q =
-        let zero_is : 0 ≡ n = sym (ap (λ (o : Option Registered). number_or_none (option_map (λ (r : Registered). r.number) o)) q) ∙ e in
-        let none = none_before 0 f.places.given f.substrates n b.rising (omega (arith, zero_is)) in
-        absurd (true≢false (sym kept_here ∙ none))
-    of (Some r) q =
-        let number : r.number ≡ n = sym (ap (λ (o : Option Registered). number_or_none (option_map (λ (r : Registered). r.number) o)) q) ∙ e in
-        let k = each_found (IsOfKept f.substrates) (has_name sub) f.places.held r b.held q in
-        let there : substrate_numbered n f.substrates ≡ Some k.0 = subst (λ (m : ℕ). substrate_numbered m f.substrates ≡ Some k.0) number k.1 in
-        let one : s ≡ k.0 = some_same s k.0 (sym found ∙ there) in
-        sym ((bytes_eq-Decides r.sub sub).0 (found_passes (has_name sub) f.places.held r q)) ∙ sym k.2 ∙ ap (λ (x : Substrate). x.sub) (sym one)
-
-  -- its name has its number, where it has a place
-  number_of_name : (r : Registered) → substrate_named s.sub f.places.held ≡ Some r → numbered s.sub f.places ≡ n
-  number_of_name r e =
-      ap (λ (o : Option Registered). number_or_none (option_map (λ (r : Registered). r.number) o)) e
-      ∙ (Decides-eqb r.number n).0 (found_passes (λ (r : Registered). r.number == n) f.places.held r (found_alike ∙ e))
-
-  -- the name of a task
-  task_name : (t : ToolTask) → named (task_of t f.places) ≡ numbered (named_by t) f.places
-  task_name (task.Pick sub from) = refl
-  task_name (task.Place sub to) = refl
-  task_name (task.Align sub) = refl
-  task_name (task.Process sub recipe) = refl
-
-  -- an open command that names it does so by its name
-  pub named_tells : (m : ℕ) (c : Command) → (picture f).equipment m ≡ busy c → named c.task ≡ n → list_any (module_names s.sub) f.modules ≡ true
-  named_tells m c e its = of (module_at m f.modules) refl e where
-    of : (o : Option ToolModule) → module_at m f.modules ≡ o → module_of o f.places ≡ busy c → list_any (module_names s.sub) f.modules ≡ true
-    of None q e = absurd (cc)
-    of (Some Idle) q e = absurd (cc)
-    of (Some (Busy command fetched)) q e =
-        let tasks : task_of command.task f.places ≡ c.task = ap (λ (c : Command). c.task) (busy_same e) in
-        let number : numbered (named_by command.task) f.places ≡ n = sym (task_name command.task) ∙ ap named tasks ∙ its in
-        any_at (module_names s.sub) f.modules m (Busy command fetched) q ((bytes_eq-Decides (named_by command.task) s.sub).1 (name_of_number (named_by command.task) number))
-      where
-        busy_same : {c d : Command} → busy c ≡ busy d → c ≡ d
-        busy_same e = cc
-    of (Some Down) q e = absurd (cc)
-
-  -- the number of its name is its number where an open command has it
-  pub number_of_command : Valid (picture f) → (m : ℕ) (c : Command) → (picture f).equipment m ≡ busy c → named c.task ≡ numbered s.sub f.places → numbered s.sub f.places ≡ n
-  number_of_command v m c is its = of (substrate_named s.sub f.places.held) refl where
-    of : (o : Option Registered) → substrate_named s.sub f.places.held ≡ o → numbered s.sub f.places ≡ n
-    of None q =
-        let zero_is : named c.task ≡ 0 = its ∙ ap (λ (o : Option Registered). number_or_none (option_map (λ (r : Registered). r.number) o)) q in
-        let known = v.members.kept (named c.task) (v.members.named m c is) in
-        let none = none_before 0 f.places.given f.substrates (named c.task) b.rising (omega (arith, zero_is)) in
-        absurd (true≢false (sym known ∙ none))
-    of (Some r) q = number_of_name r q
-
-  -- one that a module names by its name has a place, so an open command names it
-  pub named_from : Valid (picture f) → list_any (module_names s.sub) f.modules ≡ true → (m : ℕ) × (c : Command) × ((picture f).equipment m ≡ busy c) × (named c.task ≡ n)
-  named_from v e = let w = any_there (module_names s.sub) f.modules e in of w.0 w.1 w.2 w.3 where
-    of : (m : ℕ) (x : ToolModule) → module_at m f.modules ≡ Some x → module_names s.sub x ≡ true → (m : ℕ) × (c : Command) × ((picture f).equipment m ≡ busy c) × (named c.task ≡ n)
-    of m Idle q t = absurd (true≢false (sym t))
-    of m (Busy command fetched) q t =
-        let c : Command = record { number = command.number.0; task = task_of command.task f.places } in
-        let is : (picture f).equipment m ≡ busy c = ap (λ (o : Option ToolModule). module_of o f.places) q in
-        let its : named c.task ≡ numbered s.sub f.places = task_name command.task ∙ ap (λ (sub : List ℕ). numbered sub f.places) ((bytes_eq-Decides (named_by command.task) s.sub).0 t) in
-        (m, c, is, its ∙ number_of_command v m c is its)
-    of m Down q t = absurd (true≢false (sym t))

@@ -1,10 +1,10 @@
 -- The states of a process job behind the rows of its table.
-use Rattle.std.proofs.Common.{◌≡◌, ℕ, ◌==◌, Bool, true, false, ◌&&◌, ◌||◌, if◌then◌else◌, List, [], ◌∷◌, refl, sym, ◌∙◌, ap, ◌⊎◌, inl, inr}
+use Rattle.std.proofs.Common.{◌≡◌, ℕ, ◌==◌, Bool, true, false, ◌&&◌, if◌then◌else◌, List, [], ◌∷◌, refl, sym, ◌∙◌, ap, ◌⊎◌, inl, inr}
 use Rattle.std.specs.List.{AllByRecursion}
 use Rattle.std.proofs.lemmas.Bool.{true≢false, and_parts}
 use Rattle.std.proofs.lemmas.Bool.Decides.{Decides-eqb}
 use Rattle.gem_tables.specs.Table.{Row, is_among, row_starts, after}
-use Rattle.process_job.specs.Tables.{JobRow, job_table, job_number}
+use Rattle.process_job.specs.Tables.{job_table, job_number}
 use Rattle.process_job.specs.declared.record.JobState.{JobState}
 use Rattle.process_job.specs.declared.record.JobState.TheVariants.{Queued, SettingUp, WaitingForStart, Processing, Complete, Pausing, Paused, Stopping, Aborting}
 use Rattle.place_laws.specs.Picture.{is_complete}
@@ -48,8 +48,46 @@ pub after_begun : (row : ℕ) (s : JobState) → is_queued s ≡ false → is_qu
 after_begun row s begun =
     after_so (λ (x : JobState). is_queued x ≡ false) job_number job_table row s begun (
       (λ number among. absurd (true≢false (sym among))),
-      ((λ number among. refl), ((λ number among. refl), ((λ number among. refl), ((λ number among. refl), ((λ number among. refl), ((λ number among. refl), ((λ number among. refl), ((λ number among. refl), ((λ number among. refl), ((λ number among. refl), ((λ number among. refl), ((λ number among. refl), ((λ number among. refl),
-      ((λ number among. not_queued among), ((λ number among. not_queued among), ((λ number among. refl), ((λ number among. refl), tt))))))))))))))))),
+      (
+        (λ number among. refl),
+        (
+          (λ number among. refl),
+          (
+            (λ number among. refl),
+            (
+              (λ number among. refl),
+              (
+                (λ number among. refl),
+                (
+                  (λ number among. refl),
+                  (
+                    (λ number among. refl),
+                    (
+                      (λ number among. refl),
+                      (
+                        (λ number among. refl),
+                        (
+                          (λ number among. refl),
+                          (
+                            (λ number among. refl),
+                            (
+                              (λ number among. refl),
+                              (
+                                (λ number among. refl),
+                                ((λ number among. not_queued among), ((λ number among. not_queued among), ((λ number among. refl), ((λ number among. refl), tt)))),
+                              ),
+                            ),
+                          ),
+                        ),
+                      ),
+                    ),
+                  ),
+                ),
+              ),
+            ),
+          ),
+        ),
+      ),
     )
   where
     not_queued : is_among job_number (Queued ∷ []) s ≡ true → is_queued Queued ≡ false
@@ -60,9 +98,25 @@ pub after_complete : (row : ℕ) (s : JobState) → is_complete (after job_numbe
 after_complete row s =
     after_so (λ (x : JobState). is_complete x ≡ true → (is_complete s ≡ true) ⊎ (row ≡ 6)) job_number job_table row s inl (
       (λ number among e. absurd (true≢false (sym e))),
-      ((λ number among e. absurd (true≢false (sym e))), ((λ number among e. absurd (true≢false (sym e))), ((λ number among e. absurd (true≢false (sym e))), ((λ number among e. absurd (true≢false (sym e))),
-      ((λ number among e. inr (sym number)), ((λ number among e. inl (complete_tells s among)),
-      ((λ number among e. absurd (true≢false (sym e))), ((λ number among e. absurd (true≢false (sym e))), ((λ number among e. absurd (true≢false (sym e))), ((λ number among e. absurd (true≢false (sym e))), ((λ number among e. absurd (true≢false (sym e))), ((λ number among e. absurd (true≢false (sym e))), ((λ number among e. absurd (true≢false (sym e))), ((λ number among e. absurd (true≢false (sym e))), ((λ number among e. absurd (true≢false (sym e))), ((λ number among e. absurd (true≢false (sym e))), ((λ number among e. absurd (true≢false (sym e))), tt))))))))))))))))),
+      (
+        (λ number among e. absurd (true≢false (sym e))),
+        (
+          (λ number among e. absurd (true≢false (sym e))),
+          (
+            (λ number among e. absurd (true≢false (sym e))),
+            (
+              (λ number among e. absurd (true≢false (sym e))),
+              (
+                (λ number among e. inr (sym number)),
+                (
+                  (λ number among e. inl (complete_tells s among)),
+                  ((λ number among e. absurd (true≢false (sym e))), ((λ number among e. absurd (true≢false (sym e))), ((λ number among e. absurd (true≢false (sym e))), ((λ number among e. absurd (true≢false (sym e))), ((λ number among e. absurd (true≢false (sym e))), ((λ number among e. absurd (true≢false (sym e))), ((λ number among e. absurd (true≢false (sym e))), ((λ number among e. absurd (true≢false (sym e))), ((λ number among e. absurd (true≢false (sym e))), ((λ number among e. absurd (true≢false (sym e))), ((λ number among e. absurd (true≢false (sym e))), tt))))))))))),
+                ),
+              ),
+            ),
+          ),
+        ),
+      ),
     )
 
 -- one that is QUEUED is set up behind the row that makes members

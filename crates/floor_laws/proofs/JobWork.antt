@@ -1,5 +1,5 @@
 -- What is said of the work at a substrate by its name is said of it by its number.
-use Rattle.std.proofs.Common.{◌≡◌, ℕ, ◌==◌, Bool, true, false, not, ◌&&◌, ◌||◌, List, Option, Some, None, refl, sym, ◌∙◌, ap}
+use Rattle.std.proofs.Common.{◌≡◌, ℕ, true, not, ◌&&◌, ◌||◌, List, Option, Some, None, refl, sym, ◌∙◌, ap}
 use Rattle.std.specs.List.{list_any}
 use Rattle.std.proofs.lemmas.Bool.{true≢false, and_parts, and_from}
 use Rattle.std.proofs.lemmas.Slice.Eq.{bytes_eq-Decides}
@@ -14,14 +14,15 @@ use Rattle.substrate.specs.declared.record.Processing.{Processing}
 use Rattle.substrate.specs.declared.record.Processing.TheVariants as processing
 use Rattle.tool_floor.specs.declared.tracking.Substrate.{Substrate}
 use Rattle.tool_floor.specs.Floor.{ToolFloor, substrate_numbered}
-use Rattle.tool_floor.specs.Naming.{module_names, processes, task_processes}
+use Rattle.tool_floor.specs.Naming.{processes, task_processes}
 use Rattle.tool_floor.specs.Substrates.{is_in_slot, is_removed}
 use Rattle.floor_moves.specs.Floor as law
 use Rattle.floor_moves.specs.Floor.{Command, Task, busy, process, named, is_done}
-use Rattle.floor_moves.specs.Valid.{Valid, IsProcessed}
+use Rattle.floor_moves.specs.Valid.{Members, IsProcessed}
 use Rattle.place_laws.specs.Picture.{picture, numbered, task_of, module_of, of_one}
 use Rattle.place_laws.specs.Sound.{Base}
-use Rattle.floor_laws.proofs.JobSight.{any_at, any_there, name_of_number, number_of_command, back_tells}
+use Rattle.floor_laws.proofs.JobSight.{any_at, any_there, back_tells}
+use Rattle.floor_laws.proofs.JobNamed.{name_of_number, number_of_command}
 
 -- a state is finished by its number
 pub finished_number : (p : Processing) → law.is_finished (processing_number p) ≡ is_finished p
@@ -47,7 +48,8 @@ module _ (f : ToolFloor) (b : Base f) (n : ℕ) (s : Substrate) (found : substra
 
   -- ---- an open Process names it
 
-  pub processed_from : Valid (picture f) → list_any (processes s.sub) f.modules ≡ true → IsProcessed n (picture f)
+  -- a module that processes it by its name has an open Process that names it
+  pub processed_from : Members (picture f) → list_any (processes s.sub) f.modules ≡ true → IsProcessed n (picture f)
   processed_from v e = let w = any_there (processes s.sub) f.modules e in of w.0 w.1 w.2 w.3 where
     task_is : (m : ℕ) (c : Command) → (picture f).equipment m ≡ busy c → (t : ToolTask) → c.task ≡ task_of t f.places → task_processes s.sub t ≡ true → (c.task ≡ process (numbered s.sub f.places))
     task_is m c is (task.Pick sub from) its e = absurd (true≢false (sym e))
@@ -68,6 +70,7 @@ module _ (f : ToolFloor) (b : Base f) (n : ℕ) (s : Substrate) (found : substra
         let its = task_is m c is command.task refl t in
         (m, c, is, its ∙ ap process (number m c is (ap named its)))
 
+  -- and the other way round
   pub processed_tells : IsProcessed n (picture f) → list_any (processes s.sub) f.modules ≡ true
   processed_tells w = of w.0 w.1 (module_at w.0 f.modules) refl w.2 w.3 where
     busy_same : (c d : Command) → busy c ≡ busy d → c ≡ d

@@ -1,4 +1,5 @@
 pub mod JobSight
+pub mod JobNamed
 pub mod JobWork
 pub mod JobChanges
 pub mod JobSays

@@ -24,3 +24,15 @@ pub mod GrowTransfer
 pub mod OpenCommands
 pub mod OpenRows
 pub mod OpenClosed
+pub mod JobSight
+pub mod JobNamed
+pub mod JobWork
+pub mod JobChanges
+pub mod JobSays
+pub mod JobLists
+pub mod JobStates
+pub mod JobFires
+pub mod JobEnds
+pub mod JobJoins
+pub mod JobCreated
+pub mod JobProcess

@@ -1,1 +1,2 @@
 pub mod EndBase
+pub mod EndNames

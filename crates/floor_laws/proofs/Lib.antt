@@ -1,2 +1,3 @@
 pub mod EndBase
 pub mod EndNames
+pub mod EndOpen

@@ -1,3 +1,4 @@
 pub mod EndBase
 pub mod EndNames
 pub mod EndOpen
+pub mod EndRows

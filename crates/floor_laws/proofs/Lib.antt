@@ -2,3 +2,4 @@ pub mod EndBase
 pub mod EndNames
 pub mod EndOpen
 pub mod EndRows
+pub mod EndLost

@@ -3,3 +3,4 @@ pub mod EndNames
 pub mod EndOpen
 pub mod EndRows
 pub mod EndLost
+pub mod EndPlaces

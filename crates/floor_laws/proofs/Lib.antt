@@ -4,3 +4,4 @@ pub mod EndOpen
 pub mod EndRows
 pub mod EndLost
 pub mod EndPlaces
+pub mod EndMoves

@@ -5,3 +5,4 @@ pub mod EndRows
 pub mod EndLost
 pub mod EndPlaces
 pub mod EndMoves
+pub mod EndAnswers

@@ -6,3 +6,4 @@ pub mod EndLost
 pub mod EndPlaces
 pub mod EndMoves
 pub mod EndAnswers
+pub mod EndBut

@@ -1,8 +1,7 @@
 -- The rows of table 16 by which commands end, and modules go down and come up, keep what holds; behind a Process that ended the row of its
 -- substrate follows.
-use Rattle.std.proofs.Common.{◌≡◌, ◌⊎◌, inl, inr, ℕ, ◌==◌, Bool, true, false, ◌&&◌, ◌||◌, if◌then◌else◌, List, [], ◌∷◌, map, Option, Some, None, option_map, refl, sym, ◌∙◌, ap, subst, arith}
-use Rattle.std.proofs.lemmas.Bool.Decides.{Decides-eqb}
-use Rattle.gem_tables.specs.Table.{firing, after, is_one_of, is_among}
+use Rattle.std.proofs.Common.{◌≡◌, ◌⊎◌, inl, inr, ℕ, Bool, true, List, [], ◌∷◌, Option, Some, None, option_map, refl, sym, ◌∙◌, ap}
+use Rattle.gem_tables.specs.Table.{firing, is_one_of}
 use Rattle.gem_tables.proofs.Rows.{one_of_cases}
 use Rattle.tool_events.specs.declared.answer.Command.{Command as ToolCommand}
 use Rattle.tool_events.specs.declared.answer.Task.{Task as ToolTask}
@@ -10,37 +9,26 @@ use Rattle.tool_events.specs.declared.answer.Task.TheVariants as task
 use Rattle.robot_moves.specs.declared.module.Module.{Module as ToolModule}
 use Rattle.robot_moves.specs.declared.module.Module.TheVariants.{Idle, Busy, Down}
 use Rattle.robot_moves.specs.declared.view.Move.{Move}
-use Rattle.robot_moves.specs.Modules.{module_at, change_module, taken}
+use Rattle.robot_moves.specs.Modules.{module_at, change_module}
 use Rattle.substrate.specs.Places.{substrate_named}
-use Rattle.substrate.specs.Tables.{processing_number, processing_table}
-use Rattle.substrate.specs.declared.record.Processing.{Processing}
-use Rattle.substrate.specs.declared.record.Processing.TheVariants as processing
 use Rattle.substrate.specs.declared.registered.Registered.{Registered}
-use Rattle.tool_floor.specs.declared.tracking.Substrate.{Substrate}
-use Rattle.tool_floor.specs.Floor.{ToolFloor, with_module, fetched as fetched_at, substrate_numbered, number_of}
-use Rattle.tool_floor.specs.Machines.{substrate_starts, substrate_moves, with_moved, floor_starts, floor_fired}
+use Rattle.tool_floor.specs.Floor.{ToolFloor, with_module}
+use Rattle.tool_floor.specs.Machines.{floor_starts, floor_fired}
 use Rattle.tool_floor.specs.Modules.{is_transfer, is_align, module_behind, move_starts, number_named}
 use Rattle.tool_floor.specs.Naming.{named_by}
 use Rattle.tool_floor.specs.Views.{planned}
-use Rattle.floor_moves.specs.Floor.{Task, process, Command, Module, busy, idle, down, Floor, is_finished}
+use Rattle.floor_moves.specs.Floor.{process, Command, Module, busy, idle, down, Floor}
 use Rattle.floor_moves.specs.Effects.{turned}
-use Rattle.floor_moves.specs.Agree.{Agree}
-use Rattle.floor_moves.specs.Valid.{Valid, ValidBut}
+use Rattle.floor_moves.specs.Valid.{ValidBut}
 use Rattle.floor_moves.proofs.Agreeing.{agree-keeps}
 use Rattle.floor_moves.proofs.Issuing.{turned-keeps}
-use Rattle.floor_moves.proofs.Done.{closed-but, but_finished, but_left_out}
-use Rattle.place_laws.specs.Picture.{picture, numbered, task_of, module_of, of_one}
-use Rattle.place_laws.specs.Sound.{Base, Sound, SoundBut}
-use Rattle.picture_laws.proofs.JobViews.{alike_same}
-use Rattle.picture_laws.proofs.Columns.{unknown_none}
+use Rattle.floor_moves.proofs.Done.{closed-but}
+use Rattle.place_laws.specs.Picture.{picture, numbered, task_of, module_of}
+use Rattle.place_laws.specs.Sound.{Sound, SoundBut}
 use Rattle.picture_laws.proofs.Closing.{closing_agrees, modules_behind}
-use Rattle.picture_laws.proofs.Issuing.{changed_there, changed_else}
-use Rattle.picture_laws.proofs.Rows.{processing_agrees}
-use Rattle.floor_laws.proofs.EndBase.{changed_base}
 use Rattle.floor_laws.proofs.EndNames.{number_there}
 use Rattle.floor_laws.proofs.EndOpen.{command_of, busy_at, command_placed}
 use Rattle.floor_laws.proofs.EndPlaces.{module_base}
-use Rattle.floor_laws.proofs.EndRows.{moves_leaves}
 use Rattle.floor_laws.proofs.EndMoves.{pick_sound, place_sound, align_sound}
 
 -- ---- a module that had no Process open

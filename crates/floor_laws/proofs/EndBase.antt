@@ -1,5 +1,5 @@
 -- What holds besides ports and numbers is kept where one substrate changes in what none of it looks at.
-use Rattle.std.proofs.Common.{◌≡◌, ◌≤◌, ℕ, ◌+◌, ◌==◌, Bool, true, false, ◌&&◌, ◌||◌, if◌then◌else◌, List, [], ◌∷◌, Option, Some, None, option_map, refl, sym, ◌∙◌, ap, subst}
+use Rattle.std.proofs.Common.{◌≡◌, ◌≤◌, ℕ, ◌+◌, ◌==◌, Bool, true, false, ◌&&◌, ◌||◌, if◌then◌else◌, List, [], ◌∷◌, Some, option_map, refl, sym, ◌∙◌, ap, subst}
 use Rattle.std.specs.List.{AllByRecursion, list_any}
 use Rattle.std.specs.Str.{bytes_eq}
 use Rattle.std.proofs.lemmas.Bool.Decides.{Decides-eqb}
@@ -10,14 +10,12 @@ use Rattle.shop_floor.proofs.Apart.{all_follows}
 use Rattle.substrate.specs.Locations.{is_same}
 use Rattle.substrate.specs.declared.registered.Registered.{Registered}
 use Rattle.process_job.specs.Jobs.{job_numbered}
-use Rattle.process_job.specs.declared.job.ProcessJob.{ProcessJob}
 use Rattle.tool_jobs.specs.Jobs.{Jobs}
 use Rattle.tool_floor.specs.declared.tracking.Substrate.{Substrate}
 use Rattle.tool_floor.specs.Floor.{ToolFloor, substrate_numbered, change_numbered}
 use Rattle.tool_floor.specs.Kept.{RiseTo}
-use Rattle.tool_floor.specs.Jobs.{names_carrier}
-use Rattle.place_laws.specs.Standing.{IsOf, IsCarried, AreApart, AreRegistered}
-use Rattle.place_laws.specs.Sound.{IsOfKept, is_queued, IsOfJob, IsInItsJob, JobsSound, Base}
+use Rattle.place_laws.specs.Standing.{IsCarried, AreApart, AreRegistered}
+use Rattle.place_laws.specs.Sound.{IsOfKept, IsInItsJob, JobsSound, Base}
 use Rattle.picture_laws.proofs.Columns.{found_there, found_else}
 
 -- a change of substrates leaves what they are of: number, name, carrier, slot and job

@@ -1,5 +1,5 @@
 -- Behind a Process that ended: the row of its substrate, and where it is none; and a command that is fetched, which stays open.
-use Rattle.std.proofs.Common.{◌≡◌, ℕ, ◌==◌, Bool, true, false, ◌&&◌, ◌||◌, if◌then◌else◌, [], ◌∷◌, map, Option, Some, None, option_map, refl, sym, ◌∙◌, ap, subst, arith}
+use Rattle.std.proofs.Common.{◌≡◌, ℕ, ◌==◌, Bool, true, false, ◌&&◌, [], ◌∷◌, Option, Some, None, option_map, refl, sym, ◌∙◌, ap, subst, arith}
 use Rattle.std.proofs.lemmas.Bool.{and_parts}
 use Rattle.std.proofs.lemmas.Bool.Decides.{Decides-eqb}
 use Rattle.gem_tables.specs.Table.{firing, after, is_one_of, is_among}
@@ -11,7 +11,7 @@ use Rattle.substrate.specs.Tables.{processing_number, processing_table}
 use Rattle.substrate.specs.declared.record.Processing.{Processing}
 use Rattle.substrate.specs.declared.record.Processing.TheVariants as processing
 use Rattle.tool_floor.specs.declared.tracking.Substrate.{Substrate}
-use Rattle.tool_floor.specs.Floor.{ToolFloor, fetched, substrate_numbered, number_of}
+use Rattle.tool_floor.specs.Floor.{ToolFloor, fetched, substrate_numbered}
 use Rattle.tool_floor.specs.Machines.{substrate_starts, substrate_moves, with_moved, floor_starts, floor_fired}
 use Rattle.floor_moves.specs.Floor.{is_finished}
 use Rattle.floor_moves.specs.Agree.{Agree}

@@ -1,6 +1,6 @@
 -- `lost` keeps what holds: the substrate has no place any more, and no open command named it.
-use Rattle.std.proofs.Common.{◌≡◌, ◌≤◌, ℕ, ◌==◌, Bool, true, false, not, ◌&&◌, if◌then◌else◌, cond, List, [], ◌∷◌, filter, Option, Some, None, option_map, refl, sym, ◌∙◌, ap, subst, arith}
-use Rattle.std.specs.List.{AllByRecursion, list_any}
+use Rattle.std.proofs.Common.{◌≡◌, ℕ, Bool, true, false, not, if◌then◌else◌, cond, List, [], ◌∷◌, Option, Some, None, option_map, refl, sym, ◌∙◌, ap, subst, arith}
+use Rattle.std.specs.List.{list_any}
 use Rattle.std.specs.Str.{bytes_eq}
 use Rattle.std.proofs.lemmas.Bool.{and_parts, not-true}
 use Rattle.gem_tables.specs.Table.{firing}
@@ -23,11 +23,10 @@ use Rattle.substrate.proofs.Texts.{same_name, turned}
 use Rattle.tool_floor.specs.declared.tracking.Substrate.{Substrate}
 use Rattle.tool_floor.specs.Floor.{ToolFloor, substrate_numbered, number_of}
 use Rattle.tool_floor.specs.Machines.{substrate_moves, with_moved, floor_fired}
-use Rattle.tool_floor.specs.Modules.{number_named}
 use Rattle.tool_floor.specs.Naming.{named_by, module_names}
 use Rattle.tool_floor.specs.Signals.{can_be_lost, lost_at, lost_rows}
 use Rattle.tool_floor.specs.Substrates.{is_in_slot, removed_where}
-use Rattle.floor_moves.specs.Floor.{Loc, Task, pick, place, align, process, Module, busy, own, is_outside}
+use Rattle.floor_moves.specs.Floor.{Task, pick, place, align, process, busy, own, is_outside}
 use Rattle.floor_moves.proofs.Agreeing.{agree-keeps}
 use Rattle.floor_moves.proofs.Done.{lost-keeps}
 use Rattle.place_laws.specs.Picture.{picture, loc_of, place_in, numbered, number_or_none, task_of, module_of}

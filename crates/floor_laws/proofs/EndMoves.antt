@@ -1,5 +1,5 @@
 -- What is done by a Pick, a Place or an Align keeps what holds.
-use Rattle.std.proofs.Common.{◌≡◌, ℕ, Bool, true, false, List, Option, Some, None, option_map, refl, sym, ◌∙◌, ap, subst}
+use Rattle.std.proofs.Common.{◌≡◌, ℕ, Bool, true, false, List, Option, Some, option_map, refl, sym, ap, subst}
 use Rattle.gem_tables.specs.Table.{firing}
 use Rattle.gem_ids.specs.declared.numbers.LocId.{LocId}
 use Rattle.gem_ids.specs.declared.numbers.LocId.TheVariants.{Slot, Aligner, Arm, Chamber}
@@ -7,22 +7,21 @@ use Rattle.tool_events.specs.declared.answer.Command.{Command as ToolCommand}
 use Rattle.tool_events.specs.declared.answer.Task.{Task as ToolTask}
 use Rattle.tool_events.specs.declared.answer.Task.TheVariants as task
 use Rattle.robot_moves.specs.declared.module.Module.{Module as ToolModule}
-use Rattle.robot_moves.specs.declared.module.Module.TheVariants.{Idle, Busy, Down}
+use Rattle.robot_moves.specs.declared.module.Module.TheVariants.{Busy}
 use Rattle.robot_moves.specs.Modules.{module_at}
 use Rattle.substrate.specs.Locations.{is_location}
 use Rattle.substrate.specs.Places.{PlaceMap, substrate_named, is_taken, moved as moved_to}
 use Rattle.substrate.specs.declared.registered.Registered.{Registered}
-use Rattle.tool_floor.specs.declared.tracking.Substrate.{Substrate}
 use Rattle.tool_floor.specs.Floor.{ToolFloor, with_module, change_numbered}
 use Rattle.tool_floor.specs.Machines.{floor_fired}
-use Rattle.tool_floor.specs.Modules.{module_behind, open_task, goes, transferred, number_named, aligned, aligned_numbered, aligned_by}
-use Rattle.floor_moves.specs.Floor.{Loc, slot, aligner, arm, chamber, pick, place, align, Command, busy, idle, own}
+use Rattle.tool_floor.specs.Modules.{module_behind, open_task, transferred, aligned, aligned_numbered, aligned_by}
+use Rattle.floor_moves.specs.Floor.{aligner, arm, pick, place, align, busy, idle}
 use Rattle.floor_moves.specs.Effects.{moved, aligned as aligned_by_numbers}
-use Rattle.floor_moves.specs.Valid.{PickStands, PlaceStands, Valid}
+use Rattle.floor_moves.specs.Valid.{PlaceStands, Valid}
 use Rattle.floor_moves.proofs.Agreeing.{agree-keeps}
 use Rattle.floor_moves.proofs.Done.{done_pick-keeps, done_place-keeps, done_align-keeps}
 use Rattle.place_laws.specs.Picture.{picture, loc_of, numbered, task_of}
-use Rattle.place_laws.specs.Sound.{Base, Sound}
+use Rattle.place_laws.specs.Sound.{Sound}
 use Rattle.picture_laws.proofs.Carried.{moving_agrees}
 use Rattle.picture_laws.proofs.Closing.{aligning_agrees}
 use Rattle.floor_laws.proofs.EndBase.{Leaves, changed_base}

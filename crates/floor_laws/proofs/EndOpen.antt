@@ -1,8 +1,7 @@
 -- Open commands by the names of substrates and by their numbers.
-use Rattle.std.proofs.Common.{◌≡◌, ℕ, zero, suc, ◌==◌, Bool, true, false, ◌||◌, if◌then◌else◌, List, [], ◌∷◌, Option, Some, None, slice_get, refl, sym, ◌∙◌, ap, subst}
+use Rattle.std.proofs.Common.{◌≡◌, ℕ, zero, suc, Bool, true, false, ◌||◌, List, [], ◌∷◌, Option, Some, None, slice_get, refl, sym, ◌∙◌, ap}
 use Rattle.std.specs.List.{list_any}
 use Rattle.std.specs.Str.{bytes_eq}
-use Rattle.gem_tables.specs.Table.{is_one_of}
 use Rattle.tool_events.specs.declared.answer.Command.{Command as ToolCommand}
 use Rattle.tool_events.specs.declared.answer.Task.{Task as ToolTask}
 use Rattle.tool_events.specs.declared.answer.Task.TheVariants as task
@@ -15,7 +14,7 @@ use Rattle.substrate.proofs.Texts.{same_name, own_name}
 use Rattle.tool_floor.specs.declared.tracking.Substrate.{Substrate}
 use Rattle.tool_floor.specs.Floor.{ToolFloor, substrate_numbered}
 use Rattle.tool_floor.specs.Naming.{named_by, module_names, processes}
-use Rattle.floor_moves.specs.Floor.{Loc, aligner, arm, chamber, Task, pick, place, align, process, named, Command, Module, idle, busy, down}
+use Rattle.floor_moves.specs.Floor.{Loc, aligner, arm, chamber, Task, pick, place, align, process, named, Command, busy}
 use Rattle.floor_moves.specs.Valid.{Commands, IsProcessed, IsUnnamed}
 use Rattle.place_laws.specs.Picture.{picture, loc_of, place_in, numbered, task_of, module_of}
 use Rattle.place_laws.specs.Sound.{Base}

@@ -1,11 +1,11 @@
 -- A substrate that goes to an empty place of the tool: places keep their rules, and what holds besides numbers is kept.
-use Rattle.std.proofs.Common.{◌≡◌, ◌≤◌, ◌<◌, ℕ, zero, suc, ◌+◌, ◌==◌, nat_le, Bool, true, false, not, ◌&&◌, ◌||◌, if◌then◌else◌, List, [], ◌∷◌, length, Option, Some, None, IsSomeAnd, refl, sym, ◌∙◌, ap, subst, arith}
+use Rattle.std.proofs.Common.{◌≡◌, ◌≤◌, ◌<◌, ℕ, zero, suc, ◌+◌, ◌==◌, nat_le, Bool, true, false, not, ◌&&◌, ◌||◌, if◌then◌else◌, List, [], ◌∷◌, length, Option, Some, IsSomeAnd, refl, sym, ◌∙◌, ap, subst, arith}
 use Rattle.std.specs.List.{AllByRecursion}
 use Rattle.std.proofs.lemmas.Bool.Decides.{Decides-eqb, nat_tests}
 use Rattle.gem_tables.specs.Table.{update_at, is_one_of}
 use Rattle.gem_tables.proofs.Rows.{both}
 use Rattle.gem_ids.specs.declared.numbers.LocId.{LocId}
-use Rattle.gem_ids.specs.declared.numbers.LocId.TheVariants.{Slot, Aligner, Arm, Chamber}
+use Rattle.gem_ids.specs.declared.numbers.LocId.TheVariants.{Slot, Chamber}
 use Rattle.gem_ids.specs.declared.numbers.PortNo.{PortNo}
 use Rattle.gem_ids.specs.declared.numbers.SlotNo.{SlotNo}
 use Rattle.robot_moves.specs.declared.module.Module.{Module as ToolModule}
@@ -17,10 +17,9 @@ use Rattle.substrate.specs.declared.registered.Registered.{Registered}
 use Rattle.substrate.proofs.Apart.{apart_same}
 use Rattle.substrate.proofs.Sites.{own_place as same_place}
 use Rattle.substrate.proofs.Standing.{found_all, names_moved, length_moved, numbered_moved, within_moved, placed_moved}
-use Rattle.tool_floor.specs.declared.tracking.Substrate.{Substrate}
 use Rattle.tool_floor.specs.Floor.{ToolFloor, with_module}
 use Rattle.tool_floor.specs.Modules.{goes}
-use Rattle.floor_moves.specs.Floor.{Loc, slot, chamber, own}
+use Rattle.floor_moves.specs.Floor.{slot, own}
 use Rattle.floor_moves.specs.Valid.{Empty}
 use Rattle.place_laws.specs.Picture.{picture, loc_of, numbers_from}
 use Rattle.place_laws.specs.Sound.{IsOfKept, Base}

@@ -1,6 +1,6 @@
 -- The rows of a substrate keep what holds: those of transport, and those of processing that are not of an answer or of `lost`.
-use Rattle.std.proofs.Common.{◌≡◌, ℕ, ◌==◌, Bool, true, false, not, ◌&&◌, ◌||◌, if◌then◌else◌, List, [], ◌∷◌, Option, Some, None, refl, sym, ◌∙◌, ap, subst, arith}
-use Rattle.std.specs.List.{AllByRecursion, list_any}
+use Rattle.std.proofs.Common.{◌≡◌, ℕ, Bool, true, false, not, ◌&&◌, ◌||◌, [], ◌∷◌, Option, Some, None, refl, sym, ◌∙◌, ap, subst, arith}
+use Rattle.std.specs.List.{list_any}
 use Rattle.std.proofs.lemmas.Bool.{and_parts, not-true}
 use Rattle.gem_tables.specs.Table.{firing, after, is_one_of, is_among, may_fire, first_itself}
 use Rattle.gem_tables.proofs.Rows.{one_of_cases, ready_row, ready_may_fire}
@@ -20,7 +20,7 @@ use Rattle.tool_floor.specs.Naming.{module_names, processes}
 use Rattle.tool_floor.specs.Substrates.{is_outside, is_at_work, is_in_slot}
 use Rattle.tool_floor.specs.Wants.{substrate_wants}
 use Rattle.tool_floor.proofs.Keeping.{creation_same}
-use Rattle.floor_moves.specs.Floor.{Loc, slot, pick, process, Command, busy, is_finished, named}
+use Rattle.floor_moves.specs.Floor.{slot, is_finished, named}
 use Rattle.floor_moves.proofs.Agreeing.{agree-keeps}
 use Rattle.floor_moves.proofs.Columns.{MayWork, worked-keeps}
 use Rattle.place_laws.specs.Picture.{picture, loc_of, place_in, of_one}

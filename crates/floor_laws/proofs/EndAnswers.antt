@@ -132,8 +132,7 @@ module _ (f : ToolFloor) (sound : Sound f) (m row : ℕ) (c : ToolCommand) (fetc
 
 pub module_row_sound : (f : ToolFloor) (m row : ℕ) → floor_starts (firing 16 m row) f ≡ true → is_one_of (5 ∷ 6 ∷ 7 ∷ 8 ∷ 9 ∷ 10 ∷ []) row ≡ true → Sound f → SoundOrBut f m (floor_fired (firing 16 m row) f)
 module_row_sound f m row starts one sound =
-    one_of_cases (λ (r : ℕ). floor_starts (firing 16 m r) f ≡ true → SoundOrBut f m (floor_fired (firing 16 m r) f)) (5 ∷ 6 ∷ 7 ∷ 8 ∷ 9 ∷ 10 ∷ []) row
-    (
+    one_of_cases (λ (r : ℕ). floor_starts (firing 16 m r) f ≡ true → SoundOrBut f m (floor_fired (firing 16 m r) f)) (5 ∷ 6 ∷ 7 ∷ 8 ∷ 9 ∷ 10 ∷ []) row (
       (λ s. row_5 (planned m f) (module_at m f.modules) refl s),
       (
         (λ s. row_6 (planned m f) (module_at m f.modules) refl s),

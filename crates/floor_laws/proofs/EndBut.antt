@@ -86,8 +86,7 @@ but_left_sound f n row one starts but = record { base = but.base; ports = but.po
   -- it would start
   at : (s : Substrate) → substrate_numbered n f.substrates ≡ Some s → s.states.processing ≡ processing.InProcess → (r : ℕ) → is_one_of (3 ∷ 4 ∷ []) r ≡ true → floor_starts (firing 13 n r) f ≡ true
   at s q is r e =
-      one_of_cases (λ (r : ℕ). floor_starts (firing 13 n r) f ≡ true) (3 ∷ 4 ∷ []) r
-      (
+      one_of_cases (λ (r : ℕ). floor_starts (firing 13 n r) f ≡ true) (3 ∷ 4 ∷ []) r (
         ap (λ (o : Option Substrate). substrate_starts processing_number processing_table (λ s. s.processing) 3 o f) q ∙ ap (λ (p : Processing). (is_among processing_number (processing.InProcess ∷ []) p) && true) is,
         (ap (λ (o : Option Substrate). substrate_starts processing_number processing_table (λ s. s.processing) 4 o f) q ∙ ap (λ (p : Processing). (is_among processing_number (processing.InProcess ∷ []) p) && true) is, tt),
       ) e

@@ -119,8 +119,7 @@ module _ (f : ToolFloor) (n : ℕ) (sound : Sound f) (s : Substrate) (known : su
 pub processing_sound : (f : ToolFloor) (n row : ℕ) → floor_starts (firing 13 n row) f ≡ true → is_one_of (1 ∷ 2 ∷ 5 ∷ 6 ∷ 7 ∷ []) row ≡ true
     → (is_one_of (6 ∷ 7 ∷ []) row ≡ true → floor_starts (firing 13 n 2) f ≡ false) → Sound f → Sound (floor_fired (firing 13 n row) f)
 processing_sound f n row starts one first sound =
-    one_of_cases (λ (r : ℕ). floor_starts (firing 13 n r) f ≡ true → (is_one_of (6 ∷ 7 ∷ []) r ≡ true → floor_starts (firing 13 n 2) f ≡ false) → Sound (floor_fired (firing 13 n r) f)) (1 ∷ 2 ∷ 5 ∷ 6 ∷ 7 ∷ []) row
-    (
+    one_of_cases (λ (r : ℕ). floor_starts (firing 13 n r) f ≡ true → (is_one_of (6 ∷ 7 ∷ []) r ≡ true → floor_starts (firing 13 n 2) f ≡ false) → Sound (floor_fired (firing 13 n r) f)) (1 ∷ 2 ∷ 5 ∷ 6 ∷ 7 ∷ []) row (
       (λ st fi. subst Sound (sym (creation_same f (firing 13 n 1) refl)) sound),
       ((λ st fi. row_2 (substrate_numbered n f.substrates) refl st), ((λ st fi. row_5 (substrate_numbered n f.substrates) refl st), ((λ st fi. row_6 (substrate_numbered n f.substrates) refl st (fi refl)), ((λ st fi. row_7 (substrate_numbered n f.substrates) refl st (fi refl)), tt)))),
     )

@@ -33,6 +33,7 @@ use Rattle.floor_laws.proofs.EndMoves.{pick_sound, place_sound, align_sound}
 
 -- ---- a module that had no Process open
 
+-- an Idle module has no command, and one that is Down has none
 idle_not : (c : Command) → idle ≡ busy c → ⊥
 idle_not c e = cc
 
@@ -40,6 +41,7 @@ down_not : (c : Command) → down ≡ busy c → ⊥
 down_not c e = cc
 
 module _ (f : ToolFloor) (sound : Sound f) (m row : ℕ) where
+  -- behind a row that closes what was no Process, all holds
   turned_sound : (x : ToolModule) → module_at m f.modules ≡ Some x → (state : Module) → ((c : Command) → state ≡ busy c → ⊥) → module_of (Some (module_behind row x)) f.places ≡ state
       → ((k : ℕ) (c : Command) → module_of (Some x) f.places ≡ busy c → c.task ≡ process k → ⊥) → Sound (with_module m (module_behind row) f)
   turned_sound x here state not_busy is none = record {
@@ -81,6 +83,7 @@ module _ (f : ToolFloor) (sound : Sound f) (m row : ℕ) where
     removed = b.removed;
   }
 
+  -- behind one that closes a Process, all but what is said of its substrate
   but_behind : (n : ℕ) (x : ToolModule) (state : Module) → module_at m f.modules ≡ Some x → module_of (Some (module_behind row x)) f.places ≡ state → ValidBut n (turned m state (picture f)) → SoundBut n (with_module m (module_behind row) f)
   but_behind n x state here is b = record {
     base = module_base m (module_behind row) f sound.base;
@@ -103,6 +106,7 @@ abbrev pub SoundOrBut : ToolFloor → ℕ → ToolFloor → Type 0
 SoundOrBut f m g = Sound g ⊎ ((n : ℕ) × Processes f m n × SoundBut n g)
 
 module _ (f : ToolFloor) (sound : Sound f) (m row : ℕ) (c : ToolCommand) (fetched : Bool) (here : module_at m f.modules ≡ Some (Busy c fetched)) (state : Module) (not_busy : (d : Command) → state ≡ busy d → ⊥) (is : module_of (Some (module_behind row (Busy c fetched))) f.places ≡ state) where
+  -- a Process ends
   process_closed : (sub recipe : List ℕ) → c.task ≡ task.Process sub recipe → SoundOrBut f m (with_module m (module_behind row) f)
   process_closed sub recipe q =
       let w = command_placed f sound.base sound.valid.commands m c fetched here in
@@ -115,21 +119,20 @@ module _ (f : ToolFloor) (sound : Sound f) (m row : ℕ) (c : ToolCommand) (fetc
         but_behind f sound m row w.0.number (Busy c fetched) state here is (closed-but (picture f) m w.0.number (command_of c f.places) state not_busy (busy_at f m c fetched here) (t ∙ ap process number) sound.valid),
       )
 
+  -- what it has open is no Process
+  no_process : ((k : ℕ) → task_of c.task f.places ≡ process k → ⊥) → (k : ℕ) (d : Command) → busy (command_of c f.places) ≡ busy d → d.task ≡ process k → ⊥
+  no_process other k d e t = let same : command_of c f.places ≡ d = cc in other k (ap (λ (x : Command). x.task) same ∙ t)
+
   -- by its task
   command_closed : (t : ToolTask) → c.task ≡ t → SoundOrBut f m (with_module m (module_behind row) f)
-  command_closed (task.Pick sub from) q = inl (turned_sound f sound m row (Busy c fetched) here state not_busy is (λ k d e u. let both : task_of c.task f.places ≡ process k = ap_task d e ∙ u in let t = ap (λ (u : ToolTask). task_of u f.places) q in cc)) where
-    ap_task : (d : Command) → busy (command_of c f.places) ≡ busy d → task_of c.task f.places ≡ d.task
-    ap_task d e = let same : command_of c f.places ≡ d = cc in ap (λ (x : Command). x.task) same
-  command_closed (task.Place sub to) q = inl (turned_sound f sound m row (Busy c fetched) here state not_busy is (λ k d e u. let both : task_of c.task f.places ≡ process k = place_task d e ∙ u in let t = ap (λ (u : ToolTask). task_of u f.places) q in cc)) where
-    place_task : (d : Command) → busy (command_of c f.places) ≡ busy d → task_of c.task f.places ≡ d.task
-    place_task d e = let same : command_of c f.places ≡ d = cc in ap (λ (x : Command). x.task) same
-  command_closed (task.Align sub) q = inl (turned_sound f sound m row (Busy c fetched) here state not_busy is (λ k d e u. let both : task_of c.task f.places ≡ process k = align_task d e ∙ u in let t = ap (λ (u : ToolTask). task_of u f.places) q in cc)) where
-    align_task : (d : Command) → busy (command_of c f.places) ≡ busy d → task_of c.task f.places ≡ d.task
-    align_task d e = let same : command_of c f.places ≡ d = cc in ap (λ (x : Command). x.task) same
+  command_closed (task.Pick sub from) q = inl (turned_sound f sound m row (Busy c fetched) here state not_busy is (no_process (λ k u. let t = ap (λ (u : ToolTask). task_of u f.places) q in cc)))
+  command_closed (task.Place sub to) q = inl (turned_sound f sound m row (Busy c fetched) here state not_busy is (no_process (λ k u. let t = ap (λ (u : ToolTask). task_of u f.places) q in cc)))
+  command_closed (task.Align sub) q = inl (turned_sound f sound m row (Busy c fetched) here state not_busy is (no_process (λ k u. let t = ap (λ (u : ToolTask). task_of u f.places) q in cc)))
   command_closed (task.Process sub recipe) q = process_closed sub recipe q
 
 -- ---- each row that an input fires
 
+-- rows 5 to 10, where they start
 pub module_row_sound : (f : ToolFloor) (m row : ℕ) → floor_starts (firing 16 m row) f ≡ true → is_one_of (5 ∷ 6 ∷ 7 ∷ 8 ∷ 9 ∷ 10 ∷ []) row ≡ true → Sound f → SoundOrBut f m (floor_fired (firing 16 m row) f)
 module_row_sound f m row starts one sound =
     one_of_cases (λ (r : ℕ). floor_starts (firing 16 m r) f ≡ true → SoundOrBut f m (floor_fired (firing 16 m r) f)) (5 ∷ 6 ∷ 7 ∷ 8 ∷ 9 ∷ 10 ∷ []) row (
@@ -141,6 +144,7 @@ module_row_sound f m row starts one sound =
     )
     one starts
   where
+    -- Done of Pick or Place
     row_5 : (plan : Option Move) (o : Option ToolModule) → module_at m f.modules ≡ o → move_starts 5 plan o ≡ true → SoundOrBut f m (floor_fired (firing 16 m 5) f)
     row_5 plan None at e = absurd (cc)
     row_5 plan (Some Idle) at e = absurd (cc)
@@ -152,6 +156,7 @@ module_row_sound f m row starts one sound =
       of (task.Align sub) q w = absurd (cc)
       of (task.Process sub recipe) q w = absurd (cc)
 
+    -- Done of Align
     row_6 : (plan : Option Move) (o : Option ToolModule) → module_at m f.modules ≡ o → move_starts 6 plan o ≡ true → SoundOrBut f m (floor_fired (firing 16 m 6) f)
     row_6 plan None at e = absurd (cc)
     row_6 plan (Some Idle) at e = absurd (cc)
@@ -163,24 +168,28 @@ module_row_sound f m row starts one sound =
       aligns (task.Align sub) q w = inl (align_sound f sound m c fetched at sub q)
       aligns (task.Process sub recipe) q w = absurd (cc)
 
+    -- Done of Process
     row_7 : (plan : Option Move) (o : Option ToolModule) → module_at m f.modules ≡ o → move_starts 7 plan o ≡ true → SoundOrBut f m (floor_fired (firing 16 m 7) f)
     row_7 plan None at e = absurd (cc)
     row_7 plan (Some Idle) at e = absurd (cc)
     row_7 plan (Some Down) at e = absurd (cc)
     row_7 plan (Some (Busy c fetched)) at e = command_closed f sound m 7 c fetched at idle idle_not refl c.task refl
 
+    -- Failed
     row_8 : (plan : Option Move) (o : Option ToolModule) → module_at m f.modules ≡ o → move_starts 8 plan o ≡ true → SoundOrBut f m (floor_fired (firing 16 m 8) f)
     row_8 plan None at e = absurd (cc)
     row_8 plan (Some Idle) at e = absurd (cc)
     row_8 plan (Some Down) at e = absurd (cc)
     row_8 plan (Some (Busy c fetched)) at e = command_closed f sound m 8 c fetched at down down_not refl c.task refl
 
+    -- Down
     row_9 : (plan : Option Move) (o : Option ToolModule) → module_at m f.modules ≡ o → move_starts 9 plan o ≡ true → SoundOrBut f m (floor_fired (firing 16 m 9) f)
     row_9 plan None at e = absurd (cc)
     row_9 plan (Some Idle) at e = inl (turned_sound f sound m 9 Idle at down down_not refl (λ k d u t. idle_not d u))
     row_9 plan (Some Down) at e = absurd (cc)
     row_9 plan (Some (Busy c fetched)) at e = command_closed f sound m 9 c fetched at down down_not refl c.task refl
 
+    -- `up`
     row_10 : (plan : Option Move) (o : Option ToolModule) → module_at m f.modules ≡ o → move_starts 10 plan o ≡ true → SoundOrBut f m (floor_fired (firing 16 m 10) f)
     row_10 plan None at e = absurd (cc)
     row_10 plan (Some Idle) at e = absurd (cc)

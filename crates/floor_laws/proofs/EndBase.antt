@@ -35,6 +35,7 @@ module _ (n : ℕ) (change : Substrate → Substrate) (leaves : Leaves change) w
     of true rest = (on s all.0, all.1)
     of false rest = (all.0, rest)
 
+  -- one passes where one passed
   any_same : (test : Substrate → Bool) → ((s : Substrate) → test (change s) ≡ test s) → (ss : List Substrate) → list_any test (change_numbered n change ss) ≡ list_any test ss
   any_same test same [] = refl
   any_same test same (s ∷ ss) = of (s.number == n) (any_same test same ss) where
@@ -42,6 +43,7 @@ module _ (n : ℕ) (change : Substrate → Substrate) (leaves : Leaves change) w
     of true rest = ap (λ (b : Bool). b || list_any test ss) (same s)
     of false rest = ap (λ (b : Bool). test s || b) rest
 
+  -- slots differ as they did
   apart_changed : (ss : List Substrate) → AreApart ss → AreApart (change_numbered n change ss)
   apart_changed [] apart = tt
   apart_changed (s ∷ ss) apart = of (s.number == n) (apart_changed ss apart.1) where
@@ -49,6 +51,7 @@ module _ (n : ℕ) (change : Substrate → Substrate) (leaves : Leaves change) w
     of true rest = (all_follows (λ (t : Substrate). s.slot ≡ t.slot → ⊥) (λ (t : Substrate). (change s).slot ≡ t.slot → ⊥) ss (λ t other same. other (sym (leaves.slot s) ∙ same)) apart.0, apart.1)
     of false rest = (all_changed (λ (t : Substrate). s.slot ≡ t.slot → ⊥) (λ t other same. other (same ∙ leaves.slot t)) ss apart.0, rest)
 
+  -- numbers rise as they did
   rising_changed : (last given : ℕ) (ss : List Substrate) → RiseTo last given ss → RiseTo last given (change_numbered n change ss)
   rising_changed last given [] rising = rising
   rising_changed last given (s ∷ ss) rising = of (s.number == n) (rising_changed s.number given ss rising.1) where
@@ -56,6 +59,7 @@ module _ (n : ℕ) (change : Substrate → Substrate) (leaves : Leaves change) w
     of true rest = subst (λ (k : ℕ). (last + 1 ≤ k) × RiseTo k given ss) (sym (leaves.number s)) rising
     of false rest = (rising.0, rest)
 
+  -- it is of the carrier that it was of
   carried_on : (cs : List Carrier) (s : Substrate) → IsCarried cs s → IsCarried cs (change s)
   carried_on cs s is =
       let of = is.2 in (
@@ -87,6 +91,7 @@ module _ (n : ℕ) (change : Substrate → Substrate) (leaves : Leaves change) w
       ∙ ap (λ (l : LocId). (s.carrier == carrier) && (is_same l slot && bytes_eq (change s).sub name)) (leaves.slot s)
       ∙ ap (λ (t : List ℕ). (s.carrier == carrier) && (is_same s.slot slot && bytes_eq t name)) (leaves.sub s)
 
+  -- what is said of jobs
   pub changed_jobs : (f : ToolFloor) → JobsSound f → JobsSound (record f { substrates = change_numbered n change f.substrates })
   changed_jobs f b = record {
     numbered = b.numbered;

@@ -108,6 +108,7 @@ module _ (number : ℕ) (f : ToolFloor) where
   same_taken (Some (Busy c x)) = refl
   same_taken (Some Down) = refl
 
+  -- so is that of each number
   same_module : (k : ℕ) → module_of (module_at k (change_module number taken f.modules)) f.places ≡ module_of (module_at k f.modules) f.places
   same_module k = by (k == number) refl where
     by : (b : Bool) → (k == number) ≡ b → module_of (module_at k (change_module number taken f.modules)) f.places ≡ module_of (module_at k f.modules) f.places
@@ -117,6 +118,7 @@ module _ (number : ℕ) (f : ToolFloor) where
         (ap (λ (o : Option ToolModule). module_of o f.places) (changed_there number taken f.modules) ∙ same_taken (module_at number f.modules))
     by false e = ap (λ (o : Option ToolModule). module_of o f.places) (changed_else number k (λ is. let t = (Decides-eqb k number).1 is in cc) taken f.modules)
 
+  -- the floor by numbers says the same
   fetched_agrees : Agree (picture f) (picture (fetched number f))
   fetched_agrees = record {
     substrates = refl;
@@ -138,5 +140,6 @@ module _ (number : ℕ) (f : ToolFloor) where
     next_command = refl;
   }
 
+  -- all that holds is kept
   pub fetched_sound : Sound f → Sound (fetched number f)
   fetched_sound s = record { base = module_base number taken f s.base; ports = s.ports; valid = agree-keeps _ _ fetched_agrees s.valid }

@@ -56,6 +56,7 @@ module _ (sub : List ℕ) where
     of false is rest = ap (substrate_named name) (gone false is) ∙ ap (λ (o : Option Registered). if has_name name r then Some r else o) rest
 
   module _ (p : PlaceMap) where
+    -- its number is the same
     other_number : (name : List ℕ) → bytes_eq name sub ≡ false → numbered name (removed sub p) ≡ numbered name p
     other_number name other = ap (λ (o : Option Registered). number_or_none (option_map (λ (r : Registered). r.number) o)) (other_stays name p.held other)
 
@@ -89,6 +90,7 @@ module _ (sub : List ℕ) where
       few = let less = length_fewer sub p.held in let most = a.few in omega (arith, less, most);
     }
 
+  -- what holds besides numbers is kept
   pub removed_base : (f : ToolFloor) → Base f → Base (record f { places = removed sub f.places })
   removed_base f b = record {
     shop = b.shop;
@@ -115,6 +117,7 @@ record IsLost (f : ToolFloor) (n : ℕ) (sub : List ℕ) : Type 0 where
   away : is_in_slot one f.places ≡ false
   free : list_any (module_names one.sub) f.modules ≡ false
 
+-- the word has the row only of such a substrate
 lost_tells : (f : ToolFloor) (n : ℕ) (sub : List ℕ) → lost_rows sub f ≡ firing 13 n 8 ∷ [] → IsLost f n sub
 lost_tells f n sub e = of (substrate_named sub f.places.held) refl e where
   object_same : (k : ℕ) → firing 13 k 8 ∷ [] ≡ firing 13 n 8 ∷ [] → k ≡ n
@@ -141,6 +144,7 @@ module _ (f : ToolFloor) (n : ℕ) (sub : List ℕ) (sound : Sound f) (is : IsLo
   its_place : substrate_named is.one.sub f.places.held ≡ Some is.at
   its_place = ap (λ (t : List ℕ). substrate_named t f.places.held) (name_is f sound.base n is.one sub is.at is.known is.there is.number) ∙ is.there
 
+  -- the place by number
   at_number : (picture f).place_of n ≡ Some (loc_of is.at.at)
   at_number = sym (ap (place_in f.places) is.number) ∙ place_is f sound.base sub is.at is.there
 
@@ -165,6 +169,7 @@ module _ (f : ToolFloor) (n : ℕ) (sub : List ℕ) (sound : Sound f) (is : IsLo
     by Arm q = ap is_outside (at_number ∙ ap (λ (l : LocId). Some (loc_of l)) q)
     by (Chamber c) q = ap is_outside (at_number ∙ ap (λ (l : LocId). Some (loc_of l)) q)
 
+  -- all that holds is kept
   goes_away : Sound (floor_fired (firing 13 n 8) f)
   goes_away = record {
     base = subst (λ (o : Option Substrate). Base (with_moved 13 8 n (record f { places = removed_where o f.places }))) (sym is.known)
@@ -174,5 +179,6 @@ module _ (f : ToolFloor) (n : ℕ) (sub : List ℕ) (sound : Sound f) (is : IsLo
         (lost-keeps (picture f) n outside (unnamed f sound.base sound.valid.commands n is.one is.known is.free) sound.valid);
   }
 
+-- by the word
 pub lost_sound : (f : ToolFloor) (n : ℕ) (sub : List ℕ) → lost_rows sub f ≡ firing 13 n 8 ∷ [] → Sound f → Sound (floor_fired (firing 13 n 8) f)
 lost_sound f n sub e sound = goes_away f n sub sound (lost_tells f n sub e)

@@ -40,6 +40,7 @@ module _ (f : ToolFloor) (sound : Sound f) (m : ℕ) (c : ToolCommand) (fetched 
   abbrev behind : PlaceMap → ToolFloor
   behind p = with_module m (module_behind 5) (record f { places = p })
 
+  -- the floor behind row 5 is that with the new places
   fired_is : (t : ToolTask) → c.task ≡ t → (p : PlaceMap) → transferred (Some t) f.places ≡ p → Sound (behind p) → Sound (floor_fired (firing 16 m 5) f)
   fired_is t q p e s =
       subst (λ (o : Option ToolModule). Sound (behind (transferred (open_task o) f.places))) (sym here)
@@ -55,6 +56,7 @@ module _ (f : ToolFloor) (sound : Sound f) (m : ℕ) (c : ToolCommand) (fetched 
         (subst (λ (n : ℕ). Valid (moved n (loc_of to) m (picture f))) (number_there f.places sub r named) valid);
   }
 
+  -- Done of Pick
   pub pick_sound : (sub : List ℕ) (from : LocId) → c.task ≡ task.Pick sub from → Sound (floor_fired (firing 16 m 5) f)
   pick_sound sub from q =
       let t : task_of c.task f.places ≡ pick (numbered sub f.places) (loc_of from) = ap (λ (u : ToolTask). task_of u f.places) q in
@@ -72,6 +74,7 @@ module _ (f : ToolFloor) (sound : Sound f) (m : ℕ) (c : ToolCommand) (fetched 
   end_inside n Arm s = refl
   end_inside n (Chamber d) s = chamber_inside f.places.ports f.places.chambers d (s.to_chamber d refl).0
 
+  -- Done of Place
   pub place_sound : (sub : List ℕ) (to : LocId) → c.task ≡ task.Place sub to → Sound (floor_fired (firing 16 m 5) f)
   place_sound sub to q =
       let t : task_of c.task f.places ≡ place (numbered sub f.places) (loc_of to) = ap (λ (u : ToolTask). task_of u f.places) q in
@@ -85,9 +88,11 @@ module _ (f : ToolFloor) (sound : Sound f) (m : ℕ) (c : ToolCommand) (fetched 
 
   -- ---- row 6
 
+  -- a substrate that is aligned is of what it was of
   aligned_leaves : Leaves aligned
   aligned_leaves = record { number = λ s. refl; sub = λ s. refl; carrier = λ s. refl; slot = λ s. refl; job = λ s. refl }
 
+  -- Done of Align
   pub align_sound : (sub : List ℕ) → c.task ≡ task.Align sub → Sound (floor_fired (firing 16 m 6) f)
   align_sound sub q =
       let t : task_of c.task f.places ≡ align (numbered sub f.places) = ap (λ (u : ToolTask). task_of u f.places) q in

@@ -40,6 +40,7 @@ module _ {A : Type 0} (test : A → Bool) where
     of true q f rest = (zero, y, refl, q)
     of false q f rest = let w = rest f in (suc w.0, w.1, w.2, w.3)
 
+-- the same, by the numbers of modules
 pub any_at : (test : ToolModule → Bool) (m : ℕ) (ms : List ToolModule) (x : ToolModule) → module_at m ms ≡ Some x → test x ≡ true → list_any test ms ≡ true
 any_at test zero ms x e p = absurd (cc)
 any_at test (suc n) ms x e p = any_get test n ms x e p
@@ -71,6 +72,7 @@ pub record IsOpen (f : ToolFloor) (m : ℕ) (d : Command) : Type 0 where
   pub at : module_at m f.modules ≡ Some (Busy its fetched)
   pub is : command_of its f.places ≡ d
 
+-- it has a command open
 pub busy_tells : (f : ToolFloor) (m : ℕ) (d : Command) → (picture f).equipment m ≡ busy d → IsOpen f m d
 busy_tells f m d e = of (module_at m f.modules) refl e where
   of : (o : Option ToolModule) → module_at m f.modules ≡ o → module_of o f.places ≡ busy d → IsOpen f m d
@@ -89,6 +91,7 @@ module _ (f : ToolFloor) (b : Base f) (v : Commands (picture f)) where
   stands m d e (align n) is = (aligner, (v.aligns m n d e is).stands)
   stands m d e (process n) is = let w = v.processes m n d e is in (chamber w.0, w.2)
 
+  -- its place by name and by number
   pub command_placed : (m : ℕ) (c : ToolCommand) (fetched : Bool) → module_at m f.modules ≡ Some (Busy c fetched) → (r : Registered) × (substrate_named (named_by c.task) f.places.held ≡ Some r) × (place_in f.places r.number ≡ Some (loc_of r.at))
   command_placed m c fetched e =
       let w = stands m (command_of c f.places) (busy_at f m c fetched e) (task_of c.task f.places) refl in

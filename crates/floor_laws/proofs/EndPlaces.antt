@@ -28,6 +28,7 @@ use Rattle.floor_laws.proofs.EndNames.{loc_one, taken_tells}
 
 -- ---- modules
 
+-- so many modules as there were
 changed_length : (n : ℕ) (change : ToolModule → ToolModule) (ms : List ToolModule) → length (update_at n change ms) ≡ length ms
 changed_length n change [] = refl
 changed_length zero change (m ∷ ms) = refl
@@ -63,6 +64,7 @@ module _ (sub : List ℕ) (to : LocId) where
     of true = on r all.0
     of false = all.0
 
+  -- places keep their rules
   moved_places : (p : PlaceMap) → is_location p.ports p.chambers to ≡ true → is_taken to p.held ≡ false → ArePlaces p → ArePlaces (record p { held = moved sub to p.held })
   moved_places p there free a = record {
     named_apart = apart_same p.held (moved sub to p.held) (names_moved sub to p.held) a.named_apart;
@@ -72,6 +74,7 @@ module _ (sub : List ℕ) (to : LocId) where
     few = let same = length_moved sub to p.held in let most = a.few in omega (arith, same, most);
   }
 
+  -- what holds besides numbers is kept
   pub moved_base : (f : ToolFloor) → is_location f.places.ports f.places.chambers to ≡ true → is_taken to f.places.held ≡ false → Base f → Base (record f { places = record f.places { held = moved sub to f.places.held } })
   moved_base f there free b = record {
     shop = b.shop;

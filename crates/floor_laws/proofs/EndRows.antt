@@ -36,6 +36,7 @@ moves_leaves table row = record { number = λ s. refl; sub = λ s. refl; carrier
 
 -- ---- table 12
 
+-- each row, whether it starts or not
 pub transport_sound : (f : ToolFloor) (n row : ℕ) → Sound f → Sound (floor_fired (firing 12 n row) f)
 transport_sound f n row s = record { base = changed_base n (substrate_moves 12 row) (moves_leaves 12 row) f s.base; ports = s.ports; valid = transport-keeps f n row s.valid }
 

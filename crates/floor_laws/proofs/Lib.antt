@@ -36,3 +36,12 @@ pub mod JobEnds
 pub mod JobJoins
 pub mod JobCreated
 pub mod JobProcess
+pub mod EndBase
+pub mod EndNames
+pub mod EndOpen
+pub mod EndRows
+pub mod EndLost
+pub mod EndPlaces
+pub mod EndMoves
+pub mod EndAnswers
+pub mod EndBut

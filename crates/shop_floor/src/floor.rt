@@ -1,10 +1,11 @@
 //! The load ports and the carriers together.
 
-ghost use Rattle.std.specs.Prelude.{◌≡◌, ◌≤◌, true, false, not, length, slice_get, Some, IfOk, IfErr};
+ghost use Rattle.std.specs.Prelude.{◌≡◌, ◌≤◌, true, false, not, length, map, slice_get, Some, IfOk, IfErr};
 ghost use Rattle.gem_tables.specs.Table.{firing};
 ghost use Rattle.load_port.specs.Caack.{is_done_code};
-ghost use Rattle.load_port.specs.Ports.{most_ports, is_no_port};
+ghost use Rattle.load_port.specs.Ports.{most_ports, is_no_port, view_of};
 ghost use Rattle.carrier.specs.Carriers.{carrier_named, carrier_numbered, is_known};
+ghost use Rattle.carrier.specs.Verdict.{carrier_caack};
 ghost use Rattle.shop_floor.specs.Floor.{opening, with_marked, arrival_of, is_unloadable_port};
 ghost use Rattle.shop_floor.specs.Machines.{floor_starts, floor_fired, floor_least, creates, creation_rows, object_name};
 ghost use Rattle.shop_floor.specs.Requests.{carrier_code, carrier_written, carrier_rows, port_code, came};

@@ -14,6 +14,7 @@ ghost use Rattle.tool_floor.specs.Floor.{opening, with_shop, fetched, change_loc
 ghost use Rattle.tool_floor.specs.Substrates.{without_carrier, removed_where};
 ghost use Rattle.tool_floor.specs.Kept.{RiseTo};
 ghost use Rattle.tool_floor.specs.Machines.{registered_by, floor_starts, floor_fired, floor_least, creation_rows, object_name};
+ghost use Rattle.tool_floor.specs.Jobs.{carrier_code};
 ghost use Rattle.tool_floor.specs.Signals.{is_no_module};
 
 use crate::jobs::{CONTROL_JOB, PROCESS_JOB};
@@ -25,7 +26,7 @@ use arrayvec::ArrayVec;
 use carrier::{Carrier, CarrierAction};
 use gem_ids::{CmdNo, LocId, ModuleId, PortNo, SubstrateId, Text80};
 use gem_tables::Firing;
-use load_port::Arrival;
+use load_port::{Arrival, Caack};
 use robot_moves::{Module, Modules};
 use shop_floor::ShopFloor;
 use std::alloc::{AllocError, Global};
@@ -40,7 +41,7 @@ pub const MOST_CREATED: usize = 50;
 /// The floor of the tool, which contracts see as the load ports with the carriers; the list of the modules by their numbers: 1 is the
 /// robot, 2 the aligner, and 2 + c chamber c; which substrate has which place; the states of the locations by their numbers; the
 /// substrates of the carriers that are here, in the order of their registration; and the process jobs and control jobs. Only `new`,
-/// `fire` and `write` take memory.
+/// `fire`, `write`, `create_process` and `create_control` take memory.
 #[derive(Drop)]
 pub struct ToolFloor {
     pub(crate) shop: ShopFloor,

@@ -1,24 +1,32 @@
 //! The jobs on the floor of the tool: what it shows of a process job, which of their rows start and are ready, and what these do (this
 //! tool's profile, tables 14 and 15 and settling).
 
-ghost use Rattle.std.specs.Prelude.{◌≡◌, ◌∷◌, [], true, false, length, map, option_map, slice_get, ◌||◌, Some};
+ghost use Rattle.std.specs.Prelude.{◌≡◌, ◌∷◌, [], true, false, length, map, option_map, is_some, slice_get, ◌||◌, Some, None, Err, IfOk, IfErr};
 ghost use Rattle.std.specs.List.{list_any};
 ghost use Rattle.gem_tables.specs.Table.{is_one_of};
 ghost use Rattle.gem_tables.specs.Machine.{first_ready, ready_in};
 ghost use Rattle.process_job.specs.Jobs.{job_numbered as process_numbered, AreJobs as AreProcessJobs};
-ghost use Rattle.control_job.specs.Jobs.{job_numbered as control_numbered, numbers_of as control_numbers, AreJobs as AreControlJobs};
+ghost use Rattle.process_job.specs.Creating.{create_fault as process_fault};
+ghost use Rattle.process_job.specs.declared.fault.JobFault.{JobFault};
+ghost use Rattle.process_job.specs.declared.fault.JobFault.TheVariants as process_faults;
+ghost use Rattle.control_job.specs.Jobs.{job_numbered as control_numbered, numbers_of as control_numbers, AreJobs as AreControlJobs, waiting_named, headed};
+ghost use Rattle.tool_jobs.specs.Creating.{with_process, with_control, control_fault};
+ghost use Rattle.tool_jobs.specs.declared.fault.ControlFault.{ControlFault};
+ghost use Rattle.tool_jobs.specs.declared.fault.ControlFault.TheVariants as control_faults;
 ghost use Rattle.tool_jobs.specs.Rows.{process_ready, control_ready};
+ghost use Rattle.tool_floor.specs.Floor.{with_jobs};
 ghost use Rattle.tool_floor.specs.Jobs.{is_done_with, is_settled, is_at_rest, is_still, sight, found_sight, is_first_here, gets_members, frees, stops_carriers, process_behind, is_any_of_carrier, is_job_so, is_processing, is_stopping, is_aborting, is_ending, job_of};
 ghost use Rattle.tool_floor.specs.Machines.{process_numbers, floor_machines, floor_starts, floor_fired};
 
 use crate::floor::ToolFloor;
 use crate::members::{is_here, mark, names_carrier};
 use crate::tracking::Substrate;
-use carrier::Carrier;
 use control_job::ControlJob;
+use gem_ids::{JobId, Text80};
 use gem_tables::Firing;
-use process_job::{JobState, ProcessJob};
-use tool_jobs::Sight;
+use process_job::{JobFault, JobSpec, JobState, ProcessJob};
+use std::alloc::Global;
+use tool_jobs::{ControlFault, Sight};
 
 // The tables of jobs.
 pub(crate) const PROCESS_JOB: u8 = 14;

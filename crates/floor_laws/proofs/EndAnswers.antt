@@ -47,6 +47,7 @@ module _ (f : ToolFloor) (sound : Sound f) (m row : ℕ) where
   turned_sound x here state not_busy is none = record {
     base = module_base m (module_behind row) f sound.base;
     ports = sound.ports;
+    unloading = sound.unloading;
     valid = agree-keeps _ _ (closing_agrees m (module_behind row) x state f here is)
         (turned-keeps (picture f) m state not_busy (λ k c e t one. none k c (sym (ap (λ (o : Option ToolModule). module_of o f.places) here) ∙ e) t) sound.valid);
   }
@@ -88,6 +89,7 @@ module _ (f : ToolFloor) (sound : Sound f) (m row : ℕ) where
   but_behind n x state here is b = record {
     base = module_base m (module_behind row) f sound.base;
     ports = sound.ports;
+    unloading = sound.unloading;
     valid = same_but n (turned m state (picture f)) (λ k. module_of (module_at k (change_module m (module_behind row) f.modules)) f.places) (modules_behind m (module_behind row) x state f here is) b;
   }
 

@@ -59,6 +59,7 @@ finish : (f : ToolFloor) (n row : ℕ) (s : Substrate) → substrate_numbered n 
 finish f n row s known finished but = record {
   base = changed_base n (substrate_moves 13 row) (moves_leaves 13 row) f but.base;
   ports = but.ports;
+  unloading = but.unloading;
   valid = agree-keeps _ _ (processing_agrees f n row s known) (but_finished (picture f) n _ finished but.valid);
 }
 
@@ -82,7 +83,7 @@ but_sound f n row one starts but =
 
 -- where it doesn't, the substrate isn't IN PROCESS
 pub but_left_sound : (f : ToolFloor) (n row : ℕ) → is_one_of (3 ∷ 4 ∷ []) row ≡ true → floor_starts (firing 13 n row) f ≡ false → SoundBut n f → Sound f
-but_left_sound f n row one starts but = record { base = but.base; ports = but.ports; valid = but_left_out (picture f) n other but.valid } where
+but_left_sound f n row one starts but = record { base = but.base; ports = but.ports; unloading = but.unloading; valid = but_left_out (picture f) n other but.valid } where
   -- it would start
   at : (s : Substrate) → substrate_numbered n f.substrates ≡ Some s → s.states.processing ≡ processing.InProcess → (r : ℕ) → is_one_of (3 ∷ 4 ∷ []) r ≡ true → floor_starts (firing 13 n r) f ≡ true
   at s q is r e =
@@ -142,4 +143,4 @@ module _ (number : ℕ) (f : ToolFloor) where
 
   -- all that holds is kept
   pub fetched_sound : Sound f → Sound (fetched number f)
-  fetched_sound s = record { base = module_base number taken f s.base; ports = s.ports; valid = agree-keeps _ _ fetched_agrees s.valid }
+  fetched_sound s = record { base = module_base number taken f s.base; ports = s.ports; unloading = s.unloading; valid = agree-keeps _ _ fetched_agrees s.valid }

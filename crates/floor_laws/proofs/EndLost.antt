@@ -175,6 +175,7 @@ module _ (f : ToolFloor) (n : ℕ) (sub : List ℕ) (sound : Sound f) (is : IsLo
     base = subst (λ (o : Option Substrate). Base (with_moved 13 8 n (record f { places = removed_where o f.places }))) (sym is.known)
         (changed_base n (substrate_moves 13 8) (moves_leaves 13 8) (record f { places = removed is.one.sub f.places }) (removed_base is.one.sub f sound.base));
     ports = sound.ports;
+    unloading = sound.unloading;
     valid = agree-keeps _ _ (losing_agrees n is.one is.at f sound.base.places is.known its_place is.number (modules_same is.one.sub f.places f.modules is.free))
         (lost-keeps (picture f) n outside (unnamed f sound.base sound.valid.commands n is.one is.known is.free) sound.valid);
   }

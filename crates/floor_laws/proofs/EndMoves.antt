@@ -52,6 +52,7 @@ module _ (f : ToolFloor) (sound : Sound f) (m : ℕ) (c : ToolCommand) (fetched 
   moves_on sub to r named inside free valid = record {
     base = module_base m (module_behind 5) (record f { places = record f.places { held = moved_to sub to f.places.held } }) (moved_base sub to f inside free sound.base);
     ports = sound.ports;
+    unloading = sound.unloading;
     valid = agree-keeps _ _ (moving_agrees m (module_behind 5) (Busy c fetched) sub to r f sound.base.places named here refl)
         (subst (λ (n : ℕ). Valid (moved n (loc_of to) m (picture f))) (number_there f.places sub r named) valid);
   }
@@ -105,5 +106,6 @@ module _ (f : ToolFloor) (sound : Sound f) (m : ℕ) (c : ToolCommand) (fetched 
       (subst (λ (o : Option Registered). Sound (with_module m (module_behind 6) (record f { substrates = aligned_numbered (option_map (λ (r : Registered). r.number) o) f.substrates }))) (sym at.1) (record {
         base = module_base m (module_behind 6) (record f { substrates = change_numbered at.0.number aligned f.substrates }) (changed_base at.0.number aligned aligned_leaves f sound.base);
         ports = sound.ports;
+        unloading = sound.unloading;
         valid = agree-keeps _ _ (aligning_agrees m (module_behind 6) (Busy c fetched) idle f at.0.number kept.0 kept.1 here refl) valid;
       })))

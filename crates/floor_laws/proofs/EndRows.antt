@@ -38,7 +38,7 @@ moves_leaves table row = record { number = λ s. refl; sub = λ s. refl; carrier
 
 -- each row, whether it starts or not
 pub transport_sound : (f : ToolFloor) (n row : ℕ) → Sound f → Sound (floor_fired (firing 12 n row) f)
-transport_sound f n row s = record { base = changed_base n (substrate_moves 12 row) (moves_leaves 12 row) f s.base; ports = s.ports; valid = transport-keeps f n row s.valid }
+transport_sound f n row s = record { base = changed_base n (substrate_moves 12 row) (moves_leaves 12 row) f s.base; ports = s.ports; unloading = s.unloading; valid = transport-keeps f n row s.valid }
 
 -- ---- table 13
 
@@ -61,6 +61,7 @@ worked_sound : (f : ToolFloor) (n row : ℕ) (s : Substrate) (state : ℕ) → s
 worked_sound f n row s state known goes may sound = record {
   base = changed_base n (substrate_moves 13 row) (moves_leaves 13 row) f sound.base;
   ports = sound.ports;
+  unloading = sound.unloading;
   valid = agree-keeps _ _ (processing_agrees f n row s known) (worked-keeps (picture f) n _ (subst (λ (k : ℕ). MayWork n k (picture f)) (sym goes) may) sound.valid);
 }
 

@@ -37,6 +37,7 @@ control_changes_sound f s h = record {
     jobs = record { numbered = h.base.jobs.numbered; given = h.base.jobs.given; members = h.base.jobs.members };
   };
   ports = h.ports;
+  unloading = h.unloading;
   valid = h.valid;
 }
 

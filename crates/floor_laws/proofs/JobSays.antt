@@ -30,6 +30,7 @@ use Rattle.place_laws.proofs.Leaving.{Leaves}
 use Rattle.place_laws.proofs.Stays.{stay-carried}
 use Rattle.picture_laws.proofs.Columns.{unknown_none}
 use Rattle.picture_laws.proofs.JobViews.{alike_same}
+use Rattle.floor_laws.proofs.UnloadMarked.{all_marked-unloading}
 use Rattle.floor_laws.proofs.JobSight.{some_same, none_some}
 use Rattle.floor_laws.proofs.JobChanges.{IsJobAlone, numbers_map, found_map, says_map, carried_map, registered_map, apart_map, rising_map, held_map, marked_leaves, marked_at_ports, marked_numbers, marked_says}
 
@@ -215,4 +216,4 @@ module _ (f : ToolFloor) (ms : List Material) (change : Substrate → Substrate)
 
   -- and all holds
   pub sound_on : Sound f → JobsSound behind → GoesOn → Sound behind
-  sound_on s jobs goes = record { base = base_on s.base jobs; ports = marked_at_ports ms f.shop s.ports; valid = valid_on s.valid jobs goes }
+  sound_on s jobs goes = record { base = base_on s.base jobs; ports = marked_at_ports ms f.shop s.ports; unloading = all_marked-unloading ms f.shop s.unloading; valid = valid_on s.valid jobs goes }

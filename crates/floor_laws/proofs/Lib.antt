@@ -3,3 +3,8 @@ pub mod RegNames
 pub mod RegSlots
 pub mod RegFilled
 pub mod RegVerified
+pub mod RemLists
+pub mod RemPlaces
+pub mod RemAgree
+pub mod RemBase
+pub mod RemSound

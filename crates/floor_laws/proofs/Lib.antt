@@ -8,3 +8,4 @@ pub mod RemPlaces
 pub mod RemAgree
 pub mod RemBase
 pub mod RemSound
+pub mod RemEnded

@@ -9,3 +9,6 @@ pub mod RemAgree
 pub mod RemBase
 pub mod RemSound
 pub mod RemEnded
+pub mod RemTests
+pub mod RemOrdered
+pub mod RemPorts

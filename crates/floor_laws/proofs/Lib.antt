@@ -12,3 +12,4 @@ pub mod RemEnded
 pub mod RemTests
 pub mod RemOrdered
 pub mod RemPorts
+pub mod RemReleased

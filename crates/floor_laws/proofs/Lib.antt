@@ -13,3 +13,4 @@ pub mod RemTests
 pub mod RemOrdered
 pub mod RemPorts
 pub mod RemReleased
+pub mod RemWritten

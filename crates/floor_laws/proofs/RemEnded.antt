@@ -1,5 +1,5 @@
 -- The carrier at a port that is READY TO UNLOAD has ended, by what is missing in what holds at every moment.
-use Rattle.std.proofs.Common.{◌≡◌, ◌≤◌, ℕ, suc, ◌==◌, Bool, true, false, ◌&&◌, ◌||◌, List, find, map, Option, Some, None, slice_get, refl, sym, ◌∙◌, ◌⊎◌, inl, inr, ap, subst, arith}
+use Rattle.std.proofs.Common.{◌≡◌, ◌≤◌, ℕ, suc, Bool, true, false, ◌&&◌, ◌||◌, List, Some, slice_get, refl, sym, ◌∙◌, ◌⊎◌, inl, inr, ap, subst, arith}
 use Rattle.std.specs.List.{AllByRecursion}
 use Rattle.std.proofs.lemmas.Bool.{and_parts, or_left}
 use Rattle.gem_tables.specs.Table.{firing}
@@ -8,7 +8,6 @@ use Rattle.load_port.specs.declared.record.Transfer.TheVariants.{ReadyToUnload}
 use Rattle.load_port.specs.Record.{is_unloadable}
 use Rattle.load_port.specs.Ports.{port_numbered}
 use Rattle.carrier.specs.declared.carrier.Carrier.{Carrier}
-use Rattle.carrier.specs.declared.record.CarrierRecord.{CarrierRecord}
 use Rattle.carrier.specs.declared.record.IdState.{IdState}
 use Rattle.carrier.specs.declared.record.IdState.TheVariants as id
 use Rattle.carrier.specs.declared.record.MapState.{MapState}

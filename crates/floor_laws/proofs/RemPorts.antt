@@ -1,7 +1,7 @@
 -- Rows of ports keep what is said of carriers that may be taken away.
-use Rattle.std.proofs.Common.{◌≡◌, ℕ, zero, suc, ◌==◌, Bool, true, false, not, ◌&&◌, ◌||◌, List, [], ◌∷◌, find, Option, Some, None, is_some, slice_get, refl, sym, ◌∙◌, ap, subst}
+use Rattle.std.proofs.Common.{◌≡◌, ℕ, zero, suc, ◌==◌, true, false, not, List, [], ◌∷◌, find, Option, Some, None, is_some, slice_get, refl, sym, ◌∙◌, ap, subst}
 use Rattle.std.specs.List.{AllByRecursion}
-use Rattle.std.proofs.lemmas.Bool.{true≢false, and_parts, not-true}
+use Rattle.std.proofs.lemmas.Bool.{true≢false, and_parts}
 use Rattle.std.proofs.lemmas.Bool.Decides.{Decides-eqb}
 use Rattle.gem_tables.specs.Table.{firing, after, update_at, is_one_of}
 use Rattle.load_port.specs.declared.port.Port.{Port}
@@ -15,17 +15,17 @@ use Rattle.load_port.specs.Tables.{PortRow, transfer_number, transfer_table, acc
 use Rattle.load_port.specs.Ports as ports
 use Rattle.load_port.specs.Ports.{port_numbered}
 use Rattle.carrier.specs.declared.carrier.Carrier.{Carrier}
-use Rattle.carrier.specs.Carriers.{has_name, change_named, found_or_created, created, without, came_to, binds}
+use Rattle.carrier.specs.Carriers.{change_named, found_or_created, created, came_to, binds}
 use Rattle.shop_floor.specs.Floor.{Floor, floor_of, is_present, with_port}
-use Rattle.shop_floor.specs.Rows.{has_finished, is_own, owner, freed, owned_by, taken_by, is_directed, bound_to, binding, forgets, forgetting, without_owner, arrival_at, arrived, arriving, found_does}
+use Rattle.shop_floor.specs.Rows.{has_finished, is_own, owner, freed, owned_by, taken_by, is_directed, bound_to, forgets, forgetting, without_owner, arrival_at, arrived, arriving, found_does}
 use Rattle.shop_floor.specs.Machines.{floor_starts, floor_fired}
-use Rattle.shop_floor.proofs.Apart.{all_changed, all_found, all_follows}
+use Rattle.shop_floor.proofs.Apart.{all_changed, all_found}
 use Rattle.shop_floor.proofs.Cases.{starts_at_port}
 use Rattle.shop_floor.proofs.Keeps.{with_arrival, own_some}
 use Rattle.place_laws.specs.Ports.{AtPorts}
 use Rattle.place_laws.proofs.Away.{IsAway, absent_all, away_absent, all_forgets, away_forgets}
 use Rattle.place_laws.proofs.PortChanges.{numbered_cases}
-use Rattle.place_laws.proofs.PortTransfers.{among_out, among_blocked, among_loadable, among_unloadable}
+use Rattle.place_laws.proofs.PortTransfers.{among_out, among_loadable, among_unloadable}
 use Rattle.place_laws.proofs.Stays.{none_present}
 use Rattle.floor_laws.proofs.RemEnded.{IsInOrder, Released}
 use Rattle.floor_laws.proofs.RemTests.{StayLeaving, leaving_named, leaving_away, leaving_found, leaving_without}

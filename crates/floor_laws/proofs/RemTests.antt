@@ -1,7 +1,7 @@
 -- A carrier that may be taken away from a port is there still, where carriers change.
-use Rattle.std.proofs.Common.{◌≡◌, ℕ, ◌==◌, Bool, true, false, not, ◌&&◌, ◌||◌, if◌then◌else◌, List, [], ◌∷◌, ◌++◌, map, Option, Some, None, refl, sym, ◌∙◌, ap}
+use Rattle.std.proofs.Common.{◌≡◌, ℕ, ◌==◌, Bool, true, false, not, ◌&&◌, ◌||◌, if◌then◌else◌, List, [], ◌∷◌, ◌++◌, map, refl, sym, ◌∙◌, ap}
 use Rattle.std.specs.List.{AllByRecursion, list_any}
-use Rattle.std.proofs.lemmas.Bool.{and_parts, or_parts}
+use Rattle.std.proofs.lemmas.Bool.{and_parts}
 use Rattle.gem_tables.specs.Table.{after}
 use Rattle.carrier.specs.declared.carrier.Carrier.{Carrier}
 use Rattle.carrier.specs.declared.record.IdState.{IdState}
@@ -14,7 +14,7 @@ use Rattle.carrier.specs.Tables.{id_number, id_table, map_number, map_table, acc
 use Rattle.carrier.specs.Record.{is_id_failed, is_map_failed, is_done}
 use Rattle.carrier.specs.Carriers as carriers
 use Rattle.carrier.specs.Carriers.{has_name, is_present_at, is_finished, change_numbered, change_named, without, with_created, found_or_created, is_known, came_to}
-use Rattle.shop_floor.specs.Rows.{has_finished, forgets}
+use Rattle.shop_floor.specs.Rows.{has_finished}
 use Rattle.shop_floor.proofs.Apart.{all_follows}
 use Rattle.place_laws.proofs.Away.{IsAway}
 use Rattle.place_laws.proofs.Stays.{NonePresent}

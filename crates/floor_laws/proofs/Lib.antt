@@ -1,5 +1,6 @@
 pub mod RegFound
 pub mod RegNames
+pub mod RegMore
 pub mod RegSlots
 pub mod RegFilled
 pub mod RegVerified

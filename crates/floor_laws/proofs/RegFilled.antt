@@ -18,7 +18,8 @@ use Rattle.tool_floor.specs.declared.tracking.Substrate.{Substrate}
 use Rattle.tool_floor.specs.Floor.{ToolFloor}
 use Rattle.tool_floor.specs.Substrates.{can_register, first_substrate, registers_at, registers_slot, registers_slots}
 use Rattle.place_laws.specs.Standing.{is_that_of}
-use Rattle.floor_laws.proofs.RegSlots.{Filling, higher, can, filled_one, any_more, any_last, own_number}
+use Rattle.floor_laws.proofs.RegMore.{any_more, any_last, own_number}
+use Rattle.floor_laws.proofs.RegSlots.{Filling, higher, can, filled_one}
 
 -- the carrier whose substrates are registered, as it is before its map is VERIFIED, and then; its port
 module _ (s : Floor) (valid : IsFloor s) (c e : Carrier) (port : PortNo) (found : carrier_numbered c.number s.carriers ≡ Some e) (present : e.present ≡ true) (verified : is_map_verified e.states.map ≡ true) (at : e.port ≡ Some port) (named : e.name ≡ c.name) where

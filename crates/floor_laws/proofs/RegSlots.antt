@@ -1,8 +1,8 @@
 -- The substrates of a carrier are registered slot by slot, none is refused, and what holds goes on to hold.
-use Rattle.std.proofs.Common.{◌≡◌, ◌≤◌, ◌<◌, ℕ, ◌+◌, ◌==◌, nat_lt, Bool, true, false, not, ◌&&◌, ◌||◌, if◌then◌else◌, List, [], ◌∷◌, ◌++◌, length, find, map, Option, Some, None, is_some, IsSomeAnd, option_map, refl, sym, ◌∙◌, ap, subst, arith}
-use Rattle.std.specs.List.{AllByRecursion, list_any}
+use Rattle.std.proofs.Common.{◌≡◌, ◌≤◌, ◌<◌, ℕ, ◌+◌, ◌==◌, nat_lt, Bool, true, false, not, ◌&&◌, if◌then◌else◌, List, [], ◌∷◌, ◌++◌, length, find, map, Option, Some, None, is_some, IsSomeAnd, option_map, refl, sym, ◌∙◌, ap, subst, arith}
+use Rattle.std.specs.List.{AllByRecursion}
 use Rattle.std.proofs.lemmas.Bool.{false_from_ne_true}
-use Rattle.std.proofs.lemmas.Bool.Decides.{Decides-eqb, nat_tests}
+use Rattle.std.proofs.lemmas.Bool.Decides.{nat_tests}
 use Rattle.gem_tables.specs.Table.{is_one_of}
 use Rattle.gem_ids.specs.declared.numbers.LocId.{LocId}
 use Rattle.gem_ids.specs.declared.numbers.LocId.TheVariants.{Slot}
@@ -13,19 +13,18 @@ use Rattle.carrier.specs.declared.carrier.Carrier.{Carrier}
 use Rattle.carrier.specs.Record.{is_map_verified}
 use Rattle.carrier.specs.Carriers.{carrier_numbered, is_present_at}
 use Rattle.process_job.specs.Jobs.{job_numbered, AreNumbered as JobsNumbered}
-use Rattle.process_job.specs.declared.job.ProcessJob.{ProcessJob}
 use Rattle.shop_floor.specs.Floor.{Floor}
 use Rattle.shop_floor.specs.Valid.{IsFloor}
 use Rattle.shop_floor.proofs.Apart.{all_both, all_follows, all_pushed, found_only, found_one, found_passes, has_its_name, IsOnly}
 use Rattle.shop_floor.proofs.Present.{one_number, has_number, numbered_contained}
 use Rattle.substrate.specs.Locations.{is_location}
-use Rattle.substrate.specs.Places.{ArePlaces, AreNumbered, has_name, stands_at, is_taken, is_known, substrate_named, registered, register_fault, fault_of, most_substrates}
+use Rattle.substrate.specs.Places.{ArePlaces, has_name, stands_at, is_taken, is_known, substrate_named, registered, register_fault, fault_of, most_substrates}
 use Rattle.substrate.specs.declared.registered.Registered.{Registered}
 use Rattle.substrate.proofs.Apart.{known_found, apart_more as named_more, has_it}
 use Rattle.substrate.proofs.Sites.{same_is}
 use Rattle.substrate.proofs.Standing.{at_none, placed_more, all_more, numbered_more, length_more}
 use Rattle.tool_floor.specs.declared.tracking.Substrate.{Substrate}
-use Rattle.tool_floor.specs.Floor.{ToolFloor, with_shop, substrate_numbered, number_of}
+use Rattle.tool_floor.specs.Floor.{ToolFloor, with_shop, number_of}
 use Rattle.tool_floor.specs.Kept.{RiseTo}
 use Rattle.tool_floor.specs.Substrates.{can_register, first_substrate}
 use Rattle.floor_moves.specs.Floor.{slot as slot_at}
@@ -41,72 +40,8 @@ use Rattle.place_laws.proofs.Holding.{found_number, true_of_found, found_among, 
 use Rattle.place_laws.proofs.SlotNames.{slot_of_name}
 use Rattle.picture_laws.proofs.Registering.{registering_agrees}
 use Rattle.floor_laws.proofs.RegFound.{true_at, by_number, few_of, few_held, IsAmong}
+use Rattle.floor_laws.proofs.RegMore.{apart_more, rise_more, found_front, found_last, none_held, no_job, own_number}
 use Rattle.floor_laws.proofs.RegNames.{modules_same}
-
--- ---- one more
-
-pub apart_more : (ss : List Substrate) (x : Substrate) → AreApart ss → AllByRecursion (λ (t : Substrate). t.slot ≡ x.slot → ⊥) ss → AreApart (ss ++ x ∷ [])
-apart_more [] x apart other = (tt, tt)
-apart_more (s ∷ ss) x apart other = (all_pushed (λ (t : Substrate). s.slot ≡ t.slot → ⊥) ss x apart.0 other.0, apart_more ss x apart.1 other.1)
-
-pub rise_more : (last given : ℕ) (ss : List Substrate) (x : Substrate) → x.number ≡ given + 1 → RiseTo last given ss → RiseTo last (given + 1) (ss ++ x ∷ [])
-rise_more last given [] x is rising = (omega (arith, is, rising), omega (arith, is))
-rise_more last given (s ∷ ss) x is rising = (rising.0, rise_more s.number given ss x is rising.1)
-
-pub any_more : (test : Substrate → Bool) (ss : List Substrate) (x : Substrate) → list_any test ss ≡ true → list_any test (ss ++ x ∷ []) ≡ true
-any_more test [] x e = absurd (cc)
-any_more test (s ∷ ss) x e = of (test s) e (any_more test ss x) where
-  of : (b : Bool) → (b || list_any test ss) ≡ true → (list_any test ss ≡ true → list_any test (ss ++ x ∷ []) ≡ true) → (b || list_any test (ss ++ x ∷ [])) ≡ true
-  of true e rest = refl
-  of false e rest = rest e
-
-pub any_last : (test : Substrate → Bool) (ss : List Substrate) (x : Substrate) → test x ≡ true → list_any test (ss ++ x ∷ []) ≡ true
-any_last test [] x e = ap (λ (b : Bool). b || false) e
-any_last test (s ∷ ss) x e = of (test s) (any_last test ss x e) where
-  of : (b : Bool) → list_any test (ss ++ x ∷ []) ≡ true → (b || list_any test (ss ++ x ∷ [])) ≡ true
-  of true rest = refl
-  of false rest = rest
-
--- what is found among them is found with one more
-found_front : (n : ℕ) (ss : List Substrate) (x t : Substrate) → substrate_numbered n ss ≡ Some t → substrate_numbered n (ss ++ x ∷ []) ≡ Some t
-found_front n [] x t e = absurd (cc)
-found_front n (s ∷ ss) x t e = of (s.number == n) e (found_front n ss x t) where
-  of : (b : Bool) → (if b then Some s else substrate_numbered n ss) ≡ Some t → (substrate_numbered n ss ≡ Some t → substrate_numbered n (ss ++ x ∷ []) ≡ Some t) → (if b then Some s else substrate_numbered n (ss ++ x ∷ [])) ≡ Some t
-  of true e rest = e
-  of false e rest = rest e
-
--- and so is the last, where none of them has its number
-found_last : (n : ℕ) (ss : List Substrate) (x : Substrate) → x.number ≡ n → is_one_of (map number_of ss) n ≡ false → substrate_numbered n (ss ++ x ∷ []) ≡ Some x
-found_last n [] x is none = ap (λ (b : Bool). if b then Some x else None) ((Decides-eqb x.number n).1 is)
-found_last n (s ∷ ss) x is none = of (s.number == n) none (found_last n ss x is) where
-  of : (b : Bool) → (b || is_one_of (map number_of ss) n) ≡ false → (is_one_of (map number_of ss) n ≡ false → substrate_numbered n (ss ++ x ∷ []) ≡ Some x) → (if b then Some s else substrate_numbered n (ss ++ x ∷ [])) ≡ Some x
-  of true e rest = absurd (cc)
-  of false e rest = rest e
-
--- ---- numbers that were not given
-
--- places have none
-last_held : (last given : ℕ) (rs : List Registered) → AreNumbered last given rs → last ≤ given
-last_held last given [] rising = rising
-last_held last given (r ∷ rs) rising = let more = rising.0 in let rest = last_held r.number given rs rising.1 in omega (arith, more, rest)
-
-none_held : (last given n : ℕ) (rs : List Registered) → AreNumbered last given rs → given < n → is_one_of (map (λ (r : Registered). r.number) rs) n ≡ false
-none_held last given n [] rising past = refl
-none_held last given n (r ∷ rs) rising past = of (r.number == n) refl (none_held r.number given n rs rising.1 past) where
-  of : (b : Bool) → (r.number == n) ≡ b → is_one_of (map (λ (x : Registered). x.number) rs) n ≡ false → (b || is_one_of (map (λ (x : Registered). x.number) rs) n) ≡ false
-  of true e rest = let same = (Decides-eqb r.number n).0 e in let less = last_held r.number given rs rising.1 in absurd (omega (arith, same, less, past))
-  of false e rest = rest
-
--- and no job has the number 0
-pub no_job : (last given n : ℕ) (js : List ProcessJob) → JobsNumbered last given js → n ≤ last → job_numbered n js ≡ None
-no_job last given n [] rising less = refl
-no_job last given n (j ∷ js) rising less = of (j.number == n) refl (let more = rising.0 in no_job j.number given n js rising.1 (omega (arith, less, more))) where
-  of : (b : Bool) → (j.number == n) ≡ b → job_numbered n js ≡ None → (if b then Some j else job_numbered n js) ≡ None
-  of true e rest = let same = (Decides-eqb j.number n).0 e in let more = rising.0 in absurd (omega (arith, same, less, more))
-  of false e rest = rest
-
-pub own_number : (n : ℕ) → (n == n) ≡ true
-own_number n = (Decides-eqb n n).1 refl
 
 present_here : (c : Carrier) (port : PortNo) → c.present ≡ true → c.port ≡ Some port → is_present_at port.0 c ≡ true
 present_here c port present at = rw (present, at) (own_number port.0)

@@ -15,3 +15,4 @@ pub mod RemOrdered
 pub mod RemPorts
 pub mod RemReleased
 pub mod RemWritten
+pub mod RemTool

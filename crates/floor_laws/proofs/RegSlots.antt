@@ -166,7 +166,7 @@ module _ (s : Floor) (valid : IsFloor s) (c e : Carrier) (port : PortNo) (found 
       of w =
           let there : (w.0).at ≡ Slot port slot = same_is (w.0).at (Slot port slot) (found_passes (stands_at (Slot port slot)) f.places.held w.0 w.1) in
           let placed : place_in f.places (w.0).number ≡ Some (slot_at port.0 slot.0) =
-              ap (option_map (λ (r : Registered). loc_of r.at)) (by_number 0 f.places.given (stands_at (Slot port slot)) f.places.held w.0 fill.places.numbered w.1) ∙ ap (λ (l : LocId). Some (loc_of l)) there in
+          ap (option_map (λ (r : Registered). loc_of r.at)) (by_number 0 f.places.given (stands_at (Slot port slot)) f.places.held w.0 fill.places.numbered w.1) ∙ ap (λ (l : LocId). Some (loc_of l)) there in
           slot_free (picture (with_shop s f)) fill.by_numbers c.number port.0 slot.0 may (w.0).number placed
 
     -- nobody has the name

@@ -76,11 +76,12 @@ module _ {A : Type 0} (number : A → ℕ) where
   -- each is found by its number
   pub own_found : (xs : List A) → IsDistinct (map number xs) → AllByRecursion (λ (x : A). find (λ (y : A). number y == number x) xs ≡ Some x) xs
   own_found [] d = tt
-  own_found (x ∷ xs) d =
-      (ap (λ (b : Bool). if b then Some x else find (λ (y : A). number y == number x) xs) ((Decides-eqb (number x) (number x)).1 refl),
-      all_follows (λ (z : A). (find (λ (y : A). number y == number z) xs ≡ Some z) × ((number z == number x) ≡ false)) (λ (z : A). find (λ (y : A). number y == number z) (x ∷ xs) ≡ Some z) xs
-      (λ z both. ap (λ (b : Bool). if b then Some x else find (λ (y : A). number y == number z) xs) (swapped (number z) (number x) both.1) ∙ both.0)
-      (all_both (λ (z : A). find (λ (y : A). number y == number z) xs ≡ Some z) (λ (z : A). (number z == number x) ≡ false) xs (own_found xs d.1) (all_other (number x) xs d.0)))
+  own_found (x ∷ xs) d = (
+    ap (λ (b : Bool). if b then Some x else find (λ (y : A). number y == number x) xs) ((Decides-eqb (number x) (number x)).1 refl),
+    all_follows (λ (z : A). (find (λ (y : A). number y == number z) xs ≡ Some z) × ((number z == number x) ≡ false)) (λ (z : A). find (λ (y : A). number y == number z) (x ∷ xs) ≡ Some z) xs
+        (λ z both. ap (λ (b : Bool). if b then Some x else find (λ (y : A). number y == number z) xs) (swapped (number z) (number x) both.1) ∙ both.0)
+        (all_both (λ (z : A). find (λ (y : A). number y == number z) xs ≡ Some z) (λ (z : A). (number z == number x) ≡ false) xs (own_found xs d.1) (all_other (number x) xs d.0)),
+  )
 
   -- who has the number of one that is found is it
   pub only_numbered : (n : ℕ) (xs : List A) (x : A) → IsDistinct (map number xs) → find (λ (y : A). number y == n) xs ≡ Some x → AllByRecursion (λ (y : A). (number y == n) ≡ true → y ≡ x) xs

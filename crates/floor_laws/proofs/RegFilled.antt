@@ -81,6 +81,7 @@ module _ (s : Floor) (valid : IsFloor s) (c e : Carrier) (port : PortNo) (found 
   abbrev last_floor : ℕ → ℕ → ℕ → List ℕ → ToolFloor → ToolFloor
   last_floor k count code slots f = registers_slots c port (k + 1) count slots (registers_slot c port k code f)
 
+  -- so many slots
   pub slots_filled : (count k : ℕ) (slots : List ℕ) (f : ToolFloor) → 1 ≤ k → k + count ≤ 26 → Fills k f → Filled k count slots f (registers_slots c port k count slots f)
   slots_filled zero k slots f first last fill = record {
     filling = higher s valid c e port found present verified at named k (k + 0) f (omega arith) fill;

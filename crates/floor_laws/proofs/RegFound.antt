@@ -55,6 +55,7 @@ one_name cs ss named carried apart s t n m here there same =
     let number : a.2.slot ≡ b.2.slot = ap (λ (k : ℕ). record { 0 = k }) parts.1 in
     one_of_slot n m ss s t apart here there (a.2.own ∙ ap (λ (x : PortNo). Slot x a.2.slot) port ∙ ap (λ (x : SlotNo). Slot b.2.port x) number ∙ sym b.2.own)
 
+-- on the floor of the tool
 pub one_of_name : (f : ToolFloor) → Base f → (s t : Substrate) (n m : ℕ) → substrate_numbered n f.substrates ≡ Some s → substrate_numbered m f.substrates ≡ Some t → s.sub ≡ t.sub → s ≡ t
 one_of_name f b s t n m here there same = one_name f.shop.carriers f.substrates b.shop.apart b.carried b.apart s t n m here there same
 
@@ -170,6 +171,7 @@ few_of f valid carried v =
     let same = length-map f.substrates number_of in
     omega (arith, room, same)
 
+-- so there are at most 25 of each port
 pub few_substrates : (f : ToolFloor) → Base f → Valid (picture f) → length f.substrates ≤ 25 * length f.shop.ports
 few_substrates f b v = few_of f b.shop b.carried v
 

@@ -15,14 +15,17 @@ use Rattle.place_laws.specs.Standing.{AreApart}
 
 -- ---- one more
 
+-- no two have one slot, where none has that of the last
 pub apart_more : (ss : List Substrate) (x : Substrate) → AreApart ss → AllByRecursion (λ (t : Substrate). t.slot ≡ x.slot → ⊥) ss → AreApart (ss ++ x ∷ [])
 apart_more [] x apart other = (tt, tt)
 apart_more (s ∷ ss) x apart other = (all_pushed (λ (t : Substrate). s.slot ≡ t.slot → ⊥) ss x apart.0 other.0, apart_more ss x apart.1 other.1)
 
+-- their numbers rise to the next one
 pub rise_more : (last given : ℕ) (ss : List Substrate) (x : Substrate) → x.number ≡ given + 1 → RiseTo last given ss → RiseTo last (given + 1) (ss ++ x ∷ [])
 rise_more last given [] x is rising = (omega (arith, is, rising), omega (arith, is))
 rise_more last given (s ∷ ss) x is rising = (rising.0, rise_more s.number given ss x is rising.1)
 
+-- one that passes a test is there still
 pub any_more : (test : Substrate → Bool) (ss : List Substrate) (x : Substrate) → list_any test ss ≡ true → list_any test (ss ++ x ∷ []) ≡ true
 any_more test [] x e = absurd (cc)
 any_more test (s ∷ ss) x e = of (test s) e (any_more test ss x) where
@@ -30,6 +33,7 @@ any_more test (s ∷ ss) x e = of (test s) e (any_more test ss x) where
   of true e rest = refl
   of false e rest = rest e
 
+-- and the last may pass it
 pub any_last : (test : Substrate → Bool) (ss : List Substrate) (x : Substrate) → test x ≡ true → list_any test (ss ++ x ∷ []) ≡ true
 any_last test [] x e = ap (λ (b : Bool). b || false) e
 any_last test (s ∷ ss) x e = of (test s) (any_last test ss x e) where
@@ -60,6 +64,7 @@ last_held : (last given : ℕ) (rs : List Registered) → AreNumbered last given
 last_held last given [] rising = rising
 last_held last given (r ∷ rs) rising = let more = rising.0 in let rest = last_held r.number given rs rising.1 in omega (arith, more, rest)
 
+-- so none has a number past the last that was given
 pub none_held : (last given n : ℕ) (rs : List Registered) → AreNumbered last given rs → given < n → is_one_of (map (λ (r : Registered). r.number) rs) n ≡ false
 none_held last given n [] rising past = refl
 none_held last given n (r ∷ rs) rising past = of (r.number == n) refl (none_held r.number given n rs rising.1 past) where
@@ -75,5 +80,6 @@ no_job last given n (j ∷ js) rising less = of (j.number == n) refl (let more =
   of true e rest = let same = (Decides-eqb j.number n).0 e in let more = rising.0 in absurd (omega (arith, same, less, more))
   of false e rest = rest
 
+-- a number is itself
 pub own_number : (n : ℕ) → (n == n) ≡ true
 own_number n = (Decides-eqb n n).1 refl

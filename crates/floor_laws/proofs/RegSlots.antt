@@ -43,6 +43,7 @@ use Rattle.floor_laws.proofs.RegFound.{true_at, by_number, few_of, few_held, IsA
 use Rattle.floor_laws.proofs.RegMore.{apart_more, rise_more, found_front, found_last, none_held, no_job, own_number}
 use Rattle.floor_laws.proofs.RegNames.{modules_same}
 
+-- a carrier that is present with a port is so there
 present_here : (c : Carrier) (port : PortNo) → c.present ≡ true → c.port ≡ Some port → is_present_at port.0 c ≡ true
 present_here c port present at = rw (present, at) (own_number port.0)
 
@@ -67,6 +68,7 @@ module _ (s : Floor) (valid : IsFloor s) (c e : Carrier) (port : PortNo) (found 
     pub members : AllByRecursion (IsInItsJob s.carriers f.jobs) f.substrates
     pub by_numbers : Valid (picture (with_shop s f))
 
+  -- what holds before a slot holds before a later one
   pub higher : (k l : ℕ) (f : ToolFloor) → k ≤ l → Filling k f → Filling l f
   higher k l f less fill = record {
     carried = fill.carried;

@@ -66,6 +66,7 @@ job_stays cs ds w stay s its in_job j is = record {
   there : (d : Carrier) × (carrier_numbered s.carrier ds ≡ Some d) × GoesOn its.0 d
   there = stay s.carrier its.0 its.1 its.2.present its.2.verified
 
+-- each is
 pub jobs_stay : (cs ds : List Carrier) (w : Jobs) (ss : List Substrate) → Stay cs ds → AllByRecursion (IsCarried cs) ss → AllByRecursion (IsInItsJob cs w) ss → AllByRecursion (IsInItsJob ds w) ss
 jobs_stay cs ds w ss stay carried members =
     all_follows (λ (s : Substrate). IsCarried cs s × IsInItsJob cs w s) (IsInItsJob ds w) ss (λ s both. job_stays cs ds w stay s both.0 both.1)
@@ -89,24 +90,28 @@ record Becomes (row : ℕ) (c : Carrier) : Type 0 where
   then_is : is_map_verified (after map_number map_table row c.states.map) ≡ true
   here : c.present ≡ true
 
+-- rows 1 and 2 start where the map is NOT READ
 not_read : (m : MapState) → is_among map_number (slots.NotRead ∷ []) m ≡ true → m ≡ slots.NotRead
 not_read slots.NotRead e = refl
 not_read slots.WaitingForHost e = absurd (cc)
 not_read slots.Verified e = absurd (cc)
 not_read slots.VerificationFailed e = absurd (cc)
 
+-- rows 3 and 4 start where it waits
 waits : (m : MapState) → is_among map_number (slots.WaitingForHost ∷ []) m ≡ true → m ≡ slots.WaitingForHost
 waits slots.NotRead e = absurd (cc)
 waits slots.WaitingForHost e = refl
 waits slots.Verified e = absurd (cc)
 waits slots.VerificationFailed e = absurd (cc)
 
+-- so the carrier was read
 read_now : (s : IdState) (m : MapState) → m ≡ slots.WaitingForHost → not (is_id_not_read s && is_map_not_read m) ≡ true
 read_now s m is = ap (λ (x : MapState). not (is_id_not_read s && is_map_not_read x)) is ∙ of (is_id_not_read s) where
   of : (b : Bool) → not (b && false) ≡ true
   of true = refl
   of false = refl
 
+-- rows 1 and 3 are such
 becomes : (row : ℕ) (c : Carrier) → ReadWherePresent c → reaches_verified row ≡ true → carrier_starts map_number map_table (λ s. s.map) (λ to s. record s { map = to }) row (Some c) ≡ true → Becomes row c
 becomes row c reads reaches starts =
     starts_at_carrier map_number map_table (λ s. s.map) (λ to s. record s { map = to }) (λ (r : ℕ). reaches_verified r ≡ true → Becomes r c) c row (
@@ -242,5 +247,6 @@ module _ (f : ToolFloor) (n row : ℕ) (reaches : reaches_verified row ≡ true)
   slot_sound_by : Sound (floor_fired (firing 9 n row) f)
   slot_sound_by = subst (λ (t : Bool). Sound (with_shop behind (if t then registers_found (carrier_numbered n f.shop.carriers) f else f))) (sym reaches) (at_carrier (carrier_numbered n f.shop.carriers) refl)
 
+-- rows 1 and 3 of table 9
 pub slot_sound : (f : ToolFloor) (n row : ℕ) → reaches_verified row ≡ true → floor_starts (firing 9 n row) f ≡ true → Sound f → Sound (floor_fired (firing 9 n row) f)
 slot_sound f n row reaches starts sound = slot_sound_by f n row reaches starts sound

@@ -61,12 +61,15 @@ module _ (f : ToolFloor) (b : Base f) (name : List ℕ) (c : Carrier) (found : c
   pub carriers_apart : IsDistinct (map carrier_number f.shop.carriers)
   carriers_apart = carriers_distinct 1 f.shop.next_carrier f.shop.carriers b.shop.rising
 
+  -- those of substrates, too
   pub substrates_apart : IsDistinct (map number_of f.substrates)
   substrates_apart = rising_distinct 0 f.places.given f.substrates b.rising
 
+  -- each carrier is found by its number
   pub own_numbers : AllByRecursion (λ (d : Carrier). carrier_numbered d.number f.shop.carriers ≡ Some d) f.shop.carriers
   own_numbers = own_found carrier_number f.shop.carriers carriers_apart
 
+  -- and so is the one that goes
   pub its_own : carrier_numbered c.number f.shop.carriers ≡ Some c
   its_own = true_at (λ (d : Carrier). carrier_numbered d.number f.shop.carriers ≡ Some d) (has_name name) f.shop.carriers c own_numbers found
 

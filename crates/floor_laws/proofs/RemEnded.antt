@@ -57,12 +57,14 @@ by_id id.WaitingForHost slots.Verified order e = absurd (cc)
 by_id id.Verified slots.Verified order e = absurd (cc)
 by_id id.VerificationFailed slots.Verified order e = sym (order refl)
 
+-- CARRIER COMPLETE and CARRIER STOPPED have numbers from 2 on
 done_ended : (a : Accessing) → is_done a ≡ true → 2 ≤ access_number a
 done_ended access.NotAccessed e = absurd (cc)
 done_ended access.InAccess e = absurd (cc)
 done_ended access.Complete e = omega arith
 done_ended access.Stopped e = omega arith
 
+-- so one that may be taken away has ended
 pub finished_ended : (c : Carrier) → IsInOrder c → is_finished c.states ≡ true → (2 ≤ access_number c.states.access) ⊎ (is_map_verified c.states.map ≡ false)
 finished_ended c order e = of (is_done c.states.access) refl e where
   of : (b : Bool) → is_done c.states.access ≡ b → (b || (is_id_failed c.states.id || is_map_failed c.states.map)) ≡ true → (2 ≤ access_number c.states.access) ⊎ (is_map_verified c.states.map ≡ false)

@@ -106,6 +106,7 @@ module _ {A : Type 0} (number : A → ℕ) where
 
 -- ---- places and carriers have their own numbers
 
+-- no place has a number that is not past the last one before
 none_before : (last given n : ℕ) (rs : List Registered) → AreNumbered last given rs → n ≤ last → is_one_of (map (λ (r : Registered). r.number) rs) n ≡ false
 none_before last given n [] rising less = refl
 none_before last given n (r ∷ rs) rising less = of (r.number == n) refl (let more = rising.0 in none_before r.number given n rs rising.1 (omega (arith, less, more))) where
@@ -113,10 +114,12 @@ none_before last given n (r ∷ rs) rising less = of (r.number == n) refl (let m
   of true e rest = let same = (Decides-eqb r.number n).0 e in let more = rising.0 in absurd (omega (arith, same, less, more))
   of false e rest = rest
 
+-- so no two places have one
 pub held_distinct : (last given : ℕ) (rs : List Registered) → AreNumbered last given rs → IsDistinct (map (λ (r : Registered). r.number) rs)
 held_distinct last given [] rising = tt
 held_distinct last given (r ∷ rs) rising = (none_before r.number given r.number rs rising.1 (omega arith), held_distinct r.number given rs rising.1)
 
+-- no carrier has a number below the first
 none_first : (first next n : ℕ) (cs : List Carrier) → RiseFrom first next cs → n < first → is_one_of (map carrier_number cs) n ≡ false
 none_first first next n [] rising less = refl
 none_first first next n (c ∷ cs) rising less = of (c.number == n) refl (let more = rising.0 in none_first (c.number + 1) next n cs rising.1 (omega (arith, less, more))) where
@@ -124,6 +127,7 @@ none_first first next n (c ∷ cs) rising less = of (c.number == n) refl (let mo
   of true e rest = let same = (Decides-eqb c.number n).0 e in let more = rising.0 in absurd (omega (arith, same, less, more))
   of false e rest = rest
 
+-- so no two carriers have one
 pub carriers_distinct : (first next : ℕ) (cs : List Carrier) → RiseFrom first next cs → IsDistinct (map carrier_number cs)
 carriers_distinct first next [] rising = tt
 carriers_distinct first next (c ∷ cs) rising = (none_first (c.number + 1) next c.number cs rising.1 (omega arith), carriers_distinct (c.number + 1) next cs rising.1)
@@ -131,6 +135,7 @@ carriers_distinct first next (c ∷ cs) rising = (none_first (c.number + 1) next
 -- ---- substrates of which some are left out
 
 module _ (q : Substrate → Bool) where
+  -- no two have one slot
   pub apart_fewer : (ss : List Substrate) → AreApart ss → AreApart (filter q ss)
   apart_fewer [] apart = tt
   apart_fewer (s ∷ ss) apart = of (q s) (apart_fewer ss apart.1) where
@@ -142,6 +147,7 @@ module _ (q : Substrate → Bool) where
   rise_earlier last later given [] less rising = omega (arith, less, rising)
   rise_earlier last later given (s ∷ ss) less rising = (let more = rising.0 in omega (arith, less, more), rising.1)
 
+  -- their numbers rise
   pub rise_fewer : (last given : ℕ) (ss : List Substrate) → RiseTo last given ss → RiseTo last given (filter q ss)
   rise_fewer last given [] rising = rising
   rise_fewer last given (s ∷ ss) rising = of (q s) (rise_fewer s.number given ss rising.1) where

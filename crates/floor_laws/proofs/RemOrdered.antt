@@ -19,6 +19,7 @@ use Rattle.shop_floor.proofs.Cases.{starts_at_carrier}
 use Rattle.shop_floor.proofs.Numbers.{all_numbered, all_at_number}
 use Rattle.floor_laws.proofs.RemEnded.{IsInOrder}
 
+-- what is tested with what isn't so isn't so
 and_false : (b : Bool) → (b && false) ≡ false
 and_false true = refl
 and_false false = refl
@@ -32,9 +33,11 @@ was_unverified row id.Verified e =
     absurd (let clash : true ≡ false = sym still ∙ e in cc)
 was_unverified row id.VerificationFailed e = refl
 
+-- rows of table 8
 pub ordered_id : (n row : ℕ) (cs : List Carrier) → AllByRecursion IsInOrder cs → AllByRecursion IsInOrder (change_numbered n (carriers.fires_row 8 row) cs)
 ordered_id n row cs all = all_numbered IsInOrder n (carriers.fires_row 8 row) cs (λ c order unverified. order (was_unverified row c.states.id unverified)) all
 
+-- rows of table 10
 pub ordered_access : (n row : ℕ) (cs : List Carrier) → AllByRecursion IsInOrder cs → AllByRecursion IsInOrder (change_numbered n (carriers.fires_row 10 row) cs)
 ordered_access n row cs all = all_numbered IsInOrder n (carriers.fires_row 10 row) cs (λ c order unverified. order unverified) all
 
@@ -45,10 +48,12 @@ waits slots.WaitingForHost e = refl
 waits slots.Verified e = absurd (cc)
 waits slots.VerificationFailed e = absurd (cc)
 
+-- a test has one outcome
 not_both : (b : Bool) → b ≡ true → b ≡ false → ⊥
 not_both true e f = cc
 not_both false e f = cc
 
+-- so no row of table 9 starts at a carrier whose id isn't VERIFIED
 map_starts : (row : ℕ) (c : Carrier) → IsInOrder c → carrier_starts map_number map_table (λ s. s.map) (λ to s. record s { map = to }) row (Some c) ≡ true → is_id_verified c.states.id ≡ false → ⊥
 map_starts row c order starts =
     starts_at_carrier map_number map_table (λ s. s.map) (λ to s. record s { map = to }) (λ (r : ℕ). is_id_verified c.states.id ≡ false → ⊥) c row (
@@ -63,6 +68,7 @@ map_starts row c order starts =
     )
     starts
 
+-- rows of table 9
 pub ordered_map : (n row : ℕ) (f : Floor) → floor_starts (firing 9 n row) f ≡ true → AllByRecursion IsInOrder f.carriers → AllByRecursion IsInOrder (change_numbered n (carriers.fires_row 9 row) f.carriers)
 ordered_map n row f starts all =
     all_at_number IsInOrder n (carriers.fires_row 9 row) f.carriers

@@ -9,6 +9,7 @@ use Rattle.substrate.proofs.Standing.{placed_fewer, all_fewer, length_fewer, num
 use Rattle.tool_floor.specs.declared.tracking.Substrate.{Substrate}
 use Rattle.tool_floor.specs.Substrates.{is_of, emptied, removed_of}
 
+-- two tests with one outcome leave the same
 filter_same : {A : Type 0} (q r : A → Bool) (xs : List A) → AllByRecursion (λ (x : A). q x ≡ r x) xs → filter q xs ≡ filter r xs
 filter_same q r [] same = refl
 filter_same q r (x ∷ xs) same = ap (λ (b : Bool). if b then x ∷ filter q xs else filter q xs) same.0 ∙ ap (λ (ys : List _). if r x then x ∷ ys else ys) (filter_same q r xs same.1)
@@ -25,10 +26,12 @@ filter_twice q r both (x ∷ xs) is = of (r x) refl (filter_twice q r both xs is
       let same : both x ≡ false = is x ∙ ap (λ (b : Bool). b && q x) t in
       rest ∙ ap (λ (b : Bool). if b then x ∷ filter both xs else filter both xs) (sym same)
 
+-- a test that all pass leaves all
 pub filter_all : {A : Type 0} (q : A → Bool) (xs : List A) → AllByRecursion (λ (x : A). q x ≡ true) xs → filter q xs ≡ xs
 filter_all q [] all = refl
 filter_all q (x ∷ xs) all = ap (λ (b : Bool). if b then x ∷ filter q xs else filter q xs) all.0 ∙ ap (λ (ys : List _). x ∷ ys) (filter_all q xs all.1)
 
+-- what holds of each place holds of all
 all_true : (rs : List Registered) → AllByRecursion (λ (r : Registered). true ≡ true) rs
 all_true [] = tt
 all_true (r ∷ rs) = (refl, all_true rs)
@@ -71,12 +74,15 @@ module _ (k : ℕ) where
     of true = same s.sub p
     of false = refl
 
+  -- the ports
   pub removed_ports : (ss : List Substrate) (p : PlaceMap) → (removed_of k ss p).ports ≡ p.ports
   removed_ports ss p = kept_by (λ (q : PlaceMap). q.ports) (λ sub q. refl) ss p
 
+  -- the chambers
   pub removed_chambers : (ss : List Substrate) (p : PlaceMap) → (removed_of k ss p).chambers ≡ p.chambers
   removed_chambers ss p = kept_by (λ (q : PlaceMap). q.chambers) (λ sub q. refl) ss p
 
+  -- and the number that was given last
   pub removed_given : (ss : List Substrate) (p : PlaceMap) → (removed_of k ss p).given ≡ p.given
   removed_given ss p = kept_by (λ (q : PlaceMap). q.given) (λ sub q. refl) ss p
 

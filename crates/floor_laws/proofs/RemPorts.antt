@@ -32,6 +32,7 @@ use Rattle.floor_laws.proofs.RemTests.{StayLeaving, leaving_named, leaving_away,
 
 -- ---- one port changes, and the carriers
 
+-- a change of the port of a place
 pub released_at : (place : ℕ) (change : Port → Port) (f : Floor) (p : Port) (cs : List Carrier) (next : ℕ) → slice_get f.ports place ≡ Some p → AllByRecursion IsInOrder cs
     → ((n : ℕ) → (n == suc place) ≡ false → has_finished n f.carriers ≡ true → has_finished n cs ≡ true)
     → (is_unloadable (change p).states.transfer ≡ true → has_finished (suc place) cs ≡ true)
@@ -57,12 +58,14 @@ released_carriers f cs next ordered stay rel = record { ordered = ordered; ports
 
 -- ---- states of a port besides its transfer
 
+-- a change of a place that isn't there changes nothing
 update_none : {X : Type 0} (n : ℕ) (change : X → X) (xs : List X) → slice_get xs n ≡ None → update_at n change xs ≡ xs
 update_none zero change [] e = refl
 update_none (suc n) change [] e = refl
 update_none zero change (x ∷ xs) e = absurd (cc)
 update_none (suc n) change (x ∷ xs) e = ap (λ (ys : List _). x ∷ ys) (update_none n change xs e)
 
+-- a change that leaves the transfer
 pub states_released : (port : ℕ) (change : Port → Port) (f : Floor) → ((p : Port) → (change p).states.transfer ≡ p.states.transfer) → Released f → Released (with_port port change f)
 states_released zero change f same rel = rel
 states_released (suc place) change f same rel = of (slice_get f.ports place) refl where
@@ -79,6 +82,7 @@ module _ (f : Floor) (rel : Released f) where
       released_at place (ports.fires_row 4 row) f p f.carriers f.next_carrier s rel.ordered (λ n e q. q)
       (λ u. absurd (let clash : true ≡ false = sym u ∙ ap (λ (x : Transfer). is_unloadable (after transfer_number transfer_table row x)) is ∙ ends in cc)) rel
 
+  -- each row of table 4
   pub transfer_released : (port row : ℕ) → floor_starts (firing 4 port row) f ≡ true → Released (floor_fired (firing 4 port row) f)
   transfer_released port row starts =
       starts_at_port transfer_number transfer_table (λ s. s.transfer) (λ to s. record s { transfer = to })
@@ -100,6 +104,7 @@ module _ (f : Floor) (rel : Released f) where
 
   -- ---- tables 5 and 6
 
+  -- each row of table 5
   pub access_released : (port row : ℕ) → floor_starts (firing 5 port row) f ≡ true → Released (floor_fired (firing 5 port row) f)
   access_released port row starts =
       starts_at_port mode_number access_table (λ s. s.access) (λ to s. record s { access = to })
@@ -110,6 +115,7 @@ module _ (f : Floor) (rel : Released f) where
       ))
       starts
 
+  -- each row of table 6
   pub reservation_released : (port row : ℕ) → floor_starts (firing 6 port row) f ≡ true → Released (floor_fired (firing 6 port row) f)
   reservation_released port row starts =
       starts_at_port reservation_number reservation_table (λ s. s.reservation) (λ to s. record s { reservation = to })
@@ -142,6 +148,7 @@ arrived_released place f p a s new rel =
     (λ n e. leaving_away a.name (came_to (suc place) a.is_read a.map) (found_or_created f.next_carrier a.name f.carriers)
     (all_found (IsAway a.name) f.next_carrier a.name f.carriers (λ unknown. away_absent a.name (created f.next_carrier a.name) refl) (absent_all a.name f.carriers new)) n (leaving_found f.next_carrier a.name f.carriers n e)) rel
 
+-- where something came
 arriving_released : (place : ℕ) (f : Floor) (p : Port) → slice_get f.ports place ≡ Some p → ((a : Arrival) → p.arrival ≡ Some a → is_present a.name f.carriers ≡ false) → is_some p.arrival ≡ true → Released f → Released (arriving (suc place) f)
 arriving_released place f p s new some rel =
     with_arrival p.arrival some

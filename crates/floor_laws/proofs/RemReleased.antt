@@ -42,10 +42,12 @@ use Rattle.floor_laws.proofs.RemSound.{unloadable_at}
 abbrev pub is_kept_there : Firing → Bool
 is_kept_there x = not ((x.row.table == 7) && is_one_of (2 ∷ 6 ∷ []) x.row.row)
 
+-- what is denied isn't so
 not_so : (b : Bool) → not b ≡ true → b ≡ false
 not_so true e = sym e
 not_so false e = refl
 
+-- each of the others
 pub released_row : (x : Firing) (f : Floor) → floor_starts x f ≡ true → is_kept_there x ≡ true → AtPorts f → Released f → Released (floor_fired x f)
 released_row x f starts kind at rel =
     starts_cases (λ (y : Firing). is_kept_there y ≡ true → Released (floor_fired y f)) f x floor_machines (
@@ -82,6 +84,7 @@ forgets_absent : (o : Option (List ℕ)) (cs : List Carrier) → ((name : List �
 forgets_absent None cs absent n e = e
 forgets_absent (Some name) cs absent n e = leaving_without name cs (absent name refl) n e
 
+-- so that row keeps it
 pub released_unbinding : (port : ℕ) (f : Floor) → floor_starts (firing 7 port 2) f ≡ true → ((name : List ℕ) → owner (port_numbered port f.ports) ≡ Some name → NonePresent name f.carriers) → Released f → Released (floor_fired (firing 7 port 2) f)
 released_unbinding port f starts none rel =
     starts_at_port association_number association_table (λ s. s.association) (λ to s. record s { association = to })
@@ -105,6 +108,7 @@ record IsLeavingFrom (place : ℕ) (f : Floor) (p : Port) : Type 0 where
   here : is_port (suc place) one.port ≡ true
   owns : p.carrier ≡ Some one.name
 
+-- there is one, by what is said of the port
 leaving_from : (place : ℕ) (f : Floor) (p : Port) → slice_get f.ports place ≡ Some p → is_unloadable p.states.transfer ≡ true → IsFloor f → Released f → IsLeavingFrom place f p
 leaving_from place f p s is valid rel =
     let w = found_one (is_leaving (suc place)) f.carriers (rel.ports (suc place) p s is) in
@@ -117,6 +121,7 @@ one_port : (n m : ℕ) (o : Option PortNo) → is_port n o ≡ true → is_port 
 one_port n m None e f = absurd (cc)
 one_port n m (Some k) e f = sym ((Decides-eqb k.0 n).0 e) ∙ (Decides-eqb k.0 m).0 f
 
+-- at the port of a place
 removed_at : (place : ℕ) (f : Floor) (p : Port) → slice_get f.ports place ≡ Some p → p.states.transfer ≡ ReadyToUnload → floor_starts (firing 4 (suc place) 5) f ≡ true → IsFloor f → Released f → Released (floor_fired (firing 7 (suc place) 6) (floor_fired (firing 4 (suc place) 5) f))
 removed_at place f p s is starts valid rel =
     forgetting_released place 6 (floor_fired (firing 4 (suc place) 5) f) (ports.fires_row 4 5 p) (get_updated place (ports.fires_row 4 5) f.ports p s)
@@ -140,6 +145,7 @@ removed_at place f p s is starts valid rel =
           (all_follows (IsOnly it.one) (λ (c : Carrier). has_name it.one.name c ≡ true → is_leaving n c ≡ true → ⊥) f.carriers (λ c only named passes. elsewhere n e c only named passes)
           (found_only (is_leaving (suc place)) f.carriers it.one valid.apart it.found)) leaves
 
+-- rows 4.5 and 7.6, one behind the other
 pub released_removal : (port : ℕ) (f : Floor) → floor_starts (firing 4 port 5) f ≡ true → IsFloor f → Released f → Released (floor_fired (firing 7 port 6) (floor_fired (firing 4 port 5) f))
 released_removal port f starts valid rel =
     unloadable_at (λ n. floor_starts (firing 4 n 5) f ≡ true → Released (floor_fired (firing 7 n 6) (floor_fired (firing 4 n 5) f))) port f starts (λ place p s is starts. removed_at place f p s is starts valid rel) starts
@@ -174,15 +180,18 @@ released_made name f rel =
 
 -- ---- the beginning
 
+-- no port is READY TO UNLOAD as it is made
 first_unloadable : (n place : ℕ) (p : Port) → slice_get (first_ports n) place ≡ Some p → is_unloadable p.states.transfer ≡ false
 first_unloadable zero place p e = absurd (cc)
 first_unloadable (suc n) zero p e = let same : ports.first_port ≡ p = cc in ap (λ (q : Port). is_unloadable q.states.transfer) (sym same)
 first_unloadable (suc n) (suc place) p e = first_unloadable n place p e
 
+-- by its number
 opening_unloadable : (n number : ℕ) (p : Port) → port_numbered number (first_ports n) ≡ Some p → is_unloadable p.states.transfer ≡ false
 opening_unloadable n zero p e = absurd (cc)
 opening_unloadable n (suc place) p e = first_unloadable n place p e
 
+-- so it holds at the beginning
 pub released_opening : (n : ℕ) → Released (opening n)
 released_opening n = record {
   ordered = tt;

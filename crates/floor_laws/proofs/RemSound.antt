@@ -65,6 +65,7 @@ ports_kept f ps cs next same count valid kept =
 
 -- ---- row 5 of table 4
 
+-- it leaves the carriers
 pub vacated_kept : (port : ℕ) (f : ToolFloor) → floor_starts (firing 4 port 5) f ≡ true → Kept f → Kept (floor_fired (firing 4 port 5) f)
 vacated_kept port f starts kept =
     ports_kept f (change_port port (ports.fires_row 4 5) f.shop.ports) f.shop.carriers f.shop.next_carrier refl (ports_length port (ports.fires_row 4 5) f.shop.ports)
@@ -86,6 +87,7 @@ without_nobody name cs none =
     filter_all (λ (c : Carrier). not (has_name name c)) cs
     (all_follows (λ (c : Carrier). has_name name c ≡ false) (λ (c : Carrier). not (has_name name c) ≡ true) cs (λ c other. ap not other) (unknown_all name cs (none_passes (has_name name) cs none)))
 
+-- the port's carrier goes with its substrates
 pub forgotten_kept : (port : ℕ) (f : ToolFloor) → floor_starts (firing 7 port 6) f ≡ true → OwnerEnded port f → Kept f → Kept (floor_fired (firing 7 port 6) f)
 forgotten_kept port f starts ends kept = of (owner (port_numbered port f.shop.ports)) refl (shop_keeps (firing 7 port 6) f.shop starts kept.base.shop) where
   named : (name : List ℕ) → owner (port_numbered port f.shop.ports) ≡ Some name → (k : Option Carrier) → carrier_named name f.shop.carriers ≡ k → IsFloor (behind port (Some name) f.shop) → Kept (with_shop (behind port (Some name) f.shop) (without_carrier (option_map number_of k) f))
@@ -115,12 +117,14 @@ still_owned port f starts =
     unloadable_at (λ n. owner (port_numbered n (change_port n (ports.fires_row 4 5) f.ports)) ≡ owner (port_numbered n f.ports)) port f starts
     (λ place p s is. ap owner (get_updated place (ports.fires_row 4 5) f.ports p s) ∙ sym (ap owner s))
 
+-- where row 6 of table 7 starts behind row 5 of table 4
 pub removal_sound : (port : ℕ) (f : ToolFloor) → floor_starts (firing 4 port 5) f ≡ true → floor_starts (firing 7 port 6) (floor_fired (firing 4 port 5) f) ≡ true → OwnerEnded port f → Sound f → Sound (floor_fired (firing 7 port 6) (floor_fired (firing 4 port 5) f))
 removal_sound port f starts then_starts ends sound =
     let between = vacated_kept port f starts (record { base = sound.base; valid = sound.valid }) in
     let kept = forgotten_kept port (floor_fired (firing 4 port 5) f) then_starts (λ name c its found. ends name c (sym (still_owned port f.shop starts) ∙ its) found) between in
     record { base = kept.base; ports = removal-at-ports port f.shop starts sound.base.shop sound.ports; valid = kept.valid }
 
+-- where it doesn't
 pub removal_left_sound : (port : ℕ) (f : ToolFloor) → floor_starts (firing 4 port 5) f ≡ true → floor_starts (firing 7 port 6) (floor_fired (firing 4 port 5) f) ≡ false → Sound f → Sound (floor_fired (firing 4 port 5) f)
 removal_left_sound port f starts left sound =
     let kept = vacated_kept port f starts (record { base = sound.base; valid = sound.valid }) in

@@ -115,6 +115,7 @@ leaving_without name cs none port e =
 
 -- ---- rows of carriers
 
+-- what is tested with what isn't so isn't so
 and_false : (b : Bool) → (b && false) ≡ false
 and_false true = refl
 and_false false = refl
@@ -126,6 +127,7 @@ id_failed row id.WaitingForHost e = absurd (cc)
 id_failed row id.Verified e = absurd (cc)
 id_failed row id.VerificationFailed e = rw (and_false (1 == row), and_false (2 == row), and_false (3 == row), and_false (4 == row), and_false (5 == row)) refl
 
+-- of its slot map, too
 map_failed : (row : ℕ) (m : MapState) → is_map_failed m ≡ true → is_map_failed (after map_number map_table row m) ≡ true
 map_failed row slots.NotRead e = absurd (cc)
 map_failed row slots.WaitingForHost e = absurd (cc)
@@ -152,6 +154,7 @@ any_on false false c d e f x y z q = rest d e (z q) where
   rest false true u = refl
   rest false false u = u
 
+-- what stays is so
 same_so : (b : Bool) → b ≡ true → b ≡ true
 same_so b e = e
 
@@ -161,16 +164,19 @@ still_finished table row c goes port e =
     let parts = and_parts (is_present_at port c) (is_finished c.states) e in
     ap (λ (b : Bool). b && is_finished (carriers.fires_row table row c).states) parts.0 ∙ goes parts.1
 
+-- rows of table 8
 pub leaving_id : (n row : ℕ) (cs : List Carrier) → StayLeaving cs (change_numbered n (carriers.fires_row 8 row) cs)
 leaving_id n row cs port e =
     any_numbered (is_leaving port) n (carriers.fires_row 8 row) cs
     (λ c q. still_finished 8 row c (any_on (is_done c.states.access) (is_id_failed c.states.id) (is_map_failed c.states.map) (is_done c.states.access) (is_id_failed (after id_number id_table row c.states.id)) (is_map_failed c.states.map) (same_so _) (id_failed row c.states.id) (same_so _)) port q) e
 
+-- rows of table 9
 pub leaving_map : (n row : ℕ) (cs : List Carrier) → StayLeaving cs (change_numbered n (carriers.fires_row 9 row) cs)
 leaving_map n row cs port e =
     any_numbered (is_leaving port) n (carriers.fires_row 9 row) cs
     (λ c q. still_finished 9 row c (any_on (is_done c.states.access) (is_id_failed c.states.id) (is_map_failed c.states.map) (is_done c.states.access) (is_id_failed c.states.id) (is_map_failed (after map_number map_table row c.states.map)) (same_so _) (same_so _) (map_failed row c.states.map)) port q) e
 
+-- rows of table 10
 pub leaving_access : (n row : ℕ) (cs : List Carrier) → StayLeaving cs (change_numbered n (carriers.fires_row 10 row) cs)
 leaving_access n row cs port e =
     any_numbered (is_leaving port) n (carriers.fires_row 10 row) cs

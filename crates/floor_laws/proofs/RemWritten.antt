@@ -66,5 +66,6 @@ module _ (f : Floor) (valid : IsFloor f) (rel : Released f) where
   written_so word.CancelNotify id port slots bad code = unknown_released id (none_of_name id (carrier_named id f.carriers) refl (answer_of _ caack.Faulty _ code refl))
   written_so word.Unknown id port slots bad code = rel
 
+  -- each action that is done
   pub released_written : (a : CarrierAction) → is_done_code (carrier_code f a) ≡ true → Released (carrier_written a f)
   released_written a code = written_so a.word a.id a.port a.map a.bad_attr code

@@ -64,7 +64,7 @@ over_there s u =
     (all_both (IsFinishedThere s.ports) IsReadById s.carriers u.finished u.by_id)
 
 -- so it has ended
-over_ended : (c : Carrier) (f : ToolFloor) → carrier_numbered c.number f.shop.carriers ≡ Some c → is_over c ≡ true → HasEnded c.number (picture f)
+pub over_ended : (c : Carrier) (f : ToolFloor) → carrier_numbered c.number f.shop.carriers ≡ Some c → is_over c ≡ true → HasEnded c.number (picture f)
 over_ended c f there over = of c.states.access refl (is_map_verified c.states.map) refl over where
   accessed : (a : Accessing) → c.states.access ≡ a → (picture f).access c.number ≡ access_number a
   accessed a is = ap (of_one 0 (λ (x : Carrier). access_number x.states.access)) there ∙ ap access_number is

@@ -57,10 +57,4 @@ pub mod RemPlaces
 pub mod RemAgree
 pub mod RemBase
 pub mod RemSound
-pub mod RemEnded
-pub mod RemTests
-pub mod RemOrdered
-pub mod RemPorts
-pub mod RemReleased
-pub mod RemWritten
-pub mod RemTool
+pub mod FloorRemoved

@@ -39,6 +39,7 @@ use Rattle.place_laws.specs.Picture.{picture}
 use Rattle.place_laws.specs.Ports.{AtPorts}
 use Rattle.place_laws.specs.Standing.{IsCarried, is_that_of, is_registered, AreRegistered, code_of}
 use Rattle.place_laws.specs.Sound.{IsOfJob, IsInItsJob, Base, Sound}
+use Rattle.place_laws.proofs.UnloadRows.{map-unloading}
 use Rattle.place_laws.proofs.Holding.{found_number, true_of_found}
 use Rattle.place_laws.proofs.Stays.{GoesOn, Stay, stay_numbered, stay-carried}
 use Rattle.place_laws.proofs.Leaving.{still_verified}
@@ -230,6 +231,7 @@ module _ (f : ToolFloor) (n row : ℕ) (reaches : reaches_verified row ≡ true)
         jobs = record { numbered = filled.filling.numbered; given = filled.filling.given; members = filled.filling.members };
       };
       ports = ports;
+      unloading = map-unloading f.shop n row starts sound.unloading;
       valid = filled.filling.by_numbers;
     }
 

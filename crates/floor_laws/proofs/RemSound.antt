@@ -27,11 +27,12 @@ use Rattle.place_laws.specs.Sound.{Base, Sound}
 use Rattle.place_laws.proofs.PortChanges.{at_place}
 use Rattle.place_laws.proofs.PortTransfers.{among_unloadable}
 use Rattle.place_laws.proofs.PortRemoval.{removal-at-ports, removal-left-at-ports}
+use Rattle.place_laws.proofs.UnloadPorts.{vacated-unloading}
+use Rattle.place_laws.proofs.UnloadRows.{removal-unloading}
 use Rattle.floor_laws.proofs.RemPlaces.{filter_all}
 use Rattle.floor_laws.proofs.RemBase.{taken_base, taken_valid}
 
--- What is missing in what holds at every moment: the carrier that belongs to the port has ended. It is CARRIER COMPLETE or CARRIER
--- STOPPED, or its slot map isn't VERIFIED.
+-- The carrier that belongs to the port has ended: it is CARRIER COMPLETE or CARRIER STOPPED, or its slot map isn't VERIFIED.
 abbrev pub OwnerEnded : ℕ → ToolFloor → Type 0
 OwnerEnded port f = (name : List ℕ) (c : Carrier) → owner (port_numbered port f.shop.ports) ≡ Some name → carrier_named name f.shop.carriers ≡ Some c → HasEnded c.number (picture f)
 
@@ -122,10 +123,10 @@ pub removal_sound : (port : ℕ) (f : ToolFloor) → floor_starts (firing 4 port
 removal_sound port f starts then_starts ends sound =
     let between = vacated_kept port f starts (record { base = sound.base; valid = sound.valid }) in
     let kept = forgotten_kept port (floor_fired (firing 4 port 5) f) then_starts (λ name c its found. ends name c (sym (still_owned port f.shop starts) ∙ its) found) between in
-    record { base = kept.base; ports = removal-at-ports port f.shop starts sound.base.shop sound.ports; valid = kept.valid }
+    record { base = kept.base; ports = removal-at-ports port f.shop starts sound.base.shop sound.ports; unloading = removal-unloading port f.shop sound.unloading; valid = kept.valid }
 
 -- where it doesn't
 pub removal_left_sound : (port : ℕ) (f : ToolFloor) → floor_starts (firing 4 port 5) f ≡ true → floor_starts (firing 7 port 6) (floor_fired (firing 4 port 5) f) ≡ false → Sound f → Sound (floor_fired (firing 4 port 5) f)
 removal_left_sound port f starts left sound =
     let kept = vacated_kept port f starts (record { base = sound.base; valid = sound.valid }) in
-    record { base = kept.base; ports = removal-left-at-ports port f.shop starts left sound.base.shop sound.ports; valid = kept.valid }
+    record { base = kept.base; ports = removal-left-at-ports port f.shop starts left sound.base.shop sound.ports; unloading = vacated-unloading port f.shop sound.unloading; valid = kept.valid }

@@ -27,13 +27,7 @@ use Rattle.job_requests.specs.Attributes.{Attribute}
 use Rattle.job_requests.specs.Requests.{command_named, command_error, command_rows, asked_process, process_error, process_rows, asked_control, request_error, control_rows, cancel_error, cancelled, cancel_rows, control_command_error, control_after, control_command_rows}
 use Rattle.gem_model.specs.State.{State}
 use Rattle.gem_model.specs.Remote.{is_local}
-use Rattle.gem_model.specs.HostMessages.{HostReply, ShopTold}
-
--- what a message does: its reply, the state behind what it writes, and its direct rows
-pub record Done : Type 0 where
-  pub reply : HostReply
-  pub after : State
-  pub rows : List Firing
+use Rattle.gem_model.specs.HostMessages.{ShopTold, Done}
 
 -- ---- why something isn't done
 

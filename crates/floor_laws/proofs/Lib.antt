@@ -58,3 +58,4 @@ pub mod RemAgree
 pub mod RemBase
 pub mod RemSound
 pub mod FloorRemoved
+pub mod FloorRows

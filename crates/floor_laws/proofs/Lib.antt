@@ -59,3 +59,4 @@ pub mod RemBase
 pub mod RemSound
 pub mod FloorRemoved
 pub mod FloorRows
+pub mod FloorInputs

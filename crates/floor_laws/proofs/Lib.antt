@@ -60,3 +60,4 @@ pub mod RemSound
 pub mod FloorRemoved
 pub mod FloorRows
 pub mod FloorInputs
+pub mod FloorPlaces

@@ -17,21 +17,13 @@ use Rattle.tool_floor.specs.Views.{planned}
 use Rattle.floor_moves.specs.Floor.{process}
 use Rattle.place_laws.specs.Picture.{task_of}
 use Rattle.place_laws.specs.Sound.{Sound, SoundBut}
+use Rattle.floor_laws.specs.Rows.{one_listed, listed}
 use Rattle.floor_laws.proofs.EndMoves.{pick_sound, place_sound, align_sound}
 use Rattle.floor_laws.proofs.EndAnswers.{idle_not, down_not, turned_sound, process_but, other_closed}
 use Rattle.floor_laws.proofs.EndBut.{but_sound, but_left_sound}
 use Rattle.floor_laws.proofs.EndLost.{lost_sound}
 
 -- ---- rows one behind the other
-
--- a row fires where it starts
-abbrev pub one_listed : Firing → ToolFloor → ToolFloor
-one_listed x f = if floor_starts x f then floor_fired x f else f
-
--- each that starts fires, one behind the other
-abbrev pub listed : List Firing → ToolFloor → ToolFloor
-listed [] f = f
-listed (x ∷ xs) f = listed xs (one_listed x f)
 
 -- what is so behind the row where it starts, and of the floor where it doesn't, is so behind it
 pub listed_either : (P : ToolFloor → Type 0) (x : Firing) (f : ToolFloor) → (floor_starts x f ≡ true → P (floor_fired x f)) → (floor_starts x f ≡ false → P f) → P (one_listed x f)

@@ -27,7 +27,9 @@ use Rattle.floor_moves.specs.OnePlace.{OnePlace}
 use Rattle.floor_moves.proofs.Promised.{one_place, one_place_between}
 use Rattle.place_laws.specs.Picture.{picture, loc_of, place_in}
 use Rattle.place_laws.specs.Sound.{Base, Sound, SoundBut}
-use Rattle.floor_laws.proofs.FloorInputs.{one_listed, listed, listed_either, listed_starts, done_starts, failed_starts, down_starts}
+use Rattle.floor_laws.specs.Rows.{one_listed, listed}
+use Rattle.floor_laws.specs.Moves.{Picked, Placed, DoneAt, LostAt}
+use Rattle.floor_laws.proofs.FloorInputs.{listed_either, listed_starts, done_starts, failed_starts, down_starts}
 use Rattle.floor_laws.proofs.GrowLost.{lost_places}
 use Rattle.floor_laws.proofs.GrowRows.{move_same, processing_same}
 use Rattle.floor_laws.proofs.GrowTransfer.{Transfers, pick_places, place_places}
@@ -54,29 +56,6 @@ done_still n f = of (is_of_aborting (substrate_numbered n f.substrates) f) where
   of false = refl
 
 -- ---- Done
-
--- the open Pick of a substrate is done: it goes from the start onto the arm
-pub record Picked (c : Command) (n : ℕ) (f g : ToolFloor) : Type 0 where
-  pub sub : List ℕ
-  pub from : LocId
-  pub task : c.task ≡ task.Pick sub from
-  pub named : number_named sub f.places ≡ Some n
-  pub before : place_in f.places n ≡ Some (loc_of from)
-  pub after : place_in g.places n ≡ Some arm
-
--- the open Place of a substrate is done: it goes from the arm to the end
-pub record Placed (c : Command) (n : ℕ) (f g : ToolFloor) : Type 0 where
-  pub sub : List ℕ
-  pub to : LocId
-  pub task : c.task ≡ task.Place sub to
-  pub named : number_named sub f.places ≡ Some n
-  pub before : place_in f.places n ≡ Some arm
-  pub after : place_in g.places n ≡ Some (loc_of to)
-
--- the places behind Done of a command: each substrate stays, but for that of a Pick or a Place
-pub record DoneAt (c : Command) (f g : ToolFloor) : Type 0 where
-  pub places : (n : ℕ) → (place_in g.places n ≡ place_in f.places n) ⊎ (Picked c n f g ⊎ Placed c n f g)
-  pub given : g.places.given ≡ f.places.given
 
 module _ (m : ℕ) (f : ToolFloor) (sound : Sound f) (c : Command) (fetched : Bool) (here : module_at m f.modules ≡ Some (Busy c fetched)) where
   -- where the places are the same, each stays
@@ -147,11 +126,6 @@ closing_places row number f other = of (module_at number f.modules) where
   of (Some (Busy c fetched)) = processed c.task (one_listed (firing 16 number row) f) ∙ module_still number row f other
 
 -- ---- `lost`
-
--- the places behind `lost`: each substrate stays, but for that of the name, which has none any more
-pub record LostAt (sub : List ℕ) (f g : ToolFloor) : Type 0 where
-  pub places : (n : ℕ) → (place_in g.places n ≡ place_in f.places n) ⊎ ((number_named sub f.places ≡ Some n) × (place_in g.places n ≡ None))
-  pub given : g.places.given ≡ f.places.given
 
 pub lost_listed : (sub : List ℕ) (f : ToolFloor) → Base f → LostAt sub f (listed (lost_rows sub f) f)
 lost_listed sub f base = of (number_named sub f.places) refl where

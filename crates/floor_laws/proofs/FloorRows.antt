@@ -1,6 +1,6 @@
 -- What holds of the floor of the tool holds as it begins, and is kept by each row that is ready by itself, and by each that an input fires
 -- alone.
-use Rattle.std.proofs.Common.{◌≡◌, ◌≤◌, ◌⊎◌, inl, inr, ℕ, zero, suc, ◌+◌, ◌==◌, Bool, true, false, not, ◌&&◌, ◌||◌, List, [], ◌∷◌, length, min, Option, Some, None, refl, sym, ◌∙◌, ap, arith}
+use Rattle.std.proofs.Common.{◌≡◌, ◌≤◌, ◌⊎◌, inl, inr, ℕ, zero, suc, ◌+◌, ◌==◌, Bool, true, false, not, ◌||◌, List, [], ◌∷◌, length, min, Option, Some, None, refl, sym, ◌∙◌, ap, arith}
 use Rattle.std.proofs.Math.Nat.{min-le_left}
 use Rattle.std.proofs.lemmas.List.{length-replicate}
 use Rattle.gem_tables.specs.Table.{firing, is_one_of}
@@ -28,10 +28,10 @@ use Rattle.tool_floor.specs.Wants.{accessing_wants}
 use Rattle.tool_floor.specs.Machines.{accessing_ready, floor_machines, floor_starts, floor_fired, floor_least}
 use Rattle.tool_floor.proofs.Keeping.{least_starts}
 use Rattle.place_laws.specs.Sound.{Base, Sound}
-use Rattle.place_laws.proofs.PortsKept.{is_plain_row}
 use Rattle.place_laws.proofs.PortTransfers.{opening-at-ports}
 use Rattle.place_laws.proofs.UnloadPorts.{opening-unloading}
 use Rattle.picture_laws.proofs.Opening.{opening-keeps}
+use Rattle.floor_laws.specs.Rows.{is_common}
 use Rattle.floor_laws.proofs.ShopTables.{shop_row_sound}
 use Rattle.floor_laws.proofs.RegVerified.{slot_sound}
 use Rattle.floor_laws.proofs.EndRows.{transport_sound, processing_sound, processing_ready_sound}
@@ -41,21 +41,6 @@ use Rattle.floor_laws.proofs.JobCreated.{control_sound}
 use Rattle.floor_laws.proofs.IssueSound.{issue_sound}
 
 -- ---- rows that keep what holds wherever they start
-
--- a row of table 10, 13 or 16 does: none but CancelCarrier; those of a registration, of a Process that is open, and of a process job that
--- ends; and those that issue commands, and `up`
-abbrev pub is_common_row : ℕ → ℕ → Bool
-is_common_row table row =
-    (table == 10) && not (row == 4)
-    || ((table == 13) && is_one_of (1 ∷ 2 ∷ 5 ∷ []) row || (table == 16) && is_one_of (1 ∷ 2 ∷ 3 ∷ 4 ∷ 10 ∷ []) row)
-
--- The row is none of those that inputs fire together with another or under a condition of theirs: 3 and 5 of table 4, 2 and 6 of table 7, 4
--- of table 10, 3, 4 and 8 of table 13 and 5 to 9 of table 16; nor is it 6 or 7 of table 13, which keep what holds only where row 2 is not
--- ready.
-abbrev pub is_common : Firing → Bool
-is_common x =
-    is_plain_row x
-    && (is_one_of (1 ∷ 2 ∷ 3 ∷ 4 ∷ 5 ∷ 6 ∷ 7 ∷ 8 ∷ 9 ∷ 11 ∷ 12 ∷ 14 ∷ 15 ∷ []) x.row.table || is_common_row x.row.table x.row.row)
 
 -- no row is said to be one that it isn't
 not_itself : {P : Type 0} → false ≡ true → P

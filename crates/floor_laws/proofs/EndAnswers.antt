@@ -114,8 +114,7 @@ module _ (f : ToolFloor) (sound : Sound f) (m row : ℕ) (c : ToolCommand) (fetc
       let w = command_placed f sound.base sound.valid.commands m c fetched here in
       let named : substrate_named sub f.places.held ≡ Some w.0 = sym (ap (λ (t : ToolTask). substrate_named (named_by t) f.places.held) q) ∙ w.1 in
       let t : task_of c.task f.places ≡ process (numbered sub f.places) = ap (λ (u : ToolTask). task_of u f.places) q in
-      let number = number_there f.places sub w.0 named in
-      (
+      let number = number_there f.places sub w.0 named in (
         w.0.number,
         ap (λ (o : Option Registered). option_map (λ (r : Registered). r.number) o) named,
         but_behind f sound m row w.0.number (Busy c fetched) state here is (closed-but (picture f) m w.0.number (command_of c f.places) state not_busy (busy_at f m c fetched here) (t ∙ ap process number) sound.valid),

@@ -34,15 +34,15 @@ use Rattle.floor_laws.proofs.EndMoves.{pick_sound, place_sound, align_sound}
 -- ---- a module that had no Process open
 
 -- an Idle module has no command, and one that is Down has none
-idle_not : (c : Command) → idle ≡ busy c → ⊥
+pub idle_not : (c : Command) → idle ≡ busy c → ⊥
 idle_not c e = cc
 
-down_not : (c : Command) → down ≡ busy c → ⊥
+pub down_not : (c : Command) → down ≡ busy c → ⊥
 down_not c e = cc
 
 module _ (f : ToolFloor) (sound : Sound f) (m row : ℕ) where
   -- behind a row that closes what was no Process, all holds
-  turned_sound : (x : ToolModule) → module_at m f.modules ≡ Some x → (state : Module) → ((c : Command) → state ≡ busy c → ⊥) → module_of (Some (module_behind row x)) f.places ≡ state
+  pub turned_sound : (x : ToolModule) → module_at m f.modules ≡ Some x → (state : Module) → ((c : Command) → state ≡ busy c → ⊥) → module_of (Some (module_behind row x)) f.places ≡ state
       → ((k : ℕ) (c : Command) → module_of (Some x) f.places ≡ busy c → c.task ≡ process k → ⊥) → Sound (with_module m (module_behind row) f)
   turned_sound x here state not_busy is none = record {
     base = module_base m (module_behind row) f sound.base;
@@ -108,28 +108,36 @@ abbrev pub SoundOrBut : ToolFloor → ℕ → ToolFloor → Type 0
 SoundOrBut f m g = Sound g ⊎ ((n : ℕ) × Processes f m n × SoundBut n g)
 
 module _ (f : ToolFloor) (sound : Sound f) (m row : ℕ) (c : ToolCommand) (fetched : Bool) (here : module_at m f.modules ≡ Some (Busy c fetched)) (state : Module) (not_busy : (d : Command) → state ≡ busy d → ⊥) (is : module_of (Some (module_behind row (Busy c fetched))) f.places ≡ state) where
-  -- a Process ends
-  process_closed : (sub recipe : List ℕ) → c.task ≡ task.Process sub recipe → SoundOrBut f m (with_module m (module_behind row) f)
-  process_closed sub recipe q =
+  -- a Process ends: all holds but of its substrate
+  pub process_but : (sub recipe : List ℕ) → c.task ≡ task.Process sub recipe → (n : ℕ) × (number_named sub f.places ≡ Some n) × SoundBut n (with_module m (module_behind row) f)
+  process_but sub recipe q =
       let w = command_placed f sound.base sound.valid.commands m c fetched here in
       let named : substrate_named sub f.places.held ≡ Some w.0 = sym (ap (λ (t : ToolTask). substrate_named (named_by t) f.places.held) q) ∙ w.1 in
       let t : task_of c.task f.places ≡ process (numbered sub f.places) = ap (λ (u : ToolTask). task_of u f.places) q in
-      let number = number_there f.places sub w.0 named in
-      inr (
+      let number = number_there f.places sub w.0 named in (
         w.0.number,
-        record { its = c; fetched = fetched; sub = sub; recipe = recipe; at = here; task = q; named = ap (λ (o : Option Registered). option_map (λ (r : Registered). r.number) o) named },
+        ap (λ (o : Option Registered). option_map (λ (r : Registered). r.number) o) named,
         but_behind f sound m row w.0.number (Busy c fetched) state here is (closed-but (picture f) m w.0.number (command_of c f.places) state not_busy (busy_at f m c fetched here) (t ∙ ap process number) sound.valid),
       )
+
+  process_closed : (sub recipe : List ℕ) → c.task ≡ task.Process sub recipe → SoundOrBut f m (with_module m (module_behind row) f)
+  process_closed sub recipe q =
+      let w = process_but sub recipe q in
+      inr (w.0, record { its = c; fetched = fetched; sub = sub; recipe = recipe; at = here; task = q; named = w.1 }, w.2)
 
   -- what it has open is no Process
   no_process : ((k : ℕ) → task_of c.task f.places ≡ process k → ⊥) → (k : ℕ) (d : Command) → busy (command_of c f.places) ≡ busy d → d.task ≡ process k → ⊥
   no_process other k d e t = let same : command_of c f.places ≡ d = cc in other k (ap (λ (x : Command). x.task) same ∙ t)
 
+  -- what was no Process ends
+  pub other_closed : ((k : ℕ) → task_of c.task f.places ≡ process k → ⊥) → Sound (with_module m (module_behind row) f)
+  other_closed other = turned_sound f sound m row (Busy c fetched) here state not_busy is (no_process other)
+
   -- by its task
   command_closed : (t : ToolTask) → c.task ≡ t → SoundOrBut f m (with_module m (module_behind row) f)
-  command_closed (task.Pick sub from) q = inl (turned_sound f sound m row (Busy c fetched) here state not_busy is (no_process (λ k u. let t = ap (λ (u : ToolTask). task_of u f.places) q in cc)))
-  command_closed (task.Place sub to) q = inl (turned_sound f sound m row (Busy c fetched) here state not_busy is (no_process (λ k u. let t = ap (λ (u : ToolTask). task_of u f.places) q in cc)))
-  command_closed (task.Align sub) q = inl (turned_sound f sound m row (Busy c fetched) here state not_busy is (no_process (λ k u. let t = ap (λ (u : ToolTask). task_of u f.places) q in cc)))
+  command_closed (task.Pick sub from) q = inl (other_closed (λ k u. let t = ap (λ (u : ToolTask). task_of u f.places) q in cc))
+  command_closed (task.Place sub to) q = inl (other_closed (λ k u. let t = ap (λ (u : ToolTask). task_of u f.places) q in cc))
+  command_closed (task.Align sub) q = inl (other_closed (λ k u. let t = ap (λ (u : ToolTask). task_of u f.places) q in cc))
   command_closed (task.Process sub recipe) q = process_closed sub recipe q
 
 -- ---- each row that an input fires

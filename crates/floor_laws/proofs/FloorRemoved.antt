@@ -1,11 +1,8 @@
 -- The carrier that is removed from a port has ended, also where it was not present, so that a removal leaves what holds.
-use Rattle.std.proofs.Common.{◌≡◌, ℕ, Bool, true, false, not, ◌||◌, List, Option, Some, None, refl, sym, ◌∙◌, ap}
+use Rattle.std.proofs.Common.{◌≡◌, ℕ, Bool, true, false, not, ◌||◌, None, refl, sym, ◌∙◌, ap}
 use Rattle.gem_tables.specs.Table.{firing}
-use Rattle.load_port.specs.Ports.{port_numbered}
-use Rattle.carrier.specs.declared.carrier.Carrier.{Carrier}
 use Rattle.carrier.specs.Record.{is_done, is_map_verified}
-use Rattle.carrier.specs.Carriers.{has_name, carrier_named}
-use Rattle.shop_floor.specs.Rows.{owner}
+use Rattle.carrier.specs.Carriers.{has_name}
 use Rattle.shop_floor.specs.Machines as shop
 use Rattle.shop_floor.specs.Valid.{ReadWherePresent}
 use Rattle.tool_floor.specs.Floor.{ToolFloor}

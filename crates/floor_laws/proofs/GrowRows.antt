@@ -40,7 +40,7 @@ association_same : (row port : ℕ) (s : Floor) (f : ToolFloor) → (row == 6) �
 association_same row port s f other = ap (λ (b : Bool). (with_shop s (if b then without_carrier (owner_number port f.shop) f else f)).places) other
 
 -- a row of processing but that of `lost`
-processing_same : (row : ℕ) (o : Option Substrate) (f : ToolFloor) → (row == 8) ≡ false → (found_does (row_of processing_table row) o f).places ≡ f.places
+pub processing_same : (row : ℕ) (o : Option Substrate) (f : ToolFloor) → (row == 8) ≡ false → (found_does (row_of processing_table row) o f).places ≡ f.places
 processing_same row o f other = of (row_of processing_table row) refl where
   of : (r : Option (SubstrateRow Processing)) → row_of processing_table row ≡ r → (found_does r o f).places ≡ f.places
   of None is = refl
@@ -84,7 +84,7 @@ aligned_same (Some (task.Place sub to)) f = refl
 aligned_same (Some (task.Align sub)) f = refl
 aligned_same (Some (task.Process sub recipe)) f = refl
 
-move_same : (row m : ℕ) (o : Option Move) (f : ToolFloor) → (row == 5) ≡ false → (found_move (row_of move_table row) m o f).places ≡ f.places
+pub move_same : (row m : ℕ) (o : Option Move) (f : ToolFloor) → (row == 5) ≡ false → (found_move (row_of move_table row) m o f).places ≡ f.places
 move_same row m o f other = of (row_of move_table row) refl where
   of : (r : Option MoveRow) → row_of move_table row ≡ r → (found_move r m o f).places ≡ f.places
   of None is = refl

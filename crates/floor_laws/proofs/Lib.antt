@@ -58,3 +58,6 @@ pub mod RemAgree
 pub mod RemBase
 pub mod RemSound
 pub mod FloorRemoved
+pub mod FloorRows
+pub mod FloorInputs
+pub mod FloorPlaces

@@ -109,7 +109,7 @@ unbinding_sound port f starts none sound =
 -- ---- a carrier is placed
 
 -- row 3 of table 4 goes on to start where what came is written
-still_placed : (port : ℕ) (a : Arrival) (f : Floor) → shop.floor_starts (firing 4 port 3) f ≡ true → shop.floor_starts (firing 4 port 3) (came port a f) ≡ true
+pub still_placed : (port : ℕ) (a : Arrival) (f : Floor) → shop.floor_starts (firing 4 port 3) f ≡ true → shop.floor_starts (firing 4 port 3) (came port a f) ≡ true
 still_placed zero a f starts = absurd (cc)
 still_placed (suc place) a f starts = of (slice_get f.ports place) refl starts where
   of : (o : Option Port) → slice_get f.ports place ≡ o → port_starts transfer_number transfer_table (λ s. s.transfer) (λ to s. record s { transfer = to }) 3 (suc place) f o ≡ true → shop.floor_starts (firing 4 (suc place) 3) (came (suc place) a f) ≡ true

@@ -50,6 +50,7 @@ module _ (m : ℕ) (f : ToolFloor) (c : Command) (fetched : Bool) (here : module
   done_starts (task.Align sub) q = there 6 (ap is_align q)
   done_starts (task.Process sub recipe) q = there 7 (ap is_process q)
 
+  -- so do those of Failed and of Down
   pub failed_starts : floor_starts (firing 16 m 8) f ≡ true
   failed_starts = there 8 refl
 
@@ -79,6 +80,7 @@ module _ (m : ℕ) (f : ToolFloor) (sound : Sound f) (c : Command) (fetched : Bo
   followed row n next starts one but =
       subst (λ (g : ToolFloor). Sound (one_listed (firing 13 n next) g)) (sym (listed_starts (firing 16 m row) f starts)) (but_listed n next (floor_fired (firing 16 m row) f) one but)
 
+  -- the rows of Done, by the task
   of_task : (t : Task) → c.task ≡ t → Sound (listed (at_module (done_row t) m ++ done_processed t f) f)
   of_task (task.Pick sub from) q = alone 5 (done_starts m f c fetched here (task.Pick sub from) q) (pick_sound f sound m c fetched here sub from q)
   of_task (task.Place sub to) q = alone 5 (done_starts m f c fetched here (task.Place sub to) q) (place_sound f sound m c fetched here sub to q)
@@ -90,6 +92,7 @@ module _ (m : ℕ) (f : ToolFloor) (sound : Sound f) (c : Command) (fetched : Bo
 
   -- ---- Failed and Down
 
+  -- the rows of a module that goes down, by the task that it had open
   closed_task : (row : ℕ) → floor_starts (firing 16 m row) f ≡ true
       → (((k : ℕ) → task_of c.task f.places ≡ process k → ⊥) → Sound (floor_fired (firing 16 m row) f))
       → ((sub recipe : List ℕ) → c.task ≡ task.Process sub recipe → (n : ℕ) × (number_named sub f.places ≡ Some n) × SoundBut n (floor_fired (firing 16 m row) f))
@@ -101,11 +104,13 @@ module _ (m : ℕ) (f : ToolFloor) (sound : Sound f) (c : Command) (fetched : Bo
       let w = but sub recipe q in
       subst (λ (o : Option ℕ). Sound (listed (firing 16 m row ∷ at_processed 4 o) f)) (sym w.1) (followed row w.0 4 starts refl w.2)
 
+  -- those of Failed
   failed_task : Sound (listed (at_module 8 m ++ processed_rows 4 c.task f) f)
   failed_task =
       closed_task 8 (failed_starts m f c fetched here) (other_closed f sound m 8 c fetched here _ down_not refl)
       (process_but f sound m 8 c fetched here _ down_not refl) c.task refl
 
+  -- those of Down
   down_task : Sound (listed (at_module 9 m ++ processed_rows 4 c.task f) f)
   down_task =
       closed_task 9 (down_starts m f c fetched here) (other_closed f sound m 9 c fetched here _ down_not refl)
@@ -113,6 +118,7 @@ module _ (m : ℕ) (f : ToolFloor) (sound : Sound f) (c : Command) (fetched : Bo
 
 -- ---- by what the module is
 
+-- its open command is done
 pub done_sound : (number command : ℕ) (f : ToolFloor) → is_open command (module_at number f.modules) ≡ true → Sound f → Sound (listed (done_rows number f) f)
 done_sound number command f open_there sound = of (module_at number f.modules) refl open_there where
   of : (o : Option Module) → module_at number f.modules ≡ o → is_open command o ≡ true → Sound (listed (done_at number o f) f)
@@ -121,6 +127,7 @@ done_sound number command f open_there sound = of (module_at number f.modules) r
   of (Some Down) here e = absurd (cc)
   of (Some (Busy c fetched)) here e = of_task number f sound c fetched here c.task refl
 
+-- its open command failed
 pub failed_sound : (number command : ℕ) (f : ToolFloor) → is_open command (module_at number f.modules) ≡ true → Sound f → Sound (listed (closing_rows 8 number f) f)
 failed_sound number command f open_there sound = of (module_at number f.modules) refl open_there where
   of : (o : Option Module) → module_at number f.modules ≡ o → is_open command o ≡ true → Sound (listed (closing_at 8 number o f) f)
@@ -129,8 +136,10 @@ failed_sound number command f open_there sound = of (module_at number f.modules)
   of (Some Down) here e = absurd (cc)
   of (Some (Busy c fetched)) here e = failed_task number f sound c fetched here
 
+-- a module that wasn't Down goes down
 pub down_sound : (number : ℕ) (f : ToolFloor) → is_up (module_at number f.modules) ≡ true → Sound f → Sound (listed (closing_rows 9 number f) f)
 down_sound number f up sound = of (module_at number f.modules) refl up where
+  -- it had nothing open
   idle : module_at number f.modules ≡ Some Idle → Sound (listed (firing 16 number 9 ∷ []) f)
   idle here =
       listed_either Sound (firing 16 number 9) f (λ starts. turned_sound f sound number 9 Idle here _ down_not refl (λ k d u t. idle_not d u)) (λ left. sound)
@@ -143,6 +152,7 @@ down_sound number f up sound = of (module_at number f.modules) refl up where
 
 -- ---- `lost`
 
+-- a substrate is lost
 pub lost_rows_sound : (sub : List ℕ) (f : ToolFloor) → Sound f → Sound (listed (lost_rows sub f) f)
 lost_rows_sound sub f sound = of (number_named sub f.places) refl where
   of : (o : Option ℕ) → lost_rows sub f ≡ lost_at o f → Sound (listed (lost_at o f) f)

@@ -30,6 +30,8 @@ use Rattle.place_laws.specs.Sound.{Base, Sound, SoundBut}
 use Rattle.floor_laws.specs.Rows.{one_listed, listed}
 use Rattle.floor_laws.specs.Moves.{Picked, Placed, DoneAt, LostAt}
 use Rattle.floor_laws.proofs.FloorInputs.{listed_either, listed_starts, done_starts, failed_starts, down_starts}
+use Rattle.floor_laws.proofs.ShopTables.{transfer_valid}
+use Rattle.floor_laws.proofs.EndAnswers.{SoundOrBut, module_row_sound}
 use Rattle.floor_laws.proofs.GrowLost.{lost_places}
 use Rattle.floor_laws.proofs.GrowRows.{move_same, processing_same}
 use Rattle.floor_laws.proofs.GrowTransfer.{Transfers, pick_places, place_places}
@@ -62,6 +64,7 @@ module _ (m : ℕ) (f : ToolFloor) (sound : Sound f) (c : Command) (fetched : Bo
   all_stay : (g : ToolFloor) → g.places ≡ f.places → DoneAt c f g
   all_stay g same = record { places = λ n. inl (ap (λ (p : PlaceMap). place_in p n) same); given = ap (λ (p : PlaceMap). p.given) same }
 
+  -- a Pick
   transfer_picks : (g : ToolFloor) (sub : List ℕ) (from : LocId) → c.task ≡ task.Pick sub from → Transfers sub (loc_of from) arm f g → DoneAt c f g
   transfer_picks g sub from q t = record { places = λ n. of n (n == t.number) refl; given = t.given } where
     of : (n : ℕ) (b : Bool) → (n == t.number) ≡ b → (place_in g.places n ≡ place_in f.places n) ⊎ (Picked c n f g ⊎ Placed c n f g)
@@ -70,6 +73,7 @@ module _ (m : ℕ) (f : ToolFloor) (sound : Sound f) (c : Command) (fetched : Bo
         (inr (inl (record { sub = sub; from = from; task = q; named = t.named; before = t.before; after = t.after })))
     of n false e = inl (t.others n (λ is. let hit = (Decides-eqb n t.number).1 is in cc))
 
+  -- a Place
   transfer_places : (g : ToolFloor) (sub : List ℕ) (to : LocId) → c.task ≡ task.Place sub to → Transfers sub arm (loc_of to) f g → DoneAt c f g
   transfer_places g sub to q t = record { places = λ n. of n (n == t.number) refl; given = t.given } where
     of : (n : ℕ) (b : Bool) → (n == t.number) ≡ b → (place_in g.places n ≡ place_in f.places n) ⊎ (Picked c n f g ⊎ Placed c n f g)
@@ -82,10 +86,12 @@ module _ (m : ℕ) (f : ToolFloor) (sound : Sound f) (c : Command) (fetched : Bo
   abbrev rows_of : Task → List Firing
   rows_of t = at_module (done_row t) m ++ done_processed t f
 
+  -- the row of what was processed
   processed : (o : Option ℕ) (g : ToolFloor) → (listed (at_done o f) g).places ≡ g.places
   processed None g = refl
   processed (Some n) g = substrate_still n (done_processing n f) g (done_still n f)
 
+  -- each task
   by_task : (t : Task) → c.task ≡ t → DoneAt c f (listed (rows_of t) f)
   by_task (task.Pick sub from) q =
       subst (DoneAt c f) (sym (listed_starts (firing 16 m 5) f (done_starts m f c fetched here (task.Pick sub from) q)))
@@ -101,6 +107,7 @@ module _ (m : ℕ) (f : ToolFloor) (sound : Sound f) (c : Command) (fetched : Bo
   done_are : done_rows m f ≡ rows_of c.task
   done_are = ap (λ (o : Option Module). done_at m o f) here
 
+  -- the places behind all rows of Done
   pub done_places : DoneAt c f (listed (done_rows m f) f)
   done_places = subst (λ (xs : List Firing). DoneAt c f (listed xs f)) (sym done_are) (by_task c.task refl)
 
@@ -127,6 +134,7 @@ closing_places row number f other = of (module_at number f.modules) where
 
 -- ---- `lost`
 
+-- the places behind the rows of `lost`
 pub lost_listed : (sub : List ℕ) (f : ToolFloor) → Base f → LostAt sub f (listed (lost_rows sub f) f)
 lost_listed sub f base = of (number_named sub f.places) refl where
   stays : LostAt sub f f
@@ -172,12 +180,14 @@ module _ (m : ℕ) (f : ToolFloor) (sound : Sound f) (c : Command) (fetched : Bo
       subst (λ (h : ToolFloor). IsShut c.number.0 (listed rest h)) (sym (listed_starts (firing 16 m row) f starts))
       (shut_stays g (listed rest g) c.number.0 (opens_listed rest g) (omega (arith, before, more)) (closed_gone m row c fetched f closes here sound))
 
+  -- the row of a task that is done closes it
   done_closes : (t : Task) → is_one_of closing (done_row t) ≡ true
   done_closes (task.Pick sub from) = refl
   done_closes (task.Place sub to) = refl
   done_closes (task.Align sub) = refl
   done_closes (task.Process sub recipe) = refl
 
+  -- so behind all rows of Done, of Failed and of Down
   pub done_shuts : IsShut c.number.0 (listed (done_rows m f) f)
   done_shuts =
       subst (λ (xs : List Firing). IsShut c.number.0 (listed xs f)) (sym (ap (λ (o : Option Module). done_at m o f) here))
@@ -201,6 +211,17 @@ one_place_sound f sound = one_place (picture f) sound.valid
 
 pub one_place_but : (n : ℕ) (f : ToolFloor) → SoundBut n f → OnePlace (picture f)
 one_place_but n f but = one_place_between (picture f) n but.valid
+
+-- behind the row of a module that an input fires, before another follows
+pub one_place_behind : (f : ToolFloor) (m row : ℕ) → floor_starts (firing 16 m row) f ≡ true → is_one_of (5 ∷ 6 ∷ 7 ∷ 8 ∷ 9 ∷ 10 ∷ []) row ≡ true → Sound f → OnePlace (picture (floor_fired (firing 16 m row) f))
+one_place_behind f m row starts one sound = of (module_row_sound f m row starts one sound) where
+  of : SoundOrBut f m (floor_fired (firing 16 m row) f) → OnePlace (picture (floor_fired (firing 16 m row) f))
+  of (inl all) = one_place_sound (floor_fired (firing 16 m row) f) all
+  of (inr w) = one_place_but w.0 (floor_fired (firing 16 m row) f) w.2
+
+-- behind the first row of a removal
+pub one_place_vacated : (port : ℕ) (f : ToolFloor) → floor_starts (firing 4 port 5) f ≡ true → Sound f → OnePlace (picture (floor_fired (firing 4 port 5) f))
+one_place_vacated port f starts sound = one_place (picture (floor_fired (firing 4 port 5) f)) (transfer_valid f port 5 starts sound.base sound.valid)
 
 -- where none is ready, none of the load ports and the carriers is
 pub shop_rests : (f : ToolFloor) → floor_least f ≡ None → shop.floor_least f.shop ≡ None

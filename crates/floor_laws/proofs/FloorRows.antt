@@ -46,6 +46,7 @@ use Rattle.floor_laws.proofs.IssueSound.{issue_sound}
 not_itself : {P : Type 0} → false ≡ true → P
 not_itself e = absurd (cc)
 
+-- the one that is left
 or_none : (b : Bool) → (b || false) ≡ true → b ≡ true
 or_none true e = refl
 or_none false e = e
@@ -131,16 +132,19 @@ module _ (f : ToolFloor) (sound : Sound f) where
   abbrev Common : ℕ → ℕ → ℕ → Type 0
   Common table object row = is_common (firing table object row) ≡ true
 
+  -- so those of table 10 that are ready
   accessing : (object row : ℕ) (o : Option Carrier) → accessing_ready o f ≡ Some row → Common 10 object row
   accessing object row None e = absurd (cc)
   accessing object row (Some c) e = ready_row (Common 10 object) access_number (λ want. accessing_wants want c f) accessing_table row c.states.access ((λ i a w. refl), ((λ i a w. refl), ((λ i a w. refl), ((λ i a w. not_itself i), tt)))) e
 
+  -- and those of table 16
   commands : (object row : ℕ) (plan : Option Move) (o : Option Module) → move_ready plan o ≡ Some row → Common 16 object row
   commands object row plan None e = absurd (cc)
   commands object row plan (Some m) e =
       ready_row (Common 16 object) state_number (λ want. move_wants want plan m) move_table row (state_of m)
       ((λ i a w. refl), ((λ i a w. refl), ((λ i a w. refl), ((λ i a w. refl), ((λ i a w. not_itself i), ((λ i a w. not_itself i), ((λ i a w. not_itself i), ((λ i a w. not_itself i), ((λ i a w. not_itself i), ((λ i a w. not_itself i), tt)))))))))) e
 
+  -- so is the least that is ready
   kind : (x : Firing) → floor_least f ≡ Some x → Keeps x
   kind x e =
       least_cases Keeps f x floor_machines (
@@ -181,10 +185,12 @@ least_sound x f e sound = of (kind f sound x e) where
 
 -- ---- the beginning
 
+-- so many ports
 first_length : (n : ℕ) → length (first_ports n) ≡ n
 first_length zero = refl
 first_length (suc n) = ap suc (first_length n)
 
+-- it holds as the tool begins
 pub opening_sound : (ports chambers : ℕ) (recipes : List Recipe) → ports ≤ most_ports → Sound (opening ports chambers recipes)
 opening_sound ports chambers recipes few = record { base = base; ports = opening-at-ports ports; unloading = opening-unloading ports; valid = opening-keeps ports chambers recipes } where
   modules : length (opening ports chambers recipes).modules ≤ 2 + chambers

@@ -61,3 +61,4 @@ pub mod FloorRemoved
 pub mod FloorRows
 pub mod FloorInputs
 pub mod FloorPlaces
+pub mod FloorHost

@@ -1,8 +1,8 @@
 //! Laws of the floor of the tool, for proofs to cite. Each function is empty: what it ensures holds of the definitions.
 
-ghost use Rattle.std.specs.Prelude.{◌≡◌, ◌≤◌, ℕ, ◌*◌, ◌==◌, Bool, true, false, List, length, Option, Some, None};
+ghost use Rattle.std.specs.Prelude.{◌≡◌, ◌≤◌, ℕ, ◌*◌, ◌==◌, Bool, true, false, List, [], ◌∷◌, length, Option, Some, None};
 ghost use Rattle.std.specs.List.{AllByRecursion};
-ghost use Rattle.gem_tables.specs.Table.{firing};
+ghost use Rattle.gem_tables.specs.Table.{firing, is_one_of};
 ghost use Rattle.gem_tables.specs.declared.firing.Firing.{Firing};
 ghost use Rattle.tool_events.specs.declared.answer.Command.{Command};
 ghost use Rattle.tool_events.specs.declared.recipes.Recipe.{Recipe};
@@ -91,11 +91,15 @@ pub fn it_is_kept_as_jobs_change()
     ensures control { (f : ToolFloor) (s : JobStore) → Sound f → Sound (with_jobs (record f.jobs { control = s }) f) }
 {}
 
-/// Where it holds, each substrate has one place, also between the two rows by which a Process ends; and at most 25 substrates of each
-/// load port are kept.
+/// Where it holds, each substrate has one place, also between the two rows by which a Process ends, and between those by which a
+/// carrier is removed; and at most 25 substrates of each load port are kept.
 pub fn each_substrate_has_one_place()
     ensures at_every_moment { (f : ToolFloor) → Sound f → OnePlace (picture f) }
     ensures between { (n : ℕ) (f : ToolFloor) → SoundBut n f → OnePlace (picture f) }
+    ensures behind { (f : ToolFloor) (m row : ℕ) → floor_starts (firing 16 m row) f ≡ true
+        → is_one_of (5 ∷ 6 ∷ 7 ∷ 8 ∷ 9 ∷ 10 ∷ []) row ≡ true → Sound f → OnePlace (picture (floor_fired (firing 16 m row) f)) }
+    ensures vacated { (port : ℕ) (f : ToolFloor) → floor_starts (firing 4 port 5) f ≡ true → Sound f
+        → OnePlace (picture (floor_fired (firing 4 port 5) f)) }
     ensures few { (f : ToolFloor) → Sound f → length f.substrates ≤ 25 * length f.shop.ports }
 {}
 

@@ -303,7 +303,7 @@ module _ (Rest : Event → State → Type 0) (F : ToolFloor → Type 0) (fact : 
   -- the row of CancelCarrier
   cancels : (g h : State) (a : CarrierAction) → a.word ≡ word.Cancel → is_done_code (carrier_code a g.floor) ≡ true → h.floor ≡ g.floor → (o : Option Carrier) → carrier_named a.id g.floor.shop.carriers ≡ o → Holds g → Holds h → Holds (fire_listed (cancelling o) h)
   cancels g h a is code same None found st at = at
-  cancels g h a is code same (Some c) found st at = of (is_id_waiting c.states.id) refl (is_map_waiting c.states.map) refl where
+  cancels g h a is code same (Some c) found st at = of (is_id_waiting c.states.id) (is_map_waiting c.states.map) refl refl where
     named : a.id ≡ c.name
     named = sym (named_so a.id c (found_passes (has_name a.id) g.floor.shop.carriers c found))
 

@@ -95,14 +95,14 @@ pub record FloorFact (Rest : Event → State → Type 0) (F : ToolFloor → Type
 -- ---- rows of the floor that create nothing
 
 -- a row of the floor that creates nothing
-abbrev Quiet : Firing → Type 0
+abbrev pub Quiet : Firing → Type 0
 Quiet x = IsFloorRow x × ((g : State) → creations g x ≡ [])
 
 is_quiet : (x : Firing) → IsFloorRow x → ((f : ToolFloor) → creation_rows x f ≡ []) → Quiet x
 is_quiet x floor none = (floor, λ g. creations_is g x floor ∙ none g.floor)
 
 -- such rows, one behind the other, do to the floor what they do there
-listed_is : (xs : List Firing) → Are Quiet xs → (g : State) → (fire_listed xs g).floor ≡ listed xs g.floor
+pub listed_is : (xs : List Firing) → Are Quiet xs → (g : State) → (fire_listed xs g).floor ≡ listed xs g.floor
 listed_is [] are g = refl
 listed_is (x ∷ xs) are g = listed_is xs are.1 (if row_starts g x then advanced g x else g) ∙ ap (listed xs) (of (row_starts g x) refl) where
   same : (b : Bool) → row_starts g x ≡ b → floor_starts x g.floor ≡ b
@@ -128,7 +128,7 @@ done_processed_quiet (task.Place sub to) f = tt
 done_processed_quiet (task.Align sub) f = tt
 done_processed_quiet (task.Process sub recipe) f = at_done_quiet (number_named sub f.places) f
 
-done_quiet : (number : ℕ) (o : Option Module) (f : ToolFloor) → Are Quiet (done_at number o f)
+pub done_quiet : (number : ℕ) (o : Option Module) (f : ToolFloor) → Are Quiet (done_at number o f)
 done_quiet number None f = tt
 done_quiet number (Some Idle) f = tt
 done_quiet number (Some Down) f = tt
@@ -144,7 +144,7 @@ processed_quiet row (task.Place sub to) f = tt
 processed_quiet row (task.Align sub) f = tt
 processed_quiet row (task.Process sub recipe) f = at_processed_quiet row (number_named sub f.places)
 
-closing_quiet : (row number : ℕ) (o : Option Module) (f : ToolFloor) → Are Quiet (closing_at row number o f)
+pub closing_quiet : (row number : ℕ) (o : Option Module) (f : ToolFloor) → Are Quiet (closing_at row number o f)
 closing_quiet row number None f = (module_quiet row number, tt)
 closing_quiet row number (Some Idle) f = (module_quiet row number, tt)
 closing_quiet row number (Some Down) f = (module_quiet row number, tt)

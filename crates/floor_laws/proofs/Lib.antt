@@ -62,3 +62,4 @@ pub mod FloorRows
 pub mod FloorInputs
 pub mod FloorPlaces
 pub mod FloorHost
+pub mod FloorStill

@@ -29,7 +29,7 @@ use Rattle.gem_model.proofs.Settling.{settled_along}
 abbrev pub Rested : Event → State → Type 0
 Rested e g = AtRest g
 
-sound_fact : FloorFact Rested Sound
+pub sound_fact : FloorFact Rested Sound
 sound_fact = record {
   sound = λ f st. st;
   ready = least_sound;

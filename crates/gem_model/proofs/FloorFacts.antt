@@ -160,12 +160,12 @@ lost_quiet (Some n) f = either_way (Are Quiet) (can_be_lost (substrate_numbered 
 not_named : (o : Option Carrier) (named : Bool) (c : Carrier) → o ≡ Some c → is_id_waiting c.states.id ≡ false → is_map_waiting c.states.map ≡ false → is_done_code (cancel_code o named) ≡ true → named ≡ false
 not_named o true c is id slots code =
     absurd (let none : false ≡ true = sym (of (is_id_waiting c.states.id) (is_map_waiting c.states.map) (is_map_verified c.states.map) (is_not_accessed c.states.access) id slots) ∙ sym (ap (λ (x : Option Carrier). is_done_code (cancel_code x true)) is) ∙ code in cc) where
-  of : (a b d g : Bool) → a ≡ false → b ≡ false → is_done_code (if a || (b || (d && (g && not true))) then caack.Done else caack.Impossible) ≡ false
-  of true b d g e f = absurd (cc)
-  of false true d g e f = absurd (cc)
-  of false false true true e f = refl
-  of false false true false e f = refl
-  of false false false g e f = refl
+      of : (a b d g : Bool) → a ≡ false → b ≡ false → is_done_code (if a || (b || (d && (g && not true))) then caack.Done else caack.Impossible) ≡ false
+      of true b d g e f = absurd (cc)
+      of false true d g e f = absurd (cc)
+      of false false true true e f = refl
+      of false false true false e f = refl
+      of false false false g e f = refl
 not_named o false c is id slots code = refl
 
 module _ (Rest : Event → State → Type 0) (F : ToolFloor → Type 0) (fact : FloorFact Rest F) where

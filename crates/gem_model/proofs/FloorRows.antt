@@ -208,7 +208,6 @@ pub shop_are : (m : Message) (g : State) → AreFloorRows (shop_done g m).rows
 shop_are (S3F17 dataid action carrier number attributes) g = carrier_are (carrier_action action carrier number attributes) g (carrier_caack (carrier_action action carrier number attributes) g)
 shop_are (S3F25 action number value) g = port_are (port_word action number) g (reply.S3F26 (caack_number (port_caack (port_word action number) g))) (port_caack (port_word action number) g)
 shop_are (S3F27 mode numbers) g = port_are (ask.Access mode numbers) g (reply.S3F28 (caack_number (port_caack (ask.Access mode numbers) g))) (port_caack (ask.Access mode numbers) g)
-
 shop_are (S14F9 object type attributes) g = asked_are g _ (request_error (is_local g.control) type (asked_control attributes) (jobs_of g)) _ (control_rows (jobs_of g)) (is_15 ((jobs_of g).control.given + 1) 1, tt)
 shop_are (S16F5 dataid job command value) g = asked_are g _ (command_error (is_local g.control) job (command_named command) (jobs_of g)) _ (rows_of_command job (command_named command) (jobs_of g)) (word_rows_are job (command_named command) (jobs_of g))
 shop_are (S16F11 dataid job material recipe start events) g = asked_are g _ (process_error (is_local g.control) (asked_process job material recipe.0 start) events (jobs_of g)) _ (process_rows (jobs_of g)) (is_14 ((jobs_of g).process.given + 1) 1, tt)

@@ -451,18 +451,16 @@ over_none g (event.Watch port) number sound over ends = none_ends g.quitting num
 never_ends : (number : ℕ) (g : State) (entries : List Entry) (h : State) → Rests g → IsOver number g.floor → Run g entries h → NeverEnds number g entries
 never_ends number g [] h at over run = tt
 never_ends number g (e ∷ entries) h at over run =
-    let since = since_entry g e run.0 at run.1 in
-    (
+    let since = since_entry g e run.0 at run.1 in (
       over_none g e.event number at.placed over,
       subst (λ (k : State). NeverEnds number k entries) (sym (behind_is g e run.0 run.1))
-      (never_ends number run.0.after entries h (run_rests g (e ∷ []) run.0.after at (run.0, run.1, refl)) (over_on number g.floor run.0.after.floor since.opens over) run.2),
+          (never_ends number run.0.after entries h (run_rests g (e ∷ []) run.0.after at (run.0, run.1, refl)) (over_on number g.floor run.0.after.floor since.opens over) run.2),
     )
 
 ends_once : (g : State) (entries : List Entry) (h : State) → Rests g → Run g entries h → EndsOnce g entries
 ends_once g [] h at run = tt
 ends_once g (e ∷ entries) h at run =
-    let next = run_rests g (e ∷ []) run.0.after at (run.0, run.1, refl) in
-    (
+    let next = run_rests g (e ∷ []) run.0.after at (run.0, run.1, refl) in (
       (λ number ends. subst (λ (k : State). NeverEnds number k entries) (sym (behind_is g e run.0 run.1)) (never_ends number run.0.after entries h next (entry_over g e.at.0 e.event run.0 number at run.1 ends) run.2)),
       subst (λ (k : State). EndsOnce k entries) (sym (behind_is g e run.0 run.1)) (ends_once run.0.after entries h next run.2),
     )

@@ -56,13 +56,13 @@ module _ (f : ToolFloor) where
         equipment = λ m. refl;
         next_command = refl;
       } where
-    -- one that is present was there before
-    kept : (says : Carrier → Bool) (c p : ℕ) → (created f.shop.next_carrier (picture f)).present_at c ≡ Some p
-        → of_one false says (carrier_numbered c (with_created f.shop.next_carrier name f.shop.carriers)) ≡ of_one false says (carrier_numbered c f.shop.carriers)
-    kept says c p here = says_on carrier_number false says f.shop.carriers (new_carrier f.shop.next_carrier name) _ refl (none_next 1 f.shop.next_carrier f.shop.carriers valid.rising) c ∙ of (c == f.shop.next_carrier) here where
-      of : (b : Bool) → (if b then None else (picture f).present_at c) ≡ Some p → (if b then says (new_carrier f.shop.next_carrier name) else of_one false says (carrier_numbered c f.shop.carriers)) ≡ of_one false says (carrier_numbered c f.shop.carriers)
-      of true e = absurd (cc)
-      of false e = refl
+        -- one that is present was there before
+        kept : (says : Carrier → Bool) (c p : ℕ) → (created f.shop.next_carrier (picture f)).present_at c ≡ Some p
+            → of_one false says (carrier_numbered c (with_created f.shop.next_carrier name f.shop.carriers)) ≡ of_one false says (carrier_numbered c f.shop.carriers)
+        kept says c p here = says_on carrier_number false says f.shop.carriers (new_carrier f.shop.next_carrier name) _ refl (none_next 1 f.shop.next_carrier f.shop.carriers valid.rising) c ∙ of (c == f.shop.next_carrier) here where
+          of : (b : Bool) → (if b then None else (picture f).present_at c) ≡ Some p → (if b then says (new_carrier f.shop.next_carrier name) else of_one false says (carrier_numbered c f.shop.carriers)) ≡ of_one false says (carrier_numbered c f.shop.carriers)
+          of true e = absurd (cc)
+          of false e = refl
 
   -- ---- present at a port
 

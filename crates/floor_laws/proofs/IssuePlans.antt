@@ -17,7 +17,7 @@ use Rattle.floor_moves.specs.Valid.{Valid}
 use Rattle.place_laws.specs.Picture.{picture, loc_of, task_of}
 use Rattle.place_laws.specs.Sound.{Base}
 use Rattle.floor_laws.proofs.IssueViews.{IsSeen, holder_seen, none_seen}
-use Rattle.floor_laws.proofs.IssueKeeps.{MayIssue}
+use Rattle.floor_moves.proofs.Issuing.{MayIssue}
 use Rattle.floor_laws.proofs.IssueRobot.{may_place}
 use Rattle.floor_laws.proofs.IssuePicks.{may_pick_best}
 use Rattle.floor_laws.proofs.IssueWork.{may_align, may_process}

@@ -10,7 +10,7 @@ use Rattle.tool_floor.specs.Floor.{ToolFloor}
 use Rattle.tool_floor.specs.Views.{views}
 use Rattle.floor_moves.specs.Floor.{Loc, slot, aligner, arm, chamber, Task, pick, place, align, process, named, Command, Floor, idle, busy, is_outside}
 use Rattle.floor_moves.specs.Valid.{PickStands, PlaceStands, AlignStands, ProcessStands, IsUnnamed, Valid}
-use Rattle.floor_laws.proofs.IssueKeeps.{MayIssue}
+use Rattle.floor_moves.proofs.Issuing.{MayIssue}
 use Rattle.place_laws.specs.Picture.{picture, loc_of}
 use Rattle.place_laws.specs.Sound.{Base}
 use Rattle.floor_laws.proofs.IssueViews.{IsSeen}

@@ -13,8 +13,8 @@ use Rattle.tool_floor.proofs.Moves.{is_idle_module, gives}
 use Rattle.floor_moves.proofs.Agreeing.{agree-keeps}
 use Rattle.place_laws.specs.Picture.{picture, task_of}
 use Rattle.place_laws.specs.Sound.{Sound}
-use Rattle.floor_laws.proofs.IssueKeeps.{issued-keeps}
-use Rattle.floor_laws.proofs.IssueAgrees.{issuing_agrees}
+use Rattle.floor_moves.proofs.Issuing.{issued-keeps}
+use Rattle.picture_laws.proofs.Issuing.{issuing_agrees}
 use Rattle.floor_laws.proofs.IssuePlans.{planned_may}
 
 -- ---- the modules are as many as before

@@ -11,7 +11,7 @@ use Rattle.place_laws.specs.Picture.{picture, loc_of}
 use Rattle.place_laws.specs.Sound.{Base}
 use Rattle.floor_laws.proofs.IssueViews.{IsSeen}
 use Rattle.floor_laws.proofs.IssueTargets.{idle_seen, module_within}
-use Rattle.floor_laws.proofs.IssueKeeps.{MayIssue}
+use Rattle.floor_moves.proofs.Issuing.{MayIssue}
 use Rattle.floor_laws.proofs.IssueRobot.{unnamed_by, idle_not_busy, one_place}
 
 -- one that is neither is not one of the two

@@ -1,5 +1,5 @@
 -- Substrates and carriers that are found by their numbers, and numbers and slots that differ.
-use Rattle.std.proofs.Common.{◌≡◌, ◌≤◌, ℕ, zero, suc, ◌==◌, Bool, true, false, ◌&&◌, ◌||◌, if◌then◌else◌, List, [], ◌∷◌, find, map, Option, Some, None, option_map, slice_get, refl, sym, ◌∙◌, ap, subst, arith}
+use Rattle.std.proofs.Common.{◌≡◌, ◌≤◌, ℕ, ◌==◌, Bool, true, false, ◌&&◌, ◌||◌, if◌then◌else◌, List, [], ◌∷◌, find, map, Option, Some, None, refl, sym, ◌∙◌, ap, subst, arith}
 use Rattle.std.specs.List.{AllByRecursion}
 use Rattle.std.proofs.lemmas.Bool.{or_from}
 use Rattle.std.proofs.lemmas.Bool.Decides.{Decides-eqb}
@@ -8,28 +8,19 @@ use Rattle.gem_ids.specs.declared.numbers.LocId.{LocId}
 use Rattle.gem_ids.specs.declared.numbers.LocId.TheVariants.{Slot}
 use Rattle.gem_ids.specs.declared.numbers.PortNo.{PortNo}
 use Rattle.gem_ids.specs.declared.numbers.SlotNo.{SlotNo}
-use Rattle.robot_moves.specs.declared.module.Module.{Module as ToolModule}
-use Rattle.robot_moves.specs.declared.module.Module.TheVariants.{Idle, Busy, Down}
 use Rattle.carrier.specs.declared.carrier.Carrier.{Carrier}
-use Rattle.carrier.specs.Record.{is_map_verified}
 use Rattle.carrier.specs.Carriers.{carrier_numbered, is_port, is_present_at}
-use Rattle.shop_floor.specs.Floor as shop
-use Rattle.shop_floor.specs.Valid.{IsFloor}
 use Rattle.shop_floor.proofs.Apart.{found_passes}
-use Rattle.shop_floor.proofs.Belonging.{all_at}
-use Rattle.shop_floor.proofs.Present.{one_number}
 use Rattle.substrate.specs.Tables.{processing_number}
-use Rattle.substrate.specs.Places.{PlaceMap}
 use Rattle.substrate.specs.Record.{is_in_process}
 use Rattle.substrate.specs.declared.record.Processing.{Processing}
 use Rattle.substrate.specs.declared.record.Processing.TheVariants as processing
-use Rattle.substrate.specs.declared.registered.Registered.{Registered}
 use Rattle.tool_floor.specs.declared.tracking.Substrate.{Substrate}
 use Rattle.tool_floor.specs.Floor.{ToolFloor, substrate_numbered, number_of}
 use Rattle.tool_floor.specs.Kept.{RiseTo}
-use Rattle.floor_moves.specs.Floor.{Loc, slot, chamber, Command, busy, own, is_outside}
-use Rattle.floor_moves.specs.Valid.{IsDistinct, Places, Carriers, Commands, Members, Valid}
-use Rattle.place_laws.specs.Picture.{picture, loc_of, port_in, slot_in, port_number, where_present, module_of, of_one}
+use Rattle.floor_moves.specs.Floor.{slot, own}
+use Rattle.floor_moves.specs.Valid.{IsDistinct}
+use Rattle.place_laws.specs.Picture.{picture, loc_of, port_in, slot_in, port_number, where_present, of_one}
 use Rattle.place_laws.specs.Standing.{IsOf, IsCarried, AreApart}
 
 abbrev IsOne : ℕ → Type 0

@@ -9,6 +9,7 @@
 #![tactic(auto)]
 
 mod data;
+mod jobs;
 mod messages;
 mod remote;
 mod shop;

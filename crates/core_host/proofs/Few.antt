@@ -1,9 +1,8 @@
 -- Lists of process jobs: as they are listed, and no more are cancelled than are kept.
 use Rattle.std.proofs.lemmas.List.{map-append}
-use Rattle.std.proofs.Common.{◌≡◌, ℕ, zero, suc, ◌≤◌, Bool, true, false, true≢false, cond, not, ◌&&◌, List, [], ◌∷◌, ◌++◌, ◌+◌, length, take, slice_get, map, filter, bytes_eq, Option, Some, None, refl, sym, ap, ◌∙◌, arith}
-use Rattle.process_job.specs.Jobs.{has_name, job_named, most_jobs}
+use Rattle.std.proofs.Common.{◌≡◌, ℕ, suc, ◌≤◌, Bool, true, false, true≢false, cond, not, ◌&&◌, List, [], ◌∷◌, ◌++◌, ◌+◌, length, take, slice_get, map, filter, bytes_eq, Option, Some, None, refl, sym, ap, ◌∙◌, arith}
+use Rattle.process_job.specs.Jobs.{has_name, job_named}
 use Rattle.process_job.specs.Commands.{row_of, answer_at, command_answer}
-use Rattle.process_job.specs.Record.{job_starts}
 use Rattle.process_job.specs.declared.job.ProcessJob.{ProcessJob}
 use Rattle.process_job.proofs.Names.{same_name}
 use Rattle.process_job.proofs.Scans.{take_here}
@@ -12,8 +11,8 @@ use Rattle.tool_jobs.specs.Jobs.{Jobs}
 use Rattle.msgs_300.specs.declared.reply.JobState.{JobState}
 use Rattle.gem_model.specs.JobMessages.{listed_job}
 use Rattle.job_requests.specs.declared.error.JobError.{JobError}
-use Rattle.job_requests.specs.Errors.{or_else, first_error, of_answer}
-use Rattle.job_requests.specs.Requests.{names_error, cancel_error, each_once, cancelled, is_queued}
+use Rattle.job_requests.specs.Errors.{or_else, of_answer}
+use Rattle.job_requests.specs.Requests.{names_error, each_once, cancelled, is_queued}
 
 -- ---- lists
 

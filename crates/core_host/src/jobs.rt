@@ -8,7 +8,7 @@ ghost use Rattle.process_job.specs.Jobs.{most_jobs};
 ghost use Rattle.control_job.specs.Jobs.{job_named as control_named, headed};
 ghost use Rattle.tool_jobs.specs.Creating.{with_process, with_control, control_fault, is_any_missing};
 ghost use Rattle.job_requests.specs.Acts.{act_after, act_rows};
-ghost use Rattle.job_requests.specs.Requests.{is_job_name, asked_process, process_rows, asked_control, control_rows, cancel_error, names_error, cancelled};
+ghost use Rattle.job_requests.specs.Requests.{is_job_name, asked_process, process_rows, asked_control, control_rows, command_rows, cancel_error, names_error, cancelled};
 ghost use Rattle.gem_model.specs.Remote.{is_local};
 ghost use Rattle.gem_model.specs.JobMessages.{errors_of, acknowledged, object_acknowledged, jobs_of, with_jobs_now, listed_job, rows_of_command, process_done, control_done, command_done, cancel_done, control_command_done, list_done, space_done};
 ghost use Rattle.core_host.specs.Dones.{done_view, CanBeSent};
@@ -107,9 +107,22 @@ fn command_rows(
     ensures { IfOk result (λ rows. rows.items ≡ rows_of_command job word jobs.now) }
 {
     match word {
-        Some(word) => rows_of(alloc, command_row(job, word, jobs)),
+        Some(word) => job_rows(alloc, job, word, jobs),
         None => Ok(Vec::new(alloc)),
     }
+}
+
+/// The row that a command on the process job of a name fires; none where no such job is kept (SEMI E40, S16F5). `AllocError` where
+/// there is no memory.
+pub fn job_rows(
+    alloc: Global,
+    job: Text80,
+    word: JobWord,
+    jobs: &Jobs,
+) -> Result<Vec<Firing>, AllocError>
+    ensures { IfOk result (λ rows. rows.items ≡ command_rows job word jobs.now) }
+{
+    rows_of(alloc, command_row(job, word, jobs))
 }
 
 /// S16F17, process jobs that are QUEUED are cancelled, all where none is named: where nothing stands against it, row 15 of table 14
@@ -155,6 +168,7 @@ fn few_cancelled(alloc: Global, names: &[Text80], jobs: &Jobs) -> Result<Listed<
     ensures names { IfOk result (λ jobs_cancelled. jobs_cancelled ≡ cancelled names.now jobs.now) }
     ensures few { IfOk result (λ jobs_cancelled. length jobs_cancelled ≤ most_jobs) }
 {
+    // The count says that few are kept.
     let _ = jobs.process().len();
     cancelled(alloc, names, jobs)
 }

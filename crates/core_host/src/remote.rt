@@ -2,42 +2,24 @@
 ghost use Rattle.std.specs.Prelude.{◌≡◌, [], length, IfOk};
 ghost use Rattle.secs_items.specs.Sendable.{IsLength};
 ghost use Rattle.gem_replies.specs.declared.reply.GemReply.TheVariants as reply;
-ghost use Rattle.job_requests.specs.Requests.{command_rows};
 ghost use Rattle.gem_model.specs.Messages.{remote_done};
 ghost use Rattle.gem_model.specs.Remote.{decided};
 ghost use Rattle.core_host.specs.Dones.{done_view, CanBeSent};
 
+use crate::jobs::job_rows;
 use crate::messages::{Done, HostReply, answered, fires_row};
 use core_state::Plant;
-use gem_ids::{Listed, Text80};
+use gem_ids::Listed;
 use gem_states::{Control, ControlTrigger};
-use gem_tables::Firing;
 use host_requests::{Decision, decided};
-use job_requests::command_row;
 use msgs_gem::{GemReply, Parameter};
 use std::alloc::{AllocError, Global};
-use tool_events::JobWord;
 
 /// S2F42 of a command that is done: HCACK 0, and no parameter is listed.
 fn accepted(alloc: Global) -> GemReply
     ensures { result ≡ reply.S2F42 0 [] }
 {
     GemReply::S2F42(0, Listed::new(alloc))
-}
-
-/// The firing of a command to the process job of a name, where it is there.
-fn job_rows(
-    plant: &Plant,
-    alloc: Global,
-    job: Text80,
-    word: JobWord,
-) -> Result<Vec<Firing>, AllocError>
-    ensures { IfOk result (λ rows. rows.items ≡ command_rows job word plant.now.floor.jobs) }
-{
-    match command_row(job, word, plant.jobs()) {
-        Some(row) => Vec::from_slice(alloc, &[row]),
-        None => Ok(Vec::new(alloc)),
-    }
 }
 
 /// A remote command, as it is decided by the plant before it: GOLOCAL fires the row of the operator's `local`, but the switch
@@ -69,7 +51,7 @@ pub fn command(
         }
         Decision::Commands(job, word) => Ok(Done {
             reply: HostReply::Gem(accepted(alloc)),
-            rows: job_rows(plant, alloc, job, word)?,
+            rows: job_rows(alloc, job, word, plant.jobs())?,
         }),
     }
 }

@@ -1,4 +1,4 @@
-use Rattle.std.proofs.Common.{ap, length, subst, sym, arith}
+use Rattle.std.proofs.Common.{arith}
 use Rattle.core_host.proofs.Few.{few_cancelled}
 use Rattle.core_host.proofs.jobs.few_cancelled.Goals as goal
 

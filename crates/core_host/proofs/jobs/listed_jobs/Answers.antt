@@ -1,6 +1,5 @@
-use Rattle.std.proofs.Common.{List, map, sym, ap, ◌∙◌}
+use Rattle.std.proofs.Common.{map, sym, ap, ◌∙◌}
 use Rattle.std.specs.Option.{option_copied}
-use Rattle.process_job.specs.declared.job.ProcessJob.{ProcessJob}
 use Rattle.process_job.proofs.Scans.{take_past}
 use Rattle.gem_model.specs.JobMessages.{listed_job}
 use Rattle.core_host.proofs.Few.{listed_step}

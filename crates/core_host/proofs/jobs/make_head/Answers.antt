@@ -1,4 +1,4 @@
-use Rattle.std.proofs.Common.{◌≡◌, ℕ, List, None, option_map, sym, ap, ◌∙◌}
+use Rattle.std.proofs.Common.{ℕ, List, option_map, sym, ap, ◌∙◌}
 use Rattle.control_job.specs.Jobs.{JobStore, job_named, order_headed, headed}
 use Rattle.tool_jobs.specs.Jobs.{Jobs}
 use Rattle.gem_model.specs.JobMessages.{jobs_of, with_jobs_now}

@@ -3,11 +3,7 @@ use Rattle.gem_tables.specs.declared.firing.Firing.{Firing}
 use Rattle.secs_items.specs.View.{view}
 use Rattle.msgs_300.specs.declared.reply.JobAcknowledge.{JobAcknowledge}
 use Rattle.msgs_300.specs.declared.reply.ShopReply.TheVariants as reply
-use Rattle.tool_jobs.specs.Jobs.{Jobs}
-use Rattle.tool_jobs.specs.Creating.{with_process}
-use Rattle.job_requests.specs.declared.error.JobError.{JobError}
-use Rattle.job_requests.specs.Requests.{asked_process, process_error, process_rows}
-use Rattle.gem_model.specs.Remote.{is_local}
+use Rattle.job_requests.specs.Requests.{asked_process, process_error}
 use Rattle.gem_model.specs.JobMessages.{jobs_of, acknowledged}
 use Rattle.core_host.specs.declared.messages.HostReply.TheVariants as code
 use Rattle.core_host.specs.declared.messages.Done.{Done}

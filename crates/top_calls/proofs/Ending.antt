@@ -48,6 +48,13 @@ not_write (input.Halted halt.NoMemory) count history number other is = absurd (c
 abbrev pub NotesFrom : Reader → List SessionNote → Type 0
 NotesFrom reader notes = (read : ℕ → ℕ) → AreCounts reader.feeder.reads read → AreNotes reader.feeder.core.config reader.feeder.core.history read notes
 
+-- where the cause isn't that a read failed, none did
+pub not_read : (end : InputEnd) (count : ℕ) (history : List Entry) (number : ℕ) → cause_after end count history number ≢ cause.ReadFault → end ≢ input.Fault
+not_read input.Whole count history number other is = absurd (cc)
+not_read input.Fault count history number other is = other refl
+not_read input.Bound count history number other is = absurd (cc)
+not_read (input.Halted h) count history number other is = absurd (cc)
+
 pub NotedBy-end : (end : InputEnd) (text : List ℕ) (count : ℕ) (reader : Reader) (notes : List SessionNote) (source source' : SourceView) → NotesFrom reader notes → InputEnds end text reader source source' → NotedBy reader.feeder.core.config (cause_after end count reader.feeder.core.history reader.number) (ReadToEnd source source') text reader.feeder.core.history notes
 NotedBy-end input.Whole text count reader notes source source' are h = are _ h.0.read
 NotedBy-end input.Fault text count reader notes source source' are h = are _ h.0.read

@@ -5,7 +5,7 @@ use Rattle.line_feeding.specs.CauseOf.{cause_after}
 use Rattle.line_feeding.specs.Fed.{looked, FedBy, ReadToEnd, Shown}
 use Rattle.line_feeding.specs.Noted.{NotedBy}
 use Rattle.line_feeding.specs.Stopping.{GivenBy}
-use Rattle.top_calls.proofs.Ending.{not_write, FedBy-end, NotedBy-end, Shown-end, Shown-memory}
+use Rattle.top_calls.proofs.Ending.{not_read, not_write, FedBy-end, NotedBy-end, Shown-end, Shown-memory}
 use Rattle.gem_model.proofs.Recording.{recorded-after}
 use Rattle.top_calls.proofs.NothingHappened.{recorded_none}
 use Rattle.top_calls.proofs.feeding.feed_config.Goals as goal
@@ -75,3 +75,8 @@ returns-clause-recorded g c =
 
 pub returns-in_default-clause-recorded : goal.returns-in_default-clause-recorded
 returns-in_default-clause-recorded g c = rw c.without_history.ensures (recorded_none c.args.config.now [] c.requires refl)
+
+pub returns-clause-no_read_failed : goal.returns-clause-no_read_failed
+returns-clause-no_read_failed g c =
+    rw (c.with_history-2.ensures, c.cause_of-cause.ensures)
+    (λ other memory. c.read_lines-read.ensures.unfailed (not_read c.read_lines-read.result.end c.read_lines-read.result.count _ _ other))

@@ -7,6 +7,7 @@ use Rattle.gem_states.specs.Triggers.{comm_rows, control_rows}
 use Rattle.gem_states.specs.declared.communication.CommTrigger.{CommTrigger}
 use Rattle.gem_states.specs.declared.control.ControlTrigger.{ControlTrigger}
 use Rattle.gem_model.specs.State.{State}
+use Rattle.gem_model.specs.HostMessages as host
 use Rattle.gem_model.specs.HostMessages.{HostMessage}
 use Rattle.gem_model.specs.Messages as model
 use Rattle.gem_model.specs.Direct.{Are, IsListed}
@@ -18,7 +19,7 @@ use Rattle.core_host.specs.Dones.{done_view}
 -- the rows of a message
 pub done_listed : (told : Done) (after : State) (m : HostMessage) (g : State) (rows : List Firing) → done_view told after ≡ model.done g m → rows ≡ told.rows.items → Are IsListed rows
 done_listed told after m g rows is same =
-    subst (Are IsListed) (sym same) (subst (λ (d : model.Done). Are IsListed d.rows) (sym is) (listed_message m g))
+    subst (Are IsListed) (sym same) (subst (λ (d : host.Done). Are IsListed d.rows) (sym is) (listed_message m g))
 
 of_table : (table : ℕ) → (table == 3) ≡ false → (rows : List ℕ) (row : Firing) → map (firing table 0) rows ≡ row ∷ [] → IsListed row
 of_table table not_3 [] row is = absurd (cc)

@@ -1,8 +1,8 @@
 -- What the code's record of what a message did stands for.
 use Rattle.gem_replies.specs.Sendable.{HasSendableParts}
+use Rattle.msgs_300.specs.Sendable.{HasSendableParts as HasShopParts}
 use Rattle.gem_model.specs.State.{State}
 use Rattle.gem_model.specs.HostMessages as model
-use Rattle.gem_model.specs.Messages as messages
 use Rattle.core_host.specs.declared.messages.HostReply.{HostReply}
 use Rattle.core_host.specs.declared.messages.HostReply.TheVariants as code
 use Rattle.core_host.specs.declared.messages.Done.{Done}
@@ -15,8 +15,8 @@ reply_view (code.Shop r) = model.ShopTold r
 -- its parts can be sent
 abbrev pub CanBeSent : HostReply → Type 0
 CanBeSent (code.Gem r) = HasSendableParts r
-CanBeSent (code.Shop r) = Unit {0}
+CanBeSent (code.Shop r) = HasShopParts r
 
 -- what was done, with the plant behind it
-abbrev pub done_view : Done → State → messages.Done
+abbrev pub done_view : Done → State → model.Done
 done_view told after = record { reply = reply_view told.reply; after = after; rows = told.rows.items }

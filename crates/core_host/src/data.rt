@@ -2,14 +2,15 @@
 ghost use Rattle.std.specs.Prelude.{◌≡◌, ◌+◌, ◌≤◌, ◌<◌, ◌^◌, length, OnOk, IfOk};
 ghost use Rattle.transactions.specs.Endings.{answered};
 ghost use Rattle.gem_replies.specs.Acknowledge.{accepts};
-ghost use Rattle.gem_model.specs.Direct.{attempt_answer, establish_answer};
+ghost use Rattle.gem_model.specs.Direct.{Are, IsListed, attempt_answer, establish_answer};
 ghost use Rattle.gem_model.specs.Verdict.{item_of, stream_of, function_of};
-ghost use Rattle.gem_model.specs.Act.{replied, taken, closed_by, data_done};
+ghost use Rattle.gem_model.specs.Act.{replied, taken, taken_as, closed_by, data_done};
+ghost use Rattle.core_host.specs.Dones.{done_view, CanBeSent};
 ghost use Rattle.core_host.specs.HostActs.{host_act, reply_act};
 ghost use Rattle.host_requests.specs.Short.{IsShort};
 ghost use Rattle.host_requests.specs.Verdicts.{message_view, HasFew};
 
-use crate::messages::{perform, reply_text};
+use crate::messages::{Done, perform, reply_text};
 use crate::verdict::verdict_of;
 use core_state::{Plant, by_comm};
 use gem_states::{CommTrigger, ControlTrigger};
@@ -51,7 +52,7 @@ pub fn host(plant: &mut Plant, alloc: Global, arrival: &Arrival) -> Result<HostA
             close(plant, alloc, &header, arrival)?;
             Ok(HostAct::Silent)
         }
-        Verdict::Taken(message) => take_message(plant, alloc, &header, message),
+        Verdict::Taken(message) => take_message(plant, alloc, &header, &message),
     }
 }
 
@@ -80,14 +81,30 @@ fn take_message(
     plant: &mut Plant,
     alloc: Global,
     header: &Header,
-    message: HostMsg,
+    message: &HostMsg,
 ) -> Result<HostAct, AllocError>
     requires next { function_of header.now < 255 }
-    requires few { HasFew message }
+    requires few { HasFew message.now }
     ensures act { IfOk result (λ act. act ≡ reply_act header.now (function_of header.now + 1)) }
-    ensures after { OnOk result (plant.new ≡ taken header.now (message_view message) plant.old) }
+    ensures after { OnOk result (plant.new ≡ taken header.now (message_view message.now) plant.old) }
 {
     let done = perform(plant, alloc, message)?;
+    finish(plant, alloc, header, &done)
+}
+
+/// What a message did is answered, and its direct rows fire.
+fn finish(
+    plant: &mut Plant,
+    alloc: Global,
+    header: &Header,
+    done: &Done,
+) -> Result<HostAct, AllocError>
+    requires next { function_of header.now < 255 }
+    requires sendable { CanBeSent done.now.reply }
+    requires listed { Are IsListed done.now.rows.items }
+    ensures act { IfOk result (λ act. act ≡ reply_act header.now (function_of header.now + 1)) }
+    ensures after { OnOk result (plant.new ≡ taken_as header.now (done_view done.now plant.old)) }
+{
     let text = reply_text(alloc, &done.reply)?;
     let act = answer(plant, alloc, header, header.byte3 + 1, text)?;
     plant.fire_listed(alloc, done.rows.as_slice())?;

@@ -1,14 +1,17 @@
 //! Data messages of the host: what each is answered, what it writes, and which direct rows it fires (SEMI E5, streams 1,
-//! 2, 5, 6 and 9; SEMI E30, communication, control, event reports, alarms, remote control and spooling).
+//! 2, 5, 6 and 9; SEMI E30, communication, control, event reports, alarms, remote control and spooling; SEMI E87, stream 3; SEMI
+//! E40 and SEMI E94, streams 14 and 16).
 //!
 //! Each is one change of the `Plant` of `core_state`, by its header and its body, which `host_requests` reads. What the link
 //! table says of the header, the settling behind the message and the history are for `tool_core`. The verdict on a message
-//! is chosen in one place, `verdict.rt`, and each message that is taken is one arm in `messages.rt` or `shop.rt`.
+//! is chosen in one place, `verdict.rt`, and each message that is taken is one arm in `messages.rt` or `shop.rt`; what is done
+//! of jobs is in `jobs.rt`.
 //!
 //! Memory may run out; nothing is said of the plant after that. Begin with `host`.
 #![tactic(auto)]
 
 mod data;
+mod jobs;
 mod messages;
 mod remote;
 mod shop;

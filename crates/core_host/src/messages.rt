@@ -198,13 +198,13 @@ fn gem_done(plant: &mut Plant, alloc: Global, message: &GemMsg) -> Result<Done, 
 }
 
 /// What a message is answered, and the rows that it fires, by the plant before it; and what it writes is written.
-pub fn perform(plant: &mut Plant, alloc: Global, message: HostMsg) -> Result<Done, AllocError>
-    requires { HasFew message }
-    ensures done { IfOk result (λ told. done_view told plant.new ≡ done plant.old (message_view message)) }
+pub fn perform(plant: &mut Plant, alloc: Global, message: &HostMsg) -> Result<Done, AllocError>
+    requires { HasFew message.now }
+    ensures done { IfOk result (λ told. done_view told plant.new ≡ done plant.old (message_view message.now)) }
     ensures sendable { IfOk result (λ told. CanBeSent told.reply) }
 {
     match message {
-        HostMsg::Gem(message) => gem_done(plant, alloc, &message),
+        HostMsg::Gem(message) => gem_done(plant, alloc, message),
         HostMsg::Shop(message) => shop_done(plant, alloc, message),
     }
 }

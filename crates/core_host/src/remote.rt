@@ -1,4 +1,4 @@
-//! Remote commands of the host (SEMI E5, S2F41; SEMI E30, remote control).
+//! Remote commands of the host (SEMI E5, S2F41; SEMI E30, remote control; SEMI E40, commands to process jobs).
 ghost use Rattle.std.specs.Prelude.{◌≡◌, [], length, IfOk};
 ghost use Rattle.secs_items.specs.Sendable.{IsLength};
 ghost use Rattle.gem_replies.specs.declared.reply.GemReply.TheVariants as reply;
@@ -6,7 +6,8 @@ ghost use Rattle.gem_model.specs.Messages.{remote_done};
 ghost use Rattle.gem_model.specs.Remote.{decided};
 ghost use Rattle.core_host.specs.Dones.{done_view, CanBeSent};
 
-use crate::messages::{Done, answered, fires_row};
+use crate::jobs::job_rows;
+use crate::messages::{Done, HostReply, answered, fires_row};
 use core_state::Plant;
 use gem_ids::Listed;
 use gem_states::{Control, ControlTrigger};
@@ -22,7 +23,8 @@ fn accepted(alloc: Global) -> GemReply
 }
 
 /// A remote command, as it is decided by the plant before it: GOLOCAL fires the row of the operator's `local`, but the switch
-/// stays; CLEARALARM clears its alarm.
+/// stays; CLEARALARM clears its alarm; and a command to a process job fires its row (SEMI E5, S2F42; this tool's profile, remote
+/// commands). `AllocError` where there is no memory.
 pub fn command(
     plant: &mut Plant,
     alloc: Global,
@@ -34,7 +36,7 @@ pub fn command(
     ensures sendable { IfOk result (λ told. CanBeSent told.reply) }
 {
     let local = plant.control() == Control::Local;
-    match decided(plant.alarms(), local, alloc, name, parameters)? {
+    match decided(plant.alarms(), plant.jobs(), local, alloc, name, parameters)? {
         Decision::Refused(code, faults) => {
             Ok(answered(alloc, GemReply::S2F42(code.number(), faults)))
         }
@@ -47,5 +49,9 @@ pub fn command(
             plant.clear_alarm(alloc, alid)?;
             Ok(answered(alloc, accepted(alloc)))
         }
+        Decision::Commands(job, word) => Ok(Done {
+            reply: HostReply::Gem(accepted(alloc)),
+            rows: job_rows(alloc, job, word, plant.jobs())?,
+        }),
     }
 }

@@ -1,3 +1,4 @@
 pub mod Firings
+pub mod JobRows
 pub mod Operating
 pub mod Timeouts

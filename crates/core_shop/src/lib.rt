@@ -1,5 +1,5 @@
 //! What the operator, the equipment, the link and the clock do to the tool, and how it settles (SEMI E30, SEMI E37 and SEMI
-//! E87). What the messages of the host do stands in `core_host`.
+//! E87; the operator's words to jobs, SEMI E40 and SEMI E94). What the messages of the host do stands in `core_host`.
 //!
 //! Each call is one event before the tool settles, and `follow` settles it. Contracts see a `Plant` as the `State` of the
 //! definitions in `gem_model`. Memory may run out in each call that is handed an allocator; it answers `AllocError` then, and

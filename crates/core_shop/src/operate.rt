@@ -11,17 +11,19 @@ ghost use Rattle.gem_model.specs.Noting.{clears_alarm};
 ghost use Rattle.gem_model.specs.Signals.{module_alarm};
 ghost use Rattle.core_shop.specs.Reactions.{outcome_of};
 ghost use Rattle.tool_events.specs.declared.answer.Answer.TheVariants as answer;
+ghost use Rattle.tool_events.specs.declared.event.OperCmd.TheVariants as oper;
 
 use crate::clock::end_for;
 use crate::reaction::Reaction;
 use crate::signals::module_alarm;
 use arrayvec::ArrayVec;
 use core_state::{Plant, by_comm};
-use gem_ids::{ModuleId, PortNo};
+use gem_ids::{JobId, ModuleId, PortNo};
 use gem_states::{CommTrigger, ControlTrigger};
 use gem_tables::Firing;
+use job_requests::{QueueAct, command_row, control_command};
 use std::alloc::{AllocError, Global};
-use tool_events::{Answer, OperCmd, SessionCause};
+use tool_events::{Answer, JobWord, OperCmd, SessionCause};
 
 // The numbers of the tables of a port's transfer and access and of moves, as the definitions have them.
 const TRANSFER: u8 = 4;
@@ -48,6 +50,27 @@ fn at_port(table: u8, first: bool, port: PortNo) -> Firing
     Firing::new(table, u64::from(port.0), if first { 1 } else { 2 })
 }
 
+/// The row of a command to a process job, which is that of the host's S16F5 (SEMI E40; table 14).
+fn job_rows(plant: &Plant, job: JobId, word: JobWord) -> ArrayVec<Firing, 3>
+    ensures rows { result.items ≡ operator_rows (oper.Job job word) plant.now }
+    ensures listed { Are IsListed result.items }
+{
+    one(command_row(job.text(), word, plant.jobs()))
+}
+
+/// The row of a command to a control job, which is that of the host's S16F27 (SEMI E94; table 15). Head of queue
+/// has none.
+#[tactic(auto, using(crate::proofs::JobRows::control_listed))]
+fn control_job_rows(plant: &Plant, job: JobId, cmd: u8) -> ArrayVec<Firing, 3>
+    ensures rows { result.items ≡ operator_rows (oper.CtlJob job cmd) plant.now }
+    ensures listed { Are IsListed result.items }
+{
+    match control_command(job.text(), cmd, plant.jobs()) {
+        Some(QueueAct::Fires(row)) => one(Some(row)),
+        Some(QueueAct::Heads) | None => one(None),
+    }
+}
+
 /// The direct rows of an operator's command, in their order (this tool's profile, direct rows).
 fn operator_rows(plant: &Plant, command: &OperCmd) -> ArrayVec<Firing, 3>
     ensures rows { result.items ≡ operator_rows command.now plant.now }
@@ -64,7 +87,9 @@ fn operator_rows(plant: &Plant, command: &OperCmd) -> ArrayVec<Firing, 3>
         OperCmd::Access(port, auto) => one(Some(at_port(ACCESS, *auto, *port))),
         OperCmd::Up(m) => one(Some(Firing::new(MOVES, u64::from(m.0), 10))),
         OperCmd::Lost(sub) => one(plant.lost_row(*sub)),
-        _ => one(None),
+        OperCmd::Job(job, word) => job_rows(plant, *job, *word),
+        OperCmd::CtlJob(job, cmd) => control_job_rows(plant, *job, *cmd),
+        OperCmd::Clear(_) | OperCmd::Quit => one(None),
     }
 }
 
@@ -86,6 +111,13 @@ fn can_clear(plant: &Plant, alid: u32) -> bool
     plant.is_alarm_set(alid) && !(10 < alid && alid <= 20)
 }
 
+/// Whether a command to a control job can be done (SEMI E94, S16F27).
+fn can_command(plant: &Plant, job: JobId, cmd: u8) -> bool
+    ensures { result ≡ is_accepted (oper.CtlJob job cmd) plant.now }
+{
+    plant.jobs().control().command(job, cmd).is_ok()
+}
+
 /// Whether an operator's command is accepted.
 fn is_accepted(plant: &Plant, command: &OperCmd) -> bool
     ensures { result ≡ is_accepted command.now plant.now }
@@ -94,6 +126,7 @@ fn is_accepted(plant: &Plant, command: &OperCmd) -> bool
         OperCmd::Local | OperCmd::Remote => true,
         OperCmd::Clear(alid) => can_clear(plant, *alid),
         OperCmd::Access(port, _) => plant.has_port(*port),
+        OperCmd::CtlJob(job, cmd) => can_command(plant, *job, *cmd),
         OperCmd::Enable
         | OperCmd::Disable
         | OperCmd::Online
@@ -101,7 +134,6 @@ fn is_accepted(plant: &Plant, command: &OperCmd) -> bool
         | OperCmd::Service(_, _)
         | OperCmd::Quit
         | OperCmd::Job(_, _)
-        | OperCmd::CtlJob(_, _)
         | OperCmd::Up(_)
         | OperCmd::Lost(_) => first_starts(plant, command),
     }
@@ -125,8 +157,17 @@ fn come_up(plant: &mut Plant, alloc: Global, m: ModuleId) -> Result<(), AllocErr
     plant.clear_alarm(alloc, module_alarm(m))
 }
 
-/// What a command changes besides its rows: the operator's switch is set, or an alarm is cleared, that of a module which comes up
-/// among them.
+/// A control job becomes the head of the queue, where the command is head of queue and the job is QUEUED (SEMI E94, S16F27).
+fn make_head(plant: &mut Plant, job: JobId, cmd: u8)
+    ensures { plant.new ≡ switched (oper.CtlJob job cmd) plant.old }
+{
+    if let Some(QueueAct::Heads) = control_command(job.text(), cmd, plant.jobs()) {
+        plant.head_of_queue(job);
+    }
+}
+
+/// What a command changes besides its rows: the operator's switch is set, an alarm is cleared, that of a module which comes up
+/// among them, or a control job becomes the head of the queue.
 fn switch(plant: &mut Plant, alloc: Global, command: &OperCmd) -> Result<(), AllocError>
     ensures { OnOk result (plant.new ≡ switched command.now plant.old) }
 {
@@ -135,6 +176,7 @@ fn switch(plant: &mut Plant, alloc: Global, command: &OperCmd) -> Result<(), All
         OperCmd::Remote => plant.set_switch(false),
         OperCmd::Clear(alid) if can_clear(plant, *alid) => plant.clear_alarm(alloc, *alid)?,
         OperCmd::Up(m) => come_up(plant, alloc, *m)?,
+        OperCmd::CtlJob(job, cmd) => make_head(plant, *job, *cmd),
         _ => {}
     }
     Ok(())

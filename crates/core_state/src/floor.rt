@@ -3,7 +3,8 @@
 ghost use Rattle.std.specs.Prelude.{◌≡◌, ◌≤◌, true, false, not, length, OnOk, IfOk};
 ghost use Rattle.load_port.specs.Caack.{is_done_code};
 ghost use Rattle.shop_floor.specs.Floor.{numbers_from};
-ghost use Rattle.shop_floor.specs.Requests.{carrier_code, carrier_written, carrier_rows, port_code, port_rows, at_ports, mode_row, or_all};
+ghost use Rattle.tool_floor.specs.Jobs.{carrier_code};
+ghost use Rattle.shop_floor.specs.Requests.{carrier_written, carrier_rows, port_code, port_rows, at_ports, mode_row, or_all};
 ghost use Rattle.tool_floor.specs.Floor.{with_shop};
 ghost use Rattle.tool_floor.specs.Machines.{floor_starts, creation_rows, object_name};
 ghost use Rattle.gem_model.specs.Ready.{ready_floor};
@@ -105,9 +106,9 @@ impl Plant {
 
     /// CAACK of an action on a carrier (SEMI E87, S3F18), where the host commands.
     pub fn carrier_code(&self, action: &CarrierAction) -> Caack
-        ensures { result ≡ carrier_code self.now.floor.shop action.now }
+        ensures { result ≡ carrier_code action.now self.now.floor }
     {
-        self.floor.shop().carrier_code(action)
+        self.floor.carrier_code(action)
     }
 
     /// CAACK of an action on ports (SEMI E87, S3F26 and S3F28), where the host commands.
@@ -119,7 +120,7 @@ impl Plant {
 
     /// An action on a carrier that is accepted writes.
     pub fn write_action(&mut self, action: &CarrierAction) -> Result<(), AllocError>
-        requires { is_done_code (carrier_code self.old.floor.shop action.now) ≡ true }
+        requires { is_done_code (carrier_code action.now self.old.floor) ≡ true }
         ensures { OnOk result (self.new ≡ record self.old { floor = with_shop (carrier_written action.now self.old.floor.shop) self.old.floor }) }
     {
         self.floor.write(action)?;

@@ -5,6 +5,7 @@ ghost use Rattle.hsms_frame.specs.Spelling.{message_bytes, header_bytes};
 ghost use Rattle.gem_replies.specs.Replies.{reply_body, B};
 ghost use Rattle.gem_replies.specs.Sendable.{HasSendableParts};
 ghost use Rattle.msgs_300.specs.Replies.{shop_reply_body};
+ghost use Rattle.msgs_300.specs.Sendable.{HasSendableParts as HasShopParts};
 ghost use Rattle.gem_model.specs.Sending.{data_header, data_frame, identity_text, stream9_text};
 ghost use Rattle.secs_items.specs.Plain.{plain};
 ghost use Rattle.secs_items.specs.Sendable.{IsSendable};
@@ -71,8 +72,9 @@ pub fn reply_text(alloc: Global, reply: &GemReply) -> Result<Bytes, AllocError>
     text_of(alloc, &item)
 }
 
-/// The text of a reply to a message of carriers and ports.
+/// The text of a reply to a message of carriers, ports and jobs, whose parts can be sent.
 pub fn shop_text(alloc: Global, reply: &ShopReply) -> Result<Bytes, AllocError>
+    requires { HasShopParts reply.now }
     ensures text { IfOk result (λ text. text ≡ plain (shop_reply_body reply.now)) }
     ensures short { IfOk result (λ text. length text ≤ 2 ^ 31) }
 {

@@ -15,6 +15,7 @@ mod firing;
 mod floor;
 mod frames;
 mod host_data;
+mod jobs;
 mod link;
 mod modules;
 mod notes;

@@ -68,6 +68,14 @@ fn count(alloc: Global, number: u32) -> Result<Option<Item>, AllocError>
     Ok(Some(Item::U4(U32s::from_vec(numbers))))
 }
 
+// What a variable shows that is a short count.
+fn short_count(alloc: Global, number: u16) -> Result<Option<Item>, AllocError>
+    ensures { IfOk result (λ value. option_map view value ≡ Some (u2 (number ∷ []))) }
+{
+    let numbers = vec![in alloc; number]?;
+    Ok(Some(Item::U2(U16s::from_vec(numbers))))
+}
+
 // The number of a state of the spool's filling.
 fn load_number(load: Load) -> u8
     ensures { result ≡ load_number load }
@@ -242,6 +250,20 @@ impl Plant {
         name(alloc, self.substrate_text(LocId::Chamber(number)))
     }
 
+    // How many process jobs are kept, at most 64.
+    fn process_job_count(&self) -> u16
+        ensures { result ≡ length self.now.floor.jobs.process.kept }
+    {
+        self.floor.jobs().process().len() as u16
+    }
+
+    // How many control jobs are kept, at most 32.
+    fn control_job_count(&self) -> u16
+        ensures { result ≡ length self.now.floor.jobs.control.jobs }
+    {
+        self.floor.jobs().control().len() as u16
+    }
+
     // The state of the transfer of the port of a number. `None`: the tool lacks it.
     fn port_transfer(&self, alloc: Global, number: u8) -> Result<Option<Item>, AllocError>
         ensures { IfOk result (λ value. option_map view value ≡ port_value self.now number (λ p. u1 (transfer_number p.states.transfer ∷ []))) }
@@ -295,7 +317,8 @@ impl Plant {
             StatusVariable::ArmSubstrate => name(alloc, self.substrate_text(LocId::Arm)),
             StatusVariable::AlignerSubstrate => name(alloc, self.substrate_text(LocId::Aligner)),
             StatusVariable::ChamberSubstrate(number) => self.chamber_substrate(alloc, number),
-            StatusVariable::ProcessJobCount | StatusVariable::ControlJobCount => Ok(None),
+            StatusVariable::ProcessJobCount => short_count(alloc, self.process_job_count()),
+            StatusVariable::ControlJobCount => short_count(alloc, self.control_job_count()),
         }
     }
 
@@ -309,7 +332,6 @@ impl Plant {
             | StatusVariable::PortAccess(number)
             | StatusVariable::PortCarrier(number) => self.port_numbered(number).is_some(),
             StatusVariable::ChamberSubstrate(number) => self.has_chamber(number),
-            StatusVariable::ProcessJobCount | StatusVariable::ControlJobCount => false,
             _ => true,
         }
     }

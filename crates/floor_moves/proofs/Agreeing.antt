@@ -2,7 +2,7 @@
 use Rattle.std.proofs.Common.{◌≡◌, ◌≤◌, ◌<◌, ℕ, Bool, true, false, not, ◌&&◌, ◌||◌, List, Option, Some, sym, ap, subst, ◌∙◌, ◌⊎◌, inl, inr}
 use Rattle.std.proofs.lemmas.Bool.{cases_Bool}
 use Rattle.gem_tables.specs.Table.{is_one_of}
-use Rattle.floor_moves.specs.Floor.{Loc, slot, aligner, arm, chamber, Module, JobView, Floor, modules, own, is_outside, is_finished, is_done}
+use Rattle.floor_moves.specs.Floor.{Loc, slot, aligner, arm, chamber, named, Module, Floor, modules, own, is_outside, is_finished, is_done}
 use Rattle.floor_moves.specs.Valid.{Empty, IsDistinct, HasRoom, IsProcessed, Places, Carriers, Commands, Members, Work, Valid}
 use Rattle.floor_moves.specs.Agree.{Agree}
 
@@ -44,7 +44,7 @@ module _ (g h : Floor) (a : Agree g h) where
       record {
         at_aligner = λ not_yet. empty_on aligner (old.at_aligner (sym (a.is_aligned n kept) ∙ not_yet));
         in_chamber = λ is. let c = old.in_chamber (sym (a.is_aligned n kept) ∙ is) in
-            (c.0, subst (λ (j : JobView). is_one_of (j.chambers_of n) c.0 ≡ true) (sym a.jobs) c.1, chamber_on c.0 c.2, empty_on (chamber c.0) c.3);
+            (c.0, ap (λ (cs : List ℕ). is_one_of cs c.0) (a.jobs.chambers_of n) ∙ c.1, chamber_on c.0 c.2, empty_on (chamber c.0) c.3);
       }
 
   places_on : Places g → Places h
@@ -102,16 +102,28 @@ module _ (g h : Floor) (a : Agree g h) where
   }
 
   members_on : Carriers g → Members g → Members h
-  members_on r v = subst (λ (j : JobView). Members (record h { jobs = j })) (sym a.jobs) (record {
-    outside = λ n e. v.outside n (sym (ap is_outside (a.place_of n)) ∙ e);
-    named = λ m c e. v.named m c (busy_back m _ e);
-    starting = v.starting;
-    kept = λ n e. kept_on n (v.kept n e);
-    carrier = λ n e. ap g.jobs.names_carrier (a.carrier_of n (v.kept n e)) ∙ v.carrier n e;
-    here = λ n e. let i = v.kept n e in subst (λ (k : ℕ). k ≤ 1) (sym (access_same n i)) (v.here n e);
-    complete = λ n e over. done_same n (v.kept n e) ∙ v.complete n e over;
-    recipe = λ n e. let c = v.recipe n e in (c.0, c.1, chamber_on c.0 c.2);
-  }) where
+  members_on r v = record {
+    outside = λ n e. member_on n (v.outside n (sym (ap is_outside (a.place_of n)) ∙ e));
+    named = λ m c e. member_on (named c.task) (v.named m c (busy_back m _ e));
+    starting = λ n e. member_on n (v.starting n (sym (a.jobs.may_start n) ∙ e));
+    kept = λ n e. kept_on n (v.kept n (member_back n e));
+    carrier = λ n e. carrier n (member_back n e);
+    here = λ n e. let i = v.kept n (member_back n e) in subst (λ (k : ℕ). k ≤ 1) (sym (access_same n i)) (v.here n (member_back n e));
+    complete = λ n e over. let i = member_back n e in done_same n (v.kept n i) ∙ v.complete n i (sym (a.jobs.is_complete n) ∙ over);
+  } where
+    member_on : (n : ℕ) → g.jobs.is_member n ≡ true → h.jobs.is_member n ≡ true
+    member_on n e = a.jobs.is_member n ∙ e
+
+    member_back : (n : ℕ) → h.jobs.is_member n ≡ true → g.jobs.is_member n ≡ true
+    member_back n e = sym (a.jobs.is_member n) ∙ e
+
+    carrier : (n : ℕ) → g.jobs.is_member n ≡ true → h.jobs.names_carrier (h.carrier_of n) ≡ true
+    carrier n e =
+        let i = v.kept n e in
+        ap h.jobs.names_carrier (a.carrier_of n i)
+        ∙ a.jobs.names_carrier (g.carrier_of n) (g.port_of n) (r.present n i)
+        ∙ v.carrier n e
+
     access_same : (n : ℕ) → is_one_of g.substrates n ≡ true → h.access (h.carrier_of n) ≡ g.access (g.carrier_of n)
     access_same n i = ap h.access (a.carrier_of n i) ∙ a.access (g.carrier_of n) (r.known (g.carrier_of n) (g.port_of n) (r.present n i))
 

@@ -52,7 +52,6 @@ opening-valid chambers = record {
     carrier = λ n e. absurd (cc);
     here = λ n e. absurd (cc);
     complete = λ n e f. absurd (cc);
-    recipe = λ n e. absurd (cc);
   };
   work = record {
     in_process = λ n e. absurd (let z : IsOne 0 = e in omega (arith, z));
@@ -85,7 +84,6 @@ created-keeps g c new v = record {
     carrier = v.members.carrier;
     here = λ n is. set_both c (g.carrier_of n) 0 g.access (λ a. a ≤ 1) (λ same. omega arith) (λ other. v.members.here n is);
     complete = v.members.complete;
-    recipe = v.members.recipe;
   };
   work = v.work;
 } where
@@ -300,7 +298,6 @@ module _ (g : Floor) (v : Valid g) (c : ℕ) (ends : HasEnded c g) where
       carrier = v.members.carrier;
       here = v.members.here;
       complete = λ n is over. ap (λ (x : Option Loc). is_finished (g.processing n) && not (is_outside x)) (stays_there n (not_its n is)) ∙ v.members.complete n is over;
-      recipe = v.members.recipe;
     };
     work = record {
       in_process = v.work.in_process;

@@ -29,7 +29,6 @@ accessed-keeps g c state ends v = record {
     carrier = v.members.carrier;
     here = λ n is. set_both c (g.carrier_of n) state g.access (λ a. a ≤ 1) (λ same. ends n is same) (λ other. v.members.here n is);
     complete = v.members.complete;
-    recipe = v.members.recipe;
   };
 }
 
@@ -126,7 +125,6 @@ module _ (g : Floor) (n state : ℕ) (may : MayWork n state g) where
       carrier = v.members.carrier;
       here = v.members.here;
       complete = λ k is over. done_stays k (v.members.complete k is over);
-      recipe = v.members.recipe;
     };
     work = record {
       in_process = λ k e. by_process k (set_tells n k state g.processing 1 e);

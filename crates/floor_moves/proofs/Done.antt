@@ -119,7 +119,6 @@ done_align-keeps g m n c is t v = record {
     carrier = v.members.carrier;
     here = v.members.here;
     complete = v.members.complete;
-    recipe = v.members.recipe;
   };
   work = record {
     in_process = λ k e. still_open k (v.work.in_process k e);
@@ -256,7 +255,6 @@ lost-keeps g n out unnamed v = record {
     carrier = v.members.carrier;
     here = v.members.here;
     complete = λ k is over. done k (v.members.complete k is over);
-    recipe = v.members.recipe;
   };
   work = record {
     in_process = λ k e. by_one k (set_tells n k 6 g.processing 1 e);

@@ -60,7 +60,6 @@ module _ (g : Floor) (m : ℕ) (task : Task) where
       carrier = v.members.carrier;
       here = v.members.here;
       complete = v.members.complete;
-      recipe = v.members.recipe;
     };
     work = record {
       in_process = λ n e. let w = v.work.in_process n e in (w.0, w.1, still may w.0 w.1 w.2, w.3);
@@ -143,7 +142,6 @@ module _ (g : Floor) (m : ℕ) (state : Module) (not_busy : (c : Command) → st
       carrier = v.members.carrier;
       here = v.members.here;
       complete = v.members.complete;
-      recipe = v.members.recipe;
     };
     in_process = λ k other e. open_still k other e (v.work.in_process k e);
     removed = v.work.removed;

@@ -94,7 +94,6 @@ module _ (g : Floor) (m n : ℕ) (l : Loc) (c : Command) (is : g.equipment m ≡
     carrier = v.members.carrier;
     here = v.members.here;
     complete = λ k is over. set_both n k (Some l) g.place_of (λ p. (is_finished (g.processing k) && not (is_outside p)) ≡ true) (λ same. absurd (never k is over same)) (λ other. v.members.complete k is over);
-    recipe = v.members.recipe;
   } where
     never : (k : ℕ) → g.jobs.is_member k ≡ true → g.jobs.is_complete k ≡ true → k ≡ n → ⊥
     never k is over same = let d = v.members.complete k is over in let e : is_done n g ≡ true = subst (λ (i : ℕ). is_done i g ≡ true) same d in cc

@@ -201,7 +201,6 @@ module _ (g : Floor) (v : Valid g) (c p k : ℕ) (may : MayRegister c p k g) whe
     carrier = λ n is. ap g.jobs.names_carrier (same_carrier n is) ∙ v.members.carrier n is;
     here = λ n is. let same = ap g.access (same_carrier n is) in let less = v.members.here n is in omega (arith, same, less);
     complete = λ n is over. done n (other n is) (v.members.complete n is over);
-    recipe = v.members.recipe;
   } where
     other : (n : ℕ) → g.jobs.is_member n ≡ true → n ≡ r → ⊥
     other n is same = jobless (ap g.jobs.is_member (sym same) ∙ is)

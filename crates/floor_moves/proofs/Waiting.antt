@@ -9,7 +9,7 @@ use Rattle.gem_tables.specs.Machine.{first_ready}
 use Rattle.gem_tables.specs.declared.firing.Firing.{Firing}
 use Rattle.floor_moves.specs.Floor.{Loc, slot, aligner, arm, chamber, Command, Module, idle, busy, down, is_idle, Floor, chamber_module, modules, own, is_same, is_at, is_outside, is_finished}
 use Rattle.floor_moves.specs.Ready.{holder, is_empty, names, is_named, is_to_skip, processing_cases, is_chamber_free, free_target, may_leave, is_useful, stage, pick_from, best_pick, is_to_place, is_to_align, is_to_process, in_chamber_of, move_cases, row_at, objects, least_of, least}
-use Rattle.floor_moves.specs.Valid.{Empty, Valid}
+use Rattle.floor_moves.specs.Valid.{Empty, Valid, HaveChambers}
 use Rattle.floor_moves.specs.Work.{is_at_work, is_work_left, AreUp, IsOpen}
 use Rattle.floor_moves.proofs.Scans.{any_tells, any_none, find_none, one_of_tells, first_of}
 use Rattle.floor_moves.proofs.Facts.{is_number, loc_itself, idle_tells, outside_tells, empty_from, holds}
@@ -65,7 +65,7 @@ chamber_known (d ∷ ds) c e = by (one_of_tells d ds c e) (chamber_known ds c)
 
 -- ---- where all modules are Idle
 
-module _ (g : Floor) (v : Valid g) (rest : AtRest g) (idles : (m : ℕ) → is_one_of (modules g) m ≡ true → is_idle (g.equipment m) ≡ true) where
+module _ (g : Floor) (v : Valid g) (reach : HaveChambers g) (rest : AtRest g) (idles : (m : ℕ) → is_one_of (modules g) m ≡ true → is_idle (g.equipment m) ≡ true) where
   module_1 : is_one_of (modules g) 1 ≡ true
   module_1 = refl
 
@@ -213,7 +213,7 @@ module _ (g : Floor) (v : Valid g) (rest : AtRest g) (idles : (m : ℕ) → is_o
       by : (is_finished (g.processing n) ≡ true) ⊎ (is_finished (g.processing n) ≡ false) → (g.is_aligned n ≡ true) ⊎ (g.is_aligned n ≡ false) → ⊥
       by (inl f) a = not_useful n aligner at refl (leaves (ap (λ (b : Bool). b || g.is_aligned n) f)) (home_some n f (own_free g v.places n out))
       by (inr f) (inl a) =
-          let c = v.members.recipe n (v.members.outside n out) in
+          let c = reach n (v.members.outside n out) in
           not_useful n aligner at refl (leaves (or_right (is_finished (g.processing n)) (g.is_aligned n) a)) (chamber_some n c.0 f a c.1 c.2 (chamber_empty c.0))
       by (inr f) (inr a) =
           let held : is_to_align (holder aligner g) g ≡ (not (is_finished (g.processing n)) && not (g.is_aligned n)) = ap (λ (o : Option ℕ). is_to_align o g) (holds g v.places aligner n at) in
@@ -236,7 +236,7 @@ module _ (g : Floor) (v : Valid g) (rest : AtRest g) (idles : (m : ℕ) → is_o
   target_some n is f = by (cases_Bool (g.is_aligned n))
     where
       by : (g.is_aligned n ≡ true) ⊎ (g.is_aligned n ≡ false) → is_some (free_target n g) ≡ true
-      by (inl a) = let c = v.members.recipe n is in chamber_some n c.0 f a c.1 c.2 (chamber_empty c.0)
+      by (inl a) = let c = reach n is in chamber_some n c.0 f a c.1 c.2 (chamber_empty c.0)
       by (inr a) = aligner_some n f a aligner_empty
 
   -- ---- one whose job is at work is finished
@@ -304,8 +304,8 @@ is_busy idle = false
 is_busy down = false
 is_busy (busy c) = true
 
-pub command_is_open : (g : Floor) (n : ℕ) → Valid g → least g ≡ None → AreUp g → is_one_of g.substrates n ≡ true → is_work_left n g ≡ true → IsOpen g
-command_is_open g n v rest up kept work = by (cases_Bool (list_any (λ m. is_busy (g.equipment m)) (modules g)))
+pub command_is_open : (g : Floor) (n : ℕ) → Valid g → HaveChambers g → least g ≡ None → AreUp g → is_one_of g.substrates n ≡ true → is_work_left n g ≡ true → IsOpen g
+command_is_open g n v fits rest up kept work = by (cases_Bool (list_any (λ m. is_busy (g.equipment m)) (modules g)))
   where
     busy_tells : (m : ℕ) (x : Module) → g.equipment m ≡ x → is_busy x ≡ true → IsOpen g
     busy_tells m idle e b = absurd (cc)
@@ -322,4 +322,4 @@ command_is_open g n v rest up kept work = by (cases_Bool (list_any (λ m. is_bus
 
     by : (list_any (λ m. is_busy (g.equipment m)) (modules g) ≡ true) ⊎ (list_any (λ m. is_busy (g.equipment m)) (modules g) ≡ false) → IsOpen g
     by (inl t) = let w = any_tells (λ m. is_busy (g.equipment m)) (modules g) t in busy_tells w.0 (g.equipment w.0) refl w.2
-    by (inr f) = let none = no_work g v (at_rest g rest) (idles f) n kept in absurd (cc)
+    by (inr f) = let none = no_work g v fits (at_rest g rest) (idles f) n kept in absurd (cc)

@@ -1,8 +1,19 @@
 -- Two floors that say the same of what is kept (this tool's profile, substrates and moves). A column says something of each number,
 -- and what it says of a substrate that was forgotten counts for nothing.
-use Rattle.std.specs.Prelude.{◌≡◌, ℕ, true, false}
+use Rattle.std.specs.Prelude.{◌≡◌, ℕ, true, false, List, Option, Some}
 use Rattle.gem_tables.specs.Table.{is_one_of}
-use Rattle.floor_moves.specs.Floor.{Floor}
+use Rattle.floor_moves.specs.Floor.{JobView, Floor}
+
+-- Two views of process jobs say the same of each substrate, and of each carrier that is present at a port.
+pub record SayAlike (present_at : ℕ → Option ℕ) (v w : JobView) : Type 0 where
+  pub is_member : (n : ℕ) → w.is_member n ≡ v.is_member n
+  pub may_start : (n : ℕ) → w.may_start n ≡ v.may_start n
+  pub is_stopping : (n : ℕ) → w.is_stopping n ≡ v.is_stopping n
+  pub is_aborting : (n : ℕ) → w.is_aborting n ≡ v.is_aborting n
+  pub is_complete : (n : ℕ) → w.is_complete n ≡ v.is_complete n
+  pub chambers_of : (n : ℕ) → w.chambers_of n ≡ v.chambers_of n
+  pub names_carrier : (c p : ℕ) → present_at c ≡ Some p → w.names_carrier c ≡ v.names_carrier c
+  pub is_marked : (c p : ℕ) → present_at c ≡ Some p → w.is_marked c ≡ v.is_marked c
 
 -- the same substrates, carriers, jobs, chambers and modules, and the same of each; a number without a substrate is not IN PROCESS
 pub record Agree (g h : Floor) : Type 0 where
@@ -19,7 +30,7 @@ pub record Agree (g h : Floor) : Type 0 where
   pub present_at : (c : ℕ) → h.present_at c ≡ g.present_at c
   pub is_verified : (c : ℕ) → is_one_of g.carriers c ≡ true → h.is_verified c ≡ g.is_verified c
   pub access : (c : ℕ) → is_one_of g.carriers c ≡ true → h.access c ≡ g.access c
-  pub jobs : h.jobs ≡ g.jobs
+  pub jobs : SayAlike g.present_at g.jobs h.jobs
   pub chambers : h.chambers ≡ g.chambers
   pub equipment : (m : ℕ) → h.equipment m ≡ g.equipment m
   pub next_command : h.next_command ≡ g.next_command

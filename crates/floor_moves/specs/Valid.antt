@@ -135,9 +135,11 @@ Members g = record {
   here : (n : ℕ) → g.jobs.is_member n ≡ true → g.access (g.carrier_of n) ≤ 1;
   -- one in a job that is PROCESS COMPLETE is finished and not outside
   complete : (n : ℕ) → g.jobs.is_member n ≡ true → g.jobs.is_complete n ≡ true → is_done n g ≡ true;
-  -- the recipe of its job has a chamber of the tool
-  recipe : (n : ℕ) → g.jobs.is_member n ≡ true → (c : ℕ) × (is_one_of (g.jobs.chambers_of n) c ≡ true) × (is_one_of g.chambers c ≡ true);
 }
+
+-- the recipe of each substrate in a job has a chamber of the tool
+abbrev pub HaveChambers : Floor → Type 0
+HaveChambers g = (n : ℕ) → g.jobs.is_member n ≡ true → (c : ℕ) × (is_one_of (g.jobs.chambers_of n) c ≡ true) × (is_one_of g.chambers c ≡ true)
 
 -- ---- work (after SEMI E90)
 

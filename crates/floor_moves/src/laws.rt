@@ -8,7 +8,7 @@ ghost use Rattle.floor_moves.specs.Ready.{least, IsReady};
 ghost use Rattle.floor_moves.specs.Effects.{fire};
 ghost use Rattle.floor_moves.specs.Direct.{Input, may_be_lost, may_cancel, input_starts, direct, fired};
 ghost use Rattle.floor_moves.specs.Carriers.{created, MayCreate, arrived, MayArrive, verified, registered, MayRegister, AreWithin, forgotten, HasEnded, with_jobs};
-ghost use Rattle.floor_moves.specs.Valid.{Empty, Valid, ValidBut, ValidOrBut, MaySay};
+ghost use Rattle.floor_moves.specs.Valid.{Empty, Valid, ValidBut, ValidOrBut, MaySay, HaveChambers};
 ghost use Rattle.floor_moves.specs.Agree.{Agree};
 ghost use Rattle.floor_moves.specs.OnePlace.{OnePlace};
 ghost use Rattle.floor_moves.specs.Work.{is_work_left, AreUp, IsOpen};
@@ -86,9 +86,9 @@ pub fn the_moves_come_to_rest()
     ensures { (g : Floor) (f : Firing) → Valid g → IsReady f g → left (fire f g) < left g }
 {}
 
-/// Where no row is ready by itself, no module is Down, and work is left for a substrate that is kept, a command is open: the moves
-/// never stand still with work to do.
+/// Where no row is ready by itself, no module is Down, the recipe of each substrate in a job has a chamber of the tool, and work is left
+/// for a substrate that is kept, a command is open: the moves never stand still with work to do.
 pub fn a_command_is_open_while_work_is_left()
-    ensures { (g : Floor) (n : ℕ) → Valid g → least g ≡ None → AreUp g
+    ensures { (g : Floor) (n : ℕ) → Valid g → HaveChambers g → least g ≡ None → AreUp g
         → is_one_of g.substrates n ≡ true → is_work_left n g ≡ true → IsOpen g }
 {}

@@ -9,7 +9,8 @@ use Rattle.event_reports.specs.declared.alarms.AlarmLine.{AlarmLine}
 use Rattle.data_variables.specs.declared.val.Val.{Val}
 use Rattle.load_port.specs.Caack.{is_done_code}
 use Rattle.carrier.specs.declared.action.CarrierAction.{CarrierAction}
-use Rattle.shop_floor.specs.Requests.{carrier_code, carrier_written}
+use Rattle.tool_floor.specs.Jobs.{carrier_code}
+use Rattle.shop_floor.specs.Requests.{carrier_written}
 use Rattle.note_line.specs.Line.{with_kinds, answered as answered_line}
 use Rattle.note_line.specs.declared.around.SpooledKinds.{SpooledKinds}
 use Rattle.tool_events.specs.declared.event.OperCmd.TheVariants as oper
@@ -19,6 +20,10 @@ use Rattle.transactions.specs.declared.transaction.What.TheVariants as what
 use Rattle.transactions.specs.Table.{Table}
 use Rattle.tool_floor.specs.Machines.{is_creation}
 use Rattle.tool_floor.specs.Floor.{with_shop, fetched}
+use Rattle.process_job.specs.declared.job.JobSpec.{JobSpec}
+use Rattle.control_job.specs.Jobs.{JobStore}
+use Rattle.tool_jobs.specs.Creating.{with_process}
+use Rattle.gem_model.specs.JobMessages.{jobs_of, with_jobs_now}
 use Rattle.gem_model.specs.State.{State, Clock, none_asked, without_session}
 use Rattle.gem_model.specs.Values.{Occasion}
 use Rattle.gem_model.specs.Noting.{line_behind, line_with_alarm}
@@ -59,7 +64,9 @@ pub record EachInner (P : State → Type 0) : Type 1 where
   pub answer : (g : State) → P g → P (record g { line = answered_line g.line })
   pub fetched : (g : State) (number : ℕ) → P g → P (record g { floor = fetched number g.floor })
   pub came : (g : State) (port : ℕ) (name : Option (List ℕ)) (slots : List ℕ) → P g → P (with_arrival port name slots g)
-  pub written : (g : State) (a : CarrierAction) → is_done_code (carrier_code g.floor.shop a) ≡ true → P g → P (record g { floor = with_shop (carrier_written a g.floor.shop) g.floor })
+  pub written : (g : State) (a : CarrierAction) → is_done_code (carrier_code a g.floor) ≡ true → P g → P (record g { floor = with_shop (carrier_written a g.floor.shop) g.floor })
+  pub process : (g : State) (spec : JobSpec) → P g → P (with_jobs_now (with_process spec (jobs_of g)) g)
+  pub control : (g : State) (s : JobStore) → P g → P (with_jobs_now (record (jobs_of g) { control = s }) g)
   pub row : (g : State) (f : Firing) → IsListed f → row_starts g f ≡ true → P g → P (takes_effect g f)
   pub ready : (g : State) (f : Firing) → least g ≡ Some f → P g → P (fire g f)
   pub created : (g : State) (d : Firing) → is_creation d ≡ true → P g → P (fire g d)
@@ -120,6 +127,8 @@ module _ (P : State → Type 0) (each : EachInner P) where
     kinds = each.kinds;
     fetched = each.fetched;
     written = each.written;
+    process = each.process;
+    control = each.control;
     row = λ g f free starts at. each.row g f (free_listed f free) starts at;
     units = row_units P each.came each.alarms each.alarm each.event (λ g f floor starts at. each.row g f (listed_floor f floor) starts at) each.created;
     ready = each.ready;

@@ -1,6 +1,6 @@
 -- The rows of the load ports and the carriers: what they leave alone, whether an input fires them or they fire by themselves.
-use Rattle.std.proofs.Common.{◌≡◌, ℕ, ◌+◌, ◌*◌, ◌==◌, Bool, true, false, ◌&&◌, ◌||◌, if◌then◌else◌, List, [], ◌∷◌, ◌++◌, Option, Some, None, refl, sym, subst, ◌∙◌}
-use Rattle.gem_tables.specs.Table.{firing}
+use Rattle.std.proofs.Common.{◌≡◌, ℕ, ◌+◌, ◌*◌, ◌==◌, Bool, true, false, ◌&&◌, ◌||◌, if◌then◌else◌, List, [], ◌∷◌, ◌++◌, Option, Some, None, refl, sym, subst, ◌∙◌, Result, Ok, Err}
+use Rattle.gem_tables.specs.Table.{firing, is_one_of}
 use Rattle.gem_tables.specs.declared.firing.Firing.{Firing}
 use Rattle.gem_rows.specs.Events.{ceid_of}
 use Rattle.shop_floor.specs.Floor.{Floor}
@@ -16,9 +16,24 @@ use Rattle.load_port.specs.declared.caack.Caack.{Caack}
 use Rattle.load_port.specs.Caack.{caack_number, is_done_code}
 use Rattle.load_port.specs.declared.action.PortAction.{PortAction}
 use Rattle.load_port.specs.declared.action.PortAction.TheVariants as ask
-use Rattle.msgs_300.specs.Primaries.{Message, S3F17, S3F25, S3F27}
+use Rattle.msgs_300.specs.Primaries.{Message, S3F17, S3F25, S3F27, S14F9, S16F5, S16F11, S16F17, S16F19, S16F21, S16F27}
 use Rattle.msgs_300.specs.declared.reply.ShopReply.{ShopReply}
 use Rattle.msgs_300.specs.declared.reply.ShopReply.TheVariants as reply
+use Rattle.tool_events.specs.declared.event.JobWord.{JobWord}
+use Rattle.tool_events.specs.declared.event.JobWord.TheVariants.{Cancel}
+use Rattle.process_job.specs.Commands.{row_of}
+use Rattle.process_job.specs.Jobs.{job_named as process_named}
+use Rattle.process_job.specs.declared.job.ProcessJob.{ProcessJob}
+use Rattle.control_job.specs.Commands.{command_answer}
+use Rattle.control_job.specs.Jobs.{job_named as control_named}
+use Rattle.control_job.specs.declared.command.CtlAct.{CtlAct}
+use Rattle.control_job.specs.declared.command.CtlAct.TheVariants.{Row, Head}
+use Rattle.control_job.specs.declared.job.ControlJob.{ControlJob}
+use Rattle.tool_jobs.specs.Jobs.{Jobs}
+use Rattle.job_requests.specs.declared.error.JobError.{JobError}
+use Rattle.job_requests.specs.Requests.{command_named, command_error, command_rows, asked_process, process_error, process_rows, asked_control, request_error, control_rows, cancel_error, cancelled, cancel_rows, control_command_error, control_command_rows, at_process, at_control}
+use Rattle.gem_model.specs.Remote.{is_local}
+use Rattle.gem_model.specs.JobMessages.{jobs_of, asked_of_jobs, rows_of_command}
 use Rattle.gem_model.specs.Shop.{carrier_action, port_word, carrier_caack, port_caack}
 use Rattle.gem_model.specs.Messages.{carrier_done, port_done, shop_done}
 use Rattle.gem_model.specs.State.{State, is_online}
@@ -50,11 +65,11 @@ pub record IsFloorRow (f : Firing) : Type 0 where
 abbrev pub AreFloorRows : List Firing → Type 0
 AreFloorRows fs = Are IsFloorRow fs
 
--- a row of the floor that inputs list by itself: 1 and 2 of table 4, those of tables 5 and 6, and 10 of table 16
+-- a row of the floor that inputs list by itself: 1 and 2 of table 4, those of tables 5, 6, 14 and 15, and 10 of table 16
 abbrev pub is_alone : Firing → Bool
 is_alone f =
     ((f.row.table == 4) && ((f.row.row == 1) || (f.row.row == 2)))
-    || ((f.row.table == 5) || ((f.row.table == 6) || ((f.row.table == 16) && (f.row.row == 10))))
+    || ((f.row.table == 5) || ((f.row.table == 6) || (is_one_of (14 ∷ 15 ∷ []) f.row.table || ((f.row.table == 16) && (f.row.row == 10)))))
 
 pub effect_is : (g : State) (f : Firing) → IsFloorRow f → takes_effect g f ≡ fire_floor f g
 effect_is g f is = effect_as g f ∙ rw (is.not_1, is.not_2, is.not_3) refl
@@ -153,10 +168,53 @@ carrier_are a g code = either_way AreFloorRows (is_done_code code) (carrier_rows
 pub port_are : (a : PortAction) (g : State) (r : ShopReply) (code : Caack) → AreFloorRows (port_done g a r code).rows
 port_are a g r code = either_way AreFloorRows (is_done_code code) (port_rows a g.floor.shop) [] (action_are a g.floor.shop) tt
 
+-- ---- jobs
+
+is_14 : (n row : ℕ) → IsFloorRow (firing 14 n row)
+is_14 n row = record { not_1 = refl; not_2 = refl; not_3 = refl }
+
+is_15 : (n row : ℕ) → IsFloorRow (firing 15 n row)
+is_15 n row = record { not_1 = refl; not_2 = refl; not_3 = refl }
+
+at_process_are : (row : ℕ) (o : Option ProcessJob) → AreFloorRows (at_process row o)
+at_process_are row None = tt
+at_process_are row (Some j) = (is_14 j.number row, tt)
+
+at_control_are : (row : ℕ) (o : Option ControlJob) → AreFloorRows (at_control row o)
+at_control_are row None = tt
+at_control_are row (Some c) = (is_15 c.number row, tt)
+
+pub command_are : (job : List ℕ) (word : JobWord) (w : Jobs) → AreFloorRows (command_rows job word w)
+command_are job word w = at_process_are (row_of word) (process_named job w.process.kept)
+
+word_rows_are : (job : List ℕ) (o : Option JobWord) (w : Jobs) → AreFloorRows (rows_of_command job o w)
+word_rows_are job None w = tt
+word_rows_are job (Some word) w = command_are job word w
+
+cancel_are : (names : List (List ℕ)) (w : Jobs) → AreFloorRows (cancel_rows names w)
+cancel_are [] w = tt
+cancel_are (n ∷ names) w = both_are (at_process (row_of Cancel) (process_named n w.process.kept)) (cancel_rows names w) (at_process_are (row_of Cancel) (process_named n w.process.kept)) (cancel_are names w)
+
+pub control_rows_are : (job : List ℕ) (a : Result CtlAct ℕ) (w : Jobs) → AreFloorRows (control_command_rows job a w)
+control_rows_are job (Ok (Row row)) w = at_control_are row (control_named job w.control.jobs)
+control_rows_are job (Ok Head) w = tt
+control_rows_are job (Err code) w = tt
+
+asked_are : (g : State) (r : ShopReply) (e : Option JobError) (w : Jobs) (rows : List Firing) → AreFloorRows rows → AreFloorRows (asked_of_jobs g r e w rows).rows
+asked_are g r (Some e) w rows are = tt
+asked_are g r None w rows are = are
+
 pub shop_are : (m : Message) (g : State) → AreFloorRows (shop_done g m).rows
 shop_are (S3F17 dataid action carrier number attributes) g = carrier_are (carrier_action action carrier number attributes) g (carrier_caack (carrier_action action carrier number attributes) g)
 shop_are (S3F25 action number value) g = port_are (port_word action number) g (reply.S3F26 (caack_number (port_caack (port_word action number) g))) (port_caack (port_word action number) g)
 shop_are (S3F27 mode numbers) g = port_are (ask.Access mode numbers) g (reply.S3F28 (caack_number (port_caack (ask.Access mode numbers) g))) (port_caack (ask.Access mode numbers) g)
+shop_are (S14F9 object type attributes) g = asked_are g _ (request_error (is_local g.control) type (asked_control attributes) (jobs_of g)) _ (control_rows (jobs_of g)) (is_15 ((jobs_of g).control.given + 1) 1, tt)
+shop_are (S16F5 dataid job command value) g = asked_are g _ (command_error (is_local g.control) job (command_named command) (jobs_of g)) _ (rows_of_command job (command_named command) (jobs_of g)) (word_rows_are job (command_named command) (jobs_of g))
+shop_are (S16F11 dataid job material recipe start events) g = asked_are g _ (process_error (is_local g.control) (asked_process job material recipe.0 start) events (jobs_of g)) _ (process_rows (jobs_of g)) (is_14 ((jobs_of g).process.given + 1) 1, tt)
+shop_are (S16F17 jobs) g = asked_are g _ (cancel_error (is_local g.control) jobs (jobs_of g)) _ (cancel_rows (cancelled jobs (jobs_of g)) (jobs_of g)) (cancel_are (cancelled jobs (jobs_of g)) (jobs_of g))
+shop_are S16F19 g = tt
+shop_are S16F21 g = tt
+shop_are (S16F27 job command value) g = asked_are g _ (control_command_error (is_local g.control) job command (jobs_of g)) _ (control_command_rows job (command_answer job command (jobs_of g).control.jobs) (jobs_of g)) (control_rows_are job (command_answer job command (jobs_of g).control.jobs) (jobs_of g))
 
 -- ---- modules
 

@@ -4,6 +4,7 @@ use Rattle.std.specs.Option.{option_or}
 use Rattle.gem_tables.specs.Table.{firing, row_of}
 use Rattle.gem_states.specs.Communication.{communication_table, comm_starts}
 use Rattle.gem_states.specs.Control.{control_table, control_starts}
+use Rattle.tool_floor.proofs.Asked.{done_by_jobs}
 use Rattle.gem_model.proofs.Effects.{comm_effect_case, control_effect_case}
 use Rattle.gem_tables.specs.declared.firing.Firing.{Firing}
 use Rattle.gem_states.specs.Communication.{comm_fired}
@@ -139,7 +140,9 @@ sound_each = record {
     answer = λ g valid. valid;
     fetched = λ g number valid. valid;
     came = λ g port name slots valid. came-keeps port (arrival_of port name slots g.floor.shop.carriers) g.floor.shop valid;
-    written = λ g a is valid. written-keeps a g.floor.shop is valid;
+    written = λ g a is valid. written-keeps a g.floor.shop (done_by_jobs a g.floor is) valid;
+    process = λ g spec valid. valid;
+    control = λ g s valid. valid;
     row = λ g f listed is valid. subst Sound (sym (effect_as g f)) (by_tables (f.row.table == 1) (f.row.table == 2) (f.row.table == 3) f f.row.row g (sym (starts_as g f) ∙ is) valid);
     ready = λ g f ready valid. sound_automatic g f ready valid;
     created = λ g d is valid. sound_creation g d is valid;

@@ -1,6 +1,7 @@
 -- The rows that an input lists: of table 3 they are those that inputs fire. Free are those that no transaction's end fires, and of the
 -- floor those that inputs list by themselves.
-use Rattle.std.proofs.Common.{◌≡◌, ℕ, ◌+◌, ◌*◌, ◌==◌, Bool, true, false, if◌then◌else◌, List, [], ◌∷◌, ◌++◌, Option, refl, sym, ◌∙◌, is_some}
+use Rattle.msgs_300.specs.Primaries.{Message, S3F17, S3F25, S3F27, S14F9, S16F5, S16F11, S16F17, S16F19, S16F21, S16F27}
+use Rattle.std.proofs.Common.{◌≡◌, ℕ, ◌+◌, ◌*◌, ◌==◌, Bool, true, false, if◌then◌else◌, List, [], ◌∷◌, ◌++◌, Option, refl, sym, ◌∙◌, is_some, Result, Ok, Err, Some, None}
 use Rattle.secs_items.specs.Data.{Data}
 use Rattle.gem_primaries.specs.declared.primary.GemMsg.{GemMsg}
 use Rattle.gem_primaries.specs.declared.primary.GemMsg.TheVariants as msg
@@ -13,6 +14,21 @@ use Rattle.tool_events.specs.declared.event.OperCmd.TheVariants as oper
 use Rattle.transactions.specs.declared.transaction.What.{What}
 use Rattle.transactions.specs.declared.transaction.What.TheVariants as what
 use Rattle.transactions.specs.Endings.{first_of}
+use Rattle.tool_events.specs.declared.event.JobWord.{JobWord}
+use Rattle.tool_events.specs.declared.event.JobWord.TheVariants.{Cancel}
+use Rattle.process_job.specs.Commands.{row_of}
+use Rattle.process_job.specs.Jobs.{job_named as process_named}
+use Rattle.process_job.specs.declared.job.ProcessJob.{ProcessJob}
+use Rattle.control_job.specs.Commands.{command_answer}
+use Rattle.control_job.specs.Jobs.{job_named as control_named}
+use Rattle.control_job.specs.declared.command.CtlAct.{CtlAct}
+use Rattle.control_job.specs.declared.command.CtlAct.TheVariants.{Row, Head}
+use Rattle.control_job.specs.declared.job.ControlJob.{ControlJob}
+use Rattle.tool_jobs.specs.Jobs.{Jobs}
+use Rattle.job_requests.specs.declared.error.JobError.{JobError}
+use Rattle.job_requests.specs.Requests.{command_named, command_error, command_rows, asked_process, process_error, process_rows, asked_control, request_error, control_rows as creation_rows_of, cancel_error, cancelled, cancel_rows, control_command_error, control_command_rows, at_process, at_control}
+use Rattle.gem_model.specs.Remote.{is_local}
+use Rattle.gem_model.specs.JobMessages.{jobs_of, asked_of_jobs, rows_of_command}
 use Rattle.gem_model.specs.State.{State, is_online}
 use Rattle.gem_model.specs.Values.{Occasion}
 use Rattle.gem_model.specs.Machines.{object_name, row_starts, takes_effect}
@@ -23,13 +39,13 @@ use Rattle.gem_states.specs.Control.{control_starts}
 use Rattle.gem_states.specs.declared.control.Control.TheVariants.{Attempt}
 use Rattle.gem_model.specs.Fire.{fire, advanced, fire_listed, of_comm, of_control, of_line}
 use Rattle.gem_model.specs.Effects.{control_effect}
-use Rattle.gem_model.specs.Remote.{Decision, refused, goes_local, clears, decided}
+use Rattle.gem_model.specs.Remote.{Decision, refused, goes_local, clears, decided, commands}
 use Rattle.gem_model.specs.HostMessages.{HostMessage, Gem, Shop}
 use Rattle.gem_model.specs.Messages.{done, gem_done, shop_done, port_done, remote_done}
 use Rattle.gem_model.specs.Spooling.{unload_rows}
 use Rattle.gem_model.specs.Direct.{Are, IsListed, by_comm, by_control, note_fails, attempt_fails, all_fail, operator_rows, answer_rows, timeout_rows, session_end_rows, establish_answer, attempt_answer}
 use Rattle.gem_model.proofs.Tests.{either_way}
-use Rattle.gem_model.proofs.FloorRows.{IsFloorRow, AreFloorRows, is_alone, module_are, shop_are, port_are, service_are, access_are, advanced_keeps}
+use Rattle.gem_model.proofs.FloorRows.{IsFloorRow, AreFloorRows, is_alone, module_are, shop_are, port_are, service_are, access_are, advanced_keeps, command_are, control_rows_are}
 use Rattle.load_port.specs.declared.action.PortAction.{PortAction}
 use Rattle.load_port.specs.declared.action.PortAction.TheVariants as ask
 use Rattle.load_port.specs.declared.caack.Caack.{Caack}
@@ -172,10 +188,66 @@ free_access port auto g = of_floor (at_port 5 (if auto then 1 else 2) port) (acc
 pub free_up : (number : ℕ) → AreFree (at_module 10 number)
 free_up number = of_floor (at_module 10 number) (module_are 10 number) (refl, tt)
 
+-- a message of streams 14 and 16
+abbrev pub is_of_jobs : Message → Bool
+is_of_jobs (S3F17 dataid action carrier number attributes) = false
+is_of_jobs (S3F25 action number value) = false
+is_of_jobs (S3F27 mode numbers) = false
+is_of_jobs _ = true
+
+-- those of commands to jobs, and of what else the host asks of them
+alone_process : (row : ℕ) (o : Option ProcessJob) → AreAlone (at_process row o)
+alone_process row None = tt
+alone_process row (Some j) = (refl, tt)
+
+alone_control : (row : ℕ) (o : Option ControlJob) → AreAlone (at_control row o)
+alone_control row None = tt
+alone_control row (Some c) = (refl, tt)
+
+pub free_command : (job : List ℕ) (word : JobWord) (w : Jobs) → AreFree (command_rows job word w)
+free_command job word w = of_floor (command_rows job word w) (command_are job word w) (alone_process (row_of word) (process_named job w.process.kept))
+
+pub free_control : (job : List ℕ) (a : Result CtlAct ℕ) (w : Jobs) → AreFree (control_command_rows job a w)
+free_control job (Ok (Row row)) w = of_floor (control_command_rows job (Ok (Row row)) w) (control_rows_are job (Ok (Row row)) w) (alone_control row (control_named job w.control.jobs))
+free_control job (Ok Head) w = tt
+free_control job (Err code) w = tt
+
+free_word : (job : List ℕ) (o : Option JobWord) (w : Jobs) → AreFree (rows_of_command job o w)
+free_word job None w = tt
+free_word job (Some word) w = free_command job word w
+
+free_cancel : (names : List (List ℕ)) (w : Jobs) → AreFree (cancel_rows names w)
+free_cancel [] w = tt
+free_cancel (n ∷ names) w = are_both IsFree (command_rows n Cancel w) (cancel_rows names w) (free_command n Cancel w) (free_cancel names w)
+
+free_process : (w : Jobs) → AreFree (process_rows w)
+free_process w = (free_floor (record { not_1 = refl; not_2 = refl; not_3 = refl }) refl, tt)
+
+free_creation : (w : Jobs) → AreFree (creation_rows_of w)
+free_creation w = (free_floor (record { not_1 = refl; not_2 = refl; not_3 = refl }) refl, tt)
+
+free_asked : (g : State) (r : ShopReply) (e : Option JobError) (w : Jobs) (rows : List Firing) → AreFree rows → AreFree (asked_of_jobs g r e w rows).rows
+free_asked g r (Some e) w rows free = tt
+free_asked g r None w rows free = free
+
+-- a message of streams 14 and 16
+pub free_jobs : (m : Message) (g : State) → is_of_jobs m ≡ true → AreFree (shop_done g m).rows
+free_jobs (S3F17 dataid action carrier number attributes) g e = absurd (cc)
+free_jobs (S3F25 action number value) g e = absurd (cc)
+free_jobs (S3F27 mode numbers) g e = absurd (cc)
+free_jobs (S14F9 object type attributes) g e = free_asked g _ (request_error (is_local g.control) type (asked_control attributes) (jobs_of g)) _ (creation_rows_of (jobs_of g)) (free_creation (jobs_of g))
+free_jobs (S16F5 dataid job command value) g e = free_asked g _ (command_error (is_local g.control) job (command_named command) (jobs_of g)) _ (rows_of_command job (command_named command) (jobs_of g)) (free_word job (command_named command) (jobs_of g))
+free_jobs (S16F11 dataid job material recipe start events) g e = free_asked g _ (process_error (is_local g.control) (asked_process job material recipe.0 start) events (jobs_of g)) _ (process_rows (jobs_of g)) (free_process (jobs_of g))
+free_jobs (S16F17 jobs) g e = free_asked g _ (cancel_error (is_local g.control) jobs (jobs_of g)) _ (cancel_rows (cancelled jobs (jobs_of g)) (jobs_of g)) (free_cancel (cancelled jobs (jobs_of g)) (jobs_of g))
+free_jobs S16F19 g e = tt
+free_jobs S16F21 g e = tt
+free_jobs (S16F27 job command value) g e = free_asked g _ (control_command_error (is_local g.control) job command (jobs_of g)) _ (control_command_rows job (command_answer job command (jobs_of g).control.jobs) (jobs_of g)) (free_control job (command_answer job command (jobs_of g).control.jobs) (jobs_of g))
+
 free_decided : (d : Decision) (g : State) → AreFree (remote_done g d).rows
 free_decided (refused code faults) g = tt
 free_decided goes_local g = free_local g
 free_decided (clears alid) g = tt
+free_decided (commands job word) g = free_command job word (jobs_of g)
 
 free_unloading : (rsdc : ℕ) → AreFree (unload_rows rsdc)
 free_unloading rsdc = either_way (λ (rows : List ℕ). AreFree (of_line rows)) (rsdc == 0) (4 ∷ []) (5 ∷ []) (free_unload refl, tt) (free_purge refl, tt)

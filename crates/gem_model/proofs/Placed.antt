@@ -1,4 +1,4 @@
--- What holds of places at every moment holds of each state that the tool reaches, whatever comes.
+-- What holds of the floor at every moment holds of each state that the tool reaches, whatever comes.
 use Rattle.std.proofs.Common.{◌≡◌, ℕ, ◌≤◌, List, [], ◌∷◌, Some, sym, subst}
 use Rattle.load_port.specs.Ports.{most_ports}
 use Rattle.tool_events.specs.declared.config.Config.{Config}
@@ -6,12 +6,16 @@ use Rattle.tool_events.specs.declared.entry.Entry.{Entry}
 use Rattle.tool_events.specs.declared.event.Event.{Event}
 use Rattle.floor_moves.specs.OnePlace.{OnePlace}
 use Rattle.place_laws.specs.Picture.{picture}
-use Rattle.place_laws.specs.Standing.{Standing}
-use Rattle.place_laws.proofs.Few.{places-one}
-use Rattle.place_laws.proofs.Bare.{opening-stands}
-use Rattle.place_laws.proofs.Stands.{row-stands, written-stands, unbinding-stands, placing-stands, removal-stands, removal-left-stands}
-use Rattle.place_laws.proofs.Least.{shop-rests}
-use Rattle.place_laws.proofs.FreeModules.{fetched-stands}
+use Rattle.place_laws.specs.Sound.{Sound}
+use Rattle.floor_laws.proofs.FloorRows.{row_sound, least_sound, opening_sound}
+use Rattle.floor_laws.proofs.FloorInputs.{done_sound, failed_sound, down_sound, lost_rows_sound}
+use Rattle.floor_laws.proofs.FloorPlaces.{one_place_sound, shop_rests}
+use Rattle.floor_laws.proofs.FloorRemoved.{removed_sound}
+use Rattle.floor_laws.proofs.RemSound.{removal_left_sound}
+use Rattle.floor_laws.proofs.ShopTables.{cancel_sound}
+use Rattle.floor_laws.proofs.ShopHost.{written_sound, unbinding_sound, placing_sound}
+use Rattle.floor_laws.proofs.JobCreated.{created_sound, control_changes_sound}
+use Rattle.floor_laws.proofs.EndBut.{fetched_sound}
 use Rattle.gem_model.specs.State.{State, opening, raised}
 use Rattle.gem_model.specs.Settle.{settling, Along}
 use Rattle.gem_model.specs.Step.{Outcome, acts}
@@ -25,23 +29,31 @@ use Rattle.gem_model.proofs.Settling.{settled_along}
 abbrev pub Rested : Event → State → Type 0
 Rested e g = AtRest g
 
-standing_fact : FloorFact Rested Standing
-standing_fact = record {
-  standing = λ f st. st;
-  row = row-stands;
-  written = written-stands;
-  unbinding = unbinding-stands;
-  placing = λ g port name slots rest starts st. placing-stands port.0 name slots g.floor starts (shop-rests g.floor rest) st;
-  removal = λ g port rest starts next st. removal-stands port.0 g.floor starts next st;
-  removal_left = λ g port starts left st. removal-left-stands port.0 g.floor starts left st;
-  fetched = fetched-stands;
+pub sound_fact : FloorFact Rested Sound
+sound_fact = record {
+  sound = λ f st. st;
+  ready = least_sound;
+  row = row_sound;
+  process = λ spec f st. created_sound f spec st;
+  control = λ s f st. control_changes_sound f s st;
+  cancelled = λ n c f here starts unnamed st. cancel_sound f n c here starts unnamed st;
+  written = written_sound;
+  unbinding = unbinding_sound;
+  placing = λ g port name slots rest starts st. placing_sound port.0 name slots g.floor starts (shop_rests g.floor rest) st;
+  removal = λ g port rest starts next st. removed_sound port.0 g.floor starts next (shop_rests g.floor rest) st;
+  removal_left = λ g port starts left st. removal_left_sound port.0 g.floor starts left st;
+  fetched = fetched_sound;
+  did = λ g number command rest is st. done_sound number.0 command.0 g.floor is st;
+  failed_at = λ g number command rest is st. failed_sound number.0 command.0 g.floor is st;
+  went_down = λ g number rest up st. down_sound number.0 g.floor up st;
+  lost = λ g sub rest st. lost_rows_sound sub g.floor st;
 }
 
 abbrev Placed : State → Type 0
-Placed g = Standing g.floor
+Placed g = Sound g.floor
 
 placed_kept : Kept Rested Placed
-placed_kept = fact_kept Rested Standing standing_fact
+placed_kept = fact_kept Rested Sound sound_fact
 
 -- ---- runs
 
@@ -58,10 +70,10 @@ run_rests g (e ∷ entries) h at run =
     run.2
 
 pub run_at : (c : Config) (entries : List Entry) (h : State) → c.ports ≤ most_ports → Run (opening c) entries h → Rests h
-run_at c entries h few run = run_rests (opening c) entries h (record { placed = opening-stands c.ports c.chambers c.recipes few; rest = opening-rests c }) run
+run_at c entries h few run = run_rests (opening c) entries h (record { placed = opening_sound c.ports c.chambers c.recipes few; rest = opening-rests c }) run
 
 -- where a history leads
-pub run-placed : (c : Config) (entries : List Entry) (h : State) → c.ports ≤ most_ports → Run (opening c) entries h → Standing h.floor
+pub run-placed : (c : Config) (entries : List Entry) (h : State) → c.ports ≤ most_ports → Run (opening c) entries h → Sound h.floor
 run-placed c entries h few run = (run_at c entries h few run).placed
 
 -- and each substrate has one place in each state that the tool passes while it settles behind an event
@@ -69,5 +81,5 @@ pub run-places-along : (c : Config) (entries : List Entry) (h : State) (at : ℕ
     → Along (λ (g : State). OnePlace (picture g.floor)) o.after (settling o.after)
 run-places-along c entries h at e o few run here =
     let rests = run_at c entries h few run in
-    settled_along Placed (λ (g : State). OnePlace (picture g.floor)) (λ g st. places-one g.floor st) (fact_automatic Rested Standing standing_fact) (fact_creation Rested Standing standing_fact) o.after
+    settled_along Placed (λ (g : State). OnePlace (picture g.floor)) (λ g st. one_place_sound g.floor st) (fact_automatic Rested Sound sound_fact) (fact_creation Rested Sound sound_fact) o.after
     (kept_acts Rested Placed placed_kept h.moment (raised h at) e o rests.rest rests.placed here)

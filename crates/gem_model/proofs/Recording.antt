@@ -14,7 +14,7 @@ use Rattle.gem_model.proofs.NoteNumbers.{run-own}
 use Rattle.gem_model.proofs.Floored.{run-floor, run-carriers}
 use Rattle.gem_model.proofs.Placed.{run-placed}
 use Rattle.gem_model.proofs.Moved.{run-moves, run-ends-once, run-given}
-use Rattle.place_laws.proofs.Few.{places-one}
+use Rattle.floor_laws.proofs.FloorPlaces.{one_place_sound}
 
 pub recorded-of : (c : Config) (history : List Entry) (g : State) → IsConfig c → Run (opening c) history g → Recorded c history g
 recorded-of c history g bounds run =
@@ -32,8 +32,8 @@ recorded-of c history g bounds run =
       spool = run-empty c history g run;
       floor = run-floor c history g ports run;
       carriers = run-carriers c history g ports run;
-      places = places-one g.floor (run-placed c history g ports run);
-      registered = (run-placed c history g ports run).registered;
+      places = one_place_sound g.floor (run-placed c history g ports run);
+      registered = (run-placed c history g ports run).base.registered;
       given = run-given c history g ports run;
       moves = run-moves c history g ports run;
       ends = run-ends-once c history g ports run;

@@ -15,6 +15,11 @@ use Rattle.hsms_frame.specs.Spelling.{message_bytes}
 use Rattle.secs_items.specs.Data.{Data}
 use Rattle.gem_primaries.specs.declared.primary.GemMsg.{GemMsg}
 use Rattle.gem_primaries.specs.declared.primary.SpooledStream.{SpooledStream}
+use Rattle.msgs_300.specs.declared.reply.ShopReply.{ShopReply}
+use Rattle.tool_jobs.specs.Jobs.{Jobs}
+use Rattle.job_requests.specs.declared.error.JobError.{JobError}
+use Rattle.job_requests.specs.Requests.{command_named, command_error, asked_process, process_error, asked_control, request_error, cancel_error, control_command_error}
+use Rattle.gem_model.specs.JobMessages.{jobs_of, asked_of_jobs}
 use Rattle.gem_model.specs.Spooling.{rspack, kinds_of, spools}
 use Rattle.gem_primaries.specs.declared.primary.GemMsg.TheVariants as msg
 use Rattle.gem_ids.specs.Civil.{moment_in}
@@ -24,7 +29,7 @@ use Rattle.event_reports.specs.Alarms.{is_alarm, is_set, set_alarm, clear_alarm}
 use Rattle.shop_floor.specs.Requests.{at_port, removal}
 use Rattle.tool_events.specs.declared.event.Signal.{Signal}
 use Rattle.tool_events.specs.declared.event.Signal.TheVariants as equipment
-use Rattle.msgs_300.specs.Primaries.{Message, S3F17, S3F25, S3F27}
+use Rattle.msgs_300.specs.Primaries.{Message, S3F17, S3F25, S3F27, S14F9, S16F5, S16F11, S16F17, S16F19, S16F21, S16F27}
 use Rattle.shop_floor.specs.Requests.{carrier_written}
 use Rattle.load_port.specs.Caack.{is_done_code}
 use Rattle.gem_model.specs.Shop.{carrier_action, carrier_caack}
@@ -66,7 +71,7 @@ use Rattle.gem_model.specs.Machines.{creations, fire_floor, takes_effect, row_st
 use Rattle.gem_model.specs.Fire.{fire, fire_all, advanced, fires, fire_listed}
 use Rattle.gem_model.specs.Effects.{fire_comm, fire_control, fire_line, asks_first, stream_of_kind, function_of_kind, delay_end}
 use Rattle.gem_model.proofs.OnFloor.{effect_as}
-use Rattle.gem_model.specs.Remote.{Decision, refused, goes_local, clears, decided}
+use Rattle.gem_model.specs.Remote.{Decision, refused, goes_local, clears, decided, commands, is_local}
 use Rattle.gem_model.specs.HostMessages.{HostMessage, Gem, Shop, reply_text}
 use Rattle.gem_model.specs.Messages.{done, gem_done, shop_done, remote_done, clock_set}
 use Rattle.gem_model.specs.Direct.{operator_rows, answer_rows, timeout_rows, session_end_rows}
@@ -339,6 +344,7 @@ tells_remote : (g : State) (d : Decision) → Tells g (by_decision d g) (remote_
 tells_remote g (refused code faults) = tells_at g
 tells_remote g goes_local = tells_at g
 tells_remote g (clears alid) = tells_cleared g alid
+tells_remote g (commands job word) = tells_at g
 
 tells_spools : (g : State) (entries : List SpooledStream) → Tells g [] (spools entries g)
 tells_spools g entries =
@@ -354,6 +360,11 @@ tells_gem g (msg.S2F41 name parameters) = tells_remote g (decided g name paramet
 tells_gem g (msg.S2F43 entries) = tells_spools g entries
 tells_gem g _ = tells_at g
 
+-- what is asked of jobs makes no note
+tells_asked : (g : State) (r : ShopReply) (e : Option JobError) (w : Jobs) (rows : List Firing) → Tells g [] (asked_of_jobs g r e w rows).after
+tells_asked g r (Some e) w rows = tells_at g
+tells_asked g r None w rows = tells_at g
+
 -- what a message of carriers and ports writes makes no note
 tells_shop : (g : State) (m : Message) → Tells g [] (shop_done g m).after
 tells_shop g (S3F17 dataid action carrier number attributes) =
@@ -361,6 +372,13 @@ tells_shop g (S3F17 dataid action carrier number attributes) =
     either_way (Tells g []) (is_done_code (carrier_caack a g)) (record g { floor = with_shop (carrier_written a g.floor.shop) g.floor }) g (tells_at g) (tells_at g)
 tells_shop g (S3F25 action number value) = tells_at g
 tells_shop g (S3F27 mode numbers) = tells_at g
+tells_shop g (S14F9 object type attributes) = tells_asked g _ (request_error (is_local g.control) type (asked_control attributes) (jobs_of g)) _ _
+tells_shop g (S16F5 dataid job command value) = tells_asked g _ (command_error (is_local g.control) job (command_named command) (jobs_of g)) _ _
+tells_shop g (S16F11 dataid job material recipe start events) = tells_asked g _ (process_error (is_local g.control) (asked_process job material recipe.0 start) events (jobs_of g)) _ _
+tells_shop g (S16F17 jobs) = tells_asked g _ (cancel_error (is_local g.control) jobs (jobs_of g)) _ _
+tells_shop g S16F19 = tells_at g
+tells_shop g S16F21 = tells_at g
+tells_shop g (S16F27 job command value) = tells_asked g _ (control_command_error (is_local g.control) job command (jobs_of g)) _ _
 
 tells_message : (g : State) (m : HostMessage) → Tells g (by_message m g) (done g m).after
 tells_message g (Gem m) = tells_gem g m

@@ -1,5 +1,6 @@
 -- One walk over a step: what each change keeps, each step keeps.
-use Rattle.std.proofs.Common.{◌≡◌, ℕ, ◌+◌, ◌==◌, Bool, true, false, not, ◌&&◌, if◌then◌else◌, List, [], ◌∷◌, zero, suc, length, map, find, Option, Some, None, option_map, refl, sym, ◌∙◌, ap, subst}
+use Rattle.msgs_300.specs.declared.reply.ShopReply.{ShopReply}
+use Rattle.std.proofs.Common.{◌≡◌, ℕ, ◌+◌, ◌==◌, Bool, true, false, not, ◌&&◌, if◌then◌else◌, List, [], ◌∷◌, zero, suc, length, map, find, Option, Some, None, option_map, refl, sym, ◌∙◌, ap, subst, Result, Ok, Err}
 use Rattle.hsms_frame.specs.declared.frame.Header.{Header}
 use Rattle.hsms_frame.specs.declared.frame.Arrival.{Arrival}
 use Rattle.hsms_link.specs.declared.table.LinkAct.{LinkAct}
@@ -13,11 +14,21 @@ use Rattle.hsms_link.specs.declared.deadlines.LinkDue.{LinkDue}
 use Rattle.hsms_link.specs.declared.deadlines.LinkDue.TheVariants as due
 use Rattle.std.proofs.lemmas.Bool.{true≢false}
 use Rattle.transactions.specs.Endings.{answers, first_expired, is_first_expired}
+use Rattle.process_job.specs.declared.job.JobSpec.{JobSpec}
+use Rattle.control_job.specs.Commands.{command_answer}
+use Rattle.control_job.specs.Jobs.{JobStore}
+use Rattle.control_job.specs.declared.command.CtlAct.{CtlAct}
+use Rattle.control_job.specs.declared.command.CtlAct.TheVariants.{Row, Head}
+use Rattle.tool_jobs.specs.Jobs.{Jobs}
+use Rattle.tool_jobs.specs.Creating.{with_process}
+use Rattle.job_requests.specs.declared.error.JobError.{JobError}
+use Rattle.job_requests.specs.Requests.{command_named, command_error, asked_process, process_error, asked_control, request_error, cancel_error, control_command_error, control_after}
+use Rattle.gem_model.specs.JobMessages.{jobs_of, with_jobs_now, asked_of_jobs}
 use Rattle.gem_model.proofs.Links.{link_after-keeps}
 use Rattle.secs_items.specs.Data.{Data}
 use Rattle.gem_primaries.specs.declared.primary.GemMsg.{GemMsg}
 use Rattle.gem_primaries.specs.declared.primary.GemMsg.TheVariants as msg
-use Rattle.msgs_300.specs.Primaries.{Message, S3F17, S3F25, S3F27}
+use Rattle.msgs_300.specs.Primaries.{Message, S3F17, S3F25, S3F27, S14F9, S16F5, S16F11, S16F17, S16F19, S16F21, S16F27}
 use Rattle.gem_ids.specs.Civil.{moment_in}
 use Rattle.gem_ids.specs.declared.numbers.PortNo.{PortNo}
 use Rattle.gem_ids.specs.declared.numbers.ModuleId.{ModuleId}
@@ -33,7 +44,8 @@ use Rattle.carrier.specs.Verdict.{is_unknown}
 use Rattle.load_port.specs.declared.action.PortAction.TheVariants as ask
 use Rattle.load_port.specs.Caack.{caack_number}
 use Rattle.msgs_300.specs.declared.reply.ShopReply.TheVariants as reply
-use Rattle.shop_floor.specs.Requests.{carrier_code, carrier_written, carrier_rows, at_port, removal}
+use Rattle.tool_floor.specs.Jobs.{carrier_code}
+use Rattle.shop_floor.specs.Requests.{carrier_written, carrier_rows, at_port, removal}
 use Rattle.tool_events.specs.declared.event.Event.{Event}
 use Rattle.tool_events.specs.declared.event.Event.TheVariants as event
 use Rattle.tool_events.specs.declared.event.OperCmd.{OperCmd}
@@ -49,7 +61,7 @@ use Rattle.gem_model.specs.Sending.{sends_stream9, data_header}
 use Rattle.gem_model.specs.Noting.{sets_alarm, clears_alarm}
 use Rattle.gem_model.specs.Fire.{fire, fires, fire_listed}
 use Rattle.gem_model.specs.Machines.{row_starts, least, takes_effect}
-use Rattle.gem_model.specs.Remote.{Decision, refused, goes_local, clears, decided}
+use Rattle.gem_model.specs.Remote.{Decision, refused, goes_local, clears, decided, commands}
 use Rattle.gem_model.specs.HostMessages.{HostMessage, Gem, Shop, ShopTold, reply_text}
 use Rattle.gem_model.specs.Messages.{done, gem_done, shop_done, remote_done, carrier_action_done, clock_set}
 use Rattle.gem_model.specs.Spooling.{rspack}
@@ -69,7 +81,7 @@ use Rattle.gem_model.specs.Step as steps
 use Rattle.gem_model.specs.Step.{Outcome, step, step_from, acts, linked, hosted, can_clear, can_come_up, operated, switched, quits, settles}
 use Rattle.gem_model.proofs.Tests.{went, either_way, none_some}
 use Rattle.gem_model.specs.Direct.{Are}
-use Rattle.gem_model.proofs.Listed.{IsFree, listed_keeps, free_gem, free_port, free_enable, free_online, free_offline, free_local, free_remote, free_service, free_access, free_up}
+use Rattle.gem_model.proofs.Listed.{IsFree, listed_keeps, free_gem, free_port, free_jobs, free_command, free_control, free_enable, free_online, free_offline, free_local, free_remote, free_service, free_access, free_up}
 use Rattle.gem_model.proofs.FloorRows.{IsFloorRow, AreFloorRows, LeftAlone, alone_effect, alone_fire, creation_is, placing_are, removal_are, done_are, closing_are, lost_are, word_are}
 use Rattle.gem_model.proofs.Settling.{settled_keeps}
 use Rattle.hsms_link.specs.declared.state.LinkState.{LinkState}
@@ -97,7 +109,7 @@ pub record Units (Rest : Event → State → Type 0) (P : State → Type 0) : Ty
   pub failed_at : (g : State) (number : ModuleId) (command : CmdNo) → is_open command.0 (module_of number.0 g) ≡ true → Rest (event.Signal (signal.Failed number command)) g → P g → P (fire_listed (closing_rows 8 number.0 g.floor) (sets_alarm (module_alarm number.0) g))
   pub went_down : (g : State) (number : ModuleId) → is_up_module (module_of number.0 g) ≡ true → Rest (event.Signal (signal.Down number)) g → P g → P (fire_listed (closing_rows 9 number.0 g.floor) (sets_alarm (module_alarm number.0) g))
   pub lost : (g : State) (sub : List ℕ) → Rest (event.Oper (oper.Lost sub)) g → P g → P (fire_listed (lost_rows sub g.floor) g)
-  pub asked : (g h : State) (a : CarrierAction) → is_done_code (carrier_code g.floor.shop a) ≡ true → h.floor ≡ with_shop (carrier_written a g.floor.shop) g.floor → P g → P h → P (fire_listed (carrier_rows a g.floor.shop) h)
+  pub asked : (g h : State) (a : CarrierAction) → is_done_code (carrier_code a g.floor) ≡ true → h.floor ≡ with_shop (carrier_written a g.floor.shop) g.floor → P g → P h → P (fire_listed (carrier_rows a g.floor.shop) h)
 
 -- what keeps a fact of states while link, moment and the end of the run stay: each change that a step is made of, by the field
 -- that it writes, each row that inputs list by itself, each row that fires by itself, the units, and the moves by which a transaction
@@ -114,7 +126,10 @@ pub record Inner (Rest : Event → State → Type 0) (P : State → Type 0) : Ty
   pub alarm : (g : State) (alid : ℕ) → P g → P (record g { line = line_with_alarm alid g })
   pub kinds : (g : State) (k : SpooledKinds) → P g → P (record g { line = with_kinds k g.line })
   pub fetched : (g : State) (number : ℕ) → P g → P (record g { floor = fetched number g.floor })
-  pub written : (g : State) (a : CarrierAction) → is_done_code (carrier_code g.floor.shop a) ≡ true → P g → P (record g { floor = with_shop (carrier_written a g.floor.shop) g.floor })
+  pub written : (g : State) (a : CarrierAction) → is_done_code (carrier_code a g.floor) ≡ true → P g → P (record g { floor = with_shop (carrier_written a g.floor.shop) g.floor })
+  -- a process job is created, and the control jobs change
+  pub process : (g : State) (spec : JobSpec) → P g → P (with_jobs_now (with_process spec (jobs_of g)) g)
+  pub control : (g : State) (s : JobStore) → P g → P (with_jobs_now (record (jobs_of g) { control = s }) g)
   pub row : (g : State) (f : Firing) → IsFree f → row_starts g f ≡ true → P g → P (takes_effect g f)
   pub units : Units Rest P
   pub ready : (g : State) (f : Firing) → least g ≡ Some f → P g → P (fire g f)
@@ -221,6 +236,7 @@ module _ (Rest : Event → State → Type 0) (P : State → Type 0) (inner : Inn
   kept_remote g (refused code faults) at = at
   kept_remote g goes_local at = at
   kept_remote g (clears alid) at = kept_cleared g alid at
+  kept_remote g (commands job word) at = at
 
   kept_gem : (g : State) (m : GemMsg) → P g → P (gem_done g m).after
   kept_gem g (msg.S2F15 settings) at = inner.constants g _ at
@@ -236,12 +252,29 @@ module _ (Rest : Event → State → Type 0) (P : State → Type 0) (inner : Inn
   kept_action : (a : CarrierAction) (g : State) → P g → P (carrier_action_done g a).after
   kept_action a g at =
       where_true P (is_done_code (carrier_caack a g)) (record g { floor = with_shop (carrier_written a g.floor.shop) g.floor }) g
-      (λ is. inner.written g a (done_code (is_unknown a.word) (is_local g.control) (carrier_code g.floor.shop a) is) at) at
+      (λ is. inner.written g a (done_code (is_unknown a.word) (is_local g.control) (carrier_code a g.floor) is) at) at
+
+  -- what is asked of jobs
+  kept_jobs : (g : State) (r : ShopReply) (e : Option JobError) (w : Jobs) (rows : List Firing) → P g → P (with_jobs_now w g) → P (asked_of_jobs g r e w rows).after
+  kept_jobs g r (Some e) w rows at behind = at
+  kept_jobs g r None w rows at behind = behind
+
+  kept_headed : (g : State) (job : List ℕ) (a : Result CtlAct ℕ) → P g → P (with_jobs_now (control_after job a (jobs_of g)) g)
+  kept_headed g job (Ok Head) at = inner.control g _ at
+  kept_headed g job (Ok (Row row)) at = at
+  kept_headed g job (Err code) at = at
 
   kept_shop : (m : Message) (g : State) → P g → P (shop_done g m).after
   kept_shop (S3F17 dataid action carrier number attributes) g at = kept_action (carrier_action action carrier number attributes) g at
   kept_shop (S3F25 action number value) g at = at
   kept_shop (S3F27 mode numbers) g at = at
+  kept_shop (S14F9 object type attributes) g at = kept_jobs g _ (request_error (is_local g.control) type (asked_control attributes) (jobs_of g)) _ _ at (inner.control g _ at)
+  kept_shop (S16F5 dataid job command value) g at = kept_jobs g _ (command_error (is_local g.control) job (command_named command) (jobs_of g)) _ _ at at
+  kept_shop (S16F11 dataid job material recipe start events) g at = kept_jobs g _ (process_error (is_local g.control) (asked_process job material recipe.0 start) events (jobs_of g)) _ _ at (inner.process g (asked_process job material recipe.0 start) at)
+  kept_shop (S16F17 jobs) g at = kept_jobs g _ (cancel_error (is_local g.control) jobs (jobs_of g)) _ _ at at
+  kept_shop S16F19 g at = at
+  kept_shop S16F21 g at = at
+  kept_shop (S16F27 job command value) g at = kept_jobs g _ (control_command_error (is_local g.control) job command (jobs_of g)) _ _ at (kept_headed g job (command_answer job command (jobs_of g).control.jobs) at)
 
   -- what a message writes
   pub kept_done : (g : State) (m : HostMessage) → P g → P (done g m).after
@@ -264,7 +297,7 @@ module _ (Rest : Event → State → Type 0) (P : State → Type 0) (inner : Inn
     of : (b : Bool) → is_done_code (carrier_caack a g) ≡ b → (text : List ℕ) →
         P (fire_listed (if b then carrier_rows a g.floor.shop else []) (replied h (function_of h + 1) text (if b then record g { floor = with_shop (carrier_written a g.floor.shop) g.floor } else g)))
     of true is text =
-        let may : is_done_code (carrier_code g.floor.shop a) ≡ true = done_code (is_unknown a.word) (is_local g.control) (carrier_code g.floor.shop a) is in
+        let may : is_done_code (carrier_code a g.floor) ≡ true = done_code (is_unknown a.word) (is_local g.control) (carrier_code a g.floor) is in
         let written : State = record g { floor = with_shop (carrier_written a g.floor.shop) g.floor } in
         inner.units.asked g (replied h (function_of h + 1) text written) a may (floor_replied h (function_of h + 1) text written) at
         (kept_replied written h (function_of h + 1) text (inner.written g a may at))
@@ -279,6 +312,13 @@ module _ (Rest : Event → State → Type 0) (P : State → Type 0) (inner : Inn
   kept_taken g h (Shop (S3F27 mode numbers)) at =
       let code = port_caack (ask.Access mode numbers) g in
       kept_free g h (Shop (S3F27 mode numbers)) (free_port (ask.Access mode numbers) g (reply.S3F28 (caack_number code)) code) at
+  kept_taken g h (Shop (S14F9 object type attributes)) at = kept_free g h (Shop (S14F9 object type attributes)) (free_jobs (S14F9 object type attributes) g refl) at
+  kept_taken g h (Shop (S16F5 dataid job command value)) at = kept_free g h (Shop (S16F5 dataid job command value)) (free_jobs (S16F5 dataid job command value) g refl) at
+  kept_taken g h (Shop (S16F11 dataid job material recipe start events)) at = kept_free g h (Shop (S16F11 dataid job material recipe start events)) (free_jobs (S16F11 dataid job material recipe start events) g refl) at
+  kept_taken g h (Shop (S16F17 jobs)) at = kept_free g h (Shop (S16F17 jobs)) (free_jobs (S16F17 jobs) g refl) at
+  kept_taken g h (Shop S16F19) at = kept_free g h (Shop S16F19) tt at
+  kept_taken g h (Shop S16F21) at = kept_free g h (Shop S16F21) tt at
+  kept_taken g h (Shop (S16F27 job command value)) at = kept_free g h (Shop (S16F27 job command value)) (free_jobs (S16F27 job command value) g refl) at
 
   kept_closed : (g : State) (h : Header) (item : Option Data) (test : Open → Bool) (one : Option Open) → find test g.transactions.opened ≡ one → P g → P (closed_by h item one g)
   kept_closed g h item test None found at = at
@@ -299,6 +339,7 @@ module _ (Rest : Event → State → Type 0) (P : State → Type 0) (inner : Inn
   kept_switched oper.Remote g at = inner.switch g false at
   kept_switched (oper.Clear n) g at = either_way P (can_clear n g) (clears_alarm n g) g (kept_cleared g n at) at
   kept_switched (oper.Up number) g at = either_way P (can_come_up number.0 g) (clears_alarm (module_alarm number.0) g) g (kept_cleared g (module_alarm number.0) at) at
+  kept_switched (oper.CtlJob job command) g at = kept_headed g job (command_answer job command g.floor.jobs.control.jobs) at
   kept_switched _ g at = at
 
   pub kept_by_rows : (command : OperCmd) (g : State) → Are IsFree (operator_rows command (switched command g)) → P g → P (fires (operator_rows command) (switched command g))
@@ -369,7 +410,10 @@ module _ (Rest : Event → State → Type 0) (P : State → Type 0) (kept : Kept
   kept_operated (oper.Clear n) g rest at = kept_switched Rest P kept.inner (oper.Clear n) g at
   kept_operated (oper.Up number) g rest at = kept_by_rows Rest P kept.inner (oper.Up number) g (free_up number.0) at
   kept_operated (oper.Lost sub) g rest at = kept.inner.units.lost g sub rest at
-  kept_operated _ g rest at = at
+  kept_operated (oper.Job job word) g rest at = kept_by_rows Rest P kept.inner (oper.Job job word) g (free_command job word (jobs_of g)) at
+  kept_operated (oper.CtlJob job command) g rest at =
+      let h = switched (oper.CtlJob job command) g in
+      kept_by_rows Rest P kept.inner (oper.CtlJob job command) g (free_control job (command_answer job command (jobs_of h).control.jobs) (jobs_of h)) at
 
   kept_linktest : (g : State) → P g → P (asks_linktest g)
   kept_linktest g at = kept.inner.waiting (record (record g { transactions = _ }) { link = _ }) _ (kept.link (record g { transactions = _ }) _ (λ is. is) (kept.inner.drawn g _ refl at))

@@ -13,8 +13,8 @@ use Rattle.gem_model.specs.State.{State, without_session}
 use Rattle.gem_model.specs.Fire.{fire_listed, fires}
 use Rattle.gem_model.specs.Direct.{answer_rows, session_end_rows}
 use Rattle.gem_model.specs.Sending.{replies, sends_stream9}
-use Rattle.gem_model.specs.HostMessages.{HostMessage, reply_text}
-use Rattle.gem_model.specs.Messages.{Done, done}
+use Rattle.gem_model.specs.HostMessages.{HostMessage, reply_text, Done}
+use Rattle.gem_model.specs.Messages.{done}
 use Rattle.gem_model.specs.Verdict.{Verdict, Discarded, Stream9, Aborted, Answers, Taken, verdict, header_of, item_of, wants_reply, stream_of, function_of}
 
 -- a reply is sent where one is wanted, under the same system bytes

@@ -17,6 +17,8 @@ use Rattle.transactions.specs.declared.transaction.What.TheVariants as what
 use Rattle.transactions.specs.Endings.{first_of}
 use Rattle.shop_floor.specs.Requests.{at_port}
 use Rattle.tool_floor.specs.Signals.{at_module, lost_rows}
+use Rattle.control_job.specs.Commands.{command_answer}
+use Rattle.job_requests.specs.Requests.{command_rows, control_command_rows}
 use Rattle.gem_model.specs.State.{State}
 use Rattle.gem_model.specs.Fire.{of_comm, of_control, of_line}
 
@@ -56,6 +58,8 @@ operator_rows (oper.Service port on) g = at_port 4 (if on then 1 else 2) port.0
 operator_rows (oper.Access port auto) g = at_port 5 (if auto then 1 else 2) port.0
 operator_rows (oper.Up number) g = at_module 10 number.0
 operator_rows (oper.Lost sub) g = lost_rows sub g.floor
+operator_rows (oper.Job job word) g = command_rows job word g.floor.jobs
+operator_rows (oper.CtlJob job command) g = control_command_rows job (command_answer job command g.floor.jobs.control.jobs) g.floor.jobs
 operator_rows _ g = []
 
 -- what the answer to the tool's S1F13 does: S1F14 with COMMACK 0 accepts, another S1F14 and S1F0 refuse

@@ -7,6 +7,8 @@ use Rattle.gem_replies.specs.Replies.{reply_body}
 use Rattle.msgs_300.specs.Primaries.{Message}
 use Rattle.msgs_300.specs.declared.reply.ShopReply.{ShopReply}
 use Rattle.msgs_300.specs.Replies.{shop_reply_body}
+use Rattle.gem_tables.specs.declared.firing.Firing.{Firing}
+use Rattle.gem_model.specs.State.{State}
 
 -- a primary of the host: of streams 1, 2, 5 and 6, or of carriers and ports
 pub data HostMessage : Type 0 where
@@ -22,3 +24,9 @@ pub data HostReply : Type 0 where
 abbrev pub reply_text : HostReply → List ℕ
 reply_text (GemTold r) = plain (reply_body r)
 reply_text (ShopTold r) = plain (shop_reply_body r)
+
+-- what a message does: its reply, the state behind what it writes, and its direct rows
+pub record Done : Type 0 where
+  pub reply : HostReply
+  pub after : State
+  pub rows : List Firing

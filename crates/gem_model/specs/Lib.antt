@@ -17,6 +17,7 @@ pub mod Settle
 pub mod Valid
 pub mod Shop
 pub mod HostMessages
+pub mod JobMessages
 pub mod Messages
 pub mod Verdict
 pub mod Act

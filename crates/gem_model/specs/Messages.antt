@@ -16,7 +16,8 @@ use Rattle.gem_replies.specs.declared.reply.GemReply.TheVariants as reply
 use Rattle.gem_replies.specs.declared.reply.AlarmPart.{AlarmPart}
 use Rattle.gem_replies.specs.declared.reply.VariableName.{VariableName}
 use Rattle.gem_replies.specs.Replies.{items}
-use Rattle.msgs_300.specs.Primaries.{Message, S3F17, S3F25, S3F27}
+use Rattle.msgs_300.specs.Primaries.{Message, S3F17, S3F25, S3F27, S14F9, S16F5, S16F11, S16F17, S16F19, S16F21, S16F27}
+use Rattle.job_requests.specs.Requests.{asked_process, asked_control, command_named as job_command_named, command_rows}
 use Rattle.msgs_300.specs.declared.reply.ShopReply.{ShopReply}
 use Rattle.msgs_300.specs.declared.reply.ShopReply.TheVariants as shop
 use Rattle.data_variables.specs.declared.val.Val.{Val}
@@ -38,17 +39,12 @@ use Rattle.spool.specs.Spool.{rsda}
 use Rattle.gem_model.specs.State.{State, clock_now}
 use Rattle.gem_model.specs.Values.{no_firing, status_value, constant_value, value_of, svids}
 use Rattle.gem_model.specs.Noting.{alcd, text_of_alarm, clears_alarm}
-use Rattle.gem_model.specs.Remote.{Decision, refused, goes_local, clears, decided, hcack_number}
+use Rattle.gem_model.specs.Remote.{Decision, refused, goes_local, clears, commands, decided, hcack_number}
 use Rattle.gem_model.specs.Spooling.{rspack, refusals, spools, unload_rows}
 use Rattle.gem_model.specs.Direct.{by_comm, by_control}
-use Rattle.gem_model.specs.HostMessages.{HostMessage, Gem, Shop, HostReply, GemTold, ShopTold}
+use Rattle.gem_model.specs.HostMessages.{HostMessage, Gem, Shop, HostReply, GemTold, ShopTold, Done}
+use Rattle.gem_model.specs.JobMessages.{process_done, control_done, command_done, cancel_done, control_command_done, list_done, space_done}
 use Rattle.gem_model.specs.Shop.{carrier_action, port_word, carrier_caack, port_caack}
-
--- what a message does: its reply, the state behind what it writes, and its direct rows
-pub record Done : Type 0 where
-  pub reply : HostReply
-  pub after : State
-  pub rows : List Firing
 
 -- it is answered, and does nothing else
 abbrev pub answers : GemReply → State → Done
@@ -113,11 +109,12 @@ clock_set None g = g
 clock_set (Some shown) g = record g { clock = record { shown = shown; at = g.moment } }
 
 -- a remote command, as it was decided: GOLOCAL is the operator's `local`, but that the switch stays; CLEARALARM clears its
--- alarm (SEMI E5, S2F42; this tool's profile, remote commands)
+-- alarm; a command to a process job fires its row (SEMI E5, S2F42; this tool's profile, remote commands)
 abbrev pub remote_done : State → Decision → Done
 remote_done g (refused code faults) = answers (reply.S2F42 (hcack_number code) faults) g
 remote_done g goes_local = fires_rows (reply.S2F42 0 []) g (by_control trigger.Local g)
 remote_done g (clears alid) = writes (reply.S2F42 0 []) (clears_alarm alid g)
+remote_done g (commands job word) = fires_rows (reply.S2F42 0 []) g (command_rows job word g.floor.jobs)
 
 -- ---- streams 1, 2, 5 and 6
 
@@ -145,7 +142,7 @@ gem_done g (msg.S6F15 ceid) = answers (reply.S6F16 ceid (report_items (value_of 
 gem_done g (msg.S6F19 rptid) = answers (reply.S6F20 (one_items (value_of no_firing g) rptid g.reports)) g
 gem_done g (msg.S6F23 rsdc) = fires_rows (reply.S6F24 (rsda g.line.spool)) g (unload_rows rsdc)
 
--- ---- stream 3
+-- ---- streams 3, 14 and 16
 
 -- an action on a carrier, by its code: where it is done it writes, and fires its rows
 abbrev pub carrier_done : State → CarrierAction → Caack → Done
@@ -170,6 +167,13 @@ abbrev pub shop_done : State → Message → Done
 shop_done g (S3F17 dataid action carrier number attributes) = carrier_action_done g (carrier_action action carrier number attributes)
 shop_done g (S3F25 action number value) = port_action_done g (port_word action number) (λ code. shop.S3F26 code)
 shop_done g (S3F27 mode numbers) = port_action_done g (port.Access mode numbers) (λ code. shop.S3F28 code)
+shop_done g (S14F9 object type attributes) = control_done g type (asked_control attributes)
+shop_done g (S16F5 dataid job command value) = command_done g job (job_command_named command)
+shop_done g (S16F11 dataid job material recipe start events) = process_done g (asked_process job material recipe.0 start) events
+shop_done g (S16F17 jobs) = cancel_done g jobs
+shop_done g S16F19 = list_done g
+shop_done g S16F21 = space_done g
+shop_done g (S16F27 job command value) = control_command_done g job command
 
 -- ---- all streams
 

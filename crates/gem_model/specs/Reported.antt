@@ -40,8 +40,8 @@ use Rattle.gem_model.specs.Machines.{row_starts, takes_effect, creations, object
 use Rattle.gem_model.specs.Fire.{fire, advanced}
 use Rattle.gem_model.specs.Direct.{answer_rows, session_end_rows, timeout_rows, operator_rows}
 use Rattle.gem_model.specs.Remote.{Decision, clears, decided}
-use Rattle.gem_model.specs.HostMessages.{HostMessage, Gem, reply_text}
-use Rattle.gem_model.specs.Messages.{Done, done}
+use Rattle.gem_model.specs.HostMessages.{HostMessage, Gem, reply_text, Done}
+use Rattle.gem_model.specs.Messages.{done}
 use Rattle.gem_model.specs.Settle.{settling}
 use Rattle.gem_model.specs.Verdict.{Verdict, Answers, Taken, verdict, header_of, item_of, stream_of, function_of}
 use Rattle.gem_model.specs.Act.{replied, note_answered}

@@ -14,7 +14,8 @@ use Rattle.carrier.specs.declared.action.CarrierAction.{CarrierAction}
 use Rattle.carrier.specs.declared.action.CarrierWord.{CarrierWord}
 use Rattle.carrier.specs.declared.action.CarrierWord.TheVariants as word
 use Rattle.carrier.specs.Verdict.{is_unknown}
-use Rattle.shop_floor.specs.Requests.{carrier_code, port_code}
+use Rattle.shop_floor.specs.Requests.{port_code}
+use Rattle.tool_floor.specs.Jobs.{carrier_code}
 use Rattle.gem_model.specs.State.{State}
 
 -- ---- the actions
@@ -73,7 +74,7 @@ is_unknown_action _ = false
 
 -- CAACK: an unknown action is told first, and in ON-LINE LOCAL all others are not done now (this tool's profile, messages)
 abbrev pub carrier_caack : CarrierAction → State → Caack
-carrier_caack a g = if is_unknown a.word then Unknown else (if is_local g.control then NotNow else carrier_code g.floor.shop a)
+carrier_caack a g = if is_unknown a.word then Unknown else (if is_local g.control then NotNow else carrier_code a g.floor)
 
 abbrev pub port_caack : PortAction → State → Caack
 port_caack a g = if is_unknown_action a then Unknown else (if is_local g.control then NotNow else port_code g.floor.shop a)

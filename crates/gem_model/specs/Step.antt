@@ -18,6 +18,10 @@ use Rattle.tool_events.specs.declared.answer.Answer.TheVariants as answer
 use Rattle.tool_events.specs.declared.event.SessionCause.{SessionCause}
 use Rattle.tool_events.specs.declared.event.SessionCause.TheVariants as cause
 use Rattle.tool_events.specs.declared.event.SessionEnd.{SessionEnd}
+use Rattle.std.specs.Result.{is_ok}
+use Rattle.control_job.specs.Commands.{command_answer}
+use Rattle.job_requests.specs.Requests.{control_after}
+use Rattle.gem_model.specs.JobMessages.{with_jobs_now}
 use Rattle.gem_model.specs.State.{State, is_up, is_session_up, raised, with_frame}
 use Rattle.event_reports.specs.Alarms.{is_set}
 use Rattle.gem_model.specs.Machines.{row_starts}
@@ -100,17 +104,20 @@ is_accepted oper.Local g = true
 is_accepted oper.Remote g = true
 is_accepted (oper.Access port auto) g = not (lacks_port port.0 g)
 is_accepted (oper.Clear alid) g = can_clear alid g
+is_accepted (oper.CtlJob job command) g = is_ok (command_answer job command g.floor.jobs.control.jobs)
 is_accepted command g = can_fire g (operator_rows command g)
 
 -- a module can come up: it is Down
 abbrev pub can_come_up : ℕ → State → Bool
 can_come_up number g = is_down (module_of number g)
 
--- what a command changes: `local` and `remote` set the switch, `clear` clears an alarm, and `up` that of its module
+-- what a command changes: `local` and `remote` set the switch, `clear` clears an alarm, and `up` that of its module; `cj 8` makes a control
+-- job the head of the queue
 abbrev pub switched : OperCmd → State → State
 switched oper.Local g = record g { switch_local = true }
 switched oper.Remote g = record g { switch_local = false }
 switched (oper.Clear alid) g = if can_clear alid g then clears_alarm alid g else g
+switched (oper.CtlJob job command) g = with_jobs_now (control_after job (command_answer job command g.floor.jobs.control.jobs) g.floor.jobs) g
 switched (oper.Up number) g = if can_come_up number.0 g then clears_alarm (module_alarm number.0) g else g
 switched _ g = g
 

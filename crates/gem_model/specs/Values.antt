@@ -60,9 +60,9 @@ variable_value g (status.PortTransfer port) = port_value g port (λ p. u1 (trans
 variable_value g (status.PortAccess port) = port_value g port (λ p. u1 (access_number p.states.access ∷ []))
 -- empty where no carrier belongs to the port
 variable_value g (status.PortCarrier port) = port_value g port (λ p. ascii (unwrap_or p.carrier []))
--- not built
-variable_value g status.ProcessJobCount = None
-variable_value g status.ControlJobCount = None
+-- those that are kept; a control job that is COMPLETED is, until it is replaced
+variable_value g status.ProcessJobCount = Some (u2 (length g.floor.jobs.process.kept ∷ []))
+variable_value g status.ControlJobCount = Some (u2 (length g.floor.jobs.control.jobs ∷ []))
 
 -- the value of the variable that a number is, where it is one
 abbrev pub value_by : State → Option StatusVariable → Option Data

@@ -1,14 +1,15 @@
--- The faulty parameters, one after another.
-use Rattle.std.proofs.Common.{◌≡◌, ℕ, zero, suc, ◌+◌, ◌<◌, ◌≤◌, ◌==◌, ◌||◌, Bool, true, false, if◌then◌else◌, List, [], ◌∷◌, ◌++◌, length, take, drop, get_or, None, refl, sym, ◌∙◌, ap, arith, add-one, drop-cons, append_assoc}
+-- The faulty parameters, one after another, and what is decided of a command to a process job.
+use Rattle.std.proofs.Common.{◌≡◌, ℕ, zero, suc, ◌+◌, ◌<◌, ◌≤◌, ◌==◌, ◌||◌, Bool, true, false, if◌then◌else◌, List, [], ◌∷◌, ◌++◌, length, take, drop, get_or, Result, Ok, Err, refl, sym, ◌∙◌, ap, arith, add-one, drop-cons, append_assoc}
 use Rattle.std.specs.Prelude.{codes}
-use Rattle.std.specs.Str.{bytes_eq}
-use Rattle.std.proofs.lemmas.List.{drop_all}
 use Rattle.std.proofs.lemmas.List.Folds.{list_any_more}
 use Rattle.std.proofs.lemmas.Slice.Eq.{bytes_eq-Decides}
-use Rattle.secs_items.specs.Ids.{id_of}
+use Rattle.tool_events.specs.declared.event.JobWord.{JobWord}
 use Rattle.event_reports.specs.declared.alarms.AlarmLine.{AlarmLine}
 use Rattle.gem_replies.specs.declared.reply.ParameterAcknowledge.{ParameterAcknowledge}
-use Rattle.gem_model.specs.Remote.{RemoteCommand, GoLocal, ClearAlarm, Parameter, takes, was_given, cpack, faulty, alarm_named}
+use Rattle.job_requests.specs.declared.error.JobError.TheVariants.{UnknownObject, UnknownCommand, NotNow as error_NotNow}
+use Rattle.job_requests.specs.Errors.{of_answer}
+use Rattle.gem_model.specs.Remote.{RemoteCommand, GoLocal, ClearAlarm, ToJob, Parameter, takes, was_given, cpack, faulty, refused, NoObject, NotNow, answered_so}
+use Rattle.host_requests.specs.Remotes.{was_taken, hcack_of, decided_so}
 
 take_more : {A : Type 0} (xs : List A) (i : ℕ) (x : A) → i < length xs → take (suc i) xs ≡ take i xs ++ get_or xs i x ∷ []
 take_more [] i x within = absurd (omega arith)
@@ -46,14 +47,15 @@ faulty_more command alarms ps i p all found within is before =
 
 -- ---- what was given before
 
--- an ALID is the only parameter that a command takes
-pub given_as_alid : (command : RemoteCommand) (name : List ℕ) (earlier : List Parameter) → takes command name ≡ true → was_given earlier name ≡ was_given earlier (codes "ALID")
-given_as_alid GoLocal name earlier is = absurd (cc)
-given_as_alid ClearAlarm name earlier is = ap (was_given earlier) ((bytes_eq-Decides name (codes "ALID")).0 is)
+-- a command takes parameters of one name at most
+pub given_as_taken : (command : RemoteCommand) (name : List ℕ) (earlier : List Parameter) → takes command name ≡ true → was_given earlier name ≡ was_taken command earlier
+given_as_taken GoLocal name earlier is = absurd (cc)
+given_as_taken ClearAlarm name earlier is = ap (was_given earlier) ((bytes_eq-Decides name (codes "ALID")).0 is)
+given_as_taken (ToJob word) name earlier is = ap (was_given earlier) ((bytes_eq-Decides name (codes "PRJOBID")).0 is)
 
 -- with the parameter at a place
-pub given_more : (ps : List Parameter) (i : ℕ) (p : Parameter) → i < length ps → was_given (take (i + 1) ps) (codes "ALID") ≡ (was_given (take i ps) (codes "ALID") || bytes_eq (get_or ps i p).0 (codes "ALID"))
-given_more ps i p within = list_any_more (λ q. bytes_eq q.0 (codes "ALID")) ps i p within
+pub taken_more : (command : RemoteCommand) (ps : List Parameter) (i : ℕ) (p : Parameter) → i < length ps → was_taken command (take (i + 1) ps) ≡ (was_taken command (take i ps) || takes command (get_or ps i p).0)
+taken_more command ps i p within = list_any_more (λ q. takes command q.0) ps i p within
 
 -- ---- how many there are
 
@@ -67,19 +69,14 @@ few_faults command alarms earlier [] = omega arith
 few_faults command alarms earlier (p ∷ ps) =
     either_few (cpack command alarms earlier p == 0) (faulty command alarms (earlier ++ p ∷ []) ps) (record { name = p.0; cpack = cpack command alarms earlier p }) (length ps) (few_faults command alarms (earlier ++ p ∷ []) ps)
 
--- ---- the alarm that is named
+-- ---- a command to a process job
 
-named_first : (b : Bool) (p : Parameter) (ps : List Parameter) → bytes_eq p.0 (codes "ALID") ≡ b → alarm_named (p ∷ ps) ≡ (if b then id_of p.1 else alarm_named ps)
-named_first true p ps is = rw is refl
-named_first false p ps is = rw is refl
-
--- the parameter at a place names it
-pub named_here : (ps : List Parameter) (i : ℕ) (p : Parameter) → i < length ps → bytes_eq (get_or ps i p).0 (codes "ALID") ≡ true → alarm_named (drop i ps) ≡ id_of (get_or ps i p).1
-named_here ps i p within is = ap alarm_named (drop-cons ps i p within) ∙ named_first true (get_or ps i p) (drop (suc i) ps) is
-
--- or one behind it does
-pub named_later : (ps : List Parameter) (i : ℕ) (p : Parameter) → i < length ps → bytes_eq (get_or ps i p).0 (codes "ALID") ≡ false → alarm_named (drop i ps) ≡ alarm_named (drop (i + 1) ps)
-named_later ps i p within is = ap alarm_named (drop-cons ps i p within) ∙ named_first false (get_or ps i p) (drop (suc i) ps) is ∙ rw add-one refl
-
-pub named_nowhere : (ps : List Parameter) (i : ℕ) → length ps ≤ i → alarm_named (drop i ps) ≡ None
-named_nowhere ps i over = ap alarm_named (drop_all i ps over)
+-- it is decided by its answer
+pub answered_by_error : (job : List ℕ) (word : JobWord) (answer : Result ℕ ℕ) → decided_so job word (of_answer answer) ≡ answered_so job word answer
+answered_by_error job word (Ok row) = refl
+answered_by_error job word (Err code) = by_code (code == 1) (code == 7)
+  where
+    by_code : (first second : Bool) → refused (hcack_of (if first then UnknownObject else (if second then UnknownCommand else error_NotNow))) [] ≡ refused (if first then NoObject else NotNow) []
+    by_code true second = refl
+    by_code false true = refl
+    by_code false false = refl

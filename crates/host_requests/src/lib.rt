@@ -1,7 +1,7 @@
 //! What a data message of the host asks, as far as no state of the tool is needed to say it: its header and its item, what it
-//! is read as, what is decided of a remote command, by the alarms and who commands, which entries of S2F43 are refused, and
-//! which action on carriers or ports it means (SEMI E5, streams 1, 2, 5 and 6; SEMI E30, remote control and spooling; SEMI
-//! E87, carrier and port actions).
+//! is read as, what is decided of a remote command, by the alarms, the jobs and who commands, which entries of S2F43 are refused,
+//! and which action on carriers or ports it means (SEMI E5, streams 1, 2, 5 and 6; SEMI E30, remote control and spooling; SEMI E40,
+//! commands to process jobs; SEMI E87, carrier and port actions).
 //!
 //! What the tool answers and does stands in `core_host`. Memory may run out in each call that is handed an allocator.
 //! Begin with `header_of` and `read_message`.

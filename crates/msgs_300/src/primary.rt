@@ -1,19 +1,22 @@
 //! The host's primaries.
 
 ghost use Rattle.std.specs.Prelude.{◌≡◌, option_map};
-ghost use Rattle.body_parts.specs.Bodies.{any, each, id as id_form, l2, l3, l5, named_value, small_id as small_id_form, text as text_form};
+ghost use Rattle.body_parts.specs.Bodies.{any, byte, each, fixed, flag as flag_form, id as id_form, l2, l3, l5, named_value, of, small_id as small_id_form, text as text_form};
 ghost use Rattle.body_parts.specs.Given.{AnswersAs, Gives};
-ghost use Rattle.msgs_300.specs.Primaries.{S3F17, S3F25, S3F27, is_shop_stream as is_stream_of_table, reading, said};
+ghost use Rattle.msgs_300.specs.Parts.{any_list as any_list_form, carrier_slots, l4, l7, recipe_part as recipe_part_form};
+ghost use Rattle.msgs_300.specs.Primaries.{S3F17, S3F25, S3F27, S14F9, S16F5, S16F17, S16F27, is_shop_stream as is_stream_of_table, job_creation as job_creation_said, reading, said};
 ghost use Rattle.secs_items.specs.View.{view};
 
-use body_parts::reading::{copied, id, list_of, one, parts, small_id, text};
+use crate::material::{CarrierSlots, RecipePart, any_list, material_format, recipe_part};
+use body_parts::reading::{copied, elements, flag, id, list_of, one, parts, small_id, text};
 use body_parts::{BodyFault, NamedValue};
 use gem_ids::{Listed, Text80};
 use secs_items::Item;
 use std::alloc::Global;
 
-/// A primary of the host, with the parts of its body in the printed order (after SEMI E87; this tool's profile, messages).
-/// Words of actions and names of attributes are any texts, and numbers of ports any up to 255.
+/// A primary of the host, with the parts of its body in the printed order (after SEMI E87, E40 and E94; this tool's
+/// profile, messages). Words of actions and commands, names of objects, attributes, carriers, jobs and recipes are any
+/// texts, and numbers of ports, slots and commands any up to 255. A part with a fixed value is no field.
 #[derive(Debug, Drop)]
 pub enum ShopMsg {
     /// Carrier action request: DATAID, CARRIERACTION, CARRIERID, PTN, and the attributes, each its name and its value.
@@ -22,13 +25,29 @@ pub enum ShopMsg {
     S3F25(Text80, u8, Item),
     /// Change access: ACCESSMODE, and PTNs. None stands for all ports.
     S3F27(u8, Listed<u8>),
+    /// Create object request: OBJSPEC, OBJTYPE, and the attributes, each its name and its value.
+    S14F9(Text80, Text80, Listed<NamedValue>),
+    /// Process job command request: DATAID, PRJOBID, PRCMDNAME, and an item that may be of any kind.
+    S16F5(u32, Text80, Text80, Item),
+    /// Process job creation: DATAID, PRJOBID, the carriers, the recipe, PRPROCESSSTART, which is true where the job starts
+    /// by itself, and a list of pause events, which may hold items of any kind.
+    S16F11(u32, Text80, Listed<CarrierSlots>, RecipePart, bool, Item),
+    /// Process job dequeue: PRJOBIDs. None stands for all that are queued.
+    S16F17(Listed<Text80>),
+    /// Process job list request. Its text is ignored.
+    S16F19,
+    /// Process job space request. Its text is ignored.
+    S16F21,
+    /// Control job command request: CTLJOBID, CTLJOBCMD, and an item that may be of any kind.
+    S16F27(Text80, u8, Item),
 }
 
-/// Reads a primary of the host by its stream and function. `item` is its text, and None where the text is not one item.
+/// Reads a primary of the host by its stream and function. `item` is its text, and None where the text is not one item;
+/// where the text is ignored it is not looked at.
 ///
 /// `UnknownStream` comes where no message has the stream, else `UnknownFunction` where none of the stream has the
-/// function, else `IllegalData` where the item has not the printed body (after SEMI E87; this tool's profile, messages).
-/// Besides, `NoMemory` may come, for a message whose body has parts to be copied.
+/// function, else `IllegalData` where the item has not the printed body (after SEMI E87, E40 and E94; this tool's profile,
+/// messages). Besides, `NoMemory` may come, for a message whose body has parts to be copied.
 pub fn read_shop(
     alloc: Global,
     stream: u8,
@@ -39,6 +58,8 @@ pub fn read_shop(
 {
     match stream {
         3 => read_stream_3(alloc, function, item),
+        14 => read_stream_14(alloc, function, item),
+        16 => read_stream_16(alloc, function, item),
         _ => Err(BodyFault::UnknownStream),
     }
 }
@@ -51,6 +72,31 @@ fn read_stream_3(alloc: Global, function: u8, item: Option<&Item>) -> Result<Sho
         17 => carrier_action(alloc, one(item)?),
         25 => port_action(one(item)?),
         27 => access_change(alloc, one(item)?),
+        _ => Err(BodyFault::UnknownFunction),
+    }
+}
+
+// Objects: a control job is one that is created.
+fn read_stream_14(alloc: Global, function: u8, item: Option<&Item>) -> Result<ShopMsg, BodyFault>
+    ensures answer { AnswersAs said result (reading 14 function (option_map (λ i. view i.now) item.entry)) }
+{
+    match function {
+        9 => object_creation(alloc, one(item)?),
+        _ => Err(BodyFault::UnknownFunction),
+    }
+}
+
+// Process jobs and control jobs.
+fn read_stream_16(alloc: Global, function: u8, item: Option<&Item>) -> Result<ShopMsg, BodyFault>
+    ensures answer { AnswersAs said result (reading 16 function (option_map (λ i. view i.now) item.entry)) }
+{
+    match function {
+        5 => job_command(one(item)?),
+        11 => job_creation(alloc, one(item)?),
+        17 => jobs_dequeued(alloc, one(item)?),
+        19 => Ok(ShopMsg::S16F19),
+        21 => Ok(ShopMsg::S16F21),
+        27 => control_job_command(one(item)?),
         _ => Err(BodyFault::UnknownFunction),
     }
 }
@@ -85,10 +131,70 @@ fn access_change(alloc: Global, item: &Item) -> Result<ShopMsg, BodyFault>
     Ok(ShopMsg::S3F27(small_id(mode)?, list_of(alloc, ports)?))
 }
 
-/// Whether a message here has the stream: of these `read_shop` tells other faults than `UnknownStream` (after SEMI E87;
-/// this tool's profile, messages).
+// What the creation of an object says.
+fn object_creation(alloc: Global, item: &Item) -> Result<ShopMsg, BodyFault>
+    ensures { Gives said result (l3 S14F9 text_form text_form (each named_value) (view item.now)) }
+{
+    let [object, kind, attributes] = parts::<3>(item)?;
+    Ok(ShopMsg::S14F9(text(object)?, text(kind)?, list_of(alloc, attributes)?))
+}
+
+// What a command to a process job says.
+fn job_command(item: &Item) -> Result<ShopMsg, BodyFault>
+    ensures { Gives said result (l4 S16F5 id_form text_form text_form any (view item.now)) }
+{
+    let [dataid, job, command, value] = parts::<4>(item)?;
+    Ok(ShopMsg::S16F5(id(dataid)?, text(job)?, text(command)?, copied(value)?))
+}
+
+// What the creation of a process job says.
+fn job_creation(alloc: Global, item: &Item) -> Result<ShopMsg, BodyFault>
+    ensures { Gives said result (l7 job_creation_said id_form text_form (fixed 13 byte) (each carrier_slots) recipe_part_form flag_form any_list_form (view item.now)) }
+{
+    let [dataid, job, format, material, recipe, start, events] = parts::<7>(item)?;
+    let dataid = id(dataid)?;
+    let job = text(job)?;
+    material_format(format)?;
+    Ok(ShopMsg::S16F11(
+        dataid,
+        job,
+        list_of(alloc, material)?,
+        recipe_part(recipe)?,
+        flag(start)?,
+        any_list(events)?,
+    ))
+}
+
+// Which process jobs are to be taken off the queue.
+fn jobs_dequeued(alloc: Global, item: &Item) -> Result<ShopMsg, BodyFault>
+    ensures { Gives said result (of S16F17 (each text_form) (view item.now)) }
+{
+    Ok(ShopMsg::S16F17(texts(alloc, item)?))
+}
+
+// The texts of a list of texts.
+fn texts(alloc: Global, item: &Item) -> Result<Listed<Text80>, BodyFault>
+    ensures { Gives (λ texts. texts) result (each text_form (view item.now)) }
+{
+    let mut texts = Listed::new(alloc);
+    for part in elements(item)? {
+        texts.push(text(part)?)?;
+    }
+    Ok(texts)
+}
+
+// What a command to a control job says.
+fn control_job_command(item: &Item) -> Result<ShopMsg, BodyFault>
+    ensures { Gives said result (l3 S16F27 text_form small_id_form any (view item.now)) }
+{
+    let [job, command, value] = parts::<3>(item)?;
+    Ok(ShopMsg::S16F27(text(job)?, small_id(command)?, copied(value)?))
+}
+
+/// Whether a message here has the stream: of these `read_shop` tells other faults than `UnknownStream` (after SEMI E87,
+/// E40 and E94; this tool's profile, messages).
 pub fn is_shop_stream(stream: u8) -> bool
     ensures { result ≡ is_stream_of_table stream }
 {
-    stream == 3
+    matches!(stream, 3 | 14 | 16)
 }

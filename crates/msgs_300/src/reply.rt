@@ -1,18 +1,58 @@
 //! The tool's replies.
 
-ghost use Rattle.std.specs.Prelude.{◌≡◌, ◌≤◌, ◌^◌, length, IfOk};
+ghost use Rattle.std.specs.Prelude.{◌≡◌, ◌≤◌, ◌^◌, ◌∷◌, [], length, IfOk};
+ghost use Rattle.secs_items.specs.Data.{Data};
 ghost use Rattle.secs_items.specs.Plain.{plain};
 ghost use Rattle.secs_items.specs.Sendable.{IsSendable};
 ghost use Rattle.secs_items.specs.View.{view};
 ghost use Rattle.secs_items.specs.Weight.{IsBounded};
-ghost use Rattle.msgs_300.specs.Replies.{action_acknowledge as action_acknowledge_data, shop_reply_body};
+ghost use Rattle.body_parts.specs.Printed.{A, L, each};
+ghost use Rattle.msgs_300.specs.Replies.{BOOL, U2, acknowledge as acknowledge_data, action_acknowledge as action_acknowledge_data, error_part, job_acknowledge, job_state, object_acknowledge as object_acknowledge_data, shop_reply_body};
+ghost use Rattle.msgs_300.specs.Sendable.{HasSendableParts};
 
-use body_parts::writing::{list, u1};
-use secs_items::{Item, NoMemory};
+use body_parts::writing::{list, text, u1};
+use gem_ids::{Listed, Text80};
+use secs_items::{Bools, Item, Items, NoMemory, U16s};
 use std::alloc::Global;
 
-/// A reply of the tool, with the parts of its body in the printed order (after SEMI E87; this tool's profile, messages). A
-/// part with a fixed value is no field.
+/// Why something that the host asks is refused (after SEMI E40 and E94; this tool's profile, messages).
+#[derive(Debug, Drop)]
+pub struct ErrorPart {
+    /// ERRCODE, the number of the cause.
+    pub code: u8,
+    /// ERRTEXT, the cause in words.
+    pub text: Text80,
+}
+
+/// Whether a command or a creation is taken, and why not (after SEMI E40; this tool's profile, messages).
+#[derive(Debug, Drop)]
+pub struct JobAcknowledge {
+    /// ACKA, true where it is taken.
+    pub ok: bool,
+    /// Why it is refused: none where it is taken.
+    pub errors: Listed<ErrorPart>,
+}
+
+/// Whether an object is created, and why not (after SEMI E94; this tool's profile, messages).
+#[derive(Debug, Drop)]
+pub struct ObjectAcknowledge {
+    /// OBJACK, 0 where it is created.
+    pub objack: u8,
+    /// Why it is refused: none where it is created.
+    pub errors: Listed<ErrorPart>,
+}
+
+/// A process job in a list of process jobs (after SEMI E40; this tool's profile, messages).
+#[derive(Debug, Drop)]
+pub struct JobState {
+    /// PRJOBID, the job.
+    pub job: Text80,
+    /// PRSTATE, the number of its state.
+    pub state: u8,
+}
+
+/// A reply of the tool, with the parts of its body in the printed order (after SEMI E87, E40 and E94; this tool's profile,
+/// messages). A part with a fixed value is no field.
 #[derive(Debug, Drop)]
 pub enum ShopReply {
     /// Carrier action acknowledge: CAACK, 0 where the action is taken.
@@ -21,15 +61,31 @@ pub enum ShopReply {
     S3F26(u8),
     /// Change access acknowledge: CAACK, 0 where the access is changed.
     S3F28(u8),
+    /// Create object acknowledge: OBJSPEC, and whether the object is created.
+    S14F10(Text80, ObjectAcknowledge),
+    /// Process job command acknowledge: PRJOBID as it was sent, and whether the command is taken.
+    S16F6(Text80, JobAcknowledge),
+    /// Process job creation acknowledge: PRJOBID as it was sent, and whether the job is created.
+    S16F12(Text80, JobAcknowledge),
+    /// Process job dequeue acknowledge: the PRJOBIDs that are taken off the queue, and whether the request is taken.
+    S16F18(Listed<Text80>, JobAcknowledge),
+    /// Process job list: each job with its state.
+    S16F20(Listed<JobState>),
+    /// Process job space: how many more jobs can be created.
+    S16F22(u16),
+    /// Control job command acknowledge: ACKA, true where the command is taken, and why it is refused.
+    S16F28(bool, Listed<ErrorPart>),
 }
 
-/// The item that is the text of the reply, as it is printed (after SEMI E87; this tool's profile, messages): a list of
-/// CAACK as U1 and of an empty list. Every reply can be encoded, and takes at most 2,147,483,648 bytes.
+/// The item that is the text of the reply, as it is printed (after SEMI E87, E40 and E94; this tool's profile, messages).
+///
+/// It can be encoded, and takes at most 2,147,483,648 bytes, where none of its lists of errors or jobs has more than 1,024
+/// parts.
 #[tactic(auto, using(body_parts::proofs::Bounds::short_text))]
 pub fn shop_item(alloc: Global, reply: &ShopReply) -> Result<Item, NoMemory>
     ensures exact { IfOk result (λ item. view item ≡ shop_reply_body reply.now) }
-    ensures sendable { IfOk result (λ item. IsSendable (view item)) }
-    ensures short { IfOk result (λ item. length (plain (view item)) ≤ 2 ^ 31) }
+    ensures sendable { HasSendableParts reply.now → IfOk result (λ item. IsSendable (view item)) }
+    ensures short { HasSendableParts reply.now → IfOk result (λ item. length (plain (view item)) ≤ 2 ^ 31) }
 {
     item_of(alloc, reply)
 }
@@ -37,12 +93,19 @@ pub fn shop_item(alloc: Global, reply: &ShopReply) -> Result<Item, NoMemory>
 // The same, within bounds.
 fn item_of(alloc: Global, reply: &ShopReply) -> Result<Item, NoMemory>
     ensures exact { IfOk result (λ item. view item ≡ shop_reply_body reply.now) }
-    ensures bounded { IfOk result (λ item. IsBounded 5 (2 ^ 31) (view item)) }
+    ensures bounded { HasSendableParts reply.now → IfOk result (λ item. IsBounded 5 (2 ^ 31) (view item)) }
 {
     match reply {
         ShopReply::S3F18(caack) => action_acknowledge(alloc, *caack),
         ShopReply::S3F26(caack) => action_acknowledge(alloc, *caack),
         ShopReply::S3F28(caack) => action_acknowledge(alloc, *caack),
+        ShopReply::S14F10(id, told) => object_created(alloc, id, told),
+        ShopReply::S16F6(job, told) => job_answered(alloc, job, told),
+        ShopReply::S16F12(job, told) => job_answered(alloc, job, told),
+        ShopReply::S16F18(jobs, told) => jobs_dequeued(alloc, jobs.as_slice(), told),
+        ShopReply::S16F20(jobs) => list_of(alloc, jobs.as_slice()),
+        ShopReply::S16F22(space) => u2(alloc, *space),
+        ShopReply::S16F28(ok, errors) => acknowledged(alloc, *ok, errors.as_slice()),
     }
 }
 
@@ -51,4 +114,125 @@ fn action_acknowledge(alloc: Global, caack: u8) -> Result<Item, NoMemory>
     ensures { IfOk result (λ item. view item ≡ action_acknowledge_data caack) }
 {
     list(alloc, [u1(alloc, caack)?, list(alloc, [])?])
+}
+
+// What the creation of an object is answered.
+fn object_created(alloc: Global, id: &Text80, told: &ObjectAcknowledge) -> Result<Item, NoMemory>
+    ensures exact { IfOk result (λ item. view item ≡ L (A id.now ∷ (L [] ∷ (object_acknowledge_data told.now ∷ [])))) }
+    ensures bounded { length told.now.errors ≤ 1024 → IfOk result (λ item. IsBounded 5 (2 ^ 31) (view item)) }
+{
+    let mut parts = Items::new(alloc);
+    parts.push(text(alloc, id)?)?;
+    parts.push(list(alloc, [])?)?;
+    parts.push(object_acknowledge(alloc, told)?)?;
+    Ok(Item::List(parts))
+}
+
+fn object_acknowledge(alloc: Global, told: &ObjectAcknowledge) -> Result<Item, NoMemory>
+    ensures exact { IfOk result (λ item. view item ≡ object_acknowledge_data told.now) }
+    ensures bounded { length told.now.errors ≤ 1024 → IfOk result (λ item. IsBounded 3 120000 (view item)) }
+{
+    let mut parts = Items::new(alloc);
+    parts.push(u1(alloc, told.objack)?)?;
+    parts.push(list_of(alloc, told.errors.as_slice())?)?;
+    Ok(Item::List(parts))
+}
+
+// What a command to a process job, or its creation, is answered.
+fn job_answered(alloc: Global, job: &Text80, told: &JobAcknowledge) -> Result<Item, NoMemory>
+    ensures exact { IfOk result (λ item. view item ≡ L (A job.now ∷ (job_acknowledge told.now ∷ []))) }
+    ensures bounded { length told.now.errors ≤ 1024 → IfOk result (λ item. IsBounded 5 (2 ^ 31) (view item)) }
+{
+    let mut parts = Items::new(alloc);
+    parts.push(text(alloc, job)?)?;
+    parts.push(acknowledged(alloc, told.ok, told.errors.as_slice())?)?;
+    Ok(Item::List(parts))
+}
+
+// What is answered where jobs are to be taken off the queue.
+fn jobs_dequeued(alloc: Global, jobs: &[Text80], told: &JobAcknowledge) -> Result<Item, NoMemory>
+    ensures exact { IfOk result (λ item. view item ≡ L (each A jobs.now ∷ (job_acknowledge told.now ∷ []))) }
+    ensures bounded { length jobs.now ≤ 1024 → length told.now.errors ≤ 1024 → IfOk result (λ item. IsBounded 5 (2 ^ 31) (view item)) }
+{
+    let mut parts = Items::new(alloc);
+    parts.push(list_of(alloc, jobs)?)?;
+    parts.push(acknowledged(alloc, told.ok, told.errors.as_slice())?)?;
+    Ok(Item::List(parts))
+}
+
+// Whether something is taken, and why not.
+fn acknowledged(alloc: Global, ok: bool, errors: &[ErrorPart]) -> Result<Item, NoMemory>
+    ensures exact { IfOk result (λ item. view item ≡ acknowledge_data ok errors.now) }
+    ensures bounded { length errors.now ≤ 1024 → IfOk result (λ item. IsBounded 3 120000 (view item)) }
+{
+    let mut parts = Items::new(alloc);
+    parts.push(truth(alloc, ok)?)?;
+    parts.push(list_of(alloc, errors)?)?;
+    Ok(Item::List(parts))
+}
+
+// A BOOL of one element.
+fn truth(alloc: Global, truth: bool) -> Result<Item, NoMemory>
+    ensures { IfOk result (λ item. view item ≡ BOOL truth) }
+{
+    Ok(Item::Bool(Bools::from_vec(vec![in alloc; truth]?)))
+}
+
+// A U2 of one element.
+fn u2(alloc: Global, number: u16) -> Result<Item, NoMemory>
+    ensures { IfOk result (λ item. view item ≡ U2 number) }
+{
+    Ok(Item::U2(U16s::from_vec(vec![in alloc; number]?)))
+}
+
+// A part of a reply that is an element of a list. Its texts are texts by their type, so it is within bounds.
+trait Printed {
+    // As what it is printed.
+    ghost body: { Self → Data };
+
+    fn item(&self, alloc: Global) -> Result<Item, NoMemory>
+        ensures exact { IfOk result (λ item. view item ≡ body self.now) }
+        ensures bounded { IfOk result (λ item. IsBounded 1 110 (view item)) };
+}
+
+impl Printed for Text80 {
+    ghost body = { A };
+
+    fn item(&self, alloc: Global) -> Result<Item, NoMemory> {
+        text(alloc, self)
+    }
+}
+
+impl Printed for ErrorPart {
+    ghost body = { error_part };
+
+    fn item(&self, alloc: Global) -> Result<Item, NoMemory> {
+        let mut parts = Items::new(alloc);
+        parts.push(u1(alloc, self.code)?)?;
+        parts.push(text(alloc, &self.text)?)?;
+        Ok(Item::List(parts))
+    }
+}
+
+impl Printed for JobState {
+    ghost body = { job_state };
+
+    fn item(&self, alloc: Global) -> Result<Item, NoMemory> {
+        let mut parts = Items::new(alloc);
+        parts.push(text(alloc, &self.job)?)?;
+        parts.push(u1(alloc, self.state)?)?;
+        Ok(Item::List(parts))
+    }
+}
+
+// A list of an item for each part.
+fn list_of<T: Printed>(alloc: Global, parts: &[T]) -> Result<Item, NoMemory>
+    ensures exact { IfOk result (λ item. view item ≡ each T.body parts.now) }
+    ensures bounded { length parts.now ≤ 1024 → IfOk result (λ item. IsBounded 2 112644 (view item)) }
+{
+    let mut items = Items::new(alloc);
+    for part in parts {
+        items.push(part.item(alloc)?)?;
+    }
+    Ok(Item::List(items))
 }

@@ -5,6 +5,7 @@ use carrier_subjects::{CarrierStates, KnownCarriers};
 use control_job_subjects::{ControlStates, KeptJobs};
 use conversation_files::Line;
 use floor_subjects::{Floor, PortStates, ToolPorts};
+use job_request_subjects::JobRequests;
 use job_subjects::ToolJobs;
 use line_subjects::{ItemTexts, LineTexts};
 use link_subjects::{Communicates, Controls, Linked, Reads, Table};
@@ -87,6 +88,7 @@ fn play_jobs(alloc: Global, begins: &str, lines: &[Line<'_>]) -> Result<Option<S
         "to the states of a control job" => answers(alloc, &mut ControlStates, lines),
         "to control jobs" => answers(alloc, &mut KeptJobs::new(alloc)?, lines),
         "to the jobs of a tool" => answers(alloc, &mut ToolJobs::new(alloc)?, lines),
+        "to what is asked of jobs" => answers(alloc, &mut JobRequests::new(alloc)?, lines),
         _ => match begins.strip_prefix("to process jobs of ") {
             Some(recipes) => answers(alloc, &mut JobsOf::named(alloc, recipes)?, lines),
             None => bail!("there is no such subject"),

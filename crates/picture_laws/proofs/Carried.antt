@@ -13,6 +13,7 @@ use Rattle.floor_moves.specs.Floor.{idle}
 use Rattle.floor_moves.specs.Effects.{moved as moved_by_numbers}
 use Rattle.floor_moves.specs.Agree.{Agree}
 use Rattle.place_laws.specs.Picture.{picture, loc_of, module_of, of_one}
+use Rattle.picture_laws.proofs.JobViews.{alike_same}
 use Rattle.picture_laws.proofs.Columns.{unknown_none}
 use Rattle.picture_laws.proofs.Closing.{modules_behind}
 use Rattle.picture_laws.proofs.Moving.{moved_among, same_module}
@@ -35,7 +36,7 @@ moving_agrees m change x sub to found f places known here is = record {
   present_at = λ c. refl;
   is_verified = λ c _. refl;
   access = λ c _. refl;
-  jobs = refl;
+  jobs = alike_same _ _;
   chambers = refl;
   equipment = λ k. same_module sub to f.places (module_at k (change_module m change f.modules)) ∙ modules_behind m change x idle f here (ap (λ (y : Module). module_of (Some y) f.places) is) k;
   next_command = refl;

@@ -12,6 +12,7 @@ use Rattle.floor_moves.specs.Floor.{Module as ByNumber, set}
 use Rattle.floor_moves.specs.Effects.{turned}
 use Rattle.floor_moves.specs.Agree.{Agree}
 use Rattle.place_laws.specs.Picture.{picture, module_of, of_one}
+use Rattle.picture_laws.proofs.JobViews.{alike_same, substrates_alike}
 use Rattle.picture_laws.proofs.Columns.{unknown_none, numbers_same, says_same, says_new}
 use Rattle.picture_laws.proofs.Issuing.{changed_there, changed_else}
 
@@ -44,7 +45,7 @@ module _ (m : ℕ) (change : Module → Module) (x : Module) (state : ByNumber) 
     present_at = λ c. refl;
     is_verified = λ c _. refl;
     access = λ c _. refl;
-    jobs = refl;
+    jobs = alike_same _ _;
     chambers = refl;
     equipment = modules_behind here is;
     next_command = refl;
@@ -68,7 +69,7 @@ module _ (m : ℕ) (change : Module → Module) (x : Module) (state : ByNumber) 
     present_at = λ c. refl;
     is_verified = λ c _. refl;
     access = λ c _. refl;
-    jobs = refl;
+    jobs = substrates_alike _ f.jobs f.shop.carriers f.substrates _ (λ B else_ says k. says_same n aligned (λ s. refl) else_ (λ s. says s.job) (λ s. refl) k f.substrates);
     chambers = refl;
     equipment = modules_behind here is;
     next_command = refl;

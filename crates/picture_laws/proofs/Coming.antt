@@ -17,6 +17,7 @@ use Rattle.floor_moves.specs.Effects.{accessed}
 use Rattle.floor_moves.specs.Agree.{Agree}
 use Rattle.place_laws.specs.Picture.{picture, where_present, of_one}
 use Rattle.place_laws.proofs.Appended.{numbers_on, says_on}
+use Rattle.picture_laws.proofs.JobViews.{carriers_alike}
 use Rattle.picture_laws.proofs.Columns.{unknown_none}
 use Rattle.picture_laws.proofs.CarrierColumns.{none_next, numbers_kept, says_changed, says_kept, numbers_named, says_named, says_named_same}
 
@@ -48,11 +49,20 @@ module _ (f : ToolFloor) where
         present_at = λ c. says_on carrier_number None where_present f.shop.carriers new _ refl none c;
         is_verified = λ c _. says_on carrier_number false (λ (x : Carrier). is_map_verified x.states.map) f.shop.carriers new _ refl none c;
         access = λ c _. says_on carrier_number 0 (λ (x : Carrier). access_number x.states.access) f.shop.carriers new _ refl none c;
-        jobs = refl;
+        jobs = carriers_alike _ f.jobs f.substrates f.shop.carriers _
+            (λ says c p here. kept (λ (x : Carrier). says x.name) c p here)
+            (λ c p here. kept (λ (x : Carrier). x.stopped) c p here);
         chambers = refl;
         equipment = λ m. refl;
         next_command = refl;
-      }
+      } where
+        -- one that is present was there before
+        kept : (says : Carrier → Bool) (c p : ℕ) → (created f.shop.next_carrier (picture f)).present_at c ≡ Some p
+            → of_one false says (carrier_numbered c (with_created f.shop.next_carrier name f.shop.carriers)) ≡ of_one false says (carrier_numbered c f.shop.carriers)
+        kept says c p here = says_on carrier_number false says f.shop.carriers (new_carrier f.shop.next_carrier name) _ refl (none_next 1 f.shop.next_carrier f.shop.carriers valid.rising) c ∙ of (c == f.shop.next_carrier) here where
+          of : (b : Bool) → (if b then None else (picture f).present_at c) ≡ Some p → (if b then says (new_carrier f.shop.next_carrier name) else of_one false says (carrier_numbered c f.shop.carriers)) ≡ of_one false says (carrier_numbered c f.shop.carriers)
+          of true e = absurd (cc)
+          of false e = refl
 
   -- ---- present at a port
 
@@ -73,7 +83,9 @@ module _ (f : ToolFloor) where
     present_at = λ c. says_named name (came_to port is_read slots) (λ x. refl) None where_present d c f.shop.carriers valid.apart named own;
     is_verified = λ c _. says_named_same name (came_to port is_read slots) (λ x. refl) false (λ (x : Carrier). is_map_verified x.states.map) (λ x. refl) c f.shop.carriers;
     access = λ c _. says_named_same name (came_to port is_read slots) (λ x. refl) 0 (λ (x : Carrier). access_number x.states.access) (λ x. refl) c f.shop.carriers;
-    jobs = refl;
+    jobs = carriers_alike _ f.jobs f.substrates f.shop.carriers _
+        (λ says c p here. says_named_same name (came_to port is_read slots) (λ x. refl) false (λ (x : Carrier). says x.name) (λ x. refl) c f.shop.carriers)
+        (λ c p here. says_named_same name (came_to port is_read slots) (λ x. refl) false (λ (x : Carrier). x.stopped) (λ x. refl) c f.shop.carriers);
     chambers = refl;
     equipment = λ m. refl;
     next_command = refl;
@@ -97,7 +109,9 @@ module _ (f : ToolFloor) where
     present_at = λ k. says_kept n (carriers.fires_row 9 row) (λ x. refl) None where_present (λ x. refl) k f.shop.carriers;
     is_verified = λ k _. says_changed n (carriers.fires_row 9 row) (λ x. refl) false (λ (x : Carrier). is_map_verified x.states.map) c k f.shop.carriers there ∙ ap (λ (b : Bool). if k == n then b else of_one false (λ (x : Carrier). is_map_verified x.states.map) (carrier_numbered k f.shop.carriers)) becomes;
     access = λ k _. says_kept n (carriers.fires_row 9 row) (λ x. refl) 0 (λ (x : Carrier). access_number x.states.access) (λ x. refl) k f.shop.carriers;
-    jobs = refl;
+    jobs = carriers_alike _ f.jobs f.substrates f.shop.carriers _
+        (λ says c p here. says_kept n (carriers.fires_row 9 row) (λ x. refl) false (λ (x : Carrier). says x.name) (λ x. refl) c f.shop.carriers)
+        (λ c p here. says_kept n (carriers.fires_row 9 row) (λ x. refl) false (λ (x : Carrier). x.stopped) (λ x. refl) c f.shop.carriers);
     chambers = refl;
     equipment = λ m. refl;
     next_command = refl;
@@ -121,7 +135,9 @@ module _ (f : ToolFloor) where
     present_at = λ k. says_kept n (carriers.fires_row 10 row) (λ x. refl) None where_present (λ x. refl) k f.shop.carriers;
     is_verified = λ k _. says_kept n (carriers.fires_row 10 row) (λ x. refl) false (λ (x : Carrier). is_map_verified x.states.map) (λ x. refl) k f.shop.carriers;
     access = λ k _. says_changed n (carriers.fires_row 10 row) (λ x. refl) 0 (λ (x : Carrier). access_number x.states.access) c k f.shop.carriers there ∙ ap (λ (m : ℕ). if k == n then m else of_one 0 (λ (x : Carrier). access_number x.states.access) (carrier_numbered k f.shop.carriers)) becomes;
-    jobs = refl;
+    jobs = carriers_alike _ f.jobs f.substrates f.shop.carriers _
+        (λ says c p here. says_kept n (carriers.fires_row 10 row) (λ x. refl) false (λ (x : Carrier). says x.name) (λ x. refl) c f.shop.carriers)
+        (λ c p here. says_kept n (carriers.fires_row 10 row) (λ x. refl) false (λ (x : Carrier). x.stopped) (λ x. refl) c f.shop.carriers);
     chambers = refl;
     equipment = λ m. refl;
     next_command = refl;

@@ -14,6 +14,7 @@ use Rattle.floor_moves.specs.Floor.{busy}
 use Rattle.floor_moves.specs.Effects.{issued}
 use Rattle.floor_moves.specs.Agree.{Agree}
 use Rattle.place_laws.specs.Picture.{picture, module_of, task_of, of_one}
+use Rattle.picture_laws.proofs.JobViews.{alike_same}
 use Rattle.picture_laws.proofs.Columns.{unknown_none}
 
 abbrev IsOne : ℕ → Type 0
@@ -58,7 +59,7 @@ module _ (m : ℕ) (move : Move) (f : ToolFloor) where
     present_at = λ c. refl;
     is_verified = λ c _. refl;
     access = λ c _. refl;
-    jobs = refl;
+    jobs = alike_same _ _;
     chambers = refl;
     equipment = λ k. by k (k == m) refl;
     next_command = refl;

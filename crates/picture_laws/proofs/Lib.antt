@@ -1,12 +1,13 @@
-mod Opening
-mod Columns
-mod Rows
-mod Registering
-mod Issuing
-mod Closing
-mod Moving
-mod Carried
-mod Losing
-mod Lost
-mod CarrierColumns
-mod Coming
+pub mod Opening
+pub mod Columns
+pub mod Rows
+pub mod Registering
+pub mod Issuing
+pub mod Closing
+pub mod Moving
+pub mod Carried
+pub mod Losing
+pub mod Lost
+pub mod CarrierColumns
+pub mod Coming
+pub mod JobViews

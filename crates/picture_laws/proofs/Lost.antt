@@ -52,7 +52,7 @@ module _ (n : ℕ) (s : Substrate) (found : Registered) (f : ToolFloor) where
         present_at = λ c. refl;
         is_verified = λ c _. refl;
         access = λ c _. refl;
-        jobs = refl;
+        jobs = a.jobs;
         chambers = refl;
         equipment = modules;
         next_command = refl;

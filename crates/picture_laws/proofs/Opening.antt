@@ -37,7 +37,16 @@ module _ (ports chambers : ℕ) (recipes : List Recipe) where
     present_at = λ c. refl;
     is_verified = λ c e. refl;
     access = λ c e. refl;
-    jobs = refl;
+    jobs = record {
+      is_member = λ n. refl;
+      may_start = λ n. refl;
+      is_stopping = λ n. refl;
+      is_aborting = λ n. refl;
+      is_complete = λ n. refl;
+      chambers_of = λ n. refl;
+      names_carrier = λ c p here. refl;
+      is_marked = λ c p here. refl;
+    };
     chambers = refl;
     equipment = all_idle;
     next_command = refl;

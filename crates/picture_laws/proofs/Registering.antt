@@ -1,5 +1,6 @@
 -- A registration does to the floor by numbers what the laws have.
-use Rattle.std.proofs.Common.{◌≡◌, ℕ, ◌+◌, ◌==◌, Bool, true, false, if◌then◌else◌, List, [], ◌∷◌, ◌++◌, find, map, Option, Some, None, option_map, refl, sym, ◌∙◌, ap, arith}
+use Rattle.std.proofs.Common.{◌≡◌, ℕ, ◌+◌, ◌==◌, Bool, true, false, if◌then◌else◌, List, [], ◌∷◌, ◌++◌, find, map, Option, Some, None, option_map, refl, sym, ◌∙◌, ap, subst, arith}
+use Rattle.std.proofs.lemmas.Bool.Decides.{Decides-eqb}
 use Rattle.gem_tables.specs.Table.{is_one_of}
 use Rattle.gem_ids.specs.declared.numbers.LocId.TheVariants.{Slot}
 use Rattle.gem_ids.specs.declared.numbers.PortNo.{PortNo}
@@ -14,7 +15,10 @@ use Rattle.tool_floor.specs.Substrates.{first_substrate}
 use Rattle.floor_moves.specs.Floor.{Loc}
 use Rattle.floor_moves.specs.Carriers.{registered}
 use Rattle.floor_moves.specs.Agree.{Agree}
-use Rattle.place_laws.specs.Picture.{picture, loc_of, place_in, module_of, of_one}
+use Rattle.process_job.specs.Jobs.{job_numbered, recipe_named}
+use Rattle.process_job.specs.declared.job.ProcessJob.{ProcessJob}
+use Rattle.tool_floor.specs.Jobs.{is_processing, is_stopping, is_aborting}
+use Rattle.place_laws.specs.Picture.{picture, loc_of, place_in, module_of, of_one, of_job, is_complete, chambers_in}
 use Rattle.picture_laws.proofs.Columns.{unknown_none}
 use Rattle.place_laws.proofs.Appended.{numbers_on, says_on, none_of_front}
 
@@ -43,9 +47,10 @@ module _ (sub : List ℕ) (carrier : ℕ) (port : PortNo) (slot : SlotNo) (f : T
   pub registering_agrees :
       is_one_of (map number_of f.substrates) (f.places.given + 1) ≡ false
       → is_one_of (map (λ (r : Registered). r.number) f.places.held) (f.places.given + 1) ≡ false
+      → job_numbered 0 f.jobs.process.kept ≡ None
       → ((m : ℕ) → module_of (module_at m f.modules) (registered_there sub (Slot port slot) f.places) ≡ module_of (module_at m f.modules) f.places)
       → Agree (registered carrier port.0 slot.0 (picture f)) (picture behind)
-  registering_agrees none unplaced modules = record {
+  registering_agrees none unplaced no_job modules = record {
     substrates = numbers_on number_of f.substrates new;
     next_substrate = refl;
     carrier_of = λ k _. says_on number_of 0 _ f.substrates new _ refl none k;
@@ -59,11 +64,29 @@ module _ (sub : List ℕ) (carrier : ℕ) (port : PortNo) (slot : SlotNo) (f : T
     present_at = λ c. refl;
     is_verified = λ c _. refl;
     access = λ c _. refl;
-    jobs = refl;
+    jobs = record {
+      is_member = λ k. in_none false (λ j. true) k;
+      may_start = λ k. in_none false (λ j. is_processing j.states.state) k;
+      is_stopping = λ k. in_none false (λ j. is_stopping j.states.state) k;
+      is_aborting = λ k. in_none false (λ j. is_aborting j.states.state) k;
+      is_complete = λ k. in_none false (λ j. is_complete j.states.state) k;
+      chambers_of = λ k. in_none [] (λ j. chambers_in (recipe_named j.recipe f.jobs.process.recipes)) k;
+      names_carrier = λ c p here. refl;
+      is_marked = λ c p here. refl;
+    };
     chambers = refl;
     equipment = modules;
     next_command = refl;
   } where
+    -- the new one is in no job
+    in_none : {B : Type 0} (else_ : B) (says : ProcessJob → B) (k : ℕ) → of_one else_ (of_job else_ says f.jobs) (substrate_numbered k (f.substrates ++ new ∷ [])) ≡ of_one else_ (of_job else_ says f.jobs) (substrate_numbered k f.substrates)
+    in_none else_ says k = says_on number_of else_ (of_job else_ says f.jobs) f.substrates new _ refl none k ∙ by (k == f.places.given + 1) refl where
+      by : (b : Bool) → (k == f.places.given + 1) ≡ b → (if b then of_job else_ says f.jobs new else of_one else_ (of_job else_ says f.jobs) (substrate_numbered k f.substrates)) ≡ of_one else_ (of_job else_ says f.jobs) (substrate_numbered k f.substrates)
+      by true e =
+          let gone : substrate_numbered k f.substrates ≡ None = subst (λ (m : ℕ). substrate_numbered m f.substrates ≡ None) (sym ((Decides-eqb k (f.places.given + 1)).0 e)) (unknown_none (f.places.given + 1) f.substrates none) in
+          ap (of_one else_ says) no_job ∙ sym (ap (of_one else_ (of_job else_ says f.jobs)) gone)
+      by false e = refl
+
     place : (k : ℕ) → place_in (registered_there sub (Slot port slot) f.places) k ≡ (if k == f.places.given + 1 then Some (loc_of (Slot port slot)) else place_in f.places k)
     place k =
         of_place (find (λ (r : Registered). r.number == k) (f.places.held ++ new_place ∷ []))

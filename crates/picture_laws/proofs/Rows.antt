@@ -11,6 +11,7 @@ use Rattle.floor_moves.specs.Agree.{Agree}
 use Rattle.floor_moves.specs.Valid.{Valid}
 use Rattle.floor_moves.proofs.Agreeing.{agree-keeps}
 use Rattle.place_laws.specs.Picture.{picture, of_one}
+use Rattle.picture_laws.proofs.JobViews.{substrates_alike}
 use Rattle.picture_laws.proofs.Columns.{unknown_none, numbers_same, says_same, says_new}
 
 -- the number of the state of processing behind a row
@@ -40,7 +41,7 @@ module _ (f : ToolFloor) (n row : ℕ) where
     present_at = λ c. refl;
     is_verified = λ c _. refl;
     access = λ c _. refl;
-    jobs = refl;
+    jobs = substrates_alike _ f.jobs f.shop.carriers f.substrates _ (λ B else_ says k. says_same n (substrate_moves 12 row) (λ s. refl) else_ (λ s. says s.job) (λ s. refl) k f.substrates);
     chambers = refl;
     equipment = λ m. refl;
     next_command = refl;
@@ -67,7 +68,7 @@ module _ (f : ToolFloor) (n row : ℕ) where
     present_at = λ c. refl;
     is_verified = λ c _. refl;
     access = λ c _. refl;
-    jobs = refl;
+    jobs = substrates_alike _ f.jobs f.shop.carriers f.substrates _ (λ B else_ says k. says_same n (substrate_moves 13 row) (λ s. refl) else_ (λ s. says s.job) (λ s. refl) k f.substrates);
     chambers = refl;
     equipment = λ m. refl;
     next_command = refl;

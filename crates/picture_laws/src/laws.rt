@@ -1,6 +1,6 @@
 //! Laws of the floor of the tool by numbers, for proofs to cite. Each function is empty: what it ensures holds of the definitions.
 
-ghost use Rattle.std.specs.Prelude.{◌≡◌, ℕ, ◌+◌, Bool, true, false, List, [], ◌∷◌, ◌++◌, map, Some};
+ghost use Rattle.std.specs.Prelude.{◌≡◌, ℕ, ◌+◌, Bool, true, false, List, [], ◌∷◌, ◌++◌, map, Some, None};
 ghost use Rattle.gem_tables.specs.Table.{firing, after, is_one_of};
 ghost use Rattle.gem_ids.specs.declared.numbers.LocId.TheVariants.{Slot};
 ghost use Rattle.gem_ids.specs.declared.numbers.PortNo.{PortNo};
@@ -12,6 +12,7 @@ ghost use Rattle.carrier.specs.Record.{is_map_verified};
 ghost use Rattle.carrier.specs.Carriers.{carrier_named, carrier_numbered, change_named, change_numbered as carriers_changed, with_created, came_to, fires_row};
 ghost use Rattle.shop_floor.specs.Floor.{floor_of};
 ghost use Rattle.shop_floor.specs.Valid.{IsFloor};
+ghost use Rattle.process_job.specs.Jobs.{job_numbered};
 ghost use Rattle.robot_moves.specs.Modules.{module_at};
 ghost use Rattle.robot_moves.specs.declared.module.Module.{Module};
 ghost use Rattle.robot_moves.specs.declared.module.Module.TheVariants.{Idle};
@@ -50,12 +51,13 @@ pub fn rows_of_one_substrate_do_what_the_laws_have()
         (picture (with_moved 13 row n f)) }
 {}
 
-/// A registration does to the floor by numbers what the laws of the moves have: where no substrate has its number yet, and what the
-/// modules have open names the same substrates as before.
+/// A registration does to the floor by numbers what the laws of the moves have: where no substrate has its number yet, no process job
+/// has number 0, and what the modules have open names the same substrates as before.
 pub fn a_registration_does_what_the_laws_have()
     ensures { (sub : List ℕ) (carrier : ℕ) (port : PortNo) (slot : SlotNo) (f : ToolFloor)
         → is_one_of (map number_of f.substrates) (f.places.given + 1) ≡ false
         → is_one_of (map (λ (r : Registered). r.number) f.places.held) (f.places.given + 1) ≡ false
+        → job_numbered 0 f.jobs.process.kept ≡ None
         → ((m : ℕ) → module_of (module_at m f.modules) (registered_there sub (Slot port slot) f.places)
         ≡ module_of (module_at m f.modules) f.places)
         → Agree (registered carrier port.0 slot.0 (picture f))

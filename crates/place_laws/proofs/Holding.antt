@@ -1,5 +1,5 @@
--- What holds at every moment holds of the floor of the tool, where each substrate is in its own slot and no command is open.
-use Rattle.std.proofs.Common.{◌≡◌, ◌≤◌, ℕ, zero, suc, ◌==◌, Bool, true, false, ◌&&◌, ◌||◌, if◌then◌else◌, List, [], ◌∷◌, find, map, Option, Some, None, option_map, slice_get, refl, sym, ◌∙◌, ap, subst, arith}
+-- Substrates and carriers that are found by their numbers, and numbers and slots that differ.
+use Rattle.std.proofs.Common.{◌≡◌, ◌≤◌, ℕ, ◌==◌, Bool, true, false, ◌&&◌, ◌||◌, if◌then◌else◌, List, [], ◌∷◌, find, map, Option, Some, None, refl, sym, ◌∙◌, ap, subst, arith}
 use Rattle.std.specs.List.{AllByRecursion}
 use Rattle.std.proofs.lemmas.Bool.{or_from}
 use Rattle.std.proofs.lemmas.Bool.Decides.{Decides-eqb}
@@ -8,29 +8,20 @@ use Rattle.gem_ids.specs.declared.numbers.LocId.{LocId}
 use Rattle.gem_ids.specs.declared.numbers.LocId.TheVariants.{Slot}
 use Rattle.gem_ids.specs.declared.numbers.PortNo.{PortNo}
 use Rattle.gem_ids.specs.declared.numbers.SlotNo.{SlotNo}
-use Rattle.robot_moves.specs.declared.module.Module.{Module as ToolModule}
-use Rattle.robot_moves.specs.declared.module.Module.TheVariants.{Idle, Busy, Down}
 use Rattle.carrier.specs.declared.carrier.Carrier.{Carrier}
-use Rattle.carrier.specs.Record.{is_map_verified}
 use Rattle.carrier.specs.Carriers.{carrier_numbered, is_port, is_present_at}
-use Rattle.shop_floor.specs.Floor as shop
-use Rattle.shop_floor.specs.Valid.{IsFloor}
 use Rattle.shop_floor.proofs.Apart.{found_passes}
-use Rattle.shop_floor.proofs.Belonging.{all_at}
-use Rattle.shop_floor.proofs.Present.{one_number}
 use Rattle.substrate.specs.Tables.{processing_number}
-use Rattle.substrate.specs.Places.{PlaceMap}
 use Rattle.substrate.specs.Record.{is_in_process}
 use Rattle.substrate.specs.declared.record.Processing.{Processing}
 use Rattle.substrate.specs.declared.record.Processing.TheVariants as processing
-use Rattle.substrate.specs.declared.registered.Registered.{Registered}
 use Rattle.tool_floor.specs.declared.tracking.Substrate.{Substrate}
 use Rattle.tool_floor.specs.Floor.{ToolFloor, substrate_numbered, number_of}
 use Rattle.tool_floor.specs.Kept.{RiseTo}
-use Rattle.floor_moves.specs.Floor.{Loc, slot, chamber, Command, busy, own, is_outside}
-use Rattle.floor_moves.specs.Valid.{IsDistinct, Places, Carriers, Commands, Members, Valid}
-use Rattle.place_laws.specs.Picture.{picture, loc_of, port_in, slot_in, port_number, where_present, module_of, of_one}
-use Rattle.place_laws.specs.Standing.{IsOf, IsCarried, AreApart, in_its_slot, IsFree, Standing}
+use Rattle.floor_moves.specs.Floor.{slot, own}
+use Rattle.floor_moves.specs.Valid.{IsDistinct}
+use Rattle.place_laws.specs.Picture.{picture, loc_of, port_in, slot_in, port_number, where_present, of_one}
+use Rattle.place_laws.specs.Standing.{IsOf, IsCarried, AreApart}
 
 abbrev IsOne : ℕ → Type 0
 IsOne k = k ≡ 1
@@ -69,12 +60,12 @@ module _ {A : Type 0} (number : A → ℕ) (n : ℕ) where
 -- ---- numbers that rise
 
 -- the last number is not past what was given
-last_given : (last given : ℕ) (ss : List Substrate) → RiseTo last given ss → last ≤ given
+pub last_given : (last given : ℕ) (ss : List Substrate) → RiseTo last given ss → last ≤ given
 last_given last given [] rising = rising
 last_given last given (s ∷ ss) rising = let more = rising.0 in let rest = last_given s.number given ss rising.1 in omega (arith, more, rest)
 
 -- none has a number that is not past the last one before
-none_before : (last given : ℕ) (ss : List Substrate) (n : ℕ) → RiseTo last given ss → n ≤ last → is_one_of (map number_of ss) n ≡ false
+pub none_before : (last given : ℕ) (ss : List Substrate) (n : ℕ) → RiseTo last given ss → n ≤ last → is_one_of (map number_of ss) n ≡ false
 none_before last given [] n rising less = refl
 none_before last given (s ∷ ss) n rising less = or_from (s.number == n) (is_one_of (map number_of ss) n) (other (s.number == n) refl) (let more = rising.0 in none_before s.number given ss n rising.1 (omega (arith, less, more))) where
   other : (b : Bool) → (s.number == n) ≡ b → (s.number == n) ≡ false
@@ -82,12 +73,12 @@ none_before last given (s ∷ ss) n rising less = or_from (s.number == n) (is_on
   other false e = e
 
 -- no number is there twice
-rising_distinct : (last given : ℕ) (ss : List Substrate) → RiseTo last given ss → IsDistinct (map number_of ss)
+pub rising_distinct : (last given : ℕ) (ss : List Substrate) → RiseTo last given ss → IsDistinct (map number_of ss)
 rising_distinct last given [] rising = tt
 rising_distinct last given (s ∷ ss) rising = (none_before s.number given ss s.number rising.1 (omega arith), rising_distinct s.number given ss rising.1)
 
 -- none is past what was given
-rising_given : (last given : ℕ) (ss : List Substrate) (n : ℕ) → RiseTo last given ss → is_one_of (map number_of ss) n ≡ true → n ≤ given
+pub rising_given : (last given : ℕ) (ss : List Substrate) (n : ℕ) → RiseTo last given ss → is_one_of (map number_of ss) n ≡ true → n ≤ given
 rising_given last given [] n rising e = absurd (cc)
 rising_given last given (s ∷ ss) n rising e = of (s.number == n) refl e (rising_given s.number given ss n rising.1) where
   of : (b : Bool) → (s.number == n) ≡ b → (b || is_one_of (map number_of ss) n) ≡ true → (is_one_of (map number_of ss) n ≡ true → n ≤ given) → n ≤ given
@@ -97,7 +88,7 @@ rising_given last given (s ∷ ss) n rising e = of (s.number == n) refl e (risin
 -- ---- slots
 
 -- of two that are found, one has the slot of the other only where they are one
-one_of_slot : (n m : ℕ) (ss : List Substrate) (s t : Substrate) → AreApart ss → substrate_numbered n ss ≡ Some s → substrate_numbered m ss ≡ Some t → s.slot ≡ t.slot → s ≡ t
+pub one_of_slot : (n m : ℕ) (ss : List Substrate) (s t : Substrate) → AreApart ss → substrate_numbered n ss ≡ Some s → substrate_numbered m ss ≡ Some t → s.slot ≡ t.slot → s ≡ t
 one_of_slot n m [] s t apart e f same = absurd (cc)
 one_of_slot n m (x ∷ xs) s t apart e f same = of (x.number == n) (x.number == m) e f (λ g h. one_of_slot n m xs s t apart.1 g h same) where
   of : (b c : Bool) → (if b then Some x else substrate_numbered n xs) ≡ Some s → (if c then Some x else substrate_numbered m xs) ≡ Some t → (substrate_numbered n xs ≡ Some s → substrate_numbered m xs ≡ Some t → s ≡ t) → s ≡ t
@@ -111,44 +102,27 @@ one_of_slot n m (x ∷ xs) s t apart e f same = of (x.number == n) (x.number == 
   of false false e f rest = rest e f
 
 -- where places are those of slots, the slots are the same where the places are
-same_slot : (a b : LocId) (p q : PortNo) (k l : SlotNo) → a ≡ Slot p k → b ≡ Slot q l → loc_of a ≡ loc_of b → a ≡ b
+pub same_slot : (a b : LocId) (p q : PortNo) (k l : SlotNo) → a ≡ Slot p k → b ≡ Slot q l → loc_of a ≡ loc_of b → a ≡ b
 same_slot a b p q k l e f same =
     let places : slot p.0 k.0 ≡ slot q.0 l.0 = sym (ap loc_of e) ∙ same ∙ ap loc_of f in
     let port : p ≡ q = ap (λ (n : ℕ). record { 0 = n }) (let n : p.0 ≡ q.0 = cc in n) in
     let number : k ≡ l = ap (λ (n : ℕ). record { 0 = n }) (let n : k.0 ≡ l.0 = cc in n) in
     e ∙ ap (λ (x : PortNo). Slot x k) port ∙ ap (λ (x : SlotNo). Slot q x) number ∙ sym f
 
--- ---- places
-
--- the place of a number is the slot of the substrate of that number
-place_found : (n : ℕ) (ss : List Substrate) → option_map (λ (r : Registered). loc_of r.at) (find (λ (r : Registered). r.number == n) (map in_its_slot ss)) ≡ option_map (λ (s : Substrate). loc_of s.slot) (substrate_numbered n ss)
-place_found n [] = refl
-place_found n (s ∷ ss) = of (s.number == n) (place_found n ss) where
-  of : (b : Bool) → option_map (λ (r : Registered). loc_of r.at) (find (λ (r : Registered). r.number == n) (map in_its_slot ss)) ≡ option_map (λ (t : Substrate). loc_of t.slot) (substrate_numbered n ss)
-      → option_map (λ (r : Registered). loc_of r.at) (if b then Some (in_its_slot s) else find (λ (r : Registered). r.number == n) (map in_its_slot ss)) ≡ option_map (λ (t : Substrate). loc_of t.slot) (if b then Some s else substrate_numbered n ss)
-  of true rest = refl
-  of false rest = rest
-
 -- ---- carriers
 
 -- a carrier that is present at a port is present there
-present_there : (c : Carrier) (p : ℕ) → where_present c ≡ Some p → is_present_at p c ≡ true
+pub present_there : (c : Carrier) (p : ℕ) → where_present c ≡ Some p → is_present_at p c ≡ true
 present_there c p e = of c.present c.port e where
   of : (b : Bool) (o : Option PortNo) → (if b then port_number o else None) ≡ Some p → (b && is_port p o) ≡ true
   of true (Some n) e = let same : n.0 ≡ p = cc in (Decides-eqb n.0 p).1 same
   of true None e = absurd (cc)
   of false o e = absurd (cc)
 
--- ---- modules and work
-
--- a module that is free is not Busy
-not_busy : (x : ToolModule) (p : PlaceMap) (c : Command) → IsFree x → module_of (Some x) p ≡ busy c → ⊥
-not_busy Idle p c free e = cc
-not_busy (Busy command fetched) p c free e = free
-not_busy Down p c free e = cc
+-- ---- work
 
 -- a state of the number of IN PROCESS is IN PROCESS
-not_in_process : (p : Processing) → is_in_process p ≡ false → processing_number p ≡ 1 → ⊥
+pub not_in_process : (p : Processing) → is_in_process p ≡ false → processing_number p ≡ 1 → ⊥
 not_in_process processing.NeedsProcessing e one = let z : IsOne 0 = one in omega (arith, z)
 not_in_process processing.InProcess e one = cc
 not_in_process processing.Processed e one = let z : IsOne 2 = one in omega (arith, z)
@@ -191,142 +165,18 @@ module _ (f : ToolFloor) where
   own_slot n h = ap (of_one 0 (λ (s : Substrate). slot_in s.slot)) h.found ∙ ap slot_in h.of.own
 
   -- what is said of its carrier
-  its_carrier : {B : Type 0} (else_ : B) (says : Carrier → B) (n : ℕ) (h : IsThere f n) → of_one else_ says (carrier_numbered ((picture f).carrier_of n) f.shop.carriers) ≡ says h.its
+  pub its_carrier : {B : Type 0} (else_ : B) (says : Carrier → B) (n : ℕ) (h : IsThere f n) → of_one else_ says (carrier_numbered ((picture f).carrier_of n) f.shop.carriers) ≡ says h.its
   its_carrier else_ says n h =
       ap (λ (c : ℕ). of_one else_ says (carrier_numbered c f.shop.carriers)) (ap (of_one 0 (λ (s : Substrate). s.carrier)) h.found)
       ∙ ap (of_one else_ says) h.known
 
   -- its carrier is present at the port of its slot
-  its_port : (n : ℕ) (h : IsThere f n) → where_present h.its ≡ Some h.of.port.0
+  pub its_port : (n : ℕ) (h : IsThere f n) → where_present h.its ≡ Some h.of.port.0
   its_port n h = ap (λ (b : Bool). if b then port_number h.its.port else None) h.of.present ∙ ap port_number h.of.at
 
   -- who is present at a port
-  present_tells : (c p : ℕ) → (picture f).present_at c ≡ Some p → (x : Carrier) × (carrier_numbered c f.shop.carriers ≡ Some x) × (is_present_at p x ≡ true)
+  pub present_tells : (c p : ℕ) → (picture f).present_at c ≡ Some p → (x : Carrier) × (carrier_numbered c f.shop.carriers ≡ Some x) × (is_present_at p x ≡ true)
   present_tells c p e = of (carrier_numbered c f.shop.carriers) refl e where
     of : (o : Option Carrier) → carrier_numbered c f.shop.carriers ≡ o → of_one None where_present o ≡ Some p → (x : Carrier) × (carrier_numbered c f.shop.carriers ≡ Some x) × (is_present_at p x ≡ true)
     of None q e = absurd (cc)
     of (Some x) q e = (x, q, present_there x p e)
-
-  -- no module has an open command
-  pub none_open : AllByRecursion IsFree f.modules → (m : ℕ) (c : Command) → (picture f).equipment m ≡ busy c → ⊥
-  none_open free zero c e = cc
-  none_open free (suc m) c e = of (slice_get f.modules m) refl e where
-    of : (o : Option ToolModule) → slice_get f.modules m ≡ o → module_of o f.places ≡ busy c → ⊥
-    of None q e = cc
-    of (Some x) q e = not_busy x f.places c (all_at IsFree m f.modules x q free) e
-
-  -- nothing is IN PROCESS
-  none_in_process : AllByRecursion (λ (s : Substrate). is_in_process s.states.processing ≡ false) f.substrates → (n : ℕ) → (picture f).processing n ≡ 1 → ⊥
-  none_in_process at_rest n one = of (substrate_numbered n f.substrates) refl one where
-    of : (o : Option Substrate) → substrate_numbered n f.substrates ≡ o → of_one 0 (λ (s : Substrate). processing_number s.states.processing) o ≡ 1 → ⊥
-    of None q one = let z : IsOne 0 = one in omega (arith, z)
-    of (Some s) q one =
-        not_in_process s.states.processing
-        (true_of_found number_of n (λ (t : Substrate). is_in_process t.states.processing ≡ false) f.substrates s at_rest q) one
-
-module _ (f : ToolFloor) (valid : IsFloor f.shop) (carried : AllByRecursion (IsCarried f.shop.carriers) f.substrates) (apart : AreApart f.substrates) (rising : RiseTo 0 f.places.given f.substrates) (in_slots : f.places.held ≡ map in_its_slot f.substrates) where
-  -- the place of a number is the slot of its substrate
-  place_is : (n : ℕ) → (picture f).place_of n ≡ option_map (λ (s : Substrate). loc_of s.slot) (substrate_numbered n f.substrates)
-  place_is n = ap (λ (held : List Registered). option_map (λ (r : Registered). loc_of r.at) (find (λ (r : Registered). r.number == n) held)) in_slots ∙ place_found n f.substrates
-
-  -- what has a place is there, in its slot
-  placed : (n : ℕ) (l : Loc) → (picture f).place_of n ≡ Some l → (h : IsThere f n) × (loc_of h.one.slot ≡ l)
-  placed n l e = of (substrate_numbered n f.substrates) refl (sym (place_is n) ∙ e) where
-    of : (o : Option Substrate) → substrate_numbered n f.substrates ≡ o → option_map (λ (s : Substrate). loc_of s.slot) o ≡ Some l → (h : IsThere f n) × (loc_of h.one.slot ≡ l)
-    of None q e = absurd (cc)
-    of (Some s) q e =
-        let w = true_of_found number_of n (IsCarried f.shop.carriers) f.substrates s carried q in
-        let at : loc_of s.slot ≡ l = cc in
-        (record { one = s; found = q; its = w.0; known = w.1; of = w.2 }, at)
-
-  -- no two are in one place
-  one_there : (n m : ℕ) (h : IsThere f n) (i : IsThere f m) → loc_of h.one.slot ≡ loc_of i.one.slot → n ≡ m
-  one_there n m h i same =
-      let one : h.one ≡ i.one = one_of_slot n m f.substrates h.one i.one apart h.found i.found (same_slot h.one.slot i.one.slot h.of.port i.of.port h.of.slot i.of.slot h.of.own i.of.own same) in
-      sym (found_number number_of n f.substrates h.one h.found) ∙ ap (λ (s : Substrate). s.number) one ∙ found_number number_of m f.substrates i.one i.found
-
-  -- a place is that of a slot
-  of_slot : (n : ℕ) (h : IsThere f n) → loc_of h.one.slot ≡ slot h.of.port.0 h.of.slot.0
-  of_slot n h = ap loc_of h.of.own
-
-  -- none is in a chamber
-  no_chamber : (n c : ℕ) → (picture f).place_of n ≡ Some (chamber c) → ⊥
-  no_chamber n c e = let h = placed n (chamber c) e in let is = of_slot n h.0 in let at = h.1 in cc
-
-  -- nor outside its slot
-  not_outside : (n : ℕ) (o : Option Substrate) → substrate_numbered n f.substrates ≡ o → is_outside (option_map (λ (s : Substrate). loc_of s.slot) o) ≡ true → ⊥
-  not_outside n None q e = cc
-  not_outside n (Some s) q e =
-      let w = true_of_found number_of n (IsCarried f.shop.carriers) f.substrates s carried q in
-      let slots = ap (λ (l : LocId). is_outside (Some (loc_of l))) w.2.own in
-      let z : false ≡ true = sym slots ∙ e in
-      cc
-
-  -- one that is kept has a place
-  unplaced : (n : ℕ) → is_one_of (map number_of f.substrates) n ≡ true → (picture f).place_of n ≡ None → ⊥
-  unplaced n e none =
-      let h = kept_there f carried n e in
-      let z : Some (loc_of h.one.slot) ≡ None = sym (ap (option_map (λ (s : Substrate). loc_of s.slot)) h.found) ∙ sym (place_is n) ∙ none in
-      cc
-
-  -- what holds of places
-  holding_places : Places (picture f)
-  holding_places = record {
-    apart = λ n m l e g. let h = placed n l e in let i = placed m l g in one_there n m h.0 i.0 (h.1 ∙ sym i.1);
-    home = λ n p k e. let h = placed n (slot p k) e in sym (own_place f n h.0 ∙ h.1);
-    kept = λ n l e. let h = placed n l e in found_among number_of n f.substrates h.0.one h.0.found;
-    slots = λ n m e g same. let h = kept_there f carried n e in let i = kept_there f carried m g in one_there n m h i (sym (own_place f n h) ∙ same ∙ own_place f m i);
-    distinct = rising_distinct 0 f.places.given f.substrates rising;
-    given = λ n e. let less = rising_given 0 f.places.given f.substrates n rising e in omega (arith, less);
-    chambers = λ n c e. absurd (no_chamber n c e);
-  }
-
-  -- what holds of carriers
-  holding_carriers : Carriers (picture f)
-  holding_carriers = record {
-    present = λ n e. let h = kept_there f carried n e in its_carrier f None where_present n h ∙ its_port f n h ∙ ap (λ (p : ℕ). Some p) (sym (own_port f n h));
-    verified = λ n e. let h = kept_there f carried n e in its_carrier f false (λ (c : Carrier). is_map_verified c.states.map) n h ∙ h.of.verified;
-    alone = λ c d p e g. let x = present_tells f c p e in let y = present_tells f d p g in one_number f.shop p c d x.0 y.0 x.1 y.1 x.2 y.2 valid;
-    known = λ c p e. let x = present_tells f c p e in found_among shop.number_of c f.shop.carriers x.0 x.1;
-  }
-
-  -- what holds of open commands: there is none
-  holding_commands : AllByRecursion IsFree f.modules → Commands (picture f)
-  holding_commands free = record {
-    picks = λ m n l c e t. absurd (none_open f free m c e);
-    places = λ m n l c e t. absurd (none_open f free m c e);
-    aligns = λ m n c e t. absurd (none_open f free m c e);
-    processes = λ m n c e t. absurd (none_open f free m c e);
-    once = λ m k c d e g t. absurd (none_open f free m c e);
-    numbers = λ m k c d e g t. absurd (none_open f free m c e);
-    below = λ m c e. absurd (none_open f free m c e);
-    room = λ n e. absurd (not_outside n (substrate_numbered n f.substrates) refl (ap is_outside (sym (place_is n) ∙ e)));
-    modules = λ m c e. absurd (none_open f free m c e);
-  }
-
-  -- what holds of process jobs: there is none
-  holding_members : AllByRecursion IsFree f.modules → Members (picture f)
-  holding_members free = record {
-    outside = λ n e. absurd (not_outside n (substrate_numbered n f.substrates) refl (sym (ap is_outside (place_is n)) ∙ e));
-    named = λ m c e. absurd (none_open f free m c e);
-    starting = λ n is. absurd (cc);
-    kept = λ n is. absurd (cc);
-    carrier = λ n is. absurd (cc);
-    here = λ n is. absurd (cc);
-    complete = λ n is e. absurd (cc);
-    recipe = λ n is. absurd (cc);
-  }
-
-  -- all of it, where no command is open and nothing is IN PROCESS
-  pub holds-of : AllByRecursion IsFree f.modules → AllByRecursion (λ (s : Substrate). is_in_process s.states.processing ≡ false) f.substrates → Valid (picture f)
-  holds-of free at_rest = record {
-    places = holding_places;
-    carriers = holding_carriers;
-    commands = holding_commands free;
-    members = holding_members free;
-    work = record { in_process = λ n one. absurd (none_in_process f at_rest n one); removed = λ n e none. absurd (unplaced n e none) };
-  }
-
--- what stands holds
-pub standing-holds : (f : ToolFloor) → Standing f → Valid (picture f)
-standing-holds f s = holds-of f s.shop s.carried s.apart s.rising s.in_slots s.free s.at_rest

@@ -136,7 +136,7 @@ module _ (ss : List Substrate) where
   -- ---- a carrier comes
 
   -- one that isn't present isn't VERIFIED
-  unverified : (c : Carrier) → ReadWherePresent c → (c.present ≡ true → ⊥) → is_map_verified c.states.map ≡ false
+  pub unverified : (c : Carrier) → ReadWherePresent c → (c.present ≡ true → ⊥) → is_map_verified c.states.map ≡ false
   unverified c reads absent = of (is_map_verified c.states.map) refl where
     read : (s : IdState) (m : MapState) → is_map_verified m ≡ true → not (is_id_not_read s && is_map_not_read m) ≡ true
     read s slots.NotRead v = absurd (cc)

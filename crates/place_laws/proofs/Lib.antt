@@ -2,8 +2,6 @@ pub mod Appended
 pub mod Stays
 pub mod SlotNames
 pub mod Holding
-pub mod Few
-pub mod Slots
 pub mod Leaving
 pub mod ShopRows
 pub mod Away
@@ -16,13 +14,8 @@ pub mod QuietPorts
 pub mod PortPlacing
 pub mod PortRemoval
 pub mod PortRequests
-pub mod Removing
-pub mod Bare
-pub mod Verifying
-pub mod BareRows
 pub mod Written
-pub mod Stands
-pub mod Least
-pub mod Staying
-pub mod FreeModules
-pub mod Growing
+pub mod UnloadStates
+pub mod UnloadPorts
+pub mod UnloadRows
+pub mod UnloadRequests

@@ -28,7 +28,7 @@ use Rattle.place_laws.proofs.PortsKept.{associated-at-ports}
 -- ---- who is there
 
 -- a carrier that is present at a place is that of its port
-owned_here : (place : ℕ) (f : Floor) (p : Port) (c : Carrier) → slice_get f.ports place ≡ Some p → Belongs f.ports c → c.present ≡ true → is_port (suc place) c.port ≡ true → p.carrier ≡ Some c.name
+pub owned_here : (place : ℕ) (f : Floor) (p : Port) (c : Carrier) → slice_get f.ports place ≡ Some p → Belongs f.ports c → c.present ≡ true → is_port (suc place) c.port ≡ true → p.carrier ≡ Some c.name
 owned_here place f p c s belongs present here = ap owner (sym (port_here c.port place f.ports p s here)) ∙ belongs (or_left c.present c.bound present)
 
 -- nobody, where none belongs to it

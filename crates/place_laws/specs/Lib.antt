@@ -1,3 +1,4 @@
 pub mod Picture
 pub mod Ports
 pub mod Standing
+pub mod Sound

@@ -1,7 +1,7 @@
 -- The floor of the tool by numbers, as the laws of the moves read it (after SEMI E87 and E90; this tool's profile, carriers, substrates
 -- and moves). A substrate, a carrier and a module go by their numbers; what a column says of a number that is none counts for
 -- nothing, and is the least there is.
-use Rattle.std.specs.Prelude.{ℕ, zero, suc, ◌+◌, ◌==◌, false, if◌then◌else◌, List, [], ◌∷◌, find, map, Option, Some, None, option_map}
+use Rattle.std.specs.Prelude.{ℕ, zero, suc, ◌+◌, ◌==◌, Bool, true, false, if◌then◌else◌, List, [], ◌∷◌, ◌++◌, find, map, Option, Some, None, option_map}
 use Rattle.gem_ids.specs.declared.numbers.LocId.{LocId}
 use Rattle.gem_ids.specs.declared.numbers.LocId.TheVariants.{Slot, Aligner, Arm, Chamber}
 use Rattle.gem_ids.specs.declared.numbers.PortNo.{PortNo}
@@ -19,8 +19,15 @@ use Rattle.substrate.specs.Places.{PlaceMap}
 use Rattle.tool_floor.specs.declared.tracking.Substrate.{Substrate}
 use Rattle.tool_floor.specs.Floor.{ToolFloor, substrate_numbered, number_of}
 use Rattle.tool_floor.specs.Modules.{number_named}
+use Rattle.tool_floor.specs.Jobs.{job_of, is_any_of_carrier, is_processing, is_stopping, is_aborting}
+use Rattle.tool_events.specs.declared.recipes.Recipe.{Recipe}
+use Rattle.process_job.specs.Jobs.{recipe_named}
+use Rattle.process_job.specs.declared.job.ProcessJob.{ProcessJob}
+use Rattle.process_job.specs.declared.record.JobState.{JobState}
+use Rattle.process_job.specs.declared.record.JobState.TheVariants.{Complete}
+use Rattle.tool_jobs.specs.Jobs.{Jobs}
 use Rattle.shop_floor.specs.Floor as shop
-use Rattle.floor_moves.specs.Floor.{Loc, slot, aligner, arm, chamber, Task, pick, place, align, process, Module, idle, busy, down, Floor, no_jobs}
+use Rattle.floor_moves.specs.Floor.{Loc, slot, aligner, arm, chamber, Task, pick, place, align, process, Module, idle, busy, down, JobView, Floor}
 
 -- ---- places
 
@@ -96,7 +103,36 @@ abbrev pub numbers_from : ℕ → ℕ → List ℕ
 numbers_from n zero = []
 numbers_from n (suc count) = n ∷ numbers_from (n + 1) count
 
--- ---- all of it; no process job is there yet
+-- ---- jobs
+
+-- the chambers of a recipe, where there is one
+abbrev pub chambers_in : Option Recipe → List ℕ
+chambers_in None = []
+chambers_in (Some r) = (if r.chambers.one then 1 ∷ [] else []) ++ (if r.chambers.two then 2 ∷ [] else [])
+
+-- what is said of the process job of a substrate; else this, where it is in none
+abbrev pub of_job : {B : Type 0} → B → (ProcessJob → B) → Jobs → Substrate → B
+of_job else_ says w s = of_one else_ says (job_of s w)
+
+-- a process job is PROCESS COMPLETE
+abbrev pub is_complete : JobState → Bool
+is_complete Complete = true
+is_complete _ = false
+
+-- what process jobs say of these substrates and carriers: those that are kept and known
+abbrev pub job_view : List Substrate → List Carrier → Jobs → JobView
+job_view ss cs w = record {
+  is_member = λ n. of_one false (of_job false (λ j. true) w) (substrate_numbered n ss);
+  may_start = λ n. of_one false (of_job false (λ j. is_processing j.states.state) w) (substrate_numbered n ss);
+  is_stopping = λ n. of_one false (of_job false (λ j. is_stopping j.states.state) w) (substrate_numbered n ss);
+  is_aborting = λ n. of_one false (of_job false (λ j. is_aborting j.states.state) w) (substrate_numbered n ss);
+  is_complete = λ n. of_one false (of_job false (λ j. is_complete j.states.state) w) (substrate_numbered n ss);
+  chambers_of = λ n. of_one [] (of_job [] (λ j. chambers_in (recipe_named j.recipe w.process.recipes)) w) (substrate_numbered n ss);
+  names_carrier = λ c. of_one false (λ (x : Carrier). is_any_of_carrier x.name w) (carrier_numbered c cs);
+  is_marked = λ c. of_one false (λ (x : Carrier). x.stopped) (carrier_numbered c cs);
+}
+
+-- ---- all of it
 
 abbrev pub picture : ToolFloor → Floor
 picture f = record {
@@ -113,7 +149,7 @@ picture f = record {
   present_at = of_carrier None where_present f;
   is_verified = of_carrier false (λ c. is_map_verified c.states.map) f;
   access = of_carrier 0 (λ c. access_number c.states.access) f;
-  jobs = no_jobs;
+  jobs = job_view f.substrates f.shop.carriers f.jobs;
   chambers = numbers_from 1 f.places.chambers;
   equipment = λ m. module_of (module_at m f.modules) f.places;
   next_command = f.commands + 1;

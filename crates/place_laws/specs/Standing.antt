@@ -1,7 +1,5 @@
--- What holds of the floor of the tool at every moment, while no process job is there that would move a substrate (after SEMI E87 and
--- E90; this tool's profile, carriers, substrates and moves): each substrate is of a carrier that is present, is in its own slot, and
--- no command is open.
-use Rattle.std.specs.Prelude.{◌≡◌, ◌≤◌, ℕ, zero, suc, ◌==◌, Bool, true, false, ◌&&◌, List, [], ◌∷◌, length, map, Option, Some, None, slice_get}
+-- What holds of substrates and their carriers at every moment (after SEMI E87 and E90; this tool's profile, carriers and substrates).
+use Rattle.std.specs.Prelude.{◌≡◌, ◌≤◌, ℕ, zero, suc, ◌==◌, Bool, true, ◌&&◌, List, [], ◌∷◌, Option, Some, None, slice_get}
 use Rattle.std.specs.List.{AllByRecursion, list_any}
 use Rattle.std.specs.Str.{bytes_eq}
 use Rattle.gem_ids.specs.declared.numbers.LocId.{LocId}
@@ -9,20 +7,11 @@ use Rattle.gem_ids.specs.declared.numbers.LocId.TheVariants.{Slot}
 use Rattle.gem_ids.specs.declared.numbers.PortNo.{PortNo}
 use Rattle.gem_ids.specs.declared.numbers.SlotNo.{SlotNo}
 use Rattle.gem_ids.specs.Names.{name_in_slot}
-use Rattle.robot_moves.specs.declared.module.Module.{Module}
-use Rattle.robot_moves.specs.declared.module.Module.TheVariants.{Busy}
 use Rattle.carrier.specs.declared.carrier.Carrier.{Carrier}
 use Rattle.carrier.specs.Record.{is_map_verified}
 use Rattle.carrier.specs.Carriers.{carrier_numbered}
-use Rattle.shop_floor.specs.Valid.{IsFloor}
 use Rattle.substrate.specs.Locations.{is_same}
-use Rattle.substrate.specs.Record.{is_in_process}
-use Rattle.substrate.specs.declared.registered.Registered.{Registered}
 use Rattle.tool_floor.specs.declared.tracking.Substrate.{Substrate}
-use Rattle.tool_jobs.specs.Jobs.{Jobs}
-use Rattle.tool_floor.specs.Floor.{ToolFloor}
-use Rattle.tool_floor.specs.Kept.{RiseTo}
-use Rattle.place_laws.specs.Ports.{AtPorts}
 
 -- ---- a substrate and its carrier
 
@@ -70,35 +59,3 @@ is_registered ss c port slot = list_any (is_that_of c.number (name_in_slot c.nam
 abbrev pub AreRegistered : List Substrate → Carrier → Type 0
 AreRegistered ss c =
     is_map_verified c.states.map ≡ true → (port : PortNo) (slot : SlotNo) → c.port ≡ Some port → slot.0 ≤ 25 → code_of slot.0 c.map ≡ Some 3 → is_registered ss c port slot ≡ true
-
--- ---- places and modules
-
--- a substrate in its own slot
-abbrev pub in_its_slot : Substrate → Registered
-in_its_slot s = record { sub = s.sub; number = s.number; at = s.slot }
-
--- no command is open at a module
-abbrev pub IsFree : Module → Type 0
-IsFree (Busy command fetched) = ⊥
-IsFree _ = Unit {0}
-
--- ---- jobs
-
--- no job is kept: none can be created yet
-abbrev pub Jobless : Jobs → Type 0
-Jobless w = (w.process.kept ≡ []) × (w.control.jobs ≡ [])
-
--- ---- all of it
-
-pub record Standing (f : ToolFloor) : Type 0 where
-  pub shop : IsFloor f.shop
-  pub ports : AtPorts f.shop
-  pub carried : AllByRecursion (IsCarried f.shop.carriers) f.substrates
-  pub registered : AllByRecursion (AreRegistered f.substrates) f.shop.carriers
-  pub apart : AreApart f.substrates
-  pub rising : RiseTo 0 f.places.given f.substrates
-  pub in_slots : f.places.held ≡ map in_its_slot f.substrates
-  pub same_ports : f.places.ports ≡ length f.shop.ports
-  pub free : AllByRecursion IsFree f.modules
-  pub jobless : Jobless f.jobs
-  pub at_rest : AllByRecursion (λ (s : Substrate). is_in_process s.states.processing ≡ false) f.substrates

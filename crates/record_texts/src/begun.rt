@@ -8,14 +8,16 @@ use shop_subjects::ShopMessages;
 use std::alloc::Global;
 use test_lines::{Texts, answers, small, word, words};
 
-/// What the host may set, and the bodies of stream 3.
+/// What the host may set, and the bodies of streams 3, 14 and 16.
 pub struct Records;
 
 impl Texts for Records {
     fn play(&self, alloc: Global, begins: &str, lines: &[Line<'_>]) -> Result<Option<String>> {
         match begins {
             "to constants" => answers(alloc, &mut SetConstants::new(alloc)?, lines),
-            "to messages of stream 3" => answers(alloc, &mut ShopMessages, lines),
+            "to messages of stream 3" => answers(alloc, &mut ShopMessages { stream: 3 }, lines),
+            "to messages of stream 14" => answers(alloc, &mut ShopMessages { stream: 14 }, lines),
+            "to messages of stream 16" => answers(alloc, &mut ShopMessages { stream: 16 }, lines),
             _ => play_plant(alloc, begins, lines),
         }
     }

@@ -1,10 +1,11 @@
 //! The load ports and the carriers together.
 
-ghost use Rattle.std.specs.Prelude.{◌≡◌, ◌≤◌, true, false, not, length, slice_get, Some, IfOk, IfErr};
+ghost use Rattle.std.specs.Prelude.{◌≡◌, ◌≤◌, true, false, not, length, map, slice_get, Some, IfOk, IfErr};
 ghost use Rattle.gem_tables.specs.Table.{firing};
 ghost use Rattle.load_port.specs.Caack.{is_done_code};
-ghost use Rattle.load_port.specs.Ports.{most_ports, is_no_port};
+ghost use Rattle.load_port.specs.Ports.{most_ports, is_no_port, view_of};
 ghost use Rattle.carrier.specs.Carriers.{carrier_named, carrier_numbered, is_known};
+ghost use Rattle.carrier.specs.Verdict.{carrier_caack};
 ghost use Rattle.shop_floor.specs.Floor.{opening, with_marked, arrival_of, is_unloadable_port};
 ghost use Rattle.shop_floor.specs.Machines.{floor_starts, floor_fired, floor_least, creates, creation_rows, object_name};
 ghost use Rattle.shop_floor.specs.Requests.{carrier_code, carrier_written, carrier_rows, port_code, came};
@@ -231,8 +232,16 @@ impl ShopFloor {
     pub fn carrier_code(&self, a: &CarrierAction) -> Caack
         ensures { result ≡ carrier_code self.now a.now }
     {
+        self.code_by_jobs(a, false)
+    }
+
+    /// The same, where a process job names the carrier or none does: one that a job names isn't cancelled where its slot map is
+    /// VERIFIED (this tool's profile, S3F17). Changes nothing.
+    pub fn code_by_jobs(&self, a: &CarrierAction, is_named: bool) -> Caack
+        ensures { result ≡ carrier_caack self.now.carriers (map view_of self.now.ports) a.now is_named }
+    {
         let views = self.ports.views();
-        self.carriers.code(views.as_slice(), a, false)
+        self.carriers.code(views.as_slice(), a, is_named)
     }
 
     /// What the host is answered of an action on ports by the states before it, CAACK (SEMI E87, S3F26 and S3F28; this tool's

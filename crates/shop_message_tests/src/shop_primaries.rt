@@ -1,4 +1,5 @@
-//! Bodies of the host's primaries of stream 3 that no line of a text tells: those of many parts, and each stream and function.
+//! Bodies of the host's primaries of stream 3 that no line of a text tells: those of many parts, and each function; and the
+//! streams that are read.
 
 use gem_ids::Listed;
 use msgs_300::{NamedValue, ShopMsg, is_shop_stream, read_shop};
@@ -171,11 +172,16 @@ fn another_function_of_stream_3_is_unknown(rt: HostRuntime) {
     assert_eq!(rt; first_other_function(rt.alloc()), None);
 }
 
-// The first stream that is not told as it is printed: of stream 3 S3F17 is known.
+// The first stream that is not told as it is printed, by a function that only stream 3 has.
 fn first_other_stream(alloc: Global) -> Option<u8> {
     for stream in 0..=255 {
-        let is_unknown = fault(alloc, stream, 17) == Some(BodyFault::UnknownStream);
-        if is_unknown == (stream == 3) || is_shop_stream(stream) != (stream == 3) {
+        let want = match stream {
+            3 => BodyFault::IllegalData,
+            14 | 16 => BodyFault::UnknownFunction,
+            _ => BodyFault::UnknownStream,
+        };
+        let is_read = want != BodyFault::UnknownStream;
+        if fault(alloc, stream, 25) != Some(want) || is_shop_stream(stream) != is_read {
             return Some(stream);
         }
     }
@@ -183,12 +189,19 @@ fn first_other_stream(alloc: Global) -> Option<u8> {
 }
 
 #[test]
-fn another_stream_than_3_is_unknown(rt: HostRuntime) {
+fn another_stream_than_3_14_and_16_is_unknown(rt: HostRuntime) {
     assert_eq!(rt; first_other_stream(rt.alloc()), None);
 }
 
+// Whether a stream is read by `read_shop` alone.
+fn is_read_here_alone(alloc: Global, stream: u8) -> bool {
+    let read = read_gem(alloc, stream, 9, None);
+    is_shop_stream(stream) && matches!(&read, Err(BodyFault::UnknownStream))
+}
+
 #[test]
-fn stream_3_is_read_by_one_reader_alone(rt: HostRuntime) {
-    let read = read_gem(rt.alloc(), 3, 17, None);
-    assert!(rt; matches!(&read, Err(BodyFault::UnknownStream)));
+fn each_stream_is_read_by_one_reader_alone(rt: HostRuntime) {
+    assert!(rt; is_read_here_alone(rt.alloc(), 3));
+    assert!(rt; is_read_here_alone(rt.alloc(), 14));
+    assert!(rt; is_read_here_alone(rt.alloc(), 16));
 }

@@ -11,3 +11,4 @@ pub mod Slots
 pub mod Resting
 pub mod Moves
 pub mod Showing
+pub mod Asked

@@ -7,6 +7,10 @@ use Rattle.std.specs.Str.{bytes_eq}
 use Rattle.gem_tables.specs.Table.{is_one_of, row_of}
 use Rattle.gem_ids.specs.declared.numbers.LocId.{LocId}
 use Rattle.gem_ids.specs.declared.numbers.LocId.TheVariants.{Slot}
+use Rattle.load_port.specs.declared.caack.Caack.{Caack}
+use Rattle.load_port.specs.Ports.{view_of}
+use Rattle.carrier.specs.declared.action.CarrierAction.{CarrierAction}
+use Rattle.carrier.specs.Verdict.{carrier_caack}
 use Rattle.carrier.specs.declared.carrier.Carrier.{Carrier}
 use Rattle.carrier.specs.declared.record.Accessing.{Accessing}
 use Rattle.carrier.specs.declared.record.Accessing.TheVariants.{NotAccessed, InAccess}
@@ -180,6 +184,11 @@ names_carrier name j = list_any (is_of_carrier name) j.material
 -- a process job that is kept does
 abbrev pub is_any_of_carrier : List ℕ → Jobs → Bool
 is_any_of_carrier name w = list_any (names_carrier name) w.process.kept
+
+-- what is answered of an action on a carrier: a carrier that a kept process job names isn't cancelled where its slot map is VERIFIED (this
+-- tool's profile, S3F17)
+abbrev pub carrier_code : CarrierAction → ToolFloor → Caack
+carrier_code a f = carrier_caack f.shop.carriers (map view_of f.shop.ports) a (is_any_of_carrier a.id f.jobs)
 
 -- the process job that a substrate is a member of
 abbrev pub job_of : Substrate → Jobs → Option ProcessJob

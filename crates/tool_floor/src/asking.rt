@@ -159,7 +159,7 @@ impl ToolFloor {
     pub(crate) fn is_quiet(&self, c: &Carrier) -> bool
         ensures { result ≡ is_quiet c.now self.now }
     {
-        !self.is_any_of_carrier(c) && self.are_back(c.number)
+        !self.is_any_of_carrier(c.name.text()) && self.are_back(c.number)
     }
 
     // Whether each substrate of the carrier of this number is in its slot or removed.

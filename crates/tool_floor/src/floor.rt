@@ -8,12 +8,13 @@ ghost use Rattle.load_port.specs.Ports.{most_ports, is_no_port};
 ghost use Rattle.robot_moves.specs.Modules.{module_at, unfetched, is_open, is_up, is_down};
 ghost use Rattle.shop_floor.specs.Machines.{floor_least as shop_least};
 ghost use Rattle.shop_floor.specs.Valid.{IsFloor};
-ghost use Rattle.shop_floor.specs.Requests.{carrier_code, carrier_written, came};
+ghost use Rattle.shop_floor.specs.Requests.{carrier_written, came};
 ghost use Rattle.substrate.specs.Places.{found_location, is_any_at_work, most_substrates, substrate_at};
 ghost use Rattle.tool_floor.specs.Floor.{opening, with_shop, fetched, change_location, substrate_numbered, name_of_place, substrate_name};
 ghost use Rattle.tool_floor.specs.Substrates.{without_carrier, removed_where};
 ghost use Rattle.tool_floor.specs.Kept.{RiseTo};
 ghost use Rattle.tool_floor.specs.Machines.{registered_by, floor_starts, floor_fired, floor_least, creation_rows, object_name};
+ghost use Rattle.tool_floor.specs.Jobs.{carrier_code};
 ghost use Rattle.tool_floor.specs.Signals.{is_no_module};
 
 use crate::jobs::{CONTROL_JOB, PROCESS_JOB};
@@ -25,7 +26,7 @@ use arrayvec::ArrayVec;
 use carrier::{Carrier, CarrierAction};
 use gem_ids::{CmdNo, LocId, ModuleId, PortNo, SubstrateId, Text80};
 use gem_tables::Firing;
-use load_port::Arrival;
+use load_port::{Arrival, Caack};
 use robot_moves::{Module, Modules};
 use shop_floor::ShopFloor;
 use std::alloc::{AllocError, Global};
@@ -40,7 +41,7 @@ pub const MOST_CREATED: usize = 50;
 /// The floor of the tool, which contracts see as the load ports with the carriers; the list of the modules by their numbers: 1 is the
 /// robot, 2 the aligner, and 2 + c chamber c; which substrate has which place; the states of the locations by their numbers; the
 /// substrates of the carriers that are here, in the order of their registration; and the process jobs and control jobs. Only `new`,
-/// `fire` and `write` take memory.
+/// `fire`, `write`, `create_process` and `create_control` take memory.
 #[derive(Drop)]
 pub struct ToolFloor {
     pub(crate) shop: ShopFloor,
@@ -486,10 +487,20 @@ impl ToolFloor {
 
     // ---- what the host asks
 
+    /// What the host is answered of an action on a carrier by the states before it, CAACK (SEMI E87, S3F17; this tool's
+    /// profile, S3F17): that it is done where it can be. A carrier that a kept process job names isn't cancelled where its slot map is
+    /// VERIFIED. Changes nothing.
+    pub fn carrier_code(&self, a: &CarrierAction) -> Caack
+        ensures { result ≡ carrier_code a.now self.now }
+    {
+        self.shop.code_by_jobs(a, self.is_any_of_carrier(a.id))
+    }
+
     /// What an action on a carrier writes that can be done (SEMI E87, S3F17), as `ShopFloor::write` says. `AllocError`: there is
     /// no memory for a carrier, or the last number was given; nothing has changed.
+    #[tactic(auto, using(crate::proofs::Asked::done_by_jobs))]
     pub fn write(&mut self, a: &CarrierAction) -> Result<(), AllocError>
-        requires { is_done_code (carrier_code self.old.shop a.now) ≡ true }
+        requires { is_done_code (carrier_code a.now self.old) ≡ true }
         ensures ok { IfOk result (λ _. self.new ≡ with_shop (carrier_written a.now self.old.shop) self.old) }
         ensures err { IfErr result (λ _. self.new ≡ self.old) }
     {

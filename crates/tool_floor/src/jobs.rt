@@ -1,24 +1,32 @@
 //! The jobs on the floor of the tool: what it shows of a process job, which of their rows start and are ready, and what these do (this
 //! tool's profile, tables 14 and 15 and settling).
 
-ghost use Rattle.std.specs.Prelude.{◌≡◌, ◌∷◌, [], true, false, length, map, option_map, slice_get, ◌||◌, Some};
+ghost use Rattle.std.specs.Prelude.{◌≡◌, ◌∷◌, [], true, false, length, map, option_map, is_some, slice_get, ◌||◌, Some, None, Err, IfOk, IfErr};
 ghost use Rattle.std.specs.List.{list_any};
 ghost use Rattle.gem_tables.specs.Table.{is_one_of};
 ghost use Rattle.gem_tables.specs.Machine.{first_ready, ready_in};
 ghost use Rattle.process_job.specs.Jobs.{job_numbered as process_numbered, AreJobs as AreProcessJobs};
-ghost use Rattle.control_job.specs.Jobs.{job_numbered as control_numbered, numbers_of as control_numbers, AreJobs as AreControlJobs};
+ghost use Rattle.process_job.specs.Creating.{create_fault as process_fault};
+ghost use Rattle.process_job.specs.declared.fault.JobFault.{JobFault};
+ghost use Rattle.process_job.specs.declared.fault.JobFault.TheVariants as process_faults;
+ghost use Rattle.control_job.specs.Jobs.{job_numbered as control_numbered, numbers_of as control_numbers, AreJobs as AreControlJobs, waiting_named, headed};
+ghost use Rattle.tool_jobs.specs.Creating.{with_process, with_control, control_fault};
+ghost use Rattle.tool_jobs.specs.declared.fault.ControlFault.{ControlFault};
+ghost use Rattle.tool_jobs.specs.declared.fault.ControlFault.TheVariants as control_faults;
 ghost use Rattle.tool_jobs.specs.Rows.{process_ready, control_ready};
+ghost use Rattle.tool_floor.specs.Floor.{with_jobs};
 ghost use Rattle.tool_floor.specs.Jobs.{is_done_with, is_settled, is_at_rest, is_still, sight, found_sight, is_first_here, gets_members, frees, stops_carriers, process_behind, is_any_of_carrier, is_job_so, is_processing, is_stopping, is_aborting, is_ending, job_of};
 ghost use Rattle.tool_floor.specs.Machines.{process_numbers, floor_machines, floor_starts, floor_fired};
 
 use crate::floor::ToolFloor;
 use crate::members::{is_here, mark, names_carrier};
 use crate::tracking::Substrate;
-use carrier::Carrier;
 use control_job::ControlJob;
+use gem_ids::{JobId, Text80};
 use gem_tables::Firing;
-use process_job::{JobState, ProcessJob};
-use tool_jobs::Sight;
+use process_job::{JobFault, JobSpec, JobState, ProcessJob};
+use std::alloc::Global;
+use tool_jobs::{ControlFault, Sight};
 
 // The tables of jobs.
 pub(crate) const PROCESS_JOB: u8 = 14;
@@ -272,15 +280,51 @@ impl ToolFloor {
         self.jobs.fire_control(x.object, x.row.row);
     }
 
+    // ---- how jobs are created, and their queue
+
+    /// Creates a process job (SEMI E40, S16F11) that was asked for, as `Jobs::create_process` says; all else stays.
+    pub fn create_process(&mut self, job: JobSpec) -> Result<(), JobFault>
+        ensures created { IfOk result (λ _. self.new ≡ with_jobs (with_process job self.old.jobs) self.old) }
+        ensures unchanged { IfErr result (λ _. self.new ≡ self.old) }
+        ensures refused { (fault : JobFault) → process_fault job self.old.jobs.process ≡ Some fault → result ≡ Err fault }
+        ensures memory { process_fault job self.old.jobs.process ≡ None → IfErr result (λ fault. fault ≡ process_faults.NoMemory) }
+    {
+        self.jobs.create_process(job)
+    }
+
+    /// Creates a control job (SEMI E94, S14F9) of these process jobs, as `Jobs::create_control` says; all else stays.
+    pub fn create_control(
+        &mut self,
+        alloc: Global,
+        id: JobId,
+        jobs: &[JobId],
+        auto: bool,
+    ) -> Result<(), ControlFault>
+        ensures created { IfOk result (λ _. self.new ≡ with_jobs (with_control id jobs.now auto self.old.jobs) self.old) }
+        ensures unchanged { IfErr result (λ _. self.new ≡ self.old) }
+        ensures refused { (fault : ControlFault) → control_fault id jobs.now self.old.jobs ≡ Some fault → result ≡ Err fault }
+        ensures memory { control_fault id jobs.now self.old.jobs ≡ None → IfErr result (λ fault. fault ≡ control_faults.NoMemory) }
+    {
+        self.jobs.create_control(alloc, id, jobs, auto)
+    }
+
+    /// The QUEUED control job of a name goes first in the queue (SEMI E94, S16F27), as `Jobs::head_of_queue` says; all else stays.
+    pub fn head_of_queue(&mut self, id: JobId) -> bool
+        ensures queued { result ≡ is_some (waiting_named id self.old.jobs.control.jobs) }
+        ensures headed { self.new ≡ with_jobs (record self.old.jobs { control = headed id self.old.jobs.control }) self.old }
+    {
+        self.jobs.head_of_queue(id)
+    }
+
     // ---- what rows of carriers and substrates want of jobs
 
-    // Whether a process job that is kept names a carrier.
-    pub(crate) fn is_any_of_carrier(&self, carrier: &Carrier) -> bool
-        ensures { result ≡ is_any_of_carrier carrier.now.name self.now.jobs }
+    // Whether a process job that is kept names the carrier of a name.
+    pub(crate) fn is_any_of_carrier(&self, name: Text80) -> bool
+        ensures { result ≡ is_any_of_carrier name self.now.jobs }
     {
         for place in 0..self.process_count() {
             if let Some(job) = self.process_at(place) {
-                if names_carrier(carrier.name, job) {
+                if names_carrier(name, job) {
                     return true;
                 }
             }

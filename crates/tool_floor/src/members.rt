@@ -7,7 +7,7 @@ ghost use Rattle.tool_floor.specs.Jobs.{is_carrier_of, is_slot_named, names_slot
 
 use crate::tracking::Substrate;
 use carrier::{Accessing, Carrier};
-use gem_ids::{CarrierId, LocId, Text80};
+use gem_ids::{LocId, Text80};
 use process_job::{Material, ProcessJob};
 use shop_floor::ShopFloor;
 
@@ -142,14 +142,14 @@ fn are_here(shop: &ShopFloor, materials: &[Material]) -> bool
 }
 
 // Whether a process job names a carrier.
-pub(crate) fn names_carrier(name: CarrierId, job: &ProcessJob) -> bool
+pub(crate) fn names_carrier(name: Text80, job: &ProcessJob) -> bool
     ensures { result ≡ names_carrier name job.now }
 {
     is_carrier_of_any(name, job.material.as_slice())
 }
 
 // Whether one of these materials does.
-fn is_carrier_of_any(name: CarrierId, materials: &[Material]) -> bool
+fn is_carrier_of_any(name: Text80, materials: &[Material]) -> bool
     ensures { result ≡ list_any (is_of_carrier name) materials.now }
 {
     for material in materials {

@@ -1,5 +1,4 @@
-use Rattle.std.proofs.Common.{◌≡◌, ◌∙◌, ℕ, List, [], ◌∷◌, Option, None, slice_get, drop, refl, sym, ap}
-use Rattle.gem_model.specs.State.{State}
+use Rattle.std.proofs.Common.{◌≡◌, ◌∙◌, ℕ, List, [], ◌∷◌, None, slice_get, drop, refl, sym, ap}
 use Rattle.core_shop.proofs.links.take.Goals as goal
 
 -- where there is no first there is nothing that could leave

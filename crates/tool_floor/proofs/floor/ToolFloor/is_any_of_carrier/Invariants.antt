@@ -4,4 +4,4 @@ use Rattle.tool_floor.specs.Jobs.{names_carrier}
 use Rattle.tool_floor.proofs.floor.ToolFloor.is_any_of_carrier.Given as goal
 
 abbrev pub invariant-loop-place : goal.invariant-loop-place
-invariant-loop-place l = list_any (names_carrier l.carrier.name) (drop l.place l.self.jobs.process.kept) ≡ list_any (names_carrier l.carrier.name) l.self.jobs.process.kept
+invariant-loop-place l = list_any (names_carrier l.name) (drop l.place l.self.jobs.process.kept) ≡ list_any (names_carrier l.name) l.self.jobs.process.kept

@@ -1,0 +1,90 @@
+-- The substrates that open commands name, by their names and by their numbers.
+use Rattle.std.proofs.Common.{◌≡◌, ℕ, ◌==◌, true, List, Option, Some, None, option_map, refl, sym, ◌∙◌, ap, subst, arith}
+use Rattle.std.specs.List.{list_any}
+use Rattle.std.proofs.lemmas.Bool.{true≢false}
+use Rattle.std.proofs.lemmas.Bool.Decides.{Decides-eqb}
+use Rattle.std.proofs.lemmas.Slice.Eq.{bytes_eq-Decides}
+use Rattle.tool_events.specs.declared.answer.Task.{Task as ToolTask}
+use Rattle.tool_events.specs.declared.answer.Task.TheVariants as task
+use Rattle.robot_moves.specs.declared.module.Module.{Module as ToolModule}
+use Rattle.robot_moves.specs.declared.module.Module.TheVariants.{Idle, Busy, Down}
+use Rattle.robot_moves.specs.Modules.{module_at}
+use Rattle.shop_floor.proofs.Apart.{found_passes}
+use Rattle.substrate.specs.Places.{has_name, substrate_named}
+use Rattle.substrate.specs.declared.registered.Registered.{Registered}
+use Rattle.tool_floor.specs.declared.tracking.Substrate.{Substrate}
+use Rattle.tool_floor.specs.Floor.{ToolFloor, substrate_numbered}
+use Rattle.tool_floor.specs.Naming.{named_by, module_names}
+use Rattle.floor_moves.specs.Floor.{Command, busy, named}
+use Rattle.floor_moves.specs.Valid.{Members}
+use Rattle.place_laws.specs.Picture.{picture, numbered, number_or_none, task_of, module_of}
+use Rattle.place_laws.specs.Sound.{IsOfKept, Base}
+use Rattle.place_laws.proofs.Holding.{none_before}
+use Rattle.floor_laws.proofs.JobSight.{some_same, each_found, any_at, any_there, kept_here, found_alike}
+
+module _ (f : ToolFloor) (b : Base f) (n : ℕ) (s : Substrate) (found : substrate_numbered n f.substrates ≡ Some s) where
+  -- a name that has its number is its name
+  pub name_of_number : (sub : List ℕ) → numbered sub f.places ≡ n → sub ≡ s.sub
+  name_of_number sub e = of (substrate_named sub f.places.held) refl where
+    of : (o : Option Registered) → substrate_named sub f.places.held ≡ o → sub ≡ s.sub
+    of None q =
+        let zero_is : 0 ≡ n = sym (ap (λ (o : Option Registered). number_or_none (option_map (λ (r : Registered). r.number) o)) q) ∙ e in
+        let none = none_before 0 f.places.given f.substrates n b.rising (omega (arith, zero_is)) in
+        absurd (true≢false (sym (kept_here f b n s found) ∙ none))
+    of (Some r) q =
+        let number : r.number ≡ n = sym (ap (λ (o : Option Registered). number_or_none (option_map (λ (r : Registered). r.number) o)) q) ∙ e in
+        let k = each_found (IsOfKept f.substrates) (has_name sub) f.places.held r b.held q in
+        let there : substrate_numbered n f.substrates ≡ Some k.0 = subst (λ (m : ℕ). substrate_numbered m f.substrates ≡ Some k.0) number k.1 in
+        let one : s ≡ k.0 = some_same s k.0 (sym found ∙ there) in
+        sym ((bytes_eq-Decides r.sub sub).0 (found_passes (has_name sub) f.places.held r q)) ∙ sym k.2 ∙ ap (λ (x : Substrate). x.sub) (sym one)
+
+  -- its name has its number, where it has a place
+  number_of_name : (r : Registered) → substrate_named s.sub f.places.held ≡ Some r → numbered s.sub f.places ≡ n
+  number_of_name r e =
+      ap (λ (o : Option Registered). number_or_none (option_map (λ (r : Registered). r.number) o)) e
+      ∙ (Decides-eqb r.number n).0 (found_passes (λ (r : Registered). r.number == n) f.places.held r (found_alike f b n s found ∙ e))
+
+  -- the name of a task
+  task_name : (t : ToolTask) → named (task_of t f.places) ≡ numbered (named_by t) f.places
+  task_name (task.Pick sub from) = refl
+  task_name (task.Place sub to) = refl
+  task_name (task.Align sub) = refl
+  task_name (task.Process sub recipe) = refl
+
+  -- an open command that names it does so by its name
+  pub named_tells : (m : ℕ) (c : Command) → (picture f).equipment m ≡ busy c → named c.task ≡ n → list_any (module_names s.sub) f.modules ≡ true
+  named_tells m c e its = of (module_at m f.modules) refl e where
+    of : (o : Option ToolModule) → module_at m f.modules ≡ o → module_of o f.places ≡ busy c → list_any (module_names s.sub) f.modules ≡ true
+    of None q e = absurd (cc)
+    of (Some Idle) q e = absurd (cc)
+    of (Some (Busy command fetched)) q e =
+        let tasks : task_of command.task f.places ≡ c.task = ap (λ (c : Command). c.task) (busy_same e) in
+        let number : numbered (named_by command.task) f.places ≡ n = sym (task_name command.task) ∙ ap named tasks ∙ its in
+        any_at (module_names s.sub) f.modules m (Busy command fetched) q ((bytes_eq-Decides (named_by command.task) s.sub).1 (name_of_number (named_by command.task) number))
+      where
+        busy_same : {c d : Command} → busy c ≡ busy d → c ≡ d
+        busy_same e = cc
+    of (Some Down) q e = absurd (cc)
+
+  -- the number of its name is its number where an open command has it
+  pub number_of_command : Members (picture f) → (m : ℕ) (c : Command) → (picture f).equipment m ≡ busy c → named c.task ≡ numbered s.sub f.places → numbered s.sub f.places ≡ n
+  number_of_command v m c is its = of (substrate_named s.sub f.places.held) refl where
+    of : (o : Option Registered) → substrate_named s.sub f.places.held ≡ o → numbered s.sub f.places ≡ n
+    of None q =
+        let zero_is : named c.task ≡ 0 = its ∙ ap (λ (o : Option Registered). number_or_none (option_map (λ (r : Registered). r.number) o)) q in
+        let known = v.kept (named c.task) (v.named m c is) in
+        let none = none_before 0 f.places.given f.substrates (named c.task) b.rising (omega (arith, zero_is)) in
+        absurd (true≢false (sym known ∙ none))
+    of (Some r) q = number_of_name r q
+
+  -- one that a module names by its name has a place, so an open command names it
+  pub named_from : Members (picture f) → list_any (module_names s.sub) f.modules ≡ true → (m : ℕ) × (c : Command) × ((picture f).equipment m ≡ busy c) × (named c.task ≡ n)
+  named_from v e = let w = any_there (module_names s.sub) f.modules e in of w.0 w.1 w.2 w.3 where
+    of : (m : ℕ) (x : ToolModule) → module_at m f.modules ≡ Some x → module_names s.sub x ≡ true → (m : ℕ) × (c : Command) × ((picture f).equipment m ≡ busy c) × (named c.task ≡ n)
+    of m Idle q t = absurd (true≢false (sym t))
+    of m (Busy command fetched) q t =
+        let c : Command = record { number = command.number.0; task = task_of command.task f.places } in
+        let is : (picture f).equipment m ≡ busy c = ap (λ (o : Option ToolModule). module_of o f.places) q in
+        let its : named c.task ≡ numbered s.sub f.places = task_name command.task ∙ ap (λ (sub : List ℕ). numbered sub f.places) ((bytes_eq-Decides (named_by command.task) s.sub).0 t) in
+        (m, c, is, its ∙ number_of_command v m c is its)
+    of m Down q t = absurd (true≢false (sym t))

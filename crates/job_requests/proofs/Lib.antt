@@ -1,0 +1,5 @@
+pub mod Scans
+pub mod Named
+pub mod Lists
+pub mod Parts
+pub mod Refused

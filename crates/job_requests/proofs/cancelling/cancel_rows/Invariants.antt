@@ -1,0 +1,6 @@
+use Rattle.std.proofs.Common.{◌≡◌, take}
+use Rattle.job_requests.specs.Requests.{cancel_rows}
+use Rattle.job_requests.proofs.cancelling.cancel_rows.Given as goal
+
+abbrev pub invariant-loop-name : goal.invariant-loop-name
+invariant-loop-name l = l.rows ≡ cancel_rows (take l.name-index l.names) l.jobs

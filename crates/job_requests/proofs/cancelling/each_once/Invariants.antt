@@ -1,0 +1,6 @@
+use Rattle.std.proofs.Common.{◌≡◌, take}
+use Rattle.job_requests.specs.Requests.{each_once}
+use Rattle.job_requests.proofs.cancelling.each_once.Given as goal
+
+abbrev pub invariant-loop-name : goal.invariant-loop-name
+invariant-loop-name l = l.once ≡ each_once (take l.name-index l.names)

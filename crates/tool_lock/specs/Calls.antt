@@ -28,9 +28,12 @@ module _ {S E G : Type 0} where
   abbrev pub IsWaiting : Me S (View E G) → ℕ → Me S (View E G) → Type 0
   IsWaiting me k me' = (ticket : ℕ) × (ticket % 2 ^ 64 ≡ k) × (me' ≡ (view me.0.claims (Waits ticket), []))
 
-  -- the seat, which had the claims of the first, is served: its front is the whole history, and it holds the slot with the value of that history
+  -- the seat, which had the claims of the first, is served: its front is the whole history, and it holds the slot with the
+  -- value of that history
   abbrev pub HasTurn : (G → S → List E → Type 0) → (E → ℕ) → Me S (View E G) → Me S (View E G) → Type 0
-  HasTurn keeps number me me' = (opening : G) × (history : List E) × (value : S) × (ticket : ℕ) × Starts me.0.claims opening × IsPrefix (front_of me.0.claims) history × (own number (number_of me.0.claims) history ≡ mine_of me.0.claims) × keeps opening value history
+  HasTurn keeps number me me' = (opening : G) × (history : List E) × (value : S) × (ticket : ℕ)
+      × Starts me.0.claims opening × IsPrefix (front_of me.0.claims) history
+      × (own number (number_of me.0.claims) history ≡ mine_of me.0.claims) × keeps opening value history
       × (me' ≡ (view (claim (number_of me.0.claims) opening history (mine_of me.0.claims) ∷ []) (Serves ticket), (0, value) ∷ []))
 
   -- the seat has one claim, is served, and holds the slot
@@ -56,11 +59,14 @@ module _ {V E G : Type 0} (history : V → List E) (number : E → ℕ) (opening
   abbrev pub Appends : ℕ → V → V → Type 0
   Appends k x x' = (history x' ≡ history x) ⊎ ((entry : E) × (number entry ≡ k) × (history x' ≡ history x ++ entry ∷ []))
 
-  -- f may be called at each value of this opening state whose history begins with the front; it appends nothing or one entry of this number, and leaves the opening state as it was
+  -- f may be called at each value of this opening state whose history begins with the front; it appends nothing or one entry
+  -- of this number, and leaves the opening state as it was
   abbrev pub IsTurn : {F R : Type 0} → Once F (MutBor V × (ℕ × Unit {0})) (R × (MutBor V × Unit {0})) → F → ℕ → G → List E → Type 0
-  IsTurn {F} {R} call f k from front = (x : V) → IsPrefix front (history x) → opening x ≡ from → Takes call f k x × ((r : R) (x' : V) → Gives call f k x r x' → Appends k x x' × (opening x' ≡ opening x))
+  IsTurn {F} {R} call f k from front = (x : V) → IsPrefix front (history x) → opening x ≡ from
+      → Takes call f k x × ((r : R) (x' : V) → Gives call f k x r x' → Appends k x x' × (opening x' ≡ opening x))
 
-  -- f was lent x, whose history begins with the front, and left x' with the answer r; the new front is the history of x', and the pass's own entries grew by the one that f appended, or stayed
+  -- f was lent x, whose history begins with the front, and left x' with the answer r; the new front is the history of x', and
+  -- the pass's own entries grew by the one that f appended, or stayed
   abbrev pub TookTurn : {F R : Type 0} → Once F (MutBor V × (ℕ × Unit {0})) (R × (MutBor V × Unit {0})) → F → ℕ → G → List E → List E → R → List E → List E → Type 0
   TookTurn call f k from front mine r front' mine' = (x : V) × (x' : V) × IsPrefix front (history x) × Gives call f k x r x' × (front' ≡ history x')
       × (((history x' ≡ history x) × (mine' ≡ mine)) ⊎ ((entry : E) × (number entry ≡ k) × (history x' ≡ history x ++ entry ∷ []) × (mine' ≡ mine ++ entry ∷ [])))
@@ -76,4 +82,5 @@ module _ {V E G : Type 0} (history : V → List E) (number : E → ℕ) where
   -- the claims have the value's history as their front, and its last entry as their own where there is one more
   abbrev pub HasPut : List (Claim E G) → V → List (Claim E G) → Type 0
   HasPut claims x claims' = (number_of claims' ≡ number_of claims) × (front_of claims' ≡ history x) × IsOwn number claims'
-      × (((history x ≡ front_of claims) × (mine_of claims' ≡ mine_of claims)) ⊎ ((entry : E) × (number entry ≡ number_of claims) × (history x ≡ front_of claims ++ entry ∷ []) × (mine_of claims' ≡ mine_of claims ++ entry ∷ [])))
+      × (((history x ≡ front_of claims) × (mine_of claims' ≡ mine_of claims))
+      ⊎ ((entry : E) × (number entry ≡ number_of claims) × (history x ≡ front_of claims ++ entry ∷ []) × (mine_of claims' ≡ mine_of claims ++ entry ∷ [])))

@@ -28,7 +28,8 @@ module _ {V E G : Type 0} {K : Ghosts V E G} where
 
   -- each pass's front begins the history, and the entries of its number there are those that it appended
   abbrev pub AreKnown : (E → ℕ) → List E → List (Pass V E G K) → Type 0
-  AreKnown number history passes = (i : ℕ) (pass : Pass V E G K) → slice_get passes i ≡ Some pass → IsPrefix (front pass) history × (own number (pass_number pass) history ≡ mine pass)
+  AreKnown number history passes = (i : ℕ) (pass : Pass V E G K) → slice_get passes i ≡ Some pass
+      → IsPrefix (front pass) history × (own number (pass_number pass) history ≡ mine pass)
 
   -- each is a pass of this turnstile
   abbrev pub AreOf : Turnstile V E G → List (Pass V E G K) → Type 0
@@ -41,4 +42,5 @@ module _ {V E G : Type 0} {K : Ghosts V E G} where
   -- of all passes some are left, and the seat, which rests, has the claims of the others
   abbrev pub Gathers : {S : Type 0} → List (Pass V E G K) → List (Pass V E G K) → Me S (View E G) → Type 0
   Gathers all rest me = (me ≡ (view me.0.claims Idle, [])) × (length me.0.claims + length rest ≡ length all)
-      × ((i : ℕ) (pass : Pass V E G K) → slice_get all i ≡ Some pass → (slice_get rest i ≡ Some pass) ⊎ ((k : ℕ) × (claim : Claim E G) × (get_elem? me.0.claims k ≡ some claim) × IsClaimOf pass claim))
+      × ((i : ℕ) (pass : Pass V E G K) → slice_get all i ≡ Some pass
+      → (slice_get rest i ≡ Some pass) ⊎ ((k : ℕ) × (claim : Claim E G) × (get_elem? me.0.claims k ≡ some claim) × IsClaimOf pass claim))

@@ -1,6 +1,7 @@
 -- The rule of the turnstile, and what each step tells the seat that takes it.
--- Word 0 is the next ticket and word 1 the one that is served, both modulo 2^64. Word 2 is the length of the history. Slot 0 has the value.
--- A seat has claims, one for each pass that it stands for: at first one seat has all, and while passes are out each has its own.
+-- Word 0 is the next ticket and word 1 the one that is served, both modulo 2^64. Word 2 is the length of the history. Slot 0
+-- has the value. A seat has claims, one for each pass that it stands for: at first one seat has all, and while passes are out
+-- each has its own.
 use Rattle.std.specs.Prelude.{◌≡◌, ◌≢◌, ℕ, zero, suc, ◌+◌, ◌%◌, ◌^◌, ◌<◌, ◌≤◌, ◌==◌, Bool, true, false, List, [], ◌∷◌, ◌++◌, length, filter, Some}
 use Rattle.std.specs.Prelude as std
 use mathlib.Core.Option.{Option, none, some}
@@ -96,7 +97,8 @@ module _ {E G : Type 0} where
 
   -- each claim of a seat's view is right, and so is its stage
   abbrev pub Fits : (E → ℕ) → G → List E → ℕ → ℕ → (ℕ → ℕ) → ℕ → View E G → Type 0
-  Fits number opening history next served seat j v = ((i : ℕ) (c : Claim E G) → get_elem? v.claims i ≡ some c → Claimed number opening history c) × Stands history next served seat j v.claims v.stage
+  Fits number opening history next served seat j v = ((i : ℕ) (c : Claim E G) → get_elem? v.claims i ≡ some c → Claimed number opening history c)
+      × Stands history next served seat j v.claims v.stage
 
   -- the slot is out only while a seat is served; where it is at home its value has this history, and no seat is served
   abbrev pub Lies : {S : Type 0} → (S → List E → Type 0) → List E → List (View E G) → Option S → Type 0
@@ -109,7 +111,9 @@ module _ {E G : Type 0} where
 
 -- ---- the rule
 
--- what always holds of the words, the slot and the views of a turnstile with so many passes: the tickets that are out lie between the two words, no number is claimed twice, no number that no pass has is claimed or has an entry, and each view is right
+-- what always holds of the words, the slot and the views of a turnstile with so many passes: the tickets that are out lie
+-- between the two words, no number is claimed twice, no number that no pass has is claimed or has an entry, and each view is
+-- right
 pub record Turned {S E G : Type 0} (keep : G → S → List E → Type 0) (num : E → ℕ) (n : ℕ) (s : State S (View E G)) : Type 0 where
   pub start : G
   pub log : List E
@@ -162,7 +166,9 @@ module _ {S E G : Type 0} where
 
   -- the seat is served: its front is the whole history, and it holds the slot with the value of that history
   abbrev pub Served : (G → S → List E → Type 0) → (E → ℕ) → Me S (View E G) → Me S (View E G) → Type 0
-  Served keeps number me me' = (opening : G) × (history : List E) × (value : S) × Starts me.0.claims opening × IsPrefix (front_of me.0.claims) history × (own number (number_of me.0.claims) history ≡ mine_of me.0.claims) × keeps opening value history
+  Served keeps number me me' = (opening : G) × (history : List E) × (value : S)
+      × Starts me.0.claims opening × IsPrefix (front_of me.0.claims) history
+      × (own number (number_of me.0.claims) history ≡ mine_of me.0.claims) × keeps opening value history
       × (me' ≡ (view (claim (number_of me.0.claims) opening history (mine_of me.0.claims) ∷ []) (Serves (ticket me.0.stage)), (0, value) ∷ me.1))
 
   -- the seat is served where the word says its ticket, and else waits on
@@ -171,7 +177,8 @@ module _ {S E G : Type 0} where
 
   -- the one entry that the value in hand has beyond the front, of the seat's number, is now in its front and its own
   abbrev pub counted : (G → S → List E → Type 0) → (E → ℕ) → Me S (View E G) → ℕ → Me S (View E G) → Type 0
-  counted keeps number me r me' = (entry : E) × (opening : G) × Starts me.0.claims opening × (number entry ≡ number_of me.0.claims) × ((value : S) (others : List (ℕ × S)) → me.1 ≡ (0, value) ∷ others → keeps opening value (front_of me.0.claims ++ entry ∷ []))
+  counted keeps number me r me' = (entry : E) × (opening : G) × Starts me.0.claims opening × (number entry ≡ number_of me.0.claims)
+      × ((value : S) (others : List (ℕ × S)) → me.1 ≡ (0, value) ∷ others → keeps opening value (front_of me.0.claims ++ entry ∷ []))
       × (me' ≡ (view (claim (number_of me.0.claims) opening (front_of me.0.claims ++ entry ∷ []) (mine_of me.0.claims ++ entry ∷ []) ∷ []) me.0.stage, me.1))
 
   -- the seat has no ticket, and the slot is at home

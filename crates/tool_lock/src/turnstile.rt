@@ -69,13 +69,13 @@ impl<V: Kept + Drop> Turnstile<V> {
     ) -> R
         requires own { seat.old.table_id ≡ self.now.table.shared.table_id }
         requires rests { RestsAs number seat.old.me }
-        requires starts { Starts seat.old.me.0.claims (V.opening self.now.table.shared.key.start.value) }
-        requires turn { IsTurn V.history V.number V.opening F.FnOnce f number (V.opening self.now.table.shared.key.start.value) (front_of seat.old.me.0.claims) }
+        requires starts { Starts seat.old.me.0.claims (V.opening (start self.now)) }
+        requires turn { IsTurn V.history V.number V.opening F.FnOnce f number (V.opening (start self.now)) (front_of seat.old.me.0.claims) }
         ensures same { (seat.new.table_id ≡ seat.old.table_id) × (seat.new.id ≡ seat.old.id) }
         ensures rests { RestsAs number seat.new.me }
         ensures mine { IsOwn V.number seat.new.me.0.claims }
-        ensures starts { Starts seat.new.me.0.claims (V.opening self.now.table.shared.key.start.value) }
-        ensures turn { TookTurn V.history V.number V.opening F.FnOnce f number (V.opening self.now.table.shared.key.start.value) (front_of seat.old.me.0.claims) (mine_of seat.old.me.0.claims) result (front_of seat.new.me.0.claims) (mine_of seat.new.me.0.claims) }
+        ensures starts { Starts seat.new.me.0.claims (V.opening (start self.now)) }
+        ensures turn { TookTurn V.history V.number V.opening F.FnOnce f number (V.opening (start self.now)) (front_of seat.old.me.0.claims) (mine_of seat.old.me.0.claims) result (front_of seat.new.me.0.claims) (mine_of seat.new.me.0.claims) }
     {
         self.enter(rt, seat);
         let Some(mut value) = self.table.shared.exchange(seat, 0, None) else {

@@ -10,7 +10,7 @@ use body_parts::writing::{code, list, u1, u4};
 use secs_items::{Bools, Bytes, Item, Items, NoMemory};
 use std::alloc::Global;
 
-// The carrier may be worked on, at its port.
+/// That the carrier may be worked on, at its port: the text of S3F17 (SEMI E87, carrier action request).
 pub fn proceed(alloc: Global, carrier: &[u8], port: u8) -> Result<Item, NoMemory>
     ensures { IfOk result (λ item. view item ≡ proceed_asked carrier.now port) }
 {
@@ -23,7 +23,7 @@ pub fn proceed(alloc: Global, carrier: &[u8], port: u8) -> Result<Item, NoMemory
     Ok(Item::List(parts))
 }
 
-// A process job over all of a carrier, by a recipe.
+/// A process job over all of a carrier, by a recipe: the text of S16F11 (SEMI E40, process job creation).
 pub fn process_job(
     alloc: Global,
     job: &[u8],
@@ -43,7 +43,7 @@ pub fn process_job(
     Ok(Item::List(parts))
 }
 
-// A control job of one process job.
+/// A control job of one process job: the text of S14F9 (SEMI E94, control job creation).
 pub fn control_job(alloc: Global, control: &[u8], job: &[u8]) -> Result<Item, NoMemory>
     ensures { IfOk result (λ item. view item ≡ control_job_asked control.now job.now) }
 {

@@ -14,5 +14,5 @@ mod worked;
 
 pub use drawing::draw;
 pub use lot::lot_line;
-pub use sim_module::{NoMemory, SimModule};
+pub use sim_module::SimModule;
 pub use worked::{a_module_fails_at_the_acts_of_its_plan, numbers_are_drawn_from_the_seed};

@@ -1,6 +1,6 @@
 //! The lines of a carrier in a batch.
 
-ghost use Rattle.std.specs.Prelude.{◌≡◌, ◌≤◌, ◌+◌, ◌-◌, ◌*◌, ◌^◌, ◌++◌, nat_le, length, IfOk, OnOk, OnErr};
+ghost use Rattle.std.specs.Prelude.{◌≡◌, ◌≤◌, ◌^◌, ◌++◌, nat_le, IfOk, OnOk, OnErr};
 ghost use Rattle.gem_ids.specs.Names.{two_digits};
 ghost use Rattle.secs_items.specs.View.{view};
 ghost use Rattle.secs_items.specs.Weight.{IsBounded};
@@ -8,9 +8,8 @@ ghost use Rattle.tool_events.specs.Configs.{IsConfig};
 ghost use Rattle.sim_modules.specs.Lot.{asked_header, carrier_name, control_job_line, control_job_name, first_recipe, host_line, lot_line, lot_number, lot_port, placed_line, proceed_line, process_job_line, process_job_name, removed_line};
 
 use crate::asked::{control_job, proceed, process_job};
-use crate::sim_module::NoMemory;
 use gem_ids::Text80;
-use hsms_frame::{Bytes, Frame, Header, write_frame};
+use hsms_frame::{Bytes, Frame, Header, NoMemory, write_frame};
 use secs_items::{Item, encode};
 use std::alloc::Global;
 use tool_events::{Config, Recipes};
@@ -59,6 +58,7 @@ fn digits(k: u32) -> [u8; 2]
     [b'0' + (number / 10) as u8, b'0' + (number % 10) as u8]
 }
 
+// The name of a carrier.
 fn carrier_name(k: u32) -> [u8; 5]
     requires { 1 ≤ k }
     ensures { result ≡ carrier_name k }
@@ -67,6 +67,7 @@ fn carrier_name(k: u32) -> [u8; 5]
     [b'L', b'O', b'T', tens, ones]
 }
 
+// The name of its process job.
 fn process_job_name(k: u32) -> [u8; 4]
     requires { 1 ≤ k }
     ensures { result ≡ process_job_name k }
@@ -75,6 +76,7 @@ fn process_job_name(k: u32) -> [u8; 4]
     [b'P', b'J', tens, ones]
 }
 
+// The name of its control job.
 fn control_job_name(k: u32) -> [u8; 4]
     requires { 1 ≤ k }
     ensures { result ≡ control_job_name k }

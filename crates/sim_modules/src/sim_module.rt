@@ -4,12 +4,10 @@ ghost use Rattle.std.specs.Prelude.{◌≡◌, IfOk};
 ghost use Rattle.sim_modules.specs.Acting.{begun, fails_next, answered, one_more};
 
 use gem_ids::ModuleId;
-use std::alloc::{AllocError, Global};
+use hsms_frame::NoMemory;
+use std::alloc::Global;
 use std::marker::Model;
 use tool_events::{Command, Signal};
-
-/// Memory ran out.
-pub type NoMemory = AllocError;
 
 /// A simulated robot, aligner or chamber. It does what it is told, but fails at the acts of its plan.
 #[derive(Debug, Drop)]

@@ -1,7 +1,6 @@
 //! Worked answers and numbers, computed from the definitions. Each function is a statement about them, and has no code.
 
-ghost use Rattle.std.specs.Prelude.{◌≡◌, [], ◌∷◌, codes};
-ghost use Rattle.gem_ids.specs.declared.numbers.ModuleId.{ModuleId};
+ghost use Rattle.std.specs.Prelude.{◌≡◌, [], ◌∷◌};
 ghost use Rattle.tool_events.specs.declared.event.Signal.TheVariants.{Done, Failed};
 ghost use Rattle.sim_modules.specs.Acting.{answered, begun, one_more};
 ghost use Rattle.sim_modules.specs.Drawing.{drawn};

@@ -7,41 +7,47 @@
 # Then the carrier is removed. The names of carrier and jobs come again with each lot; the control job that is COMPLETED is replaced.
 # No event is enabled.
 #
-# Which commands come is the tool's to say, so the lines of a run are written by a first run, in which an awk answers each command
-# that is printed; the run that is timed is given these lines. A ratio of at most 2.2 is wanted: twice the lots take about twice the
-# time. The times are processor times, which a busy machine changes little. This is a measurement. It is no test, and no part of the
-# merge gate. Build the program first:
+# Which commands come is the tool's to say, so the lines of a run are written by a first run, in which each command that is printed is
+# answered; the runs that are timed are given these lines. A ratio of at most 2.2 is wanted: twice the lots take about twice the time.
+# The times are processor times, the least of three runs each. This is a measurement. It is no test, and no part of the merge gate.
+# Build the program first:
 #
 #     cd crates/gem300_tool && rt run -- feed ../../examples/first.toml < ../../examples/communication.lines
 set -euo pipefail
 cd "$(dirname "$0")/.."
 source bench/feeding.sh
 
-# A link that is selected under system bytes 1, and so many lots, whose messages have system bytes from 2 on: S3F17 L[U4 0, A
-# ProceedWithCarrier, A CAR01, U1 1, L[]] twice, S16F11 L[U4 0, A PJ1, B 0D, L[L[A CAR01, L[]]], L[U1 1, A R1, L[]], BOOL true, L[]],
-# and S14F9 L[A, A ControlJob, L[L[A ObjID, A CJ1], L[A ProcessingCtrlSpec, L[A PJ1]]]]. Each command that is read is done, and behind
-# the last of a lot the carrier is removed.
+# The lot of this number: its messages have system bytes from 2 on, four of them S3F17 L[U4 0, A ProceedWithCarrier, A CAR01, U1 1, L[]]
+# twice, S16F11 L[U4 0, A PJ1, B 0D, L[L[A CAR01, L[]]], L[U1 1, A R1, L[]], BOOL true, L[]], and S14F9 L[A, A ControlJob, L[L[A ObjID,
+# A CJ1], L[A ProcessingCtrlSpec, L[A PJ1]]]].
+lot() {
+    local proceed=0105B10400000000411250726F63656564576974684361727269657241054341523031A501010100
+    echo "S placed 1 CAR01 3333333333333333333333333"
+    printf 'H 00000032000083110000%08X%s\n' $((4 * $1 + 2)) $proceed $((4 * $1 + 3)) $proceed
+    printf 'H 000000370000900B0000%08X%s\n' $((4 * $1 + 4)) \
+        0107B104000000004103504A3121010D010101024105434152303101000103A501014102523101002501010100
+    printf 'H 0000004700008E090000%08X%s\n' $((4 * $1 + 5)) \
+        01034100410A436F6E74726F6C4A6F620102010241054F626A49444103434A310102411250726F63657373696E674374726C5370656301014103504A31
+}
+
+# A link that is selected under system bytes 1, and so many lots. Each command that is read is done, and behind the last of a lot the
+# carrier is removed.
 answers() {
-    awk -v count="$1" '
-        function lot(i) {
-            print "S placed 1 CAR01 3333333333333333333333333"
-            printf "H 00000032000083110000%08X0105B10400000000411250726F63656564576974684361727269657241054341523031A501010100\n", 4 * i + 2
-            printf "H 00000032000083110000%08X0105B10400000000411250726F63656564576974684361727269657241054341523031A501010100\n", 4 * i + 3
-            printf "H 000000370000900B0000%08X0107B104000000004103504A3121010D010101024105434152303101000103A501014102523101002501010100\n", 4 * i + 4
-            printf "H 0000004700008E090000%08X01034100410A436F6E74726F6C4A6F620102010241054F626A49444103434A310102411250726F63657373696E674374726C5370656301014103504A31\n", 4 * i + 5
-            fflush()
-        }
-        BEGIN { print "L+"; print "H 0000000AFFFF0000000100000001"; lot(0) }
-        $1 == "!" {
-            print "S done " $2 " " $3
-            done++
-            if (done % 200 == 0) {
-                print "S removed 1"
-                if (done == 200 * count) { print "O quit"; fflush(); exit }
-                lot(done / 200)
-            }
-            fflush()
-        }'
+    local finished=0 mark module number task
+    echo L+
+    echo H 0000000AFFFF0000000100000001
+    lot 0
+    while [ $finished -lt $((200 * $1)) ] && read -r mark module number task; do
+        [ "$mark" = "!" ] || continue
+        echo "S done $module $number"
+        finished=$((finished + 1))
+        if [ $((finished % 200)) -eq 0 ]; then
+            echo "S removed 1"
+            [ $finished -eq $((200 * $1)) ] || lot $((finished / 200))
+        fi
+    done
+    echo O quit
+    cat > /dev/null
 }
 
 # Writes the lines of so many lots.
@@ -51,10 +57,15 @@ write_lines() {
     "$program" feed "$config" < <(answers "$1" < "$work/told" | tee "$work/lines") > "$work/told"
 }
 
-# Feeds so many lots, and prints what they took.
+# Feeds so many lots three times, and prints what the quickest run took.
 measure() {
+    local least= run
     write_lines "$1"
-    feed
+    for run in 1 2 3; do
+        feed
+        least=$(awk -v a="${least:-$seconds}" -v b="$seconds" 'BEGIN { print a < b ? a : b }')
+    done
+    seconds=$least
     awk -v count="$1" -v seconds="$seconds" '
         FNR == NR { if (/^[>!]/) taken++; next }
         { posted++ }

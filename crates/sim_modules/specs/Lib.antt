@@ -1,0 +1,4 @@
+pub mod Acting
+pub mod Drawing
+pub mod Lot
+pub mod Worked

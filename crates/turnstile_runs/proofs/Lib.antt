@@ -1,0 +1,2 @@
+mod Raises
+mod TwoPasses

@@ -6,10 +6,10 @@
 
 use crate::message_words::said;
 use anyhow::{Result, bail};
-use msgs_gem::{BodyFault, accepts_communication, read_gem};
+use msgs_gem::{accepts_communication, read_gem};
 use secs_items::read_one;
 use std::alloc::Global;
-use test_lines::{Subject, bytes, words};
+use test_lines::{Subject, bytes};
 
 /// Messages of the host, each by its stream and function.
 #[derive(Drop)]
@@ -20,49 +20,57 @@ pub struct Messages {
 impl Messages {
     /// The messages of these names, as `S1F3 S1F11`.
     pub fn new(alloc: Global, names: &str) -> Result<Messages> {
-        let mut messages = Vec::new(alloc);
-        for name in names.split_whitespace() {
-            messages.push(stream_and_function(name)?)?;
+        match names_in(alloc, names) {
+            Some(names) => Ok(Messages { names }),
+            None => bail!("one is no stream and function, or there is no memory"),
         }
-        Ok(Messages { names: messages })
     }
 }
 
-fn stream_and_function(name: &str) -> Result<(u8, u8)> {
-    let Some((stream, function)) = name.split_once('F') else {
-        bail!("{name} is no stream and function");
-    };
-    let Some(stream) = stream.strip_prefix('S') else {
-        bail!("{name} is no stream and function");
-    };
-    Ok((stream.parse::<u8>()?, function.parse::<u8>()?))
+fn names_in(alloc: Global, text: &str) -> Option<Vec<(u8, u8)>> {
+    let mut names = Vec::new(alloc);
+    for name in text.split_whitespace() {
+        names.push(stream_and_function(name)?).ok()?;
+    }
+    Some(names)
+}
+
+fn stream_and_function(name: &str) -> Option<(u8, u8)> {
+    let (stream, function) = name.strip_prefix("S")?.split_once('F')?;
+    let stream = stream.parse::<u8>().ok()?;
+    let function = function.parse::<u8>().ok()?;
+    Some((stream, function))
 }
 
 impl Subject for Messages {
     fn answer(&mut self, alloc: Global, asked: &str) -> Result<String> {
-        let text = text_of(alloc, asked)?;
-        let mut answer = String::new(alloc);
-        for (place, name) in self.names.iter().enumerate() {
-            let said = said_of(alloc, *name, text.as_slice())?;
-            if place > 0 && said.as_str() != answer.as_str() {
-                return Ok(format!(in alloc; "{answer}; {said} as S{}F{}", name.0, name.1)?);
-            }
-            answer = said;
+        match said_of_all(alloc, self.names.as_slice(), asked) {
+            Some(answer) => Ok(answer),
+            None => bail!("it says nothing, or there is no memory"),
         }
-        Ok(answer)
     }
 }
 
+// What messages say of a text, all the same. None where a line tells no text.
+fn said_of_all(alloc: Global, names: &[(u8, u8)], asked: &str) -> Option<String> {
+    let text = text_of(alloc, asked)?;
+    let mut answer = String::new(alloc);
+    for (place, name) in names.iter().enumerate() {
+        let said = said_of(alloc, *name, text.as_slice())?;
+        if place > 0 && said.as_str() != answer.as_str() {
+            return format!(in alloc; "{answer}; {said} as S{}F{}", name.0, name.1).ok();
+        }
+        answer = said;
+    }
+    Some(answer)
+}
+
 // What a message says of a text, or why it says nothing.
-fn said_of(alloc: Global, name: (u8, u8), text: &[u8]) -> Result<String> {
-    let item = match read_one(alloc, text) {
-        Ok(item) => item,
-        Err(_) => bail!("there is no memory"),
-    };
+fn said_of(alloc: Global, name: (u8, u8), text: &[u8]) -> Option<String> {
+    let item = read_one(alloc, text).ok()?;
     match read_gem(alloc, name.0, name.1, item.as_ref()) {
         Ok(message) => said(alloc, name, &message),
-        Err(BodyFault::NoMemory) => bail!("there is no memory"),
-        Err(fault) => Ok(format!(in alloc; "{fault}")?),
+        Err(fault) => format!(in alloc; "{fault}").ok(),
     }
 }
 
@@ -72,38 +80,35 @@ pub struct Acknowledge;
 
 impl Subject for Acknowledge {
     fn answer(&mut self, alloc: Global, asked: &str) -> Result<String> {
-        let text = text_of(alloc, asked)?;
-        let item = match read_one(alloc, text.as_slice()) {
-            Ok(item) => item,
-            Err(_) => bail!("there is no memory"),
-        };
-        let accepts = accepts_communication(item.as_ref());
-        Ok(format!(in alloc; "{accepts}")?)
+        match accepted(alloc, asked) {
+            Some(answer) => Ok(answer),
+            None => bail!("it says nothing, or there is no memory"),
+        }
     }
+}
+
+fn accepted(alloc: Global, asked: &str) -> Option<String> {
+    let text = text_of(alloc, asked)?;
+    let item = read_one(alloc, text.as_slice()).ok()?;
+    format!(in alloc; "{}", accepts_communication(item.as_ref())).ok()
 }
 
 // The text of the digits behind the word `text`.
-fn text_of(alloc: Global, asked: &str) -> Result<Vec<u8>> {
-    let words = words(alloc, asked)?;
-    let Some((first, digits)) = words.as_slice().split_first() else {
-        bail!("it says nothing");
-    };
-    if *first != "text" {
-        bail!("it says nothing");
-    }
+fn text_of(alloc: Global, asked: &str) -> Option<Vec<u8>> {
     let mut text = Vec::new(alloc);
-    for word in digits {
+    for word in asked.strip_prefix("text ")?.split_whitespace() {
         add(alloc, &mut text, word)?;
     }
-    Ok(text)
+    Some(text)
 }
 
 // The bytes of digits, as often as they are counted.
-fn add(alloc: Global, text: &mut Vec<u8>, word: &str) -> Result<()> {
+fn add(alloc: Global, text: &mut Vec<u8>, word: &str) -> Option<()> {
     let (digits, count) = word.split_once('*').unwrap_or((word, "1"));
-    let bytes = bytes(alloc, digits)?;
-    for _ in 0..count.parse::<u32>()? {
-        text.extend_from_slice(bytes.as_slice())?;
+    let count = count.parse::<u32>().ok()?;
+    let bytes = bytes(alloc, digits).ok()?;
+    for _ in 0..count {
+        text.extend_from_slice(bytes.as_slice()).ok()?;
     }
-    Ok(())
+    Some(())
 }

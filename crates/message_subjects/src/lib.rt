@@ -3,7 +3,7 @@
 #![tactic(auto)]
 
 mod bodies;
+mod lists;
 mod message_words;
-mod parts;
 
 pub use bodies::{Acknowledge, Messages};

@@ -2,161 +2,138 @@
 //! chambers, each module Idle, Busy or Down.
 
 use crate::names::numbered;
-use crate::sentences::Scene;
-use anyhow::Result;
-use gem_ids::{CmdNo, LocId, ModuleId, PortNo, SlotNo, Text80};
+use crate::sentences::{is_empty, next};
+use gem_ids::{CmdNo, LocId, ModuleId, PortNo, SlotNo, SubstrateId};
 use robot_moves::{Modules, PlaceView, Planner};
 use std::alloc::Global;
 use tool_events::{Command, Task};
 
-/// Where a substrate is.
-#[derive(Clone, Copy, PartialEq, Eq)]
-enum Stands {
-    Nowhere,
-    InSlot,
-    At(LocId),
-}
-
-/// A condition of a substrate: where it is, whether it is aligned, finished and IN PROCESS, and whether it may start.
-#[derive(Clone, Copy)]
-struct Condition {
-    stands: Stands,
-    aligned: bool,
-    finished: bool,
-    in_process: bool,
-    may_start: bool,
-}
-
-fn standing(place: Stands, flags: [bool; 4]) -> Condition {
-    let [aligned, finished, in_process, may_start] = flags;
-    Condition {
-        stands: place,
-        aligned,
-        finished,
-        in_process,
-        may_start,
-    }
-}
-
-const ALIGNER: Stands = Stands::At(LocId::Aligner);
-
-const ARM: Stands = Stands::At(LocId::Arm);
-
-const FIRST: Stands = Stands::At(LocId::Chamber(1));
-
-const SECOND: Stands = Stands::At(LocId::Chamber(2));
-
-// The conditions of a substrate in all its places, by a number below 16.
-fn condition_of(number: u32) -> Condition {
-    match number {
-        0 => standing(Stands::Nowhere, [false; 4]),
-        1 => standing(Stands::InSlot, [false, false, false, true]),
-        2 => standing(Stands::InSlot, [false; 4]),
-        3 => standing(Stands::InSlot, [true, true, false, true]),
-        4 => standing(ALIGNER, [false, false, false, true]),
-        5 => standing(ALIGNER, [true, false, false, true]),
-        6 => standing(ALIGNER, [false, true, false, true]),
-        7 => standing(ARM, [false, false, false, true]),
-        8 => standing(ARM, [true, false, false, true]),
-        9 => standing(ARM, [true, true, false, true]),
-        10 => standing(FIRST, [true, false, false, true]),
-        11 => standing(FIRST, [true, false, true, true]),
-        12 => standing(FIRST, [true, true, false, true]),
-        13 => standing(SECOND, [true, false, false, true]),
-        14 => standing(SECOND, [true, false, true, true]),
-        _ => standing(SECOND, [true, true, false, true]),
-    }
-}
-
-/// What all states show: how many there are, or the first in which the planner goes otherwise.
-pub(crate) fn compared(alloc: Global) -> Result<String> {
-    let scenes = every_modules(alloc)?;
-    let planner = Planner::new()?;
-    let mut places = Vec::with_capacity(alloc, 4)?;
-    let mut count = 0_u64;
-    for code in 0..65_536_u32 {
-        if !placed(&mut places, code)? {
-            continue;
-        }
-        for modules in scenes.as_slice() {
-            let places = places.as_slice();
-            if planner.next(places, modules) != (Scene { places, modules }).next() {
-                return Ok(format!(in alloc; "state {code} goes otherwise")?);
-            }
-            count = count.wrapping_add(1);
-        }
-    }
-    Ok(format!(in alloc; "no difference in {count} states")?)
-}
-
-// Puts the substrates of a state into the list, and tells whether it is one: no two are at one place.
-fn placed(places: &mut Vec<PlaceView>, code: u32) -> Result<bool> {
-    places.clear();
-    for one in 0..4_u8 {
-        let condition = condition_of(code >> (4 * u32::from(one)) & 15);
-        if !add(places, one, condition)? {
-            return Ok(false);
-        }
-    }
-    Ok(true)
-}
-
-// One more substrate, by its place in the list from 0, and whether it is alone where it is.
-fn add(places: &mut Vec<PlaceView>, one: u8, condition: Condition) -> Result<bool> {
-    let slot = LocId::Slot(PortNo(1), SlotNo(one.wrapping_add(1)));
-    let at = match condition.stands {
-        Stands::Nowhere => return Ok(true),
-        Stands::InSlot => slot,
-        Stands::At(loc) => loc,
+/// What all states show: how many there are, and whether the planner goes otherwise in some. None where there is no memory.
+pub(crate) fn compare(alloc: Global, answer: &mut String) -> Option<()> {
+    let Ok(mut modules) = Modules::new(alloc, 2) else {
+        return None;
     };
-    for other in places.as_slice() {
-        if other.at == at {
-            return Ok(false);
-        }
-    }
-    let numbers = [3, 1, 4, 2];
-    let recipes = [3, 1, 2, 3];
-    places.push(PlaceView {
-        sub: numbered(u64::from(one))?,
-        number: numbers[one as usize & 3],
-        at,
-        slot,
-        aligned: condition.aligned,
-        finished: condition.finished,
-        in_process: condition.in_process,
-        may_start: condition.may_start,
-        chambers: recipes[one as usize & 3],
-        recipe: Text80::read(b"R1")?,
-    })?;
-    Ok(true)
+    let mut places = Vec::new(alloc);
+    compare_all(&mut modules, &mut places, answer)
 }
 
-// The modules in each of their states.
-fn every_modules(alloc: Global) -> Result<Vec<Modules>> {
-    let mut all = Vec::new(alloc);
+fn compare_all(
+    modules: &mut Modules,
+    places: &mut Vec<PlaceView>,
+    answer: &mut String,
+) -> Option<()> {
+    let Some(name) = numbered(0) else {
+        return None;
+    };
+    let substrates = [
+        in_slot(1, 3, 3, name),
+        in_slot(2, 1, 1, name),
+        in_slot(3, 4, 2, name),
+        in_slot(4, 2, 3, name),
+    ];
+    let mut count = 0_u64;
+    let mut difference = "no difference";
     for code in 0..81_u8 {
-        let mut modules = Modules::new(alloc, 2)?;
-        set(&mut modules, 1, code % 3)?;
-        set(&mut modules, 2, code / 3 % 3)?;
-        set(&mut modules, 3, code / 9 % 3)?;
-        set(&mut modules, 4, code / 27)?;
-        all.push(modules)?;
+        set(modules, 1, code % 3, name);
+        set(modules, 2, code / 3 % 3, name);
+        set(modules, 3, code / 9 % 3, name);
+        set(modules, 4, code / 27, name);
+        let (states, alike) = compared(&substrates, places, modules);
+        count = count.wrapping_add(states);
+        if !alike {
+            difference = "a difference";
+        }
     }
-    Ok(all)
+    write!(answer, "{difference} in {count} states").ok()
 }
 
-// A module that is Idle is Busy or Down then, or stays Idle.
-fn set(modules: &mut Modules, module: u8, state: u8) -> Result<()> {
-    let task = Task::Align { sub: numbered(9)? };
-    let number = CmdNo(u64::from(module));
-    match state {
-        1 => {
-            modules.issue(ModuleId(module), Command { number, task });
-        }
-        2 => {
-            modules.down(ModuleId(module));
-        }
-        _ => {}
+// A module becomes Idle, Busy or Down, by a number below 3.
+fn set(modules: &mut Modules, module: u8, state: u8, sub: SubstrateId) {
+    let id = ModuleId(module);
+    modules.down(id);
+    if state != 2 {
+        modules.up(id);
     }
-    Ok(())
+    if state == 1 {
+        let number = CmdNo(u64::from(module));
+        let task = Task::Align { sub };
+        modules.issue(id, Command { number, task });
+    }
+}
+
+// How many states of the substrates there are with these modules, and whether the planner goes as the sentences in all of them.
+fn compared(
+    substrates: &[PlaceView; 4],
+    places: &mut Vec<PlaceView>,
+    modules: &Modules,
+) -> (u64, bool) {
+    let mut count = 0_u64;
+    let mut alike = true;
+    for state in 0..65_536_u32 {
+        if placed(substrates, places, state) {
+            count = count.wrapping_add(1);
+            if (Planner {}).next(places.as_slice(), modules) != next(places.as_slice(), modules) {
+                alike = false;
+            }
+        }
+    }
+    (count, alike)
+}
+
+// Puts the substrates of a state into the list, each in its condition by four bits, and tells whether it is one: no two are at
+// one place, and there is memory.
+fn placed(substrates: &[PlaceView; 4], places: &mut Vec<PlaceView>, state: u32) -> bool {
+    places.clear();
+    let mut conditions = state;
+    for substrate in substrates {
+        let condition = conditions & 15;
+        conditions >>= 4;
+        if condition != 0 {
+            let view = in_condition(substrate, condition);
+            if !is_empty(places.as_slice(), view.at) || places.push(view).is_err() {
+                return false;
+            }
+        }
+    }
+    true
+}
+
+// A substrate in its slot; its name is another where there is one of this number.
+fn in_slot(one: u8, number: u64, chambers: u8, name: SubstrateId) -> PlaceView {
+    let slot = LocId::Slot(PortNo(1), SlotNo(one));
+    PlaceView {
+        sub: numbered(u64::from(one)).unwrap_or(name),
+        number,
+        at: slot,
+        slot,
+        aligned: false,
+        finished: false,
+        in_process: false,
+        may_start: true,
+        chambers,
+        recipe: name.text(),
+    }
+}
+
+// In which conditions by their bits a substrate is aligned, and in which it is IN PROCESS.
+const ALIGNED: u32 = 0b1111_1111_0010_1000;
+
+const IN_PROCESS: u32 = 0b0100_1000_0000_0000;
+
+// A substrate in its condition by a number of 1 to 15: three in its slot, of which one may not start, three at each other place.
+// The third of each three is finished.
+fn in_condition(substrate: &PlaceView, condition: u32) -> PlaceView {
+    let mut view = *substrate;
+    view.at = match condition.wrapping_sub(1) / 3 {
+        0 => substrate.slot,
+        1 => LocId::Aligner,
+        2 => LocId::Arm,
+        3 => LocId::Chamber(1),
+        _ => LocId::Chamber(2),
+    };
+    view.aligned = ALIGNED >> (condition & 15) & 1 == 1;
+    view.finished = condition % 3 == 0;
+    view.in_process = IN_PROCESS >> (condition & 15) & 1 == 1;
+    view.may_start = condition != 2;
+    view
 }

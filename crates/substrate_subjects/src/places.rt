@@ -5,13 +5,13 @@
 //! so many random calls, of 60 names and all places, and makes them of a plain list too, which answers alike and has the same
 //! substrates at the places of the call; behind every 50 calls it has the same everywhere. 7 is what the numbers are drawn from.
 
-use crate::names::{location, location_text, name_text, numbered, substrate};
+use crate::names::{add, add_location, add_truth, location, number, numbered, small, substrate};
 use crate::plain::PlainList;
-use anyhow::{Result, bail, ensure};
+use anyhow::{Result, bail};
 use gem_ids::{LocId, PortNo, SlotNo, SubstrateId};
 use std::alloc::Global;
-use substrate::{PlaceFault, Places};
-use test_lines::{Subject, nothing, number, small, word, words};
+use substrate::{PlaceFault, Places, Registered};
+use test_lines::{Subject, words};
 
 /// The places of a tool.
 #[derive(Drop)]
@@ -24,116 +24,148 @@ pub struct PlacesOf {
 impl PlacesOf {
     /// Those of a tool that words tell, as `2 ports and 1 chamber`. Nobody is anywhere.
     pub fn named(alloc: Global, tool: &str) -> Result<PlacesOf> {
-        let words = words(alloc, tool)?;
-        let ports = small(words.as_slice(), 0)?;
-        let chambers = small(words.as_slice(), 3)?;
-        Ok(PlacesOf {
+        match of(alloc, words(alloc, tool)?.as_slice()) {
+            Some(places) => Ok(places),
+            None => bail!("it is no tool, or there is no memory"),
+        }
+    }
+}
+
+fn of(alloc: Global, words: &[&str]) -> Option<PlacesOf> {
+    let (Some(ports), Some(chambers)) = (small(words, 0), small(words, 3)) else {
+        return None;
+    };
+    match Places::new(alloc, ports, chambers) {
+        Ok(places) => Some(PlacesOf {
             ports,
             chambers,
-            places: Places::new(alloc, ports, chambers)?,
-        })
+            places,
+        }),
+        Err(_) => None,
     }
 }
 
 impl Subject for PlacesOf {
     fn answer(&mut self, alloc: Global, said: &str) -> Result<String> {
         let words = words(alloc, said)?;
-        let words = words.as_slice();
-        match word(words, 0)? {
-            "register" | "shift" | "remove" => changed(alloc, &mut self.places, words),
-            "at" | "find" | "len" => told(alloc, &self.places, words),
-            "fill" => {
-                fill(&mut self.places, number(words, 1)?)?;
-                nothing(alloc)
-            }
-            "compare" => {
-                let (calls, seed) = (number(words, 1)?, number(words, 2)?);
-                compared(alloc, self.ports, self.chambers, calls, seed)
-            }
-            _ => bail!("it says nothing"),
+        let mut answer = String::new(alloc);
+        match say(alloc, self, words.as_slice(), &mut answer) {
+            Some(()) => Ok(answer),
+            None => bail!("it says nothing, or there is no memory"),
         }
     }
 }
 
+// Says the words of a line; the answer. None where they say nothing.
+fn say(alloc: Global, of: &mut PlacesOf, words: &[&str], answer: &mut String) -> Option<()> {
+    let Some(first) = words.first() else {
+        return None;
+    };
+    match *first {
+        "compare" => compare(alloc, of, words, answer),
+        "fill" => fill(&mut of.places, number(words, 1)),
+        "len" => write!(answer, "{}", of.places.len()).ok(),
+        "at" => add_at(answer, &of.places, location(words, 1)),
+        call => called(&mut of.places, call, words, answer),
+    }
+}
+
+// Calls the places with a substrate.
+fn called(places: &mut Places, call: &str, words: &[&str], answer: &mut String) -> Option<()> {
+    let Some(sub) = substrate(words, 1) else {
+        return None;
+    };
+    let (first, second) = (location(words, 2), location(words, 3));
+    match call {
+        "remove" => add_truth(answer, Some(places.remove(sub))),
+        "find" => add_found(answer, places.find(sub)),
+        "register" => add_registered(answer, &register(places, sub, first)),
+        "shift" => add_truth(answer, shift(places, sub, first, second)),
+        _ => None,
+    }
+}
+
+// Registers a substrate. None where the tool has no such place.
 fn register(
     places: &mut Places,
     sub: SubstrateId,
-    loc: LocId,
-) -> Result<std::result::Result<u64, PlaceFault>> {
-    ensure!(places.has(loc), "the tool has no such place");
-    Ok(places.register(sub, loc))
+    loc: Option<LocId>,
+) -> Option<Result<u64, PlaceFault>> {
+    match loc {
+        Some(loc) if places.has(loc) => Some(places.register(sub, loc)),
+        _ => None,
+    }
 }
 
-fn shift(places: &mut Places, sub: SubstrateId, from: LocId, to: LocId) -> Result<bool> {
-    ensure!(
-        places.has(from) && places.has(to),
-        "the tool has no such place"
-    );
-    Ok(places.shift(sub, from, to))
-}
-
-// What is answered to a call that may change the places.
-fn changed(alloc: Global, places: &mut Places, words: &[&str]) -> Result<String> {
-    let sub = substrate(words, 1)?;
-    match word(words, 0)? {
-        "register" => {
-            let answer = register(places, sub, location(words, 2)?)?;
-            registered(alloc, &answer)
+// Whether a substrate is shifted. None where the tool has no such place.
+fn shift(
+    places: &mut Places,
+    sub: SubstrateId,
+    from: Option<LocId>,
+    to: Option<LocId>,
+) -> Option<bool> {
+    match (from, to) {
+        (Some(from), Some(to)) if places.has(from) && places.has(to) => {
+            Some(places.shift(sub, from, to))
         }
-        "shift" => {
-            let shifts = shift(places, sub, location(words, 2)?, location(words, 3)?)?;
-            Ok(format!(in alloc; "{shifts}")?)
-        }
-        _ => Ok(format!(in alloc; "{}", places.remove(sub))?),
+        _ => None,
     }
 }
 
-fn registered(alloc: Global, answer: &std::result::Result<u64, PlaceFault>) -> Result<String> {
-    match answer {
-        Ok(number) => Ok(format!(in alloc; "Ok({number})")?),
-        Err(fault) => fault_text(alloc, fault),
+// Who is at a place.
+fn add_at(answer: &mut String, places: &Places, loc: Option<LocId>) -> Option<()> {
+    let Some(loc) = loc else {
+        return None;
+    };
+    match places.at(loc) {
+        Some(sub) => add(answer, sub.as_bytes()),
+        None => answer.push_str("none").ok(),
     }
 }
 
-fn fault_text(alloc: Global, fault: &PlaceFault) -> Result<String> {
-    match fault {
-        PlaceFault::Taken(who) => {
-            let name = name_text(alloc, *who)?;
-            Ok(format!(in alloc; "Taken({name})")?)
-        }
-        PlaceFault::NameTaken => Ok(format!(in alloc; "NameTaken")?),
-        PlaceFault::NoSpace(most) => Ok(format!(in alloc; "NoSpace({most})")?),
-        PlaceFault::NoMemory => Ok(format!(in alloc; "NoMemory")?),
+// The number and the place of a substrate.
+fn add_found(answer: &mut String, found: Option<Registered>) -> Option<()> {
+    let Some(found) = found else {
+        return answer.push_str("none").ok();
+    };
+    match write!(answer, "{} ", found.number) {
+        Ok(()) => add_location(answer, found.at),
+        Err(_) => None,
     }
 }
 
-// Who is at a place; the number and the place of a substrate; how many have a place.
-fn told(alloc: Global, places: &Places, words: &[&str]) -> Result<String> {
-    match word(words, 0)? {
-        "at" => match places.at(location(words, 1)?) {
-            Some(sub) => name_text(alloc, sub),
-            None => Ok(format!(in alloc; "none")?),
-        },
-        "find" => match places.find(substrate(words, 1)?) {
-            Some(found) => {
-                let place = location_text(alloc, found.at)?;
-                Ok(format!(in alloc; "{} {place}", found.number)?)
-            }
-            None => Ok(format!(in alloc; "none")?),
-        },
-        _ => Ok(format!(in alloc; "{}", places.len())?),
+// The number that was given, or why none was.
+fn add_registered(answer: &mut String, registered: &Option<Result<u64, PlaceFault>>) -> Option<()> {
+    match registered {
+        Some(Ok(number)) => write!(answer, "Ok({number})").ok(),
+        Some(Err(fault)) => add_fault(answer, fault),
+        None => None,
     }
 }
 
-// Registers substrates in the slots, port by port.
-fn fill(places: &mut Places, count: u64) -> Result<()> {
+fn add_fault(answer: &mut String, fault: &PlaceFault) -> Option<()> {
+    let PlaceFault::Taken(who) = fault else {
+        return write!(answer, "{fault:?}").ok();
+    };
+    answer.push_str("Taken(").ok()?;
+    add(answer, who.as_bytes())?;
+    answer.push_str(")").ok()
+}
+
+// Registers so many substrates in the slots, port by port. None where one is refused.
+fn fill(places: &mut Places, count: Option<u64>) -> Option<()> {
+    let Some(count) = count else {
+        return None;
+    };
     for one in 0..count {
-        let loc = slot_of(one);
-        if let Err(fault) = register(places, numbered(one)?, loc)? {
-            bail!("one is refused: {fault}");
-        }
+        let Some(sub) = numbered(one) else {
+            return None;
+        };
+        let Some(Ok(_)) = register(places, sub, Some(slot_of(one))) else {
+            return None;
+        };
     }
-    Ok(())
+    Some(())
 }
 
 // The slot of a number, counted from 0 port by port.
@@ -167,51 +199,74 @@ fn drawn(x: u64) -> u64 {
 }
 
 // What random calls show: the first that goes otherwise with a plain list, or that none does.
-fn compared(alloc: Global, ports: u8, chambers: u8, calls: u64, seed: u64) -> Result<String> {
-    let mut places = Places::new(alloc, ports, chambers)?;
+fn compare(alloc: Global, of: &PlacesOf, words: &[&str], answer: &mut String) -> Option<()> {
+    let Ok(mut places) = Places::new(alloc, of.ports, of.chambers) else {
+        return None;
+    };
     let mut plain = PlainList::new(alloc);
+    add_compared(
+        answer,
+        &mut places,
+        &mut plain,
+        (of.ports, of.chambers),
+        words,
+    )
+}
+
+fn add_compared(
+    answer: &mut String,
+    places: &mut Places,
+    plain: &mut PlainList,
+    tool: (u8, u8),
+    words: &[&str],
+) -> Option<()> {
+    let (Some(calls), Some(seed)) = (number(words, 1), number(words, 2)) else {
+        return None;
+    };
+    let (ports, chambers) = tool;
     let mut x = seed;
     for call in 0..calls {
         x = drawn(x);
-        let sub = numbered((x >> 20) % 60)?;
         let from = place_of(ports, chambers, (x >> 30) % 10_000);
         let to = place_of(ports, chambers, (x >> 45) % 10_000);
-        let same = called_alike(&mut places, &mut plain, (x >> 60) % 4, sub, from, to)?
-            && places.at(from) == plain.at(from)
-            && places.at(to) == plain.at(to)
-            && places.find(sub) == plain.find(sub);
-        if !same || call % 50 == 49 && !are_alike(&places, plain.held()) {
-            return Ok(format!(in alloc; "call {call} goes otherwise")?);
+        if !called_alike(places, plain, x, from, to)
+            || call % 50 == 49 && !are_alike(places, plain.held())
+        {
+            return write!(answer, "call {call} goes otherwise").ok();
         }
     }
-    Ok(format!(in alloc; "no difference")?)
+    answer.push_str("no difference").ok()
 }
 
-// Makes a call of both, and tells whether they answer alike. A substrate moves from where it is in every other call.
+// Makes a call of both, and tells whether they answer alike, and have the same at the places of the call. A substrate moves from
+// where it is in every other call.
 fn called_alike(
     places: &mut Places,
     plain: &mut PlainList,
-    call: u64,
-    sub: SubstrateId,
+    drawn: u64,
     from: LocId,
     to: LocId,
-) -> Result<bool> {
-    match call {
-        0 => Ok(register(places, sub, to)? == plain.register(sub, to)?),
-        1 => Ok(places.remove(sub) == plain.remove(sub)),
-        2 => Ok(shift(places, sub, from, to)? == plain.shift(sub, from, to)),
-        _ => {
-            let start = match plain.find(sub) {
-                Some(found) => found.at,
-                None => from,
-            };
-            Ok(shift(places, sub, start, to)? == plain.shift(sub, start, to))
-        }
-    }
+) -> bool {
+    let Some(sub) = numbered((drawn >> 20) % 60) else {
+        return false;
+    };
+    let start = match plain.find(sub) {
+        Some(found) if (drawn >> 60) % 4 == 3 => found.at,
+        _ => from,
+    };
+    let alike = match (drawn >> 60) % 4 {
+        0 => register(places, sub, Some(to)) == Some(plain.register(sub, to)),
+        1 => places.remove(sub) == plain.remove(sub),
+        _ => shift(places, sub, Some(start), Some(to)) == Some(plain.shift(sub, start, to)),
+    };
+    alike
+        && places.at(from) == plain.at(from)
+        && places.at(to) == plain.at(to)
+        && places.find(sub) == plain.find(sub)
 }
 
 // Whether the same substrates have the same numbers and places, found in each way.
-fn are_alike(places: &Places, held: &[substrate::Registered]) -> bool {
+fn are_alike(places: &Places, held: &[Registered]) -> bool {
     if places.len() != held.len() {
         return false;
     }

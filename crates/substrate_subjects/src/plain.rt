@@ -1,6 +1,5 @@
 //! A plain list of the substrates that have a place, which is gone through for everything, to compare `Places` with.
 
-use anyhow::Result;
 use gem_ids::{LocId, SubstrateId};
 use std::alloc::Global;
 use substrate::{PlaceFault, Registered};
@@ -44,28 +43,27 @@ impl PlainList {
         None
     }
 
-    pub(crate) fn register(
-        &mut self,
-        sub: SubstrateId,
-        loc: LocId,
-    ) -> Result<std::result::Result<u64, PlaceFault>> {
+    pub(crate) fn register(&mut self, sub: SubstrateId, loc: LocId) -> Result<u64, PlaceFault> {
         if let Some(who) = self.at(loc) {
-            return Ok(Err(PlaceFault::Taken(who)));
+            return Err(PlaceFault::Taken(who));
         }
         if self.find(sub).is_some() {
-            return Ok(Err(PlaceFault::NameTaken));
+            return Err(PlaceFault::NameTaken);
         }
         if self.held.len() == 400 {
-            return Ok(Err(PlaceFault::NoSpace(400)));
+            return Err(PlaceFault::NoSpace(400));
         }
         self.given = self.given.wrapping_add(1);
         let number = self.given;
-        self.held.push(Registered {
+        let registered = Registered {
             sub,
             number,
             at: loc,
-        })?;
-        Ok(Ok(number))
+        };
+        match self.held.push(registered) {
+            Ok(()) => Ok(number),
+            Err(_) => Err(PlaceFault::NoMemory),
+        }
     }
 
     pub(crate) fn shift(&mut self, sub: SubstrateId, from: LocId, to: LocId) -> bool {

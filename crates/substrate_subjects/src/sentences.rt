@@ -2,168 +2,151 @@
 //! least. It is written apart from the planner, to compare it with.
 
 use gem_ids::{LocId, ModuleId};
-use robot_moves::{Module, Modules, Move, PlaceView};
+use robot_moves::{Modules, Move, PlaceView};
 use tool_events::Task;
 
-/// What rows are ordered by: the number of the module, the row, and for picks how far the stage is from the greatest, and the
-/// number of registration.
-#[derive(Clone, Copy, PartialEq, Eq, PartialOrd, Ord)]
-struct Order {
-    module: u8,
-    row: u8,
-    stages_left: u8,
-    number: u64,
-}
-
-/// A row that is ready.
+/// A row that is ready, and what rows are ordered by: module, row, and for picks how far the stage is from the greatest, as the
+/// digits of a number; then the number of registration.
 #[derive(Clone, Copy)]
 struct Ready {
-    order: Order,
-    task: Task,
+    digits: u32,
+    number: u64,
+    next: Option<Move>,
 }
 
-/// The substrates and the modules.
+// No row, which is behind every other.
+const NONE: Ready = Ready {
+    digits: 1000,
+    number: 0,
+    next: None,
+};
+
+/// Which modules are Idle, whether the arm is empty, and which of aligner and chambers are both.
 #[derive(Clone, Copy)]
-pub(crate) struct Scene<'a> {
-    pub(crate) places: &'a [PlaceView],
-    pub(crate) modules: &'a Modules,
+struct Scene {
+    robot: bool,
+    aligner: bool,
+    first: bool,
+    second: bool,
+    empty_arm: bool,
+    free_aligner: bool,
+    free_first: bool,
+    free_second: bool,
 }
 
-impl Scene<'_> {
-    /// The least row that is ready.
-    pub(crate) fn next(&self) -> Option<Move> {
-        let mut least = None;
-        for v in self.places {
-            for module in 1..5 {
-                least = lesser(least, self.ready(module, v));
-            }
-        }
-        match least {
-            Some(ready) => Some(Move {
-                module: ModuleId(ready.order.module),
-                row: ready.order.row,
-                task: ready.task,
-            }),
-            None => None,
-        }
-    }
-
-    fn is_idle(&self, module: u8) -> bool {
-        self.modules.get(ModuleId(module)) == Some(Module::Idle)
-    }
-
-    fn is_empty(&self, loc: LocId) -> bool {
-        for v in self.places {
-            if v.at == loc {
-                return false;
-            }
-        }
-        true
-    }
-
-    // A chamber, where it is in the recipe, empty and Idle.
-    fn is_open(&self, v: &PlaceView, chamber: u8) -> bool {
-        let bit = if chamber == 1 { 1 } else { 2 };
-        v.chambers & bit != 0
-            && self.is_empty(LocId::Chamber(chamber))
-            && self.is_idle(chamber.wrapping_add(2))
-    }
-
-    // The target of a substrate, where it is free.
-    fn target(&self, v: &PlaceView) -> Option<LocId> {
-        let aligner = self.is_empty(LocId::Aligner) && self.is_idle(2);
-        match (v.finished, v.aligned) {
-            (true, _) if self.is_empty(v.slot) => Some(v.slot),
-            (false, false) if aligner => Some(LocId::Aligner),
-            (false, true) if self.is_open(v, 1) => Some(LocId::Chamber(1)),
-            (false, true) if self.is_open(v, 2) => Some(LocId::Chamber(2)),
-            _ => None,
+/// The least row that is ready.
+pub(crate) fn next(places: &[PlaceView], modules: &Modules) -> Option<Move> {
+    let aligner = modules.is_idle(ModuleId(2));
+    let first = modules.is_idle(ModuleId(3));
+    let second = modules.is_idle(ModuleId(4));
+    let scene = Scene {
+        robot: modules.is_idle(ModuleId(1)),
+        aligner,
+        first,
+        second,
+        empty_arm: is_empty(places, LocId::Arm),
+        free_aligner: aligner && is_empty(places, LocId::Aligner),
+        free_first: first && is_empty(places, LocId::Chamber(1)),
+        free_second: second && is_empty(places, LocId::Chamber(2)),
+    };
+    let mut least = NONE;
+    for v in places {
+        let row = ready_for(&scene, v, is_empty(places, v.slot));
+        if row.digits < least.digits || row.digits == least.digits && row.number < least.number {
+            least = row;
         }
     }
-
-    // How far the stage of a pick is from the greatest, where the substrate may leave.
-    fn leaves(&self, v: &PlaceView) -> Option<u8> {
-        match v.at {
-            LocId::Chamber(c) if self.is_idle(c.wrapping_add(2)) && v.finished => Some(0),
-            LocId::Aligner if self.is_idle(2) && (v.finished || v.aligned) => Some(1),
-            LocId::Slot(..) if v.at == v.slot && v.may_start && !v.finished => Some(2),
-            _ => None,
-        }
-    }
-
-    // The row that is ready at a module for a substrate.
-    fn ready(&self, module: u8, v: &PlaceView) -> Option<Ready> {
-        if !self.is_idle(module) {
-            return None;
-        }
-        match module {
-            1 if v.at == LocId::Arm => self.placed(v),
-            1 if self.is_empty(LocId::Arm) => self.picked(v),
-            1 => None,
-            2 => aligned(v),
-            _ => processed(module, v),
-        }
-    }
-
-    fn placed(&self, v: &PlaceView) -> Option<Ready> {
-        let to = self.target(v)?;
-        let task = Task::Place { sub: v.sub, to };
-        Some(row_at(1, 1, 0, 0, task))
-    }
-
-    fn picked(&self, v: &PlaceView) -> Option<Ready> {
-        let stages_left = self.leaves(v)?;
-        self.target(v)?;
-        let task = Task::Pick {
-            sub: v.sub,
-            from: v.at,
-        };
-        Some(row_at(1, 2, stages_left, v.number, task))
-    }
+    least.next
 }
 
-fn row_at(module: u8, row: u8, stages_left: u8, number: u64, task: Task) -> Ready {
-    Ready {
-        order: Order {
-            module,
-            row,
-            stages_left,
-            number,
-        },
-        task,
+/// Whether no substrate is at a place.
+pub(crate) fn is_empty(places: &[PlaceView], loc: LocId) -> bool {
+    for v in places {
+        if v.at == loc {
+            return false;
+        }
     }
+    true
 }
 
-fn aligned(v: &PlaceView) -> Option<Ready> {
-    if v.at == LocId::Aligner && !v.finished && !v.aligned {
-        Some(row_at(2, 3, 0, 0, Task::Align { sub: v.sub }))
+// The least row that is ready for a substrate, whose slot is empty or not: the robot has the least number of the modules.
+fn ready_for(scene: &Scene, v: &PlaceView, empty_slot: bool) -> Ready {
+    if scene.robot
+        && let Some(to) = target(scene, v, empty_slot)
+    {
+        if v.at == LocId::Arm {
+            return row_at(v, 1, 1, 0, Task::Place { sub: v.sub, to });
+        }
+        if scene.empty_arm
+            && let Some(stages_left) = leaves(scene, v)
+        {
+            let task = Task::Pick {
+                sub: v.sub,
+                from: v.at,
+            };
+            return row_at(v, 1, 2, stages_left, task);
+        }
+    }
+    held(scene, v)
+}
+
+// The target of a substrate, where it is free.
+fn target(scene: &Scene, v: &PlaceView, empty_slot: bool) -> Option<LocId> {
+    let (to, free) = if v.finished {
+        (v.slot, empty_slot)
+    } else if !v.aligned {
+        (LocId::Aligner, scene.free_aligner)
+    } else if v.chambers & 1 != 0 && scene.free_first {
+        (LocId::Chamber(1), true)
     } else {
-        None
-    }
+        (LocId::Chamber(2), v.chambers & 2 != 0 && scene.free_second)
+    };
+    if free { Some(to) } else { None }
 }
 
-fn processed(module: u8, v: &PlaceView) -> Option<Ready> {
-    if v.at == LocId::Chamber(module.wrapping_sub(2)) && !v.finished && !v.in_process {
+// How far the stage of a pick is from the greatest, where the substrate may leave.
+fn leaves(scene: &Scene, v: &PlaceView) -> Option<u8> {
+    let (stages_left, may) = match v.at {
+        LocId::Chamber(1) => (0, scene.first && v.finished),
+        LocId::Chamber(_) => (0, scene.second && v.finished),
+        LocId::Aligner => (1, scene.aligner && (v.finished || v.aligned)),
+        LocId::Slot(..) => (2, v.at == v.slot && v.may_start && !v.finished),
+        LocId::Arm => (0, false),
+    };
+    if may { Some(stages_left) } else { None }
+}
+
+// The row that is ready at the aligner or a chamber for what it holds.
+fn held(scene: &Scene, v: &PlaceView) -> Ready {
+    let (module, idle) = match v.at {
+        LocId::Aligner => (2, scene.aligner && !v.aligned),
+        LocId::Chamber(1) => (3, scene.first && !v.in_process),
+        LocId::Chamber(_) => (4, scene.second && !v.in_process),
+        _ => (1, false),
+    };
+    if !idle || v.finished {
+        NONE
+    } else if module == 2 {
+        row_at(v, 2, 3, 0, Task::Align { sub: v.sub })
+    } else {
         let task = Task::Process {
             sub: v.sub,
             recipe: v.recipe,
         };
-        Some(row_at(module, 4, 0, 0, task))
-    } else {
-        None
+        row_at(v, module, 4, 0, task)
     }
 }
 
-// The lesser of two rows, where there are two.
-fn lesser(one: Option<Ready>, other: Option<Ready>) -> Option<Ready> {
-    if is_first(&one, &other) { one } else { other }
-}
-
-// Whether the other row, where there is one, is no lesser than the one, where there is one.
-fn is_first(one: &Option<Ready>, other: &Option<Ready>) -> bool {
-    match (one, other) {
-        (Some(a), Some(b)) => a.order <= b.order,
-        (Some(_), None) => true,
-        (None, _) => false,
+// A row that is ready at a module for a substrate.
+fn row_at(v: &PlaceView, module: u8, row: u8, stages_left: u8, task: Task) -> Ready {
+    let next = Move {
+        module: ModuleId(module),
+        row,
+        task,
+    };
+    Ready {
+        digits: u32::from(module) * 100 + u32::from(row) * 10 + u32::from(stages_left),
+        number: v.number,
+        next: Some(next),
     }
 }

@@ -4,10 +4,11 @@
 //! the number of the state behind it; `transport` and `processing` stand for tables 12 and 13. `first 12 2` tells whether row 2
 //! of table 12 starts at a substrate as it is registered, and its states then.
 
+use crate::names::small;
 use anyhow::{Result, bail};
 use std::alloc::Global;
 use substrate::{LocationRecord, Occupancy, Processing, SubstrateRecord, Transport};
-use test_lines::{Subject, small, word, words};
+use test_lines::{Subject, words};
 
 const OCCUPANCIES: [Occupancy; 2] = [Occupancy::Unoccupied, Occupancy::Occupied];
 
@@ -35,68 +36,76 @@ pub struct SubstrateStates;
 impl Subject for SubstrateStates {
     fn answer(&mut self, alloc: Global, said: &str) -> Result<String> {
         let words = words(alloc, said)?;
-        let words = words.as_slice();
-        let row = small(words, 1)?;
-        match word(words, 0)? {
-            "location" => location_row(alloc, row),
-            "transport" => transport_row(alloc, row),
-            "processing" => processing_row(alloc, row),
-            "first" => first_fired(alloc, row, small(words, 2)?),
-            _ => bail!("it says nothing"),
+        let mut answer = String::new(alloc);
+        match say(words.as_slice(), &mut answer) {
+            Some(()) => Ok(answer),
+            None => bail!("it says nothing, or there is no memory"),
         }
     }
 }
 
+// Says the words of a line; the answer. None where they say nothing.
+fn say(words: &[&str], answer: &mut String) -> Option<()> {
+    let Some(first) = words.first() else {
+        return None;
+    };
+    let Some(row) = small(words, 1) else {
+        return None;
+    };
+    match *first {
+        "location" => add_locations(answer, row),
+        "transport" => add_states(answer, 12, row, 3),
+        "processing" => add_states(answer, 13, row, 8),
+        "first" => match small(words, 2) {
+            Some(second) => add_first(answer, row, second),
+            None => None,
+        },
+        _ => None,
+    }
+}
+
 // One more state, whether the row starts from it, and the number of the state behind it.
-fn tell(alloc: Global, told: String, starts: bool, number: u8) -> Result<String> {
-    let gap = if told.is_empty() { "" } else { ", " };
-    Ok(format!(in alloc; "{told}{gap}{starts} {number}")?)
+fn add_state(answer: &mut String, starts: bool, number: u8) -> Option<()> {
+    let gap = if answer.is_empty() { "" } else { ", " };
+    write!(answer, "{gap}{starts} {number}").ok()
 }
 
-fn location_row(alloc: Global, row: u8) -> Result<String> {
-    let mut told = String::new(alloc);
-    for occupancy in &OCCUPANCIES {
-        let mut record = LocationRecord {
-            occupancy: *occupancy,
-        };
+fn add_locations(answer: &mut String, row: u8) -> Option<()> {
+    for occupancy in OCCUPANCIES {
+        let mut record = LocationRecord { occupancy };
         let starts = record.fire(row);
-        told = tell(alloc, told, starts, record.occupancy.number())?;
-    }
-    Ok(told)
-}
-
-fn transport_row(alloc: Global, row: u8) -> Result<String> {
-    let mut told = String::new(alloc);
-    for transport in &TRANSPORTS {
-        let mut record = SubstrateRecord {
-            transport: *transport,
-            ..SubstrateRecord::new()
+        let Some(()) = add_state(answer, starts, record.occupancy.number()) else {
+            return None;
         };
-        let starts = record.fire(12, row);
-        told = tell(alloc, told, starts, record.transport.number())?;
     }
-    Ok(told)
+    Some(())
 }
 
-fn processing_row(alloc: Global, row: u8) -> Result<String> {
-    let mut told = String::new(alloc);
-    for processing in &PROCESSINGS {
-        let mut record = SubstrateRecord {
-            processing: *processing,
-            ..SubstrateRecord::new()
+// The states of table 12 or 13, so many of them; the others are those of a substrate as it is registered.
+fn add_states(answer: &mut String, table: u8, row: u8, count: usize) -> Option<()> {
+    for place in 0..count {
+        let mut record = SubstrateRecord::new();
+        if table == 12 {
+            record.transport = TRANSPORTS[place % 3];
+        } else {
+            record.processing = PROCESSINGS[place % 8];
+        }
+        let starts = record.fire(table, row);
+        let number = if table == 12 {
+            record.transport.number()
+        } else {
+            record.processing.number()
         };
-        let starts = record.fire(13, row);
-        told = tell(alloc, told, starts, record.processing.number())?;
+        let Some(()) = add_state(answer, starts, number) else {
+            return None;
+        };
     }
-    Ok(told)
+    Some(())
 }
 
-fn first_fired(alloc: Global, table: u8, row: u8) -> Result<String> {
+fn add_first(answer: &mut String, table: u8, row: u8) -> Option<()> {
     let mut record = SubstrateRecord::new();
     let starts = record.fire(table, row);
-    let SubstrateRecord {
-        transport,
-        processing,
-    } = record;
-    Ok(format!(in alloc; "{starts} {transport:?} {processing:?}")?)
+    let (transport, processing) = (record.transport, record.processing);
+    write!(answer, "{starts} {transport:?} {processing:?}").ok()
 }

@@ -9,10 +9,9 @@ ghost use Rattle.secs_items.specs.Sendable.{IsSendable};
 ghost use Rattle.secs_items.specs.View.{view};
 
 use anyhow::{Result, bail};
-use gem_ids::Text80;
-use secs_items::{Item, ItemFault, NoMemory, decode, encode, read_one};
+use secs_items::{Item, decode, encode, read_one};
 use std::alloc::Global;
-use test_lines::{Subject, bytes, word, words};
+use test_lines::{Subject, bytes};
 
 /// Items.
 #[derive(Clone, Copy)]
@@ -20,155 +19,175 @@ pub struct ItemTexts;
 
 impl Subject for ItemTexts {
     fn answer(&mut self, alloc: Global, said: &str) -> Result<String> {
-        let words = words(alloc, said)?;
-        let words = words.as_slice();
-        let spelled = bytes(alloc, word(words, 1)?)?;
-        let spelled = spelled.as_slice();
-        match word(words, 0)? {
-            "plain" => plain(alloc, spelled),
-            "fault" => fault(alloc, spelled),
-            "id" => id(alloc, spelled),
-            "text" => text(alloc, spelled),
-            "elements" => elements(alloc, spelled),
-            "whole" => whole(alloc, spelled),
-            _ => long(alloc, spelled, words),
+        match answered(alloc, said) {
+            Some(answer) => Ok(answer),
+            None => bail!("it says nothing, or there is no memory"),
         }
     }
 }
 
-fn long(alloc: Global, head: &[u8], words: &[&str]) -> Result<String> {
-    let count = word(words, 2)?.parse::<usize>()?;
-    let spelled = match word(words, 0)? {
-        "bytes" => binary(alloc, head, count)?,
-        "list" => numbers(alloc, head, count)?,
-        _ => bail!("it says nothing"),
+// What a line is answered. None where it says nothing.
+fn answered(alloc: Global, said: &str) -> Option<String> {
+    let Some((asked, rest)) = said.split_once(' ') else {
+        return None;
     };
-    let is_there_and_back = is_there_and_back(alloc, spelled.as_slice(), count)?;
-    Ok(format!(in alloc; "{is_there_and_back}")?)
+    let (digits, count) = rest.split_once(' ').unwrap_or((rest, ""));
+    let Ok(spelled) = bytes(alloc, digits) else {
+        return None;
+    };
+    let mut answer = String::new(alloc);
+    match say(alloc, asked, spelled.as_slice(), count, &mut answer) {
+        Some(()) => Some(answer),
+        None => None,
+    }
+}
+
+// What is asked of bytes; the answer.
+fn say(alloc: Global, asked: &str, spelled: &[u8], count: &str, answer: &mut String) -> Option<()> {
+    match asked {
+        "plain" => add_plain(alloc, spelled, answer),
+        "fault" => add_fault(alloc, spelled, answer),
+        "whole" => add_whole(alloc, spelled, answer),
+        "bytes" | "list" => add_long(alloc, spelled, asked == "list", count, answer),
+        _ => add_read(alloc, asked, spelled, answer),
+    }
 }
 
 // The spelling that is sent of a copy of the item, which one more byte follows.
-fn plain(alloc: Global, spelled: &[u8]) -> Result<String> {
-    let followed = followed(alloc, spelled)?;
-    let (item, used) = decode(alloc, followed.as_slice())?;
+fn add_plain(alloc: Global, spelled: &[u8], answer: &mut String) -> Option<()> {
+    let Ok(mut followed) = Vec::from_slice(alloc, spelled) else {
+        return None;
+    };
+    let Ok(()) = followed.push(0x99) else {
+        return None;
+    };
+    let Ok((item, used)) = decode(alloc, followed.as_slice()) else {
+        return None;
+    };
     if used != spelled.len() {
-        bail!("it is an item of {used} bytes");
+        return None;
     }
-    Ok(hex::encode_upper(alloc, copied(alloc, &item)?.as_slice())?)
-}
-
-// These bytes, and one more.
-fn followed(alloc: Global, spelled: &[u8]) -> Result<Vec<u8>, NoMemory> {
-    let mut bytes = Vec::from_slice(alloc, spelled)?;
-    bytes.push(0x99)?;
-    Ok(bytes)
+    add_copied(alloc, &item, answer)
 }
 
 // The bytes of a copy of an item.
-fn copied(alloc: Global, item: &Item) -> Result<Vec<u8>, NoMemory>
+fn add_copied(alloc: Global, item: &Item, answer: &mut String) -> Option<()>
     requires { IsSendable (view item.now) }
 {
-    let copy = item.clone()?;
+    let Ok(copy) = item.clone() else {
+        return None;
+    };
     let mut out = Vec::new(alloc);
-    encode(&copy, &mut out)?;
-    Ok(out)
+    let Ok(()) = encode(&copy, &mut out) else {
+        return None;
+    };
+    let Ok(digits) = hex::encode_upper(alloc, out.as_slice()) else {
+        return None;
+    };
+    answer.push_str(digits.as_str()).ok()
 }
 
-// A B of so many bytes, behind this head.
-fn binary(alloc: Global, head: &[u8], count: usize) -> Result<Vec<u8>, NoMemory> {
-    let mut spelled = Vec::from_slice(alloc, head)?;
+// Whether a B of so many bytes, or a list of so many numbers, behind this head, is there and back.
+fn add_long(
+    alloc: Global,
+    head: &[u8],
+    is_list: bool,
+    count: &str,
+    answer: &mut String,
+) -> Option<()> {
+    let Ok(count) = count.parse::<usize>() else {
+        return None;
+    };
+    let Ok(mut spelled) = Vec::from_slice(alloc, head) else {
+        return None;
+    };
     for place in 0..count {
-        spelled.push((place % 256) as u8)?;
+        if is_list {
+            let Ok(()) = spelled.extend_from_slice(&[0xA5, 1]) else {
+                return None;
+            };
+        }
+        let Ok(()) = spelled.push((place % 256) as u8) else {
+            return None;
+        };
     }
-    Ok(spelled)
+    add_there_and_back(alloc, spelled.as_slice(), count, answer)
 }
 
-// A list of so many numbers, behind this head.
-fn numbers(alloc: Global, head: &[u8], count: usize) -> Result<Vec<u8>, NoMemory> {
-    let mut spelled = Vec::from_slice(alloc, head)?;
-    for place in 0..count {
-        spelled.extend_from_slice(&[0xA5, 1, (place % 256) as u8])?;
-    }
-    Ok(spelled)
-}
-
-// The bytes of a B, or the elements of a list.
-fn size(item: &Item) -> Option<usize> {
+// Whether it is a B of so many bytes, or a list of so many elements.
+fn has(item: &Item, count: usize) -> bool {
     match item {
-        Item::Binary(bytes) => Some(bytes.as_slice().len()),
-        Item::List(items) => Some(items.as_slice().len()),
-        _ => None,
+        Item::Binary(bytes) => bytes.as_slice().len() == count,
+        Item::List(items) => items.as_slice().len() == count,
+        _ => false,
     }
 }
 
 // Whether this spelling is read whole, as an item of so many bytes or elements, and written again.
-fn is_there_and_back(alloc: Global, spelled: &[u8], count: usize) -> Result<bool, ItemFault> {
-    let (item, used) = decode(alloc, spelled)?;
+fn add_there_and_back(
+    alloc: Global,
+    spelled: &[u8],
+    count: usize,
+    answer: &mut String,
+) -> Option<()> {
+    let Ok((item, used)) = decode(alloc, spelled) else {
+        return None;
+    };
     let mut written = Vec::new(alloc);
-    encode(&item, &mut written)?;
-    Ok(used == spelled.len() && size(&item) == Some(count) && written.as_slice() == spelled)
-}
-
-fn fault(alloc: Global, bytes: &[u8]) -> Result<String> {
-    match fault_of(alloc, bytes) {
-        Some(fault) => Ok(format!(in alloc; "{fault:?}")?),
-        None => Ok(format!(in alloc; "none")?),
-    }
+    let Ok(()) = encode(&item, &mut written) else {
+        return None;
+    };
+    let is = used == spelled.len() && has(&item, count) && written.as_slice() == spelled;
+    write!(answer, "{is}").ok()
 }
 
 // The fault of bytes; none where an item is read.
-fn fault_of(alloc: Global, bytes: &[u8]) -> Option<ItemFault> {
+fn add_fault(alloc: Global, bytes: &[u8], answer: &mut String) -> Option<()> {
     match decode(alloc, bytes) {
-        Ok(_) => None,
-        Err(fault) => Some(fault),
+        Ok(_) => answer.push_str("none").ok(),
+        Err(fault) => write!(answer, "{fault:?}").ok(),
     }
 }
 
-fn id(alloc: Global, bytes: &[u8]) -> Result<String> {
-    let (item, _) = decode(alloc, bytes)?;
-    Ok(format!(in alloc; "{:?}", item.as_id())?)
-}
-
-fn text(alloc: Global, bytes: &[u8]) -> Result<String> {
-    let (item, _) = decode(alloc, bytes)?;
-    quoted(alloc, item.as_text())
-}
-
-fn quoted(alloc: Global, text: Option<Text80>) -> Result<String> {
-    let Some(text) = text else {
-        return Ok(format!(in alloc; "none")?);
+// What is asked of the item that bytes begin with.
+fn add_read(alloc: Global, asked: &str, bytes: &[u8], answer: &mut String) -> Option<()> {
+    let Ok((item, used)) = decode(alloc, bytes) else {
+        return None;
     };
-    let text = String::from_utf8_lossy(alloc, text.as_bytes())?;
-    Ok(format!(in alloc; "'{text}'")?)
-}
-
-fn elements(alloc: Global, bytes: &[u8]) -> Result<String> {
-    let (item, used) = decode(alloc, bytes)?;
-    if used != 6 {
-        bail!("it is an item of {used} bytes");
-    }
-    numbers_text(alloc, &item)
-}
-
-fn numbers_text(alloc: Global, item: &Item) -> Result<String> {
-    match item {
-        Item::I2(numbers) => Ok(format!(in alloc; "I2 {:?}", numbers.as_slice())?),
-        Item::U4(numbers) => Ok(format!(in alloc; "U4 {:?}", numbers.as_slice())?),
-        _ => bail!("it is no I2 or U4"),
+    match asked {
+        "id" => write!(answer, "{:?}", item.as_id()).ok(),
+        "text" => add_text(alloc, &item, answer),
+        "elements" if used == 6 => add_numbers(&item, answer),
+        _ => None,
     }
 }
 
-fn whole(alloc: Global, text: &[u8]) -> Result<String> {
-    let item = read_one(alloc, text)?;
-    item_text(alloc, item.as_ref())
+fn add_text(alloc: Global, item: &Item, answer: &mut String) -> Option<()> {
+    let Some(text) = item.as_text() else {
+        return answer.push_str("none").ok();
+    };
+    let Ok(text) = String::from_utf8_lossy(alloc, text.as_bytes()) else {
+        return None;
+    };
+    write!(answer, "'{text}'").ok()
 }
 
-fn item_text(alloc: Global, item: Option<&Item>) -> Result<String> {
+fn add_numbers(item: &Item, answer: &mut String) -> Option<()> {
     match item {
-        Some(Item::List(items)) => {
-            Ok(format!(in alloc; "a list of {}", items.as_slice().len())?)
+        Item::I2(numbers) => write!(answer, "I2 {:?}", numbers.as_slice()).ok(),
+        Item::U4(numbers) => write!(answer, "U4 {:?}", numbers.as_slice()).ok(),
+        _ => None,
+    }
+}
+
+// The item that bytes are from the first to the last.
+fn add_whole(alloc: Global, bytes: &[u8], answer: &mut String) -> Option<()> {
+    match &read_one(alloc, bytes) {
+        Ok(Some(Item::List(items))) => {
+            write!(answer, "a list of {}", items.as_slice().len()).ok()
         }
-        Some(_) => Ok(format!(in alloc; "an item")?),
-        None => Ok(format!(in alloc; "none")?),
+        Ok(Some(_)) => answer.push_str("an item").ok(),
+        Ok(None) => answer.push_str("none").ok(),
+        Err(_) => None,
     }
 }

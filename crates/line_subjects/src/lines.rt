@@ -5,7 +5,6 @@
 //! wanted.
 
 use anyhow::{Result, bail};
-use gem_ids::CarrierId;
 use std::alloc::Global;
 use test_lines::{Subject, bytes};
 use tool_events::{OperCmd, Signal};
@@ -17,109 +16,143 @@ pub struct LineTexts;
 
 impl Subject for LineTexts {
     fn answer(&mut self, alloc: Global, said: &str) -> Result<String> {
-        let Some((reading, line)) = said.split_once(' ') else {
-            bail!("it says nothing");
-        };
-        let line = line_bytes(alloc, line)?;
-        let line = line.as_slice();
-        match reading {
-            "feed" => read_text(alloc, read_feed_line(alloc, line)),
-            "any" => read_text(alloc, read_line(alloc, line)),
-            "operator" => match read_operator(line) {
-                Ok(command) => command_text(alloc, command),
-                Err(fault) => fault_text(alloc, fault),
-            },
-            _ => bail!("it says nothing"),
+        let mut answer = String::new(alloc);
+        match say(alloc, said, &mut answer) {
+            Some(()) => Ok(answer),
+            None => bail!("it says nothing, or there is no memory"),
         }
+    }
+}
+
+// Reads a line; the answer. None where it says nothing.
+fn say(alloc: Global, said: &str, answer: &mut String) -> Option<()> {
+    let Some((reading, line)) = said.split_once(' ') else {
+        return None;
+    };
+    let Some(line) = line_bytes(alloc, line) else {
+        return None;
+    };
+    read(alloc, reading, line.as_slice(), answer)
+}
+
+fn read(alloc: Global, reading: &str, line: &[u8], answer: &mut String) -> Option<()> {
+    match reading {
+        "feed" => add_read(alloc, read_feed_line(alloc, line), answer),
+        "any" => add_read(alloc, read_line(alloc, line), answer),
+        "operator" => match read_operator(line) {
+            Ok(command) => add_command(alloc, command, answer),
+            Err(fault) => add_fault(fault, answer),
+        },
+        _ => None,
     }
 }
 
 // The bytes between the bars, and those of the hex digits behind them.
-fn line_bytes(alloc: Global, line: &str) -> Result<Vec<u8>> {
-    let Some((front, more)) = line.rsplit_once('|') else {
-        bail!("it has no bars");
+fn line_bytes(alloc: Global, line: &str) -> Option<Vec<u8>> {
+    let Some((front, more)) = line.strip_prefix("|")?.rsplit_once('|') else {
+        return None;
     };
-    let Some(text) = front.strip_prefix('|') else {
-        bail!("it has no bars");
+    let Ok(more) = bytes(alloc, more.trim()) else {
+        return None;
     };
-    let mut line = Vec::from_slice(alloc, text.as_bytes())?;
-    line.extend_from_slice(bytes(alloc, more.trim())?.as_slice())?;
-    Ok(line)
+    let Ok(mut line) = Vec::from_slice(alloc, front.as_bytes()) else {
+        return None;
+    };
+    let Ok(()) = line.extend_from_slice(more.as_slice()) else {
+        return None;
+    };
+    Some(line)
 }
 
-fn read_text(alloc: Global, read: Result<Line, LineFault>) -> Result<String> {
+fn add_read(alloc: Global, read: Result<Line, LineFault>, answer: &mut String) -> Option<()> {
     match &read {
-        Ok(line) => line_text(alloc, line),
-        Err(fault) => fault_text(alloc, *fault),
+        Ok(line) => add_line(alloc, line, answer),
+        Err(fault) => add_fault(*fault, answer),
     }
 }
 
-fn fault_text(alloc: Global, fault: LineFault) -> Result<String> {
+fn add_fault(fault: LineFault, answer: &mut String) -> Option<()> {
     match fault {
-        LineFault::Place(place) => Ok(format!(in alloc; "{place}")?),
-        LineFault::NoMemory => bail!("there is no memory"),
+        LineFault::Place(place) => write!(answer, "{place}").ok(),
+        LineFault::NoMemory => None,
     }
 }
 
-fn line_text(alloc: Global, line: &Line) -> Result<String> {
+fn add_line(alloc: Global, line: &Line, answer: &mut String) -> Option<()> {
     match line {
-        Line::Skip => Ok(format!(in alloc; "skip")?),
-        Line::Up => Ok(format!(in alloc; "up")?),
-        Line::Down => Ok(format!(in alloc; "down")?),
-        Line::Moment(moment) => Ok(format!(in alloc; "moment {}", moment.0)?),
-        Line::Watch(port) => Ok(format!(in alloc; "watch {}", port.0)?),
-        Line::Bytes(bytes) => Ok(hex::encode_upper(alloc, bytes.as_slice())?),
-        Line::Oper(command) => command_text(alloc, *command),
-        Line::Signal(signal) => signal_text(alloc, *signal),
+        Line::Skip => answer.push_str("skip").ok(),
+        Line::Up => answer.push_str("up").ok(),
+        Line::Down => answer.push_str("down").ok(),
+        Line::Moment(moment) => write!(answer, "moment {}", moment.0).ok(),
+        Line::Watch(port) => write!(answer, "watch {}", port.0).ok(),
+        Line::Bytes(bytes) => add_digits(alloc, bytes.as_slice(), answer),
+        Line::Oper(command) => add_command(alloc, *command, answer),
+        Line::Signal(signal) => add_signal(alloc, *signal, answer),
     }
 }
 
-fn command_text(alloc: Global, command: OperCmd) -> Result<String> {
+fn add_digits(alloc: Global, bytes: &[u8], answer: &mut String) -> Option<()> {
+    let Ok(digits) = hex::encode_upper(alloc, bytes) else {
+        return None;
+    };
+    answer.push_str(digits.as_str()).ok()
+}
+
+fn add_command(alloc: Global, command: OperCmd, answer: &mut String) -> Option<()> {
     match command {
         OperCmd::Job(job, word) => {
-            let name = name_text(alloc, job.as_bytes())?;
-            Ok(format!(in alloc; "{word:?} {name}")?)
+            let Ok(()) = write!(answer, "{word:?} ") else {
+                return None;
+            };
+            add_name(alloc, job.as_bytes(), answer)
         }
         OperCmd::CtlJob(job, number) => {
-            let name = name_text(alloc, job.as_bytes())?;
-            Ok(format!(in alloc; "CtlJob {name} {number}")?)
+            let Ok(()) = answer.push_str("CtlJob ") else {
+                return None;
+            };
+            if add_name(alloc, job.as_bytes(), answer).is_none() {
+                return None;
+            }
+            write!(answer, " {number}").ok()
         }
         OperCmd::Lost(substrate) => {
-            let name = name_text(alloc, substrate.as_bytes())?;
-            Ok(format!(in alloc; "Lost {name}")?)
+            let Ok(()) = answer.push_str("Lost ") else {
+                return None;
+            };
+            add_name(alloc, substrate.as_bytes(), answer)
         }
-        other => Ok(format!(in alloc; "{other:?}")?),
+        other => write!(answer, "{other:?}").ok(),
     }
 }
 
-fn name_text(alloc: Global, name: &[u8]) -> Result<String> {
-    Ok(String::from_utf8_lossy(alloc, name)?)
+fn add_name(alloc: Global, name: &[u8], answer: &mut String) -> Option<()> {
+    let Ok(name) = String::from_utf8_lossy(alloc, name) else {
+        return None;
+    };
+    answer.push_str(name.as_str()).ok()
 }
 
-fn signal_text(alloc: Global, signal: Signal) -> Result<String> {
+// A carrier that is placed is told by its port, its name and the codes of its map.
+fn add_signal(alloc: Global, signal: Signal, answer: &mut String) -> Option<()> {
     match signal {
         Signal::Placed { port, id, map } => {
-            let mut text = format!(in alloc; "Placed {} ", port.0)?;
-            text.push_str(carrier_text(alloc, id)?.as_str())?;
-            text.push_str(" ")?;
-            text.push_str(map_text(alloc, map)?.as_str())?;
-            Ok(text)
+            let Ok(()) = write!(answer, "Placed {} ", port.0) else {
+                return None;
+            };
+            match id {
+                Some(id) => add_name(alloc, id.as_bytes(), answer)?,
+                None => answer.push_str("unread").ok()?,
+            }
+            let Ok(()) = answer.push_str(" ") else {
+                return None;
+            };
+            for code in map {
+                let Ok(()) = write!(answer, "{code}") else {
+                    return None;
+                };
+            }
+            Some(())
         }
-        other => Ok(format!(in alloc; "{other:?}")?),
+        other => write!(answer, "{other:?}").ok(),
     }
-}
-
-fn carrier_text(alloc: Global, id: Option<CarrierId>) -> Result<String> {
-    match id {
-        Some(id) => name_text(alloc, id.as_bytes()),
-        None => Ok(format!(in alloc; "unread")?),
-    }
-}
-
-fn map_text(alloc: Global, map: [u8; 25]) -> Result<String> {
-    let mut text = String::new(alloc);
-    for code in map {
-        text.push_str(format!(in alloc; "{code}")?.as_str())?;
-    }
-    Ok(text)
 }

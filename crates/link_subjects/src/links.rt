@@ -6,7 +6,7 @@ use gem_ids::Moment;
 use hsms_frame::Header;
 use hsms_link::{LinkAct, LinkState, LinkTimes, Phase, Ping};
 use std::alloc::Global;
-use test_lines::{Subject, header, nothing, number, word, words};
+use test_lines::{Subject, header};
 
 const TIMES: LinkTimes = LinkTimes {
     t6: 500,
@@ -31,63 +31,76 @@ impl Linked {
 
 impl Subject for Linked {
     fn answer(&mut self, alloc: Global, said: &str) -> Result<String> {
-        let words = words(alloc, said)?;
-        match word(&words, 0)? {
-            "take" => take(
-                alloc,
-                &mut self.0,
-                header(alloc, word(&words, 1)?)?,
-                moment(&words, 2)?,
-            ),
-            "due" => Ok(format!(in alloc; "{:?}", self.0.due(TIMES, moment(&words, 1)?))?),
-            "link" => Ok(format!(in alloc;
-                "{} {:?} {:?}",
-                self.0.session, self.0.phase, self.0.ping
-            )?),
-            _ => {
-                happens(&mut self.0, &words)?;
-                nothing(alloc)
-            }
+        let mut answer = String::new(alloc);
+        match say(alloc, &mut self.0, said, &mut answer) {
+            Some(()) => Ok(answer),
+            None => bail!("it says nothing, or there is no memory"),
         }
     }
 }
 
-// The link comes up, goes down, or linktest 1 is asked of it.
-fn happens(link: &mut LinkState, words: &[&str]) -> Result<()> {
-    match word(words, 0)? {
-        "up" => link.up(1, moment(words, 1)?),
-        "down" => link.down(),
-        "asked" => asked(link, moment(words, 1)?)?,
-        _ => return bail!("it says nothing"),
+// Says a line to a link; the answer. None where it says nothing.
+fn say(alloc: Global, link: &mut LinkState, said: &str, answer: &mut String) -> Option<()> {
+    let Some((front, at)) = said.rsplit_once(' ') else {
+        return say_word(link, said, answer);
+    };
+    let Ok(at) = at.parse::<u64>() else {
+        return None;
+    };
+    let at = Moment(at);
+    match front {
+        "due" => write!(answer, "{:?}", link.due(TIMES, at)).ok(),
+        "up" => up(link, at),
+        "asked" => ask(link, at),
+        _ => take(
+            link,
+            header(alloc, front.strip_prefix("take ")?).ok()?,
+            at,
+            answer,
+        ),
     }
-    Ok(())
 }
 
-fn asked(link: &mut LinkState, at: Moment) -> Result<()> {
+// The link goes down; or what it is.
+fn say_word(link: &mut LinkState, word: &str, answer: &mut String) -> Option<()> {
+    match word {
+        "down" => {
+            link.down();
+            Some(())
+        }
+        "link" => write!(answer, "{} {:?} {:?}", link.session, link.phase, link.ping).ok(),
+        _ => None,
+    }
+}
+
+fn up(link: &mut LinkState, at: Moment) -> Option<()> {
+    link.up(1, at);
+    Some(())
+}
+
+// Linktest 1 is asked of it, where one can be.
+fn ask(link: &mut LinkState, at: Moment) -> Option<()> {
     match (link.phase, link.ping) {
         (Phase::Selected, Ping::Off | Ping::Quiet { .. }) => {
             link.asked(1, at);
-            Ok(())
+            Some(())
         }
-        _ => bail!("no linktest can be asked"),
+        _ => None,
     }
 }
 
-fn take(alloc: Global, link: &mut LinkState, header: Header, at: Moment) -> Result<String> {
+// It takes a header, unless it is down.
+fn take(link: &mut LinkState, header: Header, at: Moment, answer: &mut String) -> Option<()> {
     if matches!(link.phase, Phase::Down) {
-        bail!("the link is down");
+        return None;
     }
     match link.take(&header, at) {
-        LinkAct::Reply(reply) => header_text(alloc, reply),
-        act => Ok(format!(in alloc; "{act:?}")?),
+        LinkAct::Reply(reply) => add_header(reply, answer),
+        act => write!(answer, "{act:?}").ok(),
     }
 }
 
-fn moment(words: &[&str], place: usize) -> Result<Moment> {
-    Ok(Moment(number(words, place)?))
-}
-
-fn header_text(alloc: Global, header: Header) -> Result<String> {
+fn add_header(header: Header, answer: &mut String) -> Option<()> {
     let Header {
         session,
         byte2,
@@ -96,5 +109,9 @@ fn header_text(alloc: Global, header: Header) -> Result<String> {
         stype,
         system,
     } = header;
-    Ok(format!(in alloc; "{session:04X}{byte2:02X}{byte3:02X}{ptype:02X}{stype:02X}{system:08X}")?)
+    write!(
+        answer,
+        "{session:04X}{byte2:02X}{byte3:02X}{ptype:02X}{stype:02X}{system:08X}"
+    )
+    .ok()
 }

@@ -3,7 +3,7 @@
 use anyhow::{Result, bail};
 use gem_states::{Comm, CommTrigger, Control, ControlTrigger};
 use std::alloc::Global;
-use test_lines::{Subject, number, small, word, words};
+use test_lines::Subject;
 
 /// The state of communication.
 #[derive(Drop)]
@@ -24,30 +24,48 @@ impl Communicates {
 impl Subject for Communicates {
     // The row of a trigger; whether a row fires, with the moment at which its delay is over; the state, or its number.
     fn answer(&mut self, alloc: Global, said: &str) -> Result<String> {
-        let words = words(alloc, said)?;
-        match word(&words, 0)? {
-            "fire" => {
-                let fires = self.0.fire(small(&words, 1)?, number(&words, 2)?);
-                Ok(format!(in alloc; "{fires}")?)
-            }
-            "state" => Ok(format!(in alloc; "{:?}", self.0)?),
-            "number" => Ok(format!(in alloc; "{}", self.0.number())?),
-            "row" => {
-                let row = self.0.row_for(comm_trigger(word(&words, 1)?)?);
-                Ok(format!(in alloc; "{row:?}")?)
-            }
-            _ => bail!("it says nothing"),
+        let mut answer = String::new(alloc);
+        match say_comm(&mut self.0, said, &mut answer) {
+            Some(()) => Ok(answer),
+            None => bail!("it says nothing, or there is no memory"),
         }
     }
 }
 
-fn comm_trigger(word: &str) -> Result<CommTrigger> {
+// Says a line to communication; the answer. None where it says nothing.
+fn say_comm(comm: &mut Comm, said: &str, answer: &mut String) -> Option<()> {
+    match said.split_once(' ') {
+        Some(("row", trigger)) => write!(answer, "{:?}", comm.row_for(comm_trigger(trigger)?)).ok(),
+        Some(("fire", rest)) => fire_comm(comm, rest, answer),
+        Some(_) => None,
+        None => match said {
+            "state" => write!(answer, "{comm:?}").ok(),
+            "number" => write!(answer, "{}", comm.number()).ok(),
+            _ => None,
+        },
+    }
+}
+
+fn fire_comm(comm: &mut Comm, rest: &str, answer: &mut String) -> Option<()> {
+    let Some((row, until)) = rest.split_once(' ') else {
+        return None;
+    };
+    let Ok(row) = row.parse::<u8>() else {
+        return None;
+    };
+    let Ok(until) = until.parse::<u64>() else {
+        return None;
+    };
+    write!(answer, "{}", comm.fire(row, until)).ok()
+}
+
+fn comm_trigger(word: &str) -> Option<CommTrigger> {
     match word {
-        "Enable" => Ok(CommTrigger::Enable),
-        "Accepted" => Ok(CommTrigger::Accepted),
-        "Refused" => Ok(CommTrigger::Refused),
-        "SessionEnd" => Ok(CommTrigger::SessionEnd),
-        _ => bail!("there is no such trigger"),
+        "Enable" => Some(CommTrigger::Enable),
+        "Accepted" => Some(CommTrigger::Accepted),
+        "Refused" => Some(CommTrigger::Refused),
+        "SessionEnd" => Some(CommTrigger::SessionEnd),
+        _ => None,
     }
 }
 
@@ -65,29 +83,47 @@ impl Controls {
 impl Subject for Controls {
     // The row of a trigger, with the switch at local or remote; whether a row fires; the state, or its number.
     fn answer(&mut self, alloc: Global, said: &str) -> Result<String> {
-        let words = words(alloc, said)?;
-        match word(&words, 0)? {
-            "fire" => Ok(format!(in alloc; "{}", self.0.fire(small(&words, 1)?))?),
-            "state" => Ok(format!(in alloc; "{:?}", self.0)?),
-            "number" => Ok(format!(in alloc; "{}", self.0.number())?),
-            "row" => {
-                let is_local = word(&words, 2)? == "local";
-                let row = self.0.row_for(control_trigger(word(&words, 1)?)?, is_local);
-                Ok(format!(in alloc; "{row:?}")?)
-            }
-            _ => bail!("it says nothing"),
+        let mut answer = String::new(alloc);
+        match say_control(&mut self.0, said, &mut answer) {
+            Some(()) => Ok(answer),
+            None => bail!("it says nothing, or there is no memory"),
         }
     }
 }
 
-fn control_trigger(word: &str) -> Result<ControlTrigger> {
+// Says a line to control; the answer. None where it says nothing.
+fn say_control(control: &mut Control, said: &str, answer: &mut String) -> Option<()> {
+    match said.split_once(' ') {
+        Some(("row", rest)) => add_row(control, rest, answer),
+        Some(("fire", row)) => write!(answer, "{}", control.fire(row.parse::<u8>().ok()?)).ok(),
+        Some(_) => None,
+        None => match said {
+            "state" => write!(answer, "{control:?}").ok(),
+            "number" => write!(answer, "{}", control.number()).ok(),
+            _ => None,
+        },
+    }
+}
+
+fn add_row(control: &Control, rest: &str, answer: &mut String) -> Option<()> {
+    let Some((trigger, switch)) = rest.split_once(' ') else {
+        return None;
+    };
+    let Some(trigger) = control_trigger(trigger) else {
+        return None;
+    };
+    let row = control.row_for(trigger, switch == "local");
+    write!(answer, "{row:?}").ok()
+}
+
+fn control_trigger(word: &str) -> Option<ControlTrigger> {
     match word {
-        "HostS1F2" => Ok(ControlTrigger::HostS1F2),
-        "HostS1F15" => Ok(ControlTrigger::HostS1F15),
-        "HostS1F17" => Ok(ControlTrigger::HostS1F17),
-        "Offline" => Ok(ControlTrigger::Offline),
-        "Remote" => Ok(ControlTrigger::Remote),
-        "Local" => Ok(ControlTrigger::Local),
-        _ => bail!("there is no such trigger"),
+        "HostS1F2" => Some(ControlTrigger::HostS1F2),
+        "HostS1F15" => Some(ControlTrigger::HostS1F15),
+        "HostS1F17" => Some(ControlTrigger::HostS1F17),
+        "Offline" => Some(ControlTrigger::Offline),
+        "Remote" => Some(ControlTrigger::Remote),
+        "Local" => Some(ControlTrigger::Local),
+        _ => None,
     }
 }

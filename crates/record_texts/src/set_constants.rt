@@ -7,11 +7,13 @@
 
 ghost use Rattle.std.specs.Prelude.{◌<◌, length};
 ghost use Rattle.data_variables.specs.Values.{AreConstants};
+ghost use Rattle.secs_items.specs.Sendable.{IsSendable};
+ghost use Rattle.secs_items.specs.View.{view};
 
 use anyhow::{Result, bail};
 use data_variables::{Constants, Val, ids, item_of, set_of};
-use report_subjects::{listed, numbers_in};
-use secs_items::{encode, read_one};
+use report_subjects::{add_number, numbers_in};
+use secs_items::{Item, encode, read_one};
 use std::alloc::Global;
 use test_lines::{Subject, bytes};
 
@@ -32,116 +34,193 @@ const DEFAULTS: [(u32, Val); 7] = [
 ];
 
 impl SetConstants {
-    /// Those of a tool that begins.
-    pub fn new(alloc: Global) -> Result<SetConstants> {
-        Ok(SetConstants {
-            constants: Constants::new(alloc, &DEFAULTS)?,
-        })
+    /// Those of a tool that begins. None where there is no memory.
+    pub fn new(alloc: Global) -> Option<SetConstants> {
+        match Constants::new(alloc, &DEFAULTS) {
+            Ok(constants) => Some(SetConstants { constants }),
+            Err(_) => None,
+        }
     }
 }
 
 impl Subject for SetConstants {
     fn answer(&mut self, alloc: Global, said: &str) -> Result<String> {
-        let (word, rest) = said.split_once(' ').unwrap_or((said, ""));
-        match word {
-            "set" => set(alloc, &mut self.constants, sets(alloc, rest)?.as_slice()),
-            "values" => values(alloc, &self.constants),
-            "value" => value(alloc, self.constants.get(rest.parse::<u32>()?)),
-            "number" => number(alloc, &self.constants, rest.parse::<u32>()?),
-            "truth" => truth(alloc, &self.constants, rest.parse::<u32>()?),
-            "ids" => listed(alloc, &ids()),
-            "names" => names(alloc, &self.constants, rest),
-            "item" => item(alloc, rest),
-            "bytes" => value_bytes(alloc, rest),
-            _ => bail!("it says nothing"),
+        let mut answer = String::new(alloc);
+        match say(alloc, &mut self.constants, said, &mut answer) {
+            Some(()) => Ok(answer),
+            None => bail!("it says nothing, or there is no memory"),
         }
+    }
+}
+
+// Says a line to the constants; the answer. None where it says nothing.
+fn say(alloc: Global, constants: &mut Constants, said: &str, answer: &mut String) -> Option<()> {
+    let (word, rest) = said.split_once(' ').unwrap_or((said, ""));
+    match word {
+        "set" => set(alloc, constants, rest, answer),
+        "values" => add_values(constants, answer),
+        "ids" => add_ids(answer),
+        "names" => add_names(alloc, constants, rest, answer),
+        "item" => add_item(alloc, rest, answer),
+        "bytes" => add_value_bytes(alloc, rest, answer),
+        _ => show(constants, word, rest, answer),
     }
 }
 
 // The value that a word stands for. None: it stands for an item that is no value of the constant.
-fn val(word: &str) -> Result<Option<Val>> {
+fn val(word: &str) -> Option<Option<Val>> {
     match word {
-        "true" => Ok(Some(Val::Truth(true))),
-        "false" => Ok(Some(Val::Truth(false))),
-        "other" => Ok(None),
-        _ => Ok(Some(Val::Number(word.parse::<u32>()?))),
+        "true" => Some(Some(Val::Truth(true))),
+        "false" => Some(Some(Val::Truth(false))),
+        "other" => Some(None),
+        _ => match word.parse::<u32>() {
+            Ok(number) => Some(Some(Val::Number(number))),
+            Err(_) => None,
+        },
     }
 }
 
 // The constants of a message, each with its new value.
-fn sets(alloc: Global, text: &str) -> Result<Vec<(u32, Option<Val>)>> {
-    let mut sets = Vec::new(alloc);
+fn add_sets(sets: &mut Vec<(u32, Option<Val>)>, text: &str) -> Option<()> {
     if text != "-" {
         for one in text.split(';') {
-            let Some((ecid, word)) = one.trim().split_once(' ') else {
-                bail!("a constant stands before its value");
+            let Some(constant) = constant(one.trim()) else {
+                return None;
             };
-            sets.push((ecid.parse::<u32>()?, val(word)?))?;
+            let Ok(()) = sets.push(constant) else {
+                return None;
+            };
         }
     }
-    Ok(sets)
+    Some(())
 }
 
-fn set(alloc: Global, constants: &mut Constants, sets: &[(u32, Option<Val>)]) -> Result<String> {
-    Ok(format!(in alloc; "{}", constants.set_all(sets))?)
+// A constant, and its new value behind it.
+fn constant(text: &str) -> Option<(u32, Option<Val>)> {
+    let Some((ecid, word)) = text.split_once(' ') else {
+        return None;
+    };
+    let Ok(ecid) = ecid.parse::<u32>() else {
+        return None;
+    };
+    let Some(value) = val(word) else {
+        return None;
+    };
+    Some((ecid, value))
 }
 
-fn value(alloc: Global, value: Option<Val>) -> Result<String> {
+fn set(alloc: Global, constants: &mut Constants, text: &str, answer: &mut String) -> Option<()> {
+    let mut sets = Vec::new(alloc);
+    match add_sets(&mut sets, text) {
+        Some(()) => write!(answer, "{}", constants.set_all(sets.as_slice())).ok(),
+        None => None,
+    }
+}
+
+fn add_value(answer: &mut String, value: Option<Val>) -> Option<()> {
     match value {
-        Some(Val::Number(number)) => Ok(format!(in alloc; "{number}")?),
-        Some(Val::Truth(truth)) => Ok(format!(in alloc; "{truth}")?),
-        None => Ok(format!(in alloc; "none")?),
+        Some(Val::Number(number)) => write!(answer, "{number}").ok(),
+        Some(Val::Truth(truth)) => write!(answer, "{truth}").ok(),
+        None => answer.push_str("none").ok(),
     }
 }
 
 // The values of all constants in their order.
-fn values(alloc: Global, constants: &Constants) -> Result<String> {
-    let mut text = String::new(alloc);
-    for (place, ecid) in ids().iter().enumerate() {
-        if place > 0 {
-            text.push(' ')?;
+fn add_values(constants: &Constants, answer: &mut String) -> Option<()> {
+    for ecid in ids() {
+        if !answer.is_empty() {
+            let Ok(()) = answer.push(' ') else {
+                return None;
+            };
         }
-        text.push_str(value(alloc, constants.get(*ecid))?.as_str())?;
+        if add_value(answer, constants.get(ecid)).is_none() {
+            return None;
+        }
     }
-    Ok(text)
+    Some(())
 }
 
-fn number(alloc: Global, constants: &Constants, ecid: u32) -> Result<String> {
-    Ok(format!(in alloc; "{}", constants.number(ecid))?)
+fn add_ids(answer: &mut String) -> Option<()> {
+    for ecid in ids() {
+        if add_number(answer, ecid).is_none() {
+            return None;
+        }
+    }
+    Some(())
 }
 
-fn truth(alloc: Global, constants: &Constants, ecid: u32) -> Result<String> {
-    Ok(format!(in alloc; "{}", constants.truth(ecid))?)
+// What a constant is.
+fn show(constants: &Constants, word: &str, ecid: &str, answer: &mut String) -> Option<()> {
+    let Ok(ecid) = ecid.parse::<u32>() else {
+        return None;
+    };
+    match word {
+        "value" => add_value(answer, constants.get(ecid)),
+        "number" => write!(answer, "{}", constants.number(ecid)).ok(),
+        "truth" => write!(answer, "{}", constants.truth(ecid)).ok(),
+        _ => None,
+    }
 }
 
-fn names(alloc: Global, constants: &Constants, list: &str) -> Result<String> {
-    let asked = numbers_in(alloc, list)?;
+fn add_names(alloc: Global, constants: &Constants, list: &str, answer: &mut String) -> Option<()> {
+    let Some(asked) = numbers_in(alloc, list) else {
+        return None;
+    };
     if asked.len() >= 1024 {
-        bail!("no message asks for so many");
+        return None;
     }
+    let Ok(names) = constants.namelist(alloc, asked.as_slice()) else {
+        return None;
+    };
+    add_bytes(alloc, &names, answer)
+}
+
+// The bytes of an item.
+fn add_bytes(alloc: Global, item: &Item, answer: &mut String) -> Option<()>
+    requires { IsSendable (view item.now) }
+{
     let mut bytes = Vec::new(alloc);
-    encode(&constants.namelist(alloc, asked.as_slice())?, &mut bytes)?;
-    Ok(hex::encode_upper(alloc, bytes.as_slice())?)
+    let Ok(()) = encode(item, &mut bytes) else {
+        return None;
+    };
+    let Ok(digits) = hex::encode_upper(alloc, bytes.as_slice()) else {
+        return None;
+    };
+    answer.push_str(digits.as_str()).ok()
 }
 
 // What an item says for a constant.
-fn item(alloc: Global, text: &str) -> Result<String> {
+fn add_item(alloc: Global, text: &str, answer: &mut String) -> Option<()> {
     let Some((ecid, digits)) = text.split_once(' ') else {
-        bail!("a constant stands before the bytes of an item");
+        return None;
     };
-    let bytes = bytes(alloc, digits)?;
-    match read_one(alloc, bytes.as_slice())? {
-        Some(item) => value(alloc, set_of(ecid.parse::<u32>()?, &item)),
-        None => bail!("these are not the bytes of one item"),
+    let Ok(ecid) = ecid.parse::<u32>() else {
+        return None;
+    };
+    let Ok(bytes) = bytes(alloc, digits) else {
+        return None;
+    };
+    match val_of(alloc, ecid, bytes.as_slice()) {
+        Some(value) => add_value(answer, value),
+        None => None,
+    }
+}
+
+// What the item of these bytes says for a constant. None where they are not the bytes of one item.
+fn val_of(alloc: Global, ecid: u32, bytes: &[u8]) -> Option<Option<Val>> {
+    match &read_one(alloc, bytes) {
+        Ok(Some(item)) => Some(set_of(ecid, item)),
+        _ => None,
     }
 }
 
 // The bytes of the item of a value.
-fn value_bytes(alloc: Global, word: &str) -> Result<String> {
-    let Some(value) = val(word)? else {
-        bail!("it is no value");
+fn add_value_bytes(alloc: Global, word: &str, answer: &mut String) -> Option<()> {
+    let Some(Some(value)) = val(word) else {
+        return None;
     };
-    let mut bytes = Vec::new(alloc);
-    encode(&item_of(alloc, value)?, &mut bytes)?;
-    Ok(hex::encode_upper(alloc, bytes.as_slice())?)
+    let Ok(item) = item_of(alloc, value) else {
+        return None;
+    };
+    add_bytes(alloc, &item, answer)
 }

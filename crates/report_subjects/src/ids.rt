@@ -1,51 +1,61 @@
 //! Lists of numbers, as they stand in lines: with spaces between them, or as `65 times 1`, and `-` where there is none.
 
-use anyhow::Result;
 use gem_ids::Ids;
 use std::alloc::Global;
-use test_lines::{word, words};
 
-fn id(word: &str) -> Result<u32> {
-    Ok(word.parse::<u32>()?)
+/// The numbers that a text tells. None where it is no list of numbers, or there is no memory.
+pub fn numbers_in(alloc: Global, text: &str) -> Option<Ids> {
+    let mut all = Vec::new(alloc);
+    match add_numbers(&mut all, text) {
+        Some(()) => Some(Ids::from_vec(all)),
+        None => None,
+    }
+}
+
+fn add_numbers(all: &mut Vec<u32>, text: &str) -> Option<()> {
+    if let Some((count, number)) = text.split_once(" times ") {
+        return add_times(all, count.trim(), number);
+    }
+    for word in text.split_whitespace() {
+        if word != "-" {
+            let Ok(number) = word.parse::<u32>() else {
+                return None;
+            };
+            let Ok(()) = all.push(number) else {
+                return None;
+            };
+        }
+    }
+    Some(())
 }
 
 // So many times one number.
-fn times(alloc: Global, count: u32, id: u32) -> Result<Vec<u32>> {
-    let mut all = Vec::new(alloc);
+fn add_times(all: &mut Vec<u32>, count: &str, number: &str) -> Option<()> {
+    let Ok(count) = count.parse::<u32>() else {
+        return None;
+    };
+    let Ok(number) = number.parse::<u32>() else {
+        return None;
+    };
     for _ in 0..count {
-        all.push(id)?;
+        let Ok(()) = all.push(number) else {
+            return None;
+        };
     }
-    Ok(all)
+    Some(())
 }
 
-/// The numbers that a text tells.
-pub fn numbers_in(alloc: Global, text: &str) -> Result<Ids> {
-    let words = words(alloc, text)?;
-    let words = words.as_slice();
-    if words.len() == 3 && word(words, 1)? == "times" {
-        let all = times(alloc, id(word(words, 0)?)?, id(word(words, 2)?)?)?;
-        return Ok(Ids::from_vec(all));
-    }
-    let mut all = Vec::new(alloc);
-    for word in words {
-        if *word != "-" {
-            all.push(id(word)?)?;
-        }
-    }
-    Ok(Ids::from_vec(all))
+/// Puts a number behind others, with a space between them. None where there is no memory.
+pub fn add_number(list: &mut String, number: u32) -> Option<()> {
+    let gap = if list.is_empty() { "" } else { " " };
+    write!(list, "{gap}{number}").ok()
 }
 
-/// These numbers with spaces between them, and `-` where there is none.
-pub fn listed(alloc: Global, numbers: &[u32]) -> Result<String> {
-    if numbers.is_empty() {
-        return Ok(format!(in alloc; "-")?);
+/// Puts `-` where there is no number. None where there is no memory.
+pub fn close_list(list: &mut String) -> Option<()> {
+    if list.is_empty() {
+        list.push_str("-").ok()
+    } else {
+        Some(())
     }
-    let mut text = String::new(alloc);
-    for (place, number) in numbers.iter().enumerate() {
-        if place > 0 {
-            text.push(' ')?;
-        }
-        text.push_str(format!(in alloc; "{number}")?.as_str())?;
-    }
-    Ok(text)
 }

@@ -6,6 +6,6 @@ mod ids;
 mod tool_alarms;
 mod tool_reports;
 
-pub use ids::{listed, numbers_in};
+pub use ids::{add_number, close_list, numbers_in};
 pub use tool_alarms::ToolAlarms;
 pub use tool_reports::ToolReports;

@@ -5,11 +5,11 @@
 
 ghost use Rattle.std.specs.Prelude.{◌≤◌};
 
-use crate::ids::listed;
+use crate::ids::{add_number, close_list};
 use anyhow::{Result, bail};
 use event_reports::Alarms;
 use std::alloc::Global;
-use test_lines::{Subject, word, words};
+use test_lines::Subject;
 
 /// The alarms of a tool.
 #[derive(Drop)]
@@ -23,85 +23,76 @@ impl ToolAlarms {
         if ports > 4 || chambers > 8 {
             bail!("there is no such tool");
         }
-        Ok(ToolAlarms {
-            alarms: Alarms::new(alloc, ports, chambers)?,
-        })
+        match Alarms::new(alloc, ports, chambers) {
+            Ok(alarms) => Ok(ToolAlarms { alarms }),
+            Err(_) => bail!("there is no memory"),
+        }
     }
 }
 
 impl Subject for ToolAlarms {
     fn answer(&mut self, alloc: Global, said: &str) -> Result<String> {
-        let words = words(alloc, said)?;
-        let words = words.as_slice();
-        match word(words, 0)? {
-            "alarms" => known(alloc, &self.alarms),
-            "are_set" => are_set(alloc, &self.alarms),
-            "are_enabled" => are_enabled(alloc, &self.alarms),
-            "set" | "clear" => change(alloc, &mut self.alarms, words),
-            "enable" | "disable" => enable(alloc, &mut self.alarms, words),
-            _ => is_so(alloc, &self.alarms, words),
+        let mut answer = String::new(alloc);
+        match say(&mut self.alarms, said, &mut answer) {
+            Some(()) => Ok(answer),
+            None => bail!("it says nothing, or there is no memory"),
         }
     }
 }
 
-fn alid(words: &[&str]) -> Result<u32> {
-    Ok(word(words, 1)?.parse::<u32>()?)
-}
-
-fn known(alloc: Global, alarms: &Alarms) -> Result<String> {
-    let mut all = Vec::new(alloc);
-    for line in alarms.lines() {
-        all.push(line.alid)?;
+// Says a line to the alarms; the answer. None where it says nothing.
+fn say(alarms: &mut Alarms, said: &str, answer: &mut String) -> Option<()> {
+    let Some((word, alid)) = said.split_once(' ') else {
+        return add_all(alarms, said, answer);
+    };
+    match word {
+        "enable" => enable(alarms, true, alid, answer),
+        "disable" => enable(alarms, false, alid, answer),
+        _ => change(alarms, word, alid, answer),
     }
-    listed(alloc, all.as_slice())
 }
 
-fn are_set(alloc: Global, alarms: &Alarms) -> Result<String> {
-    let mut set = Vec::new(alloc);
+fn enable(alarms: &mut Alarms, on: bool, alid: &str, answer: &mut String) -> Option<()> {
+    if alid == "all" {
+        return write!(answer, "{}", alarms.enable(on, None)).ok();
+    }
+    match alid.parse::<u32>() {
+        Ok(alid) => write!(answer, "{}", alarms.enable(on, Some(alid))).ok(),
+        Err(_) => None,
+    }
+}
+
+// Sets or clears an alarm, and tells whether it changed; or tells what it is.
+fn change(alarms: &mut Alarms, word: &str, alid: &str, answer: &mut String) -> Option<()> {
+    let Ok(alid) = alid.parse::<u32>() else {
+        return None;
+    };
+    let is = match word {
+        "set" => alarms.set(alid),
+        "clear" => alarms.clear(alid),
+        _ => is_so(alarms, word, alid)?,
+    };
+    write!(answer, "{is}").ok()
+}
+
+fn is_so(alarms: &Alarms, asked: &str, alid: u32) -> Option<bool> {
+    match asked {
+        "is_set" | "are_set" => Some(alarms.is_set(alid)),
+        "is_enabled" | "are_enabled" => Some(alarms.is_enabled(alid)),
+        "is_known" | "alarms" => Some(alarms.is_known(alid)),
+        _ => None,
+    }
+}
+
+// All alarms of which it is so.
+fn add_all(alarms: &Alarms, asked: &str, answer: &mut String) -> Option<()> {
     for line in alarms.lines() {
-        if alarms.is_set(line.alid) {
-            set.push(line.alid)?;
+        let Some(is) = is_so(alarms, asked, line.alid) else {
+            return None;
+        };
+        if is && add_number(answer, line.alid).is_none() {
+            return None;
         }
     }
-    listed(alloc, set.as_slice())
-}
-
-fn are_enabled(alloc: Global, alarms: &Alarms) -> Result<String> {
-    let mut enabled = Vec::new(alloc);
-    for line in alarms.lines() {
-        if alarms.is_enabled(line.alid) {
-            enabled.push(line.alid)?;
-        }
-    }
-    listed(alloc, enabled.as_slice())
-}
-
-fn change(alloc: Global, alarms: &mut Alarms, words: &[&str]) -> Result<String> {
-    let alid = alid(words)?;
-    let changed = if word(words, 0)? == "set" {
-        alarms.set(alid)
-    } else {
-        alarms.clear(alid)
-    };
-    Ok(format!(in alloc; "{changed}")?)
-}
-
-fn enable(alloc: Global, alarms: &mut Alarms, words: &[&str]) -> Result<String> {
-    let on = word(words, 0)? == "enable";
-    let alid = match word(words, 1)? {
-        "all" => None,
-        _ => Some(alid(words)?),
-    };
-    Ok(format!(in alloc; "{}", alarms.enable(on, alid))?)
-}
-
-fn is_so(alloc: Global, alarms: &Alarms, words: &[&str]) -> Result<String> {
-    let alid = alid(words)?;
-    let is = match word(words, 0)? {
-        "is_set" => alarms.is_set(alid),
-        "is_enabled" => alarms.is_enabled(alid),
-        "is_known" => alarms.is_known(alid),
-        _ => bail!("it says nothing"),
-    };
-    Ok(format!(in alloc; "{is}")?)
+    close_list(answer)
 }

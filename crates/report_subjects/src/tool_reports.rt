@@ -10,7 +10,7 @@
 ghost use Rattle.std.specs.Prelude.{◌≡◌, ◌==◌, ◌≤◌, ℕ, ◌∷◌, [], Some, None, if◌then◌else◌, IfOk};
 ghost use Rattle.secs_items.specs.Data.{u4};
 
-use crate::ids::{listed, numbers_in};
+use crate::ids::{add_number, close_list, numbers_in};
 use anyhow::{Result, bail};
 use event_reports::{Reports, Values};
 use gem_ids::Ids;
@@ -30,29 +30,34 @@ impl ToolReports {
         if ports > 4 || chambers > 8 {
             bail!("there is no such tool");
         }
-        Ok(ToolReports {
-            reports: Reports::new(alloc, ports, chambers)?,
-        })
+        match Reports::new(alloc, ports, chambers) {
+            Ok(reports) => Ok(ToolReports { reports }),
+            Err(_) => bail!("there is no memory"),
+        }
     }
 }
 
 impl Subject for ToolReports {
     fn answer(&mut self, alloc: Global, said: &str) -> Result<String> {
-        let Some((word, rest)) = said.split_once(' ') else {
-            bail!("it says nothing");
-        };
-        match word {
-            "define" => define(alloc, &mut self.reports, entries(alloc, rest)?.as_slice()),
-            "many" => define(alloc, &mut self.reports, many(alloc, rest)?.as_slice()),
-            "link" => link(alloc, &mut self.reports, entries(alloc, rest)?.as_slice()),
-            "enable" => enable(alloc, &mut self.reports, true, rest),
-            "disable" => enable(alloc, &mut self.reports, false, rest),
-            "enabled" => enabled(alloc, &self.reports, rest),
-            "event" => event(alloc, &self.reports, rest),
-            "report" => listed(alloc, report(alloc, &self.reports, rest)?.as_slice()),
-            "values" => Ok(format!(in alloc; "{}", report(alloc, &self.reports, rest)?.len())?),
-            _ => bail!("it says nothing"),
+        let mut answer = String::new(alloc);
+        match say(alloc, &mut self.reports, said, &mut answer) {
+            Some(()) => Ok(answer),
+            None => bail!("it says nothing, or there is no memory"),
         }
+    }
+}
+
+// Says a line to the reports; the answer. None where it says nothing.
+fn say(alloc: Global, reports: &mut Reports, said: &str, answer: &mut String) -> Option<()> {
+    let Some((word, rest)) = said.split_once(' ') else {
+        return None;
+    };
+    match word {
+        "define" | "many" | "link" => change(alloc, reports, word, rest, answer),
+        "enable" => enable(alloc, reports, true, rest, answer),
+        "disable" => enable(alloc, reports, false, rest, answer),
+        "enabled" => add_enabled(alloc, reports, rest, answer),
+        _ => show(alloc, reports, word, rest, answer),
     }
 }
 
@@ -74,56 +79,136 @@ impl Values for Numbers {
 
 const NUMBERS: Numbers = Numbers { but: 3 };
 
-// An entry of an S2F33 or S2F35: its number, and its list.
-fn entry(alloc: Global, text: &str) -> Result<(u32, Ids)> {
-    let Some((number, list)) = text.split_once(':') else {
-        bail!("an entry is a number, a colon and a list");
+// Defines reports, or links them to events.
+fn change(
+    alloc: Global,
+    reports: &mut Reports,
+    word: &str,
+    rest: &str,
+    answer: &mut String,
+) -> Option<()> {
+    let Some(entries) = entries(alloc, word, rest) else {
+        return None;
     };
-    Ok((number.trim().parse::<u32>()?, numbers_in(alloc, list)?))
+    let code = match word {
+        "link" => reports.link(alloc, entries.as_slice()),
+        _ => reports.define(alloc, entries.as_slice()),
+    };
+    match code {
+        Ok(code) => write!(answer, "{code}").ok(),
+        Err(_) => None,
+    }
 }
 
-fn entries(alloc: Global, text: &str) -> Result<Vec<(u32, Ids)>> {
+// The entries of an S2F33 or S2F35.
+fn entries(alloc: Global, word: &str, text: &str) -> Option<Vec<(u32, Ids)>> {
     let mut entries = Vec::new(alloc);
+    let added = match word {
+        "many" => add_many(alloc, &mut entries, text),
+        _ => add_entries(alloc, &mut entries, text),
+    };
+    match added {
+        Some(()) => Some(entries),
+        None => None,
+    }
+}
+
+fn add_entries(alloc: Global, entries: &mut Vec<(u32, Ids)>, text: &str) -> Option<()> {
     if text != "-" {
         for one in text.split(';') {
-            entries.push(entry(alloc, one)?)?;
+            let Some(entry) = entry(alloc, one) else {
+                return None;
+            };
+            let Ok(()) = entries.push(entry) else {
+                return None;
+            };
         }
     }
-    Ok(entries)
+    Some(())
+}
+
+// An entry: its number, and its list.
+fn entry(alloc: Global, text: &str) -> Option<(u32, Ids)> {
+    let Some((number, list)) = text.split_once(':') else {
+        return None;
+    };
+    let Ok(number) = number.trim().parse::<u32>() else {
+        return None;
+    };
+    let Some(list) = numbers_in(alloc, list) else {
+        return None;
+    };
+    Some((number, list))
 }
 
 // So many reports of VID 1, with RPTIDs that rise from 1,001.
-fn many(alloc: Global, count: &str) -> Result<Vec<(u32, Ids)>> {
-    let count = count.parse::<u16>()?;
-    let mut entries = Vec::new(alloc);
+fn add_many(alloc: Global, entries: &mut Vec<(u32, Ids)>, count: &str) -> Option<()> {
+    let Ok(count) = count.parse::<u16>() else {
+        return None;
+    };
     for place in 0..count {
-        entries.push((1_001 + u32::from(place), numbers_in(alloc, "1")?))?;
+        let Some(list) = numbers_in(alloc, "1") else {
+            return None;
+        };
+        let Ok(()) = entries.push((1_001 + u32::from(place), list)) else {
+            return None;
+        };
     }
-    Ok(entries)
+    Some(())
 }
 
-fn define(alloc: Global, reports: &mut Reports, entries: &[(u32, Ids)]) -> Result<String> {
-    Ok(format!(in alloc; "{}", reports.define(alloc, entries)?)?)
-}
-
-fn link(alloc: Global, reports: &mut Reports, entries: &[(u32, Ids)]) -> Result<String> {
-    Ok(format!(in alloc; "{}", reports.link(alloc, entries)?)?)
-}
-
-fn enable(alloc: Global, reports: &mut Reports, on: bool, list: &str) -> Result<String> {
-    let ceids = numbers_in(alloc, list)?;
-    Ok(format!(in alloc; "{}", reports.enable(on, ceids.as_slice()))?)
+fn enable(
+    alloc: Global,
+    reports: &mut Reports,
+    on: bool,
+    list: &str,
+    answer: &mut String,
+) -> Option<()> {
+    let Some(ceids) = numbers_in(alloc, list) else {
+        return None;
+    };
+    write!(answer, "{}", reports.enable(on, ceids.as_slice())).ok()
 }
 
 // The enabled events among these.
-fn enabled(alloc: Global, reports: &Reports, list: &str) -> Result<String> {
-    let mut enabled = Vec::new(alloc);
+fn add_enabled(alloc: Global, reports: &Reports, list: &str, answer: &mut String) -> Option<()> {
     for ceid in numbers_in(alloc, list)?.as_slice() {
         if reports.is_enabled(*ceid) {
-            enabled.push(*ceid)?;
+            if add_number(answer, *ceid).is_none() {
+                return None;
+            }
         }
     }
-    listed(alloc, enabled.as_slice())
+    close_list(answer)
+}
+
+// What a report or an event tells.
+fn show(alloc: Global, reports: &Reports, word: &str, id: &str, answer: &mut String) -> Option<()> {
+    let Ok(id) = id.parse::<u32>() else {
+        return None;
+    };
+    let Some(items) = items_of(alloc, reports, word == "event", id) else {
+        return None;
+    };
+    match word {
+        "event" => add_reports(answer, items.as_slice()),
+        "report" => add_values(answer, items.as_slice()),
+        "values" => write!(answer, "{}", items.as_slice().len()).ok(),
+        _ => None,
+    }
+}
+
+fn items_of(alloc: Global, reports: &Reports, is_event: bool, id: u32) -> Option<Items> {
+    let mut out = Items::new(alloc);
+    let told = if is_event {
+        reports.report(alloc, id, &NUMBERS, &mut out)
+    } else {
+        reports.one(alloc, id, &NUMBERS, &mut out)
+    };
+    match told {
+        Ok(()) => Some(out),
+        Err(_) => None,
+    }
 }
 
 // The number of a U4 of one element, and 0 of another item.
@@ -138,38 +223,30 @@ fn number(item: &Item) -> u32 {
 }
 
 // The numbers of values, in which 0 stands for an empty list.
-fn value_numbers(alloc: Global, items: &[Item]) -> Result<Vec<u32>> {
-    let mut all = Vec::new(alloc);
+fn add_values(answer: &mut String, items: &[Item]) -> Option<()> {
     for item in items {
-        all.push(number(item))?;
+        if add_number(answer, number(item)).is_none() {
+            return None;
+        }
     }
-    Ok(all)
+    close_list(answer)
 }
 
 // The numbers of reports: of each its RPTID, and behind it its values.
-fn report_numbers(alloc: Global, items: &[Item]) -> Result<Vec<u32>> {
-    let mut all = Vec::new(alloc);
+fn add_reports(answer: &mut String, items: &[Item]) -> Option<()> {
     for item in items {
         let Item::List(parts) = item else {
-            bail!("a report is no list");
+            return None;
         };
         let [rptid, Item::List(values)] = parts.as_slice() else {
-            bail!("a report is no list of an id and values");
+            return None;
         };
-        all.push(number(rptid))?;
-        all.extend_from_slice(value_numbers(alloc, values.as_slice())?.as_slice())?;
+        if add_number(answer, number(rptid)).is_none() {
+            return None;
+        }
+        if add_values(answer, values.as_slice()).is_none() {
+            return None;
+        }
     }
-    Ok(all)
-}
-
-fn report(alloc: Global, reports: &Reports, rptid: &str) -> Result<Vec<u32>> {
-    let mut out = Items::new(alloc);
-    reports.one(alloc, rptid.parse::<u32>()?, &NUMBERS, &mut out)?;
-    value_numbers(alloc, out.as_slice())
-}
-
-fn event(alloc: Global, reports: &Reports, ceid: &str) -> Result<String> {
-    let mut out = Items::new(alloc);
-    reports.report(alloc, ceid.parse::<u32>()?, &NUMBERS, &mut out)?;
-    listed(alloc, report_numbers(alloc, out.as_slice())?.as_slice())
+    close_list(answer)
 }

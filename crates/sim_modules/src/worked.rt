@@ -13,7 +13,7 @@ pub fn a_module_fails_at_the_acts_of_its_plan()
     ensures third { answered (one_more (one_more (begun third (2 ∷ [])))) (process 9) ≡ Done third (record { 0 = 9 }) }
 {}
 
-/// Behind the seed 0 stands the step alone, and behind the seed 1 the factor and the step.
+/// Behind a seed of zero the step alone is drawn, and behind a seed of one the sum of factor and step.
 pub fn numbers_are_drawn_from_the_seed()
     ensures zero { drawn 0 ≡ 1442695040888963407 }
     ensures one { drawn 1 ≡ 7806831264735756412 }

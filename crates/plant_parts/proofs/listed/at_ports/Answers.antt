@@ -2,8 +2,8 @@ use Rattle.std.proofs.Common.{◌≡◌, ◌∷◌, [], ◌+◌, ◌++◌, ◌�
 use Rattle.gem_tables.specs.Table.{firing}
 use Rattle.gem_tables.specs.declared.firing.Firing.{Firing}
 use Rattle.shop_floor.specs.Requests.{at_ports}
-use Rattle.core_state.proofs.Floors.{ports_more, ports_all}
-use Rattle.core_state.proofs.plant.Plant.at_ports.Goals as goal
+use Rattle.plant_parts.proofs.AtPorts.{ports_more, ports_all}
+use Rattle.plant_parts.proofs.listed.at_ports.Goals as goal
 
 pub loop-port-init : goal.loop-port-init
 loop-port-init c = ap (λ (rows : List Firing). rows ++ at_ports c.args.table c.args.row c.args.ports.now) c.new-rows.ensures.items

@@ -1,6 +1,6 @@
 use Rattle.std.proofs.Common.{◌≡◌, ◌++◌, drop}
 use Rattle.gem_model.specs.Messages.{settings_of}
-use Rattle.core_state.proofs.host_data.settings_of.Given as goal
+use Rattle.plant_parts.proofs.settings.settings_of.Given as goal
 
 -- what was found stands before what the others give
 abbrev pub invariant-loop-setting : goal.invariant-loop-setting

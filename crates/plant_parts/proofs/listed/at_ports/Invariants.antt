@@ -1,6 +1,6 @@
 use Rattle.std.proofs.Common.{◌≡◌, ◌++◌, drop}
 use Rattle.shop_floor.specs.Requests.{at_ports}
-use Rattle.core_state.proofs.plant.Plant.at_ports.Given as goal
+use Rattle.plant_parts.proofs.listed.at_ports.Given as goal
 
 -- the rows that are listed, and those of the ports that are left, are those of all
 abbrev pub invariant-loop-port : goal.invariant-loop-port

@@ -1,5 +1,7 @@
 //! The frames that the tool sends.
 ghost use Rattle.std.specs.Prelude.{◌≡◌, ◌≤◌, ◌^◌, length, [], IfOk};
+ghost use Rattle.gem_ids.specs.Texts.{IsText};
+ghost use Rattle.gem_replies.specs.declared.reply.GemReply.TheVariants as reply;
 ghost use Rattle.secs_items.specs.View.{view};
 ghost use Rattle.hsms_frame.specs.Spelling.{message_bytes, header_bytes};
 ghost use Rattle.gem_replies.specs.Replies.{reply_body, B};
@@ -10,6 +12,7 @@ ghost use Rattle.gem_model.specs.Sending.{data_header, data_frame, identity_text
 ghost use Rattle.secs_items.specs.Plain.{plain};
 ghost use Rattle.secs_items.specs.Sendable.{IsSendable};
 
+use gem_ids::Text80;
 use hsms_frame::{Bytes, Frame, Header, write_frame, write_header};
 use msgs_300::{ShopReply, shop_item};
 use msgs_gem::{GemReply, gem_item};
@@ -107,4 +110,31 @@ pub fn stream9_text(alloc: Global, about: Header) -> Result<Bytes, AllocError>
 {
     let bytes = header_part(alloc, about)?;
     text_of(alloc, &Item::Binary(bytes))
+}
+
+/// The bytes of a text, as a part of a reply.
+pub fn part(alloc: Global, text: Text80) -> Result<secs_items::Bytes, AllocError>
+    ensures bytes { IfOk result (λ bytes. bytes ≡ text) }
+    ensures text { IfOk result IsText }
+{
+    Ok(secs_items::Bytes::from_vec(Vec::from_slice(alloc, text.as_bytes())?))
+}
+
+/// S1F13: the model and the software revision.
+fn identity(alloc: Global, config: &Config) -> Result<GemReply, AllocError>
+    ensures reply { IfOk result (λ r. r ≡ reply.S1F13 config.now.mdln config.now.softrev) }
+    ensures sendable { IfOk result HasSendableParts }
+{
+    let mdln = part(alloc, config.mdln)?;
+    let softrev = part(alloc, config.softrev)?;
+    Ok(GemReply::S1F13(mdln, softrev))
+}
+
+/// The text of S1F2 and S1F13.
+pub fn identity_text(alloc: Global, config: &Config) -> Result<Bytes, AllocError>
+    ensures text { IfOk result (λ text. text ≡ identity_text config.now) }
+    ensures short { IfOk result (λ text. length text ≤ 2 ^ 31) }
+{
+    let reply = identity(alloc, config)?;
+    reply_text(alloc, &reply)
 }

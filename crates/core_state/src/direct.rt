@@ -6,7 +6,7 @@ ghost use Rattle.tool_events.specs.declared.event.OperCmd.TheVariants as oper;
 
 use crate::plant::Plant;
 use arrayvec::ArrayVec;
-use gem_states::ControlTrigger;
+use gem_states::{CommTrigger, ControlTrigger};
 use gem_tables::Firing;
 use plant_parts::{by_comm, note_fails};
 

@@ -150,6 +150,12 @@ all_numbers (a ∷ (b ∷ (c ∷ (d ∷ (e ∷ ports))))) few = absurd (omega (a
 
 -- ---- lists, one after another
 
+pub drop_end : {X : Type 0} (xs : List X) (i : ℕ) → length xs ≤ i → drop i xs ≡ []
+drop_end [] zero within = refl
+drop_end [] (suc i) within = refl
+drop_end (x ∷ xs) zero within = absurd (omega (arith, within))
+drop_end (x ∷ xs) (suc i) within = drop_end xs i (omega (arith, within))
+
 -- the one at a place, and those behind it
 pub next_of : {X : Type 0} (xs : List X) (i : ℕ) (none : X) → i < length xs → drop i xs ≡ get_or xs i none ∷ drop (i + 1) xs
 next_of xs i none within = drop-cons xs i none within ∙ rw add-one refl

@@ -1,5 +1,5 @@
 //! The plant: what the tool is, what it says of itself, and its small changes.
-ghost use Rattle.std.specs.Prelude.{◌≡◌, ◌≤◌, ◌<◌, ◌↔◌, length, slice_get, drop, option_map, IsTrue, IfOk, OnOk, true, Some, None};
+ghost use Rattle.std.specs.Prelude.{◌≡◌, ◌≤◌, ◌<◌, ◌↔◌, length, slice_get, drop, option_map, IsTrue, IfOk, OnOk, true, Some, None, if◌then◌else◌};
 ghost use Rattle.gem_ids.specs.Moments.{last_moment};
 ghost use Rattle.tool_events.specs.Configs.{IsConfig};
 ghost use Rattle.gem_model.specs.State.{opening, first_comm, first_control, first_switch, first_constants, first_kinds, around, is_communicating, is_online, is_up, is_session_up, is_selected, can_ask, clock_now, raised, with_frame};

@@ -3,4 +3,5 @@ pub mod First
 pub mod Numbers
 pub mod Ending
 pub mod Best
+pub mod Least
 pub mod Giving

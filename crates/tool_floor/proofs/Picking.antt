@@ -95,7 +95,11 @@ module _ (gives : ℕ → Option PlaceView) where
 
 -- ---- useful picks
 
-where_found : (vs : List PlaceView) (ms : List Module) (o : Option PlaceView) (v : PlaceView) → where_useful vs ms o ≡ Some v → (o ≡ Some v) × (is_useful vs ms v ≡ true)
+pub both : (a b : Bool) → a ≡ true → b ≡ true → (a && b) ≡ true
+both true b p q = q
+both false b p q = absurd (true≢false (sym p))
+
+pub where_found : (vs : List PlaceView) (ms : List Module) (o : Option PlaceView) (v : PlaceView) → where_useful vs ms o ≡ Some v → (o ≡ Some v) × (is_useful vs ms v ≡ true)
 where_found vs ms None v e = absurd (cc)
 where_found vs ms (Some w) v e = of (is_useful vs ms w) refl e where
   of : (b : Bool) → is_useful vs ms w ≡ b → cond b (Some w) None ≡ Some v → (Some w ≡ Some v) × (is_useful vs ms v ≡ true)
@@ -105,10 +109,9 @@ where_found vs ms (Some w) v e = of (is_useful vs ms w) refl e where
   of false q f = absurd (cc)
 
 pub where_is : (vs : List PlaceView) (ms : List Module) (o : Option PlaceView) (v : PlaceView) → o ≡ Some v → is_useful vs ms v ≡ true → where_useful vs ms o ≡ Some v
-where_is vs ms o v e useful = ap (where_useful vs ms) e ∙ rw useful refl
-
-pub useful_found : (vs : List PlaceView) (ms : List Module) (o : Option PlaceView) (v : PlaceView) → where_useful vs ms o ≡ Some v → (o ≡ Some v) × (is_useful vs ms v ≡ true)
-useful_found = where_found
+where_is vs ms o v e useful =
+    let here : where_useful vs ms (Some v) ≡ Some v = rw useful refl in
+    ap (where_useful vs ms) e ∙ here
 
 -- what is picked at a place is there, and useful
 pick_found : (number : ℕ) (loc : LocId) (vs : List PlaceView) (ms : List Module) (v : PlaceView) → pick_at number loc vs ms ≡ Some v → (holder loc vs ≡ Some v) × (is_useful vs ms v ≡ true)
@@ -181,7 +184,8 @@ module _ (f : ToolFloor) (places : ArePlaces f.places) (ms : List Module) where
     of (Some v) e =
         let found = pick_found 2 Aligner (views f) ms v e in
         let there = holder_there Aligner (views f) v found.0 in
-        let passes : is_useful_at 1 (views f) ms v ≡ true = rw (there.1, found.1) refl in
+        let stage : (stage_of v.at == 1) ≡ true = subst (λ (l : LocId). (stage_of l == 1) ≡ true) (sym there.1) refl in
+        let passes : is_useful_at 1 (views f) ms v ≡ true = both (stage_of v.at == 1) (is_useful (views f) ms v) stage found.1 in
         e
         ∙ sym (the_pick (is_useful_at 1 (views f) ms) 0 (views f) there.0.0 v (views_rise f places) there.0.1 passes (λ j w at h. same j w at h))
       where
@@ -233,7 +237,8 @@ module _ (f : ToolFloor) (places : ArePlaces f.places) (ms : List Module) where
         let given = given_is (chamber_pick (views f) ms) 3 (length ms - 2) least.there.0 v least.there.1 in
         let found = pick_found given.n (Chamber (given.n - 2)) (views f) ms v given.is in
         let there = holder_there (Chamber (given.n - 2)) (views f) v found.0 in
-        let passes : is_useful_at 2 (views f) ms v ≡ true = rw (there.1, found.1) refl in
+        let stage : (stage_of v.at == 2) ≡ true = subst (λ (l : LocId). (stage_of l == 2) ≡ true) (sym there.1) refl in
+        let passes : is_useful_at 2 (views f) ms v ≡ true = both (stage_of v.at == 2) (is_useful (views f) ms v) stage found.1 in
         e
         ∙ sym (the_pick (is_useful_at 2 (views f) ms) 0 (views f) there.0.0 v (views_rise f places) there.0.1 passes
         (λ j w at h. let other = chamber_useful j w at h in all_at (λ (x : PlaceView). v.number ≤ x.number) all_given other.0 w least.least other.1))

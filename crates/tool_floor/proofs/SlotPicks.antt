@@ -25,7 +25,7 @@ use Rattle.tool_floor.specs.Views.{views}
 use Rattle.tool_floor.specs.Picks.{told, told_of, told_there, told_in_slot, where_useful, may_be_picked, slot_pick}
 use Rattle.tool_floor.proofs.Scans.{rises_to, numbered_at}
 use Rattle.tool_floor.proofs.Told.{IsTold, views_rise, holder_is, view_is, place_found}
-use Rattle.tool_floor.proofs.Picking.{where_is, useful_found}
+use Rattle.tool_floor.proofs.Picking.{both, where_is, where_found}
 
 -- ---- the first of several that gives something
 
@@ -117,7 +117,8 @@ there_is s w (Some r) v e = of (r.number == s.number) refl e where
 is_there : (s : Substrate) (w : Jobs) (o : Option Registered) (r : Registered) → o ≡ Some r → s.number ≡ r.number → told_there s w o ≡ Some (told w r s)
 is_there s w o r e number =
     let own : (r.number == s.number) ≡ true = (Decides-eqb r.number s.number).1 (sym number) in
-    ap (told_there s w) e ∙ rw own refl
+    let here : told_there s w (Some r) ≡ Some (told w r s) = rw own refl in
+    ap (told_there s w) e ∙ here
 
 -- who is found at a place is there
 found_at : (loc : LocId) (rs : List Registered) (r : Registered) → find (stands_at loc) rs ≡ Some r → r.at ≡ loc
@@ -259,7 +260,7 @@ module _ (f : ToolFloor) (places : ArePlaces f.places) (ms : List Module) (given
     of : (b : Bool) → is_work_place s.slot ≡ b → cond b None (where_useful (views f) ms (told_in_slot s f)) ≡ Some v → IsUseful s v
     of true q g = absurd (cc)
     of false q g =
-        let useful = useful_found (views f) ms (told_in_slot s f) v g in
+        let useful = where_found (views f) ms (told_in_slot s f) v g in
         let there = there_is s f.jobs (find (stands_at s.slot) f.places.held) v useful.0 in
         let kept : substrate_numbered there.0.number f.substrates ≡ Some s =
             subst (λ (n : ℕ). substrate_numbered n f.substrates ≡ Some s) (sym there.2) (numbered_at 0 given f.substrates k s numbers at) in
@@ -270,7 +271,7 @@ module _ (f : ToolFloor) (places : ArePlaces f.places) (ms : List Module) (given
         record {
           there = place.0;
           number = ap (λ (x : PlaceView). x.number) (sym there.3) ∙ there.2;
-          passes = rw (stage, useful.1) refl;
+          passes = both (stage_of v.at == 0) (is_useful (views f) ms v) stage useful.1;
         }
       where
         told_as : Registered → Option Substrate → Option PlaceView

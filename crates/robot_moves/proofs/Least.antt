@@ -1,12 +1,12 @@
 -- Which of several is the least numbered, and who is at a location, by what is known of each.
-use Rattle.std.proofs.Common.{◌≡◌, ℕ, zero, suc, ◌<◌, ◌≤◌, Bool, true, false, true≢false, cond, not, ◌||◌, List, [], ◌∷◌, filter, find, Option, Some, None, is_some, slice_get, refl, sym, ap, ◌∙◌, subst, arith}
+use Rattle.std.proofs.Common.{◌≡◌, ℕ, zero, suc, ◌<◌, ◌≤◌, Bool, true, false, true≢false, cond, not, ◌||◌, List, [], ◌∷◌, filter, Option, Some, None, is_some, slice_get, refl, sym, ap, ◌∙◌, subst, arith}
 use Rattle.std.specs.List.{AllByRecursion, list_any}
 use Rattle.gem_ids.specs.declared.numbers.LocId.{LocId}
 use Rattle.substrate.specs.Locations.{is_same}
 use Rattle.substrate.proofs.Sites.{same_is, own_place}
 use Rattle.robot_moves.specs.Moves.{holder, is_empty, least_numbered}
 use Rattle.robot_moves.specs.declared.view.PlaceView.{PlaceView}
-use Rattle.robot_moves.proofs.Best.{IsLeast, is_least, among, of_passing, none_passes}
+use Rattle.robot_moves.proofs.Best.{is_least, among, of_passing, none_passes}
 
 -- what is true of all is true of each
 pub all_at : (P : PlaceView → Type 0) (vs : List PlaceView) (i : ℕ) (v : PlaceView) → AllByRecursion P vs → slice_get vs i ≡ Some v → P v

@@ -1,4 +1,4 @@
-pub mod Picks
+pub mod StagePicks
 pub mod First
 pub mod Numbers
 pub mod Ending

@@ -62,12 +62,7 @@ impl Planner {
     }
 
     /// The same, where what is told of the substrates is asked for.
-    pub fn of_module_of<P: Picks>(
-        &self,
-        m: ModuleId,
-        places: &P,
-        modules: &Modules,
-    ) -> Option<Move>
+    pub fn of_module_of<P: Picks>(&self, m: ModuleId, places: &P, modules: &Modules) -> Option<Move>
         ensures { result ≡ module_move m.0 (P.told places.now) modules.now }
     {
         module_move(m.0, places, modules)

@@ -12,6 +12,6 @@ pub mod Resting
 pub mod Moves
 pub mod Showing
 pub mod Told
-pub mod Picking
+pub mod PlacePicks
 pub mod SlotPicks
 pub mod Asked

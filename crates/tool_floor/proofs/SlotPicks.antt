@@ -25,7 +25,7 @@ use Rattle.tool_floor.specs.Views.{views}
 use Rattle.tool_floor.specs.Picks.{told, told_of, told_there, told_in_slot, where_useful, may_be_picked, slot_pick}
 use Rattle.tool_floor.proofs.Scans.{rises_to, numbered_at}
 use Rattle.tool_floor.proofs.Told.{IsTold, views_rise, holder_is, view_is, place_found}
-use Rattle.tool_floor.proofs.Picking.{both, where_is, where_found}
+use Rattle.tool_floor.proofs.PlacePicks.{both, where_is, where_found}
 
 -- ---- the first of several that gives something
 

@@ -10,7 +10,7 @@ use Rattle.robot_moves.specs.Modules.{chamber_module, module_at, is_idle}
 use Rattle.robot_moves.specs.Moves.{holder, stage_of, least_numbered, free_target, may_leave, is_useful, is_useful_at, stage_pick}
 use Rattle.robot_moves.specs.declared.module.Module.{Module}
 use Rattle.robot_moves.specs.declared.view.PlaceView.{PlaceView}
-use Rattle.robot_moves.proofs.Picks.{joined, joined_next}
+use Rattle.robot_moves.proofs.StagePicks.{joined, joined_next}
 use Rattle.robot_moves.proofs.Best.{IsLeast, is_least}
 use Rattle.robot_moves.proofs.Least.{all_at, RisesFrom, no_pick, the_pick, holder_there, SitApart, holder_of}
 use Rattle.tool_floor.specs.Floor.{ToolFloor}

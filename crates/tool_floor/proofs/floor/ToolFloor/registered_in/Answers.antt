@@ -2,7 +2,7 @@ use Rattle.std.proofs.Common.{find, sym, ap, subst, ◌∙◌}
 use Rattle.substrate.specs.Places.{ArePlaces, stands_at}
 use Rattle.tool_floor.specs.Floor.{ToolFloor}
 use Rattle.tool_floor.proofs.Slots.{named_there, none_there}
-use Rattle.tool_floor.proofs.whereabouts.ToolFloor.registered_in.Goals as goal
+use Rattle.tool_floor.proofs.floor.ToolFloor.registered_in.Goals as goal
 
 pub returns-in-Some-clause-value : goal.returns-in-Some-clause-value
 returns-in-Some-clause-value c =

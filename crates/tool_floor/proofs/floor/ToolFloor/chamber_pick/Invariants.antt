@@ -1,10 +1,10 @@
 use Rattle.std.proofs.Common.{◌≡◌, ◌+◌, ◌-◌, ◌≤◌, length}
 use Rattle.robot_moves.specs.Moves.{least_numbered, stage_pick}
-use Rattle.robot_moves.proofs.Picks.{joined}
+use Rattle.robot_moves.proofs.StagePicks.{joined}
 use Rattle.tool_floor.specs.Views.{views}
 use Rattle.tool_floor.specs.Picks.{chamber_pick}
-use Rattle.tool_floor.proofs.Picking.{given_by}
-use Rattle.tool_floor.proofs.picking.ToolFloor.chamber_pick.Given as goal
+use Rattle.tool_floor.proofs.PlacePicks.{given_by}
+use Rattle.tool_floor.proofs.floor.ToolFloor.chamber_pick.Given as goal
 
 abbrev pub invariant-loop-index : goal.invariant-loop-index
 invariant-loop-index l =

@@ -3,7 +3,7 @@ use Rattle.substrate.specs.Places.{stands_at}
 use Rattle.substrate.specs.declared.registered.Registered.{Registered}
 use Rattle.tool_floor.specs.Floor.{ToolFloor}
 use Rattle.tool_floor.specs.Picks.{told_there}
-use Rattle.tool_floor.proofs.picking.ToolFloor.told_in_slot.Goals as goal
+use Rattle.tool_floor.proofs.floor.ToolFloor.told_in_slot.Goals as goal
 
 pub returns : goal.returns
 returns c =

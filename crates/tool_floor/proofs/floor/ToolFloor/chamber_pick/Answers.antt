@@ -2,11 +2,11 @@ use Rattle.std.proofs.Common.{◌≡◌, ℕ, ◌+◌, ◌-◌, ◌<◌, ◌≤�
 use Rattle.gem_ids.specs.declared.numbers.LocId.TheVariants.{Chamber}
 use Rattle.robot_moves.specs.Moves.{least_numbered}
 use Rattle.robot_moves.specs.declared.view.PlaceView.{PlaceView}
-use Rattle.robot_moves.proofs.Picks.{joined}
+use Rattle.robot_moves.proofs.StagePicks.{joined}
 use Rattle.tool_floor.specs.Views.{views}
 use Rattle.tool_floor.specs.Picks.{pick_at, chamber_pick, better_of}
-use Rattle.tool_floor.proofs.Picking.{given_by, joined_given, joined_end, chambers_are}
-use Rattle.tool_floor.proofs.picking.ToolFloor.chamber_pick.Goals as goal
+use Rattle.tool_floor.proofs.PlacePicks.{given_by, joined_given, joined_end, chambers_are}
+use Rattle.tool_floor.proofs.floor.ToolFloor.chamber_pick.Goals as goal
 
 pub loop-index-init : goal.loop-index-init
 loop-index-init c = (omega arith, chambers_are c.args.self.now c.are_places.ensures c.args.modules.now)

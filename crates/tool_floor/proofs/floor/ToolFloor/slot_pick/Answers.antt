@@ -3,8 +3,8 @@ use Rattle.tool_floor.specs.declared.tracking.Substrate.{Substrate}
 use Rattle.tool_floor.specs.Picks.{slot_pick}
 use Rattle.tool_floor.proofs.Scans.{shown}
 use Rattle.tool_floor.proofs.SlotPicks.{given_here, given_next, given_past, given_end, slots_are}
-use Rattle.tool_floor.proofs.picking.ToolFloor.slot_pick.Goals.{in-Some+in_default-slot_pick_of, in_default}
-use Rattle.tool_floor.proofs.picking.ToolFloor.slot_pick.Goals as goal
+use Rattle.tool_floor.proofs.floor.ToolFloor.slot_pick.Goals.{in-Some+in_default-slot_pick_of, in_default}
+use Rattle.tool_floor.proofs.floor.ToolFloor.slot_pick.Goals as goal
 
 pub loop-place-init : goal.loop-place-init
 loop-place-init c = slots_are c.args.self.now c.are_places.ensures c.args.modules.now c.args.self.now.places.given c.substrate_count-place-end.ensures.rise

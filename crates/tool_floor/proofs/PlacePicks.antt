@@ -62,21 +62,22 @@ module _ (gives : ℕ → Option PlaceView) where
 
   given_is : (number count i : ℕ) (v : PlaceView) → slice_get (given_by gives number count) i ≡ Some v → IsGiven number count v
   given_is number zero i v e = absurd (cc)
-  given_is number (suc count) i v e = of (gives number) refl i e where
+  given_is number (suc count) i v e = of (gives number) refl i e (λ j f. given_is (number + 1) count j v f) where
     behind : IsGiven (number + 1) count v → IsGiven number (suc count) v
     behind g =
         let least = g.least in
         let most = g.most in
         record { n = g.n; least = omega (arith, least); most = omega (arith, most); is = g.is }
 
-    of : (o : Option PlaceView) → gives number ≡ o → (j : ℕ) → slice_get (put_front o (given_by gives (number + 1) count)) j ≡ Some v → IsGiven number (suc count) v
-    of None q j f = behind (given_is (number + 1) count j v f)
-    of (Some u) q zero f = record { n = number; least = omega arith; most = omega arith; is = q ∙ f }
-    of (Some u) q (suc j) f = behind (given_is (number + 1) count j v f)
+    of : (o : Option PlaceView) → gives number ≡ o → (j : ℕ) → slice_get (put_front o (given_by gives (number + 1) count)) j ≡ Some v
+        → ((k : ℕ) → slice_get (given_by gives (number + 1) count) k ≡ Some v → IsGiven (number + 1) count v) → IsGiven number (suc count) v
+    of None q j f later = behind (later j f)
+    of (Some u) q zero f later = record { n = number; least = omega arith; most = omega arith; is = q ∙ f }
+    of (Some u) q (suc j) f later = behind (later j f)
 
   is_given : (number count n : ℕ) (v : PlaceView) → number ≤ n → n < number + count → gives n ≡ Some v → (i : ℕ) × (slice_get (given_by gives number count) i ≡ Some v)
   is_given number zero n v a b e = absurd (omega (arith, a, b))
-  is_given number (suc count) n v a b e = by_place (nat_lt number n) refl where
+  is_given number (suc count) n v a b e = by_place (nat_lt number n) refl (λ least most. is_given (number + 1) count n v least most e) where
     put : (o : Option PlaceView) (vs : List PlaceView) → (i : ℕ) × (slice_get vs i ≡ Some v) → (i : ℕ) × (slice_get (put_front o vs) i ≡ Some v)
     put None vs h = h
     put (Some u) vs h = (suc h.0, h.1)
@@ -85,11 +86,11 @@ module _ (gives : ℕ → Option PlaceView) where
     front None vs q = absurd (cc)
     front (Some u) vs q = (0, q)
 
-    by_place : (t : Bool) → nat_lt number n ≡ t → (i : ℕ) × (slice_get (put_front (gives number) (given_by gives (number + 1) count)) i ≡ Some v)
-    by_place true l =
+    by_place : (t : Bool) → nat_lt number n ≡ t → (number + 1 ≤ n → n < number + 1 + count → (i : ℕ) × (slice_get (given_by gives (number + 1) count) i ≡ Some v)) → (i : ℕ) × (slice_get (put_front (gives number) (given_by gives (number + 1) count)) i ≡ Some v)
+    by_place true l later =
         let least : number + 1 ≤ n = grind (arith, nat_tests) in
-        put (gives number) (given_by gives (number + 1) count) (is_given (number + 1) count n v least (omega (arith, b)) e)
-    by_place false l =
+        put (gives number) (given_by gives (number + 1) count) (later least (omega (arith, b)))
+    by_place false l later =
         let same : n ≡ number = grind (arith, nat_tests, a) in
         front (gives number) (given_by gives (number + 1) count) (subst (λ (k : ℕ). gives k ≡ Some v) same e)
 
@@ -217,11 +218,12 @@ module _ (f : ToolFloor) (places : ArePlaces f.places) (ms : List Module) where
   none_given [] e j w at = cc
   none_given (v ∷ vs) e j w at = cc
 
+  -- the picks of all chambers
+  abbrev all_given : List PlaceView
+  all_given = given_by (chamber_pick (views f) ms) 3 (length ms - 2)
+
   pub chambers_are : least_numbered (given_by (chamber_pick (views f) ms) 3 (length ms - 2)) ≡ stage_pick 2 (views f) ms
   chambers_are = of (least_numbered (given_by (chamber_pick (views f) ms) 3 (length ms - 2))) refl where
-    abbrev all_given : List PlaceView
-    all_given = given_by (chamber_pick (views f) ms) 3 (length ms - 2)
-
     of : (o : Option PlaceView) → least_numbered all_given ≡ o → least_numbered all_given ≡ stage_pick 2 (views f) ms
     of None e =
         e

@@ -57,24 +57,25 @@ module _ (gives : Substrate → Option PlaceView) where
 
   first_is : (ss : List Substrate) (v : PlaceView) → first_given gives ss ≡ Some v → IsFirst ss v
   first_is [] v e = absurd (cc)
-  first_is (s ∷ ss) v e = of (gives s) refl e where
-    of : (o : Option PlaceView) → gives s ≡ o → option_or o (first_given gives ss) ≡ Some v → IsFirst (s ∷ ss) v
-    of (Some u) q f = record { place = 0; s = s; at = refl; is = q ∙ f; before = λ j t l g. absurd (omega (arith, l)) }
-    of None q f =
-        let later = first_is ss v f in
-        record { place = suc later.place; s = later.s; at = later.at; is = later.is; before = λ j t l g. front later j t l g }
-      where
-        front : (later : IsFirst ss v) (j : ℕ) (t : Substrate) → j < suc later.place → slice_get (s ∷ ss) j ≡ Some t → gives t ≡ None
-        front later zero t l g = let same : s ≡ t = cc in subst (λ (x : Substrate). gives x ≡ None) same q
-        front later (suc j) t l g = later.before j t (omega (arith, l)) g
+  first_is (s ∷ ss) v e = of (gives s) refl e (first_is ss v) where
+    front : gives s ≡ None → (later : IsFirst ss v) (j : ℕ) (t : Substrate) → j < suc later.place → slice_get (s ∷ ss) j ≡ Some t → gives t ≡ None
+    front q later zero t l g = let same : s ≡ t = cc in subst (λ (x : Substrate). gives x ≡ None) same q
+    front q later (suc j) t l g = later.before j t (omega (arith, l)) g
+
+    of : (o : Option PlaceView) → gives s ≡ o → option_or o (first_given gives ss) ≡ Some v → (first_given gives ss ≡ Some v → IsFirst ss v) → IsFirst (s ∷ ss) v
+    of (Some u) q f later = record { place = 0; s = s; at = refl; is = q ∙ f; before = λ j t l g. absurd (omega (arith, l)) }
+    of None q f later =
+        let behind = later f in
+        record { place = suc behind.place; s = behind.s; at = behind.at; is = behind.is; before = λ j t l g. front q behind j t l g }
 
   none_gives : (ss : List Substrate) → first_given gives ss ≡ None → (j : ℕ) (t : Substrate) → slice_get ss j ≡ Some t → gives t ≡ None
   none_gives [] e j t at = absurd (cc)
-  none_gives (s ∷ ss) e j t at = of (gives s) refl e j at where
-    of : (o : Option PlaceView) → gives s ≡ o → option_or o (first_given gives ss) ≡ None → (k : ℕ) → slice_get (s ∷ ss) k ≡ Some t → gives t ≡ None
-    of (Some u) q f k g = absurd (cc)
-    of None q f zero g = let same : s ≡ t = cc in subst (λ (x : Substrate). gives x ≡ None) same q
-    of None q f (suc k) g = none_gives ss f k t g
+  none_gives (s ∷ ss) e j t at = of (gives s) refl e j at (λ f k g. none_gives ss f k t g) where
+    of : (o : Option PlaceView) → gives s ≡ o → option_or o (first_given gives ss) ≡ None → (k : ℕ) → slice_get (s ∷ ss) k ≡ Some t
+        → (first_given gives ss ≡ None → (i : ℕ) → slice_get ss i ≡ Some t → gives t ≡ None) → gives t ≡ None
+    of (Some u) q f k g later = absurd (cc)
+    of None q f zero g later = let same : s ≡ t = cc in subst (λ (x : Substrate). gives x ≡ None) same q
+    of None q f (suc k) g later = later f k g
 
 -- ---- the substrates by their numbers
 

@@ -84,14 +84,14 @@ module _ (w : Jobs) (ss : List Substrate) where
 
   is_told : (rs : List Registered) (i : ℕ) (v : PlaceView) → slice_get (views_of w ss rs) i ≡ Some v → IsTold rs v
   is_told [] i v e = absurd (cc)
-  is_told (r ∷ rs) i v e = of (substrate_numbered r.number ss) refl i e where
+  is_told (r ∷ rs) i v e = of (substrate_numbered r.number ss) refl i e (λ j f. is_told rs j v f) where
     behind : IsTold rs v → IsTold (r ∷ rs) v
     behind t = record { r = t.r; s = t.s; place = suc t.place; held = t.held; kept = t.kept; is = t.is }
 
-    of : (o : Option Substrate) → substrate_numbered r.number ss ≡ o → (j : ℕ) → slice_get (view_in r o w ++ views_of w ss rs) j ≡ Some v → IsTold (r ∷ rs) v
-    of None k j f = behind (is_told rs j v f)
-    of (Some s) k zero f = record { r = r; s = s; place = 0; held = refl; kept = k; is = (let same : told w r s ≡ v = cc in same) }
-    of (Some s) k (suc j) f = behind (is_told rs j v f)
+    of : (o : Option Substrate) → substrate_numbered r.number ss ≡ o → (j : ℕ) → slice_get (view_in r o w ++ views_of w ss rs) j ≡ Some v → ((k : ℕ) → slice_get (views_of w ss rs) k ≡ Some v → IsTold rs v) → IsTold (r ∷ rs) v
+    of None k j f later = behind (later j f)
+    of (Some s) k zero f later = record { r = r; s = s; place = 0; held = refl; kept = k; is = (let same : told w r s ≡ v = cc in same) }
+    of (Some s) k (suc j) f later = behind (later j f)
 
 -- ---- of the floor
 
@@ -163,7 +163,7 @@ module _ (f : ToolFloor) (places : ArePlaces f.places) where
     turned false false e = absurd (true≢false (sym e))
 
     of : (o : Option Registered) → find (stands_at loc) f.places.held ≡ o → (s : Option Substrate) → s ≡ kept_as o f → is_some s ≡ not none → none ≡ is_empty loc (views f)
-    of o e None k g = turned (is_some None) none g ∙ sym (empty_holder loc (views f) (holder_is loc ∙ ap (λ (x : Option Registered). told_of x f) e ∙ not_told o (sym k))) where
+    of o e None k g = turned false none g ∙ sym (empty_holder loc (views f) (holder_is loc ∙ ap (λ (x : Option Registered). told_of x f) e ∙ not_told o (sym k))) where
       not_told : (x : Option Registered) → kept_as x f ≡ None → told_of x f ≡ None
       not_told None q = refl
       not_told (Some r) q = ap (option_map (told f.jobs r)) q

@@ -1,5 +1,5 @@
 -- The picks from the aligner and from the chambers, by who is there.
-use Rattle.std.proofs.Common.{◌≡◌, ℕ, zero, suc, ◌+◌, ◌-◌, ◌==◌, ◌<◌, ◌≤◌, nat_lt, nat_le, Bool, true, false, true≢false, if◌then◌else◌, cond, ◌&&◌, List, [], ◌∷◌, length, Option, Some, None, slice_get, refl, sym, ap, subst, ◌∙◌, arith}
+use Rattle.std.proofs.Common.{◌≡◌, ℕ, zero, suc, ◌+◌, ◌-◌, ◌==◌, ◌<◌, ◌≤◌, nat_lt, nat_le, Bool, true, false, true≢false, cond, ◌&&◌, List, [], ◌∷◌, length, Option, Some, None, slice_get, refl, sym, ap, subst, ◌∙◌, arith}
 use Rattle.std.proofs.lemmas.Bool.Decides.{nat_tests}
 use Rattle.gem_ids.specs.declared.numbers.LocId.{LocId}
 use Rattle.gem_ids.specs.declared.numbers.LocId.TheVariants.{Slot, Aligner, Arm, Chamber}
@@ -7,12 +7,12 @@ use Rattle.substrate.specs.Locations.{is_location}
 use Rattle.substrate.specs.Places.{ArePlaces}
 use Rattle.substrate.proofs.Truth.{and_true}
 use Rattle.robot_moves.specs.Modules.{chamber_module, module_at, is_idle}
-use Rattle.robot_moves.specs.Moves.{holder, stage_of, least_numbered, free_target, may_leave, is_useful, is_useful_at, stage_pick}
+use Rattle.robot_moves.specs.Moves.{holder, stage_of, least_numbered, may_leave, is_useful, is_useful_at, stage_pick}
 use Rattle.robot_moves.specs.declared.module.Module.{Module}
 use Rattle.robot_moves.specs.declared.view.PlaceView.{PlaceView}
 use Rattle.robot_moves.proofs.StagePicks.{joined, joined_next}
-use Rattle.robot_moves.proofs.Best.{IsLeast, is_least}
-use Rattle.robot_moves.proofs.Least.{all_at, RisesFrom, no_pick, the_pick, holder_there, SitApart, holder_of}
+use Rattle.robot_moves.proofs.Best.{is_least}
+use Rattle.robot_moves.proofs.Least.{all_at, no_pick, the_pick, holder_there, holder_of}
 use Rattle.tool_floor.specs.Floor.{ToolFloor}
 use Rattle.tool_floor.specs.Views.{views}
 use Rattle.tool_floor.specs.Picks.{where_useful, pick_at, chamber_pick, better_of}
@@ -211,7 +211,7 @@ module _ (f : ToolFloor) (places : ArePlaces f.places) (ms : List Module) where
       let held = subst (λ (l : LocId). holder l (views f) ≡ Some w) chamber.1 (holder_of (views f) i w (views_apart f places) at) in
       let own : chamber_module chamber.0 - 2 ≡ chamber.0 = omega arith in
       let picked : chamber_pick (views f) ms (chamber_module chamber.0) ≡ Some w =
-          pick_is (chamber_module chamber.0) (Chamber (chamber_module chamber.0 - 2)) (views f) ms w idle (subst (λ (n : ℕ). holder (Chamber n) (views f) ≡ Some w) (sym own) held) parts.2 in
+      pick_is (chamber_module chamber.0) (Chamber (chamber_module chamber.0 - 2)) (views f) ms w idle (subst (λ (n : ℕ). holder (Chamber n) (views f) ≡ Some w) (sym own) held) parts.2 in
       is_given (chamber_pick (views f) ms) 3 (length ms - 2) (chamber_module chamber.0) w (omega (arith, first)) (omega (arith, most)) picked
 
   none_given : (vs : List PlaceView) → least_numbered vs ≡ None → (j : ℕ) (w : PlaceView) → slice_get vs j ≡ Some w → ⊥

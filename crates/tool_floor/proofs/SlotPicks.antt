@@ -1,5 +1,5 @@
 -- The pick from the slots, by the substrates in the order of their registration.
-use Rattle.std.proofs.Common.{◌≡◌, ℕ, zero, suc, ◌+◌, ◌==◌, ◌<◌, ◌≤◌, nat_lt, Bool, true, false, true≢false, if◌then◌else◌, cond, not, ◌&&◌, ◌||◌, List, [], ◌∷◌, length, drop, find, Option, Some, None, is_some, option_map, slice_get, refl, sym, ap, subst, ◌∙◌, arith}
+use Rattle.std.proofs.Common.{◌≡◌, ℕ, zero, suc, ◌+◌, ◌==◌, ◌<◌, ◌≤◌, nat_lt, Bool, true, false, true≢false, cond, not, ◌&&◌, ◌||◌, List, [], ◌∷◌, length, drop, find, Option, Some, None, is_some, option_map, slice_get, refl, sym, ap, subst, ◌∙◌, arith}
 use Rattle.std.specs.Option.{option_or}
 use Rattle.std.proofs.lemmas.Bool.Decides.{nat_tests, Decides-eqb}
 use Rattle.carrier.proofs.Scans.{drop_here, drop_past, drop_end}
@@ -11,8 +11,7 @@ use Rattle.substrate.specs.Record.{is_finished}
 use Rattle.substrate.specs.declared.registered.Registered.{Registered}
 use Rattle.substrate.proofs.Sites.{same_is}
 use Rattle.substrate.proofs.Truth.{and_true, not_true}
-use Rattle.robot_moves.specs.Modules.{module_at, is_idle}
-use Rattle.robot_moves.specs.Moves.{holder, is_free, where_free, target, free_target, may_leave, is_useful, stage_of, is_useful_at, stage_pick}
+use Rattle.robot_moves.specs.Moves.{holder, is_free, free_target, may_leave, is_useful, stage_of, is_useful_at, stage_pick}
 use Rattle.robot_moves.specs.declared.module.Module.{Module}
 use Rattle.robot_moves.specs.declared.view.PlaceView.{PlaceView}
 use Rattle.robot_moves.proofs.Least.{no_pick, the_pick, holder_there}
@@ -24,7 +23,7 @@ use Rattle.tool_floor.specs.Jobs.{job_of, is_job_so, is_processing}
 use Rattle.tool_floor.specs.Views.{views}
 use Rattle.tool_floor.specs.Picks.{told, told_of, told_there, told_in_slot, where_useful, may_be_picked, slot_pick}
 use Rattle.tool_floor.proofs.Scans.{rises_to, numbered_at}
-use Rattle.tool_floor.proofs.Told.{IsTold, views_rise, holder_is, view_is, place_found}
+use Rattle.tool_floor.proofs.Told.{views_rise, holder_is, view_is, place_found}
 use Rattle.tool_floor.proofs.PlacePicks.{both, where_is, where_found}
 
 -- ---- the first of several that gives something
@@ -238,9 +237,9 @@ module _ (f : ToolFloor) (places : ArePlaces f.places) (ms : List Module) (given
       let own : t.s.slot ≡ w.slot = ap (λ (x : PlaceView). x.slot) t.is in
       let stands : t.r.at ≡ t.s.slot = place ∙ slot.1 ∙ sym own in
       let there : find (stands_at t.s.slot) f.places.held ≡ Some t.r =
-          subst (λ (l : LocId). find (stands_at l) f.places.held ≡ Some t.r) stands (place_found f places t.place t.r t.held) in
+      subst (λ (l : LocId). find (stands_at l) f.places.held ≡ Some t.r) stands (place_found f places t.place t.r t.held) in
       let told_is : told_in_slot t.s f ≡ Some w =
-          is_there t.s f.jobs (find (stands_at t.s.slot) f.places.held) t.r there found.1 ∙ ap (λ (x : PlaceView). Some x) t.is in
+      is_there t.s f.jobs (find (stands_at t.s.slot) f.places.held) t.r there found.1 ∙ ap (λ (x : PlaceView). Some x) t.is in
       let rests : is_work_place t.s.slot ≡ false = subst (λ (l : LocId). is_work_place l ≡ false) (sym place ∙ stands) slot.0 in
       record {
         place = found.0.0;
@@ -264,9 +263,9 @@ module _ (f : ToolFloor) (places : ArePlaces f.places) (ms : List Module) (given
         let useful = where_found (views f) ms (told_in_slot s f) v g in
         let there = there_is s f.jobs (find (stands_at s.slot) f.places.held) v useful.0 in
         let kept : substrate_numbered there.0.number f.substrates ≡ Some s =
-            subst (λ (n : ℕ). substrate_numbered n f.substrates ≡ Some s) (sym there.2) (numbered_at 0 given f.substrates k s numbers at) in
+        subst (λ (n : ℕ). substrate_numbered n f.substrates ≡ Some s) (sym there.2) (numbered_at 0 given f.substrates k s numbers at) in
         let held : holder s.slot (views f) ≡ Some v =
-            holder_is f places s.slot ∙ ap (λ (o : Option Registered). told_of o f) there.1 ∙ ap (λ (o : Option Substrate). told_as there.0 o) kept ∙ ap (λ (x : PlaceView). Some x) there.3 in
+        holder_is f places s.slot ∙ ap (λ (o : Option Registered). told_of o f) there.1 ∙ ap (λ (o : Option Substrate). told_as there.0 o) kept ∙ ap (λ (x : PlaceView). Some x) there.3 in
         let place = holder_there s.slot (views f) v held in
         let stage : (stage_of v.at == 0) ≡ true = subst (λ (l : LocId). (stage_of l == 0) ≡ true) (sym place.1) (stage_rests s.slot q) in
         record {

@@ -1,9 +1,9 @@
 -- What is known of the list of what the planner is told, by the places and the substrates that it is told of.
-use Rattle.std.proofs.Common.{◌≡◌, ℕ, zero, suc, ◌≤◌, Bool, true, false, true≢false, cond, not, ◌&&◌, ◌||◌, List, [], ◌∷◌, ◌++◌, find, Option, Some, None, is_some, option_map, slice_get, refl, sym, ap, subst, ◌∙◌, arith}
+use Rattle.std.proofs.Common.{◌≡◌, ℕ, zero, suc, Bool, true, false, true≢false, cond, not, ◌||◌, List, [], ◌∷◌, ◌++◌, find, Option, Some, None, is_some, option_map, slice_get, refl, sym, ap, subst, ◌∙◌, arith}
 use Rattle.std.specs.List.{list_all}
 use Rattle.gem_ids.specs.declared.numbers.LocId.{LocId}
 use Rattle.substrate.specs.Locations.{is_same, is_location}
-use Rattle.substrate.specs.Places.{PlaceMap, ArePlaces, AreNumbered, stands_at, is_taken, are_placed_apart}
+use Rattle.substrate.specs.Places.{ArePlaces, AreNumbered, stands_at, is_taken, are_placed_apart}
 use Rattle.substrate.specs.declared.registered.Registered.{Registered}
 use Rattle.substrate.proofs.Sites.{same_is, own_place}
 use Rattle.substrate.proofs.Truth.{or_false, and_true, not_true}

@@ -103,7 +103,10 @@ impl ToolFloor {
         let mut best = None;
         for index in 2..modules.len() {
             let chamber = LocId::Chamber(index as u8 - 1);
-            best = better_of(best, self.pick_at(ModuleId(index as u8 + 1), chamber, modules));
+            best = better_of(
+                best,
+                self.pick_at(ModuleId(index as u8 + 1), chamber, modules),
+            );
         }
         best
     }

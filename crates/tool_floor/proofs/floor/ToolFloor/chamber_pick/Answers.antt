@@ -18,12 +18,12 @@ loop-index-preserved c =
     let same : c.loop-index.index - 1 ≡ c.loop-index.index + 1 - 2 = omega (arith, least) in (
       omega (arith, least),
       ap (λ (o : Option PlaceView). joined o (least_numbered (given_by (chamber_pick (views c.args.self.now) c.args.modules.now) (c.loop-index.index + 1 + 1) (length c.args.modules.now - (c.loop-index.index + 1)))))
-      (
-      c.better_of-best.ensures
-      ∙ ap (better_of c.loop-index.best) (c.pick_at.ensures ∙ ap (λ (n : ℕ). pick_at (c.loop-index.index + 1) (Chamber n) (views c.args.self.now) c.args.modules.now) same)
-      )
-      ∙ sym (joined_given (chamber_pick (views c.args.self.now) c.args.modules.now) c.loop-index.best c.loop-index.index (length c.args.modules.now) within)
-      ∙ c.loop-index.invariant.1,
+          (
+          c.better_of-best.ensures
+          ∙ ap (better_of c.loop-index.best) (c.pick_at.ensures ∙ ap (λ (n : ℕ). pick_at (c.loop-index.index + 1) (Chamber n) (views c.args.self.now) c.args.modules.now) same)
+          )
+          ∙ sym (joined_given (chamber_pick (views c.args.self.now) c.args.modules.now) c.loop-index.best c.loop-index.index (length c.args.modules.now) within)
+          ∙ c.loop-index.invariant.1,
     )
 
 pub returns : goal.returns

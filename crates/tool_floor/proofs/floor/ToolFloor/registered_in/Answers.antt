@@ -1,5 +1,5 @@
-use Rattle.std.proofs.Common.{find, sym, ap, subst, ◌∙◌}
-use Rattle.substrate.specs.Places.{ArePlaces, stands_at}
+use Rattle.std.proofs.Common.{find, sym, ap, ◌∙◌}
+use Rattle.substrate.specs.Places.{stands_at}
 use Rattle.tool_floor.specs.Floor.{ToolFloor}
 use Rattle.tool_floor.proofs.Slots.{named_there, none_there}
 use Rattle.tool_floor.proofs.floor.ToolFloor.registered_in.Goals as goal

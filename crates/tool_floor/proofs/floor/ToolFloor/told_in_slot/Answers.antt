@@ -1,4 +1,4 @@
-use Rattle.std.proofs.Common.{Option, find, sym, ap, ◌∙◌}
+use Rattle.std.proofs.Common.{Option, find, ap, ◌∙◌}
 use Rattle.substrate.specs.Places.{stands_at}
 use Rattle.substrate.specs.declared.registered.Registered.{Registered}
 use Rattle.tool_floor.specs.Floor.{ToolFloor}

@@ -1,7 +1,7 @@
 use Rattle.std.proofs.Common.{◌≡◌, drop, filter}
 use Rattle.robot_moves.specs.Moves.{is_useful_at, least_numbered, stage_pick}
-use Rattle.robot_moves.proofs.Picks.{joined}
-use Rattle.robot_moves.proofs.planner.stage_pick.Given as goal
+use Rattle.robot_moves.proofs.StagePicks.{joined}
+use Rattle.robot_moves.proofs.listed.stage_pick.Given as goal
 
 abbrev pub invariant-loop-v : goal.invariant-loop-v
 invariant-loop-v l =

@@ -1,7 +1,9 @@
--- The least of those that were looked at and those that are left.
-use Rattle.std.proofs.Common.{◌≡◌, nat_lt, Bool, true, false, cond, List, ◌∷◌, filter, Option, Some, None, refl, ap, arith}
+-- The least of those that were looked at and those that are left, and the picks of the stages.
+use Rattle.std.proofs.Common.{◌≡◌, nat_lt, Bool, true, false, cond, List, ◌∷◌, filter, Option, Some, None, refl, sym, ap, ◌∙◌, arith}
+use Rattle.std.specs.Option.{option_or}
 use Rattle.std.proofs.lemmas.Bool.Decides.{nat_tests}
-use Rattle.robot_moves.specs.Moves.{lesser, better, least_numbered}
+use Rattle.robot_moves.specs.Moves.{lesser, better, least_numbered, stage_pick, best_pick}
+use Rattle.robot_moves.specs.declared.module.Module.{Module}
 use Rattle.robot_moves.specs.declared.view.PlaceView.{PlaceView}
 
 -- the best so far, and the best of the others
@@ -28,3 +30,18 @@ joined_passes test best v views e = rw e (joined_next best v (least_numbered (fi
 
 pub joined_fails : (test : PlaceView → Bool) (best : Option PlaceView) (v : PlaceView) (views : List PlaceView) → test v ≡ false → joined best (least_numbered (filter test (v ∷ views))) ≡ joined best (least_numbered (filter test views))
 joined_fails test best v views e = rw e refl
+
+-- ---- the best pick by the picks of the stages
+
+module _ (views : List PlaceView) (modules : List Module) where
+  pub first_pick : (v : PlaceView) → stage_pick 2 views modules ≡ Some v → Some v ≡ best_pick views modules
+  first_pick v two = sym (ap (λ (o : Option PlaceView). option_or o (option_or (stage_pick 1 views modules) (stage_pick 0 views modules))) two)
+
+  later_pick : stage_pick 2 views modules ≡ None → best_pick views modules ≡ option_or (stage_pick 1 views modules) (stage_pick 0 views modules)
+  later_pick two = ap (λ (o : Option PlaceView). option_or o (option_or (stage_pick 1 views modules) (stage_pick 0 views modules))) two
+
+  pub second_pick : (v : PlaceView) → stage_pick 2 views modules ≡ None → stage_pick 1 views modules ≡ Some v → Some v ≡ best_pick views modules
+  second_pick v two one = sym (later_pick two ∙ ap (λ (o : Option PlaceView). option_or o (stage_pick 0 views modules)) one)
+
+  pub third_pick : stage_pick 2 views modules ≡ None → stage_pick 1 views modules ≡ None → stage_pick 0 views modules ≡ best_pick views modules
+  third_pick two one = sym (later_pick two ∙ ap (λ (o : Option PlaceView). option_or o (stage_pick 0 views modules)) one)

@@ -1,0 +1,7 @@
+pub mod Lists
+pub mod Staying
+pub mod Telling
+pub mod Standing
+pub mod Resting
+pub mod Chambers
+pub mod Working

@@ -1,5 +1,5 @@
--- What the tool has for its process jobs at every moment: its modules, and recipes by which its chambers can process (this tool's profile,
--- configuration, moves and process jobs).
+-- What the tool has for its process jobs at every moment: its modules, and recipes by which its chambers can process (this tool's
+-- profile, configuration, moves and process jobs).
 use Rattle.std.specs.Prelude.{◌≡◌, ℕ, ◌+◌, nat_le, Bool, true, ◌&&◌, ◌||◌, List, length}
 use Rattle.std.specs.List.{AllByRecursion, list_all}
 use Rattle.tool_events.specs.declared.recipes.Recipe.{Recipe}

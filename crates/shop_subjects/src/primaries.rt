@@ -1,116 +1,201 @@
-//! The parts of a primary, as they are told.
+//! The primaries of the host, and their parts as they are told. None where a line says nothing, or there is no memory.
 
-use anyhow::Result;
+use crate::pieces::add_piece;
 use gem_ids::Text80;
-use msgs_300::{CarrierSlots, NamedValue, RecipePart, ShopMsg};
-use secs_items::Item;
+use msgs_300::{CarrierSlots, NamedValue, ShopMsg, is_shop_stream, read_shop};
+use secs_items::{Item, read_one};
 use std::alloc::Global;
 
-/// The parts of a message, in their order.
-pub fn message_text(alloc: Global, message: &ShopMsg) -> Result<String> {
+// What the primary of a function says, whose text stands behind it in pieces.
+pub(crate) fn add_read(alloc: Global, stream: u8, said: &str, answer: &mut String) -> Option<()> {
+    let Some((function, pieces)) = said.split_once(' ') else {
+        return None;
+    };
+    let Ok(function) = function.parse::<u8>() else {
+        return None;
+    };
+    let mut text = Vec::new(alloc);
+    for piece in pieces.split(' ') {
+        let Some(()) = add_piece(alloc, piece, &mut text) else {
+            return None;
+        };
+    }
+    match read_one(alloc, text.as_slice()) {
+        Ok(item) => add_primary(alloc, stream, function, item.as_ref(), answer),
+        Err(_) => None,
+    }
+}
+
+// What is said without a text by the primary of this function of each stream, or by that of each function of the one stream.
+pub(crate) fn add_each(
+    alloc: Global,
+    stream: u8,
+    function: &str,
+    answer: &mut String,
+) -> Option<()> {
+    let function = function.parse::<u8>().ok();
+    let mut gap = "";
+    for number in 0..=255 {
+        let (stream, function) = match function {
+            Some(function) => (number, function),
+            None => (stream, number),
+        };
+        let Ok(()) = write!(answer, "{gap}{} ", is_shop_stream(stream)) else {
+            return None;
+        };
+        let Some(()) = add_primary(alloc, stream, function, None, answer) else {
+            return None;
+        };
+        gap = ", ";
+    }
+    Some(())
+}
+
+fn add_primary(
+    alloc: Global,
+    stream: u8,
+    function: u8,
+    item: Option<&Item>,
+    answer: &mut String,
+) -> Option<()> {
+    match read_shop(alloc, stream, function, item) {
+        Ok(message) => add_message(&message, answer),
+        Err(fault) => write!(answer, "{fault:?}").ok(),
+    }
+}
+
+// The parts of a message, in their order.
+fn add_message(message: &ShopMsg, answer: &mut String) -> Option<()> {
     match message {
         ShopMsg::S3F17(dataid, action, carrier, port, attributes) => {
-            let action = quoted(alloc, action)?;
-            let carrier = quoted(alloc, carrier)?;
-            let attributes = attributes_text(alloc, attributes.as_slice())?;
-            Ok(format!(in alloc; "{dataid} {action} {carrier} {port}{attributes}")?)
+            let (action, carrier) = (words(action), words(carrier));
+            let Ok(()) = write!(answer, "{dataid} '{action}' '{carrier}' {port}") else {
+                return None;
+            };
+            add_attributes(attributes.as_slice(), answer)
         }
-        ShopMsg::S3F25(action, port, item) => command_text(alloc, action, *port, item),
-        ShopMsg::S3F27(mode, ports) => ports_text(alloc, *mode, ports.as_slice()),
+        ShopMsg::S3F25(name, number, item) | ShopMsg::S16F27(name, number, item) => {
+            let name = words(name);
+            let Ok(()) = write!(answer, "'{name}' {number} ") else {
+                return None;
+            };
+            add_item(item, answer)
+        }
+        ShopMsg::S3F27(mode, ports) => add_ports(*mode, ports.as_slice(), answer),
         ShopMsg::S14F9(object, kind, attributes) => {
-            let object = quoted(alloc, object)?;
-            let kind = quoted(alloc, kind)?;
-            let attributes = attributes_text(alloc, attributes.as_slice())?;
-            Ok(format!(in alloc; "{object} {kind}{attributes}")?)
+            let (object, kind) = (words(object), words(kind));
+            let Ok(()) = write!(answer, "'{object}' '{kind}'") else {
+                return None;
+            };
+            add_attributes(attributes.as_slice(), answer)
         }
+        ShopMsg::S16F17(jobs) => add_jobs(jobs.as_slice(), answer),
+        ShopMsg::S16F19 => answer.push_str("all jobs").ok(),
+        ShopMsg::S16F21 => answer.push_str("space").ok(),
+        message => add_process_job(message, answer),
+    }
+}
+
+// A command to a process job, or its creation.
+fn add_process_job(message: &ShopMsg, answer: &mut String) -> Option<()> {
+    match message {
         ShopMsg::S16F5(dataid, job, command, item) => {
-            let job = quoted(alloc, job)?;
-            let command = quoted(alloc, command)?;
-            let item = item_text(alloc, item)?;
-            Ok(format!(in alloc; "{dataid} {job} {command} {item}")?)
+            let (job, command) = (words(job), words(command));
+            let Ok(()) = write!(answer, "{dataid} '{job}' '{command}' ") else {
+                return None;
+            };
+            add_item(item, answer)
         }
         ShopMsg::S16F11(dataid, job, material, recipe, start, events) => {
-            let job = quoted(alloc, job)?;
-            let material = material_text(alloc, material.as_slice())?;
-            let recipe = recipe_text(alloc, recipe)?;
-            let events = item_text(alloc, events)?;
-            Ok(format!(in alloc; "{dataid} {job}{material}, {recipe}, {start} {events}")?)
+            let (job, name) = (words(job), words(&recipe.recipe));
+            let Ok(()) = write!(answer, "{dataid} '{job}'") else {
+                return None;
+            };
+            let Some(()) = add_material(material.as_slice(), answer) else {
+                return None;
+            };
+            let Ok(()) = write!(answer, ", recipe '{name}' ") else {
+                return None;
+            };
+            let Some(()) = add_item(&recipe.variables, answer) else {
+                return None;
+            };
+            let Ok(()) = write!(answer, ", {start} ") else {
+                return None;
+            };
+            add_item(events, answer)
         }
-        ShopMsg::S16F17(jobs) => jobs_text(alloc, jobs.as_slice()),
-        ShopMsg::S16F19 => Ok(String::from_str(alloc, "all jobs")?),
-        ShopMsg::S16F21 => Ok(String::from_str(alloc, "space")?),
-        ShopMsg::S16F27(job, command, item) => command_text(alloc, job, *command, item),
+        _ => None,
     }
 }
 
-fn quoted(alloc: Global, text: &Text80) -> Result<String> {
-    let text = String::from_utf8_lossy(alloc, text.as_bytes())?;
-    Ok(format!(in alloc; "'{text}'")?)
+// The characters of a text.
+fn words(text: &Text80) -> &str {
+    str::from_utf8(text.as_bytes()).unwrap_or("no text")
 }
 
-fn item_text(alloc: Global, item: &Item) -> Result<String> {
+fn add_item(item: &Item, answer: &mut String) -> Option<()> {
     if let Item::List(items) = item {
-        return Ok(format!(in alloc; "list of {}", items.as_slice().len())?);
+        return write!(answer, "list of {}", items.as_slice().len()).ok();
     }
     match item.as_id() {
-        Some(number) => Ok(format!(in alloc; "{number}")?),
-        None => Ok(format!(in alloc; "no number")?),
+        Some(number) => write!(answer, "{number}").ok(),
+        None => answer.push_str("no number").ok(),
     }
 }
 
-fn command_text(alloc: Global, name: &Text80, number: u8, item: &Item) -> Result<String> {
-    let name = quoted(alloc, name)?;
-    let item = item_text(alloc, item)?;
-    Ok(format!(in alloc; "{name} {number} {item}")?)
-}
-
-fn attributes_text(alloc: Global, attributes: &[NamedValue]) -> Result<String> {
-    let mut text = String::new(alloc);
+fn add_attributes(attributes: &[NamedValue], answer: &mut String) -> Option<()> {
     for attribute in attributes {
-        let name = quoted(alloc, &attribute.name)?;
-        let value = item_text(alloc, &attribute.value)?;
-        text.push_str(format!(in alloc; ", {name} {value}")?.as_str())?;
+        let name = words(&attribute.name);
+        let Ok(()) = write!(answer, ", '{name}' ") else {
+            return None;
+        };
+        let Some(()) = add_item(&attribute.value, answer) else {
+            return None;
+        };
     }
-    Ok(text)
+    Some(())
 }
 
-fn ports_text(alloc: Global, mode: u8, ports: &[u8]) -> Result<String> {
-    let mut text = format!(in alloc; "{mode}")?;
-    for port in ports {
-        text.push_str(format!(in alloc; ", port {port}")?.as_str())?;
-    }
-    Ok(text)
+fn add_ports(mode: u8, ports: &[u8], answer: &mut String) -> Option<()> {
+    let Ok(()) = write!(answer, "{mode}") else {
+        return None;
+    };
+    add_numbers(", port", ports, answer)
 }
 
-fn material_text(alloc: Global, material: &[CarrierSlots]) -> Result<String> {
-    let mut text = String::new(alloc);
+fn add_material(material: &[CarrierSlots], answer: &mut String) -> Option<()> {
     for part in material {
-        let carrier = quoted(alloc, &part.carrier)?;
-        let slots = slots_text(alloc, part.slots.as_slice())?;
-        text.push_str(format!(in alloc; ", {carrier}{slots}")?.as_str())?;
+        let carrier = words(&part.carrier);
+        let Ok(()) = write!(answer, ", '{carrier}'") else {
+            return None;
+        };
+        let Some(()) = add_numbers("", part.slots.as_slice(), answer) else {
+            return None;
+        };
     }
-    Ok(text)
+    Some(())
 }
 
-fn slots_text(alloc: Global, slots: &[u8]) -> Result<String> {
-    let mut text = String::new(alloc);
-    for slot in slots {
-        text.push_str(format!(in alloc; " {slot}")?.as_str())?;
+// Ports or slots, each behind this word.
+fn add_numbers(word: &str, numbers: &[u8], answer: &mut String) -> Option<()> {
+    for number in numbers {
+        let Ok(()) = write!(answer, "{word} {number}") else {
+            return None;
+        };
     }
-    Ok(text)
+    Some(())
 }
 
-fn recipe_text(alloc: Global, part: &RecipePart) -> Result<String> {
-    let recipe = quoted(alloc, &part.recipe)?;
-    let variables = item_text(alloc, &part.variables)?;
-    Ok(format!(in alloc; "recipe {recipe} {variables}")?)
-}
-
-fn jobs_text(alloc: Global, jobs: &[Text80]) -> Result<String> {
-    let mut text = format!(in alloc; "{} jobs", jobs.len())?;
+fn add_jobs(jobs: &[Text80], answer: &mut String) -> Option<()> {
+    let Ok(()) = write!(answer, "{} jobs", jobs.len()) else {
+        return None;
+    };
     for job in jobs {
-        text.push(' ')?;
-        text.push_str(quoted(alloc, job)?.as_str())?;
+        let job = words(job);
+        let Ok(()) = write!(answer, " '{job}'") else {
+            return None;
+        };
     }
-    Ok(text)
+    Some(())
 }

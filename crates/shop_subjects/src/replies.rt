@@ -1,166 +1,211 @@
-//! The replies, and their texts.
+//! The replies, and their texts. None where the tool has no such reply, or there is no memory.
 
-ghost use Rattle.std.specs.Prelude.{◌≤◌, length, IfOk};
+ghost use Rattle.std.specs.Prelude.{◌≡◌, true};
 ghost use Rattle.msgs_300.specs.Sendable.{HasSendableParts};
 
-use anyhow::{Result, bail};
+use crate::pieces::{counted, text};
 use gem_ids::{Listed, Text80};
 use msgs_300::{ErrorPart, JobAcknowledge, JobState, ObjectAcknowledge, ShopReply, shop_item};
 use secs_items::encode;
 use std::alloc::Global;
-use test_lines::{small, word, words};
+use test_lines::words;
 
-/// The text of the tool's reply of a stream and a function. Its parts stand in the line behind both.
-pub fn reply(alloc: Global, stream: u8, function: u8, said: &str) -> Result<String> {
-    let parts: Vec<&str> = said.split(';').collect(alloc)?;
-    let Some((first, more)) = parts.as_slice().split_first() else {
-        bail!("it says nothing");
+// The text of the tool's reply of a function. Its parts stand in the line behind it.
+pub(crate) fn add_reply(alloc: Global, stream: u8, said: &str, answer: &mut String) -> Option<()> {
+    let (first, more) = said.split_once(';').unwrap_or((said, ""));
+    let Ok(words) = words(alloc, first) else {
+        return None;
     };
-    let words = words(alloc, first)?;
-    let words = words.as_slice();
-    match stream {
-        3 => reply_of_stream_3(alloc, function, words),
-        14 => reply_of_stream_14(alloc, function, words, more),
-        _ => reply_of_stream_16(alloc, function, words, more),
+    match reply(alloc, stream, words.as_slice(), more) {
+        Some(reply) => add_encoded(alloc, &reply, answer),
+        None => None,
     }
 }
 
-fn reply_of_stream_3(alloc: Global, function: u8, words: &[&str]) -> Result<String> {
-    let caack = small(words, 2)?;
-    match function {
-        18 => encoded(alloc, &ShopReply::S3F18(caack)),
-        26 => encoded(alloc, &ShopReply::S3F26(caack)),
-        28 => encoded(alloc, &ShopReply::S3F28(caack)),
-        _ => bail!("the tool has no such reply"),
+fn add_encoded(alloc: Global, reply: &ShopReply, answer: &mut String) -> Option<()> {
+    if !is_sendable(reply) {
+        return None;
     }
-}
-
-fn reply_of_stream_14(
-    alloc: Global,
-    function: u8,
-    words: &[&str],
-    more: &[&str],
-) -> Result<String> {
-    if function != 10 {
-        bail!("the tool has no such reply");
-    }
-    let told = ObjectAcknowledge {
-        objack: small(words, 3)?,
-        errors: errors(alloc, more)?,
+    let Ok(item) = shop_item(alloc, reply) else {
+        return None;
     };
-    encoded(alloc, &ShopReply::S14F10(text(word(words, 2)?)?, told))
-}
-
-fn reply_of_stream_16(
-    alloc: Global,
-    function: u8,
-    words: &[&str],
-    more: &[&str],
-) -> Result<String> {
-    match function {
-        6 => {
-            let job = text(word(words, 2)?)?;
-            encoded(
-                alloc,
-                &ShopReply::S16F6(job, acknowledge(alloc, word(words, 3)?, more)?),
-            )
-        }
-        12 => {
-            let job = text(word(words, 2)?)?;
-            encoded(
-                alloc,
-                &ShopReply::S16F12(job, acknowledge(alloc, word(words, 3)?, more)?),
-            )
-        }
-        18 => {
-            let told = acknowledge(alloc, word(words, 2)?, more)?;
-            encoded(alloc, &ShopReply::S16F18(names(alloc, words)?, told))
-        }
-        20 => encoded(alloc, &ShopReply::S16F20(states(alloc, more)?)),
-        22 => encoded(alloc, &ShopReply::S16F22(word(words, 2)?.parse::<u16>()?)),
-        28 => {
-            let ok = word(words, 2)?.parse::<bool>()?;
-            encoded(alloc, &ShopReply::S16F28(ok, errors(alloc, more)?))
-        }
-        _ => bail!("the tool has no such reply"),
-    }
-}
-
-fn encoded(alloc: Global, reply: &ShopReply) -> Result<String>
-    requires { HasSendableParts reply.now }
-{
     let mut text = Vec::new(alloc);
-    encode(&shop_item(alloc, reply)?, &mut text)?;
-    Ok(hex::encode_upper(alloc, text.as_slice())?)
-}
-
-// The text that a word stands for.
-fn text(word: &str) -> Result<Text80> {
-    if word == "''" {
-        return Ok(Text80::empty());
+    let Ok(()) = encode(&item, &mut text) else {
+        return None;
+    };
+    match hex::encode_upper(alloc, text.as_slice()) {
+        Ok(digits) => answer.push_str(digits.as_str()).ok(),
+        Err(_) => None,
     }
-    Ok(Text80::read(word.as_bytes())?)
 }
 
-fn acknowledge(alloc: Global, ok: &str, more: &[&str]) -> Result<JobAcknowledge>
-    ensures few { IfOk result (λ told. length told.errors ≤ 1024) }
+// Whether no list of a reply is longer than what can be sent.
+fn is_sendable(reply: &ShopReply) -> bool
+    ensures { result ≡ true → HasSendableParts reply.now }
 {
-    Ok(JobAcknowledge {
-        ok: ok.parse::<bool>()?,
-        errors: errors(alloc, more)?,
-    })
+    match reply {
+        ShopReply::S14F10(_, told) => told.errors.len() <= 1024,
+        ShopReply::S16F6(_, told) => told.errors.len() <= 1024,
+        ShopReply::S16F12(_, told) => told.errors.len() <= 1024,
+        ShopReply::S16F18(jobs, told) => jobs.len() <= 1024 && told.errors.len() <= 1024,
+        ShopReply::S16F20(jobs) => jobs.len() <= 1024,
+        ShopReply::S16F28(_, errors) => errors.len() <= 1024,
+        _ => true,
+    }
+}
+
+// The reply of a function, whose parts are these words and what stands behind them.
+fn reply(alloc: Global, stream: u8, words: &[&str], more: &str) -> Option<ShopReply> {
+    let Some(function) = small(words, 0) else {
+        return None;
+    };
+    match (stream, function) {
+        (16, 18 | 28) => taken(alloc, function, words, more),
+        (16, 20) => match states(alloc, more) {
+            Some(states) => Some(ShopReply::S16F20(states)),
+            None => None,
+        },
+        (16, 22) => match words.get(1) {
+            Some(space) => space_reply(space),
+            None => None,
+        },
+        (3, _) => match small(words, 1) {
+            Some(caack) => caack_reply(function, caack),
+            None => None,
+        },
+        (14, 10) | (16, 6 | 12) => named(alloc, function, words, more),
+        _ => None,
+    }
+}
+
+fn small(words: &[&str], place: usize) -> Option<u8> {
+    match words.get(place) {
+        Some(word) => word.parse::<u8>().ok(),
+        None => None,
+    }
+}
+
+fn space_reply(space: &str) -> Option<ShopReply> {
+    match space.parse::<u16>() {
+        Ok(space) => Some(ShopReply::S16F22(space)),
+        Err(_) => None,
+    }
+}
+
+fn caack_reply(function: u8, caack: u8) -> Option<ShopReply> {
+    match function {
+        18 => Some(ShopReply::S3F18(caack)),
+        26 => Some(ShopReply::S3F26(caack)),
+        28 => Some(ShopReply::S3F28(caack)),
+        _ => None,
+    }
+}
+
+// The reply that names an object or a job, and tells whether it is taken, with errors.
+fn named(alloc: Global, function: u8, words: &[&str], more: &str) -> Option<ShopReply> {
+    let [_, name, code] = words else {
+        return None;
+    };
+    let Some(name) = text(name) else {
+        return None;
+    };
+    let Some(errors) = errors(alloc, more) else {
+        return None;
+    };
+    let ok = *code == "true";
+    match function {
+        6 => Some(ShopReply::S16F6(name, JobAcknowledge { ok, errors })),
+        12 => Some(ShopReply::S16F12(name, JobAcknowledge { ok, errors })),
+        _ => match code.parse::<u8>() {
+            Ok(objack) => Some(ShopReply::S14F10(name, ObjectAcknowledge { objack, errors })),
+            Err(_) => None,
+        },
+    }
+}
+
+// The reply that tells whether something is taken, with errors; the jobs stand behind that.
+fn taken(alloc: Global, function: u8, words: &[&str], more: &str) -> Option<ShopReply> {
+    let [_, ok, jobs @ ..] = words else {
+        return None;
+    };
+    let ok = *ok == "true";
+    let Some(errors) = errors(alloc, more) else {
+        return None;
+    };
+    if function == 28 {
+        return Some(ShopReply::S16F28(ok, errors));
+    }
+    match names(alloc, jobs) {
+        Some(jobs) => Some(ShopReply::S16F18(jobs, JobAcknowledge { ok, errors })),
+        None => None,
+    }
 }
 
 // Errors, each its code and its text.
-fn errors(alloc: Global, parts: &[&str]) -> Result<Listed<ErrorPart>>
-    ensures few { IfOk result (λ errors. length errors ≤ 1024) }
-{
+fn errors(alloc: Global, more: &str) -> Option<Listed<ErrorPart>> {
     let mut errors = Listed::new(alloc);
-    for part in parts {
-        let Some((code, text)) = part.trim().split_once(' ') else {
-            bail!("the code of an error stands before its text");
+    for part in more.split(';') {
+        let Some(()) = add_error(part.trim(), &mut errors) else {
+            return None;
         };
-        errors.push(ErrorPart {
-            code: code.parse::<u8>()?,
-            text: Text80::read(text.as_bytes())?,
-        })?;
     }
-    if errors.len() > 1024 {
-        bail!("no reply has so many errors");
-    }
-    Ok(errors)
+    Some(errors)
 }
 
-// The jobs that stand behind the third word.
-fn names(alloc: Global, words: &[&str]) -> Result<Listed<Text80>>
-    ensures few { IfOk result (λ names. length names ≤ 1024) }
-{
+fn add_error(part: &str, errors: &mut Listed<ErrorPart>) -> Option<()> {
+    if part.is_empty() {
+        return Some(());
+    }
+    let Some((code, text)) = part.split_once(' ') else {
+        return None;
+    };
+    let (Ok(code), Ok(text)) = (code.parse::<u8>(), Text80::read(text.as_bytes())) else {
+        return None;
+    };
+    errors.push(ErrorPart { code, text }).ok()
+}
+
+fn names(alloc: Global, words: &[&str]) -> Option<Listed<Text80>> {
     let mut names = Listed::new(alloc);
-    for word in words.iter().skip(3) {
-        names.push(text(word)?)?;
+    for word in words {
+        let Some(name) = text(word) else {
+            return None;
+        };
+        let Ok(()) = names.push(name) else {
+            return None;
+        };
     }
-    if names.len() > 1024 {
-        bail!("no reply has so many jobs");
-    }
-    Ok(names)
+    Some(names)
 }
 
 // Jobs, each its name and the number of its state.
-fn states(alloc: Global, parts: &[&str]) -> Result<Listed<JobState>>
-    ensures few { IfOk result (λ states. length states ≤ 1024) }
-{
+fn states(alloc: Global, more: &str) -> Option<Listed<JobState>> {
     let mut states = Listed::new(alloc);
-    for part in parts {
-        let Some((job, state)) = part.trim().split_once(' ') else {
-            bail!("a job stands before its state");
+    for part in more.split(';') {
+        let Some(()) = add_state(part.trim(), &mut states) else {
+            return None;
         };
-        states.push(JobState {
-            job: text(job)?,
-            state: state.parse::<u8>()?,
-        })?;
     }
-    if states.len() > 1024 {
-        bail!("no reply has so many jobs");
+    Some(states)
+}
+
+fn add_state(part: &str, states: &mut Listed<JobState>) -> Option<()> {
+    if part.is_empty() {
+        return Some(());
     }
-    Ok(states)
+    let Some((one, count)) = counted(part) else {
+        return None;
+    };
+    let Some((job, state)) = one.split_once(' ') else {
+        return None;
+    };
+    let (Some(job), Ok(state)) = (text(job), state.parse::<u8>()) else {
+        return None;
+    };
+    for _ in 0..count {
+        let Ok(()) = states.push(JobState { job, state }) else {
+            return None;
+        };
+    }
+    Some(())
 }

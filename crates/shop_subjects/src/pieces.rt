@@ -35,10 +35,10 @@ fn add_times(bytes: &[u8], count: u32, text: &mut Vec<u8>) -> Option<()> {
     Some(())
 }
 
-// The text that a word stands for.
-pub(crate) fn text(word: &str) -> Option<Text80> {
+// The text that a word stands for, which is that of no bytes where it stands for none.
+pub(crate) fn text(word: &str) -> Text80 {
     if word == "''" {
-        return Some(Text80::empty());
+        return Text80::empty();
     }
-    Text80::read(word.as_bytes()).ok()
+    Text80::read(word.as_bytes()).unwrap_or(Text80::empty())
 }

@@ -1,4 +1,5 @@
-//! The primaries of the host, and their parts as they are told. None where a line says nothing, or there is no memory.
+//! The primaries of the host, and their parts as they are told. None where a line says nothing. Where there is no memory the
+//! answer lacks what does not fit, and so is another.
 
 use crate::pieces::add_piece;
 use gem_ids::Text80;
@@ -21,181 +22,134 @@ pub(crate) fn add_read(alloc: Global, stream: u8, said: &str, answer: &mut Strin
         };
     }
     match read_one(alloc, text.as_slice()) {
-        Ok(item) => add_primary(alloc, stream, function, item.as_ref(), answer),
+        Ok(item) => {
+            add_primary(alloc, stream, function, item.as_ref(), answer);
+            Some(())
+        }
         Err(_) => None,
     }
 }
 
 // What is said without a text by the primary of this function of each stream, or by that of each function of the one stream.
-pub(crate) fn add_each(
-    alloc: Global,
-    stream: u8,
-    function: &str,
-    answer: &mut String,
-) -> Option<()> {
+pub(crate) fn add_each(alloc: Global, stream: u8, function: &str, answer: &mut String) {
     let function = function.parse::<u8>().ok();
-    let mut gap = "";
     for number in 0..=255 {
         let (stream, function) = match function {
             Some(function) => (number, function),
             None => (stream, number),
         };
-        let Ok(()) = write!(answer, "{gap}{} ", is_shop_stream(stream)) else {
-            return None;
-        };
-        let Some(()) = add_primary(alloc, stream, function, None, answer) else {
-            return None;
-        };
-        gap = ", ";
+        let gap = if number == 0 { "" } else { ", " };
+        let _ = write!(answer, "{gap}{} ", is_shop_stream(stream));
+        add_primary(alloc, stream, function, None, answer);
     }
-    Some(())
 }
 
-fn add_primary(
-    alloc: Global,
-    stream: u8,
-    function: u8,
-    item: Option<&Item>,
-    answer: &mut String,
-) -> Option<()> {
+fn add_primary(alloc: Global, stream: u8, function: u8, item: Option<&Item>, answer: &mut String) {
     match read_shop(alloc, stream, function, item) {
         Ok(message) => add_message(&message, answer),
-        Err(fault) => write!(answer, "{fault:?}").ok(),
+        Err(fault) => {
+            let _ = write!(answer, "{fault:?}");
+        }
     }
 }
 
 // The parts of a message, in their order.
-fn add_message(message: &ShopMsg, answer: &mut String) -> Option<()> {
+fn add_message(message: &ShopMsg, answer: &mut String) {
     match message {
         ShopMsg::S3F17(dataid, action, carrier, port, attributes) => {
-            let (action, carrier) = (words(action), words(carrier));
-            let Ok(()) = write!(answer, "{dataid} '{action}' '{carrier}' {port}") else {
-                return None;
-            };
-            add_attributes(attributes.as_slice(), answer)
+            add_number("", *dataid, answer);
+            add_text(" ", action, answer);
+            add_text(" ", carrier, answer);
+            add_number(" ", u32::from(*port), answer);
+            add_attributes(attributes.as_slice(), answer);
         }
         ShopMsg::S3F25(name, number, item) | ShopMsg::S16F27(name, number, item) => {
-            let name = words(name);
-            let Ok(()) = write!(answer, "'{name}' {number} ") else {
-                return None;
-            };
-            add_item(item, answer)
+            add_text("", name, answer);
+            add_number(" ", u32::from(*number), answer);
+            add_item(" ", item, answer);
         }
-        ShopMsg::S3F27(mode, ports) => add_ports(*mode, ports.as_slice(), answer),
+        ShopMsg::S3F27(mode, ports) => {
+            add_number("", u32::from(*mode), answer);
+            add_numbers(", port ", ports.as_slice(), answer);
+        }
         ShopMsg::S14F9(object, kind, attributes) => {
-            let (object, kind) = (words(object), words(kind));
-            let Ok(()) = write!(answer, "'{object}' '{kind}'") else {
-                return None;
-            };
-            add_attributes(attributes.as_slice(), answer)
+            add_text("", object, answer);
+            add_text(" ", kind, answer);
+            add_attributes(attributes.as_slice(), answer);
         }
-        ShopMsg::S16F17(jobs) => add_jobs(jobs.as_slice(), answer),
-        ShopMsg::S16F19 => answer.push_str("all jobs").ok(),
-        ShopMsg::S16F21 => answer.push_str("space").ok(),
-        message => add_process_job(message, answer),
-    }
-}
-
-// A command to a process job, or its creation.
-fn add_process_job(message: &ShopMsg, answer: &mut String) -> Option<()> {
-    match message {
         ShopMsg::S16F5(dataid, job, command, item) => {
-            let (job, command) = (words(job), words(command));
-            let Ok(()) = write!(answer, "{dataid} '{job}' '{command}' ") else {
-                return None;
-            };
-            add_item(item, answer)
+            add_number("", *dataid, answer);
+            add_text(" ", job, answer);
+            add_text(" ", command, answer);
+            add_item(" ", item, answer);
         }
         ShopMsg::S16F11(dataid, job, material, recipe, start, events) => {
-            let (job, name) = (words(job), words(&recipe.recipe));
-            let Ok(()) = write!(answer, "{dataid} '{job}'") else {
-                return None;
-            };
-            let Some(()) = add_material(material.as_slice(), answer) else {
-                return None;
-            };
-            let Ok(()) = write!(answer, ", recipe '{name}' ") else {
-                return None;
-            };
-            let Some(()) = add_item(&recipe.variables, answer) else {
-                return None;
-            };
-            let Ok(()) = write!(answer, ", {start} ") else {
-                return None;
-            };
-            add_item(events, answer)
+            add_number("", *dataid, answer);
+            add_text(" ", job, answer);
+            add_material(material.as_slice(), answer);
+            add_text(", recipe ", &recipe.recipe, answer);
+            add_item(" ", &recipe.variables, answer);
+            let _ = write!(answer, ", {start}");
+            add_item(" ", events, answer);
         }
-        _ => None,
+        ShopMsg::S16F17(jobs) => {
+            let _ = write!(answer, "{} jobs", jobs.len());
+            add_texts(jobs.as_slice(), answer);
+        }
+        ShopMsg::S16F19 => {
+            let _ = answer.push_str("all jobs");
+        }
+        ShopMsg::S16F21 => {
+            let _ = answer.push_str("space");
+        }
     }
 }
 
-// The characters of a text.
-fn words(text: &Text80) -> &str {
-    str::from_utf8(text.as_bytes()).unwrap_or("no text")
+// A number, a text or an item, behind what stands before it.
+fn add_number(gap: &str, number: u32, answer: &mut String) {
+    let _ = write!(answer, "{gap}{number}");
 }
 
-fn add_item(item: &Item, answer: &mut String) -> Option<()> {
-    if let Item::List(items) = item {
-        return write!(answer, "list of {}", items.as_slice().len()).ok();
-    }
-    match item.as_id() {
-        Some(number) => write!(answer, "{number}").ok(),
-        None => answer.push_str("no number").ok(),
+fn add_text(gap: &str, text: &Text80, answer: &mut String) {
+    if let Ok(text) = str::from_utf8(text.as_bytes()) {
+        let _ = write!(answer, "{gap}'{text}'");
     }
 }
 
-fn add_attributes(attributes: &[NamedValue], answer: &mut String) -> Option<()> {
+fn add_item(gap: &str, item: &Item, answer: &mut String) {
+    match (item, item.as_id()) {
+        (Item::List(items), _) => {
+            let _ = write!(answer, "{gap}list of {}", items.as_slice().len());
+        }
+        (_, Some(number)) => add_number(gap, number, answer),
+        (_, None) => {
+            let _ = write!(answer, "{gap}no number");
+        }
+    }
+}
+
+fn add_attributes(attributes: &[NamedValue], answer: &mut String) {
     for attribute in attributes {
-        let name = words(&attribute.name);
-        let Ok(()) = write!(answer, ", '{name}' ") else {
-            return None;
-        };
-        let Some(()) = add_item(&attribute.value, answer) else {
-            return None;
-        };
+        add_text(", ", &attribute.name, answer);
+        add_item(" ", &attribute.value, answer);
     }
-    Some(())
 }
 
-fn add_ports(mode: u8, ports: &[u8], answer: &mut String) -> Option<()> {
-    let Ok(()) = write!(answer, "{mode}") else {
-        return None;
-    };
-    add_numbers(", port", ports, answer)
-}
-
-fn add_material(material: &[CarrierSlots], answer: &mut String) -> Option<()> {
+fn add_material(material: &[CarrierSlots], answer: &mut String) {
     for part in material {
-        let carrier = words(&part.carrier);
-        let Ok(()) = write!(answer, ", '{carrier}'") else {
-            return None;
-        };
-        let Some(()) = add_numbers("", part.slots.as_slice(), answer) else {
-            return None;
-        };
+        add_text(", ", &part.carrier, answer);
+        add_numbers(" ", part.slots.as_slice(), answer);
     }
-    Some(())
 }
 
-// Ports or slots, each behind this word.
-fn add_numbers(word: &str, numbers: &[u8], answer: &mut String) -> Option<()> {
+fn add_numbers(gap: &str, numbers: &[u8], answer: &mut String) {
     for number in numbers {
-        let Ok(()) = write!(answer, "{word} {number}") else {
-            return None;
-        };
+        add_number(gap, u32::from(*number), answer);
     }
-    Some(())
 }
 
-fn add_jobs(jobs: &[Text80], answer: &mut String) -> Option<()> {
-    let Ok(()) = write!(answer, "{} jobs", jobs.len()) else {
-        return None;
-    };
-    for job in jobs {
-        let job = words(job);
-        let Ok(()) = write!(answer, " '{job}'") else {
-            return None;
-        };
+fn add_texts(texts: &[Text80], answer: &mut String) {
+    for text in texts {
+        add_text(" ", text, answer);
     }
-    Some(())
 }

@@ -1,4 +1,5 @@
-//! The replies, and their texts. None where the tool has no such reply, or there is no memory.
+//! The replies, and their texts. None where the tool has no such reply, or there is no memory for its text. A word that is no
+//! number stands for 0, and one that is no text for that of no bytes.
 
 ghost use Rattle.std.specs.Prelude.{◌≡◌, true};
 ghost use Rattle.msgs_300.specs.Sendable.{HasSendableParts};
@@ -56,156 +57,97 @@ fn is_sendable(reply: &ShopReply) -> bool
 
 // The reply of a function, whose parts are these words and what stands behind them.
 fn reply(alloc: Global, stream: u8, words: &[&str], more: &str) -> Option<ShopReply> {
-    let Some(function) = small(words, 0) else {
-        return None;
-    };
-    match (stream, function) {
-        (16, 18 | 28) => taken(alloc, function, words, more),
-        (16, 20) => match states(alloc, more) {
-            Some(states) => Some(ShopReply::S16F20(states)),
-            None => None,
-        },
-        (16, 22) => match words.get(1) {
-            Some(space) => space_reply(space),
-            None => None,
-        },
-        (3, _) => match small(words, 1) {
-            Some(caack) => caack_reply(function, caack),
-            None => None,
-        },
-        (14, 10) | (16, 6 | 12) => named(alloc, function, words, more),
+    match (stream, small(words, 0)) {
+        (3, 18) => Some(ShopReply::S3F18(small(words, 1))),
+        (3, 26) => Some(ShopReply::S3F26(small(words, 1))),
+        (3, 28) => Some(ShopReply::S3F28(small(words, 1))),
+        (14, 10) => Some(created(alloc, words, more)),
+        (16, 6) => Some(ShopReply::S16F6(name(words), told(alloc, words, 2, more))),
+        (16, 12) => Some(ShopReply::S16F12(name(words), told(alloc, words, 2, more))),
+        (16, 18) => Some(dequeued(alloc, words, more)),
+        (16, 20) => Some(ShopReply::S16F20(states(alloc, more))),
+        (16, 22) => Some(ShopReply::S16F22(number(words, 1))),
+        (16, 28) => Some(ShopReply::S16F28(is_true(words, 1), errors(alloc, more))),
         _ => None,
     }
 }
 
-fn small(words: &[&str], place: usize) -> Option<u8> {
+// The word at a place of a line, or none.
+fn at<'a>(words: &[&'a str], place: usize) -> &'a str {
     match words.get(place) {
-        Some(word) => word.parse::<u8>().ok(),
-        None => None,
+        Some(word) => *word,
+        None => "",
     }
 }
 
-fn space_reply(space: &str) -> Option<ShopReply> {
-    match space.parse::<u16>() {
-        Ok(space) => Some(ShopReply::S16F22(space)),
-        Err(_) => None,
-    }
+fn number(words: &[&str], place: usize) -> u16 {
+    at(words, place).parse::<u16>().unwrap_or(0)
 }
 
-fn caack_reply(function: u8, caack: u8) -> Option<ShopReply> {
-    match function {
-        18 => Some(ShopReply::S3F18(caack)),
-        26 => Some(ShopReply::S3F26(caack)),
-        28 => Some(ShopReply::S3F28(caack)),
-        _ => None,
-    }
+fn small(words: &[&str], place: usize) -> u8 {
+    at(words, place).parse::<u8>().unwrap_or(0)
 }
 
-// The reply that names an object or a job, and tells whether it is taken, with errors.
-fn named(alloc: Global, function: u8, words: &[&str], more: &str) -> Option<ShopReply> {
-    let [_, name, code] = words else {
-        return None;
-    };
-    let Some(name) = text(name) else {
-        return None;
-    };
-    let Some(errors) = errors(alloc, more) else {
-        return None;
-    };
-    let ok = *code == "true";
-    match function {
-        6 => Some(ShopReply::S16F6(name, JobAcknowledge { ok, errors })),
-        12 => Some(ShopReply::S16F12(name, JobAcknowledge { ok, errors })),
-        _ => match code.parse::<u8>() {
-            Ok(objack) => Some(ShopReply::S14F10(name, ObjectAcknowledge { objack, errors })),
-            Err(_) => None,
-        },
-    }
+fn is_true(words: &[&str], place: usize) -> bool {
+    at(words, place) == "true"
 }
 
-// The reply that tells whether something is taken, with errors; the jobs stand behind that.
-fn taken(alloc: Global, function: u8, words: &[&str], more: &str) -> Option<ShopReply> {
-    let [_, ok, jobs @ ..] = words else {
-        return None;
-    };
-    let ok = *ok == "true";
-    let Some(errors) = errors(alloc, more) else {
-        return None;
-    };
-    if function == 28 {
-        return Some(ShopReply::S16F28(ok, errors));
+// The name of the object or job, which is the second word.
+fn name(words: &[&str]) -> Text80 {
+    text(at(words, 1))
+}
+
+fn created(alloc: Global, words: &[&str], more: &str) -> ShopReply {
+    let objack = small(words, 2);
+    let errors = errors(alloc, more);
+    ShopReply::S14F10(name(words), ObjectAcknowledge { objack, errors })
+}
+
+fn told(alloc: Global, words: &[&str], place: usize, more: &str) -> JobAcknowledge {
+    let ok = is_true(words, place);
+    let errors = errors(alloc, more);
+    JobAcknowledge { ok, errors }
+}
+
+// The jobs stand behind the second word.
+fn dequeued(alloc: Global, words: &[&str], more: &str) -> ShopReply {
+    let mut jobs = Listed::new(alloc);
+    for word in words.iter().skip(2) {
+        let _ = jobs.push(text(word));
     }
-    match names(alloc, jobs) {
-        Some(jobs) => Some(ShopReply::S16F18(jobs, JobAcknowledge { ok, errors })),
-        None => None,
-    }
+    ShopReply::S16F18(jobs, told(alloc, words, 1, more))
 }
 
 // Errors, each its code and its text.
-fn errors(alloc: Global, more: &str) -> Option<Listed<ErrorPart>> {
+fn errors(alloc: Global, more: &str) -> Listed<ErrorPart> {
     let mut errors = Listed::new(alloc);
     for part in more.split(';') {
-        let Some(()) = add_error(part.trim(), &mut errors) else {
-            return None;
-        };
+        if let Some((code, words)) = part.trim().split_once(' ') {
+            let code = code.parse::<u8>().unwrap_or(0);
+            let text = text(words);
+            let _ = errors.push(ErrorPart { code, text });
+        }
     }
-    Some(errors)
-}
-
-fn add_error(part: &str, errors: &mut Listed<ErrorPart>) -> Option<()> {
-    if part.is_empty() {
-        return Some(());
-    }
-    let Some((code, text)) = part.split_once(' ') else {
-        return None;
-    };
-    let (Ok(code), Ok(text)) = (code.parse::<u8>(), Text80::read(text.as_bytes())) else {
-        return None;
-    };
-    errors.push(ErrorPart { code, text }).ok()
-}
-
-fn names(alloc: Global, words: &[&str]) -> Option<Listed<Text80>> {
-    let mut names = Listed::new(alloc);
-    for word in words {
-        let Some(name) = text(word) else {
-            return None;
-        };
-        let Ok(()) = names.push(name) else {
-            return None;
-        };
-    }
-    Some(names)
+    errors
 }
 
 // Jobs, each its name and the number of its state.
-fn states(alloc: Global, more: &str) -> Option<Listed<JobState>> {
+fn states(alloc: Global, more: &str) -> Listed<JobState> {
     let mut states = Listed::new(alloc);
     for part in more.split(';') {
-        let Some(()) = add_state(part.trim(), &mut states) else {
-            return None;
-        };
+        if let Some((job, state)) = part.trim().split_once(' ') {
+            add_states(text(job), state, &mut states);
+        }
     }
-    Some(states)
+    states
 }
 
-fn add_state(part: &str, states: &mut Listed<JobState>) -> Option<()> {
-    if part.is_empty() {
-        return Some(());
+// So many jobs of a name and a state.
+fn add_states(job: Text80, state: &str, states: &mut Listed<JobState>) {
+    if let Some((state, count)) = counted(state) {
+        let state = state.parse::<u8>().unwrap_or(0);
+        for _ in 0..count {
+            let _ = states.push(JobState { job, state });
+        }
     }
-    let Some((one, count)) = counted(part) else {
-        return None;
-    };
-    let Some((job, state)) = one.split_once(' ') else {
-        return None;
-    };
-    let (Some(job), Ok(state)) = (text(job), state.parse::<u8>()) else {
-        return None;
-    };
-    for _ in 0..count {
-        let Ok(()) = states.push(JobState { job, state }) else {
-            return None;
-        };
-    }
-    Some(())
 }

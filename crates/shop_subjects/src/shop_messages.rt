@@ -37,22 +37,22 @@ impl Subject for ShopMessages {
 
 // Says a line; what is answered.
 fn say(alloc: Global, stream: u8, said: &str, answer: &mut String) -> Option<()> {
-    let Some((first, rest)) = said.split_once(' ') else {
-        return None;
-    };
-    match first {
-        "parts" => add_counted(alloc, stream, rest, ", ", answer),
-        "words" => add_counted(alloc, stream, rest, " ", answer),
-        "pairs" => add_counted(alloc, stream, rest, "0102", answer),
-        first => tell(alloc, stream, first, rest, answer),
+    match said.split_once(' ') {
+        Some(("parts", rest)) => add_counted(alloc, stream, rest, ", ", answer),
+        Some(("words", rest)) => add_counted(alloc, stream, rest, " ", answer),
+        Some(("pairs", rest)) => add_counted(alloc, stream, rest, "0102", answer),
+        _ => tell(alloc, stream, said, answer),
     }
 }
 
-fn tell(alloc: Global, stream: u8, first: &str, rest: &str, answer: &mut String) -> Option<()> {
-    match first {
-        "read" => add_read(alloc, stream, rest, answer),
-        "each" => add_each(alloc, stream, rest, answer),
-        "reply" => add_reply(alloc, stream, rest, answer),
+fn tell(alloc: Global, stream: u8, said: &str, answer: &mut String) -> Option<()> {
+    match said.split_once(' ') {
+        Some(("read", rest)) => add_read(alloc, stream, rest, answer),
+        Some(("each", rest)) => {
+            add_each(alloc, stream, rest, answer);
+            Some(())
+        }
+        Some(("reply", rest)) => add_reply(alloc, stream, rest, answer),
         _ => None,
     }
 }
@@ -65,40 +65,37 @@ fn add_counted(
     gap: &str,
     answer: &mut String,
 ) -> Option<()> {
-    let Some((first, rest)) = said.split_once(' ') else {
-        return None;
-    };
     let mut told = String::new(alloc);
-    let Some(()) = tell(alloc, stream, first, rest, &mut told) else {
+    let Some(()) = tell(alloc, stream, said, &mut told) else {
         return None;
     };
-    add_runs(told.as_str(), gap, answer)
+    add_runs(told.as_str(), gap, answer);
+    Some(())
 }
 
 // The parts of a text, those counted that stand several times in a row.
-fn add_runs(text: &str, gap: &str, answer: &mut String) -> Option<()> {
+fn add_runs(text: &str, gap: &str, answer: &mut String) {
     let mut last = "";
     let mut count: usize = 0;
     for part in text.split(gap) {
         if count > 0 && part == last {
             count = count.saturating_add(1);
         } else {
-            let Some(()) = add_run(last, count, gap, answer) else {
-                return None;
-            };
+            add_run(last, count, gap, answer);
             last = part;
             count = 1;
         }
     }
-    add_run(last, count, gap, answer)
+    add_run(last, count, gap, answer);
 }
 
 // A part that stands so many times, behind others.
-fn add_run(part: &str, count: usize, gap: &str, answer: &mut String) -> Option<()> {
+fn add_run(part: &str, count: usize, gap: &str, answer: &mut String) {
     let gap = if answer.is_empty() { "" } else { gap };
-    match count {
-        0 => Some(()),
-        1 => write!(answer, "{gap}{part}").ok(),
-        _ => write!(answer, "{gap}{part}*{count}").ok(),
+    if count > 0 {
+        let _ = write!(answer, "{gap}{part}");
+    }
+    if count > 1 {
+        let _ = write!(answer, "*{count}");
     }
 }

@@ -4,7 +4,7 @@
 //! system bytes as a decimal number, and its item, where it has one. `Select.req 1` is a control message with its system
 //! bytes. It follows the standard alone, and takes nothing of the tool: a fault of the tool's writers is not to be shared.
 
-use crate::item::item;
+use crate::spelled_item::item;
 use anyhow::{Result, bail, ensure};
 use std::alloc::{AllocError, Global};
 

@@ -6,11 +6,11 @@
 # Wanted: the binary item at no less than half of the copy's speed. The times are processor times, which a busy machine
 # changes little. This is a measurement. It is no test, and no part of the merge gate. Build the program first:
 #
-#     cd crates/item_bench && rt run
+#     cd crates/benches && rt run -- each
 set -euo pipefail
 cd "$(dirname "$0")/.."
 
-program=crates/item_bench/out/item_bench
+program=crates/benches/out/benches
 TIMEFORMAT='%U %S'
 
 if [ ! -x "$program" ]; then
@@ -21,8 +21,8 @@ fi
 # The processor time of so many readings or copies of an item, in seconds, and the time of none taken off.
 seconds() {
     local all none
-    all=$({ time "$program" "$1" "$2" "$3" > /dev/null; } 2>&1)
-    none=$({ time "$program" "$1" "$2" 0 > /dev/null; } 2>&1)
+    all=$({ time "$program" items "$1" "$2" "$3" > /dev/null; } 2>&1)
+    none=$({ time "$program" items "$1" "$2" 0 > /dev/null; } 2>&1)
     awk -v all="$all" -v none="$none" 'BEGIN { split(all, a); split(none, n); print a[1] + a[2] - n[1] - n[2] }'
 }
 
@@ -42,7 +42,7 @@ measure binary 16777219 60
 measure list 600004 60
 
 # Lists inside one another that announce what isn't there, with little memory.
-refused=$(ulimit -v 65536 && "$program" refuse hostile 100)
+refused=$(ulimit -v 65536 && "$program" items refuse hostile 100)
 if [ "$refused" != 100 ]; then
     echo "hostile: refused $refused times of 100, so memory was taken for what is not there" >&2
     exit 1

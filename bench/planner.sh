@@ -7,11 +7,11 @@
 # which a busy machine changes little. This is a measurement. It is no test, and no part of the merge gate. Build the program
 # first:
 #
-#     cd crates/planner_bench && rt run -- 25 4
+#     cd crates/benches && rt run -- each
 set -euo pipefail
 cd "$(dirname "$0")/.."
 
-program=crates/planner_bench/out/planner_bench
+program=crates/benches/out/benches
 rounds=400000
 work=$(mktemp -d)
 trap 'rm -rf "$work"' EXIT
@@ -24,7 +24,7 @@ fi
 
 # One line for the time for an answer with so many substrates, which is left in $nanoseconds.
 timing() {
-    { time "$program" "$1" "$rounds" > "$work/out"; } 2> "$work/time"
+    { time "$program" planner "$1" "$rounds" > "$work/out"; } 2> "$work/time"
     if [ "$(cat "$work/out")" != "$rounds" ]; then
         echo "the planner found $(cat "$work/out") picks in $rounds rounds" >&2
         exit 1

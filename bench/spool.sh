@@ -12,11 +12,11 @@
 # changes little. The memory is the peak of the program's pages in kilobytes, as the system counts it. This is a measurement.
 # It is no test, and no part of the merge gate. Build the program first:
 #
-#     cd crates/spool_bench && rt run
+#     cd crates/benches && rt run -- each
 set -euo pipefail
 cd "$(dirname "$0")/.."
 
-program=crates/spool_bench/out/spool_bench
+program=crates/benches/out/benches
 all=6553600
 work=$(mktemp -d)
 trap 'rm -rf "$work"' EXIT
@@ -42,7 +42,7 @@ whole() {
 # One line for the memory of 65,536 notes with texts of so many bytes.
 memory() {
     local bytes=$1
-    /usr/bin/time -o "$work/peak" -f '%M' "$program" 65536 "$bytes" 1 > "$work/out"
+    /usr/bin/time -o "$work/peak" -f '%M' "$program" spool 65536 "$bytes" 1 > "$work/out"
     whole 65536
     awk -v bytes="$bytes" 'END {
         own = 65536 * bytes / 1024
@@ -54,7 +54,7 @@ memory() {
 # One line for the time for a note in a spool of so many, which is left in $nanoseconds.
 timing() {
     local capacity=$1 rounds=$((all / $1))
-    { time "$program" "$capacity" 100 "$rounds" > "$work/out"; } 2> "$work/time"
+    { time "$program" spool "$capacity" 100 "$rounds" > "$work/out"; } 2> "$work/time"
     whole $((capacity * rounds))
     nanoseconds=$(awk -v notes=$((capacity * rounds)) 'END { printf "%.1f", ($1 + $2) * 1e9 / notes }' "$work/time")
     echo "a spool of $capacity: $nanoseconds nanoseconds a note"

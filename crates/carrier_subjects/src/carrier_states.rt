@@ -4,10 +4,35 @@
 //! number of the state behind it; `map` and `access` stand for tables 9 and 10. `first 9 2` tells whether row 2 of table 9
 //! starts at a carrier as it is created, and all its states then.
 
+use crate::names::small;
 use anyhow::{Result, bail};
 use carrier::{Accessing, CarrierRecord, IdState, MapState};
 use std::alloc::Global;
-use test_lines::{Subject, small, word, words};
+use test_lines::{Subject, words};
+
+// The states of each table, in the order of their numbers.
+const STATES: [CarrierRecord; 4] = [
+    CarrierRecord {
+        id: IdState::NotRead,
+        map: MapState::NotRead,
+        access: Accessing::NotAccessed,
+    },
+    CarrierRecord {
+        id: IdState::WaitingForHost,
+        map: MapState::WaitingForHost,
+        access: Accessing::InAccess,
+    },
+    CarrierRecord {
+        id: IdState::Verified,
+        map: MapState::Verified,
+        access: Accessing::Complete,
+    },
+    CarrierRecord {
+        id: IdState::VerificationFailed,
+        map: MapState::VerificationFailed,
+        access: Accessing::Stopped,
+    },
+];
 
 /// The states of a carrier.
 #[derive(Clone, Copy)]
@@ -16,72 +41,59 @@ pub struct CarrierStates;
 impl Subject for CarrierStates {
     fn answer(&mut self, alloc: Global, said: &str) -> Result<String> {
         let words = words(alloc, said)?;
-        let words = words.as_slice();
-        let row = small(words, 1)?;
-        match word(words, 0)? {
-            "id" => id_row(alloc, row),
-            "map" => map_row(alloc, row),
-            "access" => access_row(alloc, row),
-            "first" => first_fired(alloc, row, small(words, 2)?),
-            _ => bail!("it says nothing"),
+        let mut answer = String::new(alloc);
+        match say(words.as_slice(), &mut answer) {
+            Some(()) => Ok(answer),
+            None => bail!("it says nothing, or there is no memory"),
         }
     }
 }
 
-fn id_from(alloc: Global, id: IdState, row: u8) -> Result<String> {
-    let mut record = CarrierRecord {
-        id,
-        ..CarrierRecord::new()
+// Says the words of a line; the answer. None where they say nothing.
+fn say(words: &[&str], answer: &mut String) -> Option<()> {
+    let (Some(first), Some(row)) = (words.first(), small(words, 1)) else {
+        return None;
     };
-    let starts = record.fire(8, row);
-    Ok(format!(in alloc; "{starts} {}", record.id.number())?)
+    match *first {
+        "id" => add_fired(answer, 8, row),
+        "map" => add_fired(answer, 9, row),
+        "access" => add_fired(answer, 10, row),
+        "first" => match small(words, 2) {
+            Some(second) => add_first(answer, row, second),
+            None => None,
+        },
+        _ => None,
+    }
 }
 
-fn id_row(alloc: Global, row: u8) -> Result<String> {
-    let not_read = id_from(alloc, IdState::NotRead, row)?;
-    let waiting = id_from(alloc, IdState::WaitingForHost, row)?;
-    let verified = id_from(alloc, IdState::Verified, row)?;
-    let failed = id_from(alloc, IdState::VerificationFailed, row)?;
-    Ok(format!(in alloc; "{not_read}, {waiting}, {verified}, {failed}")?)
+// Whether a row starts from each state of its table, the others being those of a carrier as it is created, and the number of the
+// state behind it.
+fn add_fired(answer: &mut String, table: u8, row: u8) -> Option<()> {
+    let mut gap = "";
+    for states in STATES {
+        let mut record = CarrierRecord::new();
+        match table {
+            8 => record.id = states.id,
+            9 => record.map = states.map,
+            _ => record.access = states.access,
+        }
+        let starts = record.fire(table, row);
+        let number = match table {
+            8 => record.id.number(),
+            9 => record.map.number(),
+            _ => record.access.number(),
+        };
+        let Ok(()) = write!(answer, "{gap}{starts} {number}") else {
+            return None;
+        };
+        gap = ", ";
+    }
+    Some(())
 }
 
-fn map_from(alloc: Global, map: MapState, row: u8) -> Result<String> {
-    let mut record = CarrierRecord {
-        map,
-        ..CarrierRecord::new()
-    };
-    let starts = record.fire(9, row);
-    Ok(format!(in alloc; "{starts} {}", record.map.number())?)
-}
-
-fn map_row(alloc: Global, row: u8) -> Result<String> {
-    let not_read = map_from(alloc, MapState::NotRead, row)?;
-    let waiting = map_from(alloc, MapState::WaitingForHost, row)?;
-    let verified = map_from(alloc, MapState::Verified, row)?;
-    let failed = map_from(alloc, MapState::VerificationFailed, row)?;
-    Ok(format!(in alloc; "{not_read}, {waiting}, {verified}, {failed}")?)
-}
-
-fn access_from(alloc: Global, access: Accessing, row: u8) -> Result<String> {
-    let mut record = CarrierRecord {
-        access,
-        ..CarrierRecord::new()
-    };
-    let starts = record.fire(10, row);
-    Ok(format!(in alloc; "{starts} {}", record.access.number())?)
-}
-
-fn access_row(alloc: Global, row: u8) -> Result<String> {
-    let not_accessed = access_from(alloc, Accessing::NotAccessed, row)?;
-    let in_access = access_from(alloc, Accessing::InAccess, row)?;
-    let complete = access_from(alloc, Accessing::Complete, row)?;
-    let stopped = access_from(alloc, Accessing::Stopped, row)?;
-    Ok(format!(in alloc; "{not_accessed}, {in_access}, {complete}, {stopped}")?)
-}
-
-fn first_fired(alloc: Global, table: u8, row: u8) -> Result<String> {
+fn add_first(answer: &mut String, table: u8, row: u8) -> Option<()> {
     let mut record = CarrierRecord::new();
     let starts = record.fire(table, row);
-    let CarrierRecord { id, map, access } = record;
-    Ok(format!(in alloc; "{starts} {id:?} {map:?} {access:?}")?)
+    let (id, map, access) = (record.id, record.map, record.access);
+    write!(answer, "{starts} {id:?} {map:?} {access:?}").ok()
 }

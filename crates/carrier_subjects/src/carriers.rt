@@ -4,13 +4,13 @@
 //! A carrier stands as its name, and so many are known as C00, C01 and so on. A map stands as the code of all its slots
 //! where it is told, and as its 25 codes where it is answered.
 
-use crate::names::{action, carrier, numbered};
-use anyhow::{Result, bail, ensure};
+use crate::names::{action, carrier, numbered, small};
+use anyhow::{Result, bail};
 use carrier::{Carrier, CarrierAction, CarrierView, Carriers};
-use gem_ids::{PortNo, Text80};
+use gem_ids::{CarrierId, PortNo, Text80};
 use load_port::PortView;
 use std::alloc::Global;
-use test_lines::{Subject, nothing, small, word, words};
+use test_lines::{Subject, words};
 
 const FREE: PortView = PortView {
     present: false,
@@ -18,286 +18,330 @@ const FREE: PortView = PortView {
     carrier: None,
 };
 
-/// What the first port is like.
-#[derive(Clone, Copy)]
-enum FirstPort {
-    Free,
-    OutOfService,
-    Owned,
-    Occupied,
-}
-
-/// The carriers that the tool knows, and the first port.
+/// The carriers that the tool knows, the last number that was given, and the first port.
 #[derive(Drop)]
 pub struct KnownCarriers {
     carriers: Carriers,
     created: u64,
-    port: FirstPort,
+    port: PortView,
 }
 
 impl KnownCarriers {
     /// No carriers.
     pub fn new(alloc: Global) -> Result<KnownCarriers> {
-        Ok(KnownCarriers {
-            carriers: Carriers::new(alloc)?,
-            created: 0,
-            port: FirstPort::Free,
-        })
+        match Carriers::new(alloc) {
+            Ok(carriers) => Ok(KnownCarriers {
+                carriers,
+                created: 0,
+                port: FREE,
+            }),
+            Err(_) => bail!("there is no memory"),
+        }
     }
 }
 
 impl Subject for KnownCarriers {
     fn answer(&mut self, alloc: Global, said: &str) -> Result<String> {
         let words = words(alloc, said)?;
-        let words = words.as_slice();
-        match word(words, 0)? {
-            "known" => {
-                let count = small(words, 1)?;
-                self.carriers = filled(alloc, count)?;
-                self.created = count as u64;
-                nothing(alloc)
-            }
-            "port" => {
-                self.port = first_port(word(words, 1)?)?;
-                nothing(alloc)
-            }
-            "ask" => asked(alloc, &self.carriers, self.port, words),
-            "compare" | "usable" => Ok(format!(in alloc; "{}", compared(words)?)?),
-            "create" => self.create(alloc, words),
-            "fire" | "map" => changed(alloc, &mut self.carriers, words),
-            "len" | "place" | "name" | "finished" | "stopped" => told(alloc, &self.carriers, words),
-            "view" | "carrier" => shown(alloc, &self.carriers, words),
-            _ => {
-                happens(&mut self.carriers, words)?;
-                nothing(alloc)
-            }
+        let mut answer = String::new(alloc);
+        match say(alloc, self, words.as_slice(), &mut answer) {
+            Some(()) => Ok(answer),
+            None => bail!("it says nothing, or there is no memory"),
         }
     }
 }
 
-impl KnownCarriers {
-    // A carrier is created with the next number; the answer.
-    fn create(&mut self, alloc: Global, words: &[&str]) -> Result<String> {
-        self.created = self.created.saturating_add(1);
-        let created = self.carriers.create(self.created, carrier(words, 1)?);
-        Ok(format!(in alloc; "{created:?}")?)
+// Says the words of a line; the answer. None where they say nothing. What is marked stopped is a text, which need be no carrier's
+// name.
+fn say(
+    alloc: Global,
+    known: &mut KnownCarriers,
+    words: &[&str],
+    answer: &mut String,
+) -> Option<()> {
+    let Some(first) = words.first() else {
+        return None;
+    };
+    match *first {
+        "len" => write!(answer, "{}", known.carriers.len()).ok(),
+        "compare" | "usable" => add_compared(answer, words, *first == "usable"),
+        "ask" => add_asked(answer, &known.carriers, known.port, words),
+        "port" => match first_port(words) {
+            Some(port) => {
+                known.port = port;
+                Some(())
+            }
+            None => None,
+        },
+        "mark" => match name(words, 1) {
+            Some(name) => {
+                known.carriers.mark_stopped(name);
+                Some(())
+            }
+            None => None,
+        },
+        "known" | "name" | "finished" | "stopped" | "carrier" | "fire" => match small(words, 1) {
+            Some(place) => at(alloc, known, first, place, words, answer),
+            None => None,
+        },
+        first => match carrier(words, 1) {
+            Some(name) => of(known, first, name, words, answer),
+            None => None,
+        },
+    }
+}
+
+// What is done with so many carriers, or with the one at a place.
+fn at(
+    alloc: Global,
+    known: &mut KnownCarriers,
+    call: &str,
+    place: u8,
+    words: &[&str],
+    answer: &mut String,
+) -> Option<()> {
+    if call == "known" {
+        return fill(alloc, known, place);
+    }
+    let found = known.carriers.get(place as usize);
+    match (call, found) {
+        ("fire", _) => {
+            let (Some(table), Some(row)) = (small(words, 2), small(words, 3)) else {
+                return None;
+            };
+            let number = match found {
+                Some(carrier) => carrier.number,
+                None => 0,
+            };
+            write!(answer, "{}", known.carriers.fire(number, table, row)).ok()
+        }
+        ("name", Some(carrier)) => add_name(answer, carrier.name),
+        ("name", None) => answer.push_str("none").ok(),
+        ("carrier", Some(carrier)) => add_carrier(answer, &carrier),
+        ("stopped", Some(carrier)) => write!(answer, "{}", carrier.stopped).ok(),
+        (_, Some(carrier)) => write!(answer, "{}", carrier.states.is_finished()).ok(),
+        (_, None) => None,
     }
 }
 
 // So many carriers, named by their numbers from 0.
-fn filled(alloc: Global, count: u8) -> Result<Carriers> {
-    let mut carriers = Carriers::new(alloc)?;
+fn fill(alloc: Global, known: &mut KnownCarriers, count: u8) -> Option<()> {
+    let Ok(carriers) = Carriers::new(alloc) else {
+        return None;
+    };
+    known.carriers = carriers;
+    known.created = u64::from(count);
     for number in 0..count {
-        carriers.create(number as u64 + 1, numbered(number)?)?;
+        let Some(name) = numbered(number) else {
+            return None;
+        };
+        let Ok(()) = known.carriers.create(u64::from(number) + 1, name) else {
+            return None;
+        };
     }
-    Ok(carriers)
+    Some(())
 }
 
-fn first_port(word: &str) -> Result<FirstPort> {
-    match word {
-        "free" => Ok(FirstPort::Free),
-        "out" => Ok(FirstPort::OutOfService),
-        "owned" => Ok(FirstPort::Owned),
-        "occupied" => Ok(FirstPort::Occupied),
-        _ => bail!("there is no such port"),
+// What is done with the carrier of a name: it is created with the next number, bound to a port, comes to one with a map, is
+// forgotten, its map is read, or the host tells it; its place, and what is told of it.
+fn of(
+    known: &mut KnownCarriers,
+    call: &str,
+    name: CarrierId,
+    words: &[&str],
+    answer: &mut String,
+) -> Option<()> {
+    match call {
+        "create" => {
+            known.created = known.created.saturating_add(1);
+            write!(answer, "{:?}", known.carriers.create(known.created, name)).ok()
+        }
+        "place" => write!(answer, "{:?}", known.carriers.place_of(name.text())).ok(),
+        "view" => match known.carriers.find(name) {
+            Some(view) => add_view(answer, &view),
+            None => answer.push_str("none").ok(),
+        },
+        "forget" => {
+            known.carriers.forget(name);
+            Some(())
+        }
+        _ => match small(words, 2) {
+            Some(number) => happens(&mut known.carriers, call, name, number, words, answer),
+            None => None,
+        },
     }
 }
 
-// What carriers are told of the first port.
-fn view_of(port: FirstPort) -> Result<PortView> {
-    match port {
-        FirstPort::Free => Ok(FREE),
-        FirstPort::OutOfService => Ok(PortView {
+// What happens to a carrier by the number of a port or the code of its slots.
+fn happens(
+    carriers: &mut Carriers,
+    call: &str,
+    name: CarrierId,
+    number: u8,
+    words: &[&str],
+    answer: &mut String,
+) -> Option<()> {
+    match call {
+        "map" => write!(answer, "{}", carriers.map_read(name, [number; 25])).ok(),
+        "tell" => {
+            carriers.tell_map(name, [number; 25]);
+            Some(())
+        }
+        "bind" => {
+            carriers.direct(name, PortNo(number));
+            carriers.bind(name);
+            Some(())
+        }
+        "come" => match small(words, 3) {
+            Some(code) => {
+                carriers.come(name, PortNo(number), true, [code; 25]);
+                Some(())
+            }
+            None => None,
+        },
+        _ => None,
+    }
+}
+
+// What carriers are told of the first port that a line wants.
+fn first_port(words: &[&str]) -> Option<PortView> {
+    let (Some(word), Some(owner)) = (words.get(1), numbered(1)) else {
+        return None;
+    };
+    match *word {
+        "free" => Some(FREE),
+        "out" => Some(PortView {
             in_service: false,
             ..FREE
         }),
-        FirstPort::Owned => Ok(PortView {
-            carrier: Some(numbered(1)?),
+        "owned" => Some(PortView {
+            carrier: Some(owner),
             ..FREE
         }),
-        FirstPort::Occupied => Ok(PortView {
+        "occupied" => Some(PortView {
             present: true,
             ..FREE
         }),
+        _ => None,
     }
 }
 
 // Whether the host's map is that of a carrier, or a map is usable; each stands as its 25 codes.
-fn compared(words: &[&str]) -> Result<bool> {
-    let mut carrier = Carrier::new(1, numbered(1)?);
-    carrier.map = codes(word(words, 1)?)?;
-    if word(words, 0)? == "usable" {
-        return Ok(carrier.is_usable());
-    }
-    let host_map = word(words, 2)?;
-    if host_map != "none" {
-        carrier.host_map = Some(codes(host_map)?);
-    }
-    Ok(carrier.is_host_map())
+fn add_compared(answer: &mut String, words: &[&str], is_usable: bool) -> Option<()> {
+    let (Some(name), Some(map)) = (numbered(1), codes(words, 1)) else {
+        return None;
+    };
+    let mut carrier = Carrier::new(1, name);
+    carrier.map = map;
+    carrier.host_map = codes(words, 2);
+    let holds = if is_usable {
+        carrier.is_usable()
+    } else {
+        carrier.is_host_map()
+    };
+    write!(answer, "{holds}").ok()
 }
 
-fn codes(word: &str) -> Result<[u8; 25]> {
-    ensure!(word.len() == 25, "a map has 25 codes");
+// The 25 codes at a place of a line. None where no 25 stand there.
+fn codes(words: &[&str], place: usize) -> Option<[u8; 25]> {
+    let Some(word) = words.get(place) else {
+        return None;
+    };
+    if word.len() != 25 {
+        return None;
+    }
     let mut codes = [0; 25];
     for (code, digit) in codes.iter_mut().zip(word.bytes()) {
         *code = digit.saturating_sub(b'0');
     }
-    Ok(codes)
+    Some(codes)
 }
 
 // What the host is answered: an action, a carrier, a port, and whether an attribute is faulty or a job names the
 // carrier.
-fn asked(alloc: Global, carriers: &Carriers, port: FirstPort, words: &[&str]) -> Result<String> {
+fn add_asked(
+    answer: &mut String,
+    carriers: &Carriers,
+    first: PortView,
+    words: &[&str],
+) -> Option<()> {
+    let parts = (action(words, 1), name(words, 2), small(words, 3));
+    let (Some(word), Some(id), Some(port)) = parts else {
+        return None;
+    };
     let action = CarrierAction {
-        word: action(word(words, 1)?)?,
-        id: name(word(words, 2)?)?,
-        port: small(words, 3)?,
+        word,
+        id,
+        port,
         map: None,
         bad_attr: words.get(4) == Some(&"faulty"),
     };
     let is_job = words.get(4) == Some(&"job");
-    let code = carriers.verdict(&[view_of(port)?, FREE], &action, is_job);
-    Ok(format!(in alloc; "{code}")?)
+    write!(
+        answer,
+        "{}",
+        carriers.verdict(&[first, FREE], &action, is_job)
+    )
+    .ok()
 }
 
-// The name that a word is; two quotes stand for that of no bytes.
-fn name(word: &str) -> Result<Text80> {
-    if word == "''" {
-        Ok(Text80::empty())
-    } else {
-        Ok(Text80::read(word.as_bytes())?)
-    }
-}
-
-// What the carriers answer that may change: a row at the carrier of a place, or a map that is read.
-fn changed(alloc: Global, carriers: &mut Carriers, words: &[&str]) -> Result<String> {
-    match word(words, 0)? {
-        "fire" => {
-            let number = number_at(carriers, small(words, 1)?);
-            let fires = carriers.fire(number, small(words, 2)?, small(words, 3)?);
-            Ok(format!(in alloc; "{fires}")?)
-        }
-        _ => {
-            let read = carriers.map_read(carrier(words, 1)?, [small(words, 2)?; 25]);
-            Ok(format!(in alloc; "{read}")?)
-        }
+// The name at a place of a line; two quotes stand for that of no bytes.
+fn name(words: &[&str], place: usize) -> Option<Text80> {
+    match words.get(place) {
+        Some(word) if *word == "''" => Some(Text80::empty()),
+        Some(word) => Text80::read(word.as_bytes()).ok(),
+        None => None,
     }
 }
 
-// The number of the carrier at a place, 0 for none.
-fn number_at(carriers: &Carriers, place: u8) -> u64 {
-    match carriers.get(place as usize) {
-        Some(carrier) => carrier.number,
-        None => 0,
-    }
-}
-
-// What happens to a carrier: it is bound to a port, comes to one with a map, is forgotten, or the host tells its map; or the
-// one of a text, which need be no carrier's name, is marked stopped.
-fn happens(carriers: &mut Carriers, words: &[&str]) -> Result<()> {
-    if word(words, 0)? == "mark" {
-        carriers.mark_stopped(name(word(words, 1)?)?);
-        return Ok(());
-    }
-    let name = carrier(words, 1)?;
-    match word(words, 0)? {
-        "bind" => {
-            carriers.direct(name, PortNo(small(words, 2)?));
-            carriers.bind(name);
-        }
-        "come" => {
-            let port = PortNo(small(words, 2)?);
-            carriers.come(name, port, true, [small(words, 3)?; 25]);
-        }
-        "tell" => carriers.tell_map(name, [small(words, 2)?; 25]),
-        "forget" => carriers.forget(name),
-        _ => bail!("it says nothing"),
-    }
-    Ok(())
-}
-
-// How many carriers are known, the place of a carrier, the name at a place, or whether the carrier there is marked stopped or
-// finished.
-fn told(alloc: Global, carriers: &Carriers, words: &[&str]) -> Result<String> {
-    match word(words, 0)? {
-        "len" => Ok(format!(in alloc; "{}", carriers.len())?),
-        "place" => {
-            let place = carriers.place_of(carrier(words, 1)?.text());
-            Ok(format!(in alloc; "{place:?}")?)
-        }
-        "name" => name_of(alloc, carriers.get(small(words, 1)? as usize)),
-        "stopped" => {
-            let carrier = at(carriers, small(words, 1)?)?;
-            Ok(format!(in alloc; "{}", carrier.stopped)?)
-        }
-        _ => {
-            let carrier = at(carriers, small(words, 1)?)?;
-            Ok(format!(in alloc; "{}", carrier.states.is_finished())?)
-        }
-    }
-}
-
-fn name_of(alloc: Global, carrier: Option<Carrier>) -> Result<String> {
-    match carrier {
-        Some(carrier) => Ok(String::from_utf8_lossy(alloc, carrier.name.as_bytes())?),
-        None => Ok(format!(in alloc; "none")?),
-    }
-}
-
-fn at(carriers: &Carriers, place: u8) -> Result<Carrier> {
-    match carriers.get(place as usize) {
-        Some(carrier) => Ok(carrier),
-        None => bail!("no carrier is at the place"),
-    }
-}
-
-// What is told of a carrier, or all that is known of the one at a place.
-fn shown(alloc: Global, carriers: &Carriers, words: &[&str]) -> Result<String> {
-    if word(words, 0)? == "carrier" {
-        return carrier_text(alloc, &at(carriers, small(words, 1)?)?);
-    }
-    match carriers.find(carrier(words, 1)?) {
-        Some(view) => view_text(alloc, &view),
-        None => Ok(format!(in alloc; "none")?),
+fn add_name(answer: &mut String, name: CarrierId) -> Option<()> {
+    match str::from_utf8(name.as_bytes()) {
+        Ok(name) => answer.push_str(name).ok(),
+        Err(_) => None,
     }
 }
 
 // The states of the id, of the map and of accessing, the map, the port, and whether the carrier is present and bound.
-fn view_text(alloc: Global, view: &CarrierView) -> Result<String> {
-    let states = format!(in alloc;
-        "{} {} {}",
-        view.id_state, view.map_state, view.access_state
-    )?;
-    let map = map_text(alloc, Some(view.map))?;
-    let port = port_text(alloc, view.port)?;
-    Ok(format!(in alloc; "{states} {map} {port} {} {}", view.present, view.bound)?)
+fn add_view(answer: &mut String, view: &CarrierView) -> Option<()> {
+    let (id, map, access) = (view.id_state, view.map_state, view.access_state);
+    let Ok(()) = write!(answer, "{id} {map} {access} ") else {
+        return None;
+    };
+    let Some(()) = add_map(answer, Some(view.map)) else {
+        return None;
+    };
+    match view.port {
+        Some(port) => write!(answer, "{} {} {}", port.0, view.present, view.bound).ok(),
+        None => write!(answer, "none {} {}", view.present, view.bound).ok(),
+    }
 }
 
-// The name, whether the id was read, the map of the host, the three states, the map, the port, and whether the carrier is
-// present, bound and marked stopped.
-fn carrier_text(alloc: Global, carrier: &Carrier) -> Result<String> {
-    let name = name_of(alloc, Some(*carrier))?;
-    let read = carrier.is_read;
-    let host_map = map_text(alloc, carrier.host_map)?;
-    let view = view_text(alloc, &carrier.view())?;
-    let stopped = carrier.stopped;
-    Ok(format!(in alloc; "{name} {read} {host_map} {view} {stopped}")?)
+// The name, whether the id was read, the map of the host, what is told of the carrier, and whether it is marked stopped.
+fn add_carrier(answer: &mut String, carrier: &Carrier) -> Option<()> {
+    let Some(()) = add_name(answer, carrier.name) else {
+        return None;
+    };
+    let Ok(()) = write!(answer, " {} ", carrier.is_read) else {
+        return None;
+    };
+    let Some(()) = add_map(answer, carrier.host_map) else {
+        return None;
+    };
+    let Some(()) = add_view(answer, &carrier.view()) else {
+        return None;
+    };
+    write!(answer, " {}", carrier.stopped).ok()
 }
 
-fn map_text(alloc: Global, map: Option<[u8; 25]>) -> Result<String> {
-    let mut text = String::new(alloc);
+// The code of each slot, and a space.
+fn add_map(answer: &mut String, map: Option<[u8; 25]>) -> Option<()> {
     let Some(codes) = map else {
-        return Ok(format!(in alloc; "none")?);
+        return answer.push_str("none ").ok();
     };
     for code in codes {
-        text.push_str(format!(in alloc; "{code}")?.as_str())?;
+        let Ok(()) = write!(answer, "{code}") else {
+            return None;
+        };
     }
-    Ok(text)
-}
-
-fn port_text(alloc: Global, port: Option<PortNo>) -> Result<String> {
-    match port {
-        Some(port) => Ok(format!(in alloc; "{}", port.0)?),
-        None => Ok(format!(in alloc; "none")?),
-    }
+    answer.push_str(" ").ok()
 }

@@ -1,7 +1,7 @@
 //! The files of the folder that a program of tests is run in. Begin with `Player` and `play_folder`.
 
 use crate::script::{Section, read, read_input};
-use anyhow::{Result, ensure};
+use anyhow::{Result, bail};
 use std::alloc::Global;
 use std::fs;
 use std::process::ExitCode;
@@ -23,6 +23,24 @@ fn names(rt: &HostRuntime) -> Result<Vec<String>> {
     Ok(names)
 }
 
+/// Plays a conversation, and tells whether it went as it is written.
+fn is_played<P: Player>(
+    rt: &HostRuntime,
+    player: &P,
+    file: &str,
+    section: &Section<'_>,
+) -> Result<bool> {
+    match player.play(rt.alloc(), section) {
+        Ok(None) => Ok(true),
+        Ok(Some(why)) => {
+            let name = section.name;
+            let _ = eprintln!(rt; "{file}, {name}: {why}");
+            Ok(false)
+        }
+        Err(why) => Err(why),
+    }
+}
+
 /// Plays these sections, and tells how many are conversations, and how many of them went otherwise than they are written.
 fn play_all<P: Player>(
     rt: &HostRuntime,
@@ -35,10 +53,10 @@ fn play_all<P: Player>(
     for section in sections {
         if !section.is_part {
             count = count.saturating_add(1);
-            if let Some(why) = player.play(rt.alloc(), section)? {
-                failed = failed.saturating_add(1);
-                let name = section.name;
-                eprintln!(rt; "{file}, {name}: {why}")?;
+            match is_played(rt, player, file, section) {
+                Ok(true) => {}
+                Ok(false) => failed = failed.saturating_add(1),
+                Err(why) => return Err(why),
             }
         }
     }
@@ -47,10 +65,12 @@ fn play_all<P: Player>(
 
 /// The text of the configuration that stands beside a file: `NAME.toml` beside `NAME.lines`. It is empty where there is none.
 fn configuration_beside(rt: &HostRuntime, names: &[String], file: &str) -> Result<String> {
-    if let Some(name) = file.strip_suffix(".lines") {
-        let beside = format!(in rt.alloc(); "{name}.toml")?;
-        if names.iter().any(|other| other.as_str() == beside.as_str()) {
-            return Ok(fs::read_to_string(rt, beside.as_str())?);
+    let Some(name) = file.strip_suffix(".lines") else {
+        return Ok(String::new(rt.alloc()));
+    };
+    for other in names {
+        if other.as_str().strip_suffix(".toml") == Some(name) {
+            return Ok(fs::read_to_string(rt, other.as_str())?);
         }
     }
     Ok(String::new(rt.alloc()))
@@ -64,12 +84,51 @@ fn sections<'a>(
     text: &'a str,
     configuration: &'a str,
 ) -> Result<Vec<Section<'a>>> {
-    if !file.ends_with(".lines") {
+    if file.strip_suffix(".lines").is_none() {
         return read(alloc, text);
     }
-    let mut sections = Vec::new(alloc);
-    sections.push(read_input(alloc, file, text, configuration)?)?;
-    Ok(sections)
+    match read_input(alloc, file, text, configuration) {
+        Ok(section) => Ok(vec![in alloc; section]?),
+        Err(why) => Err(why),
+    }
+}
+
+/// Plays these sections of a file, and tells whether all conversations went as they are written.
+fn play_sections<P: Player>(
+    rt: &HostRuntime,
+    player: &P,
+    file: &str,
+    sections: &[Section<'_>],
+) -> Result<bool> {
+    let (count, failed) = match play_all(rt, player, file, sections) {
+        Ok(counts) => counts,
+        Err(why) => return Err(why),
+    };
+    let told = match (count, failed) {
+        (0, _) => bail!("no conversation"),
+        (1, 0) => println!(rt; "{file}: 1 conversation"),
+        (1, _) => println!(rt; "{file}: 1 conversation, of which {failed} failed"),
+        (_, 0) => println!(rt; "{file}: {count} conversations"),
+        _ => println!(rt; "{file}: {count} conversations, of which {failed} failed"),
+    };
+    match told {
+        Ok(()) => Ok(failed == 0),
+        Err(_) => bail!("its line cannot be printed"),
+    }
+}
+
+/// Plays the conversations of a file of this name and text, under the configuration beside it.
+fn play_text<P: Player>(
+    rt: &HostRuntime,
+    player: &P,
+    file: &str,
+    text: &str,
+    configuration: &str,
+) -> Result<bool> {
+    match sections(rt.alloc(), file, text, configuration) {
+        Ok(sections) => play_sections(rt, player, file, sections.as_slice()),
+        Err(why) => Err(why),
+    }
 }
 
 /// Plays the conversations of a file, and tells whether all of them went as they are written.
@@ -80,55 +139,44 @@ fn play_file<P: Player>(
     file: &str,
 ) -> Result<bool> {
     let text = fs::read_to_string(rt, file)?;
-    let configuration = configuration_beside(rt, names, file)?;
-    let sections = sections(rt.alloc(), file, text.as_str(), configuration.as_str())?;
-    let (count, failed) = play_all(rt, player, file, sections.as_slice())?;
-    ensure!(count > 0, "no conversation");
-    let noun = if count == 1 {
-        "conversation"
-    } else {
-        "conversations"
-    };
-    if failed > 0 {
-        println!(rt; "{file}: {count} {noun}, of which {failed} failed")?;
-        return Ok(false);
+    match configuration_beside(rt, names, file) {
+        Ok(configuration) => { play_text(rt, player, file, text.as_str(), configuration.as_str()) }
+        Err(why) => Err(why),
     }
-    println!(rt; "{file}: {count} {noun}")?;
-    Ok(true)
 }
 
 /// The same, where a file that cannot be read counts as one of which a conversation failed.
-fn is_well<P: Player>(rt: &HostRuntime, player: &P, names: &[String], file: &str) -> Result<bool> {
+fn is_well<P: Player>(rt: &HostRuntime, player: &P, names: &[String], file: &str) -> bool {
     match play_file(rt, player, names, file) {
-        Ok(well) => Ok(well),
+        Ok(well) => well,
         Err(why) => {
-            eprintln!(rt; "{file}: {why:#}")?;
-            Ok(false)
+            let _ = eprintln!(rt; "{file}: {why:#}");
+            false
         }
     }
 }
 
 /// Plays all files, and tells whether there is one and all went well.
-fn run<P: Player>(rt: &HostRuntime, player: &P) -> Result<bool> {
-    let names = names(rt)?;
+fn are_well<P: Player>(rt: &HostRuntime, player: &P, names: &[String]) -> bool {
     let mut well = !names.is_empty();
-    for name in names.iter() {
-        let is_configuration = name.as_str().ends_with(".toml");
-        if !is_configuration && !is_well(rt, player, names.as_slice(), name.as_str())? {
+    for name in names {
+        let file = name.as_str();
+        if file.strip_suffix(".toml").is_none() && !is_well(rt, player, names, file) {
             well = false;
         }
     }
-    Ok(well)
+    well
 }
 
 /// Plays each file of the folder in which a program is run, in the order of their names, and prints a line for each: its
 /// name, and how many conversations it has. A file whose name ends in `.lines` is what the tool itself is given, and one
-/// conversation; one of the same name that ends in `.toml` is its configuration. Where a file cannot be read, or has no conversation, or one of them goes otherwise than it is written,
-/// standard error tells which and where, and the status is 1; so it is where there is no file.
+/// conversation; one of the same name that ends in `.toml` is its configuration. Where a file cannot be read, or has no
+/// conversation, or one of them goes otherwise than it is written, standard error tells which and where, and the status is 1; so it
+/// is where there is no file.
 pub fn play_folder<P: Player>(rt: &HostRuntime, player: &P) -> ExitCode {
-    match run(rt, player) {
-        Ok(true) => ExitCode::SUCCESS,
-        Ok(false) => ExitCode::FAILURE,
+    match names(rt) {
+        Ok(names) if are_well(rt, player, names.as_slice()) => ExitCode::SUCCESS,
+        Ok(_) => ExitCode::FAILURE,
         Err(why) => {
             let _ = eprintln!(rt; "{why:#}");
             ExitCode::FAILURE

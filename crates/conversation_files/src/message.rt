@@ -4,9 +4,10 @@
 //! system bytes as a decimal number, and its item, where it has one. `Select.req 1` is a control message with its system
 //! bytes. It follows the standard alone, and takes nothing of the tool: a fault of the tool's writers is not to be shared.
 
-use crate::item::item;
-use anyhow::{Result, bail, ensure};
-use std::alloc::{AllocError, Global};
+use crate::fault::Fault;
+use crate::spelled_item::bytes_of;
+use anyhow::{Result, bail};
+use std::alloc::Global;
 
 /// What a header has in front of its system bytes: the session id, bytes 2 and 3, the PType and the SType.
 type Front = [u8; 6];
@@ -14,9 +15,15 @@ type Front = [u8; 6];
 /// The front of a data message to device 0: the W-bit is the uppermost of byte 2, which has the stream, and byte 3 is
 /// the function (SEMI E37, data message).
 fn data_front(name: &str, is_reply_wanted: bool) -> Option<Front> {
-    let (stream, function) = name.strip_prefix('S')?.split_once('F')?;
-    let stream = stream.parse::<u8>().ok()?;
-    let function = function.parse::<u8>().ok()?;
+    let Some(numbers) = name.strip_prefix('S') else {
+        return None;
+    };
+    let Some((stream, function)) = numbers.split_once('F') else {
+        return None;
+    };
+    let (Ok(stream), Ok(function)) = (stream.parse::<u8>(), function.parse::<u8>()) else {
+        return None;
+    };
     if stream > 127 {
         return None;
     }
@@ -39,61 +46,105 @@ fn stype(name: &str) -> Option<u8> {
 }
 
 /// Adds bytes as hex digits.
-fn push_hex(text: &mut String, bytes: &[u8]) -> Result<(), AllocError> {
+fn push_hex(text: &mut String, bytes: &[u8]) -> Option<()> {
     for byte in bytes {
-        write!(text, "{byte:02X}")?;
+        let Ok(()) = write!(text, "{byte:02X}") else {
+            return None;
+        };
     }
-    Ok(())
+    Some(())
 }
 
-/// The frame of this front, these system bytes and this item, in hex digits; the length counts the header's ten bytes and
+/// Adds the frame of this front, these system bytes and this item, in hex digits; the length counts the header's ten bytes and
 /// the item.
-fn frame(alloc: Global, front: Front, system: &str, item: &[u8]) -> Result<String> {
-    let Ok(system) = system.parse::<u32>() else {
-        bail!("{system} is no number of system bytes");
+fn add_frame<'a>(
+    text: &mut String,
+    front: Front,
+    system: &'a str,
+    item: &[u8],
+) -> Result<(), Fault<'a>> {
+    let Ok(number) = system.parse::<u32>() else {
+        return Err(Fault {
+            word: system,
+            why: " is no number of system bytes",
+        });
     };
     let Ok(length) = u32::try_from(item.len().saturating_add(10)) else {
-        bail!("the item is too long");
+        return Err(Fault {
+            word: "",
+            why: "the item is too long",
+        });
     };
-    let mut text = String::new(alloc);
-    push_hex(&mut text, &length.to_be_bytes())?;
-    push_hex(&mut text, &front)?;
-    push_hex(&mut text, &system.to_be_bytes())?;
-    push_hex(&mut text, item)?;
-    Ok(text)
+    let [a, b, c, d] = length.to_be_bytes();
+    let [e, f, g, h, i, j] = front;
+    let [k, l, m, n] = number.to_be_bytes();
+    let head = [a, b, c, d, e, f, g, h, i, j, k, l, m, n];
+    match (push_hex(text, &head), push_hex(text, item)) {
+        (Some(()), Some(())) => Ok(()),
+        _ => Err(Fault {
+            word: "",
+            why: "there is no memory",
+        }),
+    }
 }
 
-/// The data message with this name and these words behind it.
-fn data(alloc: Global, name: &str, words: &str) -> Result<String> {
-    let (is_reply_wanted, words) = match words.strip_prefix("W ") {
-        Some(words) => (true, words),
-        None => (false, words),
-    };
-    let Some(front) = data_front(name, is_reply_wanted) else {
-        bail!("{name} is no message");
+/// Adds the data message with this name and these words behind it.
+fn add_data<'a>(
+    alloc: Global,
+    text: &mut String,
+    name: &'a str,
+    words: &'a str,
+) -> Result<(), Fault<'a>> {
+    let after_w = words.strip_prefix("W ");
+    let words = after_w.unwrap_or(words);
+    let Some(front) = data_front(name, after_w.is_some()) else {
+        return Err(Fault {
+            word: name,
+            why: " is no message",
+        });
     };
     match words.split_once(' ') {
-        Some((system, words)) => frame(alloc, front, system, item(alloc, words)?.as_slice()),
-        None => frame(alloc, front, words, &[]),
+        Some((system, words)) => match bytes_of(alloc, words) {
+            Ok(item) => add_frame(text, front, system, item.as_slice()),
+            Err(fault) => Err(fault),
+        },
+        None => add_frame(text, front, words, &[]),
+    }
+}
+
+/// Adds the frame that these words say, in hex digits.
+pub fn add_spelled<'a>(alloc: Global, text: &mut String, words: &'a str) -> Result<(), Fault<'a>> {
+    let Some((name, words)) = words.split_once(' ') else {
+        return Err(Fault {
+            word: "",
+            why: "it is neither whole bytes in hex digits nor a message with its system bytes",
+        });
+    };
+    match stype(name) {
+        Some(_) if words.contains(' ') => Err(Fault {
+            word: "",
+            why: "a control message has no item",
+        }),
+        Some(stype) => add_frame(text, [0xFF, 0xFF, 0, 0, 0, stype], words, &[]),
+        None => add_data(alloc, text, name, words),
     }
 }
 
 /// The frame that these words say, in hex digits. The error tells what of them cannot be read.
 pub fn spelled(alloc: Global, words: &str) -> Result<String> {
-    let Some((name, words)) = words.split_once(' ') else {
-        bail!("it is neither whole bytes in hex digits nor a message with its system bytes");
-    };
-    if let Some(stype) = stype(name) {
-        ensure!(!words.contains(' '), "a control message has no item");
-        return frame(alloc, [0xFF, 0xFF, 0, 0, 0, stype], words, &[]);
+    let mut text = String::new(alloc);
+    match add_spelled(alloc, &mut text, words) {
+        Ok(()) => Ok(text),
+        Err(fault) => bail!("{}{}", fault.word, fault.why),
     }
-    data(alloc, name, words)
 }
 
 /// Whether these are the hex digits of whole bytes.
 pub fn is_hex(text: &str) -> bool {
-    let is_digits = text
-        .bytes()
-        .all(|letter| matches!(letter, b'0'..=b'9' | b'A'..=b'F'));
-    is_digits && !text.is_empty() && text.len() % 2 == 0
+    for letter in text.bytes() {
+        if !matches!(letter, b'0'..=b'9' | b'A'..=b'F') {
+            return false;
+        }
+    }
+    !text.is_empty() && text.len() % 2 == 0
 }

@@ -12,11 +12,12 @@ ghost use Rattle.host_requests.specs.Verdicts.{message_view, HasFew};
 
 use crate::messages::{Done, perform, reply_text};
 use crate::verdict::verdict_of;
-use core_state::{Plant, by_comm};
+use core_state::Plant;
 use gem_states::{CommTrigger, ControlTrigger};
 use host_requests::{HostMsg, Verdict, header_of, item_of, stream_of, wants_reply};
 use hsms_frame::{Arrival, Bytes, Header};
 use msgs_gem::accepts_communication;
+use plant_parts::by_comm;
 use std::alloc::{AllocError, Global};
 use transactions::What;
 

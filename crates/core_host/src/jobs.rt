@@ -1,11 +1,10 @@
 //! What the host asks of process jobs and control jobs (SEMI E40, S16F5, S16F11, S16F17, S16F19 and S16F21; SEMI E94, S14F9 and
 //! S16F27): what it is answered, and what is done. Why something isn't done is told by the jobs before the message.
-ghost use Rattle.std.specs.Prelude.{◌≡◌, ◌≤◌, None, map, length, option_map, option_to_list, true, false, OnOk, IfOk};
-ghost use Rattle.std.specs.Str.{bytes_eq};
+ghost use Rattle.std.specs.Prelude.{◌≡◌, ◌≤◌, None, map, length, option_to_list, true, false, OnOk, IfOk};
 ghost use Rattle.secs_items.specs.View.{view};
 ghost use Rattle.process_job.specs.Creating.{create_fault};
 ghost use Rattle.process_job.specs.Jobs.{most_jobs};
-ghost use Rattle.control_job.specs.Jobs.{job_named as control_named, headed};
+ghost use Rattle.control_job.specs.Jobs.{headed};
 ghost use Rattle.tool_jobs.specs.Creating.{with_process, with_control, control_fault, is_any_missing};
 ghost use Rattle.job_requests.specs.Acts.{act_after, act_rows};
 ghost use Rattle.job_requests.specs.Requests.{is_job_name, asked_process, process_rows, asked_control, control_rows, command_rows, cancel_error, names_error, cancelled};
@@ -14,14 +13,13 @@ ghost use Rattle.gem_model.specs.JobMessages.{errors_of, acknowledged, object_ac
 ghost use Rattle.core_host.specs.Dones.{done_view, CanBeSent};
 
 use crate::messages::{Done, HostReply};
-use control_job::ControlJobs;
 use core_state::Plant;
-use gem_ids::{JobId, Listed, Text80};
+use gem_ids::{Listed, Text80};
 use gem_states::Control;
 use gem_tables::Firing;
 use job_requests::{
     ControlRequest, JobError, QueueAct, cancel_error, cancel_rows, cancelled, command_error,
-    command_row, control_command, control_command_error, control_error, control_names,
+    command_row, control_command, control_command_error, control_error, control_id, control_names,
     control_request, control_row, job_name, process_error, process_row, process_spec,
 };
 use msgs_300::{
@@ -332,27 +330,6 @@ fn make_head(plant: &mut Plant, job: Text80)
     if let Some(id) = control_id(plant.jobs().control(), job) {
         plant.head_of_queue(id);
     }
-}
-
-// The control job of a name, by its own name. `None` exactly where none of the name is kept.
-fn control_id(control: &ControlJobs, name: Text80) -> Option<JobId>
-    ensures { result ≡ option_map (λ j. j.name) (control_named name control.now.jobs) }
-{
-    for place in 0..control.len() {
-        if let Some(job) = control.at(place) {
-            if is_same(job.name, name) {
-                return Some(job.name);
-            }
-        }
-    }
-    None
-}
-
-// Whether the name of a job is of these bytes.
-fn is_same(id: JobId, name: Text80) -> bool
-    ensures { result ≡ bytes_eq id name }
-{
-    id.as_bytes() == name.as_bytes()
 }
 
 // ---- parts

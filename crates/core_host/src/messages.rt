@@ -16,13 +16,14 @@ ghost use Rattle.core_host.specs.Dones.{done_view, reply_view, CanBeSent};
 use crate::remote::command;
 use crate::shop::shop_done;
 use crate::spooling::spool_streams;
-use core_state::{Plant, by_comm, part, reply_text as gem_text, shop_text, unload_row};
+use core_state::Plant;
 use gem_states::{CommTrigger, Control, ControlTrigger};
 use gem_tables::Firing;
 use host_requests::{HostMsg, moment_in, tiack};
 use hsms_frame::Bytes;
 use msgs_300::ShopReply;
 use msgs_gem::{GemMsg, GemReply, Identity};
+use plant_parts::{by_comm, part, reply_text as gem_text, shop_text, unload_row};
 use std::alloc::{AllocError, Global};
 
 /// A reply of the tool.

@@ -7,11 +7,12 @@ ghost use Rattle.gem_model.specs.Due.{dues, timeouts, all_done, is_due};
 ghost use Rattle.gem_model.specs.Act.{session_ended};
 ghost use Rattle.gem_model.specs.Step.{ended_by, end_now};
 
-use core_state::{Plant, by_comm, data_header, note_fails};
+use core_state::Plant;
 use gem_ids::Moment;
 use gem_states::{CommTrigger, ControlTrigger};
 use gem_tables::Firing;
 use hsms_link::{LinkDue, has_come};
+use plant_parts::{by_comm, data_header, note_fails};
 use std::alloc::{AllocError, Global};
 use tool_events::{SessionCause, SessionEnd};
 use transactions::{Open, What};

@@ -17,11 +17,12 @@ use crate::clock::end_for;
 use crate::reaction::Reaction;
 use crate::signals::module_alarm;
 use arrayvec::ArrayVec;
-use core_state::{Plant, by_comm};
+use core_state::Plant;
 use gem_ids::{JobId, ModuleId, PortNo};
 use gem_states::{CommTrigger, ControlTrigger};
 use gem_tables::Firing;
 use job_requests::{QueueAct, command_row, control_command};
+use plant_parts::by_comm;
 use std::alloc::{AllocError, Global};
 use tool_events::{Answer, JobWord, OperCmd, SessionCause};
 

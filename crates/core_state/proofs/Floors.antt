@@ -1,7 +1,6 @@
 -- The rows of the load ports, the carriers and the modules, as the plant fires them.
-use Rattle.std.proofs.Common.{drop, get_or, drop-cons, add-one, append_assoc, ◌++◌, ◌+◌, ◌<◌, zero, suc, ◌≡◌, ℕ, ◌==◌, ◌≤◌, ◌&&◌, not, length, take, Bool, true, false, if◌then◌else◌, List, [], ◌∷◌, Option, Some, None, is_some, refl, sym, ◌∙◌, ap, subst, arith}
+use Rattle.std.proofs.Common.{drop, get_or, drop-cons, add-one, ◌++◌, ◌+◌, ◌<◌, zero, suc, ◌≡◌, ℕ, ◌==◌, ◌≤◌, ◌&&◌, not, length, take, Bool, true, false, if◌then◌else◌, List, [], ◌∷◌, Option, Some, None, is_some, refl, sym, ◌∙◌, ap, subst, arith}
 use Rattle.std.specs.Option.{option_or}
-use Rattle.std.proofs.lemmas.List.{append-nil}
 use Rattle.std.specs.List.{AllByRecursion}
 use Rattle.std.proofs.lemmas.Bool.Decides.{nat_tests}
 use Rattle.gem_tables.specs.Table.{firing}
@@ -15,7 +14,6 @@ use Rattle.gem_model.specs.Noting.{noted_as}
 use Rattle.gem_model.specs.Machines.{row_starts, takes_effect, creations, object_name, fire_floor}
 use Rattle.gem_model.specs.Fire.{fire, advanced, fire_listed}
 use Rattle.gem_model.specs.Direct.{Are, IsListed}
-use Rattle.shop_floor.specs.Requests.{at_ports}
 use Rattle.gem_model.specs.Ready.{ready_floor}
 use Rattle.gem_model.proofs.FloorRows.{IsFloorRow, effect_is, starts_is, creations_is, object_is}
 use Rattle.gem_model.proofs.OnFloor.{creations_as}
@@ -169,13 +167,3 @@ pub listed_at : (fs : List Firing) (i : ℕ) (x : Firing) → Are IsListed fs �
 listed_at [] i x are within = absurd (omega (arith, within))
 listed_at (f ∷ fs) zero x are within = are.0
 listed_at (f ∷ fs) (suc i) x are within = listed_at fs i x are.1 (omega (arith, within))
-
--- the rows at the ports that are left, behind those that are listed
-pub ports_more : (table row : ℕ) (rows : List Firing) (ports : List ℕ) (i : ℕ) → i < length ports → (rows ++ firing table (get_or ports i 0) row ∷ []) ++ at_ports table row (drop (i + 1) ports) ≡ rows ++ at_ports table row (drop i ports)
-ports_more table row rows ports i within =
-    append_assoc rows (firing table (get_or ports i 0) row ∷ []) (at_ports table row (drop (i + 1) ports))
-    ∙ ap (λ (ps : List ℕ). rows ++ at_ports table row ps) (sym (next_of ports i 0 within))
-
-pub ports_all : (table row : ℕ) (rows : List Firing) (ports : List ℕ) (i : ℕ) → length ports ≤ i → rows ++ at_ports table row (drop i ports) ≡ at_ports table row ports → rows ≡ at_ports table row ports
-ports_all table row rows ports i within is =
-    sym (append-nil rows) ∙ ap (λ (ps : List ℕ). rows ++ at_ports table row ps) (sym (drop_end ports i within)) ∙ is

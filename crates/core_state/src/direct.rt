@@ -3,40 +3,15 @@ ghost use Rattle.std.specs.Prelude.{◌≡◌, ◌≤◌, ◌∷◌, ◌++◌, [
 ghost use Rattle.std.specs.Option.{option_to_list};
 ghost use Rattle.gem_model.specs.Direct.{by_comm, by_control, note_fails, attempt_fails, all_fail, session_end_rows, operator_rows};
 ghost use Rattle.tool_events.specs.declared.event.OperCmd.TheVariants as oper;
-ghost use Rattle.gem_model.specs.Spooling.{unload_rows};
 
 use crate::plant::Plant;
 use arrayvec::ArrayVec;
 use gem_states::{CommTrigger, ControlTrigger};
 use gem_tables::Firing;
+use plant_parts::{by_comm, note_fails};
 
-// The numbers of the tables, as the definitions have them.
-const COMMUNICATION: u8 = 1;
-
+// The number of the table, as the definitions have it.
 const CONTROL: u8 = 2;
-
-const LINE: u8 = 3;
-
-/// The row of communication that a trigger fires.
-pub fn by_comm(trigger: CommTrigger) -> Firing
-    ensures { by_comm trigger ≡ result ∷ [] }
-{
-    Firing::new(COMMUNICATION, 0, trigger.row())
-}
-
-/// The row by which the transaction of the open note fails.
-pub fn note_fails() -> Firing
-    ensures { note_fails ≡ result ∷ [] }
-{
-    Firing::new(LINE, 0, 14)
-}
-
-/// The row of RSDC: 0 lets the spooled notes be sent, and any other drops them (SEMI E5, S6F23).
-pub fn unload_row(rsdc: u8) -> Firing
-    ensures { unload_rows rsdc ≡ result ∷ [] }
-{
-    Firing::new(LINE, 0, if rsdc == 0 { 4 } else { 5 })
-}
 
 impl Plant {
     /// The row of control that a trigger fires, by the operator's switch.

@@ -19,6 +19,7 @@ use carrier::CarrierAction;
 use gem_ids::{CarrierId, PortNo, Text80};
 use gem_tables::Firing;
 use load_port::{Caack, PortAction};
+use plant_parts::{at_ports, mode_row};
 use std::alloc::{AllocError, Global};
 use tool_floor::MOST_CREATED;
 
@@ -26,13 +27,6 @@ use tool_floor::MOST_CREATED;
 const ACCESS: u8 = 5;
 
 const RESERVATION: u8 = 6;
-
-// The row of an access mode: 1 to AUTO, and 2 to MANUAL.
-fn mode_row(mode: u8) -> u8
-    ensures { result ≡ mode_row mode }
-{
-    if mode == 1 { 1 } else { 2 }
-}
 
 impl Plant {
     /// Whether the tool has a port of this number.
@@ -138,17 +132,6 @@ impl Plant {
         Vec::from_slice(alloc, self.floor.shop().carrier_rows(action).as_slice())
     }
 
-    /// A row of a table at each of these ports.
-    fn at_ports(alloc: Global, table: u8, row: u8, ports: &[u8]) -> Result<Vec<Firing>, AllocError>
-        ensures { IfOk result (λ rows. rows.items ≡ at_ports table row ports.now) }
-    {
-        let mut rows = Vec::new(alloc);
-        for port in ports {
-            rows.push(Firing::new(table, u64::from(*port), row))?;
-        }
-        Ok(rows)
-    }
-
     /// The numbers of the ports.
     fn port_numbers(&self) -> ArrayVec<u8, 4>
         ensures { result.items ≡ numbers_from 1 self.now.floor.shop.ports }
@@ -172,9 +155,9 @@ impl Plant {
     {
         if ports.is_empty() {
             let numbers = self.port_numbers();
-            Plant::at_ports(alloc, ACCESS, mode_row(mode), numbers.as_slice())
+            at_ports(alloc, ACCESS, mode_row(mode), numbers.as_slice())
         } else {
-            Plant::at_ports(alloc, ACCESS, mode_row(mode), ports)
+            at_ports(alloc, ACCESS, mode_row(mode), ports)
         }
     }
 
@@ -183,8 +166,8 @@ impl Plant {
         ensures { IfOk result (λ rows. rows.items ≡ port_rows action.now self.now.floor.shop) }
     {
         match action {
-            PortAction::Reserve(port) => Plant::at_ports(alloc, RESERVATION, 1, &[*port]),
-            PortAction::CancelReserve(port) => Plant::at_ports(alloc, RESERVATION, 2, &[*port]),
+            PortAction::Reserve(port) => at_ports(alloc, RESERVATION, 1, &[*port]),
+            PortAction::CancelReserve(port) => at_ports(alloc, RESERVATION, 2, &[*port]),
             PortAction::Access(mode, ports) => self.access_rows(alloc, *mode, ports.as_slice()),
             PortAction::Unknown => Ok(Vec::new(alloc)),
         }

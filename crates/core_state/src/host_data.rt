@@ -1,9 +1,8 @@
 //! What the host asks of the tool's data, and what it sets (SEMI E5, streams 1, 2, 5 and 6).
-ghost use Rattle.std.specs.Prelude.{◌≡◌, ◌≤◌, [], length, map, OnOk, IfOk};
-ghost use Rattle.data_variables.specs.Bodies.{name_item, val_in};
+ghost use Rattle.std.specs.Prelude.{◌≡◌, ◌≤◌, length, map, OnOk, IfOk};
+ghost use Rattle.data_variables.specs.Bodies.{name_item};
 ghost use Rattle.data_variables.specs.Table.{constant_ids};
 ghost use Rattle.data_variables.specs.Setting.{eac, set_all_after};
-ghost use Rattle.event_reports.specs.Limits.{most_alarms};
 ghost use Rattle.event_reports.specs.Alarms.{is_set, ackc5, alarms_enabled};
 ghost use Rattle.event_reports.specs.Reports.{value_items, report_items, one_items, drack, defined, lrack, linked, erack, enabled};
 ghost use Rattle.gem_replies.specs.Replies.{items as items_data};
@@ -11,13 +10,13 @@ ghost use Rattle.gem_replies.specs.Sendable.{AreFew};
 ghost use Rattle.gem_model.specs.Values.{no_firing, status_value, constant_value, value_of, svids};
 ghost use Rattle.gem_model.specs.Messages.{or_all, status_name, settings_of, alarm_part, alids_of, enabled_alids};
 
-use crate::noting::{alcd, text_of_alarm};
 use crate::plant::Plant;
-use data_variables::{Val, ids as constant_ids, set_of};
+use data_variables::ids as constant_ids;
 use event_reports::{NoMemory, Values, values_of};
 use gem_ids::{Ids, Listed, Text80};
 use gem_rows::{status_vids, vid_name};
 use msgs_gem::{AlarmPart, Setting, VariableName};
+use plant_parts::{alcd, settings_of, text_of_alarm};
 use secs_items::{Item, Items};
 use std::alloc::{AllocError, Global};
 
@@ -300,23 +299,4 @@ impl Plant {
     {
         self.alarms.enable(on, alid)
     }
-}
-
-// The constant that a part of S2F15 sets, with the value that its item says.
-fn setting_of(setting: &Setting) -> (u32, Option<Val>)
-    ensures { result ≡ (setting.now.0, val_in setting.now.0 setting.now.1) }
-{
-    let ecid = setting.ecid();
-    (ecid, set_of(ecid, setting.item()))
-}
-
-// The constants that S2F15 sets, each with the value that its item says.
-fn settings_of(alloc: Global, settings: &[Setting]) -> Result<Vec<(u32, Option<Val>)>, AllocError>
-    ensures { IfOk result (λ sets. sets.items ≡ settings_of settings.now) }
-{
-    let mut sets = Vec::new(alloc);
-    for setting in settings {
-        sets.push(setting_of(setting))?;
-    }
-    Ok(sets)
 }

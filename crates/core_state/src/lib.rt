@@ -13,7 +13,6 @@
 mod direct;
 mod firing;
 mod floor;
-mod frames;
 mod host_data;
 mod jobs;
 mod link;
@@ -26,9 +25,6 @@ mod rows;
 mod sending;
 mod values;
 
-pub use direct::{by_comm, note_fails, unload_row};
-pub use frames::{data_header, header_frame, reply_text, shop_text};
-pub use noting::{RowFiring, alcd, text_of_alarm};
+pub use noting::RowFiring;
 pub use plant::Plant;
-pub use rows::part;
 pub use values::Showing;

@@ -1,45 +1,25 @@
 //! The rows of the line of notes and of the spool (table 3).
-ghost use Rattle.std.specs.Prelude.{true, ◌≡◌, ◌==◌, ◌≤◌, ◌^◌, false, is_some, length, None, OnOk, IfOk, Some};
+ghost use Rattle.std.specs.Prelude.{true, ◌≡◌, ◌==◌, false, is_some, None, OnOk, IfOk, Some};
 ghost use Rattle.gem_tables.specs.Table.{firing};
 ghost use Rattle.spool.specs.Spool.{is_inactive, rsda};
 ghost use Rattle.note_line.specs.Line.{answered, fate_of, restated, with_kinds};
 ghost use Rattle.note_line.specs.Table3.{least, head_in_kind, row_effect};
-ghost use Rattle.note_line.specs.Limits.{most_text};
 ghost use Rattle.gem_model.specs.State.{around};
 ghost use Rattle.gem_model.specs.Ready.{ready_line};
-ghost use Rattle.gem_model.specs.Effects.{stream_of_kind, function_of_kind, asks_first};
-ghost use Rattle.gem_model.specs.Fire.{fire, fire_listed};
-ghost use Rattle.gem_model.specs.Direct.{note_fails};
-ghost use Rattle.gem_model.specs.Spooling.{unload_rows};
+ghost use Rattle.gem_model.specs.Effects.{asks_first};
+ghost use Rattle.gem_model.specs.Fire.{fire};
 ghost use Rattle.core_state.specs.Firing.{fire_first};
 
 use crate::noting::RowFiring;
 use crate::plant::Plant;
-use hsms_frame::Bytes;
-use note_line::{Fate, Kind, Note, SpooledKinds};
+use note_line::{Fate, SpooledKinds};
+use plant_parts::{message_of, text_of};
 use spool::Load;
 use std::alloc::{AllocError, Global};
 use transactions::What;
 
 // The number of the table, as the definitions have it.
 const LINE: u8 = 3;
-
-// The stream and the function by which a note is sent.
-fn message_of(kind: Kind) -> (u8, u8)
-    ensures { result ≡ (stream_of_kind kind, function_of_kind kind) }
-{
-    match kind {
-        Kind::Event => (6, 11),
-        Kind::Alarm => (5, 1),
-    }
-}
-
-// A copy of the text of a note.
-fn text_of(alloc: Global, note: &Note) -> Result<Bytes, AllocError>
-    ensures { IfOk result (λ text. text ≡ note.now.text) }
-{
-    Ok(Bytes::from_vec(Vec::from_slice(alloc, note.text.as_slice())?))
-}
 
 impl Plant {
     /// The first note that waits is sent, if one waits: its message waits for the writer, and its transaction is open.

@@ -1,6 +1,5 @@
 //! The notes that firings and changes of alarms make (SEMI E30, event reports and alarms).
-ghost use Rattle.std.specs.Prelude.{◌≡◌, ◌≤◌, ◌+◌, ◌*◌, [], length, OnOk, IfOk, Some, unwrap_or};
-ghost use Rattle.gem_ids.specs.Texts.{IsText};
+ghost use Rattle.std.specs.Prelude.{◌≡◌, ◌≤◌, ◌+◌, ◌*◌, [], length, OnOk, IfOk, Some};
 ghost use Rattle.secs_items.specs.Plain.{plain};
 ghost use Rattle.gem_replies.specs.declared.reply.GemReply.TheVariants as reply;
 ghost use Rattle.gem_replies.specs.Replies.{reply_body};
@@ -9,19 +8,17 @@ ghost use Rattle.event_reports.specs.Reports.{report_items, one_items};
 ghost use Rattle.event_reports.specs.Alarms.{is_set};
 ghost use Rattle.note_line.specs.Limits.{most_text};
 ghost use Rattle.note_line.specs.Line.{next};
-ghost use Rattle.gem_model.specs.State.{State};
 ghost use Rattle.gem_model.specs.Values.{value_of};
 ghost use Rattle.gem_model.specs.Noting.{is_event_reported, event_text, line_with_event, line_behind, noted_as, is_alarm_reported, alcd, text_of_alarm, alarm_line, line_with_alarm, sets_alarm, clears_alarm};
 
-use crate::frames::reply_text;
 use crate::plant::Plant;
-use crate::values::prints;
 use gem_ids::Text80;
 use gem_rows::{RowId, ceid_of};
 use gem_states::Comm;
 use hsms_frame::Bytes;
 use msgs_gem::GemReply;
 use note_line::Kind;
+use plant_parts::{alcd, prints, reply_text, text_of_alarm};
 use secs_items::Items;
 use std::alloc::{AllocError, Global};
 
@@ -225,18 +222,4 @@ impl Plant {
         }
         Ok(())
     }
-}
-
-/// ALCD of an alarm: its highest bit says that it is set.
-pub fn alcd(is_set: bool) -> u8
-    ensures { result ≡ alcd is_set }
-{
-    if is_set { 134 } else { 6 }
-}
-
-/// The text of an alarm; empty for a number that is no alarm.
-pub fn text_of_alarm(alid: u32) -> Text80
-    ensures { result ≡ text_of_alarm alid }
-{
-    gem_rows::alarm_text(alid).unwrap_or(Text80::empty())
 }

@@ -2,21 +2,21 @@
 ghost use Rattle.std.specs.Prelude.{◌≡◌, ◌≤◌, ◌<◌, ◌↔◌, length, slice_get, drop, option_map, IsTrue, IfOk, OnOk, true, Some, None, if◌then◌else◌};
 ghost use Rattle.gem_ids.specs.Moments.{last_moment};
 ghost use Rattle.tool_events.specs.Configs.{IsConfig};
-ghost use Rattle.transactions.specs.Table.{none_open};
 ghost use Rattle.gem_model.specs.State.{opening, first_comm, first_control, first_switch, first_constants, first_kinds, around, is_communicating, is_online, is_up, is_session_up, is_selected, can_ask, clock_now, raised, with_frame};
 ghost use Rattle.gem_model.specs.Messages.{clock_set};
 
-use data_variables::{Constants, Val};
+use data_variables::Constants;
 use event_reports::{Alarms, Reports};
 use gem_ids::Moment;
 use gem_states::{Comm, Control};
 use hsms_frame::Bytes;
 use hsms_link::{LinkState, Phase, Ping};
-use note_line::{Around, NoteLine, SpooledKinds};
+use note_line::{Around, NoteLine};
+use plant_parts::{first_comm, first_constants, first_control, first_kinds, first_switch};
 use std::alloc::{AllocError, Global};
 use std::collections::VecDeque;
 use std::marker::Model;
-use tool_events::{CommStart, Config, ControlStart, SpoolStreams};
+use tool_events::Config;
 use tool_floor::ToolFloor;
 use transactions::Transactions;
 
@@ -74,65 +74,6 @@ impl Model for Plant {
     } };
 
     ghost invariant = { λ p. (p.moment.0 ≤ last_moment) × (length p.alarms ≤ most_alarms) };
-}
-
-/// The first state of communication; in WAIT DELAY the delay is over.
-fn first_comm(start: CommStart) -> Comm
-    ensures { result ≡ first_comm start }
-{
-    match start {
-        CommStart::Disabled => Comm::Disabled,
-        CommStart::Enabled => Comm::WaitDelay { until: 0 },
-        CommStart::Communicating => Comm::Communicating,
-    }
-}
-
-/// The first state of control.
-fn first_control(start: ControlStart) -> Control
-    ensures { result ≡ first_control start }
-{
-    match start {
-        ControlStart::EquipmentOffline => Control::EquipmentOffline,
-        ControlStart::HostOffline => Control::HostOffline,
-        ControlStart::OnlineLocal => Control::Local,
-        ControlStart::OnlineRemote => Control::Remote,
-    }
-}
-
-/// Whether the switch begins at local.
-fn first_switch(start: ControlStart) -> bool
-    ensures { result ≡ first_switch start }
-{
-    start == ControlStart::OnlineLocal
-}
-
-/// The kinds of note that are spooled at first: of stream 5 alarms, and of stream 6 events.
-fn first_kinds(streams: SpoolStreams) -> SpooledKinds
-    ensures { result ≡ first_kinds streams }
-{
-    SpooledKinds {
-        events: streams.six,
-        alarms: streams.five,
-    }
-}
-
-/// The constants that a configuration gives.
-fn first_constants(alloc: Global, config: &Config) -> Result<Constants, AllocError>
-    requires { IsConfig config.now }
-    ensures { IfOk result (λ constants. constants ≡ first_constants config.now) }
-{
-    Constants::new(
-        alloc,
-        &[
-            (201, Val::Number(config.establish)),
-            (202, Val::Number(config.max_transmit)),
-            (203, Val::Truth(config.overwrite)),
-            (204, Val::Number(config.t3)),
-            (205, Val::Number(config.t7)),
-            (206, Val::Number(config.t6)),
-            (207, Val::Number(config.linktest)),
-        ],
-    )
 }
 
 impl Plant {

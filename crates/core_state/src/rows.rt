@@ -1,54 +1,21 @@
 //! The rows of the transition tables: what each does, which are ready, and settling.
-ghost use Rattle.std.specs.Prelude.{◌≡◌, ◌+◌, ◌≤◌, ◌<◌, ◌^◌, length, OnOk, IfOk};
-ghost use Rattle.gem_ids.specs.Texts.{IsText};
+ghost use Rattle.std.specs.Prelude.{◌≡◌, ◌+◌, ◌<◌, OnOk};
 ghost use Rattle.gem_tables.specs.Table.{firing};
-ghost use Rattle.gem_replies.specs.declared.reply.GemReply.TheVariants as reply;
-ghost use Rattle.gem_replies.specs.Sendable.{HasSendableParts};
 ghost use Rattle.gem_model.specs.State.{without_session};
-ghost use Rattle.gem_model.specs.Sending.{identity_text};
 ghost use Rattle.gem_model.specs.Fire.{fire};
 ghost use Rattle.gem_model.specs.Effects.{fire_comm, comm_effect, fire_control, control_effect};
 ghost use Rattle.gem_model.specs.Wants.{delay_is_over};
 ghost use Rattle.gem_model.specs.Due.{delay_has_come};
 ghost use Rattle.gem_model.specs.Act.{session_ended};
 
-use crate::frames::reply_text;
 use crate::noting::RowFiring;
 use crate::plant::Plant;
-use gem_ids::{Moment, Text80};
+use gem_ids::Moment;
 use gem_states::Comm;
 use hsms_frame::Bytes;
-use msgs_gem::GemReply;
+use plant_parts::identity_text;
 use std::alloc::{AllocError, Global};
-use tool_events::Config;
 use transactions::What;
-
-/// The bytes of a text, as a part of a reply.
-pub fn part(alloc: Global, text: Text80) -> Result<secs_items::Bytes, AllocError>
-    ensures bytes { IfOk result (λ bytes. bytes ≡ text) }
-    ensures text { IfOk result IsText }
-{
-    Ok(secs_items::Bytes::from_vec(Vec::from_slice(alloc, text.as_bytes())?))
-}
-
-/// S1F13: the model and the software revision.
-fn identity(alloc: Global, config: &Config) -> Result<GemReply, AllocError>
-    ensures reply { IfOk result (λ r. r ≡ reply.S1F13 config.now.mdln config.now.softrev) }
-    ensures sendable { IfOk result HasSendableParts }
-{
-    let mdln = part(alloc, config.mdln)?;
-    let softrev = part(alloc, config.softrev)?;
-    Ok(GemReply::S1F13(mdln, softrev))
-}
-
-/// The text of S1F2 and S1F13.
-fn identity_text(alloc: Global, config: &Config) -> Result<Bytes, AllocError>
-    ensures text { IfOk result (λ text. text ≡ identity_text config.now) }
-    ensures short { IfOk result (λ text. length text ≤ 2 ^ 31) }
-{
-    let reply = identity(alloc, config)?;
-    reply_text(alloc, &reply)
-}
 
 // The ECID of the time that the tool waits before it asks for communication again.
 const ESTABLISH_TIMEOUT: u32 = 201;

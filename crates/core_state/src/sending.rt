@@ -8,9 +8,9 @@ ghost use Rattle.gem_model.specs.Sending.{data_header, draws, replies, sends_str
 ghost use Rattle.gem_model.specs.Due.{asks_linktest};
 ghost use Rattle.hsms_link.specs.Links.{is_selected, is_open};
 
-use crate::frames::{data_frame, data_header, header_frame, stream9_text};
 use crate::plant::Plant;
 use hsms_frame::{Bytes, Header};
+use plant_parts::{data_frame, data_header, header_frame, stream9_text};
 use std::alloc::{AllocError, Global};
 use transactions::What;
 

@@ -1,7 +1,6 @@
 //! The values of variables (SEMI E5, S1F3 and S2F13).
-ghost use Rattle.std.specs.Prelude.{◌≡◌, ◌∷◌, ◌≤◌, [], length, IfOk, Some, option_map, map, is_some, unwrap_or};
-ghost use Rattle.std.specs.List.{filter};
-ghost use Rattle.secs_items.specs.Data.{ascii, u1, u2, u4};
+ghost use Rattle.std.specs.Prelude.{◌≡◌, ◌∷◌, ◌≤◌, [], length, IfOk, Some, option_map, is_some, unwrap_or};
+ghost use Rattle.secs_items.specs.Data.{ascii, u1, u4};
 ghost use Rattle.secs_items.specs.View.{view};
 ghost use Rattle.gem_ids.specs.Texts.{IsText};
 ghost use Rattle.event_reports.specs.Limits.{most_alarms};
@@ -9,7 +8,6 @@ ghost use Rattle.gem_ids.specs.Civil.{time_digits};
 ghost use Rattle.gem_ids.specs.declared.numbers.LocId.TheVariants.{Chamber};
 ghost use Rattle.event_reports.specs.Alarms.{set_alids};
 ghost use Rattle.gem_model.specs.State.{clock_now};
-ghost use Rattle.spool.specs.Spool.{load_number, unload_number};
 ghost use Rattle.load_port.specs.Ports.{port_numbered};
 ghost use Rattle.substrate.specs.Locations.{is_location};
 ghost use Rattle.core_state.specs.Named.{AreNamed, AreCarriersNamed, AreChambersNamed};
@@ -17,14 +15,15 @@ ghost use Rattle.load_port.specs.Tables.{transfer_number, access_number};
 ghost use Rattle.gem_model.specs.Values.{substrate_text, place_value, port_value, variable_value, status_value, constant_value, value_of};
 
 use crate::plant::Plant;
-use crate::rows::part;
 use data_variables::item_of;
 use event_reports::{NoMemory, Values};
 use gem_ids::{LocId, Text80, time16};
 use gem_rows::{StatusVariable, status_variable};
 use load_port::Port;
-use secs_items::{Bytes, Item, U8s, U16s, U32s};
-use spool::{Load, Unload};
+use plant_parts::{
+    carrier_text, count, load_number, name, part, prints, short_count, state_number, unload_number,
+};
+use secs_items::{Bytes, Item, U16s, U32s};
 use std::alloc::{AllocError, Global};
 
 /// What the variables of a plant show on an occasion: in a firing, whose object and row they tell, or outside one. The row
@@ -51,77 +50,6 @@ impl Values for Showing<'_> {
             _ => self.plant.constant_value(alloc, vid),
         }
     }
-}
-
-/// Each text prints: what is known of it, for proofs.
-pub(crate) fn prints(text: &Text80)
-    ensures { IsText text.now }
-{
-    text.as_bytes();
-}
-
-// What a variable shows that is a count.
-fn count(alloc: Global, number: u32) -> Result<Option<Item>, AllocError>
-    ensures { IfOk result (λ value. option_map view value ≡ Some (u4 (number ∷ []))) }
-{
-    let numbers = vec![in alloc; number]?;
-    Ok(Some(Item::U4(U32s::from_vec(numbers))))
-}
-
-// What a variable shows that is a short count.
-fn short_count(alloc: Global, number: u16) -> Result<Option<Item>, AllocError>
-    ensures { IfOk result (λ value. option_map view value ≡ Some (u2 (number ∷ []))) }
-{
-    let numbers = vec![in alloc; number]?;
-    Ok(Some(Item::U2(U16s::from_vec(numbers))))
-}
-
-// The number of a state of the spool's filling.
-fn load_number(load: Load) -> u8
-    ensures { result ≡ load_number load }
-{
-    match load {
-        Load::Inactive => 0,
-        Load::NotFull => 1,
-        Load::Full => 2,
-    }
-}
-
-// The number of a state of the spool's emptying.
-fn unload_number(unload: Unload) -> u8
-    ensures { result ≡ unload_number unload }
-{
-    match unload {
-        Unload::NoOutput => 0,
-        Unload::Transmit => 1,
-        Unload::Purge => 2,
-    }
-}
-
-// The name of the carrier that belongs to a port; empty where none does.
-fn carrier_text(port: &Port) -> Text80
-    ensures { result ≡ unwrap_or port.now.carrier [] }
-{
-    match port.carrier {
-        Some(carrier) => carrier.text(),
-        None => Text80::empty(),
-    }
-}
-
-// What a variable shows that is the number of a state.
-fn state_number(alloc: Global, number: u8) -> Result<Option<Item>, AllocError>
-    ensures { IfOk result (λ value. option_map view value ≡ Some (u1 (number ∷ []))) }
-{
-    let numbers = vec![in alloc; number]?;
-    Ok(Some(Item::U1(U8s::from_vec(numbers))))
-}
-
-// What a variable shows that is a name.
-fn name(alloc: Global, text: Text80) -> Result<Option<Item>, AllocError>
-    ensures { IfOk result (λ value. option_map view value ≡ Some (ascii text)) }
-{
-    let bytes = part(alloc, text)?;
-    Ok(Some(Item::Ascii(bytes)))
 }
 
 impl Plant {

@@ -1,36 +1,41 @@
 //! How a core begins: `to a core, communicating, with 3 entries and 5 bytes` has a history of so many entries and bytes of
 //! text at most, and `to a core, communicating, with a spool of two notes` one of 100 entries and 1,000 bytes.
 
-ghost use Rattle.std.specs.Prelude.{◌≡◌, ◌≤◌, IfOk};
+ghost use Rattle.std.specs.Prelude.{◌≡◌, ◌≤◌, IfSome};
 ghost use Rattle.tool_events.specs.Configs.{IsConfig};
 
-use anyhow::{Result, bail};
 use gem_ids::{Moment, Text80};
 use std::alloc::Global;
 use tool_core::Core;
 use tool_events::{CommStart, Config, ControlStart, Recipes, SpoolStreams};
 
-fn word(bytes: &[u8]) -> Result<Text80>
-    ensures { IfOk result (λ word. word ≡ bytes.now) }
+fn word(bytes: &[u8]) -> Option<Text80>
+    ensures { IfSome result (λ word. word ≡ bytes.now) }
 {
     match Text80::read(bytes) {
-        Ok(text) => Ok(text),
-        Err(_) => bail!("it is no text"),
+        Ok(text) => Some(text),
+        Err(_) => None,
     }
 }
 
 // Device 0, which is to communicate, and whose links may stay unselected for 1,000 hundredths of a second.
-fn config(max_entries: u64, max_bytes: u64) -> Result<Config>
+fn config(max_entries: u64, max_bytes: u64) -> Option<Config>
     requires some { 1 ≤ max_entries }
     requires entries { max_entries ≤ 4000000 }
     requires bytes { max_bytes ≤ 536870912 }
-    ensures { IfOk result IsConfig }
+    ensures { IfSome result IsConfig }
 {
-    Ok(Config {
+    let Some(mdln) = word(b"GEM300".as_slice()) else {
+        return None;
+    };
+    let Some(softrev) = word(b"1.0.00".as_slice()) else {
+        return None;
+    };
+    Some(Config {
         version: 1,
         device: 0,
-        mdln: word(b"GEM300".as_slice())?,
-        softrev: word(b"1.0.00".as_slice())?,
+        mdln,
+        softrev,
         communication: CommStart::Communicating,
         control: ControlStart::OnlineRemote,
         chambers: 2,
@@ -56,50 +61,58 @@ fn config(max_entries: u64, max_bytes: u64) -> Result<Config>
 }
 
 // A spool of two notes of events, of which a request of the host gives one.
-fn small_spool() -> Result<Config>
-    ensures { IfOk result IsConfig }
+fn small_spool() -> Option<Config>
+    ensures { IfSome result IsConfig }
 {
-    let mut config = config(100, 1000)?;
+    let Some(mut config) = config(100, 1000) else {
+        return None;
+    };
     config.spool_streams.six = true;
     config.spool_capacity = 2;
     config.max_transmit = 1;
-    Ok(config)
-}
-
-fn history(entries: u64, bytes: u64) -> Result<Config>
-    ensures { IfOk result IsConfig }
-{
-    if entries < 1 || entries > 4_000_000 || bytes > 536_870_912 {
-        bail!("a history has no such bounds");
-    }
-    config(entries, bytes)
+    Some(config)
 }
 
 // The bounds of a history, as `3 entries and 5 bytes`.
-fn bounds(text: &str) -> Result<(u64, u64)> {
-    let Some((entries, bytes)) = text.split_once(" entries and ") else {
-        bail!("there is no such subject");
+fn bounds(text: &str) -> Option<(u64, u64)> {
+    let Some((entries, bytes)) = text.strip_suffix(" bytes")?.split_once(" entries and ") else {
+        return None;
     };
-    let Some(bytes) = bytes.strip_suffix(" bytes") else {
-        bail!("there is no such subject");
+    let Ok(entries) = entries.parse::<u64>() else {
+        return None;
     };
-    Ok((entries.parse::<u64>()?, bytes.parse::<u64>()?))
+    let Ok(bytes) = bytes.parse::<u64>() else {
+        return None;
+    };
+    Some((entries, bytes))
 }
 
-fn config_of(begins: &str) -> Result<Config>
-    ensures { IfOk result IsConfig }
+// A history of bounds that a history may have.
+fn history(text: &str) -> Option<Config>
+    ensures { IfSome result IsConfig }
 {
-    match begins.strip_prefix("to a core, communicating, with ") {
-        Some("a spool of two notes") => small_spool(),
-        Some(text) => {
-            let (entries, bytes) = bounds(text)?;
-            history(entries, bytes)
+    match bounds(text) {
+        Some((entries, bytes)) if entries >= 1 && entries <= 4_000_000 && bytes <= 536_870_912 => {
+            config(entries, bytes)
         }
-        None => bail!("there is no such subject"),
+        _ => None,
     }
 }
 
-/// A core that begins so.
-pub(crate) fn opened(alloc: Global, begins: &str) -> Result<Core> {
-    Ok(Core::open(alloc, &config_of(begins)?)?)
+fn config_of(begins: &str) -> Option<Config>
+    ensures { IfSome result IsConfig }
+{
+    match begins.strip_prefix("to a core, communicating, with ") {
+        Some("a spool of two notes") => small_spool(),
+        Some(text) => history(text),
+        None => None,
+    }
+}
+
+/// A core that begins so. None where no core does, or there is no memory.
+pub(crate) fn opened(alloc: Global, begins: &str) -> Option<Core> {
+    match config_of(begins) {
+        Some(config) => Core::open(alloc, &config).ok(),
+        None => None,
+    }
 }

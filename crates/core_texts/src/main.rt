@@ -10,7 +10,7 @@ mod begun;
 mod posted;
 mod spoken;
 
-use anyhow::Result;
+use anyhow::{Result, bail};
 use begun::opened;
 use conversation_files::Line;
 use spoken::Spoken;
@@ -23,7 +23,10 @@ struct Cores;
 
 impl Texts for Cores {
     fn play(&self, alloc: Global, begins: &str, lines: &[Line<'_>]) -> Result<Option<String>> {
-        answers(alloc, &mut Spoken::new(opened(alloc, begins)?), lines)
+        match opened(alloc, begins) {
+            Some(core) => answers(alloc, &mut Spoken::new(core), lines),
+            None => bail!("there is no such subject, or no memory"),
+        }
     }
 }
 

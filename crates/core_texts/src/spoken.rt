@@ -8,12 +8,13 @@
 //!
 //! The contracts of a core are long, so each of its calls stands in one function without a clause, that gives back words.
 
-use crate::posted::{answer_text, event, fault_text, moment};
+use crate::posted::{add_answer, add_fault, event, moment, number};
 use anyhow::{Result, bail};
 use event_reports::Values;
+use gem_ids::Moment;
 use secs_items::Item;
 use std::alloc::Global;
-use test_lines::{Subject, number, word, words};
+use test_lines::{Subject, words};
 use tool_core::Core;
 use tool_events::{Answer, Event, PostFault};
 
@@ -31,119 +32,158 @@ impl Spoken {
 
 impl Subject for Spoken {
     fn answer(&mut self, alloc: Global, said: &str) -> Result<String> {
-        let words = words(alloc, said)?;
-        let words = words.as_slice();
-        if words == ["close"].as_slice() {
-            return closed(alloc, self.core.take());
+        let mut answer = String::new(alloc);
+        match say(alloc, &mut self.core, said, &mut answer) {
+            Some(()) => Ok(answer),
+            None => bail!("it says nothing, there is no memory, or the core is closed"),
         }
-        match &mut self.core {
-            Some(core) => answer_of(alloc, core, words),
-            None => bail!("the core is closed"),
-        }
+    }
+}
+
+// Says a line to a core; the answer. None where it says nothing.
+fn say(alloc: Global, core: &mut Option<Core>, said: &str, answer: &mut String) -> Option<()> {
+    if said == "close" {
+        return add_closed(core.take(), answer);
+    }
+    let Ok(words) = words(alloc, said) else {
+        return None;
+    };
+    match core {
+        Some(core) => answer_of(alloc, core, words.as_slice(), answer),
+        None => None,
     }
 }
 
 // How many entries a core hands out that is closed.
-fn closed(alloc: Global, core: Option<Core>) -> Result<String> {
+fn add_closed(core: Option<Core>, answer: &mut String) -> Option<()> {
     match core {
-        Some(core) => Ok(format!(in alloc; "{}", core.close().as_slice().len())?),
-        None => bail!("the core is closed"),
+        Some(core) => write!(answer, "{}", core.close().as_slice().len()).ok(),
+        None => None,
     }
 }
 
-fn answer_of(alloc: Global, core: &mut Core, words: &[&str]) -> Result<String> {
-    match word(words, 0)? {
-        "at" => post(alloc, core, words),
-        "waits" => waits(alloc, core, words),
-        "fate" => fate(alloc, core, number(words, 1)?),
-        "value" => item_text(alloc, &value(alloc, core, word(words, 1)?.parse::<u32>()?)?),
-        "end" | "bytes" => of_session(alloc, core, words),
-        "entry" => entry(alloc, core, number(words, 1)? as usize),
-        what => counted(alloc, core, what),
+fn answer_of(alloc: Global, core: &mut Core, words: &[&str], answer: &mut String) -> Option<()> {
+    match *words.first()? {
+        "at" => post(alloc, core, words, answer),
+        "waits" => add_waits(alloc, core, words, answer),
+        word => match words.get(1) {
+            Some(number) => show(alloc, core, word, number.parse::<u64>().ok()?, answer),
+            None => count(core, word, answer),
+        },
+    }
+}
+
+// What is told of a number.
+fn show(alloc: Global, core: &Core, word: &str, number: u64, answer: &mut String) -> Option<()> {
+    match word {
+        "fate" => add_fate(core, number, answer),
+        "value" => add_value(
+            alloc,
+            &value(alloc, core, u32::try_from(number).ok()?)?,
+            answer,
+        ),
+        "end" => add_end(core, number, answer),
+        "bytes" => add_bytes(core, number, answer),
+        "entry" => add_entry(core, number as usize, answer),
+        _ => None,
     }
 }
 
 // What seat 1 is answered.
-fn posted(alloc: Global, core: &mut Core, words: &[&str]) -> Result<Result<Answer, PostFault>> {
-    let event = event(alloc, words)?;
-    Ok(core.apply(alloc, 1, moment(words)?, event))
+fn posted(alloc: Global, core: &mut Core, at: Moment, event: Event) -> Result<Answer, PostFault> {
+    core.apply(alloc, 1, at, event)
 }
 
-fn post(alloc: Global, core: &mut Core, words: &[&str]) -> Result<String> {
-    let answered = posted(alloc, core, words)?;
-    match &answered {
-        Ok(answer) => answer_text(alloc, answer),
-        Err(fault) => fault_text(alloc, *fault),
+fn post(alloc: Global, core: &mut Core, words: &[&str], answer: &mut String) -> Option<()> {
+    let Some(at) = moment(words) else {
+        return None;
+    };
+    match &posted(alloc, core, at, event(alloc, words)?) {
+        Ok(given) => add_answer(alloc, given, answer),
+        Err(fault) => add_fault(*fault, answer),
     }
 }
 
-// Whether an event has to wait; a core that is not whole is asked nothing.
-fn waits(alloc: Global, core: &Core, words: &[&str]) -> Result<String> {
-    let event = event(alloc, words)?;
-    if !core.is_whole() {
-        bail!("the core is not whole");
+// Whether an event has to wait.
+fn add_waits(alloc: Global, core: &Core, words: &[&str], answer: &mut String) -> Option<()> {
+    let Some(at) = moment(words) else {
+        return None;
+    };
+    let Some(event) = event(alloc, words) else {
+        return None;
+    };
+    let Some(waits) = waits(core, at, &event) else {
+        return None;
+    };
+    write!(answer, "{waits}").ok()
+}
+
+// A core that is not whole is asked nothing.
+fn waits(core: &Core, at: Moment, event: &Event) -> Option<bool> {
+    if core.is_whole() {
+        Some(core.idle(at, event))
+    } else {
+        None
     }
-    let waits = core.idle(moment(words)?, &event);
-    Ok(format!(in alloc; "{waits}")?)
 }
 
 // What became of a note; a core that is not whole is asked nothing.
-fn fate(alloc: Global, core: &Core, number: u64) -> Result<String> {
+fn add_fate(core: &Core, number: u64, answer: &mut String) -> Option<()> {
     if !core.is_whole() {
-        bail!("the core is not whole");
+        return None;
     }
     let fate = core.fate(number);
-    Ok(format!(in alloc; "{fate:?}")?)
+    write!(answer, "{fate:?}").ok()
 }
 
 // The value of a variable.
-fn value(alloc: Global, core: &Core, vid: u32) -> Result<Option<Item>> {
-    Ok(core.value(alloc, vid)?)
+fn value(alloc: Global, core: &Core, vid: u32) -> Option<Option<Item>> {
+    core.value(alloc, vid).ok()
 }
 
 // The value of a variable in words.
-fn item_text(alloc: Global, item: &Option<Item>) -> Result<String> {
+fn add_value(alloc: Global, item: &Option<Item>, answer: &mut String) -> Option<()> {
     match item {
         Some(Item::Ascii(text)) => {
-            let text = String::from_utf8_lossy(alloc, text.as_slice())?;
-            Ok(format!(in alloc; "A {:?}", text.as_str())?)
+            let Ok(text) = String::from_utf8_lossy(alloc, text.as_slice()) else {
+                return None;
+            };
+            write!(answer, "A {:?}", text.as_str()).ok()
         }
-        Some(Item::Bool(truths)) => Ok(format!(in alloc; "BOOL {:?}", truths.as_slice())?),
-        Some(Item::U1(numbers)) => Ok(format!(in alloc; "U1 {:?}", numbers.as_slice())?),
-        Some(Item::U2(numbers)) => Ok(format!(in alloc; "U2 {:?}", numbers.as_slice())?),
-        Some(Item::U4(numbers)) => Ok(format!(in alloc; "U4 {:?}", numbers.as_slice())?),
-        Some(_) => bail!("no variable has such a value"),
-        None => Ok(format!(in alloc; "none")?),
+        Some(Item::Bool(truths)) => write!(answer, "BOOL {:?}", truths.as_slice()).ok(),
+        Some(Item::U1(numbers)) => write!(answer, "U1 {:?}", numbers.as_slice()).ok(),
+        Some(Item::U2(numbers)) => write!(answer, "U2 {:?}", numbers.as_slice()).ok(),
+        Some(Item::U4(numbers)) => write!(answer, "U4 {:?}", numbers.as_slice()).ok(),
+        Some(_) => None,
+        None => answer.push_str("none").ok(),
     }
 }
 
-fn of_session(alloc: Global, core: &Core, words: &[&str]) -> Result<String> {
-    let session = number(words, 1)?;
-    if word(words, 0)? == "end" {
-        let end = core.session_end(session);
-        return Ok(format!(in alloc; "{end:?}")?);
-    }
+fn add_end(core: &Core, session: u64, answer: &mut String) -> Option<()> {
+    let end = core.session_end(session);
+    write!(answer, "{end:?}").ok()
+}
+
+fn add_bytes(core: &Core, session: u64, answer: &mut String) -> Option<()> {
     let bytes = core.session_bytes(session);
-    Ok(format!(in alloc; "{bytes}")?)
+    write!(answer, "{bytes}").ok()
 }
 
 // The seat of an entry of the history, its moment, and whether it is of a link that came up.
-fn entry(alloc: Global, core: &Core, place: usize) -> Result<String> {
+fn add_entry(core: &Core, place: usize, answer: &mut String) -> Option<()> {
     let Some(entry) = core.history().get(place) else {
-        bail!("there is no such entry");
+        return None;
     };
     let is_up = matches!(entry.event, Event::LinkUp);
-    Ok(format!(in alloc; "seat {} at {} up {is_up}", entry.seat, entry.at.0)?)
+    write!(answer, "seat {} at {} up {is_up}", entry.seat, entry.at.0).ok()
 }
 
-fn counted(alloc: Global, core: &Core, what: &str) -> Result<String> {
-    match what {
-        "up" => {
-            let session = core.session_up();
-            Ok(format!(in alloc; "{session:?}")?)
-        }
-        "sessions" => Ok(format!(in alloc; "{}", core.session_count())?),
-        "entries" => Ok(format!(in alloc; "{}", core.history().len())?),
-        _ => bail!("it says nothing"),
+// What is told of the core without a number.
+fn count(core: &Core, word: &str, answer: &mut String) -> Option<()> {
+    match word {
+        "up" => write!(answer, "{:?}", core.session_up()).ok(),
+        "sessions" => write!(answer, "{}", core.session_count()).ok(),
+        "entries" => write!(answer, "{}", core.history().len()).ok(),
+        _ => None,
     }
 }

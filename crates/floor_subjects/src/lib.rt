@@ -5,6 +5,7 @@
 mod port_states;
 mod ports;
 mod shop;
+mod words;
 
 pub use port_states::PortStates;
 pub use ports::ToolPorts;

@@ -4,10 +4,39 @@
 //! and the number of the state behind it; `access`, `reservation` and `association` stand for tables 5, 6 and 7. `first 5 1`
 //! tells whether row 1 of table 5 starts at a port as it begins, and all its states then.
 
+use crate::words::small;
 use anyhow::{Result, bail};
 use load_port::{Access, Association, PortRecord, Reservation, Transfer};
 use std::alloc::Global;
-use test_lines::{Subject, small, word, words};
+use test_lines::{Subject, words};
+
+// The states of each table, in the order of their numbers; behind the second of a table that has two they stand again.
+const STATES: [PortRecord; 4] = [
+    PortRecord {
+        transfer: Transfer::OutOfService,
+        access: Access::Manual,
+        reservation: Reservation::NotReserved,
+        association: Association::NotAssociated,
+    },
+    PortRecord {
+        transfer: Transfer::TransferBlocked,
+        access: Access::Auto,
+        reservation: Reservation::Reserved,
+        association: Association::Associated,
+    },
+    PortRecord {
+        transfer: Transfer::ReadyToLoad,
+        access: Access::Manual,
+        reservation: Reservation::NotReserved,
+        association: Association::NotAssociated,
+    },
+    PortRecord {
+        transfer: Transfer::ReadyToUnload,
+        access: Access::Auto,
+        reservation: Reservation::Reserved,
+        association: Association::Associated,
+    },
+];
 
 /// The states of a load port.
 #[derive(Clone, Copy)]
@@ -16,89 +45,67 @@ pub struct PortStates;
 impl Subject for PortStates {
     fn answer(&mut self, alloc: Global, said: &str) -> Result<String> {
         let words = words(alloc, said)?;
-        let words = words.as_slice();
-        let row = small(words, 1)?;
-        match word(words, 0)? {
-            "transfer" => transfer_row(alloc, row),
-            "access" => access_row(alloc, row),
-            "reservation" => reservation_row(alloc, row),
-            "association" => association_row(alloc, row),
-            "first" => first_fired(alloc, row, small(words, 2)?),
-            _ => bail!("it says nothing"),
+        let mut answer = String::new(alloc);
+        match say(words.as_slice(), &mut answer) {
+            Some(()) => Ok(answer),
+            None => bail!("it says nothing, or there is no memory"),
         }
     }
 }
 
-fn transfer_from(alloc: Global, transfer: Transfer, row: u8) -> Result<String> {
-    let mut record = PortRecord {
-        transfer,
-        ..PortRecord::new()
+// Says the words of a line; the answer. None where they say nothing.
+fn say(words: &[&str], answer: &mut String) -> Option<()> {
+    let (Some(first), Some(row)) = (words.first(), small(words, 1)) else {
+        return None;
     };
-    let starts = record.fire(4, row);
-    Ok(format!(in alloc; "{starts} {}", record.transfer.number())?)
+    match *first {
+        "transfer" => add_fired(answer, 4, row, 4),
+        "access" => add_fired(answer, 5, row, 2),
+        "reservation" => add_fired(answer, 6, row, 2),
+        "association" => add_fired(answer, 7, row, 2),
+        "first" => match small(words, 2) {
+            Some(second) => add_first(answer, row, second),
+            None => None,
+        },
+        _ => None,
+    }
 }
 
-fn transfer_row(alloc: Global, row: u8) -> Result<String> {
-    let out_of_service = transfer_from(alloc, Transfer::OutOfService, row)?;
-    let blocked = transfer_from(alloc, Transfer::TransferBlocked, row)?;
-    let to_load = transfer_from(alloc, Transfer::ReadyToLoad, row)?;
-    let to_unload = transfer_from(alloc, Transfer::ReadyToUnload, row)?;
-    Ok(format!(in alloc; "{out_of_service}, {blocked}, {to_load}, {to_unload}")?)
+// Whether a row starts from each of so many states of its table, the others being those of a port as it begins, and the number of
+// the state behind it.
+fn add_fired(answer: &mut String, table: u8, row: u8, count: usize) -> Option<()> {
+    for place in 0..count {
+        let states = STATES[place & 3];
+        let mut record = PortRecord::new();
+        match table {
+            4 => record.transfer = states.transfer,
+            5 => record.access = states.access,
+            6 => record.reservation = states.reservation,
+            _ => record.association = states.association,
+        }
+        let starts = record.fire(table, row);
+        let number = match table {
+            4 => record.transfer.number(),
+            5 => record.access.number(),
+            6 => record.reservation.number(),
+            _ => record.association.number(),
+        };
+        let gap = if place == 0 { "" } else { ", " };
+        let Ok(()) = write!(answer, "{gap}{starts} {number}") else {
+            return None;
+        };
+    }
+    Some(())
 }
 
-fn access_from(alloc: Global, access: Access, row: u8) -> Result<String> {
-    let mut record = PortRecord {
-        access,
-        ..PortRecord::new()
-    };
-    let starts = record.fire(5, row);
-    Ok(format!(in alloc; "{starts} {}", record.access.number())?)
-}
-
-fn access_row(alloc: Global, row: u8) -> Result<String> {
-    let manual = access_from(alloc, Access::Manual, row)?;
-    let auto = access_from(alloc, Access::Auto, row)?;
-    Ok(format!(in alloc; "{manual}, {auto}")?)
-}
-
-fn reservation_from(alloc: Global, reservation: Reservation, row: u8) -> Result<String> {
-    let mut record = PortRecord {
-        reservation,
-        ..PortRecord::new()
-    };
-    let starts = record.fire(6, row);
-    Ok(format!(in alloc; "{starts} {}", record.reservation.number())?)
-}
-
-fn reservation_row(alloc: Global, row: u8) -> Result<String> {
-    let not_reserved = reservation_from(alloc, Reservation::NotReserved, row)?;
-    let reserved = reservation_from(alloc, Reservation::Reserved, row)?;
-    Ok(format!(in alloc; "{not_reserved}, {reserved}")?)
-}
-
-fn association_from(alloc: Global, association: Association, row: u8) -> Result<String> {
-    let mut record = PortRecord {
-        association,
-        ..PortRecord::new()
-    };
-    let starts = record.fire(7, row);
-    Ok(format!(in alloc; "{starts} {}", record.association.number())?)
-}
-
-fn association_row(alloc: Global, row: u8) -> Result<String> {
-    let not_associated = association_from(alloc, Association::NotAssociated, row)?;
-    let associated = association_from(alloc, Association::Associated, row)?;
-    Ok(format!(in alloc; "{not_associated}, {associated}")?)
-}
-
-fn first_fired(alloc: Global, table: u8, row: u8) -> Result<String> {
+fn add_first(answer: &mut String, table: u8, row: u8) -> Option<()> {
     let mut record = PortRecord::new();
     let starts = record.fire(table, row);
-    let PortRecord {
-        transfer,
-        access,
-        reservation,
-        association,
-    } = record;
-    Ok(format!(in alloc; "{starts} {transfer:?} {access:?} {reservation:?} {association:?}")?)
+    let (transfer, access) = (record.transfer, record.access);
+    let (reservation, association) = (record.reservation, record.association);
+    write!(
+        answer,
+        "{starts} {transfer:?} {access:?} {reservation:?} {association:?}"
+    )
+    .ok()
 }

@@ -2,12 +2,13 @@
 //!
 //! `new 2` makes them two ports anew. The host names a port by its number; else a port stands as its place, counted from 0. `ask Access 1 1*10000 2` asks for access mode 1 of port 1, ten thousand times, and of port 2.
 
-use anyhow::{Result, bail, ensure};
+use crate::words::{add_name, is_at, small};
+use anyhow::{Result, bail};
 use carrier_subjects::carrier;
-use gem_ids::{CarrierId, Listed};
+use gem_ids::Listed;
 use load_port::{Arrival, Port, PortAction, Ports};
 use std::alloc::Global;
-use test_lines::{Subject, nothing, small, word, words};
+use test_lines::{Subject, words};
 
 /// The load ports of a tool.
 #[derive(Drop)]
@@ -27,146 +28,173 @@ impl ToolPorts {
 impl Subject for ToolPorts {
     fn answer(&mut self, alloc: Global, said: &str) -> Result<String> {
         let words = words(alloc, said)?;
-        let words = words.as_slice();
-        match word(words, 0)? {
-            "new" => {
-                self.ports = so_many(small(words, 1)?)?;
-                nothing(alloc)
-            }
-            "ask" => Ok(format!(in alloc; "{}", asked(alloc, &self.ports, words)?)?),
-            "fire" => Ok(format!(in alloc; "{}", fires(&mut self.ports, words)?)?),
-            "come" | "settle" | "own" => {
-                happens(&mut self.ports, words)?;
-                nothing(alloc)
-            }
-            _ => told(alloc, &self.ports, words),
+        let mut answer = String::new(alloc);
+        match say(alloc, &mut self.ports, words.as_slice(), &mut answer) {
+            Some(()) => Ok(answer),
+            None => bail!("it says nothing, or there is no memory"),
         }
     }
 }
 
-fn so_many(count: u8) -> Result<Ports> {
-    ensure!(count <= 4, "a tool has at most four ports");
-    Ok(Ports::new(count))
+// Says the words of a line to the ports; the answer. None where they say nothing.
+fn say(alloc: Global, ports: &mut Ports, words: &[&str], answer: &mut String) -> Option<()> {
+    let Some(first) = words.first() else {
+        return None;
+    };
+    match *first {
+        "len" => write!(answer, "{}", ports.len()).ok(),
+        "views" => write!(answer, "{}", ports.views().len()).ok(),
+        "ask" => add_asked(alloc, answer, ports, words),
+        first => match small(words, 1) {
+            Some(place) => at(ports, first, place, words, answer),
+            None => None,
+        },
+    }
+}
+
+// What is done with so many ports, or with the one at a place: a row of a table fires there; a carrier comes, with its name and
+// the code of all its slots; what came there is told to the carriers; it is some carrier's, or no one's; what it is, and what
+// carriers are told of it.
+fn at(ports: &mut Ports, call: &str, place: u8, words: &[&str], answer: &mut String) -> Option<()> {
+    let number = u64::from(place) + 1;
+    match call {
+        "new" => {
+            if place > 4 {
+                return None;
+            }
+            *ports = Ports::new(place);
+            Some(())
+        }
+        "port" => match ports.get(place as usize) {
+            Some(port) => add_port(answer, &port),
+            None => answer.push_str("none").ok(),
+        },
+        "view" => match ports.view(place as usize) {
+            Some(view) => match write!(answer, "{} {} ", view.present, view.in_service) {
+                Ok(()) => add_name(answer, view.carrier),
+                Err(_) => None,
+            },
+            None => answer.push_str("none").ok(),
+        },
+        "fire" => match (small(words, 2), small(words, 3)) {
+            (Some(table), Some(row)) => write!(answer, "{}", ports.fire(number, table, row)).ok(),
+            _ => None,
+        },
+        _ => happens(ports, call, number, words),
+    }
+}
+
+// What happens at the port of a number.
+fn happens(ports: &mut Ports, call: &str, number: u64, words: &[&str]) -> Option<()> {
+    let carrier = carrier(words, 2);
+    match (call, carrier, small(words, 3)) {
+        ("come", Some(name), Some(code)) => {
+            let arrival = Arrival {
+                name,
+                is_read: true,
+                map: [code; 25],
+            };
+            ports.come(number, arrival);
+            Some(())
+        }
+        ("settle", Some(name), _) => {
+            ports.settle(number, name);
+            Some(())
+        }
+        ("own", Some(_), _) => {
+            let owner = if is_at(words, 2, "none") {
+                None
+            } else {
+                carrier
+            };
+            ports.own(number, owner);
+            Some(())
+        }
+        _ => None,
+    }
 }
 
 // What the host is answered.
-fn asked(alloc: Global, ports: &Ports, words: &[&str]) -> Result<u8> {
-    let action = match word(words, 1)? {
-        "Reserve" => PortAction::Reserve(small(words, 2)?),
-        "CancelReserve" => PortAction::CancelReserve(small(words, 2)?),
-        "Access" => PortAction::Access(small(words, 2)?, numbers(alloc, words)?),
-        "Unknown" => PortAction::Unknown,
-        _ => bail!("the host has no such action"),
+fn add_asked(alloc: Global, answer: &mut String, ports: &Ports, words: &[&str]) -> Option<()> {
+    let Some(action) = action(alloc, words) else {
+        return None;
     };
-    Ok(ports.verdict(&action))
+    write!(answer, "{}", ports.verdict(&action)).ok()
+}
+
+// What the host asks for.
+fn action(alloc: Global, words: &[&str]) -> Option<PortAction> {
+    let Some(first) = words.get(1) else {
+        return None;
+    };
+    match (*first, small(words, 2)) {
+        ("Reserve", Some(port)) => Some(PortAction::Reserve(port)),
+        ("CancelReserve", Some(port)) => Some(PortAction::CancelReserve(port)),
+        ("Access", Some(mode)) => match numbers(alloc, words) {
+            Some(numbers) => Some(PortAction::Access(mode, numbers)),
+            None => None,
+        },
+        ("Unknown", _) => Some(PortAction::Unknown),
+        _ => None,
+    }
 }
 
 // The numbers of ports behind an access mode.
-fn numbers(alloc: Global, words: &[&str]) -> Result<Listed<u8>> {
-    let mut numbers = Vec::new(alloc);
+fn numbers(alloc: Global, words: &[&str]) -> Option<Listed<u8>> {
+    let mut numbers = Listed::new(alloc);
     for word in words.iter().skip(3) {
-        add(&mut numbers, word)?;
+        let Some(()) = add(&mut numbers, word) else {
+            return None;
+        };
     }
-    Ok(Listed::from_vec(numbers))
+    Some(numbers)
 }
 
 // A number, and behind a star how many times it stands.
-fn add(numbers: &mut Vec<u8>, word: &str) -> Result<()> {
+fn add(numbers: &mut Listed<u8>, word: &str) -> Option<()> {
     let (number, count) = word.split_once('*').unwrap_or((word, "1"));
-    let number = number.parse::<u8>()?;
-    for _ in 0..count.parse::<u32>()? {
-        numbers.push(number)?;
+    let (Ok(number), Ok(count)) = (number.parse::<u8>(), count.parse::<u32>()) else {
+        return None;
+    };
+    for _ in 0..count {
+        let Ok(()) = numbers.push(number) else {
+            return None;
+        };
     }
-    Ok(())
-}
-
-// Whether a row of a table starts at the port of a place.
-fn fires(ports: &mut Ports, words: &[&str]) -> Result<bool> {
-    let number = number_at(words)?;
-    Ok(ports.fire(number, small(words, 2)?, small(words, 3)?))
-}
-
-// The number of the port of a place.
-fn number_at(words: &[&str]) -> Result<u64> {
-    Ok(small(words, 1)? as u64 + 1)
-}
-
-// A carrier comes to the port of a place, with its name and the code of all its slots; what came there is told to the
-// carriers; or the port is some carrier's, or no one's.
-fn happens(ports: &mut Ports, words: &[&str]) -> Result<()> {
-    let number = number_at(words)?;
-    match word(words, 0)? {
-        "come" => {
-            let arrival = Arrival {
-                name: carrier(words, 2)?,
-                is_read: true,
-                map: [small(words, 3)?; 25],
-            };
-            ports.come(number, arrival);
-        }
-        "settle" => ports.settle(number, carrier(words, 2)?),
-        _ => ports.own(number, owner(words)?),
-    }
-    Ok(())
-}
-
-fn owner(words: &[&str]) -> Result<Option<CarrierId>> {
-    if word(words, 2)? == "none" {
-        return Ok(None);
-    }
-    Ok(Some(carrier(words, 2)?))
-}
-
-// How many ports there are, the port at a place, or what carriers are told of it.
-fn told(alloc: Global, ports: &Ports, words: &[&str]) -> Result<String> {
-    match word(words, 0)? {
-        "len" => Ok(format!(in alloc; "{}", ports.len())?),
-        "views" => Ok(format!(in alloc; "{}", ports.views().len())?),
-        "port" => port_text(alloc, ports.get(small(words, 1)? as usize)),
-        "view" => view_text(alloc, ports, small(words, 1)? as usize),
-        _ => bail!("it says nothing"),
-    }
+    Some(())
 }
 
 // The states of a port, the carrier that it belongs to, and what came to it.
-fn port_text(alloc: Global, port: Option<Port>) -> Result<String> {
-    let Some(port) = port else {
-        return Ok(format!(in alloc; "none")?);
+fn add_port(answer: &mut String, port: &Port) -> Option<()> {
+    let (transfer, access) = (port.states.transfer, port.states.access);
+    let (reservation, association) = (port.states.reservation, port.states.association);
+    let Ok(()) = write!(
+        answer,
+        "{transfer:?} {access:?} {reservation:?} {association:?}, "
+    ) else {
+        return None;
     };
-    let states = port.states;
-    let carrier = name_text(alloc, port.carrier)?;
-    let arrival = arrival_text(alloc, port.arrival)?;
-    Ok(format!(in alloc;
-        "{:?} {:?} {:?} {:?}, {carrier}, {arrival}",
-        states.transfer, states.access, states.reservation, states.association
-    )?)
+    let Some(()) = add_name(answer, port.carrier) else {
+        return None;
+    };
+    match port.arrival {
+        Some(arrival) => add_arrival(answer, &arrival),
+        None => answer.push_str(", none").ok(),
+    }
 }
 
 // The name, whether it was read, and the code of each slot.
-fn arrival_text(alloc: Global, arrival: Option<Arrival>) -> Result<String> {
-    let Some(arrival) = arrival else {
-        return Ok(format!(in alloc; "none")?);
+fn add_arrival(answer: &mut String, arrival: &Arrival) -> Option<()> {
+    let Ok(name) = str::from_utf8(arrival.name.as_bytes()) else {
+        return None;
     };
-    let name = name_text(alloc, Some(arrival.name))?;
-    let mut text = format!(in alloc; "{name} {} ", arrival.is_read)?;
+    let Ok(()) = write!(answer, ", {name} {} ", arrival.is_read) else {
+        return None;
+    };
     for code in arrival.map {
-        text.push_str(format!(in alloc; "{code}")?.as_str())?;
+        let Ok(()) = write!(answer, "{code}") else {
+            return None;
+        };
     }
-    Ok(text)
-}
-
-// Whether a carrier is present at a port, whether it is in service, and whose it is.
-fn view_text(alloc: Global, ports: &Ports, place: usize) -> Result<String> {
-    let Some(view) = ports.view(place) else {
-        return Ok(format!(in alloc; "none")?);
-    };
-    let carrier = name_text(alloc, view.carrier)?;
-    Ok(format!(in alloc; "{} {} {carrier}", view.present, view.in_service)?)
-}
-
-fn name_text(alloc: Global, name: Option<CarrierId>) -> Result<String> {
-    match name {
-        Some(name) => Ok(String::from_utf8_lossy(alloc, name.as_bytes())?),
-        None => Ok(format!(in alloc; "none")?),
-    }
+    Some(())
 }

@@ -3,257 +3,278 @@
 //!
 //! A port stands as its number, and a row as its table, the number of its port or that of creation of its carrier, and its own.
 
-use anyhow::{Result, bail, ensure};
+use crate::words::{add, is_at, small};
+use anyhow::{Result, bail};
 use carrier::CarrierAction;
 use carrier_subjects::{action, carrier};
-use gem_ids::{CarrierId, Listed, PortNo, Text80};
+use gem_ids::{CarrierId, PortNo, Text80};
 use gem_tables::Firing;
 use load_port::PortAction;
 use shop_floor::ShopFloor;
 use std::alloc::Global;
-use test_lines::{Subject, nothing, small, word, words};
+use test_lines::{Subject, words};
 
 /// A shop floor, and the rows that fired at it since they were last told.
 #[derive(Drop)]
 pub struct Floor {
     floor: ShopFloor,
-    fired: Listed<Firing>,
+    fired: String,
 }
 
 impl Floor {
-    /// A floor of so many ports. The error: there are more than four.
+    /// A floor of so many ports. The error: there are more than four, or there is no memory.
     pub fn new(alloc: Global, ports: u8) -> Result<Floor> {
-        ensure!(ports <= 4, "a floor has at most four ports");
-        Ok(Floor {
-            floor: ShopFloor::new(alloc, ports)?,
-            fired: Listed::new(alloc),
-        })
+        if ports <= 4
+            && let Ok(floor) = ShopFloor::new(alloc, ports)
+        {
+            let fired = String::new(alloc);
+            Ok(Floor { floor, fired })
+        } else {
+            bail!("a floor has at most four ports, and wants memory")
+        }
     }
 }
 
 impl Subject for Floor {
     fn answer(&mut self, alloc: Global, said: &str) -> Result<String> {
         let words = words(alloc, said)?;
-        let words = words.as_slice();
-        match word(words, 0)? {
-            "ask" => Ok(format!(in alloc; "{}", self.ask(words)?)?),
-            "fired" => self.tell_fired(alloc),
-            "place" | "come" | "remove" | "fire" | "settle" | "mark" => {
-                self.happens(words)?;
-                nothing(alloc)
-            }
-            "name" => self.name(alloc, words),
-            "reserve" => Ok(format!(in alloc; "{}", self.reserve(small(words, 1)?))?),
-            _ => Ok(format!(in alloc; "{}", self.told(words)?)?),
+        let mut answer = String::new(alloc);
+        match say(self, words.as_slice(), &mut answer) {
+            Some(()) => Ok(answer),
+            None => bail!("it says nothing, or there is no memory"),
         }
     }
 }
 
-impl Floor {
-    // ---- rows
-
-    // A row fires where it starts.
-    fn fire(&mut self, x: Firing) -> Result<()> {
-        if self.floor.starts(x) {
-            self.floor.fire(x)?;
-            self.fired.push(x)?;
-        }
-        Ok(())
+// Says the words of a line to the floor; the answer. None where they say nothing.
+fn say(of: &mut Floor, words: &[&str], answer: &mut String) -> Option<()> {
+    let Some(first) = words.first() else {
+        return None;
+    };
+    match *first {
+        "ask" => ask(of, words, answer),
+        "settle" => settle(of),
+        "fired" => tell_fired(of, answer),
+        "present" | "known" | "stopped" => match carrier(words, 1) {
+            Some(name) => add_known(answer, &of.floor, name, first),
+            None => None,
+        },
+        "mark" => mark(of, words),
+        first => match small(words, 1) {
+            Some(number) => at(of, first, number, words, answer),
+            None => None,
+        },
     }
+}
 
-    // A row fires where it starts, and then those of the carrier that it creates.
-    fn fire_all(&mut self, x: Firing) -> Result<()> {
-        let creations = self.floor.creations(x);
-        self.fire(x)?;
-        for creation in creations.as_slice() {
-            self.fire(*creation)?;
-        }
-        Ok(())
+// ---- rows
+
+// A row fires where it starts.
+fn fire(of: &mut Floor, x: Firing) -> Option<()> {
+    if !of.floor.starts(x) {
+        return Some(());
     }
+    let Ok(()) = of.floor.fire(x) else {
+        return None;
+    };
+    let gap = if of.fired.is_empty() { "" } else { " " };
+    write!(of.fired, "{gap}{}.{}.{}", x.row.table, x.object, x.row.row).ok()
+}
 
-    // Rows fire by themselves until none is ready.
-    fn settle(&mut self) -> Result<()> {
-        for _ in 0..50 {
-            match self.floor.least() {
-                Some(x) => self.fire_all(x)?,
-                None => return Ok(()),
-            }
-        }
-        bail!("the floor doesn't come to rest")
-    }
-
-    // A row of a table fires at the object of this number, where it starts.
-    fn fire_at(&mut self, table: u8, object: u8, row: u8) -> Result<()> {
-        let object = object as u64;
-        self.fire_all(Firing::new(table, object, row))
-    }
-
-    // The rows that fired, which are told no more.
-    fn tell_fired(&mut self, alloc: Global) -> Result<String> {
-        let text = rows_text(alloc, self.fired.as_slice())?;
-        self.fired = Listed::new(alloc);
-        Ok(text)
-    }
-
-    // ---- what the equipment does
-
-    // A carrier is placed at or removed from a port, and rows fire; it comes, and nothing fires by itself yet; a row
-    // fires at a port, or all do that are ready; a carrier is marked stopped.
-    fn happens(&mut self, words: &[&str]) -> Result<()> {
-        match word(words, 0)? {
-            "place" => {
-                self.come(words)?;
-                self.settle()
-            }
-            "come" => self.come(words),
-            "remove" => self.remove(small(words, 1)?),
-            "fire" => self.fire_at(small(words, 1)?, small(words, 2)?, small(words, 3)?),
-            "mark" => self.mark(word(words, 1)?),
-            _ => self.settle(),
-        }
-    }
-
-    // A carrier is placed at a port, with the name that is read and its map.
-    fn come(&mut self, words: &[&str]) -> Result<()> {
-        let port = PortNo(small(words, 1)?);
-        let name = name_read(words)?;
-        let map = map(word(words, 3)?)?;
-        if !self.floor.has_port(port) {
-            bail!("there is no such port");
-        }
-        let arrival = self.floor.arrival(port, name, map);
-        self.floor.come(port, arrival);
-        self.fire_at(4, port.0, 3)
-    }
-
-    // The carrier of a port is removed, and rows fire.
-    fn remove(&mut self, port: u8) -> Result<()> {
-        self.fire_at(4, port, 5)?;
-        self.fire_at(7, port, 6)?;
-        self.settle()
-    }
-
-    // ---- what process jobs do
-
-    // The carrier of a name is marked stopped.
-    fn mark(&mut self, name: &str) -> Result<()> {
-        self.floor.mark_stopped(Text80::read(name.as_bytes())?);
-        Ok(())
-    }
-
-    // ---- what the host asks
-
-    // The host asks for this of a carrier; gives what it is answered.
-    fn ask(&mut self, words: &[&str]) -> Result<u8> {
-        let action = CarrierAction {
-            word: action(word(words, 1)?)?,
-            id: Text80::read(word(words, 2)?.as_bytes())?,
-            port: small(words, 3)?,
-            map: match words.get(4) {
-                Some(word) => Some(map(word)?),
-                None => None,
-            },
-            bad_attr: false,
+// A row fires where it starts, and then those of the carrier that it creates.
+fn fire_all(of: &mut Floor, x: Firing) -> Option<()> {
+    let creations = of.floor.creations(x);
+    let Some(()) = fire(of, x) else {
+        return None;
+    };
+    for creation in creations.as_slice() {
+        let Some(()) = fire(of, *creation) else {
+            return None;
         };
-        let code = self.floor.carrier_code(&action);
-        self.done(&action)?;
-        Ok(code.number())
     }
+    Some(())
+}
 
-    // What the host asks for is done, where it can be.
-    fn done(&mut self, action: &CarrierAction) -> Result<()> {
-        if !self.floor.carrier_code(action).is_done() {
-            return Ok(());
+// Rows fire by themselves until none is ready. None where the floor doesn't come to rest.
+fn settle(of: &mut Floor) -> Option<()> {
+    for _ in 0..50 {
+        let Some(x) = of.floor.least() else {
+            return Some(());
+        };
+        let Some(()) = fire_all(of, x) else {
+            return None;
+        };
+    }
+    None
+}
+
+// The rows that fired, which are told no more.
+fn tell_fired(of: &mut Floor, answer: &mut String) -> Option<()> {
+    let Ok(()) = answer.push_str(of.fired.as_str()) else {
+        return None;
+    };
+    of.fired.clear();
+    Some(())
+}
+
+// ---- what is done with a port or in a table of this number
+
+// A carrier is placed at or removed from a port, and rows fire; it comes, and nothing fires by itself yet; a row fires, or it is told
+// whether it starts, and at whom; whether a port is ready to unload, and what a reservation of it is answered.
+fn at(of: &mut Floor, call: &str, number: u8, words: &[&str], answer: &mut String) -> Option<()> {
+    match call {
+        "come" => come(of, number, words),
+        "place" => match come(of, number, words) {
+            Some(()) => settle(of),
+            None => None,
+        },
+        "remove" => remove(of, u64::from(number)),
+        "ready" => write!(answer, "{}", of.floor.is_ready_to_unload(PortNo(number))).ok(),
+        "reserve" => {
+            let code = of.floor.port_code(&PortAction::Reserve(number));
+            write!(answer, "{}", code.number()).ok()
         }
-        let rows = self.floor.carrier_rows(action);
-        self.floor.write(action)?;
-        for row in rows.as_slice() {
-            self.fire_all(*row)?;
+        _ => {
+            let (Some(object), row) = (small(words, 2), small(words, 3).unwrap_or(1)) else {
+                return None;
+            };
+            of_row(
+                of,
+                call,
+                Firing::new(number, u64::from(object), row),
+                answer,
+            )
         }
-        self.settle()
-    }
-
-    // What a reservation of a port is answered.
-    fn reserve(&self, port: u8) -> u8 {
-        self.floor.port_code(&PortAction::Reserve(port)).number()
-    }
-
-    // ---- what is told
-
-    // The name of the object of a number in a table.
-    fn name(&self, alloc: Global, words: &[&str]) -> Result<String> {
-        let table = small(words, 1)?;
-        let object = small(words, 2)? as u64;
-        let row = 1;
-        let name = self.floor.object_name(Firing::new(table, object, row));
-        Ok(String::from_utf8_lossy(alloc, name.as_bytes())?)
-    }
-
-    // Whether a carrier is present, known or marked stopped, a port is ready to unload, or a row starts.
-    fn told(&self, words: &[&str]) -> Result<bool> {
-        match word(words, 0)? {
-            "present" => Ok(self.is_present(carrier(words, 1)?)),
-            "known" => Ok(self.is_known(carrier(words, 1)?)),
-            "stopped" => Ok(self.is_stopped(carrier(words, 1)?)),
-            "ready" => Ok(self.floor.is_ready_to_unload(PortNo(small(words, 1)?))),
-            "starts" => self.starts(words),
-            _ => bail!("it says nothing"),
-        }
-    }
-
-    fn is_present(&self, name: CarrierId) -> bool {
-        match self.floor.carrier_named(name.text()) {
-            Some(carrier) => carrier.present,
-            None => false,
-        }
-    }
-
-    fn is_known(&self, name: CarrierId) -> bool {
-        self.floor.carrier_named(name.text()).is_some()
-    }
-
-    fn is_stopped(&self, name: CarrierId) -> bool {
-        match self.floor.carrier_named(name.text()) {
-            Some(carrier) => carrier.stopped,
-            None => false,
-        }
-    }
-
-    fn starts(&self, words: &[&str]) -> Result<bool> {
-        let table = small(words, 1)?;
-        let object = small(words, 2)? as u64;
-        let row = small(words, 3)?;
-        Ok(self.floor.starts(Firing::new(table, object, row)))
     }
 }
 
-fn rows_text(alloc: Global, rows: &[Firing]) -> Result<String> {
-    let mut text = String::new(alloc);
-    for row in rows {
-        if !text.is_empty() {
-            text.push_str(" ")?;
-        }
-        let row = format!(in alloc; "{}.{}.{}", row.row.table, row.object, row.row.row)?;
-        text.push_str(row.as_str())?;
+fn of_row(of: &mut Floor, call: &str, x: Firing, answer: &mut String) -> Option<()> {
+    match call {
+        "fire" => fire_all(of, x),
+        "starts" => write!(answer, "{}", of.floor.starts(x)).ok(),
+        "name" => add(answer, of.floor.object_name(x).as_bytes()),
+        _ => None,
     }
-    Ok(text)
 }
 
-// The name of a carrier that comes: `unread` where none was read.
-fn name_read(words: &[&str]) -> Result<Option<CarrierId>> {
-    if word(words, 2)? == "unread" {
-        return Ok(None);
+// A carrier comes to a port, with the name that is read (`unread` where none was) and its map.
+fn come(of: &mut Floor, port: u8, words: &[&str]) -> Option<()> {
+    let name = carrier(words, 2);
+    let id = if is_at(words, 2, "unread") {
+        None
+    } else {
+        name
+    };
+    let (Some(_), Some(map)) = (name, map(words, 3)) else {
+        return None;
+    };
+    let number = PortNo(port);
+    if !of.floor.has_port(number) {
+        return None;
     }
-    Ok(Some(carrier(words, 2)?))
+    let arrival = of.floor.arrival(number, id, map);
+    of.floor.come(number, arrival);
+    fire_all(of, Firing::new(4, u64::from(port), 3))
 }
 
-// A map whose slots are correctly occupied, or one with an undefined slot.
-fn map(word: &str) -> Result<[u8; 25]> {
-    match word {
-        "good" => Ok([3; 25]),
-        "bad" => Ok([
+// The carrier of a port is removed, and rows fire.
+fn remove(of: &mut Floor, port: u64) -> Option<()> {
+    let Some(()) = fire_all(of, Firing::new(4, port, 5)) else {
+        return None;
+    };
+    match fire_all(of, Firing::new(7, port, 6)) {
+        Some(()) => settle(of),
+        None => None,
+    }
+}
+
+// ---- what process jobs do
+
+// The carrier of a name is marked stopped.
+fn mark(of: &mut Floor, words: &[&str]) -> Option<()> {
+    let Some(word) = words.get(1) else {
+        return None;
+    };
+    let Ok(name) = Text80::read(word.as_bytes()) else {
+        return None;
+    };
+    of.floor.mark_stopped(name);
+    Some(())
+}
+
+// ---- what the host asks
+
+// The host asks for this of a carrier, and it is done, where it can be; gives what it is answered.
+fn ask(of: &mut Floor, words: &[&str], answer: &mut String) -> Option<()> {
+    let Some(action) = asked(words) else {
+        return None;
+    };
+    let code = of.floor.carrier_code(&action);
+    let Ok(()) = write!(answer, "{}", code.number()) else {
+        return None;
+    };
+    if !code.is_done() {
+        return Some(());
+    }
+    let rows = of.floor.carrier_rows(&action);
+    let Ok(()) = of.floor.write(&action) else {
+        return None;
+    };
+    for row in rows.as_slice() {
+        let Some(()) = fire_all(of, *row) else {
+            return None;
+        };
+    }
+    settle(of)
+}
+
+// What the host asks for: an action, a carrier, a port, and a map, where one is given.
+fn asked(words: &[&str]) -> Option<CarrierAction> {
+    let (Some(word), Some(name), Some(port)) = (action(words, 1), words.get(2), small(words, 3))
+    else {
+        return None;
+    };
+    let Ok(id) = Text80::read(name.as_bytes()) else {
+        return None;
+    };
+    let map = map(words, 4);
+    if map.is_none() && words.len() > 4 {
+        return None;
+    }
+    Some(CarrierAction {
+        word,
+        id,
+        port,
+        map,
+        bad_attr: false,
+    })
+}
+
+// ---- what is told
+
+// Whether a carrier is known, whether it is present, or whether it is marked stopped.
+fn add_known(answer: &mut String, floor: &ShopFloor, name: CarrierId, call: &str) -> Option<()> {
+    let holds = match floor.carrier_named(name.text()) {
+        Some(carrier) => match call {
+            "known" => true,
+            "present" => carrier.present,
+            _ => carrier.stopped,
+        },
+        None => false,
+    };
+    write!(answer, "{holds}").ok()
+}
+
+// The map at a place of a line: its slots are correctly occupied, or one is undefined.
+fn map(words: &[&str], place: usize) -> Option<[u8; 25]> {
+    let Some(word) = words.get(place) else {
+        return None;
+    };
+    match *word {
+        "good" => Some([3; 25]),
+        "bad" => Some([
             3, 3, 3, 3, 3, 3, 3, 0, 3, 3, 3, 3, 3, 3, 3, 3, 3, 3, 3, 3, 3, 3, 3, 3, 3,
         ]),
-        _ => bail!("there is no such map"),
+        _ => None,
     }
 }

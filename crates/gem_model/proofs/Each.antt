@@ -1,5 +1,5 @@
 -- What each single change keeps, the ends of transactions and sessions keep: for facts that look at no transaction.
-use Rattle.std.proofs.Common.{◌≡◌, ℕ, Bool, true, List, [], Option, Some}
+use Rattle.std.proofs.Common.{◌≡◌, ℕ, Bool, true, List, [], Option, Some, None}
 use Rattle.hsms_frame.specs.declared.frame.Header.{Header}
 use Rattle.hsms_link.specs.declared.state.LinkState.{LinkState}
 use Rattle.secs_items.specs.Data.{Data}
@@ -20,6 +20,7 @@ use Rattle.transactions.specs.declared.transaction.What.TheVariants as what
 use Rattle.transactions.specs.Table.{Table}
 use Rattle.tool_floor.specs.Machines.{is_creation}
 use Rattle.tool_floor.specs.Floor.{with_shop, fetched}
+use Rattle.process_job.specs.Creating.{create_fault}
 use Rattle.process_job.specs.declared.job.JobSpec.{JobSpec}
 use Rattle.control_job.specs.Jobs.{JobStore}
 use Rattle.tool_jobs.specs.Creating.{with_process}
@@ -65,7 +66,7 @@ pub record EachInner (P : State → Type 0) : Type 1 where
   pub fetched : (g : State) (number : ℕ) → P g → P (record g { floor = fetched number g.floor })
   pub came : (g : State) (port : ℕ) (name : Option (List ℕ)) (slots : List ℕ) → P g → P (with_arrival port name slots g)
   pub written : (g : State) (a : CarrierAction) → is_done_code (carrier_code a g.floor) ≡ true → P g → P (record g { floor = with_shop (carrier_written a g.floor.shop) g.floor })
-  pub process : (g : State) (spec : JobSpec) → P g → P (with_jobs_now (with_process spec (jobs_of g)) g)
+  pub process : (g : State) (spec : JobSpec) → create_fault spec (jobs_of g).process ≡ None → P g → P (with_jobs_now (with_process spec (jobs_of g)) g)
   pub control : (g : State) (s : JobStore) → P g → P (with_jobs_now (record (jobs_of g) { control = s }) g)
   pub row : (g : State) (f : Firing) → IsListed f → row_starts g f ≡ true → P g → P (takes_effect g f)
   pub ready : (g : State) (f : Firing) → least g ≡ Some f → P g → P (fire g f)

@@ -26,7 +26,7 @@ use Rattle.tool_floor.specs.Modules.{number_named}
 use Rattle.tool_floor.proofs.Asked.{done_by_jobs}
 use Rattle.tool_floor.specs.Machines.{floor_starts, floor_fired, floor_least, creation_rows, is_creation}
 use Rattle.tool_floor.specs.Signals.{done_row, at_processed, processed_rows, done_processing, at_done, done_processed, done_at, done_rows, closing_at, closing_rows, can_be_lost, lost_at, lost_rows}
-use Rattle.tool_floor.proofs.Keeping.{creation_same, least_starts}
+use Rattle.tool_floor.proofs.Keeping.{creation_same}
 use Rattle.tool_events.specs.declared.event.Event.{Event}
 use Rattle.tool_events.specs.declared.event.Event.TheVariants as event
 use Rattle.tool_events.specs.declared.event.Signal.TheVariants as signal
@@ -67,7 +67,7 @@ use Rattle.gem_model.proofs.Listed.{are_both, listed_keeps}
 use Rattle.gem_model.proofs.Each.{EachEnd, end_closed, end_timed_out, end_disabled, end_session}
 use Rattle.gem_model.proofs.CommonRows.{free_common, end_common, is_4, is_6, is_7, is_10, advanced_floor, created_common, proceeding_common, cancel_done, IsAway}
 use Rattle.gem_model.proofs.Walk.{Units, Inner, Kept}
-use Rattle.gem_model.proofs.Floored.{SameFloor, floor_comm, floor_control, floor_line}
+use Rattle.gem_model.proofs.EachFloor.{SameFloor, floor_comm, floor_control, floor_line}
 
 -- A fact of the floor of the tool that holds with what holds at every moment. The rows that are ready by themselves keep it, and those that
 -- inputs fire alone; so does what the host writes, and what becomes of jobs; and lists of rows of an event do, where this is known of the
@@ -372,7 +372,7 @@ module _ (Rest : Event → State → Type 0) (F : ToolFloor → Type 0) (fact : 
     kinds = λ g k st. st;
     fetched = λ g number st. fact.fetched number g.floor st;
     written = λ g a code st. fact.written a g.floor (done_by_jobs a g.floor code) st;
-    process = λ g spec st. fact.process spec g.floor st;
+    process = λ g spec faultless st. fact.process spec g.floor st;
     control = λ g s st. fact.control s g.floor st;
     row = λ g f free starts st. common_row g f (free_common f free) starts st;
     units = units;

@@ -4,6 +4,7 @@ use Rattle.tool_events.specs.declared.config.Config.{Config}
 use Rattle.tool_events.specs.declared.entry.Entry.{Entry}
 use Rattle.tool_events.specs.Configs.{IsConfig}
 use Rattle.load_port.specs.Ports.{most_ports}
+use Rattle.work_laws.specs.Equipped.{most_chambers}
 use Rattle.gem_model.specs.State.{State, opening}
 use Rattle.gem_model.specs.Run.{Run, after_all}
 use Rattle.gem_model.specs.Recorded.{Recorded}
@@ -13,6 +14,7 @@ use Rattle.gem_model.proofs.Validity.{run-line, run-sendings, run-empty, run-roo
 use Rattle.gem_model.proofs.NoteNumbers.{run-own}
 use Rattle.gem_model.proofs.Floored.{run-floor, run-carriers}
 use Rattle.gem_model.proofs.Placed.{run-placed}
+use Rattle.gem_model.proofs.Working.{run-works}
 use Rattle.gem_model.proofs.Moved.{run-moves, run-ends-once, run-given}
 use Rattle.floor_laws.proofs.FloorPlaces.{one_place_sound}
 
@@ -20,6 +22,8 @@ pub recorded-of : (c : Config) (history : List Entry) (g : State) → IsConfig c
 recorded-of c history g bounds run =
     let two = bounds.ports in
     let ports : c.ports ≤ most_ports = omega (arith, two) in
+    let chambers = bounds.chambers in
+    let few : c.chambers ≤ most_chambers = omega (arith, chambers) in
     record {
       run = run;
       notes = run-reported c history g run;
@@ -38,6 +42,7 @@ recorded-of c history g bounds run =
       moves = run-moves c history g ports run;
       ends = run-ends-once c history g ports run;
       room = run-room c history g run;
+      works = λ usable up work. run-works c history g ports few usable run up work;
     }
 
 -- a history in which nothing happened

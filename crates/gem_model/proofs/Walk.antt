@@ -14,6 +14,7 @@ use Rattle.hsms_link.specs.declared.deadlines.LinkDue.{LinkDue}
 use Rattle.hsms_link.specs.declared.deadlines.LinkDue.TheVariants as due
 use Rattle.std.proofs.lemmas.Bool.{true≢false}
 use Rattle.transactions.specs.Endings.{answers, first_expired, is_first_expired}
+use Rattle.process_job.specs.Creating.{create_fault}
 use Rattle.process_job.specs.declared.job.JobSpec.{JobSpec}
 use Rattle.control_job.specs.Commands.{command_answer}
 use Rattle.control_job.specs.Jobs.{JobStore}
@@ -24,6 +25,7 @@ use Rattle.tool_jobs.specs.Creating.{with_process}
 use Rattle.job_requests.specs.declared.error.JobError.{JobError}
 use Rattle.job_requests.specs.Requests.{command_named, command_error, asked_process, process_error, asked_control, request_error, cancel_error, control_command_error, control_after}
 use Rattle.gem_model.specs.JobMessages.{jobs_of, with_jobs_now, asked_of_jobs}
+use Rattle.gem_model.proofs.Creating.{faultless}
 use Rattle.gem_model.proofs.Links.{link_after-keeps}
 use Rattle.secs_items.specs.Data.{Data}
 use Rattle.gem_primaries.specs.declared.primary.GemMsg.{GemMsg}
@@ -127,8 +129,8 @@ pub record Inner (Rest : Event → State → Type 0) (P : State → Type 0) : Ty
   pub kinds : (g : State) (k : SpooledKinds) → P g → P (record g { line = with_kinds k g.line })
   pub fetched : (g : State) (number : ℕ) → P g → P (record g { floor = fetched number g.floor })
   pub written : (g : State) (a : CarrierAction) → is_done_code (carrier_code a g.floor) ≡ true → P g → P (record g { floor = with_shop (carrier_written a g.floor.shop) g.floor })
-  -- a process job is created, and the control jobs change
-  pub process : (g : State) (spec : JobSpec) → P g → P (with_jobs_now (with_process spec (jobs_of g)) g)
+  -- a process job is created against which no fault stands, and the control jobs change
+  pub process : (g : State) (spec : JobSpec) → create_fault spec (jobs_of g).process ≡ None → P g → P (with_jobs_now (with_process spec (jobs_of g)) g)
   pub control : (g : State) (s : JobStore) → P g → P (with_jobs_now (record (jobs_of g) { control = s }) g)
   pub row : (g : State) (f : Firing) → IsFree f → row_starts g f ≡ true → P g → P (takes_effect g f)
   pub units : Units Rest P
@@ -255,9 +257,9 @@ module _ (Rest : Event → State → Type 0) (P : State → Type 0) (inner : Inn
       (λ is. inner.written g a (done_code (is_unknown a.word) (is_local g.control) (carrier_code a g.floor) is) at) at
 
   -- what is asked of jobs
-  kept_jobs : (g : State) (r : ShopReply) (e : Option JobError) (w : Jobs) (rows : List Firing) → P g → P (with_jobs_now w g) → P (asked_of_jobs g r e w rows).after
+  kept_jobs : (g : State) (r : ShopReply) (e : Option JobError) (w : Jobs) (rows : List Firing) → P g → (e ≡ None → P (with_jobs_now w g)) → P (asked_of_jobs g r e w rows).after
   kept_jobs g r (Some e) w rows at behind = at
-  kept_jobs g r None w rows at behind = behind
+  kept_jobs g r None w rows at behind = behind refl
 
   kept_headed : (g : State) (job : List ℕ) (a : Result CtlAct ℕ) → P g → P (with_jobs_now (control_after job a (jobs_of g)) g)
   kept_headed g job (Ok Head) at = inner.control g _ at
@@ -268,13 +270,13 @@ module _ (Rest : Event → State → Type 0) (P : State → Type 0) (inner : Inn
   kept_shop (S3F17 dataid action carrier number attributes) g at = kept_action (carrier_action action carrier number attributes) g at
   kept_shop (S3F25 action number value) g at = at
   kept_shop (S3F27 mode numbers) g at = at
-  kept_shop (S14F9 object type attributes) g at = kept_jobs g _ (request_error (is_local g.control) type (asked_control attributes) (jobs_of g)) _ _ at (inner.control g _ at)
-  kept_shop (S16F5 dataid job command value) g at = kept_jobs g _ (command_error (is_local g.control) job (command_named command) (jobs_of g)) _ _ at at
-  kept_shop (S16F11 dataid job material recipe start events) g at = kept_jobs g _ (process_error (is_local g.control) (asked_process job material recipe.0 start) events (jobs_of g)) _ _ at (inner.process g (asked_process job material recipe.0 start) at)
-  kept_shop (S16F17 jobs) g at = kept_jobs g _ (cancel_error (is_local g.control) jobs (jobs_of g)) _ _ at at
+  kept_shop (S14F9 object type attributes) g at = kept_jobs g _ (request_error (is_local g.control) type (asked_control attributes) (jobs_of g)) _ _ at (λ _. inner.control g _ at)
+  kept_shop (S16F5 dataid job command value) g at = kept_jobs g _ (command_error (is_local g.control) job (command_named command) (jobs_of g)) _ _ at (λ _. at)
+  kept_shop (S16F11 dataid job material recipe start events) g at = kept_jobs g _ (process_error (is_local g.control) (asked_process job material recipe.0 start) events (jobs_of g)) _ _ at (λ none. inner.process g (asked_process job material recipe.0 start) (faultless (is_local g.control) (asked_process job material recipe.0 start) events (jobs_of g) none) at)
+  kept_shop (S16F17 jobs) g at = kept_jobs g _ (cancel_error (is_local g.control) jobs (jobs_of g)) _ _ at (λ _. at)
   kept_shop S16F19 g at = at
   kept_shop S16F21 g at = at
-  kept_shop (S16F27 job command value) g at = kept_jobs g _ (control_command_error (is_local g.control) job command (jobs_of g)) _ _ at (kept_headed g job (command_answer job command (jobs_of g).control.jobs) at)
+  kept_shop (S16F27 job command value) g at = kept_jobs g _ (control_command_error (is_local g.control) job command (jobs_of g)) _ _ at (λ _. kept_headed g job (command_answer job command (jobs_of g).control.jobs) at)
 
   -- what a message writes
   pub kept_done : (g : State) (m : HostMessage) → P g → P (done g m).after

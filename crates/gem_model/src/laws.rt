@@ -29,6 +29,8 @@ ghost use Rattle.shop_floor.specs.Valid.{IsFloor};
 ghost use Rattle.floor_moves.specs.OnePlace.{OnePlace};
 ghost use Rattle.place_laws.specs.Picture.{picture};
 ghost use Rattle.place_laws.specs.Standing.{AreRegistered};
+ghost use Rattle.work_laws.specs.Equipped.{are_usable, most_chambers, Equipped};
+ghost use Rattle.work_laws.specs.Work.{is_work_left, is_any_down, is_any_open};
 
 /// A primary of the tool always finds room among the open transactions: where a history leads, at most two are open, of the
 /// sixteen that can be; and there is room in each state that the tool passes while it settles behind an event.
@@ -128,6 +130,18 @@ pub fn each_substrate_moves_once_a_command_in_a_history()
         → h.floor.places.given < n → place_of n h ≡ None }
     ensures removed { (c : Config) (front behind : List Entry) (g h : State) (n : ℕ) → c.ports ≤ most_ports → Run (opening c) front g → Run g behind h
         → n ≤ g.floor.places.given → place_of n g ≡ None → place_of n h ≡ None }
+{}
+
+/// Where a history leads, a command is open while no module is Down and work is left: a process job is PROCESSING, STOPPING or ABORTING,
+/// and not each of its members is finished and in its slot or removed; or it is PAUSING, and a member is outside. So the tool never
+/// stands still with work to do. Each recipe of the configuration is to have a chamber of the tool, and has one then throughout, as has
+/// that of each process job.
+pub fn a_command_is_open_in_a_history()
+    ensures works { (c : Config) (entries : List Entry) (h : State) → c.ports ≤ most_ports → c.chambers ≤ most_chambers
+        → are_usable c.chambers c.recipes ≡ true → Run (opening c) entries h
+        → is_any_down h.floor.modules ≡ false → is_work_left h.floor ≡ true → is_any_open h.floor.modules ≡ true }
+    ensures equipped { (c : Config) (entries : List Entry) (h : State) → c.chambers ≤ most_chambers
+        → are_usable c.chambers c.recipes ≡ true → Run (opening c) entries h → Equipped h.floor }
 {}
 
 /// Where a history leads, an INACTIVE spool is empty. So the kinds of note that are spooled change wherever the host sets

@@ -9,14 +9,13 @@
 //! The answer is the error's code and text, or what is fired, as `14.15 at 1`, and `-` where nothing is; before it stands for S14F9
 //! the name of the answer in quotes, and for S16F17 the names of the jobs. A job that is asked for is created, and a control job that
 //! becomes the head of the queue does. `local` and `remote` say who commands, and `fire 14 1 2` fires row 2 of table 14 at process
-//! job 1, `fire 15 1 2` row 2 of table 15 at control job 1. `fill 64` asks for process jobs P01, P02 and so on, and `own 32` for control
-//! jobs C01, C02 and so on of one of these each.
+//! job 1, `fire 15 1 2` row 2 of table 15 at control job 1.
 
 use crate::asked::{cancel, command, fire, queue};
-use crate::created::{control, fill, none, own, process};
+use crate::created::{control, none, process};
 use anyhow::{Result, bail};
 use std::alloc::Global;
-use test_lines::{Subject, nothing, word, words};
+use test_lines::{Subject, words};
 use tool_jobs::Jobs;
 
 /// The jobs of a tool, and whether it is ON-LINE LOCAL.
@@ -29,40 +28,46 @@ pub struct JobRequests {
 impl JobRequests {
     /// No jobs, of a tool with recipe R1 that is ON-LINE REMOTE.
     pub fn new(alloc: Global) -> Result<JobRequests> {
-        let jobs = none(alloc)?;
-        Ok(JobRequests { jobs, local: false })
+        match none(alloc) {
+            Some(jobs) => Ok(JobRequests { jobs, local: false }),
+            None => bail!("there is no memory"),
+        }
     }
 }
 
 impl Subject for JobRequests {
     fn answer(&mut self, alloc: Global, said: &str) -> Result<String> {
         let words = words(alloc, said)?;
-        let words = words.as_slice();
-        match word(words, 0)? {
-            "local" => {
-                self.local = true;
-                nothing(alloc)
-            }
-            "remote" => {
-                self.local = false;
-                nothing(alloc)
-            }
-            _ => say(alloc, self.local, &mut self.jobs, words),
+        let mut answer = String::new(alloc);
+        match say(alloc, self, words.as_slice(), &mut answer) {
+            Some(()) => Ok(answer),
+            None => bail!("it says nothing, or there is no memory"),
         }
     }
 }
 
-// Says the words of a line to the jobs.
-fn say(alloc: Global, local: bool, jobs: &mut Jobs, words: &[&str]) -> Result<String> {
-    match word(words, 0)? {
-        "S14F9" => control(alloc, local, jobs, words),
-        "S16F11" => process(alloc, local, jobs, words),
-        "S16F27" => queue(alloc, local, jobs, words),
-        "S16F5" => command(alloc, local, jobs, words),
-        "S16F17" => cancel(alloc, local, jobs, words),
-        "fire" => fire(alloc, jobs, words),
-        "fill" => fill(alloc, jobs, words),
-        "own" => own(alloc, jobs, words),
-        _ => bail!("it says nothing"),
+// Says the words of a line; the answer. None where they say nothing, or there is no memory.
+fn say(alloc: Global, asked: &mut JobRequests, words: &[&str], answer: &mut String) -> Option<()> {
+    let [first, words @ ..] = words else {
+        return None;
+    };
+    let local = asked.local;
+    let jobs = &mut asked.jobs;
+    match *first {
+        "local" => {
+            asked.local = true;
+            Some(())
+        }
+        "remote" => {
+            asked.local = false;
+            Some(())
+        }
+        "S14F9" => control(alloc, local, jobs, words, answer),
+        "S16F11" => process(alloc, local, jobs, words, answer),
+        "S16F27" => queue(local, jobs, words, answer),
+        "S16F5" => command(local, jobs, words, answer),
+        "S16F17" => cancel(alloc, local, jobs, words, answer),
+        "fire" => fire(jobs, words),
+        _ => None,
     }
 }

@@ -1,74 +1,75 @@
-//! Errors and firings, as they are told.
+//! Texts as words stand for them, and errors and firings as they are told. None where there is none, or no memory.
 
-use anyhow::Result;
 use gem_ids::Text80;
 use gem_tables::Firing;
 use job_requests::JobError;
-use std::alloc::Global;
 
 // The text that a word stands for.
-pub(crate) fn text(word: &str) -> Result<Text80> {
+pub(crate) fn read(word: &str) -> Option<Text80> {
     if word == "''" {
-        return Ok(Text80::empty());
+        return Some(Text80::empty());
     }
-    Ok(Text80::read(word.as_bytes())?)
+    Text80::read(word.as_bytes()).ok()
 }
 
-// The words of a text.
-pub(crate) fn words_of(alloc: Global, text: Text80) -> Result<String> {
-    Ok(String::from_utf8_lossy(alloc, text.as_bytes())?)
+// A text.
+pub(crate) fn add_text(answer: &mut String, text: Text80) -> Option<()> {
+    match str::from_utf8(text.as_bytes()) {
+        Ok(text) => answer.push_str(text).ok(),
+        Err(_) => None,
+    }
 }
 
 // An error: its code and its text.
-pub(crate) fn error_text(alloc: Global, error: JobError) -> Result<String> {
-    let code = error.code();
-    let text = words_of(alloc, error.text())?;
-    Ok(format!(in alloc; "{code} {text}")?)
+pub(crate) fn add_error(answer: &mut String, error: JobError) -> Option<()> {
+    let Ok(()) = write!(answer, "{} ", error.code()) else {
+        return None;
+    };
+    add_text(answer, error.text())
 }
 
 // A firing, and `-` where there is none.
-pub(crate) fn row_text(alloc: Global, row: Option<Firing>) -> Result<String> {
+pub(crate) fn add_row(answer: &mut String, row: Option<Firing>) -> Option<()> {
     match row {
-        Some(row) => one_text(alloc, row),
-        None => Ok(String::from_str(alloc, "-")?),
+        Some(row) => add_firing(answer, "", row),
+        None => answer.push_str("-").ok(),
     }
 }
 
-fn one_text(alloc: Global, row: Firing) -> Result<String> {
-    let table = row.row.table;
-    let number = row.row.row;
-    let object = row.object;
-    Ok(format!(in alloc; "{table}.{number} at {object}")?)
+// A firing behind these letters.
+fn add_firing(answer: &mut String, before: &str, row: Firing) -> Option<()> {
+    let (table, number, object) = (row.row.table, row.row.row, row.object);
+    write!(answer, "{before}{table}.{number} at {object}").ok()
 }
 
 // Firings with commas between them, and `-` for none.
-pub(crate) fn rows_text(alloc: Global, rows: &[Firing]) -> Result<String> {
-    let mut all = String::new(alloc);
+pub(crate) fn add_rows(answer: &mut String, rows: &[Firing]) -> Option<()> {
+    let mut before = "";
     for row in rows {
-        if !all.is_empty() {
-            all.push_str(", ")?;
-        }
-        let one = one_text(alloc, *row)?;
-        all.push_str(one.as_str())?;
+        let Some(()) = add_firing(answer, before, *row) else {
+            return None;
+        };
+        before = ", ";
     }
-    if all.is_empty() {
-        all.push_str("-")?;
+    if rows.is_empty() {
+        return answer.push_str("-").ok();
     }
-    Ok(all)
+    Some(())
 }
 
-// Names with commas between them, and `-` for none.
-pub(crate) fn names_text(alloc: Global, names: &[Text80]) -> Result<String> {
-    let mut all = String::new(alloc);
+// Names, each with a comma in front of it but the first, and `-` for none; and a space.
+pub(crate) fn add_names(answer: &mut String, names: &[Text80]) -> Option<()> {
+    let mut before = "";
     for name in names {
-        if !all.is_empty() {
-            all.push_str(",")?;
-        }
-        let one = words_of(alloc, *name)?;
-        all.push_str(one.as_str())?;
+        let Ok(()) = answer.push_str(before) else {
+            return None;
+        };
+        let Some(()) = add_text(answer, *name) else {
+            return None;
+        };
+        before = ",";
     }
-    if all.is_empty() {
-        all.push_str("-")?;
-    }
-    Ok(all)
+    answer
+        .push_str(if names.is_empty() { "- " } else { " " })
+        .ok()
 }

@@ -20,6 +20,6 @@ pub use cancelling::{cancel_error, cancel_rows, cancelled};
 pub use command::{command_error, command_named, command_row};
 pub use control::{ControlRequest, control_error, control_names, control_request, control_row};
 pub use error::JobError;
-pub use names::job_name;
+pub use names::{control_id, job_name};
 pub use process::{process_error, process_row, process_spec};
 pub use queue::{QueueAct, control_command, control_command_error, make_head};

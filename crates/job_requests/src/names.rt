@@ -64,8 +64,8 @@ pub(crate) fn process_named(process: &ProcessJobs, name: Text80) -> Option<&Proc
     }
 }
 
-// The control job of a name, by its own name. `None` exactly where none of the name is kept.
-pub(crate) fn control_id(control: &ControlJobs, name: Text80) -> Option<JobId>
+/// The control job of a name as it stands in a message, by its own name. `None` exactly where none of the name is kept.
+pub fn control_id(control: &ControlJobs, name: Text80) -> Option<JobId>
     ensures { result ≡ option_map (λ j. j.name) (control_named name control.now.jobs) }
 {
     for place in 0..control.len() {

@@ -1,5 +1,6 @@
 //! The subjects of the texts, and how they begin.
 
+use crate::spelled::Words;
 use anyhow::{Result, bail};
 use carrier_subjects::{CarrierStates, KnownCarriers};
 use control_job_subjects::{ControlStates, KeptJobs};
@@ -25,6 +26,7 @@ impl Texts for Parts {
             "to items" => answers(alloc, &mut ItemTexts, lines),
             "to lines" => answers(alloc, &mut LineTexts, lines),
             "to names" => answers(alloc, &mut Names, lines),
+            "to words of messages" => answers(alloc, &mut Words, lines),
             "to a list of ids" => answers(alloc, &mut IdList::new(alloc), lines),
             "to the calendar" => answers(alloc, &mut Calendar, lines),
             "to S1F14 of the host" => answers(alloc, &mut Acknowledge, lines),

@@ -7,6 +7,7 @@
 #![tactic(auto)]
 
 mod begun;
+mod spelled;
 
 use begun::Parts;
 use std::process::ExitCode;

@@ -4,14 +4,31 @@ ghost use Rattle.std.specs.Prelude.{◌≡◌, ◌≤◌, length, map, IfOk};
 ghost use Rattle.secs_items.specs.View.{view};
 ghost use Rattle.secs_items.specs.Weight.{IsBounded};
 ghost use Rattle.body_parts.specs.Functions.{AreFewFunctions};
-ghost use Rattle.gem_replies.specs.Sendable.{AreFew};
+ghost use Rattle.gem_replies.specs.Sendable.{AreFew, HasSendableParts};
 
 use gem_ids::{Listed, Text80};
 use msgs_gem::{GemReply, ParameterAcknowledge, StreamRefusal, VariableName};
-use reply_texts::{is_text, number, repeated, sent, text};
+use reply_texts::{number, repeated, sent, text};
 use secs_items::{Item, Items, NoMemory};
 use std::alloc::Global;
 use std::test::Fail;
+
+// Whether the text of a reply has these bytes, as hex digits.
+fn is_sent(alloc: Global, reply: &GemReply, wanted: &str) -> bool
+    requires { HasSendableParts reply.now }
+{
+    match sent(alloc, reply) {
+        Ok(text) => is_text(alloc, text.as_slice(), wanted),
+        Err(_) => false,
+    }
+}
+
+fn is_text(alloc: Global, text: &[u8], wanted: &str) -> bool {
+    match hex::decode(alloc, wanted) {
+        Ok(wanted) => wanted.as_slice() == text,
+        Err(_) => false,
+    }
+}
 
 // The value 7, and an L without items.
 fn two_values(alloc: Global) -> Result<Items, NoMemory>
@@ -23,40 +40,33 @@ fn two_values(alloc: Global) -> Result<Items, NoMemory>
     Ok(values)
 }
 
-// The replies that are a list of values.
-fn status_data(alloc: Global, values: Items) -> Result<Vec<u8>, NoMemory>
+// Whether the reply that is a list of these values has this text: 0 stands for S1F4, 1 for S2F14, and 2 for S6F20.
+fn are_values(alloc: Global, reply: u8, values: Items, wanted: &str) -> bool
     requires { AreFew 1024 1 84 values }
 {
-    sent(alloc, &GemReply::S1F4(values))
+    match reply {
+        0 => is_sent(alloc, &GemReply::S1F4(values), wanted),
+        1 => is_sent(alloc, &GemReply::S2F14(values), wanted),
+        _ => is_sent(alloc, &GemReply::S6F20(values), wanted),
+    }
 }
 
-fn constant_data(alloc: Global, values: Items) -> Result<Vec<u8>, NoMemory>
-    requires { AreFew 1024 1 84 values }
-{
-    sent(alloc, &GemReply::S2F14(values))
-}
-
-fn report_data(alloc: Global, values: Items) -> Result<Vec<u8>, NoMemory>
-    requires { AreFew 1024 1 84 values }
-{
-    sent(alloc, &GemReply::S6F20(values))
+// Whether it has the text of two values.
+fn are_two_values(alloc: Global, reply: u8) -> bool {
+    match two_values(alloc) {
+        Ok(values) => are_values(alloc, reply, values, "0102B104000000070100"),
+        Err(_) => false,
+    }
 }
 
 #[test]
 fn values_are_a_list(rt: HostRuntime) -> Result<(), Fail> {
     let alloc = rt.alloc();
-    are_two_values(alloc)?;
-    is_text(alloc, status_data(alloc, Items::new(alloc)), "0100")?;
-    is_text(alloc, constant_data(alloc, Items::new(alloc)), "0100")?;
-    is_text(alloc, report_data(alloc, Items::new(alloc)), "0100")
-}
-
-// Each of them with two values.
-fn are_two_values(alloc: Global) -> Result<(), Fail> {
-    let two = "0102B104000000070100";
-    is_text(alloc, status_data(alloc, two_values(alloc)?), two)?;
-    is_text(alloc, constant_data(alloc, two_values(alloc)?), two)?;
-    is_text(alloc, report_data(alloc, two_values(alloc)?), two)
+    for reply in 0..3 {
+        let none = are_values(alloc, reply, Items::new(alloc), "0100");
+        assert_eq!(rt; (none, are_two_values(alloc, reply)), (true, true));
+    }
+    Ok(())
 }
 
 // A constant, as L[U4].
@@ -77,14 +87,17 @@ fn two_constants(alloc: Global) -> Result<Items, NoMemory>
     Ok(constants)
 }
 
-fn constants(alloc: Global) -> Result<Vec<u8>, NoMemory> {
-    sent(alloc, &GemReply::S2F30(two_constants(alloc)?))
+fn are_constants(alloc: Global, wanted: &str) -> bool {
+    match two_constants(alloc) {
+        Ok(constants) => is_sent(alloc, &GemReply::S2F30(constants), wanted),
+        Err(_) => false,
+    }
 }
 
 #[test]
 fn constants_are_printed_as_they_are_given(rt: HostRuntime) -> Result<(), Fail> {
-    let want = "01020101B104000000C90101B104000000CA";
-    is_text(rt.alloc(), constants(rt.alloc()), want)
+    assert!(rt; are_constants(rt.alloc(), "01020101B104000000C90101B104000000CA"));
+    Ok(())
 }
 
 // Two names, the second of an unknown variable.
@@ -104,36 +117,46 @@ fn two_names(alloc: Global) -> Result<Listed<VariableName>, NoMemory>
     Ok(Listed::from_vec(names))
 }
 
-// S1F12 with two names.
-fn names(alloc: Global) -> Result<Vec<u8>, NoMemory> {
-    sent(alloc, &GemReply::S1F12(two_names(alloc)?))
+// Whether S1F12 with two names has this text.
+fn are_names(alloc: Global, wanted: &str) -> bool {
+    match two_names(alloc) {
+        Ok(names) => is_sent(alloc, &GemReply::S1F12(names), wanted),
+        Err(_) => false,
+    }
 }
 
-fn no_names(alloc: Global) -> Result<Vec<u8>, NoMemory> {
-    sent(alloc, &GemReply::S1F12(Listed::new(alloc)))
+fn are_no_names(alloc: Global, wanted: &str) -> bool {
+    is_sent(alloc, &GemReply::S1F12(Listed::new(alloc)), wanted)
 }
 
 #[test]
 fn a_name_has_its_variable_and_no_units(rt: HostRuntime) -> Result<(), Fail> {
-    let alloc = rt.alloc();
-    is_text(alloc, no_names(alloc), "0100")?;
-    is_text(
-        alloc,
-        names(alloc),
-        "01020103B104000000014105436C6F636B41000103B104FFFFFFFF41004100",
-    )
+    let two = "01020103B104000000014105436C6F636B41000103B104FFFFFFFF41004100";
+    assert!(rt; are_no_names(rt.alloc(), "0100"));
+    assert!(rt; are_names(rt.alloc(), two));
+    Ok(())
 }
 
 // The replies that are a code.
+fn is_code(alloc: Global, reply: &GemReply) -> bool
+    requires { HasSendableParts reply.now }
+{
+    is_sent(alloc, reply, "210103")
+}
+
 #[test]
 fn a_code_is_one_binary_byte(rt: HostRuntime) -> Result<(), Fail> {
     let alloc = rt.alloc();
-    is_text(alloc, sent(alloc, &GemReply::S2F16(3)), "210103")?;
-    is_text(alloc, sent(alloc, &GemReply::S2F34(3)), "210103")?;
-    is_text(alloc, sent(alloc, &GemReply::S2F36(3)), "210103")?;
-    is_text(alloc, sent(alloc, &GemReply::S2F38(3)), "210103")?;
-    is_text(alloc, sent(alloc, &GemReply::S5F4(3)), "210103")?;
-    is_text(alloc, sent(alloc, &GemReply::S6F24(3)), "210103")
+    let codes = [
+        is_code(alloc, &GemReply::S2F16(3)),
+        is_code(alloc, &GemReply::S2F34(3)),
+        is_code(alloc, &GemReply::S2F36(3)),
+        is_code(alloc, &GemReply::S2F38(3)),
+        is_code(alloc, &GemReply::S5F4(3)),
+        is_code(alloc, &GemReply::S6F24(3)),
+    ];
+    assert_eq!(rt; codes, [true; 6]);
+    Ok(())
 }
 
 // Two parameters that are refused.
@@ -153,24 +176,24 @@ fn two_refused(alloc: Global) -> Result<Listed<ParameterAcknowledge>, NoMemory>
     Ok(Listed::from_vec(parameters))
 }
 
-// HCACK without a parameter, and with two.
-fn accepted_command(alloc: Global) -> Result<Vec<u8>, NoMemory> {
-    sent(alloc, &GemReply::S2F42(0, Listed::new(alloc)))
+// Whether HCACK without a parameter, and with two, has this text.
+fn is_accepted(alloc: Global, wanted: &str) -> bool {
+    is_sent(alloc, &GemReply::S2F42(0, Listed::new(alloc)), wanted)
 }
 
-fn refused_command(alloc: Global) -> Result<Vec<u8>, NoMemory> {
-    sent(alloc, &GemReply::S2F42(3, two_refused(alloc)?))
+fn is_refused(alloc: Global, wanted: &str) -> bool {
+    match two_refused(alloc) {
+        Ok(parameters) => is_sent(alloc, &GemReply::S2F42(3, parameters), wanted),
+        Err(_) => false,
+    }
 }
 
 #[test]
 fn a_command_is_answered_with_its_refused_parameters(rt: HostRuntime) -> Result<(), Fail> {
-    let alloc = rt.alloc();
-    is_text(alloc, accepted_command(alloc), "01022101000100")?;
-    is_text(
-        alloc,
-        refused_command(alloc),
-        "0102210103010201024104414C494421010301024100210101",
-    )
+    let refused = "0102210103010201024104414C494421010301024100210101";
+    assert!(rt; is_accepted(rt.alloc(), "01022101000100"));
+    assert!(rt; is_refused(rt.alloc(), refused));
+    Ok(())
 }
 
 // A stream that is refused with functions.
@@ -216,41 +239,62 @@ fn three_streams(alloc: Global) -> Result<Listed<StreamRefusal>, NoMemory>
     Ok(Listed::from_vec(refusals))
 }
 
-// S2F44 of an S2F43 that is done, or that comes too late; of one that has one fault, and of one that has three.
-fn answered(alloc: Global, rspack: u8) -> Result<Vec<u8>, NoMemory> {
-    sent(alloc, &GemReply::S2F44(rspack, Listed::new(alloc)))
+// Whether S2F44 has this text: of an S2F43 that is done, or that comes too late; of one that has one fault, and of one that has
+// three.
+fn is_answered(alloc: Global, rspack: u8, wanted: &str) -> bool {
+    is_sent(alloc, &GemReply::S2F44(rspack, Listed::new(alloc)), wanted)
 }
 
-fn one_fault(alloc: Global, stream: u8, strack: u8, functions: &[u8]) -> Result<Vec<u8>, NoMemory>
+fn is_one_fault(alloc: Global, stream: u8, strack: u8, functions: &[u8], wanted: &str) -> bool
     requires { length functions.now ≤ 256 }
 {
-    let refusals = one_stream(alloc, stream, strack, functions)?;
-    sent(alloc, &GemReply::S2F44(1, refusals))
+    match one_stream(alloc, stream, strack, functions) {
+        Ok(refusals) => is_sent(alloc, &GemReply::S2F44(1, refusals), wanted),
+        Err(_) => false,
+    }
 }
 
-fn three_faults(alloc: Global) -> Result<Vec<u8>, NoMemory> {
-    sent(alloc, &GemReply::S2F44(1, three_streams(alloc)?))
+fn are_three_faults(alloc: Global, wanted: &str) -> bool {
+    match three_streams(alloc) {
+        Ok(refusals) => is_sent(alloc, &GemReply::S2F44(1, refusals), wanted),
+        Err(_) => false,
+    }
 }
 
 #[test]
 fn a_choice_of_streams_is_answered_with_its_faults(rt: HostRuntime) -> Result<(), Fail> {
     let alloc = rt.alloc();
-    is_text(alloc, answered(alloc, 0), "01022101000100")?;
-    is_text(alloc, answered(alloc, 1), "01022101010100")?;
     let stream = "010221010101010103A501012101010100";
-    is_text(alloc, one_fault(alloc, 1, 1, &[]), stream)?;
     let function = "010221010101010103A501062101040101A5010C";
-    is_text(alloc, one_fault(alloc, 6, 4, &[12]), function)?;
     let three =
         "010221010101030103A5010121010101000103A501062101030102A50109A501FF0103A501002101020100";
-    is_text(alloc, three_faults(alloc), three)
+    let answers = [
+        is_answered(alloc, 0, "01022101000100"),
+        is_answered(alloc, 1, "01022101010100"),
+        is_one_fault(alloc, 1, 1, &[], stream),
+        is_one_fault(alloc, 6, 4, &[12], function),
+        are_three_faults(alloc, three),
+    ];
+    assert_eq!(rt; answers, [true; 5]);
+    Ok(())
+}
+
+// Whether S2F44 with one stream that is refused with 256 functions has these bytes.
+fn are_256_functions(alloc: Global, wanted: &[u8]) -> bool {
+    match one_stream(alloc, 6, 4, &[12; 256]) {
+        Ok(refusals) => match sent(alloc, &GemReply::S2F44(1, refusals)) {
+            Ok(text) => text.as_slice() == wanted,
+            Err(_) => false,
+        },
+        Err(_) => false,
+    }
 }
 
 #[test]
 fn a_refused_stream_lists_each_of_its_functions(rt: HostRuntime) -> Result<(), Fail> {
     let head = "010221010101010103A50106210104020100";
-    let want = repeated(rt.alloc(), head, "A5010C", 256)?;
-    let sent = one_fault(rt.alloc(), 6, 4, &[12; 256])?;
-    assert!(rt; sent.len() == 18 + 3 * 256 && sent.as_slice() == want.as_slice());
+    let wanted = repeated(rt.alloc(), head, "A5010C", 256)?;
+    assert_eq!(rt; wanted.len(), 18 + 3 * 256);
+    assert!(rt; are_256_functions(rt.alloc(), wanted.as_slice()));
     Ok(())
 }

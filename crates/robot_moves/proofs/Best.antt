@@ -13,15 +13,15 @@ use Rattle.robot_moves.specs.declared.view.PlaceView.{PlaceView}
 -- ---- the least number
 
 -- one of several has the least number
-record IsLeast (vs : List PlaceView) (v : PlaceView) : Type 0 where
-  there : (i : ℕ) × (slice_get vs i ≡ Some v)
-  least : AllByRecursion (λ (w : PlaceView). v.number ≤ w.number) vs
+pub record IsLeast (vs : List PlaceView) (v : PlaceView) : Type 0 where
+  pub there : (i : ℕ) × (slice_get vs i ≡ Some v)
+  pub least : AllByRecursion (λ (w : PlaceView). v.number ≤ w.number) vs
 
 lower : (n m : ℕ) (vs : List PlaceView) → n ≤ m → AllByRecursion (λ (w : PlaceView). m ≤ w.number) vs → AllByRecursion (λ (w : PlaceView). n ≤ w.number) vs
 lower n m [] l h = h
 lower n m (v ∷ vs) l h = (omega (arith, l, h.0), lower n m vs l h.1)
 
-is_least : (vs : List PlaceView) (v : PlaceView) → least_numbered vs ≡ Some v → IsLeast vs v
+pub is_least : (vs : List PlaceView) (v : PlaceView) → least_numbered vs ≡ Some v → IsLeast vs v
 is_least [] v e = absurd (cc)
 is_least (w ∷ ws) v e = by_option (least_numbered ws) refl (is_least ws) e where
   alone : (us : List PlaceView) → least_numbered us ≡ None → AllByRecursion (λ (u : PlaceView). w.number ≤ u.number) us
@@ -47,7 +47,7 @@ is_least (w ∷ ws) v e = by_option (least_numbered ws) refl (is_least ws) e whe
 -- ---- of a stage
 
 -- what is among those that pass is among all, and passes
-among : (test : PlaceView → Bool) (vs : List PlaceView) (v : PlaceView) (i : ℕ) → slice_get (filter test vs) i ≡ Some v → ((j : ℕ) × (slice_get vs j ≡ Some v)) × (test v ≡ true)
+pub among : (test : PlaceView → Bool) (vs : List PlaceView) (v : PlaceView) (i : ℕ) → slice_get (filter test vs) i ≡ Some v → ((j : ℕ) × (slice_get vs j ≡ Some v)) × (test v ≡ true)
 among test [] v i e = absurd (cc)
 among test (w ∷ ws) v i e = by_test (test w) refl i e (λ j f. among test ws v j f) where
   by_test : (b : Bool) → test w ≡ b → (k : ℕ) → slice_get (cond b (w ∷ filter test ws) (filter test ws)) k ≡ Some v → ((j : ℕ) → slice_get (filter test ws) j ≡ Some v → ((n : ℕ) × (slice_get ws n ≡ Some v)) × (test v ≡ true)) → ((n : ℕ) × (slice_get (w ∷ ws) n ≡ Some v)) × (test v ≡ true)
@@ -58,14 +58,14 @@ among test (w ∷ ws) v i e = by_test (test w) refl i e (λ j f. among test ws v
   by_test false q k f later = let found = later k f in ((suc found.0.0, found.0.1), found.1)
 
 -- what holds of those that pass holds of each that passes
-of_passing : (test : PlaceView → Bool) (P : PlaceView → Type 0) (vs : List PlaceView) → AllByRecursion P (filter test vs) → AllByRecursion (λ (w : PlaceView). test w ≡ true → P w) vs
+pub of_passing : (test : PlaceView → Bool) (P : PlaceView → Type 0) (vs : List PlaceView) → AllByRecursion P (filter test vs) → AllByRecursion (λ (w : PlaceView). test w ≡ true → P w) vs
 of_passing test P [] h = h
 of_passing test P (w ∷ ws) h = by_test (test w) refl h (of_passing test P ws) where
   by_test : (b : Bool) → test w ≡ b → AllByRecursion P (cond b (w ∷ filter test ws) (filter test ws)) → (AllByRecursion P (filter test ws) → AllByRecursion (λ (u : PlaceView). test u ≡ true → P u) ws) → AllByRecursion (λ (u : PlaceView). test u ≡ true → P u) (w ∷ ws)
   by_test true q g later = (λ _. g.0, later g.1)
   by_test false q g later = (λ p. absurd (true≢false (sym p ∙ q)), later g)
 
-none_passes : (test : PlaceView → Bool) (vs : List PlaceView) → least_numbered (filter test vs) ≡ None → AllByRecursion (λ (w : PlaceView). test w ≡ false) vs
+pub none_passes : (test : PlaceView → Bool) (vs : List PlaceView) → least_numbered (filter test vs) ≡ None → AllByRecursion (λ (w : PlaceView). test w ≡ false) vs
 none_passes test [] e = tt
 none_passes test (w ∷ ws) e = by_test (test w) refl e (none_passes test ws) where
   by_test : (b : Bool) → test w ≡ b → least_numbered (cond b (w ∷ filter test ws) (filter test ws)) ≡ None → (least_numbered (filter test ws) ≡ None → AllByRecursion (λ (u : PlaceView). test u ≡ false) ws) → AllByRecursion (λ (u : PlaceView). test u ≡ false) (w ∷ ws)

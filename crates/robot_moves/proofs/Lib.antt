@@ -1,6 +1,7 @@
-pub mod Picks
+pub mod StagePicks
 pub mod First
 pub mod Numbers
 pub mod Ending
 pub mod Best
+pub mod Least
 pub mod Giving

@@ -2,6 +2,7 @@
 //! `record_texts`, and no part of the tool. Begin with `ShopMessages`.
 #![tactic(auto)]
 
+mod pieces;
 mod primaries;
 mod replies;
 mod shop_messages;

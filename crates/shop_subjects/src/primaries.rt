@@ -1,116 +1,155 @@
-//! The parts of a primary, as they are told.
+//! The primaries of the host, and their parts as they are told. None where a line says nothing. Where there is no memory the
+//! answer lacks what does not fit, and so is another.
 
-use anyhow::Result;
+use crate::pieces::add_piece;
 use gem_ids::Text80;
-use msgs_300::{CarrierSlots, NamedValue, RecipePart, ShopMsg};
-use secs_items::Item;
+use msgs_300::{CarrierSlots, NamedValue, ShopMsg, is_shop_stream, read_shop};
+use secs_items::{Item, read_one};
 use std::alloc::Global;
 
-/// The parts of a message, in their order.
-pub fn message_text(alloc: Global, message: &ShopMsg) -> Result<String> {
+// What the primary of a function says, whose text stands behind it in pieces.
+pub(crate) fn add_read(alloc: Global, stream: u8, said: &str, answer: &mut String) -> Option<()> {
+    let Some((function, pieces)) = said.split_once(' ') else {
+        return None;
+    };
+    let Ok(function) = function.parse::<u8>() else {
+        return None;
+    };
+    let mut text = Vec::new(alloc);
+    for piece in pieces.split(' ') {
+        let Some(()) = add_piece(alloc, piece, &mut text) else {
+            return None;
+        };
+    }
+    match read_one(alloc, text.as_slice()) {
+        Ok(item) => {
+            add_primary(alloc, stream, function, item.as_ref(), answer);
+            Some(())
+        }
+        Err(_) => None,
+    }
+}
+
+// What is said without a text by the primary of this function of each stream, or by that of each function of the one stream.
+pub(crate) fn add_each(alloc: Global, stream: u8, function: &str, answer: &mut String) {
+    let function = function.parse::<u8>().ok();
+    for number in 0..=255 {
+        let (stream, function) = match function {
+            Some(function) => (number, function),
+            None => (stream, number),
+        };
+        let gap = if number == 0 { "" } else { ", " };
+        let _ = write!(answer, "{gap}{} ", is_shop_stream(stream));
+        add_primary(alloc, stream, function, None, answer);
+    }
+}
+
+fn add_primary(alloc: Global, stream: u8, function: u8, item: Option<&Item>, answer: &mut String) {
+    match read_shop(alloc, stream, function, item) {
+        Ok(message) => add_message(&message, answer),
+        Err(fault) => {
+            let _ = write!(answer, "{fault:?}");
+        }
+    }
+}
+
+// The parts of a message, in their order.
+fn add_message(message: &ShopMsg, answer: &mut String) {
     match message {
         ShopMsg::S3F17(dataid, action, carrier, port, attributes) => {
-            let action = quoted(alloc, action)?;
-            let carrier = quoted(alloc, carrier)?;
-            let attributes = attributes_text(alloc, attributes.as_slice())?;
-            Ok(format!(in alloc; "{dataid} {action} {carrier} {port}{attributes}")?)
+            add_number("", *dataid, answer);
+            add_text(" ", action, answer);
+            add_text(" ", carrier, answer);
+            add_number(" ", u32::from(*port), answer);
+            add_attributes(attributes.as_slice(), answer);
         }
-        ShopMsg::S3F25(action, port, item) => command_text(alloc, action, *port, item),
-        ShopMsg::S3F27(mode, ports) => ports_text(alloc, *mode, ports.as_slice()),
+        ShopMsg::S3F25(name, number, item) | ShopMsg::S16F27(name, number, item) => {
+            add_text("", name, answer);
+            add_number(" ", u32::from(*number), answer);
+            add_item(" ", item, answer);
+        }
+        ShopMsg::S3F27(mode, ports) => {
+            add_number("", u32::from(*mode), answer);
+            add_numbers(", port ", ports.as_slice(), answer);
+        }
         ShopMsg::S14F9(object, kind, attributes) => {
-            let object = quoted(alloc, object)?;
-            let kind = quoted(alloc, kind)?;
-            let attributes = attributes_text(alloc, attributes.as_slice())?;
-            Ok(format!(in alloc; "{object} {kind}{attributes}")?)
+            add_text("", object, answer);
+            add_text(" ", kind, answer);
+            add_attributes(attributes.as_slice(), answer);
         }
         ShopMsg::S16F5(dataid, job, command, item) => {
-            let job = quoted(alloc, job)?;
-            let command = quoted(alloc, command)?;
-            let item = item_text(alloc, item)?;
-            Ok(format!(in alloc; "{dataid} {job} {command} {item}")?)
+            add_number("", *dataid, answer);
+            add_text(" ", job, answer);
+            add_text(" ", command, answer);
+            add_item(" ", item, answer);
         }
         ShopMsg::S16F11(dataid, job, material, recipe, start, events) => {
-            let job = quoted(alloc, job)?;
-            let material = material_text(alloc, material.as_slice())?;
-            let recipe = recipe_text(alloc, recipe)?;
-            let events = item_text(alloc, events)?;
-            Ok(format!(in alloc; "{dataid} {job}{material}, {recipe}, {start} {events}")?)
+            add_number("", *dataid, answer);
+            add_text(" ", job, answer);
+            add_material(material.as_slice(), answer);
+            add_text(", recipe ", &recipe.recipe, answer);
+            add_item(" ", &recipe.variables, answer);
+            let _ = write!(answer, ", {start}");
+            add_item(" ", events, answer);
         }
-        ShopMsg::S16F17(jobs) => jobs_text(alloc, jobs.as_slice()),
-        ShopMsg::S16F19 => Ok(String::from_str(alloc, "all jobs")?),
-        ShopMsg::S16F21 => Ok(String::from_str(alloc, "space")?),
-        ShopMsg::S16F27(job, command, item) => command_text(alloc, job, *command, item),
+        ShopMsg::S16F17(jobs) => {
+            let _ = write!(answer, "{} jobs", jobs.len());
+            add_texts(jobs.as_slice(), answer);
+        }
+        ShopMsg::S16F19 => {
+            let _ = answer.push_str("all jobs");
+        }
+        ShopMsg::S16F21 => {
+            let _ = answer.push_str("space");
+        }
     }
 }
 
-fn quoted(alloc: Global, text: &Text80) -> Result<String> {
-    let text = String::from_utf8_lossy(alloc, text.as_bytes())?;
-    Ok(format!(in alloc; "'{text}'")?)
+// A number, a text or an item, behind what stands before it.
+fn add_number(gap: &str, number: u32, answer: &mut String) {
+    let _ = write!(answer, "{gap}{number}");
 }
 
-fn item_text(alloc: Global, item: &Item) -> Result<String> {
-    if let Item::List(items) = item {
-        return Ok(format!(in alloc; "list of {}", items.as_slice().len())?);
-    }
-    match item.as_id() {
-        Some(number) => Ok(format!(in alloc; "{number}")?),
-        None => Ok(format!(in alloc; "no number")?),
+fn add_text(gap: &str, text: &Text80, answer: &mut String) {
+    if let Ok(text) = str::from_utf8(text.as_bytes()) {
+        let _ = write!(answer, "{gap}'{text}'");
     }
 }
 
-fn command_text(alloc: Global, name: &Text80, number: u8, item: &Item) -> Result<String> {
-    let name = quoted(alloc, name)?;
-    let item = item_text(alloc, item)?;
-    Ok(format!(in alloc; "{name} {number} {item}")?)
+fn add_item(gap: &str, item: &Item, answer: &mut String) {
+    match (item, item.as_id()) {
+        (Item::List(items), _) => {
+            let _ = write!(answer, "{gap}list of {}", items.as_slice().len());
+        }
+        (_, Some(number)) => add_number(gap, number, answer),
+        (_, None) => {
+            let _ = write!(answer, "{gap}no number");
+        }
+    }
 }
 
-fn attributes_text(alloc: Global, attributes: &[NamedValue]) -> Result<String> {
-    let mut text = String::new(alloc);
+fn add_attributes(attributes: &[NamedValue], answer: &mut String) {
     for attribute in attributes {
-        let name = quoted(alloc, &attribute.name)?;
-        let value = item_text(alloc, &attribute.value)?;
-        text.push_str(format!(in alloc; ", {name} {value}")?.as_str())?;
+        add_text(", ", &attribute.name, answer);
+        add_item(" ", &attribute.value, answer);
     }
-    Ok(text)
 }
 
-fn ports_text(alloc: Global, mode: u8, ports: &[u8]) -> Result<String> {
-    let mut text = format!(in alloc; "{mode}")?;
-    for port in ports {
-        text.push_str(format!(in alloc; ", port {port}")?.as_str())?;
-    }
-    Ok(text)
-}
-
-fn material_text(alloc: Global, material: &[CarrierSlots]) -> Result<String> {
-    let mut text = String::new(alloc);
+fn add_material(material: &[CarrierSlots], answer: &mut String) {
     for part in material {
-        let carrier = quoted(alloc, &part.carrier)?;
-        let slots = slots_text(alloc, part.slots.as_slice())?;
-        text.push_str(format!(in alloc; ", {carrier}{slots}")?.as_str())?;
+        add_text(", ", &part.carrier, answer);
+        add_numbers(" ", part.slots.as_slice(), answer);
     }
-    Ok(text)
 }
 
-fn slots_text(alloc: Global, slots: &[u8]) -> Result<String> {
-    let mut text = String::new(alloc);
-    for slot in slots {
-        text.push_str(format!(in alloc; " {slot}")?.as_str())?;
+fn add_numbers(gap: &str, numbers: &[u8], answer: &mut String) {
+    for number in numbers {
+        add_number(gap, u32::from(*number), answer);
     }
-    Ok(text)
 }
 
-fn recipe_text(alloc: Global, part: &RecipePart) -> Result<String> {
-    let recipe = quoted(alloc, &part.recipe)?;
-    let variables = item_text(alloc, &part.variables)?;
-    Ok(format!(in alloc; "recipe {recipe} {variables}")?)
-}
-
-fn jobs_text(alloc: Global, jobs: &[Text80]) -> Result<String> {
-    let mut text = format!(in alloc; "{} jobs", jobs.len())?;
-    for job in jobs {
-        text.push(' ')?;
-        text.push_str(quoted(alloc, job)?.as_str())?;
+fn add_texts(texts: &[Text80], answer: &mut String) {
+    for text in texts {
+        add_text(" ", text, answer);
     }
-    Ok(text)
 }

@@ -1,166 +1,153 @@
-//! The replies, and their texts.
+//! The replies, and their texts. None where the tool has no such reply, or there is no memory for its text. A word that is no
+//! number stands for 0, and one that is no text for that of no bytes.
 
-ghost use Rattle.std.specs.Prelude.{◌≤◌, length, IfOk};
+ghost use Rattle.std.specs.Prelude.{◌≡◌, true};
 ghost use Rattle.msgs_300.specs.Sendable.{HasSendableParts};
 
-use anyhow::{Result, bail};
+use crate::pieces::{counted, text};
 use gem_ids::{Listed, Text80};
 use msgs_300::{ErrorPart, JobAcknowledge, JobState, ObjectAcknowledge, ShopReply, shop_item};
 use secs_items::encode;
 use std::alloc::Global;
-use test_lines::{small, word, words};
+use test_lines::words;
 
-/// The text of the tool's reply of a stream and a function. Its parts stand in the line behind both.
-pub fn reply(alloc: Global, stream: u8, function: u8, said: &str) -> Result<String> {
-    let parts: Vec<&str> = said.split(';').collect(alloc)?;
-    let Some((first, more)) = parts.as_slice().split_first() else {
-        bail!("it says nothing");
+// The text of the tool's reply of a function. Its parts stand in the line behind it.
+pub(crate) fn add_reply(alloc: Global, stream: u8, said: &str, answer: &mut String) -> Option<()> {
+    let (first, more) = said.split_once(';').unwrap_or((said, ""));
+    let Ok(words) = words(alloc, first) else {
+        return None;
     };
-    let words = words(alloc, first)?;
-    let words = words.as_slice();
-    match stream {
-        3 => reply_of_stream_3(alloc, function, words),
-        14 => reply_of_stream_14(alloc, function, words, more),
-        _ => reply_of_stream_16(alloc, function, words, more),
+    match reply(alloc, stream, words.as_slice(), more) {
+        Some(reply) => add_encoded(alloc, &reply, answer),
+        None => None,
     }
 }
 
-fn reply_of_stream_3(alloc: Global, function: u8, words: &[&str]) -> Result<String> {
-    let caack = small(words, 2)?;
-    match function {
-        18 => encoded(alloc, &ShopReply::S3F18(caack)),
-        26 => encoded(alloc, &ShopReply::S3F26(caack)),
-        28 => encoded(alloc, &ShopReply::S3F28(caack)),
-        _ => bail!("the tool has no such reply"),
+fn add_encoded(alloc: Global, reply: &ShopReply, answer: &mut String) -> Option<()> {
+    if !is_sendable(reply) {
+        return None;
     }
-}
-
-fn reply_of_stream_14(
-    alloc: Global,
-    function: u8,
-    words: &[&str],
-    more: &[&str],
-) -> Result<String> {
-    if function != 10 {
-        bail!("the tool has no such reply");
-    }
-    let told = ObjectAcknowledge {
-        objack: small(words, 3)?,
-        errors: errors(alloc, more)?,
+    let Ok(item) = shop_item(alloc, reply) else {
+        return None;
     };
-    encoded(alloc, &ShopReply::S14F10(text(word(words, 2)?)?, told))
-}
-
-fn reply_of_stream_16(
-    alloc: Global,
-    function: u8,
-    words: &[&str],
-    more: &[&str],
-) -> Result<String> {
-    match function {
-        6 => {
-            let job = text(word(words, 2)?)?;
-            encoded(
-                alloc,
-                &ShopReply::S16F6(job, acknowledge(alloc, word(words, 3)?, more)?),
-            )
-        }
-        12 => {
-            let job = text(word(words, 2)?)?;
-            encoded(
-                alloc,
-                &ShopReply::S16F12(job, acknowledge(alloc, word(words, 3)?, more)?),
-            )
-        }
-        18 => {
-            let told = acknowledge(alloc, word(words, 2)?, more)?;
-            encoded(alloc, &ShopReply::S16F18(names(alloc, words)?, told))
-        }
-        20 => encoded(alloc, &ShopReply::S16F20(states(alloc, more)?)),
-        22 => encoded(alloc, &ShopReply::S16F22(word(words, 2)?.parse::<u16>()?)),
-        28 => {
-            let ok = word(words, 2)?.parse::<bool>()?;
-            encoded(alloc, &ShopReply::S16F28(ok, errors(alloc, more)?))
-        }
-        _ => bail!("the tool has no such reply"),
-    }
-}
-
-fn encoded(alloc: Global, reply: &ShopReply) -> Result<String>
-    requires { HasSendableParts reply.now }
-{
     let mut text = Vec::new(alloc);
-    encode(&shop_item(alloc, reply)?, &mut text)?;
-    Ok(hex::encode_upper(alloc, text.as_slice())?)
-}
-
-// The text that a word stands for.
-fn text(word: &str) -> Result<Text80> {
-    if word == "''" {
-        return Ok(Text80::empty());
+    let Ok(()) = encode(&item, &mut text) else {
+        return None;
+    };
+    match hex::encode_upper(alloc, text.as_slice()) {
+        Ok(digits) => answer.push_str(digits.as_str()).ok(),
+        Err(_) => None,
     }
-    Ok(Text80::read(word.as_bytes())?)
 }
 
-fn acknowledge(alloc: Global, ok: &str, more: &[&str]) -> Result<JobAcknowledge>
-    ensures few { IfOk result (λ told. length told.errors ≤ 1024) }
+// Whether no list of a reply is longer than what can be sent.
+fn is_sendable(reply: &ShopReply) -> bool
+    ensures { result ≡ true → HasSendableParts reply.now }
 {
-    Ok(JobAcknowledge {
-        ok: ok.parse::<bool>()?,
-        errors: errors(alloc, more)?,
-    })
+    match reply {
+        ShopReply::S14F10(_, told) => told.errors.len() <= 1024,
+        ShopReply::S16F6(_, told) => told.errors.len() <= 1024,
+        ShopReply::S16F12(_, told) => told.errors.len() <= 1024,
+        ShopReply::S16F18(jobs, told) => jobs.len() <= 1024 && told.errors.len() <= 1024,
+        ShopReply::S16F20(jobs) => jobs.len() <= 1024,
+        ShopReply::S16F28(_, errors) => errors.len() <= 1024,
+        _ => true,
+    }
+}
+
+// The reply of a function, whose parts are these words and what stands behind them.
+fn reply(alloc: Global, stream: u8, words: &[&str], more: &str) -> Option<ShopReply> {
+    match (stream, small(words, 0)) {
+        (3, 18) => Some(ShopReply::S3F18(small(words, 1))),
+        (3, 26) => Some(ShopReply::S3F26(small(words, 1))),
+        (3, 28) => Some(ShopReply::S3F28(small(words, 1))),
+        (14, 10) => Some(created(alloc, words, more)),
+        (16, 6) => Some(ShopReply::S16F6(name(words), told(alloc, words, 2, more))),
+        (16, 12) => Some(ShopReply::S16F12(name(words), told(alloc, words, 2, more))),
+        (16, 18) => Some(dequeued(alloc, words, more)),
+        (16, 20) => Some(ShopReply::S16F20(states(alloc, more))),
+        (16, 22) => Some(ShopReply::S16F22(number(words, 1))),
+        (16, 28) => Some(ShopReply::S16F28(is_true(words, 1), errors(alloc, more))),
+        _ => None,
+    }
+}
+
+// The word at a place of a line, or none.
+fn at<'a>(words: &[&'a str], place: usize) -> &'a str {
+    match words.get(place) {
+        Some(word) => *word,
+        None => "",
+    }
+}
+
+fn number(words: &[&str], place: usize) -> u16 {
+    at(words, place).parse::<u16>().unwrap_or(0)
+}
+
+fn small(words: &[&str], place: usize) -> u8 {
+    at(words, place).parse::<u8>().unwrap_or(0)
+}
+
+fn is_true(words: &[&str], place: usize) -> bool {
+    at(words, place) == "true"
+}
+
+// The name of the object or job, which is the second word.
+fn name(words: &[&str]) -> Text80 {
+    text(at(words, 1))
+}
+
+fn created(alloc: Global, words: &[&str], more: &str) -> ShopReply {
+    let objack = small(words, 2);
+    let errors = errors(alloc, more);
+    ShopReply::S14F10(name(words), ObjectAcknowledge { objack, errors })
+}
+
+fn told(alloc: Global, words: &[&str], place: usize, more: &str) -> JobAcknowledge {
+    let ok = is_true(words, place);
+    let errors = errors(alloc, more);
+    JobAcknowledge { ok, errors }
+}
+
+// The jobs stand behind the second word.
+fn dequeued(alloc: Global, words: &[&str], more: &str) -> ShopReply {
+    let mut jobs = Listed::new(alloc);
+    for word in words.iter().skip(2) {
+        let _ = jobs.push(text(word));
+    }
+    ShopReply::S16F18(jobs, told(alloc, words, 1, more))
 }
 
 // Errors, each its code and its text.
-fn errors(alloc: Global, parts: &[&str]) -> Result<Listed<ErrorPart>>
-    ensures few { IfOk result (λ errors. length errors ≤ 1024) }
-{
+fn errors(alloc: Global, more: &str) -> Listed<ErrorPart> {
     let mut errors = Listed::new(alloc);
-    for part in parts {
-        let Some((code, text)) = part.trim().split_once(' ') else {
-            bail!("the code of an error stands before its text");
-        };
-        errors.push(ErrorPart {
-            code: code.parse::<u8>()?,
-            text: Text80::read(text.as_bytes())?,
-        })?;
+    for part in more.split(';') {
+        if let Some((code, words)) = part.trim().split_once(' ') {
+            let code = code.parse::<u8>().unwrap_or(0);
+            let text = text(words);
+            let _ = errors.push(ErrorPart { code, text });
+        }
     }
-    if errors.len() > 1024 {
-        bail!("no reply has so many errors");
-    }
-    Ok(errors)
-}
-
-// The jobs that stand behind the third word.
-fn names(alloc: Global, words: &[&str]) -> Result<Listed<Text80>>
-    ensures few { IfOk result (λ names. length names ≤ 1024) }
-{
-    let mut names = Listed::new(alloc);
-    for word in words.iter().skip(3) {
-        names.push(text(word)?)?;
-    }
-    if names.len() > 1024 {
-        bail!("no reply has so many jobs");
-    }
-    Ok(names)
+    errors
 }
 
 // Jobs, each its name and the number of its state.
-fn states(alloc: Global, parts: &[&str]) -> Result<Listed<JobState>>
-    ensures few { IfOk result (λ states. length states ≤ 1024) }
-{
+fn states(alloc: Global, more: &str) -> Listed<JobState> {
     let mut states = Listed::new(alloc);
-    for part in parts {
-        let Some((job, state)) = part.trim().split_once(' ') else {
-            bail!("a job stands before its state");
-        };
-        states.push(JobState {
-            job: text(job)?,
-            state: state.parse::<u8>()?,
-        })?;
+    for part in more.split(';') {
+        if let Some((job, state)) = part.trim().split_once(' ') {
+            add_states(text(job), state, &mut states);
+        }
     }
-    if states.len() > 1024 {
-        bail!("no reply has so many jobs");
+    states
+}
+
+// So many jobs of a name and a state.
+fn add_states(job: Text80, state: &str, states: &mut Listed<JobState>) {
+    if let Some((state, count)) = counted(state) {
+        let state = state.parse::<u8>().unwrap_or(0);
+        for _ in 0..count {
+            let _ = states.push(JobState { job, state });
+        }
     }
-    Ok(states)
 }

@@ -12,10 +12,11 @@ ghost use Rattle.tool_core.specs.Steps.{done, StepsFrom, Steps};
 
 use core_host::header_of;
 use core_shop::{Reaction, end_for, is_due};
-use core_state::{Plant, header_frame};
+use core_state::Plant;
 use gem_ids::Moment;
 use hsms_frame::Arrival;
 use hsms_link::LinkAct;
+use plant_parts::header_frame;
 use std::alloc::{AllocError, Global};
 use tool_events::{Answer, Event, OperCmd, SessionCause};
 

@@ -11,4 +11,7 @@ pub mod Slots
 pub mod Resting
 pub mod Moves
 pub mod Showing
+pub mod Told
+pub mod PlacePicks
+pub mod SlotPicks
 pub mod Asked

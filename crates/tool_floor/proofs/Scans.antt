@@ -86,7 +86,7 @@ substrate_numbers [] = refl
 substrate_numbers (s ∷ ss) = ap suc (substrate_numbers ss)
 
 -- the number of a substrate is over the last one before
-rises_to : (last given : ℕ) (ss : List Substrate) (place : ℕ) (s : Substrate) → RiseTo last given ss → slice_get ss place ≡ Some s → last + 1 ≤ s.number
+pub rises_to : (last given : ℕ) (ss : List Substrate) (place : ℕ) (s : Substrate) → RiseTo last given ss → slice_get ss place ≡ Some s → last + 1 ≤ s.number
 rises_to last given [] place s rise e = absurd (cc)
 rises_to last given (t ∷ ts) zero s rise e = let same : t ≡ s = cc in subst (λ (x : Substrate). last + 1 ≤ x.number) same rise.0
 rises_to last given (t ∷ ts) (suc place) s rise e =

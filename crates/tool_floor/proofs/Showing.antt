@@ -1,47 +1,18 @@
--- What is told to the planner, and that it tells nothing to do where all rest.
-use Rattle.std.proofs.Common.{◌≡◌, ℕ, ◌+◌, Bool, true, false, ◌||◌, if◌then◌else◌, List, [], ◌∷◌, ◌++◌, length, drop, Option, Some, None, slice_get, refl, sym, ap, ◌∙◌, arith}
+-- The planner tells nothing to do where all rest.
+use Rattle.std.proofs.Common.{◌≡◌, ℕ, Bool, true, false, ◌||◌, if◌then◌else◌, List, [], ◌∷◌, ◌++◌, Option, Some, None, refl}
 use Rattle.std.specs.List.{list_any}
-use Rattle.carrier.proofs.Scans.{drop_here, drop_past}
 use Rattle.substrate.specs.Locations.{is_work_place}
 use Rattle.substrate.specs.Places.{is_any_at_work}
 use Rattle.substrate.specs.declared.registered.Registered.{Registered}
-use Rattle.robot_moves.specs.Best.{Rests, AllRest}
-use Rattle.robot_moves.specs.declared.view.PlaceView.{PlaceView}
+use Rattle.robot_moves.specs.Best.{AllRest}
 use Rattle.robot_moves.proofs.Giving.{nothing_moves}
 use Rattle.tool_floor.specs.declared.tracking.Substrate.{Substrate}
 use Rattle.tool_floor.specs.Floor.{ToolFloor, substrate_numbered}
 use Rattle.process_job.specs.Jobs.{has_number, job_numbered}
 use Rattle.process_job.specs.declared.job.ProcessJob.{ProcessJob}
 use Rattle.tool_jobs.specs.Jobs.{Jobs}
-use Rattle.tool_floor.specs.Jobs.{job_of, is_job_so, is_processing}
-use Rattle.tool_floor.specs.Views.{view_of, view_in, views_of, views, planned}
-
-append_again : (vs : List PlaceView) (v : PlaceView) (more : List PlaceView) → (vs ++ v ∷ []) ++ more ≡ vs ++ (v ∷ more)
-append_again [] v more = refl
-append_again (x ∷ xs) v more = ap (λ (ys : List PlaceView). x ∷ ys) (append_again xs v more)
-
-pub one_longer : (vs : List PlaceView) (v : PlaceView) → length (vs ++ v ∷ []) ≡ length vs + 1
-one_longer [] v = omega arith
-one_longer (x ∷ xs) v = let later = one_longer xs v in omega (arith, later)
-
--- what is told of a substrate with its process job
-abbrev pub told : Jobs → Registered → Substrate → PlaceView
-told w r s = view_of r s (job_of s w) w.process.recipes
-
-module _ (w : Jobs) (ss : List Substrate) (held : List Registered) (place : ℕ) (vs : List PlaceView) where
-  pub views_next : (r : Registered) (s : Substrate) → slice_get held place ≡ Some r → substrate_numbered r.number ss ≡ Some s → (vs ++ told w r s ∷ []) ++ views_of w ss (drop (place + 1) held) ≡ vs ++ views_of w ss (drop place held)
-  views_next r s at found =
-      append_again vs (told w r s) (views_of w ss (drop (place + 1) held))
-      ∙ ap (λ (o : Option Substrate). vs ++ (view_in r o w ++ views_of w ss (drop (place + 1) held))) (sym found)
-      ∙ ap (λ (rs : List Registered). vs ++ views_of w ss rs) (sym (drop_here held place r at))
-
-  pub views_none : (r : Registered) → slice_get held place ≡ Some r → substrate_numbered r.number ss ≡ None → vs ++ views_of w ss (drop (place + 1) held) ≡ vs ++ views_of w ss (drop place held)
-  views_none r at found =
-      ap (λ (o : Option Substrate). vs ++ (view_in r o w ++ views_of w ss (drop (place + 1) held))) (sym found)
-      ∙ ap (λ (rs : List Registered). vs ++ views_of w ss rs) (sym (drop_here held place r at))
-
-  pub views_past : slice_get held place ≡ None → vs ++ views_of w ss (drop (place + 1) held) ≡ vs ++ views_of w ss (drop place held)
-  views_past at = ap (λ (rs : List Registered). vs ++ views_of w ss rs) (sym (drop_past held place at))
+use Rattle.tool_floor.specs.Jobs.{is_job_so, is_processing}
+use Rattle.tool_floor.specs.Views.{view_in, views_of, views, planned}
 
 or_both : (a b : Bool) → (a || b) ≡ false → (a ≡ false) × (b ≡ false)
 or_both true b e = absurd (cc)

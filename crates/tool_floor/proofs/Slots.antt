@@ -1,11 +1,12 @@
 -- Where a substrate is, by who is at its slot.
-use Rattle.std.proofs.Common.{◌≡◌, ℕ, Bool, true, false, cond, List, [], ◌∷◌, find, Option, Some, None, option_map, bytes_eq, refl, sym, ap, subst, ◌∙◌}
+use Rattle.std.proofs.Common.{◌≡◌, ℕ, Bool, true, false, true≢false, ◌||◌, cond, List, [], ◌∷◌, find, Option, Some, None, option_map, bytes_eq, refl, sym, ap, subst, ◌∙◌}
 use Rattle.gem_ids.specs.declared.numbers.LocId.{LocId}
 use Rattle.substrate.specs.Locations.{is_work_place}
 use Rattle.substrate.specs.Places.{PlaceMap, ArePlaces, has_name, substrate_named, is_known, stands_at, is_taken, substrate_at, is_there, are_named_apart, are_placed_apart}
 use Rattle.substrate.specs.declared.registered.Registered.{Registered}
 use Rattle.substrate.proofs.Apart.{has_it, first_apart, rest_apart}
 use Rattle.substrate.proofs.Sites.{same_is}
+use Rattle.substrate.proofs.Texts.{own_name}
 use Rattle.substrate.proofs.Truth.{or_false, and_true, not_true}
 use Rattle.tool_floor.specs.declared.tracking.Substrate.{Substrate}
 use Rattle.tool_floor.specs.Substrates.{is_at_work, is_in_slot, is_outside}
@@ -66,3 +67,51 @@ there_rests loc (Some r) rests there = ap is_work_place (same_is r.at loc there)
 -- one that is in its slot is not outside
 pub in_slot_rests : (s : Substrate) (p : PlaceMap) → is_work_place s.slot ≡ false → is_in_slot s p ≡ true → is_outside s p ≡ false
 in_slot_rests s p rests there = there_rests s.slot (substrate_named s.sub p.held) rests there
+
+-- ---- who is found at a place
+
+-- who is found by its place is known by its name
+found_known : (loc : LocId) (rs : List Registered) (r : Registered) → find (stands_at loc) rs ≡ Some r → is_known r.sub rs ≡ true
+found_known loc [] r e = absurd (cc)
+found_known loc (x ∷ xs) r e = of (stands_at loc x) e (found_known loc xs r) where
+  either : (a b : Bool) → b ≡ true → (a || b) ≡ true
+  either true b h = refl
+  either false b h = h
+
+  of : (b : Bool) → cond b (Some x) (find (stands_at loc) xs) ≡ Some r → (find (stands_at loc) xs ≡ Some r → is_known r.sub xs ≡ true) → (has_name r.sub x || is_known r.sub xs) ≡ true
+  of true f later =
+      let same : x ≡ r = cc in
+      subst (λ (y : Registered). (has_name y.sub x || is_known y.sub xs) ≡ true) same (rw (own_name x.sub) refl)
+  of false f later = either (has_name r.sub x) (is_known r.sub xs) (later f)
+
+-- and is found by it
+found_named : (loc : LocId) (rs : List Registered) (r : Registered) → are_named_apart rs ≡ true → find (stands_at loc) rs ≡ Some r → substrate_named r.sub rs ≡ Some r
+found_named loc [] r apart e = absurd (cc)
+found_named loc (x ∷ xs) r apart e = of (stands_at loc x) e (found_named loc xs r (rest_apart x xs apart)) where
+  behind : find (stands_at loc) xs ≡ Some r → (b : Bool) → has_name r.sub x ≡ b → substrate_named r.sub xs ≡ Some r → cond b (Some x) (substrate_named r.sub xs) ≡ Some r
+  behind f true name later =
+      let unknown : is_known r.sub xs ≡ false = subst (λ (n : List ℕ). is_known n xs ≡ false) (has_it r.sub x name) (first_apart x xs apart) in
+      absurd (true≢false (sym (found_known loc xs r f) ∙ unknown))
+  behind f false name later = later
+
+  of : (b : Bool) → cond b (Some x) (find (stands_at loc) xs) ≡ Some r → (find (stands_at loc) xs ≡ Some r → substrate_named r.sub xs ≡ Some r) → cond (has_name r.sub x) (Some x) (substrate_named r.sub xs) ≡ Some r
+  of true f later =
+      let same : x ≡ r = cc in
+      subst (λ (y : Registered). cond (has_name y.sub x) (Some x) (substrate_named y.sub xs) ≡ Some y) same (rw (own_name x.sub) refl)
+  of false f later = behind f (has_name r.sub x) refl (later f)
+
+-- the substrate of the name that is at a place is the one that is found there
+pub named_there : (loc : LocId) (p : PlaceMap) (name : List ℕ) → ArePlaces p → substrate_at loc p.held ≡ Some name → substrate_named name p.held ≡ find (stands_at loc) p.held
+named_there loc p name places e = of (find (stands_at loc) p.held) refl e where
+  of : (o : Option Registered) → find (stands_at loc) p.held ≡ o → option_map (λ (s : Registered). s.sub) o ≡ Some name → substrate_named name p.held ≡ find (stands_at loc) p.held
+  of None f g = absurd (cc)
+  of (Some r) f g =
+      let same : r.sub ≡ name = cc in
+      subst (λ (n : List ℕ). substrate_named n p.held ≡ find (stands_at loc) p.held) same (found_named loc p.held r places.named_apart f ∙ sym f)
+
+-- none is found where nobody is
+pub none_there : (loc : LocId) (rs : List Registered) → substrate_at loc rs ≡ None → find (stands_at loc) rs ≡ None
+none_there loc rs e = of (find (stands_at loc) rs) e where
+  of : (o : Option Registered) → option_map (λ (s : Registered). s.sub) o ≡ None → o ≡ None
+  of None f = refl
+  of (Some r) f = absurd (cc)

@@ -5,6 +5,7 @@ pub mod Substrates
 pub mod Jobs
 pub mod Wants
 pub mod Views
+pub mod Picks
 pub mod Machines
 pub mod Left
 pub mod Signals

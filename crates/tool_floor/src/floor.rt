@@ -9,7 +9,7 @@ ghost use Rattle.robot_moves.specs.Modules.{module_at, unfetched, is_open, is_up
 ghost use Rattle.shop_floor.specs.Machines.{floor_least as shop_least};
 ghost use Rattle.shop_floor.specs.Valid.{IsFloor};
 ghost use Rattle.shop_floor.specs.Requests.{carrier_written, came};
-ghost use Rattle.substrate.specs.Places.{found_location, is_any_at_work, most_substrates, substrate_at};
+ghost use Rattle.substrate.specs.Places.{found_location, is_any_at_work, substrate_at};
 ghost use Rattle.tool_floor.specs.Floor.{opening, with_shop, fetched, change_location, substrate_numbered, name_of_place, substrate_name};
 ghost use Rattle.tool_floor.specs.Substrates.{without_carrier, removed_where};
 ghost use Rattle.tool_floor.specs.Kept.{RiseTo};
@@ -31,7 +31,7 @@ use robot_moves::{Module, Modules};
 use shop_floor::ShopFloor;
 use std::alloc::{AllocError, Global};
 use std::marker::Model;
-use substrate::{LocationRecord, Places, Registered};
+use substrate::{LocationRecord, Places};
 use tool_events::{Command, Recipe, Task};
 use tool_jobs::Jobs;
 
@@ -168,21 +168,6 @@ impl ToolFloor {
         ensures few { result ≤ 255 }
     {
         self.modules.len()
-    }
-
-    // How many substrates have a place.
-    pub(crate) fn place_count(&self) -> usize
-        ensures count { result ≡ length self.now.places.held }
-        ensures few { length self.now.places.held ≤ most_substrates }
-    {
-        self.places.len()
-    }
-
-    // The substrate of a place in their list, counted from 0, with its place in the tool.
-    pub(crate) fn registered_at(&self, place: usize) -> Option<Registered>
-        ensures { result ≡ slice_get self.now.places.held place }
-    {
-        self.places.get(place)
     }
 
     // Whether a substrate is at the aligner, on the arm or in a chamber.

@@ -13,13 +13,14 @@ pub mod laws;
 mod members;
 mod moving;
 mod naming;
+mod picking;
 mod planning;
 mod readiness;
 mod registering;
 mod rows;
 mod telling;
 mod tracking;
-mod viewing;
+mod whereabouts;
 
 pub use floor::{MOST_CREATED, ToolFloor};
 pub use tracking::Substrate;

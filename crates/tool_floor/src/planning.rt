@@ -12,7 +12,6 @@ ghost use Rattle.tool_floor.specs.Modules.{is_by, move_ready, move_starts};
 use crate::floor::ToolFloor;
 use crate::rows::{self, MOVES};
 use crate::tracking::Substrate;
-use crate::viewing::Views;
 use gem_ids::{ModuleId, Text80};
 use gem_tables::Firing;
 use process_job::{JobState, ProcessJob};
@@ -49,7 +48,7 @@ fn recipe_of(job: Option<&ProcessJob>) -> Text80
 }
 
 // Whether a process job is there, and PROCESSING.
-fn is_processing(job: Option<&ProcessJob>) -> bool
+pub(crate) fn is_processing(job: Option<&ProcessJob>) -> bool
     ensures { result ≡ is_job_so is_processing (option_copied job.entry) }
 {
     match job {
@@ -59,7 +58,7 @@ fn is_processing(job: Option<&ProcessJob>) -> bool
 }
 
 // What the planner is told of a substrate and its place, with its process job where it is in one, in a tool with these jobs.
-fn view_of(r: &Registered, s: &Substrate, jobs: &Jobs) -> PlaceView
+pub(crate) fn view_of(r: &Registered, s: &Substrate, jobs: &Jobs) -> PlaceView
     ensures { result ≡ view_of r.now s.now (job_of s.now jobs.now) jobs.now.process.recipes }
 {
     let job = jobs.process().numbered(s.job);
@@ -79,21 +78,6 @@ fn view_of(r: &Registered, s: &Substrate, jobs: &Jobs) -> PlaceView
 }
 
 impl ToolFloor {
-    // What the planner is told of the substrates that have a place.
-    fn views(&self) -> Views
-        ensures { result ≡ views self.now }
-    {
-        let mut views = Views::new();
-        for place in 0..self.place_count() {
-            if let Some(registered) = self.registered_at(place) {
-                if let Some(substrate) = self.substrate(registered.number) {
-                    views.push(view_of(&registered, &substrate, &self.jobs));
-                }
-            }
-        }
-        views
-    }
-
     // What the module of a number is to do.
     pub(crate) fn planned(&self, m: ModuleId) -> Option<Move>
         ensures { result ≡ planned m.0 self.now }
@@ -104,12 +88,12 @@ impl ToolFloor {
         self.plan_of(m)
     }
 
-    // The same, by all that the planner is told.
+    // The same, by what the planner asks for.
     fn plan_of(&self, m: ModuleId) -> Option<Move>
         ensures { result ≡ planned m.0 self.now }
     {
         let planner = Planner::new().unwrap();
-        planner.of_module(m, self.views().as_slice(), &self.modules)
+        planner.of_module_of(m, self, &self.modules)
     }
 
     // The next move of all modules.
@@ -117,7 +101,7 @@ impl ToolFloor {
         ensures { result ≡ next_move (views self.now) self.now.modules }
     {
         let planner = Planner::new().unwrap();
-        planner.next(self.views().as_slice(), &self.modules)
+        planner.next_of(self, &self.modules)
     }
 
     // The row of table 16 that is ready at the first module at which one is.

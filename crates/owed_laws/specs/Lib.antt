@@ -1,0 +1,4 @@
+pub mod Owed
+pub mod Undisturbed
+pub mod Calm
+pub mod Worked

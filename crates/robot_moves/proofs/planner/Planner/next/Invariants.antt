@@ -1,7 +1,0 @@
-use Rattle.std.proofs.Common.{◌≡◌, ◌+◌, ◌-◌, length}
-use Rattle.robot_moves.specs.Moves.{first_of, module_move, next_move}
-use Rattle.robot_moves.proofs.planner.Planner.next.Given as goal
-
-abbrev pub invariant-loop-index : goal.invariant-loop-index
-invariant-loop-index l =
-    first_of (λ number. module_move number l.places l.modules) (l.index + 1) (length l.modules - l.index) ≡ next_move l.places l.modules

@@ -1,7 +1,0 @@
-use Rattle.std.proofs.Common.{◌≡◌, ◌+◌, ◌-◌}
-use Rattle.robot_moves.specs.Moves.{first_of, chamber_where_free, free_chamber}
-use Rattle.robot_moves.proofs.planner.free_chamber.Given as goal
-
-abbrev pub invariant-loop-index : goal.invariant-loop-index
-invariant-loop-index l =
-    first_of (chamber_where_free l.places l.modules l.v) (l.index + 1) (8 - l.index) ≡ free_chamber l.places l.modules l.v

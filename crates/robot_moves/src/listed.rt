@@ -1,0 +1,118 @@
+//! What is told of the substrates that have a place, as a list: each question goes through it.
+
+ghost use Rattle.std.specs.Prelude.{◌≡◌};
+ghost use Rattle.robot_moves.specs.Moves.{holder, is_empty, is_useful_at, stage_of, better, stage_pick, best_pick};
+
+use crate::modules::Modules;
+use crate::targets::is_useful;
+use crate::view::PlaceView;
+use crate::whereabouts::{Picks, Whereabouts};
+use gem_ids::LocId;
+use substrate::is_same;
+
+// The list.
+#[derive(Clone, Copy)]
+pub(crate) struct Listed<'a> {
+    pub(crate) views: &'a [PlaceView],
+}
+
+impl Whereabouts for Listed<'_> {
+    ghost told = { λ l. l.views.now };
+
+    fn holder(&self, loc: LocId) -> Option<PlaceView> {
+        holder(self.views, loc)
+    }
+
+    fn is_empty(&self, loc: LocId) -> bool {
+        is_empty(self.views, loc)
+    }
+}
+
+impl Picks for Listed<'_> {
+    fn best_pick(&self, modules: &Modules) -> Option<PlaceView> {
+        best_pick(self.views, modules)
+    }
+}
+
+// ---- who is where
+
+// The substrate at a location.
+fn holder(places: &[PlaceView], loc: LocId) -> Option<PlaceView>
+    ensures { result ≡ holder loc places.now }
+{
+    for v in places {
+        if is_same(v.at, loc) {
+            return Some(*v);
+        }
+    }
+    None
+}
+
+// Whether no substrate is at a location.
+fn is_empty(places: &[PlaceView], loc: LocId) -> bool
+    ensures { result ≡ is_empty loc places.now }
+{
+    for v in places {
+        if is_same(v.at, loc) {
+            return false;
+        }
+    }
+    true
+}
+
+// ---- picks
+
+// The useful pick of the greatest stage, then of the least number of registration.
+fn best_pick(places: &[PlaceView], modules: &Modules) -> Option<PlaceView>
+    ensures { result ≡ best_pick places.now modules.now }
+{
+    if let Some(v) = stage_pick(2, places, modules) {
+        return Some(v);
+    }
+    if let Some(v) = stage_pick(1, places, modules) {
+        return Some(v);
+    }
+    stage_pick(0, places, modules)
+}
+
+// The useful pick of a stage, of the least number of registration.
+fn stage_pick(stage: u8, places: &[PlaceView], modules: &Modules) -> Option<PlaceView>
+    ensures { result ≡ stage_pick stage places.now modules.now }
+{
+    let mut best = None;
+    for v in places {
+        if is_useful_at(stage, places, modules, v) {
+            best = Some(better(best, v));
+        }
+    }
+    best
+}
+
+// Whether a pick of the substrate is useful, and of this stage.
+fn is_useful_at(stage: u8, places: &[PlaceView], modules: &Modules, v: &PlaceView) -> bool
+    ensures { result ≡ is_useful_at stage places.now modules.now v.now }
+{
+    let listed = Listed { views: places };
+    stage_of(v.at) == stage && is_useful(&listed, modules, v)
+}
+
+/// Of the best pick so far, where there is one, and the next, the one with the lesser number of registration; of equal numbers
+/// the former.
+pub fn better(best: Option<PlaceView>, v: &PlaceView) -> PlaceView
+    ensures { result ≡ better best v.now }
+{
+    match best {
+        Some(b) if v.number >= b.number => b,
+        _ => *v,
+    }
+}
+
+fn stage_of(at: LocId) -> u8
+    ensures { result ≡ stage_of at }
+{
+    match at {
+        LocId::Slot(..) | LocId::Arm => 0,
+        LocId::Aligner => 1,
+        LocId::Chamber(_) => 2,
+    }
+}

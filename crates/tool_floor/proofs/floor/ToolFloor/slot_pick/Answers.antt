@@ -1,0 +1,31 @@
+use Rattle.std.proofs.Common.{◌≤◌, length, sym, ◌∙◌, arith}
+use Rattle.tool_floor.specs.declared.tracking.Substrate.{Substrate}
+use Rattle.tool_floor.specs.Picks.{slot_pick}
+use Rattle.tool_floor.proofs.Scans.{shown}
+use Rattle.tool_floor.proofs.SlotPicks.{given_here, given_next, given_past, given_end, slots_are}
+use Rattle.tool_floor.proofs.floor.ToolFloor.slot_pick.Goals.{in-Some+in_default-slot_pick_of, in_default}
+use Rattle.tool_floor.proofs.floor.ToolFloor.slot_pick.Goals as goal
+
+pub loop-place-init : goal.loop-place-init
+loop-place-init c = slots_are c.args.self.now c.are_places.ensures c.args.modules.now c.args.self.now.places.given c.substrate_count-place-end.ensures.rise
+
+pub returns-in-Some-slot_pick_of : goal.returns-in-Some-slot_pick_of
+returns-in-Some-slot_pick_of c =
+    sym (given_here (λ (s : Substrate). slot_pick s c.args.self.now c.args.modules.now) c.args.self.now.substrates c.loop-place.place c.in-Some.s.now c.in-Some-slot_pick_of.v (shown c.substrate_at.ensures c.in-Some.is) (sym c.slot_pick_of.ensures ∙ c.in-Some-slot_pick_of.is))
+    ∙ c.loop-place.invariant
+
+pub loop-place-preserved : goal.loop-place-preserved
+loop-place-preserved c = elim c.match-substrate_at.branch [
+  | in-Some+in_default-slot_pick_of w ↦
+      sym (given_next (λ (s : Substrate). slot_pick s c.args.self.now c.args.modules.now) c.args.self.now.substrates c.loop-place.place w.in-Some.s.now (shown c.substrate_at.ensures w.in-Some.is) (sym w.slot_pick_of.ensures ∙ w.in_default-slot_pick_of.is))
+      ∙ c.loop-place.invariant
+  | in_default w ↦
+      sym (given_past (λ (s : Substrate). slot_pick s c.args.self.now c.args.modules.now) c.args.self.now.substrates c.loop-place.place (shown c.substrate_at.ensures w.in_default.is))
+      ∙ c.loop-place.invariant
+]
+
+pub returns : goal.returns
+returns c =
+    let past : length c.args.self.now.substrates ≤ c.loop-place.place = omega (arith, c.loop-place-test.false, c.substrate_count-place-end.ensures.count) in
+    sym (given_end (λ (s : Substrate). slot_pick s c.args.self.now c.args.modules.now) c.args.self.now.substrates c.loop-place.place past)
+    ∙ c.loop-place.invariant

@@ -1,0 +1,8 @@
+pub mod Lists
+pub mod Staying
+pub mod Ease
+pub mod Telling
+pub mod Standing
+pub mod Resting
+pub mod Chambers
+pub mod Working

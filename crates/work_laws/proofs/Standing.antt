@@ -1,0 +1,215 @@
+-- What stands where by numbers stands there for the planner: who is seen at a place, which modules are Idle, which targets are free, and who
+-- may leave.
+use Rattle.std.proofs.Common.{◌≡◌, ◌≤◌, ◌<◌, ◌⊎◌, inl, inr, ℕ, zero, suc, ◌+◌, ◌==◌, Bool, true, false, ◌||◌, ◌&&◌, not, if◌then◌else◌, List, [], ◌∷◌, find, length, Option, Some, None, option_map, is_some, slice_get, refl, sym, ◌∙◌, ap, subst, arith}
+use Rattle.std.specs.Option.{option_or}
+use Rattle.std.proofs.lemmas.Bool.{and_parts, and_from}
+use Rattle.std.proofs.lemmas.Bool.Decides.{Decides-eqb}
+use Rattle.gem_tables.specs.Table.{is_one_of}
+use Rattle.gem_ids.specs.declared.numbers.LocId.{LocId}
+use Rattle.gem_ids.specs.declared.numbers.LocId.TheVariants.{Slot, Aligner, Arm, Chamber}
+use Rattle.robot_moves.specs.Modules.{module_at, is_idle, chamber_module}
+use Rattle.robot_moves.specs.Moves.{first_of, holder, is_empty, is_free, has_chamber, chamber_where_free, free_chamber, where_free, free_target, may_leave, is_useful}
+use Rattle.robot_moves.specs.declared.module.Module.{Module as ToolModule}
+use Rattle.robot_moves.specs.declared.module.Module.TheVariants.{Idle, Busy, Down}
+use Rattle.robot_moves.specs.declared.view.PlaceView.{PlaceView}
+use Rattle.substrate.specs.Locations.{is_same}
+use Rattle.substrate.specs.declared.registered.Registered.{Registered}
+use Rattle.tool_floor.specs.Floor.{ToolFloor}
+use Rattle.tool_floor.specs.Views.{views}
+use Rattle.floor_moves.specs.Floor as law
+use Rattle.floor_moves.specs.Floor.{Loc, slot, aligner, arm, chamber, own}
+use Rattle.floor_moves.specs.Ready as ready
+use Rattle.floor_moves.specs.Valid.{Empty, Valid}
+use Rattle.floor_moves.proofs.Facts.{empty_tells, HomeFree, AlignerFree, ChamberFree, target_tells}
+use Rattle.place_laws.specs.Picture.{picture, loc_of, module_of, numbers_from}
+use Rattle.place_laws.specs.Sound.{Base}
+use Rattle.floor_laws.proofs.IssueHeld.{found_so, none_any}
+use Rattle.floor_laws.proofs.IssueViews.{IsSeen, holder_seen, none_seen}
+use Rattle.work_laws.proofs.Ease.{at_ease}
+use Rattle.work_laws.proofs.Lists.{none_of, is_this}
+use Rattle.work_laws.proofs.Telling.{Tells, views_tell}
+
+-- ---- numbers of chambers and modules
+
+-- a number that is one of so many from one on is within them
+pub within : (first count n : ℕ) → is_one_of (numbers_from first count) n ≡ true → (first ≤ n) × (n < first + count)
+within first zero n e = absurd (cc)
+within first (suc count) n e = of (first == n) refl e (within (first + 1) count n) where
+  of : (b : Bool) → (first == n) ≡ b → (b || is_one_of (numbers_from (first + 1) count) n) ≡ true → (is_one_of (numbers_from (first + 1) count) n ≡ true → (first + 1 ≤ n) × (n < first + 1 + count)) → (first ≤ n) × (n < first + suc count)
+  of true q e rest = let same = (Decides-eqb first n).0 q in (omega (arith, same), omega (arith, same))
+  of false q e rest = let more = rest e in let a = more.0 in let b = more.1 in (omega (arith, a), omega (arith, b))
+
+-- there is a module of each place in the list
+there : (n : ℕ) (ms : List ToolModule) → n < length ms → (x : ToolModule) × (slice_get ms n ≡ Some x)
+there n [] less = absurd (omega (arith, less))
+there zero (x ∷ ms) less = (x, refl)
+there (suc n) (x ∷ ms) less = there n ms (omega (arith, less))
+
+-- ---- chambers that are chosen
+
+module _ (vs : List PlaceView) (ms : List ToolModule) (w : PlaceView) where
+  -- one that is chosen is free
+  chosen_free : (first count d : ℕ) → first_of (chamber_where_free vs ms w) first count ≡ Some d → is_free vs ms (Chamber d) ≡ true
+  chosen_free first zero d e = absurd (cc)
+  chosen_free first (suc count) d e = of (has_chamber w.chambers first && is_free vs ms (Chamber first)) refl (chosen_free (first + 1) count d) e where
+    of : (t : Bool) → (has_chamber w.chambers first && is_free vs ms (Chamber first)) ≡ t → (first_of (chamber_where_free vs ms w) (first + 1) count ≡ Some d → is_free vs ms (Chamber d) ≡ true) → option_or (if t then Some first else None) (first_of (chamber_where_free vs ms w) (first + 1) count) ≡ Some d → is_free vs ms (Chamber d) ≡ true
+    of true q rest e =
+        let same : first ≡ d = cc in
+        subst (λ (n : ℕ). is_free vs ms (Chamber n) ≡ true) same (and_parts (has_chamber w.chambers first) (is_free vs ms (Chamber first)) q).1
+    of false q rest e = rest e
+
+  -- where a chamber of its recipe is free, its target is
+  chamber_target : (c : ℕ) → 1 ≤ c → c ≤ 8 → (has_chamber w.chambers c && is_free vs ms (Chamber c)) ≡ true → is_some (where_free vs ms (option_map (λ (c : ℕ). Chamber c) (free_chamber vs ms w))) ≡ true
+  chamber_target c least most e = of (free_chamber vs ms w) refl where
+    of : (o : Option ℕ) → free_chamber vs ms w ≡ o → is_some (where_free vs ms (option_map (λ (c : ℕ). Chamber c) o)) ≡ true
+    of None q =
+        let none : chamber_where_free vs ms w c ≡ None = none_of (chamber_where_free vs ms w) 1 8 c q least (omega (arith, most)) in
+        let some : chamber_where_free vs ms w c ≡ Some c = ap (λ (b : Bool). if b then Some c else None) e in
+        absurd (cc)
+    of (Some d) q = ap (λ (b : Bool). is_some (if b then Some (Chamber d) else None)) (chosen_free 1 8 d q)
+
+-- ---- by numbers
+
+module _ (f : ToolFloor) (b : Base f) (v : Valid (picture f)) (many : length f.modules ≡ 2 + f.places.chambers) where
+  -- ---- modules
+
+  -- a module of the tool that is Idle by numbers is Idle
+  pub idle_there : (m : ℕ) → 1 ≤ m → m ≤ length f.modules → law.is_idle ((picture f).equipment m) ≡ true → is_idle (module_at m f.modules) ≡ true
+  idle_there zero least most e = absurd (omega (arith, least))
+  idle_there (suc k) least most e =
+      let w = there k f.modules (omega (arith, most)) in
+      of w.0 w.1 (sym (ap (λ (o : Option ToolModule). law.is_idle (module_of o f.places)) w.1) ∙ e)
+    where
+      of : (x : ToolModule) → module_at (suc k) f.modules ≡ Some x → law.is_idle (module_of (Some x) f.places) ≡ true → is_idle (module_at (suc k) f.modules) ≡ true
+      of Idle q e = ap is_idle q
+      of (Busy c fetched) q e = absurd (cc)
+      of Down q e = absurd (cc)
+
+  robot_there : law.is_idle ((picture f).equipment 1) ≡ true → is_idle (module_at 1 f.modules) ≡ true
+  robot_there e = idle_there 1 (omega arith) (omega (arith, many)) e
+
+  aligner_there : law.is_idle ((picture f).equipment 2) ≡ true → is_idle (module_at 2 f.modules) ≡ true
+  aligner_there e = idle_there 2 (omega arith) (omega (arith, many)) e
+
+  pub chamber_there : (c : ℕ) → is_one_of (picture f).chambers c ≡ true → law.is_idle ((picture f).equipment (law.chamber_module c)) ≡ true → is_idle (module_at (chamber_module c) f.modules) ≡ true
+  chamber_there c known e =
+      let w = within 1 f.places.chambers c known in
+      let least = w.0 in
+      let most = w.1 in
+      idle_there (chamber_module c) (omega arith) (omega (arith, most, many)) e
+
+  -- ---- who is where
+
+  -- the view of a substrate at a place
+  pub record IsShown (n : ℕ) (loc : LocId) (w : PlaceView) : Type 0 where
+    pub held : holder loc (views f) ≡ Some w
+    pub seen : IsSeen f n w
+    pub tells : Tells f w
+    pub at : w.at ≡ loc
+
+  pub shown : (n : ℕ) (loc : LocId) → (picture f).place_of n ≡ Some (loc_of loc) → (w : PlaceView) × IsShown n loc w
+  shown n loc at = of (holder loc (views f)) refl where
+    of : (o : Option PlaceView) → holder loc (views f) ≡ o → (w : PlaceView) × IsShown n loc w
+    of None e = absurd (none_seen f b loc e n at)
+    of (Some w) e =
+        let its = holder_seen f b loc w e in
+        let seen : IsSeen f its.0.0 w = its.0.1 in
+        let here : (picture f).place_of its.0.0 ≡ Some (loc_of loc) = seen.at ∙ ap (λ (l : LocId). Some (loc_of l)) its.1 in
+        let same : its.0.0 ≡ n = v.places.apart its.0.0 n (loc_of loc) here at in
+        (w, record { held = e; seen = subst (λ (k : ℕ). IsSeen f k w) same seen; tells = (found_so (Tells f) (λ (x : PlaceView). is_same x.at loc) (views f) w (views_tell f b) e).0; at = its.1 })
+
+  -- where nobody is nobody is seen
+  pub none_held : (loc : LocId) → Empty (loc_of loc) (picture f) → holder loc (views f) ≡ None
+  none_held loc free = of (holder loc (views f)) refl where
+    of : (o : Option PlaceView) → holder loc (views f) ≡ o → o ≡ None
+    of None e = refl
+    of (Some w) e =
+        let its = holder_seen f b loc w e in
+        let seen : IsSeen f its.0.0 w = its.0.1 in
+        absurd (free its.0.0 (seen.at ∙ ap (λ (l : LocId). Some (loc_of l)) its.1))
+
+  empty_there : (loc : LocId) → Empty (loc_of loc) (picture f) → is_empty loc (views f) ≡ true
+  empty_there loc free = ap (λ (t : Bool). not t) (none_any (λ (x : PlaceView). is_same x.at loc) (views f) (none_held loc free))
+
+  -- a place has a name
+  pub place_named : (n : ℕ) (l : Loc) → (picture f).place_of n ≡ Some l → (loc : LocId) × (loc_of loc ≡ l)
+  place_named n l at = of (find (λ (r : Registered). r.number == n) f.places.held) at where
+    of : (o : Option Registered) → option_map (λ (r : Registered). loc_of r.at) o ≡ Some l → (loc : LocId) × (loc_of loc ≡ l)
+    of None e = absurd (cc)
+    of (Some r) e = (r.at, cc)
+
+  -- ---- targets
+
+  module _ (n : ℕ) (w : PlaceView) (s : IsSeen f n w) (t : Tells f w) where
+    -- what the target is, by whether it is finished and aligned
+    abbrev target_by : Bool → Bool → Option LocId
+    target_by finished is_aligned = if finished then Some w.slot else (if not is_aligned then Some Aligner else option_map (λ (c : ℕ). Chamber c) (free_chamber (views f) f.modules w))
+
+    home_there : HomeFree n (at_ease f) (own n (at_ease f)) → is_some (free_target (views f) f.modules w) ≡ true
+    home_there h =
+        let home = s.home in
+        let finished : w.finished ≡ true = sym s.finished ∙ h.0 in
+        let empty : Empty (loc_of (Slot home.0 home.1)) (at_ease f) = subst (λ (l : Loc). Empty l (at_ease f)) (s.its_own ∙ ap loc_of home.2) (empty_tells (at_ease f) v.places (own n (at_ease f)) h.1) in
+        let free : is_free (views f) f.modules w.slot ≡ true = ap (is_free (views f) f.modules) home.2 ∙ empty_there (Slot home.0 home.1) empty in
+        ap (λ (x : Bool). is_some (where_free (views f) f.modules (target_by x w.aligned))) finished
+        ∙ ap (λ (x : Bool). is_some (if x then Some w.slot else None)) free
+
+    by_aligned : (is_aligned : Bool) → w.finished ≡ false → w.aligned ≡ is_aligned → is_some (where_free (views f) f.modules (target_by false is_aligned)) ≡ true → is_some (free_target (views f) f.modules w) ≡ true
+    by_aligned is_aligned unfinished al e =
+        ap (λ (x : Bool). is_some (where_free (views f) f.modules (target_by x w.aligned))) unfinished
+        ∙ ap (λ (x : Bool). is_some (where_free (views f) f.modules (target_by false x))) al ∙ e
+
+    to_aligner : law.is_finished ((at_ease f).processing n) ≡ false → (at_ease f).is_aligned n ≡ false → ready.is_empty aligner (at_ease f) ≡ true → law.is_idle ((at_ease f).equipment 2) ≡ true → is_some (free_target (views f) f.modules w) ≡ true
+    to_aligner unfinished al empty idle =
+        by_aligned false (sym s.finished ∙ unfinished) (sym s.aligned ∙ al)
+        (ap (λ (x : Bool). is_some (if x then Some Aligner else None))
+        (and_from (is_empty Aligner (views f)) (is_idle (module_at 2 f.modules)) (empty_there Aligner (empty_tells (at_ease f) v.places aligner empty)) (aligner_there idle)))
+
+    to_chamber : law.is_finished ((at_ease f).processing n) ≡ false → (at_ease f).is_aligned n ≡ true → (c : ℕ) → ready.is_chamber_free n (at_ease f) c ≡ true → is_one_of (at_ease f).chambers c ≡ true → is_some (free_target (views f) f.modules w) ≡ true
+    to_chamber unfinished al c free known =
+        let parts = and_parts (is_one_of ((at_ease f).jobs.chambers_of n) c) (ready.is_empty (chamber c) (at_ease f) && law.is_idle ((at_ease f).equipment (law.chamber_module c))) free in
+        let here = and_parts (ready.is_empty (chamber c) (at_ease f)) (law.is_idle ((at_ease f).equipment (law.chamber_module c))) parts.1 in
+        let chosen = t.chambers c (ap (λ (k : ℕ). is_one_of ((at_ease f).jobs.chambers_of k) c) s.number ∙ parts.0) in
+        let open_there : is_free (views f) f.modules (Chamber c) ≡ true =
+        and_from (is_empty (Chamber c) (views f)) (is_idle (module_at (chamber_module c) f.modules)) (empty_there (Chamber c) (empty_tells (at_ease f) v.places (chamber c) here.0)) (chamber_there c known here.1) in
+        by_aligned true (sym s.finished ∙ unfinished) (sym s.aligned ∙ al)
+        (chamber_target (views f) f.modules w c chosen.least chosen.most (and_from (has_chamber w.chambers c) (is_free (views f) f.modules (Chamber c)) chosen.has open_there))
+
+    -- where its target is free by numbers, the planner has one for it
+    pub target_there : is_some (ready.free_target n (at_ease f)) ≡ true → is_some (free_target (views f) f.modules w) ≡ true
+    target_there e = let l = is_this (ready.free_target n (at_ease f)) e in of l.0 (target_tells n (at_ease f) l.0 l.1) where
+      of : (l : Loc) → HomeFree n (at_ease f) l ⊎ (AlignerFree n (at_ease f) l ⊎ ChamberFree n (at_ease f) l) → is_some (free_target (views f) f.modules w) ≡ true
+      of l (inl h) = home_there (h.0, h.1, refl)
+      of l (inr (inl h)) = to_aligner h.0 h.1 h.2 h.3
+      of l (inr (inr h)) = to_chamber h.0 h.1 h.2 h.3 h.4
+
+    -- ---- who may leave
+
+    same_slot : (at own_slot : Loc) (p k : ℕ) → own_slot ≡ slot p k → law.is_same at own_slot ≡ true → law.is_same at (slot p k) ≡ true
+    same_slot at own_slot p k e is = sym (ap (law.is_same at) e) ∙ is
+
+    leaves_there : (loc : LocId) → (at_ease f).place_of n ≡ Some (loc_of loc) → ready.may_leave n (at_ease f) (Some (loc_of loc)) ≡ true → may_leave loc f.modules w ≡ true
+    leaves_there (Slot p k) at e =
+        let parts = and_parts (law.is_same (slot p.0 k.0) (own n (at_ease f)) && not (law.is_finished ((at_ease f).processing n))) ((at_ease f).jobs.may_start n) e in
+        let first = and_parts (law.is_same (slot p.0 k.0) (own n (at_ease f))) (not (law.is_finished ((at_ease f).processing n))) parts.0 in
+        let home = s.home in
+        let same : law.is_same (slot p.0 k.0) (slot home.0.0 home.1.0) ≡ true = same_slot (slot p.0 k.0) (own n (at_ease f)) home.0.0 home.1.0 (s.its_own ∙ ap loc_of home.2) first.0 in
+        let here : is_same (Slot p k) w.slot ≡ true = ap (is_same (Slot p k)) home.2 ∙ same in
+        and_from (is_same (Slot p k) w.slot && not w.finished) w.may_start
+        (and_from (is_same (Slot p k) w.slot) (not w.finished) here (ap (λ (x : Bool). not x) (sym s.finished) ∙ first.1))
+        (sym s.starts ∙ parts.1)
+    leaves_there Aligner at e =
+        let parts = and_parts (law.is_idle ((at_ease f).equipment 2)) (law.is_finished ((at_ease f).processing n) || (at_ease f).is_aligned n) e in
+        and_from (is_idle (module_at 2 f.modules)) (w.finished || w.aligned) (aligner_there parts.0)
+        (ap (λ (x : Bool). x || w.aligned) (sym s.finished) ∙ ap (λ (x : Bool). law.is_finished ((at_ease f).processing n) || x) (sym s.aligned) ∙ parts.1)
+    leaves_there Arm at e = absurd (cc)
+    leaves_there (Chamber c) at e =
+        let parts = and_parts (law.is_idle ((at_ease f).equipment (law.chamber_module c))) (law.is_finished ((at_ease f).processing n)) e in
+        and_from (is_idle (module_at (chamber_module c) f.modules)) w.finished (chamber_there c (v.places.chambers n c at) parts.0) (sym s.finished ∙ parts.1)
+
+    -- one whose pick is useful by numbers is one for the planner
+    pub useful_there : (loc : LocId) → w.at ≡ loc → (at_ease f).place_of n ≡ Some (loc_of loc) → ready.is_useful (at_ease f) n ≡ true → is_useful (views f) f.modules w ≡ true
+    useful_there loc is at e =
+        let parts = and_parts (ready.may_leave n (at_ease f) ((at_ease f).place_of n)) (is_some (ready.free_target n (at_ease f))) e in
+        let leaves : may_leave w.at f.modules w ≡ true = ap (λ (l : LocId). may_leave l f.modules w) is ∙ leaves_there loc at (sym (ap (ready.may_leave n (at_ease f)) at) ∙ parts.0) in
+        and_from (may_leave w.at f.modules w) (is_some (free_target (views f) f.modules w)) leaves (target_there parts.1)

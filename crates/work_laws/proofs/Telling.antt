@@ -1,0 +1,98 @@
+-- What the planner is told of a substrate is what the floor by numbers says of it: its chambers, and that it isn't IN PROCESS.
+use Rattle.std.proofs.Common.{◌≡◌, ◌≤◌, ℕ, ◌+◌, ◌==◌, Bool, true, false, if◌then◌else◌, List, [], ◌∷◌, ◌++◌, Option, Some, None, option_map, refl, sym, ◌∙◌, ap, subst, arith}
+use Rattle.std.specs.List.{AllByRecursion}
+use Rattle.gem_tables.specs.Table.{is_one_of}
+use Rattle.gem_tables.proofs.Rows.{one_of_cases}
+use Rattle.robot_moves.specs.Moves.{has_chamber}
+use Rattle.robot_moves.specs.declared.view.PlaceView.{PlaceView}
+use Rattle.substrate.specs.Record.{is_in_process}
+use Rattle.substrate.specs.Tables.{processing_number}
+use Rattle.substrate.specs.declared.record.Processing.{Processing}
+use Rattle.substrate.specs.declared.record.Processing.TheVariants as processing
+use Rattle.substrate.specs.declared.registered.Registered.{Registered}
+use Rattle.tool_events.specs.declared.recipes.Recipe.{Recipe}
+use Rattle.process_job.specs.Jobs.{recipe_named}
+use Rattle.process_job.specs.declared.job.ProcessJob.{ProcessJob}
+use Rattle.tool_floor.specs.declared.tracking.Substrate.{Substrate}
+use Rattle.tool_floor.specs.Floor.{ToolFloor, substrate_numbered}
+use Rattle.tool_floor.specs.Jobs.{job_of}
+use Rattle.tool_floor.specs.Views.{chambers_of, recipe_of, view_of, view_in, views_of, views}
+use Rattle.place_laws.specs.Picture.{picture, numbered, number_or_none, chambers_in, of_one, of_job}
+use Rattle.place_laws.specs.Sound.{Base}
+use Rattle.floor_laws.proofs.IssueHeld.{IsHeld, HasKept, all_held}
+
+-- ---- the chambers of a recipe
+
+-- a chamber is one of those that a set of bits has, and is one of 1 to 8
+abbrev pub IsChosen : ℕ → ℕ → Type 0
+IsChosen bits c = record {
+  has : has_chamber bits c ≡ true;
+  least : 1 ≤ c;
+  most : c ≤ 8;
+}
+
+-- so is each chamber that a recipe of these two has
+two_chosen : (a b : Bool) (c : ℕ) → is_one_of ((if a then 1 ∷ [] else []) ++ (if b then 2 ∷ [] else [])) c ≡ true → IsChosen ((if a then 1 else 0) + (if b then 2 else 0)) c
+two_chosen true true c e =
+    one_of_cases (IsChosen 3) (1 ∷ 2 ∷ []) c (record { has = refl; least = omega arith; most = omega arith }, (record { has = refl; least = omega arith; most = omega arith }, tt)) e
+two_chosen true false c e = one_of_cases (IsChosen 1) (1 ∷ []) c (record { has = refl; least = omega arith; most = omega arith }, tt) e
+two_chosen false true c e = one_of_cases (IsChosen 2) (2 ∷ []) c (record { has = refl; least = omega arith; most = omega arith }, tt) e
+two_chosen false false c e = absurd (cc)
+
+recipe_chosen : (o : Option Recipe) (c : ℕ) → is_one_of (chambers_in o) c ≡ true → IsChosen (chambers_of o) c
+recipe_chosen None c e = absurd (cc)
+recipe_chosen (Some r) c e = two_chosen r.chambers.one r.chambers.two c e
+
+-- ---- states of processing
+
+not_begun : (p : Processing) → (processing_number p == 0) ≡ true → is_in_process p ≡ false
+not_begun processing.NeedsProcessing e = refl
+not_begun processing.InProcess e = absurd (cc)
+not_begun processing.Processed e = refl
+not_begun processing.Aborted e = refl
+not_begun processing.Stopped e = refl
+not_begun processing.Rejected e = refl
+not_begun processing.Lost e = refl
+not_begun processing.Skipped e = refl
+
+-- ---- one view
+
+-- A view tells these things of the substrate of its number: each chamber of the recipe of its job, and that it is not IN PROCESS where it
+-- NEEDS PROCESSING.
+pub record Tells (f : ToolFloor) (v : PlaceView) : Type 0 where
+  pub chambers : (c : ℕ) → is_one_of ((picture f).jobs.chambers_of (numbered v.sub f.places)) c ≡ true → IsChosen v.chambers c
+  pub needing : ((picture f).processing (numbered v.sub f.places) == 0) ≡ true → v.in_process ≡ false
+
+module _ (f : ToolFloor) (b : Base f) where
+  -- the chambers of a process job, where there is one
+  abbrev its_chambers : Option ProcessJob → List ℕ
+  its_chambers o = of_one [] (λ (j : ProcessJob). chambers_in (recipe_named j.recipe f.jobs.process.recipes)) o
+
+  -- those of the process job of a substrate, where there is one
+  abbrev said_chambers : Option Substrate → List ℕ
+  said_chambers o = of_one [] (of_job [] (λ j. chambers_in (recipe_named j.recipe f.jobs.process.recipes)) f.jobs) o
+
+  tells : (r : Registered) (s : Substrate) → IsHeld f r s → Tells f (view_of r s (job_of s f.jobs) f.jobs.process.recipes)
+  tells r s h = record {
+    chambers = λ c e. of c (job_of s f.jobs) (sym (ap (λ (o : Option Substrate). is_one_of (said_chambers o) c) found) ∙ e);
+    needing = λ e. not_begun s.states.processing (sym (ap (λ (o : Option Substrate). of_one 0 (λ (x : Substrate). processing_number x.states.processing) o == 0) found) ∙ e);
+  } where
+    number : numbered r.sub f.places ≡ r.number
+    number = ap (λ (o : Option Registered). number_or_none (option_map (λ (x : Registered). x.number) o)) h.named
+
+    found : substrate_numbered (numbered r.sub f.places) f.substrates ≡ Some s
+    found = ap (λ (n : ℕ). substrate_numbered n f.substrates) number ∙ h.found
+
+    of : (c : ℕ) (o : Option ProcessJob) → is_one_of (its_chambers o) c ≡ true → IsChosen (chambers_of (recipe_named (recipe_of o) f.jobs.process.recipes)) c
+    of c None e = absurd (cc)
+    of c (Some j) e = recipe_chosen (recipe_named j.recipe f.jobs.process.recipes) c e
+
+  -- each of them does
+  all_tell : (rs : List Registered) → AllByRecursion (HasKept f) rs → AllByRecursion (Tells f) (views_of f.jobs f.substrates rs)
+  all_tell [] all = tt
+  all_tell (r ∷ rs) all =
+      subst (λ (o : Option Substrate). AllByRecursion (Tells f) (view_in r o f.jobs ++ views_of f.jobs f.substrates rs)) (sym all.0.1.found)
+      (tells r all.0.0 all.0.1, all_tell rs all.1)
+
+  pub views_tell : AllByRecursion (Tells f) (views f)
+  views_tell = all_tell f.places.held (all_held f b)

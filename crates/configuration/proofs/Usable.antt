@@ -1,5 +1,5 @@
 -- The recipes that are taken have chambers of the tool.
-use Rattle.std.proofs.Common.{◌≡◌, ◌≤◌, ℕ, zero, suc, ◌+◌, nat_eq, nat_le, Bool, true, false, ◌&&◌, ◌||◌, if◌then◌else◌, List, [], ◌∷◌, ◌++◌, codes, length, Option, Some, None, option_and_then, option_map, refl, sym, ap, subst, ◌∙◌, arith}
+use Rattle.std.proofs.Common.{◌≡◌, ◌≤◌, ℕ, zero, suc, nat_eq, nat_le, Bool, true, false, ◌&&◌, ◌||◌, if◌then◌else◌, List, [], ◌∷◌, ◌++◌, codes, length, Option, Some, None, option_and_then, option_map, refl, sym, ap, subst, ◌∙◌, arith}
 use Rattle.std.specs.List.{list_any, list_all}
 use Rattle.std.proofs.lemmas.Bool.{and_parts, and_from, or_left, or_right}
 use Rattle.std.proofs.lemmas.Bool.Decides.{nat_tests}
@@ -8,7 +8,7 @@ use Rattle.tool_events.specs.Configs.{is_usable, are_usable}
 use Rattle.tool_events.specs.declared.recipes.Recipe.{Recipe}
 use Rattle.tool_events.specs.declared.recipes.RecipeChambers.{RecipeChambers}
 use Rattle.configuration.specs.Values.{is_between, as_natural, number_in, text_of, has, numbers_behind, some_items, filled_list, has_other}
-use Rattle.configuration.specs.Recipes.{most_recipes, recipe_keys, chambers_in, recipe_in, has_name, with_recipe, recipes_behind, recipes_of, recipe_for_all}
+use Rattle.configuration.specs.Recipes.{most_recipes, recipe_keys, chambers_in, recipe_in, has_name, with_recipe, recipes_behind, recipes_of}
 use Rattle.configuration.specs.Rules.{recipes, said_at, taken}
 
 -- ---- lists of numbers

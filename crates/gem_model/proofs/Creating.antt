@@ -1,5 +1,5 @@
 -- Where a process job is created no fault stands against it.
-use Rattle.std.proofs.Common.{◌≡◌, ℕ, nat_lt, Bool, true, false, not, if◌then◌else◌, List, [], ◌∷◌, length, Option, Some, None, refl}
+use Rattle.std.proofs.Common.{◌≡◌, nat_lt, Bool, true, false, not, if◌then◌else◌, [], ◌∷◌, length, Option, Some, None, refl}
 use Rattle.secs_items.specs.Data.{Data}
 use Rattle.process_job.specs.Jobs.{is_known, most_jobs}
 use Rattle.process_job.specs.Creating.{is_recipe, is_some_material, create_fault}

@@ -13,7 +13,6 @@ use Rattle.carrier.specs.declared.action.CarrierAction.{CarrierAction}
 use Rattle.process_job.specs.Creating.{create_fault}
 use Rattle.process_job.specs.declared.job.JobSpec.{JobSpec}
 use Rattle.control_job.specs.Jobs.{JobStore}
-use Rattle.shop_floor.specs.Floor.{Floor}
 use Rattle.shop_floor.specs.Requests.{came, carrier_written}
 use Rattle.shop_floor.specs.Floor.{arrival_of}
 use Rattle.tool_jobs.specs.Creating.{with_process}

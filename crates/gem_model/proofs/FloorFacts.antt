@@ -26,7 +26,7 @@ use Rattle.tool_floor.specs.Modules.{number_named}
 use Rattle.tool_floor.proofs.Asked.{done_by_jobs}
 use Rattle.tool_floor.specs.Machines.{floor_starts, floor_fired, floor_least, creation_rows, is_creation}
 use Rattle.tool_floor.specs.Signals.{done_row, at_processed, processed_rows, done_processing, at_done, done_processed, done_at, done_rows, closing_at, closing_rows, can_be_lost, lost_at, lost_rows}
-use Rattle.tool_floor.proofs.Keeping.{creation_same, least_starts}
+use Rattle.tool_floor.proofs.Keeping.{creation_same}
 use Rattle.tool_events.specs.declared.event.Event.{Event}
 use Rattle.tool_events.specs.declared.event.Event.TheVariants as event
 use Rattle.tool_events.specs.declared.event.Signal.TheVariants as signal

@@ -3,7 +3,6 @@ use Rattle.std.proofs.Common.{◌≡◌, ◌≤◌, true, false, List}
 use Rattle.load_port.specs.Ports.{most_ports}
 use Rattle.tool_events.specs.declared.config.Config.{Config}
 use Rattle.tool_events.specs.declared.entry.Entry.{Entry}
-use Rattle.tool_floor.specs.Floor.{with_shop}
 use Rattle.shop_floor.specs.Floor.{arrival_of}
 use Rattle.shop_floor.specs.Requests.{came, carrier_written}
 use Rattle.tool_events.specs.Configs.{are_usable}

@@ -1,5 +1,6 @@
 pub mod Lists
 pub mod Staying
+pub mod Ease
 pub mod Telling
 pub mod Standing
 pub mod Resting

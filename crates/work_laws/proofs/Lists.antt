@@ -1,14 +1,13 @@
 -- What lists, options and truth values tell.
-use Rattle.std.proofs.Common.{◌≡◌, ◌≤◌, ◌<◌, ℕ, zero, suc, ◌+◌, ◌==◌, Bool, true, false, not, ◌||◌, ◌&&◌, if◌then◌else◌, List, [], ◌∷◌, Option, Some, None, option_map, is_some, refl, sym, ◌∙◌, ap, subst, arith}
+use Rattle.std.proofs.Common.{◌≡◌, ◌≤◌, ◌<◌, ℕ, zero, suc, ◌+◌, ◌==◌, Bool, true, false, not, ◌||◌, ◌&&◌, if◌then◌else◌, List, [], ◌∷◌, Option, Some, None, option_map, is_some, refl, ◌∙◌, ap, subst, arith}
 use Rattle.std.specs.List.{AllByRecursion, list_any, list_all}
 use Rattle.std.specs.Option.{option_or}
 use Rattle.std.proofs.lemmas.Bool.{or_right}
 use Rattle.std.proofs.lemmas.Bool.Decides.{Decides-eqb}
 use Rattle.gem_tables.specs.Table.{Row, firing, choose, is_one_of, is_itself, is_among, first_itself}
 use Rattle.gem_tables.specs.Machine.{Machine, first_ready, least_in}
-use Rattle.gem_tables.specs.declared.firing.Firing.{Firing}
 use Rattle.robot_moves.specs.Moves.{first_of}
-use Rattle.floor_moves.proofs.Scans.{one_of_tells, first_of as is_first}
+use Rattle.floor_moves.proofs.Scans.{first_of as is_first}
 
 -- ---- truth values and options
 

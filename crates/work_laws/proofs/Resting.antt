@@ -1,37 +1,30 @@
 -- Where no row of the floor is ready by itself, none of tables 13 and 16 is by numbers.
-use Rattle.std.proofs.Common.{◌≡◌, ◌≤◌, ℕ, zero, suc, ◌+◌, ◌-◌, ◌==◌, Bool, true, false, ◌||◌, ◌&&◌, not, if◌then◌else◌, List, [], ◌∷◌, length, map, Option, Some, None, option_map, is_some, refl, sym, ◌∙◌, ap, subst, arith}
-use Rattle.std.specs.List.{AllByRecursion, list_any}
+use Rattle.std.proofs.Common.{◌≡◌, ◌≤◌, ℕ, zero, suc, ◌+◌, ◌-◌, ◌==◌, Bool, true, false, ◌||◌, ◌&&◌, not, if◌then◌else◌, length, Option, Some, None, is_some, refl, sym, ◌∙◌, ap, subst, arith}
+use Rattle.std.specs.List.{list_any}
 use Rattle.std.specs.Option.{option_or}
 use Rattle.std.proofs.lemmas.Bool.{and_parts, and_from, not-true, false_from_ne_true}
 use Rattle.std.proofs.lemmas.Bool.Decides.{Decides-eqb}
-use Rattle.gem_tables.specs.Table.{choose, is_one_of, is_itself, is_among, first_itself}
-use Rattle.gem_tables.specs.Machine.{first_ready}
+use Rattle.gem_tables.specs.Table.{choose, first_itself}
 use Rattle.gem_ids.specs.declared.numbers.LocId.{LocId}
 use Rattle.gem_ids.specs.declared.numbers.LocId.TheVariants.{Aligner, Arm, Chamber}
 use Rattle.tool_events.specs.declared.answer.Task.TheVariants as task
 use Rattle.robot_moves.specs.Modules.{module_at, is_idle, chamber_module}
-use Rattle.robot_moves.specs.Moves.{first_of, holder, free_target, is_useful, best_pick, move_by, place_move, pick_move, arm_move, robot_move, align_move, aligner_move, process_move, chamber_move, module_move, next_move}
-use Rattle.robot_moves.specs.declared.module.Module.{Module as ToolModule}
+use Rattle.robot_moves.specs.Moves.{holder, free_target, is_useful, best_pick, move_by, place_move, pick_move, arm_move, robot_move, align_move, aligner_move, process_move, chamber_move, module_move, next_move}
 use Rattle.robot_moves.specs.declared.view.PlaceView.{PlaceView}
-use Rattle.robot_moves.specs.declared.view.Move.{Move}
 use Rattle.robot_moves.proofs.Best.{none_is}
 use Rattle.substrate.specs.Locations.{is_same}
 use Rattle.substrate.specs.Tables.{processing_number, processing_table}
-use Rattle.substrate.specs.Tables as want
-use Rattle.substrate.specs.Tables.{SubstrateRow}
 use Rattle.substrate.specs.declared.record.Processing.{Processing}
 use Rattle.substrate.specs.declared.record.Processing.TheVariants as processing
 use Rattle.process_job.specs.declared.job.ProcessJob.{ProcessJob}
 use Rattle.process_job.specs.declared.record.JobState.{JobState}
 use Rattle.tool_floor.specs.declared.tracking.Substrate.{Substrate}
-use Rattle.tool_floor.specs.Floor.{ToolFloor, substrate_numbered, number_of}
+use Rattle.tool_floor.specs.Floor.{ToolFloor, substrate_numbered}
 use Rattle.tool_floor.specs.Jobs.{job_of, is_job_so, is_stopping, is_aborting}
 use Rattle.tool_floor.specs.Naming.{module_names, processes}
 use Rattle.tool_floor.specs.Substrates.{is_outside, is_in_slot}
 use Rattle.tool_floor.specs.Views.{views, planned}
 use Rattle.tool_floor.specs.Wants.{substrate_wants, is_skipped}
-use Rattle.tool_floor.specs.Machines.{substrate_ready}
-use Rattle.tool_floor.proofs.Moves.{firing_of, first_move_is}
 use Rattle.floor_moves.specs.Floor as law
 use Rattle.floor_moves.specs.Floor.{Floor, Loc, aligner, arm, chamber, own, is_at}
 use Rattle.floor_moves.specs.Ready as ready
@@ -41,15 +34,13 @@ use Rattle.floor_moves.proofs.Scans.{find_tells}
 use Rattle.floor_moves.proofs.Facts.{at_tells, empty_tells, holder_tells, not_named, processed_tells}
 use Rattle.place_laws.specs.Picture.{picture, loc_of, of_one, of_job}
 use Rattle.place_laws.specs.Sound.{Base}
-use Rattle.place_laws.proofs.Holding.{one_found}
 use Rattle.floor_laws.proofs.IssueHeld.{found_so}
-use Rattle.floor_laws.proofs.IssueViews.{IsSeen}
 use Rattle.floor_laws.proofs.JobSight.{outside_same, in_slot_from}
 use Rattle.floor_laws.proofs.JobNamed.{named_from}
 use Rattle.floor_laws.proofs.JobWork as work
-use Rattle.work_laws.proofs.Lists.{is_this, mapped_none, where_none, none_of, none_itself, none_chosen, none_first}
-use Rattle.work_laws.proofs.Standing.{within, shown, none_held, place_named, idle_there, target_there, useful_there, IsShown}
-use Rattle.work_laws.proofs.Telling.{Tells}
+use Rattle.work_laws.proofs.Ease.{at_ease}
+use Rattle.work_laws.proofs.Lists.{is_this, mapped_none, where_none, none_of, none_itself, none_chosen}
+use Rattle.work_laws.proofs.Standing.{within, shown, none_held, place_named, idle_there, target_there, useful_there}
 
 -- ---- table 13
 
@@ -106,13 +97,13 @@ module _ (f : ToolFloor) (b : Base f) (v : Valid (picture f)) (n : ℕ) (s : Sub
       let none = (needing e).skipped in
       let parts = and_parts ((picture f).jobs.is_stopping n || (picture f).jobs.is_aborting n) (not (ready.is_named n (picture f))) is in
       let ends : (is_job_so is_stopping (job_of s f.jobs) || is_job_so is_aborting (job_of s f.jobs)) ≡ true =
-          ap (λ (x : Bool). x || is_job_so is_aborting (job_of s f.jobs)) (sym (said is_stopping)) ∙ ap (λ (x : Bool). (picture f).jobs.is_stopping n || x) (sym (said is_aborting)) ∙ parts.0 in
+      ap (λ (x : Bool). x || is_job_so is_aborting (job_of s f.jobs)) (sym (said is_stopping)) ∙ ap (λ (x : Bool). (picture f).jobs.is_stopping n || x) (sym (said is_aborting)) ∙ parts.0 in
       let home : is_in_slot s f.places ≡ true = in_slot_from f b n s found (at_tells (own n (picture f)) ((picture f).place_of n) at) in
       let unnamed : list_any (module_names s.sub) f.modules ≡ false = false_from_ne_true (list_any (module_names s.sub) f.modules)
-          (λ t. let w = named_from f b n s found v.members t in not_named (picture f) v n (not-true (ready.is_named n (picture f)) parts.1) w.0 w.1 w.2 w.3) in
+      (λ t. let w = named_from f b n s found v.members t in not_named (picture f) v n (not-true (ready.is_named n (picture f)) parts.1) w.0 w.1 w.2 w.3) in
       let some : is_skipped s f ≡ true =
-          and_from (is_job_so is_stopping (job_of s f.jobs) || is_job_so is_aborting (job_of s f.jobs)) (is_in_slot s f.places && not (list_any (module_names s.sub) f.modules)) ends
-          (and_from (is_in_slot s f.places) (not (list_any (module_names s.sub) f.modules)) home (ap (λ (x : Bool). not x) unnamed)) in
+      and_from (is_job_so is_stopping (job_of s f.jobs) || is_job_so is_aborting (job_of s f.jobs)) (is_in_slot s f.places && not (list_any (module_names s.sub) f.modules)) ends
+      (and_from (is_in_slot s f.places) (not (list_any (module_names s.sub) f.modules)) home (ap (λ (x : Bool). not x) unnamed)) in
       cc
 
   -- row 6
@@ -130,7 +121,7 @@ module _ (f : ToolFloor) (b : Base f) (v : Valid (picture f)) (n : ℕ) (s : Sub
       cc
 
   -- no row of table 13 is ready at it
-  none_processing : choose (processing_cases (picture f) n) ≡ None
+  pub none_processing : choose (processing_cases (picture f) n) ≡ None
   none_processing = none_chosen (processing_cases (picture f) n) (
     unless ((picture f).processing n == 0) (ready.is_processed n (picture f)) not_processed,
     (
@@ -172,18 +163,18 @@ module _ (f : ToolFloor) (b : Base f) (v : Valid (picture f)) (many : length f.m
   -- ---- the robot
 
   -- where it is Idle its arm has nothing to do
-  no_arm_move : law.is_idle ((picture f).equipment 1) ≡ true → arm_move (views f) f.modules (holder Arm (views f)) ≡ None
+  no_arm_move : law.is_idle ((at_ease f).equipment 1) ≡ true → arm_move (views f) f.modules (holder Arm (views f)) ≡ None
   no_arm_move idle =
       let few : 1 ≤ length f.modules = omega (arith, many) in
       where_none (is_idle (module_at 1 f.modules)) (arm_move (views f) f.modules (holder Arm (views f))) (none 1 (omega arith) few) (idle_there f b v many 1 (omega arith) few idle)
 
   -- row 1
-  no_place : law.is_idle ((picture f).equipment 1) ≡ true → ready.is_to_place (ready.holder arm (picture f)) (picture f) ≡ true → ⊥
-  no_place idle e = of (ready.holder arm (picture f)) refl e where
-    of : (o : Option ℕ) → ready.holder arm (picture f) ≡ o → ready.is_to_place o (picture f) ≡ true → ⊥
+  no_place : law.is_idle ((at_ease f).equipment 1) ≡ true → ready.is_to_place (ready.holder arm (at_ease f)) (at_ease f) ≡ true → ⊥
+  no_place idle e = of (ready.holder arm (at_ease f)) refl e where
+    of : (o : Option ℕ) → ready.holder arm (at_ease f) ≡ o → ready.is_to_place o (at_ease f) ≡ true → ⊥
     of None q e = cc
     of (Some n) q e =
-        let w = shown f b v many n Arm (holder_tells (picture f) v.places arm n q) in
+        let w = shown f b v many n Arm (holder_tells (at_ease f) v.places arm n q) in
         let some : is_some (free_target (views f) f.modules w.0) ≡ true = target_there f b v many n w.0 w.1.seen w.1.tells e in
         let nothing : place_move (views f) f.modules w.0 ≡ None = sym (ap (arm_move (views f) f.modules) w.1.held) ∙ no_arm_move idle in
         let no_target : free_target (views f) f.modules w.0 ≡ None = mapped_none (λ (loc : LocId). move_by 1 1 (task.Place w.0.sub loc)) (free_target (views f) f.modules w.0) nothing in
@@ -191,44 +182,44 @@ module _ (f : ToolFloor) (b : Base f) (v : Valid (picture f)) (many : length f.m
         cc
 
   -- row 2
-  no_pick : law.is_idle ((picture f).equipment 1) ≡ true → ready.is_empty arm (picture f) ≡ true → is_some (ready.best_pick (picture f)) ≡ true → ⊥
-  no_pick idle empty e = let n = is_this (ready.best_pick (picture f)) e in of n.0 (best_useful (picture f) n.0 n.1) ((picture f).place_of n.0) refl where
+  no_pick : law.is_idle ((at_ease f).equipment 1) ≡ true → ready.is_empty arm (at_ease f) ≡ true → is_some (ready.best_pick (at_ease f)) ≡ true → ⊥
+  no_pick idle empty e = let n = is_this (ready.best_pick (at_ease f)) e in of n.0 (best_useful (at_ease f) n.0 n.1) ((at_ease f).place_of n.0) refl where
     nobody : holder Arm (views f) ≡ None
-    nobody = none_held f b v many Arm (empty_tells (picture f) v.places arm empty)
+    nobody = none_held f b v many Arm (empty_tells (at_ease f) v.places arm empty)
 
     no_best : best_pick (views f) f.modules ≡ None
     no_best = mapped_none pick_move (best_pick (views f) f.modules) (sym (ap (arm_move (views f) f.modules) nobody) ∙ no_arm_move idle)
 
-    at_place : (n : ℕ) (loc : LocId) → ready.is_useful (picture f) n ≡ true → (picture f).place_of n ≡ Some (loc_of loc) → ⊥
+    at_place : (n : ℕ) (loc : LocId) → ready.is_useful (at_ease f) n ≡ true → (at_ease f).place_of n ≡ Some (loc_of loc) → ⊥
     at_place n loc useful at =
         let w = shown f b v many n loc at in
         let some : is_useful (views f) f.modules w.0 ≡ true = useful_there f b v many n w.0 w.1.seen w.1.tells loc w.1.at at useful in
         let not_some : is_useful (views f) f.modules w.0 ≡ false = (found_so (λ (x : PlaceView). is_useful (views f) f.modules x ≡ false) (λ (x : PlaceView). is_same x.at loc) (views f) w.0 (none_is (views f) f.modules no_best) w.1.held).0 in
         cc
 
-    of : (n : ℕ) → ready.is_useful (picture f) n ≡ true → (o : Option Loc) → (picture f).place_of n ≡ o → ⊥
+    of : (n : ℕ) → ready.is_useful (at_ease f) n ≡ true → (o : Option Loc) → (at_ease f).place_of n ≡ o → ⊥
     of n useful None q =
-        let leaves = (and_parts (ready.may_leave n (picture f) ((picture f).place_of n)) (is_some (ready.free_target n (picture f))) useful).0 in
-        let stays : ready.may_leave n (picture f) ((picture f).place_of n) ≡ false = ap (ready.may_leave n (picture f)) q in
+        let leaves = (and_parts (ready.may_leave n (at_ease f) ((at_ease f).place_of n)) (is_some (ready.free_target n (at_ease f))) useful).0 in
+        let stays : ready.may_leave n (at_ease f) ((at_ease f).place_of n) ≡ false = ap (ready.may_leave n (at_ease f)) q in
         cc
     of n useful (Some l) q = let loc = place_named f b v many n l q in at_place n loc.0 useful (q ∙ ap (λ (x : Loc). Some x) (sym loc.1))
 
   -- ---- the aligner
 
   -- row 3
-  no_align : law.is_idle ((picture f).equipment 2) ≡ true → ready.is_to_align (ready.holder aligner (picture f)) (picture f) ≡ true → ⊥
-  no_align idle e = of (ready.holder aligner (picture f)) refl e where
+  no_align : law.is_idle ((at_ease f).equipment 2) ≡ true → ready.is_to_align (ready.holder aligner (at_ease f)) (at_ease f) ≡ true → ⊥
+  no_align idle e = of (ready.holder aligner (at_ease f)) refl e where
     few : 2 ≤ length f.modules
     few = omega (arith, many)
 
     nothing : align_move (holder Aligner (views f)) ≡ None
     nothing = where_none (is_idle (module_at 2 f.modules)) (align_move (holder Aligner (views f))) (none 2 (omega arith) few) (idle_there f b v many 2 (omega arith) few idle)
 
-    of : (o : Option ℕ) → ready.holder aligner (picture f) ≡ o → ready.is_to_align o (picture f) ≡ true → ⊥
+    of : (o : Option ℕ) → ready.holder aligner (at_ease f) ≡ o → ready.is_to_align o (at_ease f) ≡ true → ⊥
     of None q e = cc
     of (Some n) q e =
-        let w = shown f b v many n Aligner (holder_tells (picture f) v.places aligner n q) in
-        let parts = and_parts (not (law.is_finished ((picture f).processing n))) (not ((picture f).is_aligned n)) e in
+        let w = shown f b v many n Aligner (holder_tells (at_ease f) v.places aligner n q) in
+        let parts = and_parts (not (law.is_finished ((at_ease f).processing n))) (not ((at_ease f).is_aligned n)) e in
         let neither : (not w.0.finished && not w.0.aligned) ≡ true = and_from (not w.0.finished) (not w.0.aligned) (ap (λ (x : Bool). not x) (sym w.1.seen.finished) ∙ parts.0) (ap (λ (x : Bool). not x) (sym w.1.seen.aligned) ∙ parts.1) in
         let here : align_move (Some w.0) ≡ None = sym (ap align_move w.1.held) ∙ nothing in
         let no_move : Some (move_by 2 3 (task.Align w.0.sub)) ≡ None = where_none (not w.0.finished && not w.0.aligned) (Some (move_by 2 3 (task.Align w.0.sub))) here neither in
@@ -249,22 +240,22 @@ module _ (f : ToolFloor) (b : Base f) (v : Valid (picture f)) (many : length f.m
       not_second = false_from_ne_true (chamber_module c == 2) (λ e. let same = (Decides-eqb (chamber_module c) 2).0 e in absurd (omega (arith, same, least)))
 
   -- row 4
-  no_process : (m : ℕ) → law.is_idle ((picture f).equipment m) ≡ true → ready.is_to_process (ready.in_chamber_of m (picture f)) (picture f) ≡ true → ⊥
+  no_process : (m : ℕ) → law.is_idle ((at_ease f).equipment m) ≡ true → ready.is_to_process (ready.in_chamber_of m (at_ease f)) (at_ease f) ≡ true → ⊥
   no_process zero idle e = cc
   no_process (suc zero) idle e = cc
-  no_process (suc (suc c)) idle e = of (ready.holder (chamber c) (picture f)) refl e where
-    of : (o : Option ℕ) → ready.holder (chamber c) (picture f) ≡ o → ready.is_to_process o (picture f) ≡ true → ⊥
+  no_process (suc (suc c)) idle e = of (ready.holder (chamber c) (at_ease f)) refl e where
+    of : (o : Option ℕ) → ready.holder (chamber c) (at_ease f) ≡ o → ready.is_to_process o (at_ease f) ≡ true → ⊥
     of None q e = cc
     of (Some n) q e =
-        let at : (picture f).place_of n ≡ Some (chamber c) = holder_tells (picture f) v.places (chamber c) n q in
+        let at : (at_ease f).place_of n ≡ Some (chamber c) = holder_tells (at_ease f) v.places (chamber c) n q in
         let known = within 1 f.places.chambers c (v.places.chambers n c at) in
         let least = known.0 in
         let more = known.1 in
         let most : chamber_module c ≤ length f.modules = omega (arith, more, many) in
         let there : is_idle (module_at (chamber_module c) f.modules) ≡ true = idle_there f b v many (chamber_module c) (omega arith) most idle in
         let w = shown f b v many n (Chamber c) at in
-        let unfinished : law.is_finished ((picture f).processing n) ≡ false = ap (λ (x : Bool). not (x || ((picture f).processing n == 1))) e in
-        let begun : w.0.in_process ≡ false = w.1.tells.needing (ap (λ (k : ℕ). (picture f).processing k == 0) w.1.seen.number ∙ e) in
+        let unfinished : law.is_finished ((at_ease f).processing n) ≡ false = ap (λ (x : Bool). not (x || ((at_ease f).processing n == 1))) e in
+        let begun : w.0.in_process ≡ false = w.1.tells.needing (ap (λ (k : ℕ). (at_ease f).processing k == 0) w.1.seen.number ∙ e) in
         let neither : (not w.0.finished && not w.0.in_process) ≡ true = and_from (not w.0.finished) (not w.0.in_process) (ap (λ (x : Bool). not x) (sym w.1.seen.finished ∙ unfinished)) (ap (λ (x : Bool). not x) begun) in
         let number : chamber_module c - 2 ≡ c = omega arith in
         let nothing : chamber_move (chamber_module c) (views f) f.modules ≡ None = sym (chamber_planned c least) ∙ none (chamber_module c) (omega arith) most in
@@ -274,15 +265,15 @@ module _ (f : ToolFloor) (b : Base f) (v : Valid (picture f)) (many : length f.m
         cc
 
   -- no row of table 16 is ready at a module
-  none_moving : (m : ℕ) → choose (move_cases (picture f) m) ≡ None
-  none_moving m = none_chosen (move_cases (picture f) m) (
-    never (m == 1) (law.is_idle ((picture f).equipment 1)) (ready.is_to_place (ready.holder arm (picture f)) (picture f)) no_place,
+  pub none_moving : (m : ℕ) → choose (move_cases (at_ease f) m) ≡ None
+  none_moving m = none_chosen (move_cases (at_ease f) m) (
+    never (m == 1) (law.is_idle ((at_ease f).equipment 1)) (ready.is_to_place (ready.holder arm (at_ease f)) (at_ease f)) no_place,
     (
-      never (m == 1) (law.is_idle ((picture f).equipment 1)) (ready.is_empty arm (picture f) && is_some (ready.best_pick (picture f)))
-      (λ idle e. let p = and_parts (ready.is_empty arm (picture f)) (is_some (ready.best_pick (picture f))) e in no_pick idle p.0 p.1),
+      never (m == 1) (law.is_idle ((at_ease f).equipment 1)) (ready.is_empty arm (at_ease f) && is_some (ready.best_pick (at_ease f)))
+          (λ idle e. let p = and_parts (ready.is_empty arm (at_ease f)) (is_some (ready.best_pick (at_ease f))) e in no_pick idle p.0 p.1),
       (
-        never (m == 2) (law.is_idle ((picture f).equipment 2)) (ready.is_to_align (ready.holder aligner (picture f)) (picture f)) no_align,
-        (never true (law.is_idle ((picture f).equipment m)) (ready.is_to_process (ready.in_chamber_of m (picture f)) (picture f)) (no_process m), tt),
+        never (m == 2) (law.is_idle ((at_ease f).equipment 2)) (ready.is_to_align (ready.holder aligner (at_ease f)) (at_ease f)) no_align,
+        (never true (law.is_idle ((at_ease f).equipment m)) (ready.is_to_process (ready.in_chamber_of m (at_ease f)) (at_ease f)) (no_process m), tt),
       ),
     ),
   ) where

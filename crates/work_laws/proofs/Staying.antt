@@ -1,8 +1,7 @@
 -- What the tool has for its process jobs stays, whatever row fires.
-use Rattle.std.proofs.Common.{◌≡◌, ◌≤◌, ℕ, zero, suc, ◌+◌, ◌==◌, nat_lt, Bool, true, false, not, ◌&&◌, ◌||◌, if◌then◌else◌, List, [], ◌∷◌, ◌++◌, length, min, Option, Some, None, refl, sym, ◌∙◌, ap, subst, arith}
-use Rattle.std.specs.List.{AllByRecursion, list_any}
+use Rattle.std.proofs.Common.{◌≡◌, ◌≤◌, ℕ, zero, suc, ◌+◌, ◌==◌, nat_lt, Bool, true, false, not, ◌&&◌, if◌then◌else◌, List, [], ◌∷◌, ◌++◌, length, min, Option, Some, None, refl, sym, ◌∙◌, ap, subst, arith}
+use Rattle.std.specs.List.{AllByRecursion}
 use Rattle.std.proofs.lemmas.List.{length-replicate}
-use Rattle.std.proofs.lemmas.Bool.{not-true}
 use Rattle.gem_tables.specs.Table.{row_of}
 use Rattle.gem_tables.specs.declared.firing.Firing.{Firing}
 use Rattle.gem_tables.proofs.Machines.{either_creates}
@@ -24,7 +23,7 @@ use Rattle.process_job.specs.declared.fault.JobFault.TheVariants.{NameTaken, NoR
 use Rattle.process_job.specs.declared.job.JobSpec.{JobSpec}
 use Rattle.process_job.specs.declared.job.ProcessJob.{ProcessJob}
 use Rattle.control_job.specs.Jobs.{JobStore}
-use Rattle.robot_moves.specs.Modules.{taken, given, change_module}
+use Rattle.robot_moves.specs.Modules.{taken, given}
 use Rattle.robot_moves.specs.Tables as want
 use Rattle.robot_moves.specs.Tables.{MoveRow, MoveEffect, move_table}
 use Rattle.robot_moves.specs.declared.module.Module.{Module}
@@ -45,7 +44,7 @@ use Rattle.tool_jobs.specs.Rows.{process_does, found_does as jobs_behind, proces
 use Rattle.tool_floor.specs.declared.tracking.Substrate.{Substrate}
 use Rattle.tool_floor.specs.Floor.{ToolFloor, opening, with_shop, with_jobs, with_module, fetched, substrate_numbered}
 use Rattle.tool_floor.specs.Jobs.{job_does, found_job_does}
-use Rattle.tool_floor.specs.Machines.{taken_along, registered_by, moved_by, with_moved, floor_machines, floor_fired}
+use Rattle.tool_floor.specs.Machines.{taken_along, registered_by, with_moved, floor_machines, floor_fired}
 use Rattle.tool_floor.specs.Modules.{command, issued, goes, transferred, open_task, aligned_by, module_behind, move_does, found_move}
 use Rattle.tool_floor.specs.Substrates.{can_register, first_substrate, registers_at, registers_slot, registers_slots, registers_at_port, registers_found, reaches_verified, without_carrier, substrate_does, found_does}
 use Rattle.tool_floor.specs.Views.{planned}

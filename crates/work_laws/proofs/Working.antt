@@ -1,6 +1,6 @@
 -- Where no row of the floor is ready by itself, no module is Down and work is left, a command is open.
-use Rattle.std.proofs.Common.{◌≡◌, ◌≤◌, ◌<◌, ℕ, ◌+◌, ◌==◌, Bool, true, false, not, ◌||◌, ◌&&◌, if◌then◌else◌, List, [], ◌∷◌, length, map, find, Option, Some, None, refl, sym, ◌∙◌, ap, subst, arith}
-use Rattle.std.specs.List.{AllByRecursion, list_any, list_all}
+use Rattle.std.proofs.Common.{◌≡◌, ℕ, ◌==◌, Bool, true, false, not, ◌||◌, ◌&&◌, if◌then◌else◌, List, [], ◌∷◌, map, Option, Some, None, refl, sym, ◌∙◌, ap, subst, arith}
+use Rattle.std.specs.List.{AllByRecursion, list_any}
 use Rattle.std.specs.Option.{option_or}
 use Rattle.std.proofs.lemmas.Bool.{and_parts, and_from, or_parts, or_right, not-true}
 use Rattle.std.proofs.lemmas.Bool.Decides.{Decides-eqb}
@@ -8,7 +8,7 @@ use Rattle.gem_tables.specs.Table.{is_one_of}
 use Rattle.gem_tables.specs.Machine.{first_ready}
 use Rattle.gem_tables.specs.declared.firing.Firing.{Firing}
 use Rattle.gem_tables.proofs.Machines.{none_ready}
-use Rattle.process_job.specs.Jobs.{AreNumbered, has_number, job_numbered}
+use Rattle.process_job.specs.Jobs.{AreNumbered, job_numbered}
 use Rattle.process_job.specs.declared.job.ProcessJob.{ProcessJob}
 use Rattle.process_job.specs.declared.record.JobState.{JobState}
 use Rattle.robot_moves.specs.Modules.{module_at}
@@ -27,13 +27,12 @@ use Rattle.tool_floor.proofs.Moves.{firing_of, first_move_is}
 use Rattle.substrate.specs.Tables.{processing_number, processing_table}
 use Rattle.floor_moves.specs.Floor as law
 use Rattle.floor_moves.specs.Floor.{Floor, Loc, slot, aligner, arm, chamber, Command, busy, down, modules, own}
-use Rattle.floor_moves.specs.Ready.{processing_cases, move_cases, row_at, objects, least_of, least}
-use Rattle.floor_moves.specs.Valid.{Valid, HaveChambers}
+use Rattle.floor_moves.specs.Ready.{row_at, objects, least_of, least}
 use Rattle.floor_moves.specs.Work as law_work
 use Rattle.floor_moves.specs.Work.{AreUp, IsOpen}
 use Rattle.floor_moves.proofs.Waiting.{command_is_open}
 use Rattle.place_laws.specs.Picture.{picture, module_of, of_one, of_job}
-use Rattle.place_laws.specs.Sound.{Base, Sound}
+use Rattle.place_laws.specs.Sound.{Sound}
 use Rattle.place_laws.proofs.Holding.{one_found, found_among}
 use Rattle.floor_laws.proofs.JobLists.{job_number_is}
 use Rattle.floor_laws.proofs.JobSight.{any_at, kept_here, outside_same, removed_from, in_slot_from}
@@ -42,6 +41,7 @@ use Rattle.floor_laws.proofs.RegFound.{risen}
 use Rattle.work_laws.specs.Equipped.{Equipped}
 use Rattle.work_laws.specs.Work.{is_pausing, is_member_outside, has_work, is_work_left, is_down, is_any_down, has_open, is_any_open}
 use Rattle.work_laws.proofs.Lists.{not_false, mapped_none, not_all, none_first, first_none, none_least}
+use Rattle.work_laws.proofs.Ease.{at_ease, eased_valid}
 use Rattle.work_laws.proofs.Resting.{none_processing, none_planned, none_moving}
 use Rattle.work_laws.proofs.Chambers.{have_chambers}
 
@@ -177,29 +177,6 @@ module _ (f : ToolFloor) (sound : Sound f) where
       of j found false q e = outside_member_left j (and_parts (is_pausing j.states.state) (list_any (is_member_outside j.number f.places) f.substrates) e).1
 
 -- ---- no row is ready by numbers
-
--- The same floor by numbers, with no row of tables 10 and 12 ready: each carrier is IN ACCESS and named by a process job, and each substrate
--- AT DESTINATION. What is said of open commands and of work looks at none of these.
-abbrev at_ease : ToolFloor → Floor
-at_ease f = record (picture f) { transport = λ n. 2; access = λ c. 1; jobs = record (picture f).jobs { names_carrier = λ c. true } }
-
--- what holds at every moment holds of it
-eased_valid : (f : ToolFloor) → Valid (picture f) → Valid (at_ease f)
-eased_valid f v = record {
-  places = v.places;
-  carriers = v.carriers;
-  commands = v.commands;
-  members = record {
-    outside = v.members.outside;
-    named = v.members.named;
-    starting = v.members.starting;
-    kept = v.members.kept;
-    carrier = λ n is. refl;
-    here = λ n is. omega arith;
-    complete = v.members.complete;
-  };
-  work = v.work;
-}
 
 -- four that are none are none together
 none_together : (a b c d : Option Firing) → a ≡ None → b ≡ None → c ≡ None → d ≡ None → option_or a (option_or b (option_or c d)) ≡ None

@@ -1,5 +1,5 @@
--- What the tool has for its process jobs at every moment: its modules, and recipes by which its chambers can process (this tool's profile,
--- configuration, moves and process jobs).
+-- What the tool has for its process jobs at every moment: its modules, and recipes by which its chambers can process (this tool's
+-- profile, configuration, moves and process jobs).
 use Rattle.std.specs.Prelude.{◌≡◌, ℕ, ◌+◌, true, List, length}
 use Rattle.std.specs.List.{AllByRecursion}
 use Rattle.tool_events.specs.Configs.{are_usable}
@@ -8,13 +8,9 @@ use Rattle.process_job.specs.Creating.{is_recipe}
 use Rattle.process_job.specs.declared.job.ProcessJob.{ProcessJob}
 use Rattle.tool_floor.specs.Floor.{ToolFloor}
 
--- ---- recipes
-
 -- the recipe of a process job is one of these
 abbrev pub HasRecipe : List Recipe → ProcessJob → Type 0
 HasRecipe recipes j = is_recipe j.recipe recipes ≡ true
-
--- ---- all of it
 
 -- the most chambers of a tool whose modules have numbers up to 255
 abbrev pub most_chambers : ℕ

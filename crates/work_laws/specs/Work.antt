@@ -1,4 +1,5 @@
--- Work that is left on the floor of the tool, and what its modules are at (after SEMI E40; this tool's profile, table 14 and moves).
+-- Work that is left on the floor of the tool, and what its modules are at (after SEMI E40; this tool's profile, table 14 and
+-- moves).
 use Rattle.std.specs.Prelude.{ℕ, Bool, true, false, not, ◌&&◌, ◌||◌, List}
 use Rattle.std.specs.List.{list_any}
 use Rattle.process_job.specs.declared.job.ProcessJob.{ProcessJob}

@@ -5,6 +5,7 @@ ghost use Rattle.gem_tables.specs.Table.{firing};
 ghost use Rattle.gem_ids.specs.declared.numbers.LocId.TheVariants.{Arm};
 ghost use Rattle.tool_events.specs.declared.answer.Task.TheVariants as task;
 ghost use Rattle.process_job.specs.declared.record.JobState.TheVariants as process;
+ghost use Rattle.work_laws.specs.Work.{is_work_left, is_any_open};
 ghost use Rattle.worked_floors.specs.Worked.{wafer, own_slot, is_given, in_slot, picking, placing, working, finished_at, returning, back, settling, settled, firings, behind, done, behind_dones};
 ghost use Rattle.worked_jobs.specs.Jobs.{running, ended, is_member, created, at_control, started, paused, resumed, stopped, aborted};
 
@@ -61,4 +62,26 @@ pub fn a_control_job_ends()
         ≡ firing 15 1 11 ∷ firing 14 1 17 ∷ firing 13 1 5 ∷ firing 14 1 13 ∷ firing 15 1 8 ∷ [] }
     ensures abort { firings (at_control 12) (is_member (running process.Paused in_slot))
         ≡ firing 15 1 12 ∷ firing 14 1 18 ∷ firing 13 1 5 ∷ firing 14 1 14 ∷ firing 15 1 8 ∷ [] }
+{}
+
+/// While a lot of one substrate runs, work is left and a command is open: as it begins, while the robot takes the substrate, while a
+/// chamber works, and while the robot brings it back. When it has ended no work is left.
+pub fn a_command_is_open_while_a_lot_runs()
+    ensures begins { is_work_left (is_member (running process.Processing picking)) ≡ true }
+    ensures pick { is_any_open picking.modules ≡ true }
+    ensures works { is_work_left (is_member (running process.Processing working)) ≡ true }
+    ensures process { is_any_open working.modules ≡ true }
+    ensures returns { is_work_left (is_member (running process.Processing returning)) ≡ true }
+    ensures place { is_any_open returning.modules ≡ true }
+    ensures ended { is_work_left (ended back) ≡ false }
+{}
+
+/// A process job that is PAUSING has work left while its substrate is outside, and none once it is in its slot. One that is STOPPING or
+/// ABORTING has some until its substrate is finished and back.
+pub fn what_a_job_has_left()
+    ensures outside { is_work_left (is_member (running process.Pausing placing)) ≡ true }
+    ensures in_slot { is_work_left (is_member (running process.Pausing in_slot)) ≡ false }
+    ensures stopping { is_work_left (is_member (running process.Stopping working)) ≡ true }
+    ensures aborting { is_work_left (is_member (running process.Aborting working)) ≡ true }
+    ensures settled { is_work_left (is_member (running process.Aborting back)) ≡ false }
 {}

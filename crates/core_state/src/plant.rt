@@ -12,7 +12,8 @@ use gem_ids::Moment;
 use gem_states::{Comm, Control};
 use hsms_frame::Bytes;
 use hsms_link::{LinkState, Phase, Ping};
-use note_line::{Around, NoteLine, SpooledKinds};
+use note_counts::CountedLine;
+use note_line::{Around, SpooledKinds};
 use std::alloc::{AllocError, Global};
 use std::collections::VecDeque;
 use std::marker::Model;
@@ -42,13 +43,15 @@ pub struct Plant {
     pub(crate) constants: Constants,
     pub(crate) reports: Reports,
     pub(crate) alarms: Alarms,
-    pub(crate) line: NoteLine,
+    pub(crate) line: CountedLine,
     pub(crate) floor: ToolFloor,
+    // How many substrates were registered; none where memory ran out while some were.
+    pub(crate) registered: Option<u64>,
     pub(crate) waiting: VecDeque<Bytes>,
 }
 
 impl Model for Plant {
-    ghost use Rattle.std.specs.Prelude.{◌≤◌, length};
+    ghost use Rattle.std.specs.Prelude.{◌≡◌, ◌≤◌, length, IfSome};
     ghost use Rattle.gem_ids.specs.Moments.{last_moment};
     ghost use Rattle.event_reports.specs.Limits.{most_alarms};
     ghost use Rattle.gem_model.specs.State.{State};
@@ -73,7 +76,8 @@ impl Model for Plant {
       waiting = p.waiting.items;
     } };
 
-    ghost invariant = { λ p. (p.moment.0 ≤ last_moment) × (length p.alarms ≤ most_alarms) };
+    ghost invariant = { λ p. (p.moment.0 ≤ last_moment) × (length p.alarms ≤ most_alarms)
+        × IfSome p.registered (λ n. n ≡ p.floor.places.given) };
 }
 
 /// The first state of communication; in WAIT DELAY the delay is over.
@@ -161,7 +165,7 @@ impl Plant {
             constants: first_constants(alloc, config)?,
             reports: Reports::new(alloc, config.ports, config.chambers)?,
             alarms: Alarms::new(alloc, config.ports, config.chambers)?,
-            line: NoteLine::new(
+            line: CountedLine::new(
                 alloc,
                 config.spool_capacity,
                 first_kinds(config.spool_streams),
@@ -172,6 +176,7 @@ impl Plant {
                 config.chambers,
                 config.recipes.as_slice(),
             )?,
+            registered: Some(0),
             waiting: VecDeque::new(alloc),
         })
     }

@@ -4,6 +4,7 @@ use Rattle.gem_model.specs.State.{State, is_up}
 use Rattle.gem_model.specs.Step.{Outcome, step}
 use Rattle.tool_core.specs.CoreInside.{state_of}
 use Rattle.core_view.specs.CoreView.{CoreView}
+use Rattle.history_totals.proofs.Summing.{totals-snoc}
 use Rattle.tool_core.proofs.Replaying.{GoesOn, goes-snoc, state-snoc}
 use Rattle.tool_core.proofs.tool.Core.record.Goals as goal
 

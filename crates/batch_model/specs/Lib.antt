@@ -1,0 +1,4 @@
+pub mod Host
+pub mod Modules
+pub mod Batch
+pub mod Summary

@@ -35,7 +35,7 @@ pub fired_counts : (g : State) (f : Option Firing) (b : Bool) (count new : ℕ) 
 fired_counts g None b count new is some more = absurd (cc)
 fired_counts g (Some f) b count new is some more =
     let same : b ≡ completes f = cc in
-    let one = ap (λ (t : Bool). if t then 1 else 0) same in
+    let one : (if b then 1 else 0) ≡ (if completes f then 1 else 0) = ap {B = ℕ} (λ (t : Bool). if t then 1 else 0) same in
     let first = first_completes g f is in
     ap (λ (n : ℕ). counted (n + completions (settling (fire_first (Some f) g)))) more
     ∙ counted_again (count + (if b then 1 else 0)) (completions (settling (fire_first (Some f) g)))

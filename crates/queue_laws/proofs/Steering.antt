@@ -238,6 +238,21 @@ module _ (number : ℕ) (w : Jobs) (t : AreTogether w) (s : AreStarted w) (v : S
       was_left : (job : List ℕ) → is_left_in number job behind ≡ true → is_left_in number job w ≡ true
       was_left job left = owned_left number job w found.job found.at (owns_left gone.id job found.job (left_owned number job behind (leaves gone.id found.job) at left))
 
+  -- what is left in it behind was left before, and another one stays
+  pub ended_left : (n : ℕ) (job : List ℕ) → is_left_in number job (ended n w) ≡ true → is_left_in number job w ≡ true
+  ended_left n job = by_job (process.job_numbered n w.process.kept) where
+    by_job : (o : Option ProcessJob) → is_left_in number job (record { process = process.forgotten n w.process; control = left_by o w.control }) ≡ true → is_left_in number job w ≡ true
+    by_job None left = left
+    by_job (Some gone) left =
+        owned_left number job w found.job found.at
+        (owns_left gone.id job found.job (left_owned number job (record { process = process.forgotten n w.process; control = control.left_by gone.id w.control }) (leaves gone.id found.job) (changed_on (leaves gone.id) number w.control.jobs found.job (leaves_number gone.id) found.at) left))
+
+  pub left_ended : (n : ℕ) (gone : ProcessJob) (job : List ℕ) → process.job_numbered n w.process.kept ≡ Some gone → bytes_eq job gone.id ≡ false → is_left_in number job w ≡ true → is_left_in number job (ended n w) ≡ true
+  left_ended n gone job e other left =
+      subst (λ (o : Option ProcessJob). is_left_in number job (record { process = process.forgotten n w.process; control = left_by o w.control }) ≡ true) (sym e)
+      (owned_left number job (record { process = process.forgotten n w.process; control = control.left_by gone.id w.control }) (leaves gone.id found.job) (changed_on (leaves gone.id) number w.control.jobs found.job (leaves_number gone.id) found.at)
+      (owns_on gone.id job found.job other (left_owned number job w found.job found.at left)))
+
   -- ---- a row of a process job
 
   fired-steers : (row n : ℕ) (j : ProcessJob) → process.job_numbered n w.process.kept ≡ Some j
@@ -310,6 +325,13 @@ module _ (number : ℕ) (w : Jobs) (t : AreTogether w) (s : AreStarted w) (v : S
     by_want control_want.ready_by_itself q = absurd (true≢false (sym q))
     by_want control_want.none_left q = absurd (true≢false (sym q))
 
+  -- a row of another one leaves it
+  other_at : (row m : ℕ) → (m == number) ≡ false → control.job_numbered number (control_fired row m w).control.jobs ≡ Some found.job
+  other_at row m other = changed_on (fires_at m row) number w.control.jobs found.job (fires_number m row) found.at ∙ ap (λ (c : ControlJob). Some c) (self (found.job.number == m) refl) where
+    self : (b : Bool) → (found.job.number == m) ≡ b → cond b (fires_row row found.job) found.job ≡ found.job
+    self false q = refl
+    self true q = absurd (true≢false (sym (is_same m number (sym (same_number found.job.number m q) ∙ number_is number w.control.jobs found.job found.at)) ∙ other))
+
   -- a row of another one, that isn't active behind it
   other-steers : (row m : ℕ) (d : ControlJob) → control.job_numbered m w.control.jobs ≡ Some d → (m == number) ≡ false → is_active (fires_row row d).states.state ≡ false → Steers number (control_fired row m w)
   other-steers row m d e other still = record {
@@ -322,12 +344,8 @@ module _ (number : ℕ) (w : Jobs) (t : AreTogether w) (s : AreStarted w) (v : S
     behind : Jobs
     behind = control_fired row m w
 
-    self : (b : Bool) → (found.job.number == m) ≡ b → cond b (fires_row row found.job) found.job ≡ found.job
-    self false q = refl
-    self true q = absurd (true≢false (sym (is_same m number (sym (same_number found.job.number m q) ∙ number_is number w.control.jobs found.job found.at)) ∙ other))
-
     at : control.job_numbered number behind.control.jobs ≡ Some found.job
-    at = changed_on (fires_at m row) number w.control.jobs found.job (fires_number m row) found.at ∙ ap (λ (c : ControlJob). Some c) (self (found.job.number == m) refl)
+    at = other_at row m other
 
     was_left : (job : List ℕ) → is_left_in number job behind ≡ true → is_left_in number job w ≡ true
     was_left job left = owned_left number job w found.job found.at (left_owned number job behind found.job at left)
@@ -347,35 +365,43 @@ module _ (number : ℕ) (w : Jobs) (t : AreTogether w) (s : AreStarted w) (v : S
     same true c = refl
     same false c = refl
 
-  -- by each row that starts and doesn't disturb it, but for its completion
-  pub control-steers : (row m : ℕ) (here : Bool) (d : ControlJob) → control.job_numbered m w.control.jobs ≡ Some d → control_starts row (Some d) here w ≡ true
-      → disturbs_control number m row ≡ false → is_completion number m row ≡ false → Steers number (control_fired row m w)
-  control-steers row m here d e starts calm on = by_number (m == number) refl where
-    by_number : (b : Bool) → (m == number) ≡ b → Steers number (control_fired row m w)
+  -- what is so before, and behind each row of another one that isn't active then, is so behind each row that starts and doesn't disturb it,
+  -- but for its completion
+  control-goes : (P : Jobs → Type 0) (row m : ℕ) (here : Bool) (d : ControlJob) → control.job_numbered m w.control.jobs ≡ Some d → control_starts row (Some d) here w ≡ true
+      → disturbs_control number m row ≡ false → is_completion number m row ≡ false
+      → P w → ((r : ℕ) → (m == number) ≡ false → is_active (fires_row r d).states.state ≡ false → P (control_fired r m w)) → P (control_fired row m w)
+  control-goes P row m here d e starts calm on was others = by_number (m == number) refl where
+    by_number : (b : Bool) → (m == number) ≡ b → P (control_fired row m w)
     by_number true q =
         let one : Some d ≡ Some found.job = sym e ∙ ap (λ (x : ℕ). control.job_numbered x w.control.jobs) (same_number m number q) ∙ found.at in
         let that : d ≡ found.job = cc in
         let three : (states_number d.states == 3) ≡ true = ap (λ (x : ControlJob). states_number x.states == 3) that ∙ found.three in
-        one_of_cases (λ (r : ℕ). ((m == number) && is_one_of (6 ∷ 11 ∷ 12 ∷ []) r) ≡ false → ((m == number) && (r == 8)) ≡ false → Steers number (control_fired r m w)) (1 ∷ 6 ∷ 8 ∷ 11 ∷ 12 ∷ []) row (
-          (λ c o. subst (Steers number) (sym (created_same m)) v),
-          (
-            (λ c o. absurd (true≢false (sym (both (m == number) true q refl) ∙ c))),
-            (
-              (λ c o. absurd (true≢false (sym (both (m == number) true q refl) ∙ o))),
-              ((λ c o. absurd (true≢false (sym (both (m == number) true q refl) ∙ c))), ((λ c o. absurd (true≢false (sym (both (m == number) true q refl) ∙ c))), tt)),
-            ),
-          ),
+        one_of_cases (λ (r : ℕ). ((m == number) && is_one_of (6 ∷ 11 ∷ 12 ∷ []) r) ≡ false → ((m == number) && (r == 8)) ≡ false → P (control_fired r m w)) (1 ∷ 6 ∷ 8 ∷ 11 ∷ 12 ∷ []) row (
+          (λ c o. subst P (sym (created_same m)) was),
+          ((λ c o. absurd (true≢false (sym (both (m == number) true q refl) ∙ c))),
+          ((λ c o. absurd (true≢false (sym (both (m == number) true q refl) ∙ o))),
+          ((λ c o. absurd (true≢false (sym (both (m == number) true q refl) ∙ c))), ((λ c o. absurd (true≢false (sym (both (m == number) true q refl) ∙ c))), tt)))),
         )
         (starts_executing (λ x. control_wants x d here w.control) row d.states three starts)
         calm
         on
     by_number false q =
         let still = passive m d e q in
-        one_of_cases (λ (r : ℕ). Steers number (control_fired r m w)) (1 ∷ 9 ∷ []) row (
-          subst (Steers number) (sym (created_same m)) v,
-          (other-steers 9 m d e q (not_true (is_active (fires_row 9 d).states.state) (stays_passive 9 d.states refl (ap not still))), tt),
+        one_of_cases (λ (r : ℕ). P (control_fired r m w)) (1 ∷ 9 ∷ []) row (
+          subst P (sym (created_same m)) was,
+          (others 9 q (not_true (is_active (fires_row 9 d).states.state) (stays_passive 9 d.states refl (ap not still))), tt),
         )
         (starts_passive (λ x. control_wants x d here w.control) row d.states (refuses_passive d here) still (ends m d e) starts)
+
+  pub control-steers : (row m : ℕ) (here : Bool) (d : ControlJob) → control.job_numbered m w.control.jobs ≡ Some d → control_starts row (Some d) here w ≡ true
+      → disturbs_control number m row ≡ false → is_completion number m row ≡ false → Steers number (control_fired row m w)
+  control-steers row m here d e starts calm on = control-goes (Steers number) row m here d e starts calm on v (λ r q still. other-steers r m d e q still)
+
+  -- the same process jobs are left in it
+  pub control_left : (row m : ℕ) (here : Bool) (d : ControlJob) → control.job_numbered m w.control.jobs ≡ Some d → control_starts row (Some d) here w ≡ true
+      → disturbs_control number m row ≡ false → is_completion number m row ≡ false → (job : List ℕ) → is_left_in number job (control_fired row m w) ≡ is_left_in number job w
+  control_left row m here d e starts calm on job =
+      control-goes (λ (x : Jobs). is_left_in number job x ≡ is_left_in number job w) row m here d e starts calm on refl (λ r q still. ap (has_left job) (other_at r m q ∙ sym found.at))
 
   -- what is ready by itself is row 8, of itself, exactly where none is left in it
   pub completes : (here : Bool) → control_ready (control.job_numbered number w.control.jobs) here w ≡ cond (has_none_left (control.job_numbered number w.control.jobs)) (Some 8) None
@@ -464,6 +490,9 @@ module _ (number : ℕ) (w : Jobs) (t : AreTogether w) (s : AreStarted w) (v : S
     by_case i c (inl f) a = v.alone i c f a
     by_case i c (inr new) a = absurd (true≢false (sym a ∙ ap (λ (x : ControlJob). is_active x.states.state) new))
 
+  pub added_left : (name : List ℕ) (named : List (List ℕ)) (auto : Bool) → control_fault name named w ≡ None → (job : List ℕ) → is_left_in number job (with_control name named auto w) ≡ is_left_in number job w
+  added_left name named auto e job = ap (has_left job) (started.open_stays w t s name named auto number found.job e found.at (ap not (active_open found.job.states.state is.active)) ∙ sym found.at)
+
   pub headed-steers : (name : List ℕ) → Steers number (record w { control = control.headed name w.control })
   headed-steers name = record { executes = v.executes; alone = v.alone; auto = v.auto; going = v.going; started = v.started }
 
@@ -483,6 +512,13 @@ module _ (number : ℕ) (w : Jobs) (t : AreTogether w) (s : AreStarted w) where
         let that : was.1 ≡ c = cc in
         absurd (true≢false (sym was.4 ∙ ap (λ (x : ControlJob). is_begun x.states.state) that ∙ early))
 
+  -- the row fires at it
+  starts_at : (row : ℕ) (c : ControlJob) → control.job_numbered number w.control.jobs ≡ Some c → control.job_numbered number (control_fired row number w).control.jobs ≡ Some (fires_row row c)
+  starts_at row c e = changed_on (fires_at number row) number w.control.jobs c (fires_number number row) e ∙ ap (λ (x : ControlJob). Some x) (self (c.number == number) refl) where
+    self : (b : Bool) → (c.number == number) ≡ b → cond b (fires_row row c) c ≡ fires_row row c
+    self true q = refl
+    self false q = absurd (true≢false (sym (is_same c.number number (number_is number w.control.jobs c e)) ∙ q))
+
   pub begin-steers : (row : ℕ) (here : Bool) (c : ControlJob) → control.job_numbered number w.control.jobs ≡ Some c → control_starts row (Some c) here w ≡ true
       → is_one_of (4 ∷ 5 ∷ []) row ≡ true → AreAutomatic number w → Steers number (control_fired row number w)
   begin-steers row here c e starts r auto = record {
@@ -498,12 +534,8 @@ module _ (number : ℕ) (w : Jobs) (t : AreTogether w) (s : AreStarted w) where
     behind : Jobs
     behind = control_fired row number w
 
-    self : (b : Bool) → (c.number == number) ≡ b → cond b (fires_row row c) c ≡ fires_row row c
-    self true q = refl
-    self false q = absurd (true≢false (sym (is_same c.number number (number_is number w.control.jobs c e)) ∙ q))
-
     at : control.job_numbered number behind.control.jobs ≡ Some (fires_row row c)
-    at = changed_on (fires_at number row) number w.control.jobs c (fires_number number row) e ∙ ap (λ (x : ControlJob). Some x) (self (c.number == number) refl)
+    at = starts_at row c e
 
     queued : (n : ℕ) (j : ProcessJob) → process.job_numbered n w.process.kept ≡ Some j → is_queued j.states.state ≡ true
     queued = all_queued c e is.active is.not_begun
@@ -534,3 +566,18 @@ module _ (number : ℕ) (w : Jobs) (t : AreTogether w) (s : AreStarted w) where
   started_queued row here c e starts r n j f =
       let is = starting (λ x. control_wants x c here w.control) row c.states r starts in
       all_queued c e is.active is.not_begun n j f
+
+  -- and what is left in it then was left before
+  pub started_left : (row : ℕ) (here : Bool) (c : ControlJob) → control.job_numbered number w.control.jobs ≡ Some c → control_starts row (Some c) here w ≡ true
+      → is_one_of (4 ∷ 5 ∷ []) row ≡ true → (job : List ℕ) → is_left_in number job (control_fired row number w) ≡ true → is_left_in number job w ≡ true
+  started_left row here c e starts r job left =
+      let parts = and_true (is_open (fires_row row c)) (is_in job (control.left_behind row c)) (left_owned number job (control_fired row number w) (fires_row row c) (starts_at row c e) left) in
+      owned_left number job w c e (both (is_open c) (is_in job c.left) (ap not (starting (λ x. control_wants x c here w.control) row c.states r starts).open_now) (left_before job row c parts.1))
+
+  -- and the other way round
+  pub left_started : (row : ℕ) (here : Bool) (c : ControlJob) → control.job_numbered number w.control.jobs ≡ Some c → control_starts row (Some c) here w ≡ true
+      → is_one_of (4 ∷ 5 ∷ []) row ≡ true → (job : List ℕ) → is_left_in number job w ≡ true → is_left_in number job (control_fired row number w) ≡ true
+  left_started row here c e starts r job left =
+      let parts = and_true (is_open c) (is_in job c.left) (left_owned number job w c e left) in
+      owned_left number job (control_fired row number w) (fires_row row c) (starts_at row c e)
+      (both (is_open (fires_row row c)) (is_in job (control.left_behind row c)) (ap not (starting (λ x. control_wants x c here w.control) row c.states r starts).open_then) (one_of_cases (λ (n : ℕ). is_in job (control.left_behind n c) ≡ true) (4 ∷ 5 ∷ []) row (parts.1, (parts.1, tt)) r))

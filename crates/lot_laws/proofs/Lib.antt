@@ -1,1 +1,4 @@
 pub mod Naming
+pub mod Standing
+pub mod Beginning
+pub mod Controls

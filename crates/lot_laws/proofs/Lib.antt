@@ -2,3 +2,5 @@ pub mod Naming
 pub mod Standing
 pub mod Beginning
 pub mod Controls
+pub mod Going
+pub mod Processes

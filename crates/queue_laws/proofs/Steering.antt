@@ -1,7 +1,7 @@
 -- A control job that executes and that nobody disturbs goes on: by each row that starts and doesn't disturb it, and as jobs are
 -- created.
 use Rattle.std.proofs.Common.{◌≡◌, ℕ, ◌+◌, ◌==◌, Bool, true, false, true≢false, cond, not, ◌&&◌, ◌||◌, List, [], ◌∷◌, map, find, Option, Some, None, bytes_eq, refl, sym, ap, ◌∙◌, subst, ◌⊎◌, inl, inr}
-use Rattle.std.specs.List.{list_any, list_all}
+use Rattle.std.specs.List.{list_any, list_all, AllByRecursion}
 use Rattle.gem_tables.specs.Table.{is_one_of, row_of, after}
 use Rattle.gem_tables.proofs.Rows.{one_of_cases}
 use Rattle.process_job.specs.Tables.{JobWant, job_number, job_table}
@@ -266,37 +266,43 @@ module _ (number : ℕ) (w : Jobs) (t : AreTogether w) (s : AreStarted w) (v : S
         subst (Steers number) (fired_stays n row (process.fired n row w.process) w f refl)
         (state-steers row n j e (λ left. goes_on_behind row j.states.state (going left) (v.going n j e left)) begun)
 
-  -- by each row that starts and doesn't disturb it
-  pub process-steers : (row n : ℕ) (sight : Sight) (j : ProcessJob) → process.job_numbered n w.process.kept ≡ Some j → process_starts row (Some j) sight w ≡ true
-      → disturbs_process number j.id row w ≡ false → Steers number (process_fired row n w)
-  process-steers row n sight j e starts calm = by_left (is_left_in number j.id w) refl where
-    by_left : (b : Bool) → is_left_in number j.id w ≡ b → Steers number (process_fired row n w)
+  -- what is so of rows 1, 2, 4, 6 and 7 of one that is left in it, and of rows 1 and 15 of another one, is so of each row that starts and
+  -- doesn't disturb it
+  pub process-goes : (P : ℕ → Type 0) (row n : ℕ) (sight : Sight) (j : ProcessJob) → process.job_numbered n w.process.kept ≡ Some j → process_starts row (Some j) sight w ≡ true
+      → disturbs_process number j.id row w ≡ false
+      → (is_left_in number j.id w ≡ true → AllByRecursion P (1 ∷ 2 ∷ 4 ∷ 6 ∷ 7 ∷ []))
+      → (is_left_in number j.id w ≡ false → is_queued j.states.state ≡ true → AllByRecursion P (1 ∷ 15 ∷ [])) → P row
+  process-goes P row n sight j e starts calm of_left of_other = by_left (is_left_in number j.id w) refl where
+    by_left : (b : Bool) → is_left_in number j.id w ≡ b → P row
     by_left true left =
-        one_of_cases (λ (r : ℕ). (is_one_of (8 ∷ 11 ∷ 12 ∷ 15 ∷ []) r && is_left_in number j.id w) ≡ false → Steers number (process_fired r n w)) (1 ∷ 2 ∷ 4 ∷ 6 ∷ 7 ∷ 8 ∷ 11 ∷ 12 ∷ 15 ∷ []) row (
-          (λ c. fired-steers 1 n j e (λ l. refl) (λ q. left)),
-          (
-            (λ c. fired-steers 2 n j e (λ l. refl) (λ q. left)),
-            (
-              (λ c. fired-steers 4 n j e (λ l. refl) (λ q. left)),
-              (
-                (λ c. fired-steers 6 n j e (λ l. refl) (λ q. left)),
-                (
-                  (λ c. fired-steers 7 n j e (λ l. refl) (λ q. left)),
-                  ((λ c. absurd (true≢false (sym left ∙ c))), ((λ c. absurd (true≢false (sym left ∙ c))), ((λ c. absurd (true≢false (sym left ∙ c))), ((λ c. absurd (true≢false (sym left ∙ c))), tt)))),
-                ),
-              ),
-            ),
-          ),
+        let all = of_left left in
+        one_of_cases (λ (r : ℕ). (is_one_of (8 ∷ 11 ∷ 12 ∷ 15 ∷ []) r && is_left_in number j.id w) ≡ false → P r) (1 ∷ 2 ∷ 4 ∷ 6 ∷ 7 ∷ 8 ∷ 11 ∷ 12 ∷ 15 ∷ []) row (
+          (λ c. all.0),
+          ((λ c. all.1.0),
+          ((λ c. all.1.1.0),
+          ((λ c. all.1.1.1.0),
+          ((λ c. all.1.1.1.1.0),
+          ((λ c. absurd (true≢false (sym left ∙ c))), ((λ c. absurd (true≢false (sym left ∙ c))), ((λ c. absurd (true≢false (sym left ∙ c))), ((λ c. absurd (true≢false (sym left ∙ c))), tt)))))))),
         )
         (starts_going (λ x. process_wants x j sight w) row j.states.state (refuses j sight (v.auto n j e left) left) (v.going n j e left) starts)
         calm
     by_left false out =
         let queued = out_queued n j e out in
-        one_of_cases (λ (r : ℕ). Steers number (process_fired r n w)) (1 ∷ 15 ∷ []) row (
-          fired-steers 1 n j e (λ l. refl) (λ q. absurd (true≢false (sym queued ∙ q))),
-          (subst (Steers number) (fired_ends n 15 w refl) (ended-steers n), tt),
-        )
-        (starts_waiting (λ x. process_wants x j sight w) row j.states.state (refuses_waiting j sight out) queued starts)
+        one_of_cases P (1 ∷ 15 ∷ []) row (of_other out queued) (starts_waiting (λ x. process_wants x j sight w) row j.states.state (refuses_waiting j sight out) queued starts)
+
+  -- by each row that starts and doesn't disturb it
+  pub process-steers : (row n : ℕ) (sight : Sight) (j : ProcessJob) → process.job_numbered n w.process.kept ≡ Some j → process_starts row (Some j) sight w ≡ true
+      → disturbs_process number j.id row w ≡ false → Steers number (process_fired row n w)
+  process-steers row n sight j e starts calm =
+      process-goes (λ (r : ℕ). Steers number (process_fired r n w)) row n sight j e starts calm
+      (λ left. (
+        fired-steers 1 n j e (λ l. refl) (λ q. left),
+        (fired-steers 2 n j e (λ l. refl) (λ q. left),
+        (fired-steers 4 n j e (λ l. refl) (λ q. left),
+        (fired-steers 6 n j e (λ l. refl) (λ q. left),
+        (fired-steers 7 n j e (λ l. refl) (λ q. left), tt)))),
+      ))
+      (λ out queued. (fired-steers 1 n j e (λ l. refl) (λ q. absurd (true≢false (sym queued ∙ q))), (subst (Steers number) (fired_ends n 15 w refl) (ended-steers n), tt)))
 
   -- those that are ready by themselves are rows 2, 4, 6 and 7, of process jobs that are left in it
   pub process-ready : (row n : ℕ) (sight : Sight) (j : ProcessJob) → process.job_numbered n w.process.kept ≡ Some j → process_ready (Some j) sight w ≡ Some row

@@ -1,11 +1,70 @@
 //! Laws of a control job that executes undisturbed, for proofs to cite. Each function is empty: what it ensures holds of the definitions.
 
-ghost use Rattle.std.specs.Prelude.{◌≡◌, ℕ, Bool};
+ghost use Rattle.std.specs.Prelude.{◌≡◌, ℕ, ◌*◌, Bool, true, false, [], ◌∷◌, Some, None};
+ghost use Rattle.gem_tables.specs.Table.{firing, is_one_of};
+ghost use Rattle.process_job.specs.Jobs.{job_numbered as process_numbered};
+ghost use Rattle.process_job.specs.declared.job.ProcessJob.{ProcessJob};
+ghost use Rattle.control_job.specs.Jobs.{job_numbered as control_numbered};
+ghost use Rattle.control_job.specs.declared.job.ControlJob.{ControlJob};
+ghost use Rattle.tool_jobs.specs.Rows.{control_starts, control_ready};
+ghost use Rattle.tool_jobs.specs.Together.{AreTogether};
 ghost use Rattle.tool_floor.specs.Floor.{ToolFloor};
-ghost use Rattle.queue_laws.specs.Steers.{Steers};
-ghost use Rattle.lot_laws.specs.Lot.{Executes};
+ghost use Rattle.tool_floor.specs.Jobs.{is_first_here};
+ghost use Rattle.tool_floor.specs.Machines.{floor_starts, floor_fired, floor_least};
+ghost use Rattle.place_laws.specs.Picture.{picture};
+ghost use Rattle.place_laws.specs.Sound.{Sound};
+ghost use Rattle.owed_laws.specs.Owed.{owed_to, number_of};
+ghost use Rattle.owed_laws.specs.Undisturbed.{AreUnaligned, Undisturbed};
+ghost use Rattle.queue_laws.specs.Started.{AreStarted};
+ghost use Rattle.queue_laws.specs.Steers.{AreAutomatic, disturbs_process, disturbs_control, is_completion};
+ghost use Rattle.lot_laws.specs.Lot.{counted_of, IsMaterialHere, AreInKeptJobs, Executes};
 
-/// Its process jobs go on.
-pub fn its_process_jobs_go_on()
-    ensures { (number : ℕ) (counted : ℕ → Bool) (f : ToolFloor) → Executes number counted f → Steers number f.jobs }
+/// As a control job starts by row 4 or 5 of table 15, where each process job that is left in it starts by itself and its material is
+/// here, it executes undisturbed, and eight Dones are owed for each substrate that is counted.
+pub fn a_control_job_starts_with_its_material_in_place()
+    ensures executes { (number row : ℕ) (f : ToolFloor) (c : ControlJob) → Sound f → AreTogether f.jobs → AreStarted f.jobs
+        → AreUnaligned (picture f) → AreInKeptJobs f → control_numbered number f.jobs.control.jobs ≡ Some c
+        → control_starts row (Some c) (is_first_here number f) f.jobs ≡ true → is_one_of (4 ∷ 5 ∷ []) row ≡ true
+        → AreAutomatic number f.jobs → IsMaterialHere number f → Executes number (counted_of number f) (floor_fired (firing 15 number row) f) }
+    ensures owed { (number row : ℕ) (f : ToolFloor) (c : ControlJob) → Sound f → AreTogether f.jobs → AreStarted f.jobs
+        → AreUnaligned (picture f) → AreInKeptJobs f → control_numbered number f.jobs.control.jobs ≡ Some c
+        → control_starts row (Some c) (is_first_here number f) f.jobs ≡ true → is_one_of (4 ∷ 5 ∷ []) row ≡ true
+        → AreAutomatic number f.jobs → IsMaterialHere number f
+        → owed_to (counted_of number f) (picture (floor_fired (firing 15 number row) f)) ≡ 8 * number_of (counted_of number f) (picture f) }
+{}
+
+/// While it executes, its substrates stand undisturbed.
+pub fn its_substrates_stand_undisturbed()
+    ensures { (number : ℕ) (counted : ℕ → Bool) (f : ToolFloor) → Sound f → Executes number counted f → Undisturbed counted (picture f) }
+{}
+
+/// It executes on behind each row of table 14 that starts and doesn't disturb it, and as much is owed.
+pub fn it_executes_on_behind_rows_of_process_jobs()
+    ensures executes { (number : ℕ) (counted : ℕ → Bool) (f : ToolFloor) (n row : ℕ) (j : ProcessJob) → Sound f → AreTogether f.jobs
+        → AreStarted f.jobs → Executes number counted f → process_numbered n f.jobs.process.kept ≡ Some j
+        → floor_starts (firing 14 n row) f ≡ true → disturbs_process number j.id row f.jobs ≡ false
+        → Executes number counted (floor_fired (firing 14 n row) f) }
+    ensures as_much { (number : ℕ) (counted : ℕ → Bool) (f : ToolFloor) (n row : ℕ) (j : ProcessJob) → Sound f → AreTogether f.jobs
+        → AreStarted f.jobs → Executes number counted f → process_numbered n f.jobs.process.kept ≡ Some j
+        → floor_starts (firing 14 n row) f ≡ true → disturbs_process number j.id row f.jobs ≡ false
+        → owed_to counted (picture (floor_fired (firing 14 n row) f)) ≡ owed_to counted (picture f) }
+{}
+
+/// It executes on behind each row of table 15 that starts and doesn't disturb it, but for its completion, and as much is owed.
+pub fn it_executes_on_behind_rows_of_control_jobs()
+    ensures executes { (number : ℕ) (counted : ℕ → Bool) (f : ToolFloor) (m row : ℕ) (c : ControlJob) → Sound f → AreTogether f.jobs
+        → AreStarted f.jobs → Executes number counted f → control_numbered m f.jobs.control.jobs ≡ Some c
+        → control_starts row (Some c) (is_first_here m f) f.jobs ≡ true → disturbs_control number m row ≡ false
+        → is_completion number m row ≡ false → Executes number counted (floor_fired (firing 15 m row) f) }
+    ensures as_much { (counted : ℕ → Bool) (f : ToolFloor) (m row : ℕ)
+        → owed_to counted (picture (floor_fired (firing 15 m row) f)) ≡ owed_to counted (picture f) }
+{}
+
+/// Its completion is ready only where no Done is owed, and where none is owed some row is ready: at rest it has completed.
+pub fn it_completes_where_no_done_is_owed()
+    ensures ready { (number : ℕ) (counted : ℕ → Bool) (f : ToolFloor) (row : ℕ) (here : Bool) → Sound f → AreTogether f.jobs
+        → AreStarted f.jobs → Executes number counted f → control_ready (control_numbered number f.jobs.control.jobs) here f.jobs ≡ Some row
+        → owed_to counted (picture f) ≡ 0 }
+    ensures at_rest { (number : ℕ) (counted : ℕ → Bool) (f : ToolFloor) → Sound f → AreTogether f.jobs → AreStarted f.jobs
+        → Executes number counted f → floor_least f ≡ None → owed_to counted (picture f) ≡ 0 → ⊥ }
 {}

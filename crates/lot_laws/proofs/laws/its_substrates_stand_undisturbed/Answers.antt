@@ -1,0 +1,5 @@
+use Rattle.lot_laws.proofs.Standing.{undisturbed}
+use Rattle.lot_laws.proofs.laws.its_substrates_stand_undisturbed.Goals as goal
+
+pub returns : goal.returns
+returns c = undisturbed

@@ -4,3 +4,5 @@ pub mod Beginning
 pub mod Controls
 pub mod Going
 pub mod Processes
+pub mod Issuing
+pub mod Substrates

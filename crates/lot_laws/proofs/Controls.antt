@@ -192,7 +192,7 @@ module _ (number : ℕ) (counted : ℕ → Bool) (f : ToolFloor) (h : Sound f) (
 
     by : (n : ℕ) (x : Substrate) → substrate_numbered n f.substrates ≡ Some x → (is_done n (picture f) ≡ true) ⊎ (IsInJob x f ⊎ Waits number x f) → is_done n (picture f) ≡ true
     by n x found (inl done) = done
-    by n x found (inr (inl its)) = absurd (never its.0.id (member_left number counted f h e n x its.0 found its.1))
+    by n x found (inr (inl its)) = absurd (never its.0.id (member_left number counted f h.base e n x its.0 found its.1))
     by n x found (inr (inr w)) = absurd (never w.job.id w.left)
 
   -- so nothing is owed where its completion is ready

@@ -6,3 +6,4 @@ pub mod Going
 pub mod Processes
 pub mod Issuing
 pub mod Substrates
+pub mod Done

@@ -271,7 +271,7 @@ module _ (number : ℕ) (counted : ℕ → Bool) (f : ToolFloor) (h : Sound f) (
   -- one that is QUEUED has none
   queued_done : is_queued j.states.state ≡ true → (k : ℕ) (x : Substrate) → substrate_numbered k f.substrates ≡ Some x → x.job ≡ n → is_done k (picture f) ≡ true
   queued_done is k x found its =
-      absurd (true≢false (sym is ∙ member_begun f h k x j found (subst (λ (m : ℕ). job_numbered m f.jobs.process.kept ≡ Some j) (sym its) known)))
+      absurd (true≢false (sym is ∙ member_begun f h.base k x j found (subst (λ (m : ℕ). job_numbered m f.jobs.process.kept ≡ Some j) (sym its) known)))
 
   complete_not_queued : is_complete j.states.state ≡ true → is_queued j.states.state ≡ true → ⊥
   complete_not_queued is queued = of j.states.state is queued where

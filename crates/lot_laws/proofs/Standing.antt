@@ -17,7 +17,7 @@ use Rattle.floor_moves.specs.Floor.{is_done}
 use Rattle.place_laws.specs.Picture.{picture, of_one, of_job}
 use Rattle.place_laws.specs.Standing.{IsCarried}
 use Rattle.place_laws.specs.Sound as sound
-use Rattle.place_laws.specs.Sound.{IsOfJob, IsInItsJob, Sound}
+use Rattle.place_laws.specs.Sound.{IsOfJob, IsInItsJob, Base}
 use Rattle.place_laws.proofs.Holding.{one_found, true_of_found}
 use Rattle.floor_laws.proofs.JobSays.{IsMember, member_tells, any_found}
 use Rattle.owed_laws.specs.Undisturbed.{JobsStand, Undisturbed}
@@ -84,10 +84,10 @@ joins_tell j f s e =
 
 -- ---- members
 
-module _ (f : ToolFloor) (h : Sound f) where
+module _ (f : ToolFloor) (h : Base f) where
   -- the job of one that is in one
   pub member_job : (n : ℕ) (s : Substrate) (j : ProcessJob) → substrate_numbered n f.substrates ≡ Some s → job_of s f.jobs ≡ Some j → IsOfJob f.shop.carriers s j
-  member_job n s j found its = true_of_found number_of n (IsInItsJob f.shop.carriers f.jobs) f.substrates s h.base.jobs.members found j its
+  member_job n s j found its = true_of_found number_of n (IsInItsJob f.shop.carriers f.jobs) f.substrates s h.jobs.members found j its
 
   -- it isn't QUEUED
   pub member_begun : (n : ℕ) (s : Substrate) (j : ProcessJob) → substrate_numbered n f.substrates ≡ Some s → job_of s f.jobs ≡ Some j → is_queued j.states.state ≡ false
@@ -95,7 +95,7 @@ module _ (f : ToolFloor) (h : Sound f) where
 
   -- the carrier of one that is kept
   pub carried : (n : ℕ) (s : Substrate) → substrate_numbered n f.substrates ≡ Some s → IsCarried f.shop.carriers s
-  carried n s found = true_of_found number_of n (IsCarried f.shop.carriers) f.substrates s h.base.carried found
+  carried n s found = true_of_found number_of n (IsCarried f.shop.carriers) f.substrates s h.carried found
 
   -- a process job that is kept names its carrier
   pub named_by : (n k : ℕ) (s : Substrate) (j : ProcessJob) (c : Carrier) → substrate_numbered n f.substrates ≡ Some s → job_numbered k f.jobs.process.kept ≡ Some j
@@ -108,7 +108,7 @@ module _ (f : ToolFloor) (h : Sound f) where
 
 -- ---- while it executes
 
-module _ (number : ℕ) (counted : ℕ → Bool) (f : ToolFloor) (h : Sound f) (e : Executes number counted f) where
+module _ (number : ℕ) (counted : ℕ → Bool) (f : ToolFloor) (h : Base f) (e : Executes number counted f) where
   -- the job of one that is in one is left in the control job
   pub member_left : (n : ℕ) (s : Substrate) (j : ProcessJob) → substrate_numbered n f.substrates ≡ Some s → job_of s f.jobs ≡ Some j → is_left_in number j.id f.jobs ≡ true
   member_left n s j found its = e.steers.started s.job j its (member_begun f h n s j found its)
@@ -142,7 +142,7 @@ module _ (number : ℕ) (counted : ℕ → Bool) (f : ToolFloor) (h : Sound f) (
         named_by f h n s.job s m.0 is.carrier found m.1 is.its is.named
     names n s found left (inr (inr w)) =
         let c = carried f h n s found in
-        named_by f h n w.at s w.job c.0 found w.kept c.1 (slot_names_carrier w.job f.shop s c.0 h.base.shop c.1 (joins_tell w.job f s w.joins).named)
+        named_by f h n w.at s w.job c.0 found w.kept c.1 (slot_names_carrier w.job f.shop s c.0 h.shop c.1 (joins_tell w.job f s w.joins).named)
 
   pub undisturbed : Undisturbed counted (picture f)
   undisturbed = record { jobs = jobs_stand; substrates = e.substrates }

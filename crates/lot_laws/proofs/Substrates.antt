@@ -140,7 +140,7 @@ module _ (number : ℕ) (counted : ℕ → Bool) (f : ToolFloor) (h : Sound f) (
         members = λ k is. e.members k (sym (moved_agrees.jobs.is_member k) ∙ is);
         stands = λ k y found is. let b = found_back n (substrate_moves 12 row) (λ s. refl) k f.substrates y found in stands k y b.0 b.1 b.2 (e.stands k b.0 b.1 is);
         all = λ k i y j found q left can. let b = found_back n (substrate_moves 12 row) (λ s. refl) k f.substrates y found in takes k i y j b.0 b.1 b.2 q left can;
-        substrates = (agree-undisturbed (picture f) (picture (with_moved 12 row n f)) moved_agrees counted h.valid (undisturbed number counted f h e)).substrates;
+        substrates = (agree-undisturbed (picture f) (picture (with_moved 12 row n f)) moved_agrees counted h.valid (undisturbed number counted f h.base e)).substrates;
       },
       agree-owed (picture f) (picture (with_moved 12 row n f)) moved_agrees counted,
     ) where

@@ -2,4 +2,4 @@ use Rattle.lot_laws.proofs.Standing.{undisturbed}
 use Rattle.lot_laws.proofs.laws.its_substrates_stand_undisturbed.Goals as goal
 
 pub returns : goal.returns
-returns c = undisturbed
+returns c = λ number counted f h e. undisturbed number counted f h.base e

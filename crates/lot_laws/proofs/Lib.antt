@@ -7,3 +7,4 @@ pub mod Processes
 pub mod Issuing
 pub mod Substrates
 pub mod Done
+pub mod Answers

@@ -8,3 +8,4 @@ pub mod Issuing
 pub mod Substrates
 pub mod Done
 pub mod Answers
+pub mod Working

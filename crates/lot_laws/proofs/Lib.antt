@@ -9,3 +9,4 @@ pub mod Substrates
 pub mod Done
 pub mod Answers
 pub mod Working
+pub mod Shops

@@ -62,7 +62,7 @@ not_below name k first next (c ∷ cs) rising e = of (c.number == k) (bytes_eq c
   of false d q e rest = let more = rest e in let less = rising.0 in omega (arith, more, less)
 
 -- the carrier of the number has the name
-name_there : (name : List ℕ) (k first next : ℕ) (cs : List Carrier) (x : Carrier) → RiseFrom first next cs → list_any (is_carrier_of name k) cs ≡ true → carrier_numbered k cs ≡ Some x → x.name ≡ name
+pub name_there : (name : List ℕ) (k first next : ℕ) (cs : List Carrier) (x : Carrier) → RiseFrom first next cs → list_any (is_carrier_of name k) cs ≡ true → carrier_numbered k cs ≡ Some x → x.name ≡ name
 name_there name k first next [] x rising e found = none_some x found
 name_there name k first next (c ∷ cs) x rising e found = of (c.number == k) (bytes_eq c.name name) refl refl e found (name_there name k (c.number + 1) next cs x rising.1) where
   of : (b d : Bool) → (c.number == k) ≡ b → bytes_eq c.name name ≡ d → ((b && d) || list_any (is_carrier_of name k) cs) ≡ true → (if b then Some c else carrier_numbered k cs) ≡ Some x → (list_any (is_carrier_of name k) cs ≡ true → carrier_numbered k cs ≡ Some x → x.name ≡ name) → x.name ≡ name
@@ -89,7 +89,7 @@ slot_names_carrier j shop s c h found e = of j.material e where
       or_right false b t = t
 
 -- a carrier that is here is NOT ACCESSED or IN ACCESS
-use_number : (a : Accessing) → is_in_use a ≡ true → access_number a ≤ 1
+pub use_number : (a : Accessing) → is_in_use a ≡ true → access_number a ≤ 1
 use_number accessing.NotAccessed e = omega arith
 use_number accessing.InAccess e = omega arith
 use_number accessing.Complete e = absurd (true≢false (sym e))

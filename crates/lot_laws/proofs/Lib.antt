@@ -10,3 +10,4 @@ pub mod Done
 pub mod Answers
 pub mod Working
 pub mod Shops
+pub mod Least

@@ -2,6 +2,7 @@
 -- profile, tables 14 and 15, and moves). Which substrates are counted is settled as it starts.
 use Rattle.std.specs.Prelude.{◌≡◌, ◌⊎◌, ℕ, ◌==◌, Bool, true, false, ◌&&◌, Some}
 use Rattle.std.specs.List.{list_any}
+use Rattle.gem_tables.specs.declared.firing.Firing.{Firing}
 use Rattle.shop_floor.specs.Floor.{Floor}
 use Rattle.substrate.specs.Record.{is_at_source, is_needing}
 use Rattle.process_job.specs.Jobs.{job_numbered}
@@ -9,6 +10,7 @@ use Rattle.process_job.specs.declared.job.ProcessJob.{ProcessJob}
 use Rattle.tool_floor.specs.declared.tracking.Substrate.{Substrate}
 use Rattle.tool_floor.specs.Floor.{ToolFloor, substrate_numbered}
 use Rattle.tool_floor.specs.Jobs.{names_slot_of, can_join, is_here, job_of}
+use Rattle.tool_floor.specs.Substrates.{reaches_verified}
 use Rattle.floor_moves.specs.Floor.{is_done}
 use Rattle.place_laws.specs.Picture.{picture, of_substrate}
 use Rattle.owed_laws.specs.Undisturbed.{SubstratesStand}
@@ -73,3 +75,9 @@ pub record Executes (number : ℕ) (counted : ℕ → Bool) (f : ToolFloor) : Ty
   pub all : (n k : ℕ) (s : Substrate) (j : ProcessJob) → substrate_numbered n f.substrates ≡ Some s
       → job_numbered k f.jobs.process.kept ≡ Some j → is_left_in number j.id f.jobs ≡ true → can_join j f.shop s ≡ true → counted n ≡ true
   pub substrates : SubstratesStand counted (picture f)
+
+-- ---- rows that register substrates
+
+-- a row of table 9 by which the slot map of a carrier is VERIFIED
+abbrev pub is_registration : Firing → Bool
+is_registration x = (x.row.table == 9) && reaches_verified x.row.row

@@ -13,7 +13,7 @@ use Rattle.robot_moves.specs.declared.module.Module.{Module as ToolModule}
 use Rattle.robot_moves.specs.declared.module.Module.TheVariants.{Busy}
 use Rattle.robot_moves.specs.Modules.{module_at, change_module}
 use Rattle.substrate.specs.Locations.{is_location}
-use Rattle.substrate.specs.Places.{PlaceMap, substrate_named, is_taken, moved as moved_to}
+use Rattle.substrate.specs.Places.{PlaceMap, substrate_named, moved as moved_to}
 use Rattle.substrate.specs.Tables.{processing_number, processing_table}
 use Rattle.substrate.specs.declared.record.Processing.{Processing}
 use Rattle.substrate.specs.declared.record.Processing.TheVariants as processing
@@ -22,19 +22,20 @@ use Rattle.process_job.specs.Jobs.{job_numbered}
 use Rattle.process_job.specs.declared.job.ProcessJob.{ProcessJob}
 use Rattle.tool_floor.specs.declared.tracking.Substrate.{Substrate}
 use Rattle.tool_floor.specs.Floor.{ToolFloor, substrate_numbered, with_module, change_numbered}
-use Rattle.tool_floor.specs.Jobs.{job_of, can_join}
+use Rattle.tool_floor.specs.Jobs.{can_join}
 use Rattle.tool_floor.specs.Modules.{module_behind, open_task, transferred, aligned, aligned_numbered, aligned_by}
+use Rattle.tool_floor.specs.Signals.{done_row}
 use Rattle.tool_floor.specs.Machines.{substrate_starts, with_moved, floor_starts, floor_fired}
 use Rattle.floor_moves.specs.Floor as law
 use Rattle.floor_moves.specs.Floor.{Loc, Floor, Command, arm, aligner, pick, place, align, process, busy, idle, is_done}
-use Rattle.floor_moves.specs.Effects.{moved, aligned as aligned_by_numbers, turned, worked, fire}
+use Rattle.floor_moves.specs.Effects.{moved, aligned as aligned_by_numbers, turned, worked}
 use Rattle.floor_moves.specs.Agree.{Agree}
 use Rattle.floor_moves.specs.Valid.{PlaceStands, Valid}
 use Rattle.floor_moves.proofs.Facts.{outside_not_done, picked_not_done}
 use Rattle.floor_moves.proofs.Done.{done_pick-keeps, done_place-keeps, done_align-keeps, but_finished}
 use Rattle.floor_moves.proofs.Moving.{idle_not_busy}
 use Rattle.place_laws.specs.Picture.{picture, loc_of, numbered, task_of, of_one}
-use Rattle.place_laws.specs.Sound.{Base, Sound, SoundBut}
+use Rattle.place_laws.specs.Sound.{Sound, SoundBut}
 use Rattle.picture_laws.proofs.Columns.{says_same}
 use Rattle.picture_laws.proofs.Carried.{moving_agrees}
 use Rattle.picture_laws.proofs.Closing.{modules_behind, aligning_agrees}
@@ -46,7 +47,6 @@ use Rattle.owed_laws.specs.Undisturbed.{Undisturbed, SubstratesStand}
 use Rattle.owed_laws.proofs.Columns.{OneLess}
 use Rattle.owed_laws.proofs.Agreeing.{agree-undisturbed, agree-owed}
 use Rattle.owed_laws.proofs.Decreasing.{done_pick-falls, done_place-falls, done_align-falls, processed_row-falls}
-use Rattle.queue_laws.specs.Started.{is_left_in}
 use Rattle.lot_laws.specs.Lot.{IsInJob, Waits, Executes}
 use Rattle.lot_laws.proofs.Standing.{undisturbed}
 use Rattle.lot_laws.proofs.Substrates.{found_back}
@@ -102,7 +102,7 @@ module _ (number : ℕ) (counted : ℕ → Bool) (f : ToolFloor) (sound : Sound 
       at : is_done r.number (picture f) ≡ false → Valid (moved r.number (loc_of to) m (picture f)) → OneLess counted (picture f) (moved r.number (loc_of to) m (picture f)) → Falls (behind (record f.places { held = moved_to sub to f.places.held }))
       at left valid less = (
         places-executes number counted f e (record f.places { held = moved_to sub to f.places.held }) (change_module m (module_behind 5) f.modules) done
-        (agree-undisturbed (moved r.number (loc_of to) m (picture f)) (picture (behind (record f.places { held = moved_to sub to f.places.held }))) agrees counted valid less.0).substrates,
+            (agree-undisturbed (moved r.number (loc_of to) m (picture f)) (picture (behind (record f.places { held = moved_to sub to f.places.held }))) agrees counted valid less.0).substrates,
         ap (λ (k : ℕ). k + 1) (agree-owed (moved r.number (loc_of to) m (picture f)) (picture (behind (record f.places { held = moved_to sub to f.places.held }))) agrees counted) ∙ less.1,
       ) where
         done : (k : ℕ) → is_done k (picture f) ≡ true → is_done k (picture (behind (record f.places { held = moved_to sub to f.places.held }))) ≡ true
@@ -194,6 +194,14 @@ module _ (number : ℕ) (counted : ℕ → Bool) (f : ToolFloor) (sound : Sound 
       (subst (λ (x : ToolTask). Falls (with_module m (module_behind 6) (aligned_by (Some x) f))) (sym q)
       (subst (λ (o : Option Registered). Falls (with_module m (module_behind 6) (record f { substrates = aligned_numbered (option_map (λ (r : Registered). r.number) o) f.substrates }))) (sym at.1)
       (aligned-executes at.0.number kept.0 kept.1 valid less)))
+
+  -- the one row of a command that is no Process
+  pub done_moved-falls : (t : ToolTask) → c.task ≡ t → ((sub recipe : List ℕ) → t ≡ task.Process sub recipe → ⊥)
+      → Executes number counted (floor_fired (firing 16 m (done_row t)) f) × (owed_to counted (picture (floor_fired (firing 16 m (done_row t)) f)) + 1 ≡ owed_to counted (picture f))
+  done_moved-falls (task.Pick sub from) q other = pick-falls sub from q
+  done_moved-falls (task.Place sub to) q other = place-falls sub to q
+  done_moved-falls (task.Align sub) q other = align-falls sub q
+  done_moved-falls (task.Process sub recipe) q other = absurd (other sub recipe refl)
 
   -- ---- Done of Process: its first row closes the command
 

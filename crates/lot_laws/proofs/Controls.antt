@@ -1,9 +1,9 @@
 -- A row of a control job leaves an executing one as it is, unless it completes; it completes where nothing is owed, and at rest it has.
-use Rattle.std.proofs.Common.{◌≡◌, ◌≤◌, ◌<◌, ℕ, ◌+◌, ◌==◌, Bool, true, false, cond, not, ◌&&◌, ◌||◌, List, [], ◌∷◌, map, find, Option, Some, None, option_map, bytes_eq, refl, sym, ◌∙◌, ap, subst, ◌⊎◌, inl, inr, arith}
-use Rattle.std.specs.List.{AllByRecursion, list_all, list_any}
+use Rattle.std.proofs.Common.{◌≡◌, ◌≤◌, ℕ, ◌+◌, ◌==◌, Bool, true, false, cond, not, ◌&&◌, ◌||◌, List, [], ◌∷◌, Option, Some, None, option_map, bytes_eq, refl, sym, ◌∙◌, ap, subst, ◌⊎◌, inl, inr, arith}
+use Rattle.std.specs.List.{AllByRecursion, list_all}
 use Rattle.std.specs.Option.{option_or}
 use Rattle.std.proofs.lemmas.Bool.{true≢false, and_parts}
-use Rattle.std.proofs.lemmas.Bool.Decides.{Decides-eqb, nat_tests}
+use Rattle.std.proofs.lemmas.Bool.Decides.{Decides-eqb}
 use Rattle.gem_tables.specs.Table.{is_one_of, firing, first_itself}
 use Rattle.gem_tables.specs.Machine.{Machine, first_ready, least_in}
 use Rattle.gem_tables.specs.declared.firing.Firing.{Firing}
@@ -34,19 +34,19 @@ use Rattle.tool_floor.specs.declared.tracking.Substrate.{Substrate}
 use Rattle.tool_floor.specs.Floor.{ToolFloor, with_jobs, substrate_numbered, number_of}
 use Rattle.tool_floor.specs.Kept.{RiseTo}
 use Rattle.tool_floor.specs.Substrates.{is_in_slot, is_removed}
-use Rattle.tool_floor.specs.Jobs.{job_of, is_member, is_done_with, is_settled, is_here, sight, found_sight, is_first_here}
+use Rattle.tool_floor.specs.Jobs.{is_member, is_done_with, is_settled, is_here, sight, found_sight, is_first_here}
 use Rattle.tool_floor.specs.Machines.{floor_machines, floor_fired, floor_least, process_numbers}
 use Rattle.floor_moves.specs.Floor as law
 use Rattle.floor_moves.specs.Floor.{Loc, is_done}
-use Rattle.place_laws.specs.Picture.{picture, of_one}
-use Rattle.place_laws.specs.Sound.{Base, Sound}
+use Rattle.place_laws.specs.Picture.{picture}
+use Rattle.place_laws.specs.Sound.{Sound}
 use Rattle.place_laws.proofs.Holding.{one_found, found_among}
-use Rattle.floor_laws.proofs.JobSight.{none_some, some_same, in_slot_from, removed_from}
+use Rattle.floor_laws.proofs.JobSight.{none_some, in_slot_from, removed_from}
 use Rattle.floor_laws.proofs.JobWork.{finished_same}
 use Rattle.floor_laws.proofs.JobSays.{said_there}
 use Rattle.owed_laws.specs.Owed.{owed_to}
 use Rattle.owed_laws.proofs.Beginning.{nothing_left, each_done}
-use Rattle.queue_laws.specs.Started.{is_queued, is_left_in, AreStarted}
+use Rattle.queue_laws.specs.Started.{is_left_in, AreStarted}
 use Rattle.queue_laws.specs.Steers.{has_none_left, goes_on, disturbs_control, is_completion}
 use Rattle.queue_laws.proofs.Rows.{active_open, executed}
 use Rattle.queue_laws.proofs.Owners.{owner_is, none_owned}
@@ -251,10 +251,10 @@ module _ (number : ℕ) (counted : ℕ → Bool) (f : ToolFloor) (h : Sound f) (
           let left : is_left_in number j.id f.jobs ≡ true = owned_left number j.id f.jobs mine.job mine.at owned in
           let auto = e.steers.auto j.number j found left in
           let first : is_first_left j.id (owner j.id f.jobs) ≡ true =
-              ap (is_first_left j.id) (owner_is j.id number f.jobs mine.job t mine.at owned)
-              ∙ both ((state_number mine.job.states.state == 3) && not (is_ending mine.job.states.ending)) (is_first j.id mine.job.left) (three_reads mine.job.states mine.three) (ap (is_first j.id) is ∙ ap (bytes_eq name) same ∙ own_name name) in
+          ap (is_first_left j.id) (owner_is j.id number f.jobs mine.job t mine.at owned)
+          ∙ both ((state_number mine.job.states.state == 3) && not (is_ending mine.job.states.ending)) (is_first j.id mine.job.left) (three_reads mine.job.states mine.three) (ap (is_first j.id) is ∙ ap (bytes_eq name) same ∙ own_name name) in
           let none : first_itself job_number (λ x. process_wants x j (sight j f) f.jobs) job_table j.states.state ≡ None =
-              subst (λ (o : Option ProcessJob). process_ready o (found_sight o f) f.jobs ≡ None) found (rest j.number (job_in j.number f.jobs.process.kept j found)) in
+          subst (λ (o : Option ProcessJob). process_ready o (found_sight o f) f.jobs ≡ None) found (rest j.number (job_in j.number f.jobs.process.kept j found)) in
           goes_ready (λ x. process_wants x j (sight j f) f.jobs) j.states.state (e.steers.going j.number j found left)
           (λ q. both (is_first_left j.id (owner j.id f.jobs)) (is_here j f.shop) first (e.here j.number j found left))
           (ap not auto) auto (λ q. all_settled zero j.number j found refl) refl none

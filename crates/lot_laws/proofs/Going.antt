@@ -1,5 +1,5 @@
 -- A control job executes on where the process jobs and the jobs of substrates change.
-use Rattle.std.proofs.Common.{◌≡◌, ◌≤◌, ℕ, Bool, true, false, not, ◌&&◌, List, [], ◌∷◌, map, Option, Some, None, option_map, refl, sym, ◌∙◌, ap, subst, ◌⊎◌, inl, inr, arith}
+use Rattle.std.proofs.Common.{◌≡◌, ℕ, Bool, true, false, not, ◌&&◌, List, map, Option, Some, None, option_map, refl, sym, ◌∙◌, ap, subst, ◌⊎◌, inl, inr, arith}
 use Rattle.substrate.specs.Tables.{processing_number}
 use Rattle.process_job.specs.Jobs.{job_numbered}
 use Rattle.process_job.specs.declared.job.Material.{Material}
@@ -7,7 +7,7 @@ use Rattle.process_job.specs.declared.job.ProcessJob.{ProcessJob}
 use Rattle.tool_jobs.specs.Jobs.{Jobs}
 use Rattle.tool_floor.specs.declared.tracking.Substrate.{Substrate}
 use Rattle.tool_floor.specs.Floor.{ToolFloor, substrate_numbered}
-use Rattle.tool_floor.specs.Jobs.{is_material_here, is_here, job_of, can_join}
+use Rattle.tool_floor.specs.Jobs.{is_material_here, job_of, can_join}
 use Rattle.floor_moves.specs.Floor as law
 use Rattle.floor_moves.specs.Floor.{is_done}
 use Rattle.floor_moves.specs.Agree.{Agree}
@@ -19,7 +19,6 @@ use Rattle.floor_laws.proofs.JobSight.{none_some, some_same}
 use Rattle.floor_laws.proofs.JobChanges.{IsJobAlone, numbers_map, found_map, says_map}
 use Rattle.floor_laws.proofs.JobSays.{member_tells}
 use Rattle.owed_laws.specs.Owed.{owed_to}
-use Rattle.owed_laws.specs.Undisturbed.{SubstratesStand}
 use Rattle.owed_laws.proofs.Agreeing.{agree-undisturbed, agree-owed, agree-unaligned}
 use Rattle.owed_laws.specs.Undisturbed.{AreUnaligned}
 use Rattle.queue_laws.specs.Started.{is_left_in}

@@ -1,7 +1,5 @@
 -- A control job executes on where a command is issued: a Place to a chamber names an unfinished substrate.
-use Rattle.std.proofs.Common.{◌≡◌, ℕ, zero, suc, ◌==◌, ◌-◌, Bool, true, false, not, ◌&&◌, if◌then◌else◌, [], ◌∷◌, Option, Some, None, option_map, refl, sym, ◌∙◌, ap, subst, ◌⊎◌, inl, inr}
-use Rattle.std.proofs.lemmas.Bool.{true≢false, and_parts}
-use Rattle.std.proofs.lemmas.Bool.Decides.{Decides-eqb}
+use Rattle.std.proofs.Common.{◌≡◌, ℕ, ◌==◌, ◌-◌, Bool, true, false, not, ◌&&◌, if◌then◌else◌, [], ◌∷◌, Option, Some, None, option_map, refl, sym, ◌∙◌, ap, subst, ◌⊎◌, inl, inr}
 use Rattle.gem_tables.specs.Table.{is_one_of, firing}
 use Rattle.gem_ids.specs.declared.numbers.LocId.{LocId}
 use Rattle.gem_ids.specs.declared.numbers.LocId.TheVariants.{Slot, Aligner, Arm, Chamber}
@@ -20,7 +18,6 @@ use Rattle.tool_floor.proofs.Moves.{is_idle_module, gives}
 use Rattle.floor_moves.specs.Floor as law
 use Rattle.floor_moves.specs.Floor.{is_done}
 use Rattle.floor_moves.specs.Effects.{issued}
-use Rattle.floor_moves.specs.Valid.{Valid}
 use Rattle.floor_moves.proofs.Issuing.{issued-keeps}
 use Rattle.place_laws.specs.Picture.{picture, loc_of, numbered, task_of}
 use Rattle.place_laws.specs.Sound.{Base, Sound}
@@ -29,9 +26,8 @@ use Rattle.floor_laws.proofs.IssueViews.{IsSeen, IsView, holder_seen}
 use Rattle.floor_laws.proofs.IssueTargets.{IsTarget, free_target_is}
 use Rattle.floor_laws.proofs.IssuePlans.{planned_may}
 use Rattle.owed_laws.specs.Owed.{owed_to}
-use Rattle.owed_laws.specs.Undisturbed.{AreUnaligned}
 use Rattle.owed_laws.proofs.Columns.{issued-stays}
-use Rattle.owed_laws.proofs.Agreeing.{agree-undisturbed, agree-owed, agree-unaligned}
+use Rattle.owed_laws.proofs.Agreeing.{agree-undisturbed, agree-owed}
 use Rattle.lot_laws.specs.Lot.{IsInJob, Waits, Executes}
 use Rattle.lot_laws.proofs.Standing.{undisturbed}
 
@@ -113,8 +109,7 @@ module _ (number : ℕ) (counted : ℕ → Bool) (f : ToolFloor) (h : Sound f) (
   given-executes m (Some move) q =
       let agrees = issuing_agrees m move f (is_idle_module (module_at m f.modules) (move_is m (views f) f.modules move q).idle) in
       let stays = issued-stays counted (picture f) (undisturbed number counted f h.base e) m (task_of move.task f.places) (planned_fits f h.base m move q) in
-      let valid = issued-keeps (picture f) m (task_of move.task f.places) (planned_may f h.base h.valid m move q) h.valid in
-      (
+      let valid = issued-keeps (picture f) m (task_of move.task f.places) (planned_may f h.base h.valid m move q) h.valid in (
         record {
           steers = e.steers;
           here = e.here;

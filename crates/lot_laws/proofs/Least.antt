@@ -1,5 +1,5 @@
 -- The least row that is ready by itself leaves the control job as it is and as much owed, or it is its completion, where none is owed.
-use Rattle.std.proofs.Common.{◌≡◌, ℕ, ◌==◌, Bool, true, false, cond, not, ◌&&◌, ◌||◌, [], ◌∷◌, Option, Some, None, refl, sym, ◌∙◌, ap, subst, ◌⊎◌, inl, inr}
+use Rattle.std.proofs.Common.{◌≡◌, ℕ, ◌==◌, Bool, true, false, cond, not, ◌||◌, [], ◌∷◌, Option, Some, None, refl, sym, ◌∙◌, ap, subst, ◌⊎◌, inl, inr}
 use Rattle.std.proofs.lemmas.Bool.{true≢false}
 use Rattle.gem_tables.specs.Table.{firing, is_one_of}
 use Rattle.gem_tables.specs.declared.firing.Firing.{Firing}
@@ -29,7 +29,7 @@ use Rattle.tool_floor.specs.Views.{planned}
 use Rattle.tool_floor.specs.Modules.{move_wants, move_ready}
 use Rattle.tool_floor.specs.Substrates.{is_outside, reaches_verified}
 use Rattle.tool_floor.specs.Wants.{accessing_wants, substrate_wants}
-use Rattle.tool_floor.specs.Machines.{accessing_ready, substrate_ready, floor_machines, floor_starts, floor_fired, floor_least}
+use Rattle.tool_floor.specs.Machines.{accessing_ready, substrate_ready, floor_machines, floor_fired, floor_least}
 use Rattle.tool_floor.proofs.Keeping.{least_starts}
 use Rattle.place_laws.specs.Picture.{picture}
 use Rattle.place_laws.specs.Sound.{Sound}

@@ -1,6 +1,6 @@
 -- A control job executes on where the load ports and the carriers change: the carriers of substrates stay, and those that a process job
 -- names are NOT ACCESSED or IN ACCESS still.
-use Rattle.std.proofs.Common.{◌≡◌, ◌≤◌, ℕ, ◌==◌, Bool, true, false, if◌then◌else◌, not, ◌&&◌, ◌||◌, List, [], ◌∷◌, find, Option, Some, None, bytes_eq, refl, sym, ◌∙◌, ap, subst, ◌⊎◌, inl, inr, arith}
+use Rattle.std.proofs.Common.{◌≡◌, ◌≤◌, ℕ, ◌==◌, Bool, true, false, if◌then◌else◌, not, ◌&&◌, ◌||◌, List, [], ◌∷◌, Option, Some, None, bytes_eq, refl, sym, ◌∙◌, ap, subst, ◌⊎◌, inl, inr, arith}
 use Rattle.std.specs.List.{AllByRecursion, list_any, list_all}
 use Rattle.std.proofs.lemmas.Bool.{true≢false, and_parts, not-true}
 use Rattle.std.proofs.lemmas.Bool.Decides.{Decides-eqb}
@@ -27,30 +27,26 @@ use Rattle.process_job.specs.declared.job.Material.{Material}
 use Rattle.process_job.specs.declared.job.ProcessJob.{ProcessJob}
 use Rattle.tool_floor.specs.declared.tracking.Substrate.{Substrate}
 use Rattle.tool_floor.specs.Floor.{ToolFloor, with_shop, substrate_numbered}
-use Rattle.tool_floor.specs.Jobs.{is_carrier_of, is_slot_named, names_slot_of, can_join, is_in_use, is_carrier_here, is_material_here, is_here, is_of_carrier, names_carrier, is_any_of_carrier}
+use Rattle.tool_floor.specs.Jobs.{is_carrier_of, is_slot_named, names_slot_of, can_join, is_in_use, is_carrier_here, is_material_here, is_here, names_carrier, is_any_of_carrier}
 use Rattle.tool_floor.specs.Machines.{floor_machines, floor_starts, floor_fired, taken_along, accessing_starts}
 use Rattle.tool_floor.specs.Wants.{accessing_wants, is_quiet, are_back}
 use Rattle.tool_floor.specs.Substrates.{reaches_verified, without_carrier, registers_found}
 use Rattle.shop_floor.specs.Owning.{owner_number}
-use Rattle.floor_moves.specs.Floor as law
 use Rattle.floor_moves.specs.Floor.{is_done}
 use Rattle.place_laws.specs.Picture.{picture, of_one}
-use Rattle.place_laws.specs.Standing.{IsCarried}
-use Rattle.place_laws.specs.Sound.{Base, Sound}
-use Rattle.place_laws.proofs.Stays.{Stay, GoesOn}
+use Rattle.place_laws.specs.Sound.{Sound}
+use Rattle.place_laws.proofs.Stays.{Stay}
 use Rattle.place_laws.proofs.Leaving.{Leaves}
 use Rattle.place_laws.proofs.Holding.{kept_there, its_carrier}
 use Rattle.place_laws.proofs.ShopRows.{is_gentle, transfer_leaves, mode_leaves, reservation_leaves, association_leaves, id_leaves, map_leaves, accessing_leaves}
 use Rattle.place_laws.proofs.PortsKept.{is_plain_row}
-use Rattle.floor_laws.proofs.JobSight.{none_some, some_same, each_found}
+use Rattle.floor_laws.proofs.JobSight.{none_some, some_same}
 use Rattle.floor_laws.proofs.JobSays.{any_found}
 use Rattle.floor_laws.proofs.GrowTaken.{by_its_number}
 use Rattle.floor_laws.proofs.ShopAccess.{SameAccess, found_numbered, transfer_access, mode_access, reservation_access, association_access, id_access, map_access}
 use Rattle.floor_laws.proofs.ShopTables.{is_shop_row}
 use Rattle.owed_laws.specs.Owed.{owed_to}
-use Rattle.owed_laws.specs.Undisturbed.{SubstratesStand}
-use Rattle.queue_laws.specs.Started.{is_left_in}
-use Rattle.lot_laws.specs.Lot.{is_in_named_slot, IsInJob, Waits, Executes}
+use Rattle.lot_laws.specs.Lot.{IsInJob, Waits, Executes}
 use Rattle.lot_laws.proofs.Naming.{use_number, name_there}
 use Rattle.lot_laws.proofs.Standing.{carried, jobs_stand}
 
@@ -237,7 +233,7 @@ module _ (number : ℕ) (counted : ℕ → Bool) (f : ToolFloor) (sound : Sound 
     of None known w = absurd (true≢false (sym w))
     of (Some c) known w = (
       shop-executes number counted f sound e (with_carrier n (carriers.fires_row 10 row) f.shop) (accessing_leaves f.substrates f.shop n row).stay (accessing-keeps f.shop n row sound.base.shop)
-      (accessing_use f n row c known (may_access f row c other w)),
+          (accessing_use f n row c known (may_access f row c other w)),
       refl,
     )
 

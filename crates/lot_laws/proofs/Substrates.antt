@@ -1,22 +1,19 @@
 -- A control job executes on behind the rows of tables 12 and 13 that fire by themselves.
-use Rattle.std.proofs.Common.{◌≡◌, ℕ, ◌==◌, Bool, true, false, if◌then◌else◌, not, ◌&&◌, ◌||◌, List, [], ◌∷◌, map, Option, Some, None, option_map, refl, sym, ◌∙◌, ap, subst, ◌⊎◌, inl, inr, arith}
-use Rattle.std.specs.List.{list_any}
-use Rattle.std.proofs.lemmas.Bool.{true≢false, and_parts}
+use Rattle.std.proofs.Common.{◌≡◌, ℕ, ◌==◌, Bool, true, false, not, ◌&&◌, List, map, Option, Some, None, option_map, refl, sym, ◌∙◌, ap, subst, ◌⊎◌, inl, inr, arith}
+use Rattle.std.proofs.lemmas.Bool.{true≢false}
 use Rattle.std.proofs.lemmas.Bool.Decides.{Decides-eqb}
-use Rattle.gem_tables.specs.Table.{is_one_of, is_among, firing, after}
+use Rattle.gem_tables.specs.Table.{is_one_of, after}
 use Rattle.gem_tables.proofs.Rows.{both}
-use Rattle.substrate.specs.Tables.{transport_number, transport_table, processing_number, processing_table}
+use Rattle.substrate.specs.Tables.{transport_number, transport_table, processing_number}
 use Rattle.substrate.specs.Record.{is_at_source, is_needing}
 use Rattle.substrate.specs.declared.record.Transport.{Transport}
 use Rattle.substrate.specs.declared.record.Transport.TheVariants as transport
-use Rattle.substrate.specs.declared.record.Processing.{Processing}
-use Rattle.substrate.specs.declared.record.Processing.TheVariants as processing
 use Rattle.process_job.specs.Jobs.{job_numbered}
 use Rattle.process_job.specs.declared.job.ProcessJob.{ProcessJob}
 use Rattle.tool_jobs.proofs.Rows.{after_meets}
 use Rattle.tool_floor.specs.declared.tracking.Substrate.{Substrate}
 use Rattle.tool_floor.specs.Floor.{ToolFloor, substrate_numbered, number_of, change_numbered}
-use Rattle.tool_floor.specs.Jobs.{job_of, can_join, names_slot_of}
+use Rattle.tool_floor.specs.Jobs.{job_of, can_join}
 use Rattle.tool_floor.specs.Substrates.{is_outside}
 use Rattle.tool_floor.specs.Machines.{substrate_moves, with_moved}
 use Rattle.floor_moves.specs.Floor as law

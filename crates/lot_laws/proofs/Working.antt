@@ -1,5 +1,5 @@
 -- A control job executes on behind the row of table 13 that is ready by itself: row 2, of a substrate that an open Process names.
-use Rattle.std.proofs.Common.{◌≡◌, ◌≤◌, ℕ, ◌==◌, Bool, true, false, not, ◌&&◌, ◌||◌, [], ◌∷◌, Option, Some, None, refl, sym, ◌∙◌, ap, subst, arith}
+use Rattle.std.proofs.Common.{◌≡◌, ℕ, Bool, true, false, not, ◌&&◌, ◌||◌, [], ◌∷◌, Option, Some, None, refl, sym, ◌∙◌, ap, subst}
 use Rattle.std.specs.List.{list_any}
 use Rattle.std.proofs.lemmas.Bool.{true≢false, and_parts}
 use Rattle.gem_tables.specs.Table.{is_among, firing, after}
@@ -26,7 +26,7 @@ use Rattle.place_laws.specs.Sound.{Sound}
 use Rattle.floor_laws.proofs.EndOpen.{processes_busy}
 use Rattle.owed_laws.specs.Owed.{owed_to}
 use Rattle.owed_laws.specs.Undisturbed.{Undisturbed}
-use Rattle.owed_laws.proofs.Columns.{Stays, worked-stays}
+use Rattle.owed_laws.proofs.Columns.{worked-stays}
 use Rattle.lot_laws.specs.Lot.{Executes}
 use Rattle.lot_laws.proofs.Standing.{undisturbed}
 use Rattle.lot_laws.proofs.Done.{state_behind, worked-executes, worked_owed}

@@ -1,7 +1,8 @@
 -- A control job that executes undisturbed on the floor of the tool: its substrates (after SEMI E40, SEMI E90 and SEMI E94; this tool's
 -- profile, tables 14 and 15, and moves). Which substrates are counted is settled as it starts.
-use Rattle.std.specs.Prelude.{◌≡◌, ◌⊎◌, ℕ, ◌==◌, Bool, true, false, ◌&&◌, Some}
+use Rattle.std.specs.Prelude.{◌≡◌, ◌⊎◌, ℕ, ◌+◌, ◌==◌, Bool, true, false, ◌&&◌, Some}
 use Rattle.std.specs.List.{list_any}
+use Rattle.gem_tables.specs.Table.{firing}
 use Rattle.gem_tables.specs.declared.firing.Firing.{Firing}
 use Rattle.shop_floor.specs.Floor.{Floor}
 use Rattle.substrate.specs.Record.{is_at_source, is_needing}
@@ -11,8 +12,10 @@ use Rattle.tool_floor.specs.declared.tracking.Substrate.{Substrate}
 use Rattle.tool_floor.specs.Floor.{ToolFloor, substrate_numbered}
 use Rattle.tool_floor.specs.Jobs.{names_slot_of, can_join, is_here, job_of}
 use Rattle.tool_floor.specs.Substrates.{reaches_verified}
+use Rattle.tool_floor.specs.Machines.{floor_fired}
 use Rattle.floor_moves.specs.Floor.{is_done}
 use Rattle.place_laws.specs.Picture.{picture, of_substrate}
+use Rattle.owed_laws.specs.Owed.{owed_to}
 use Rattle.owed_laws.specs.Undisturbed.{SubstratesStand}
 use Rattle.queue_laws.specs.Started.{is_queued, is_left_in}
 use Rattle.queue_laws.specs.Steers.{Steers}
@@ -81,3 +84,15 @@ pub record Executes (number : ℕ) (counted : ℕ → Bool) (f : ToolFloor) : Ty
 -- a row of table 9 by which the slot map of a carrier is VERIFIED
 abbrev pub is_registration : Firing → Bool
 is_registration x = (x.row.table == 9) && reaches_verified x.row.row
+
+-- ---- what a row does
+
+-- Behind a row the control job executes on, and as much is owed; or the row is its completion, and none is owed.
+abbrev pub GoesOnOrCompletes : ℕ → (ℕ → Bool) → ToolFloor → Firing → Type 0
+GoesOnOrCompletes number counted f x =
+    (Executes number counted (floor_fired x f) × (owed_to counted (picture (floor_fired x f)) ≡ owed_to counted (picture f)))
+    ⊎ ((x ≡ firing 15 number 8) × (owed_to counted (picture f) ≡ 0))
+
+-- behind a Done it executes on, and one less is owed
+abbrev pub TakesOneOff : ℕ → (ℕ → Bool) → ToolFloor → ToolFloor → Type 0
+TakesOneOff number counted f g = Executes number counted g × (owed_to counted (picture g) + 1 ≡ owed_to counted (picture f))

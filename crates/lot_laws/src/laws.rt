@@ -1,6 +1,13 @@
 //! Laws of a control job that executes undisturbed, for proofs to cite. Each function is empty: what it ensures holds of the definitions.
 
-ghost use Rattle.std.specs.Prelude.{◌≡◌, ℕ, ◌*◌, Bool, true, false, [], ◌∷◌, Some, None};
+ghost use Rattle.std.specs.Prelude.{◌≡◌, ℕ, ◌*◌, Bool, true, false, List, [], ◌∷◌, Some, None};
+ghost use Rattle.gem_tables.specs.declared.firing.Firing.{Firing};
+ghost use Rattle.tool_events.specs.declared.answer.Command.{Command};
+ghost use Rattle.tool_events.specs.declared.answer.Task.TheVariants as task;
+ghost use Rattle.robot_moves.specs.declared.module.Module.TheVariants.{Busy};
+ghost use Rattle.robot_moves.specs.Modules.{module_at};
+ghost use Rattle.tool_floor.specs.Signals.{done_row};
+ghost use Rattle.floor_moves.specs.Floor.{chamber};
 ghost use Rattle.gem_tables.specs.Table.{firing, is_one_of};
 ghost use Rattle.process_job.specs.Jobs.{job_numbered as process_numbered};
 ghost use Rattle.process_job.specs.declared.job.ProcessJob.{ProcessJob};
@@ -12,12 +19,12 @@ ghost use Rattle.tool_floor.specs.Floor.{ToolFloor};
 ghost use Rattle.tool_floor.specs.Jobs.{is_first_here};
 ghost use Rattle.tool_floor.specs.Machines.{floor_starts, floor_fired, floor_least};
 ghost use Rattle.place_laws.specs.Picture.{picture};
-ghost use Rattle.place_laws.specs.Sound.{Sound};
+ghost use Rattle.place_laws.specs.Sound.{Sound, SoundBut};
 ghost use Rattle.owed_laws.specs.Owed.{owed_to, number_of};
 ghost use Rattle.owed_laws.specs.Undisturbed.{AreUnaligned, Undisturbed};
 ghost use Rattle.queue_laws.specs.Started.{AreStarted};
 ghost use Rattle.queue_laws.specs.Steers.{AreAutomatic, disturbs_process, disturbs_control, is_completion};
-ghost use Rattle.lot_laws.specs.Lot.{counted_of, IsMaterialHere, AreInKeptJobs, Executes};
+ghost use Rattle.lot_laws.specs.Lot.{counted_of, IsMaterialHere, AreInKeptJobs, Executes, is_registration, GoesOnOrCompletes, TakesOneOff};
 
 /// As a control job starts by row 4 or 5 of table 15, where each process job that is left in it starts by itself and its material is
 /// here, it executes undisturbed, and eight Dones are owed for each substrate that is counted.
@@ -67,4 +74,29 @@ pub fn it_completes_where_no_done_is_owed()
         → owed_to counted (picture f) ≡ 0 }
     ensures at_rest { (number : ℕ) (counted : ℕ → Bool) (f : ToolFloor) → Sound f → AreTogether f.jobs → AreStarted f.jobs
         → Executes number counted f → floor_least f ≡ None → owed_to counted (picture f) ≡ 0 → ⊥ }
+{}
+
+/// It executes on behind the least row that is ready by itself, but for one that registers substrates, and as much is owed; or the
+/// row is its completion, and none is owed.
+pub fn the_least_row_leaves_as_much_owed_or_completes_it()
+    ensures { (number : ℕ) (counted : ℕ → Bool) (f : ToolFloor) (x : Firing) → Sound f → AreTogether f.jobs → AreStarted f.jobs
+        → Executes number counted f → floor_least f ≡ Some x → is_registration x ≡ false → GoesOnOrCompletes number counted f x }
+{}
+
+/// Done of an open command takes one off: the one row of a Pick, a Place and an Align; of the two rows of a Process the first leaves
+/// as much owed, and the second, row 3 or 4 of table 13, takes one off.
+pub fn done_of_a_command_takes_one_off()
+    ensures moved { (number : ℕ) (counted : ℕ → Bool) (f : ToolFloor) (m : ℕ) (c : Command) (fetched : Bool) → Sound f
+        → Executes number counted f → module_at m f.modules ≡ Some (Busy c fetched)
+        → ((sub recipe : List ℕ) → c.task ≡ task.Process sub recipe → ⊥)
+        → TakesOneOff number counted f (floor_fired (firing 16 m (done_row c.task)) f) }
+    ensures closed { (number : ℕ) (counted : ℕ → Bool) (f : ToolFloor) (m : ℕ) (c : Command) (fetched : Bool) → Sound f
+        → Executes number counted f → module_at m f.modules ≡ Some (Busy c fetched)
+        → Executes number counted (floor_fired (firing 16 m 7) f) }
+    ensures closed_as_much { (number : ℕ) (counted : ℕ → Bool) (f : ToolFloor) (m : ℕ) (c : Command) (fetched : Bool) → Sound f
+        → Executes number counted f → module_at m f.modules ≡ Some (Busy c fetched)
+        → owed_to counted (picture (floor_fired (firing 16 m 7) f)) ≡ owed_to counted (picture f) }
+    ensures processed { (number : ℕ) (counted : ℕ → Bool) (f : ToolFloor) (n row d : ℕ) → SoundBut n f → Executes number counted f
+        → is_one_of (3 ∷ 4 ∷ []) row ≡ true → floor_starts (firing 13 n row) f ≡ true → (picture f).place_of n ≡ Some (chamber d)
+        → (picture f).jobs.is_member n ≡ true → TakesOneOff number counted f (floor_fired (firing 13 n row) f) }
 {}

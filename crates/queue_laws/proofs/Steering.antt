@@ -278,11 +278,19 @@ module _ (number : ℕ) (w : Jobs) (t : AreTogether w) (s : AreStarted w) (v : S
         let all = of_left left in
         one_of_cases (λ (r : ℕ). (is_one_of (8 ∷ 11 ∷ 12 ∷ 15 ∷ []) r && is_left_in number j.id w) ≡ false → P r) (1 ∷ 2 ∷ 4 ∷ 6 ∷ 7 ∷ 8 ∷ 11 ∷ 12 ∷ 15 ∷ []) row (
           (λ c. all.0),
-          ((λ c. all.1.0),
-          ((λ c. all.1.1.0),
-          ((λ c. all.1.1.1.0),
-          ((λ c. all.1.1.1.1.0),
-          ((λ c. absurd (true≢false (sym left ∙ c))), ((λ c. absurd (true≢false (sym left ∙ c))), ((λ c. absurd (true≢false (sym left ∙ c))), ((λ c. absurd (true≢false (sym left ∙ c))), tt)))))))),
+          (
+            (λ c. all.1.0),
+            (
+              (λ c. all.1.1.0),
+              (
+                (λ c. all.1.1.1.0),
+                (
+                  (λ c. all.1.1.1.1.0),
+                  ((λ c. absurd (true≢false (sym left ∙ c))), ((λ c. absurd (true≢false (sym left ∙ c))), ((λ c. absurd (true≢false (sym left ∙ c))), ((λ c. absurd (true≢false (sym left ∙ c))), tt)))),
+                ),
+              ),
+            ),
+          ),
         )
         (starts_going (λ x. process_wants x j sight w) row j.states.state (refuses j sight (v.auto n j e left) left) (v.going n j e left) starts)
         calm
@@ -297,10 +305,16 @@ module _ (number : ℕ) (w : Jobs) (t : AreTogether w) (s : AreStarted w) (v : S
       process-goes (λ (r : ℕ). Steers number (process_fired r n w)) row n sight j e starts calm
       (λ left. (
         fired-steers 1 n j e (λ l. refl) (λ q. left),
-        (fired-steers 2 n j e (λ l. refl) (λ q. left),
-        (fired-steers 4 n j e (λ l. refl) (λ q. left),
-        (fired-steers 6 n j e (λ l. refl) (λ q. left),
-        (fired-steers 7 n j e (λ l. refl) (λ q. left), tt)))),
+        (
+          fired-steers 2 n j e (λ l. refl) (λ q. left),
+          (
+            fired-steers 4 n j e (λ l. refl) (λ q. left),
+            (
+              fired-steers 6 n j e (λ l. refl) (λ q. left),
+              (fired-steers 7 n j e (λ l. refl) (λ q. left), tt),
+            ),
+          ),
+        ),
       ))
       (λ out queued. (fired-steers 1 n j e (λ l. refl) (λ q. absurd (true≢false (sym queued ∙ q))), (subst (Steers number) (fired_ends n 15 w refl) (ended-steers n), tt)))
 
@@ -384,9 +398,13 @@ module _ (number : ℕ) (w : Jobs) (t : AreTogether w) (s : AreStarted w) (v : S
         let three : (states_number d.states == 3) ≡ true = ap (λ (x : ControlJob). states_number x.states == 3) that ∙ found.three in
         one_of_cases (λ (r : ℕ). ((m == number) && is_one_of (6 ∷ 11 ∷ 12 ∷ []) r) ≡ false → ((m == number) && (r == 8)) ≡ false → P (control_fired r m w)) (1 ∷ 6 ∷ 8 ∷ 11 ∷ 12 ∷ []) row (
           (λ c o. subst P (sym (created_same m)) was),
-          ((λ c o. absurd (true≢false (sym (both (m == number) true q refl) ∙ c))),
-          ((λ c o. absurd (true≢false (sym (both (m == number) true q refl) ∙ o))),
-          ((λ c o. absurd (true≢false (sym (both (m == number) true q refl) ∙ c))), ((λ c o. absurd (true≢false (sym (both (m == number) true q refl) ∙ c))), tt)))),
+          (
+            (λ c o. absurd (true≢false (sym (both (m == number) true q refl) ∙ c))),
+            (
+              (λ c o. absurd (true≢false (sym (both (m == number) true q refl) ∙ o))),
+              ((λ c o. absurd (true≢false (sym (both (m == number) true q refl) ∙ c))), ((λ c o. absurd (true≢false (sym (both (m == number) true q refl) ∙ c))), tt)),
+            ),
+          ),
         )
         (starts_executing (λ x. control_wants x d here w.control) row d.states three starts)
         calm

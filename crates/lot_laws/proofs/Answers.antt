@@ -48,7 +48,7 @@ use Rattle.owed_laws.proofs.Columns.{OneLess}
 use Rattle.owed_laws.proofs.Agreeing.{agree-undisturbed, agree-owed}
 use Rattle.owed_laws.proofs.Decreasing.{done_pick-falls, done_place-falls, done_align-falls, processed_row-falls}
 use Rattle.lot_laws.specs.Lot.{IsInJob, Waits, Executes}
-use Rattle.lot_laws.proofs.Standing.{undisturbed}
+use Rattle.lot_laws.proofs.Standing.{on_base, undisturbed}
 use Rattle.lot_laws.proofs.Substrates.{found_back}
 use Rattle.lot_laws.proofs.Done.{state_behind, worked-executes, worked_owed}
 
@@ -75,7 +75,7 @@ module _ (number : ℕ) (counted : ℕ → Bool) (f : ToolFloor) (sound : Sound 
   Falls g = Executes number counted g × (owed_to counted (picture g) + 1 ≡ owed_to counted (picture f))
 
   u : Undisturbed counted (picture f)
-  u = undisturbed number counted f sound.base e
+  u = undisturbed number counted f (on_base f sound.base) e
 
   is_busy : (picture f).equipment m ≡ busy (command_of c f.places)
   is_busy = busy_at f m c fetched here
@@ -250,7 +250,7 @@ module _ (number : ℕ) (counted : ℕ → Bool) (f : ToolFloor) (e : Executes n
       (3 ∷ 4 ∷ []) row ((λ s. row_3 (substrate_numbered n f.substrates) refl s), ((λ s. row_4 (substrate_numbered n f.substrates) refl s), tt)) one starts
     where
       u : Undisturbed counted (picture f)
-      u = undisturbed number counted f but.base e
+      u = undisturbed number counted f (on_base f but.base) e
 
       running : (s : Substrate) → substrate_numbered n f.substrates ≡ Some s → s.states.processing ≡ processing.InProcess → law.is_finished ((picture f).processing n) ≡ false
       running s found is = ap (λ (o : Option Substrate). law.is_finished (of_one 0 (λ (x : Substrate). processing_number x.states.processing) o)) found ∙ ap (λ (p : Processing). law.is_finished (processing_number p)) is

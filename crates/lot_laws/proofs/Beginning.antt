@@ -32,7 +32,7 @@ use Rattle.queue_laws.specs.Steers.{AreAutomatic}
 use Rattle.queue_laws.proofs.Steering.{started_queued, begin-steers, started_left, left_started}
 use Rattle.lot_laws.specs.Lot.{is_in_named_slot, wants_slot, is_wanted, counted_of, IsMaterialHere, AreInKeptJobs, Waits, Executes}
 use Rattle.lot_laws.proofs.Naming.{any_numbered, slot_names_carrier, slot_in_use}
-use Rattle.lot_laws.proofs.Standing.{not_so, Joins, joins_tell, member_begun, carried, named_by}
+use Rattle.lot_laws.proofs.Standing.{on_base, not_so, Joins, joins_tell, member_begun, carried, named_by}
 
 -- ---- states
 
@@ -58,7 +58,7 @@ module _ (number row : ℕ) (f : ToolFloor) (h : Sound f) (t : AreTogether f.job
     queued n j e = started_queued number f.jobs t s row (is_first_here number f) c at starts its_row n j e
 
     in_none : (n : ℕ) (x : Substrate) (j : ProcessJob) → substrate_numbered n f.substrates ≡ Some x → job_of x f.jobs ≡ Some j → ⊥
-    in_none n x j found its = true≢false (sym (queued x.job j its) ∙ member_begun f h.base n x j found its)
+    in_none n x j found its = true≢false (sym (queued x.job j its) ∙ member_begun f (on_base f h.base) n x j found its)
 
     -- ---- who is counted
 
@@ -91,11 +91,11 @@ module _ (number row : ℕ) (f : ToolFloor) (h : Sound f) (t : AreTogether f.job
       needs = λ n _ is. let w = wanted n is in ap (of_one 0 (λ (x : Substrate). processing_number x.states.processing)) w.found ∙ needing_number w.one.states.processing w.needs;
       named = λ n _ is.
           let w = wanted n is in
-          let d = carried f h.base n w.one w.found in
-          named_by f h.base n w.job.number w.one w.job d.0 w.found w.its d.1 (slot_names_carrier w.job f.shop w.one d.0 h.base.shop d.1 w.named);
+          let d = carried f (on_base f h.base) n w.one w.found in
+          named_by f (on_base f h.base) n w.job.number w.one w.job d.0 w.found w.its d.1 (slot_names_carrier w.job f.shop w.one d.0 h.base.shop d.1 w.named);
       here = λ n _ is.
           let w = wanted n is in
-          let d = carried f h.base n w.one w.found in
+          let d = carried f (on_base f h.base) n w.one w.found in
           let which : (picture f).carrier_of n ≡ w.one.carrier = ap (of_one 0 (λ (x : Substrate). x.carrier)) w.found in
           let access : (picture f).access ((picture f).carrier_of n) ≡ access_number d.0.states.access = ap (picture f).access which ∙ ap (of_one 0 (λ (x : Carrier). access_number x.states.access)) d.1 in
           subst (λ (a : ℕ). a ≤ 1) (sym access) (slot_in_use w.job f.shop w.one d.0 h.base.shop d.1 w.named (here w.job.number w.job w.its w.left));

@@ -53,7 +53,7 @@ use Rattle.queue_laws.proofs.Owners.{owner_is, none_owned}
 use Rattle.queue_laws.proofs.Steering.{Found, found_executing, left_owned, owned_left, control-steers, control_left, completes, left_kept}
 use Rattle.lot_laws.specs.Lot.{IsInJob, Waits, Executes}
 use Rattle.lot_laws.proofs.Naming.{any_numbered}
-use Rattle.lot_laws.proofs.Standing.{member_left}
+use Rattle.lot_laws.proofs.Standing.{on_base, member_left}
 
 -- ---- at rest
 
@@ -192,7 +192,7 @@ module _ (number : ℕ) (counted : ℕ → Bool) (f : ToolFloor) (h : Sound f) (
 
     by : (n : ℕ) (x : Substrate) → substrate_numbered n f.substrates ≡ Some x → (is_done n (picture f) ≡ true) ⊎ (IsInJob x f ⊎ Waits number x f) → is_done n (picture f) ≡ true
     by n x found (inl done) = done
-    by n x found (inr (inl its)) = absurd (never its.0.id (member_left number counted f h.base e n x its.0 found its.1))
+    by n x found (inr (inl its)) = absurd (never its.0.id (member_left number counted f (on_base f h.base) e n x its.0 found its.1))
     by n x found (inr (inr w)) = absurd (never w.job.id w.left)
 
   -- so nothing is owed where its completion is ready

@@ -29,7 +29,7 @@ use Rattle.owed_laws.specs.Owed.{owed_to}
 use Rattle.owed_laws.proofs.Columns.{issued-stays}
 use Rattle.owed_laws.proofs.Agreeing.{agree-undisturbed, agree-owed}
 use Rattle.lot_laws.specs.Lot.{IsInJob, Waits, Executes}
-use Rattle.lot_laws.proofs.Standing.{undisturbed}
+use Rattle.lot_laws.proofs.Standing.{on_base, undisturbed}
 
 where_so : {A : Type 0} (b : Bool) (o : Option A) (x : A) → (if b then o else None) ≡ Some x → o ≡ Some x
 where_so true o x e = e
@@ -108,7 +108,7 @@ module _ (number : ℕ) (counted : ℕ → Bool) (f : ToolFloor) (h : Sound f) (
   given-executes m None q = (e, refl)
   given-executes m (Some move) q =
       let agrees = issuing_agrees m move f (is_idle_module (module_at m f.modules) (move_is m (views f) f.modules move q).idle) in
-      let stays = issued-stays counted (picture f) (undisturbed number counted f h.base e) m (task_of move.task f.places) (planned_fits f h.base m move q) in
+      let stays = issued-stays counted (picture f) (undisturbed number counted f (on_base f h.base) e) m (task_of move.task f.places) (planned_fits f h.base m move q) in
       let valid = issued-keeps (picture f) m (task_of move.task f.places) (planned_may f h.base h.valid m move q) h.valid in (
         record {
           steers = e.steers;

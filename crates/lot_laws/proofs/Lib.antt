@@ -11,3 +11,4 @@ pub mod Answers
 pub mod Working
 pub mod Shops
 pub mod Least
+pub mod Registering

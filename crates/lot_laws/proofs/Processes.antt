@@ -39,7 +39,7 @@ use Rattle.queue_laws.proofs.Lists.{gone_back, names_differ}
 use Rattle.queue_laws.proofs.Rows.{stays_queued}
 use Rattle.queue_laws.proofs.Steering.{process-goes, process-steers, ended-steers, ended_left, left_ended}
 use Rattle.lot_laws.specs.Lot.{IsInJob, Waits, Executes}
-use Rattle.lot_laws.proofs.Standing.{joins_tell, member_begun}
+use Rattle.lot_laws.proofs.Standing.{on_base, joins_tell, member_begun}
 use Rattle.lot_laws.proofs.Going.{behind, behind_owed, Stands, GoesOn, executes_on}
 
 -- ---- numbers
@@ -270,7 +270,7 @@ module _ (number : ℕ) (counted : ℕ → Bool) (f : ToolFloor) (h : Sound f) (
     -- one that is QUEUED has none
     queued_done : is_queued j.states.state ≡ true → (k : ℕ) (x : Substrate) → substrate_numbered k f.substrates ≡ Some x → x.job ≡ n → is_done k (picture f) ≡ true
     queued_done is k x found its =
-        absurd (true≢false (sym is ∙ member_begun f h.base k x j found (subst (λ (m : ℕ). job_numbered m f.jobs.process.kept ≡ Some j) (sym its) known)))
+        absurd (true≢false (sym is ∙ member_begun f (on_base f h.base) k x j found (subst (λ (m : ℕ). job_numbered m f.jobs.process.kept ≡ Some j) (sym its) known)))
 
     complete_not_queued : is_complete j.states.state ≡ true → is_queued j.states.state ≡ true → ⊥
     complete_not_queued is queued = of j.states.state is queued where

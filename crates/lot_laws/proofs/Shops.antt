@@ -48,7 +48,7 @@ use Rattle.floor_laws.proofs.ShopTables.{is_shop_row}
 use Rattle.owed_laws.specs.Owed.{owed_to}
 use Rattle.lot_laws.specs.Lot.{IsInJob, Waits, Executes}
 use Rattle.lot_laws.proofs.Naming.{use_number, name_there}
-use Rattle.lot_laws.proofs.Standing.{carried, jobs_stand}
+use Rattle.lot_laws.proofs.Standing.{on_base, carried, jobs_stand}
 
 -- ---- lists
 
@@ -64,7 +64,7 @@ same_test false true f g = g refl
 same_test false false f g = refl
 
 -- the one of a number is the one of its name
-named_of : (cs : List Carrier) (d : Carrier) (k : ℕ) → AllByRecursion (IsOnly d) cs → carrier_numbered k cs ≡ Some d → carrier_named d.name cs ≡ Some d
+pub named_of : (cs : List Carrier) (d : Carrier) (k : ℕ) → AllByRecursion (IsOnly d) cs → carrier_numbered k cs ≡ Some d → carrier_named d.name cs ≡ Some d
 named_of [] d k only e = none_some d e
 named_of (x ∷ xs) d k only e = of (has_name d.name x) refl (x.number == k) e (named_of xs d k only.1) where
   of : (a : Bool) → has_name d.name x ≡ a → (b : Bool) → (if b then Some x else carrier_numbered k xs) ≡ Some d → (carrier_numbered k xs ≡ Some d → carrier_named d.name xs ≡ Some d) → (if a then Some x else carrier_named d.name xs) ≡ Some d
@@ -97,7 +97,7 @@ module _ (number : ℕ) (counted : ℕ → Bool) (f : ToolFloor) (h : Sound f) (
 
   carrier_same : (n : ℕ) (x : Substrate) → substrate_numbered n f.substrates ≡ Some x → (name : List ℕ) → list_any (is_carrier_of name x.carrier) s.carriers ≡ list_any (is_carrier_of name x.carrier) f.shop.carriers
   carrier_same n x found name =
-      let c = carried f h.base n x found in
+      let c = carried f (on_base f h.base) n x found in
       let d = stay x.carrier c.0 c.1 c.2.present c.2.verified in
       same_test _ _
       (λ q. let its = name_there name x.carrier 1 s.next_carrier s.carriers d.0 valid.rising q d.1 in there f.shop.carriers c.0 c.1 (sym d.2.name ∙ its))
@@ -157,7 +157,7 @@ module _ (number : ℕ) (counted : ℕ → Bool) (f : ToolFloor) (h : Sound f) (
     stands = λ n x found is. by n x found (e.stands n x found is);
     all = λ n k x j found kept left can. e.all n k x j found kept left (sym (join_same n x found j) ∙ can);
     substrates = record {
-      here = λ n kept is left. in_access n kept ((jobs_stand number counted f h.base e).named n kept is left) (e.substrates.here n kept is left);
+      here = λ n kept is left. in_access n kept ((jobs_stand number counted f (on_base f h.base) e).named n kept is left) (e.substrates.here n kept is left);
       finished = e.substrates.finished;
       in_chamber = e.substrates.in_chamber;
       in_slot = e.substrates.in_slot;

@@ -1,8 +1,10 @@
 -- While a control job executes, what its process jobs say of substrates stands as it does undisturbed.
 use Rattle.std.proofs.Common.{◌≡◌, ℕ, ◌==◌, Bool, true, false, not, ◌&&◌, Some, refl, sym, ◌∙◌, ap, ◌⊎◌, inl, inr}
+use Rattle.std.specs.List.{AllByRecursion}
 use Rattle.std.proofs.lemmas.Bool.{true≢false, and_parts}
 use Rattle.carrier.specs.declared.carrier.Carrier.{Carrier}
 use Rattle.carrier.specs.Carriers.{carrier_numbered}
+use Rattle.shop_floor.specs.Valid.{IsFloor}
 use Rattle.substrate.specs.Record.{is_at_source, is_needing}
 use Rattle.process_job.specs.Jobs.{job_numbered}
 use Rattle.process_job.specs.declared.record.JobState.{JobState}
@@ -81,12 +83,21 @@ joins_tell j f s e =
     let last = and_parts (s.job == 0) (is_in_named_slot j f.shop s) outer.1 in
     record { source = first.0; needs = first.1; free = last.0; named = last.1 }
 
+-- what holds of the carriers, and of the substrates with their carriers and jobs
+pub record IsCarriedOn (f : ToolFloor) : Type 0 where
+  pub shop : IsFloor f.shop
+  pub carried : AllByRecursion (IsCarried f.shop.carriers) f.substrates
+  pub members : AllByRecursion (IsInItsJob f.shop.carriers f.jobs) f.substrates
+
+pub on_base : (f : ToolFloor) → Base f → IsCarriedOn f
+on_base f b = record { shop = b.shop; carried = b.carried; members = b.jobs.members }
+
 -- ---- members
 
-module _ (f : ToolFloor) (h : Base f) where
+module _ (f : ToolFloor) (h : IsCarriedOn f) where
   -- the job of one that is in one
   pub member_job : (n : ℕ) (s : Substrate) (j : ProcessJob) → substrate_numbered n f.substrates ≡ Some s → job_of s f.jobs ≡ Some j → IsOfJob f.shop.carriers s j
-  member_job n s j found its = true_of_found number_of n (IsInItsJob f.shop.carriers f.jobs) f.substrates s h.jobs.members found j its
+  member_job n s j found its = true_of_found number_of n (IsInItsJob f.shop.carriers f.jobs) f.substrates s h.members found j its
 
   -- it isn't QUEUED
   pub member_begun : (n : ℕ) (s : Substrate) (j : ProcessJob) → substrate_numbered n f.substrates ≡ Some s → job_of s f.jobs ≡ Some j → is_queued j.states.state ≡ false
@@ -107,7 +118,7 @@ module _ (f : ToolFloor) (h : Base f) where
 
 -- ---- while it executes
 
-module _ (number : ℕ) (counted : ℕ → Bool) (f : ToolFloor) (h : Base f) (e : Executes number counted f) where
+module _ (number : ℕ) (counted : ℕ → Bool) (f : ToolFloor) (h : IsCarriedOn f) (e : Executes number counted f) where
   -- the job of one that is in one is left in the control job
   pub member_left : (n : ℕ) (s : Substrate) (j : ProcessJob) → substrate_numbered n f.substrates ≡ Some s → job_of s f.jobs ≡ Some j → is_left_in number j.id f.jobs ≡ true
   member_left n s j found its = e.steers.started s.job j its (member_begun f h n s j found its)

@@ -30,7 +30,7 @@ use Rattle.owed_laws.specs.Owed.{owed_to}
 use Rattle.owed_laws.proofs.Agreeing.{agree-undisturbed, agree-owed}
 use Rattle.queue_laws.specs.Started.{is_left_in}
 use Rattle.lot_laws.specs.Lot.{is_in_named_slot, IsInJob, Waits, Executes}
-use Rattle.lot_laws.proofs.Standing.{Joins, joins_tell, undisturbed}
+use Rattle.lot_laws.proofs.Standing.{on_base, Joins, joins_tell, undisturbed}
 
 -- a number is 1
 abbrev IsOne : ℕ → Type 0
@@ -137,7 +137,7 @@ module _ (number : ℕ) (counted : ℕ → Bool) (f : ToolFloor) (h : Sound f) (
         members = λ k is. e.members k (sym (moved_agrees.jobs.is_member k) ∙ is);
         stands = λ k y found is. let b = found_back n (substrate_moves 12 row) (λ s. refl) k f.substrates y found in stands k y b.0 b.1 b.2 (e.stands k b.0 b.1 is);
         all = λ k i y j found q left can. let b = found_back n (substrate_moves 12 row) (λ s. refl) k f.substrates y found in takes k i y j b.0 b.1 b.2 q left can;
-        substrates = (agree-undisturbed (picture f) (picture (with_moved 12 row n f)) moved_agrees counted h.valid (undisturbed number counted f h.base e)).substrates;
+        substrates = (agree-undisturbed (picture f) (picture (with_moved 12 row n f)) moved_agrees counted h.valid (undisturbed number counted f (on_base f h.base) e)).substrates;
       },
       agree-owed (picture f) (picture (with_moved 12 row n f)) moved_agrees counted,
     ) where

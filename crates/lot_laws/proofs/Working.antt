@@ -28,7 +28,7 @@ use Rattle.owed_laws.specs.Owed.{owed_to}
 use Rattle.owed_laws.specs.Undisturbed.{Undisturbed}
 use Rattle.owed_laws.proofs.Columns.{worked-stays}
 use Rattle.lot_laws.specs.Lot.{Executes}
-use Rattle.lot_laws.proofs.Standing.{undisturbed}
+use Rattle.lot_laws.proofs.Standing.{on_base, undisturbed}
 use Rattle.lot_laws.proofs.Done.{state_behind, worked-executes, worked_owed}
 
 needs_it : (p : Processing) → is_among processing_number (processing.NeedsProcessing ∷ []) p ≡ true → p ≡ processing.NeedsProcessing
@@ -46,7 +46,7 @@ module _ (number : ℕ) (counted : ℕ → Bool) (f : ToolFloor) (sound : Sound 
   Keeps g = Executes number counted g × (owed_to counted (picture g) ≡ owed_to counted (picture f))
 
   u : Undisturbed counted (picture f)
-  u = undisturbed number counted f sound.base e
+  u = undisturbed number counted f (on_base f sound.base) e
 
   module _ (s : Substrate) (known : substrate_numbered n f.substrates ≡ Some s) where
     -- what its job says by numbers

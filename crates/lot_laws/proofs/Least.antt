@@ -1,6 +1,7 @@
 -- The least row that is ready by itself leaves the control job as it is and as much owed, or it is its completion, where none is owed.
 use Rattle.std.proofs.Common.{◌≡◌, ℕ, ◌==◌, Bool, true, false, cond, not, ◌||◌, [], ◌∷◌, Option, Some, None, refl, sym, ◌∙◌, ap, subst, ◌⊎◌, inl, inr}
-use Rattle.std.proofs.lemmas.Bool.{true≢false}
+use Rattle.std.proofs.lemmas.Bool.{true≢false, and_parts}
+use Rattle.std.proofs.lemmas.Bool.Decides.{Decides-eqb}
 use Rattle.gem_tables.specs.Table.{firing, is_one_of}
 use Rattle.gem_tables.specs.declared.firing.Firing.{Firing}
 use Rattle.gem_tables.proofs.Rows.{ready_row, one_of_cases}
@@ -29,7 +30,7 @@ use Rattle.tool_floor.specs.Views.{planned}
 use Rattle.tool_floor.specs.Modules.{move_wants, move_ready}
 use Rattle.tool_floor.specs.Substrates.{is_outside, reaches_verified}
 use Rattle.tool_floor.specs.Wants.{accessing_wants, substrate_wants}
-use Rattle.tool_floor.specs.Machines.{accessing_ready, substrate_ready, floor_machines, floor_fired, floor_least}
+use Rattle.tool_floor.specs.Machines.{accessing_ready, substrate_ready, floor_machines, floor_starts, floor_fired, floor_least}
 use Rattle.tool_floor.proofs.Keeping.{least_starts}
 use Rattle.place_laws.specs.Picture.{picture}
 use Rattle.place_laws.specs.Sound.{Sound}
@@ -46,6 +47,7 @@ use Rattle.lot_laws.proofs.Issuing.{issue-executes}
 use Rattle.lot_laws.proofs.Substrates.{transport-executes}
 use Rattle.lot_laws.proofs.Working.{processing-executes}
 use Rattle.lot_laws.proofs.Shops.{shop_row-executes}
+use Rattle.lot_laws.proofs.Registering.{registration-executes}
 
 not_itself : {P : Type 0} → false ≡ true → P
 not_itself e = absurd (cc)
@@ -141,9 +143,17 @@ module _ (number : ℕ) (counted : ℕ → Bool) (f : ToolFloor) (h : Sound f) (
         ),
       ) q
 
-  pub least-goes : (x : Firing) → floor_least f ≡ Some x → is_registration x ≡ false → Goes x
-  least-goes x q none = of (kind x q) where
+  -- a row that registers substrates
+  registers : (x : Firing) → floor_starts x f ≡ true → is_registration x ≡ true → Executes number counted (floor_fired x f) × (owed_to counted (picture (floor_fired x f)) ≡ owed_to counted (picture f))
+  registers x starts is =
+      let parts = and_parts (x.row.table == 9) (reaches_verified x.row.row) is in
+      let same : x ≡ firing 9 x.object x.row.row = ap (λ (n : ℕ). firing n x.object x.row.row) ((Decides-eqb x.row.table 9).0 parts.0) in
+      subst (λ (y : Firing). Executes number counted (floor_fired y f) × (owed_to counted (picture (floor_fired y f)) ≡ owed_to counted (picture f))) (sym same)
+      (registration-executes number counted f h e x.object x.row.row parts.1 (subst (λ (y : Firing). floor_starts y f ≡ true) same starts))
+
+  pub least-goes : (x : Firing) → floor_least f ≡ Some x → Goes x
+  least-goes x q = of (kind x q) where
     of : Kind x → Goes x
     of (inl shop) = inl (shop_row-executes number counted f h e x (least_starts f x q) shop)
-    of (inr (inl registers)) = absurd (true≢false (sym registers ∙ none))
+    of (inr (inl is)) = inl (registers x (least_starts f x q) is)
     of (inr (inr goes)) = goes

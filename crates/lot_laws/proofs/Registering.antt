@@ -225,3 +225,135 @@ module _ (number : ℕ) (counted : ℕ → Bool) (s : Floor) (valid : IsFloor s)
       let rest = slots-execute count (k + 1) codes (registers_slot c port k code f) (omega (arith, first)) (omega (arith, last)) then_fill one.0
           (λ i j kept left names. unnamed i j (sym (ap (λ w. job_numbered i w.process.kept) (jobs_same k code f)) ∙ kept) (sym (ap (λ w. is_left_in number j.id w) (jobs_same k code f)) ∙ left) names) in
       (rest.0, rest.1 ∙ one.1)
+
+-- ---- the carrier
+
+-- a carrier whose map becomes VERIFIED: it wasn't, and it is present
+record Becomes (row : ℕ) (c : Carrier) : Type 0 where
+  not_yet : is_map_verified c.states.map ≡ false
+  then_is : is_map_verified (after map_number map_table row c.states.map) ≡ true
+  here : c.present ≡ true
+
+-- rows 1 and 2 start where the map is NOT READ
+not_read : (m : MapState) → is_among map_number (slots.NotRead ∷ []) m ≡ true → m ≡ slots.NotRead
+not_read slots.NotRead e = refl
+not_read slots.WaitingForHost e = absurd (cc)
+not_read slots.Verified e = absurd (cc)
+not_read slots.VerificationFailed e = absurd (cc)
+
+-- rows 3 and 4 start where it waits
+waits : (m : MapState) → is_among map_number (slots.WaitingForHost ∷ []) m ≡ true → m ≡ slots.WaitingForHost
+waits slots.NotRead e = absurd (cc)
+waits slots.WaitingForHost e = refl
+waits slots.Verified e = absurd (cc)
+waits slots.VerificationFailed e = absurd (cc)
+
+-- so the carrier was read
+read_now : (i : IdState) (m : MapState) → m ≡ slots.WaitingForHost → not (is_id_not_read i && is_map_not_read m) ≡ true
+read_now i m is = ap (λ (x : MapState). not (is_id_not_read i && is_map_not_read x)) is ∙ of (is_id_not_read i) where
+  of : (b : Bool) → not (b && false) ≡ true
+  of true = refl
+  of false = refl
+
+-- rows 1 and 3 are such
+becomes : (row : ℕ) (c : Carrier) → ReadWherePresent c → reaches_verified row ≡ true → carrier_starts map_number map_table (λ s. s.map) (λ to s. record s { map = to }) row (Some c) ≡ true → Becomes row c
+becomes row c reads reaches starts =
+    starts_at_carrier map_number map_table (λ s. s.map) (λ to s. record s { map = to }) (λ (r : ℕ). reaches_verified r ≡ true → Becomes r c) c row (
+      (λ among wants reaches. let is = not_read c.states.map among in record { not_yet = ap is_map_verified is; then_is = ap (λ (m : MapState). is_map_verified (after map_number map_table 1 m)) is; here = (and_parts c.present _ (and_parts (is_verified c) (is_usable c.map && is_host_map c.map c.host_map) wants).0).0 }),
+      (
+        (λ among wants reaches. absurd (true≢false (sym reaches))),
+        (
+          (λ among wants reaches. let is = waits c.states.map among in record { not_yet = ap is_map_verified is; then_is = ap (λ (m : MapState). is_map_verified (after map_number map_table 3 m)) is; here = reads (read_now c.states.id c.states.map is) }),
+          ((λ among wants reaches. absurd (true≢false (sym reaches))), tt),
+        ),
+      ),
+    )
+    starts reaches
+
+-- ---- the row
+
+module _ (number : ℕ) (counted : ℕ → Bool) (f : ToolFloor) (sound : Sound f) (e : Executes number counted f) (n row : ℕ) (reaches : reaches_verified row ≡ true) (starts : shop.floor_starts (firing 9 n row) f.shop ≡ true) where
+  b : Base f
+  b = sound.base
+
+  abbrev change : Carrier → Carrier
+  change c = carriers.fires_row 9 row c
+
+  abbrev verified_shop : Floor
+  verified_shop = shop.floor_fired (firing 9 n row) f.shop
+
+  valid : IsFloor verified_shop
+  valid = shop_keeps (firing 9 n row) f.shop starts b.shop
+
+  goes : (c : Carrier) → c.present ≡ true → is_map_verified c.states.map ≡ true → GoesOn c (change c)
+  goes c present verified = record { present = present; verified = still_verified row c.states.map verified; name = refl; port = refl }
+
+  stay : Stay f.shop.carriers verified_shop.carriers
+  stay = stay_numbered n change (λ c. refl) goes f.shop.carriers
+
+  -- first the map is VERIFIED
+  first_executes : Executes number counted (with_shop verified_shop f)
+  first_executes = shop-executes number counted f sound e verified_shop stay valid (same_use f verified_shop (map_access f.shop n row))
+
+  abbrev Goal : ToolFloor → Type 0
+  Goal g = Executes number counted g × (owed_to counted (picture g) ≡ owed_to counted (picture f))
+
+  module _ (c : Carrier) (found : carrier_numbered n f.shop.carriers ≡ Some c) (is : Becomes row c) (port : PortNo) (at : c.port ≡ Some port) where
+    its_number : c.number ≡ n
+    its_number = found_number (λ (x : Carrier). x.number) n f.shop.carriers c found
+
+    -- none of its substrates is there yet
+    below_one : (t : Substrate) → IsCarried f.shop.carriers t → t.carrier ≡ c.number → (slot : SlotNo) → t.slot ≡ Slot port slot → slot.0 < 1
+    below_one t its same slot there =
+        let equal : its.0 ≡ c = some_same its.0 c (sym its.1 ∙ ap (λ (k : ℕ). carrier_numbered k f.shop.carriers) (same ∙ its_number) ∙ found) in
+        absurd (true≢false (sym its.2.verified ∙ ap (λ (x : Carrier). is_map_verified x.states.map) equal ∙ is.not_yet))
+
+    changed_there : carrier_numbered c.number verified_shop.carriers ≡ Some (change c)
+    changed_there = subst (λ (k : ℕ). carrier_numbered k verified_shop.carriers ≡ Some (change c)) (sym its_number) (found_changed n change f.shop.carriers c (λ d. refl) found)
+
+    by_numbers : Valid (picture (with_shop verified_shop f))
+    by_numbers = agree-keeps (verified n (picture f)) (picture (with_shop verified_shop f)) (verifying_agrees f n row c found is.then_is) (verified-keeps (picture f) n sound.valid)
+
+    filling : Filling verified_shop valid c (change c) port changed_there is.here is.then_is at refl 1 f
+    filling = record {
+      carried = stay-carried f.shop.carriers verified_shop.carriers stay f.substrates b.carried;
+      apart = b.apart;
+      rising = b.rising;
+      below = all_follows (IsCarried f.shop.carriers) (λ (t : Substrate). t.carrier ≡ c.number → (slot : SlotNo) → t.slot ≡ Slot port slot → slot.0 < 1) f.substrates below_one b.carried;
+      same_ports = b.same_ports;
+      modules = b.modules;
+      places = b.places;
+      held = b.held;
+      numbered = b.jobs.numbered;
+      given = b.jobs.given;
+      members = jobs_stay f.shop.carriers verified_shop.carriers f.jobs f.substrates stay b.carried b.jobs.members;
+      by_numbers = by_numbers;
+    }
+
+    -- no process job that is left names it, since its material is here
+    unnamed : (k : ℕ) (j : ProcessJob) → job_numbered k f.jobs.process.kept ≡ Some j → is_left_in number j.id f.jobs ≡ true → names_carrier c.name j ≡ true → ⊥
+    unnamed k j kept left names =
+        let w = both_pass (is_of_carrier c.name) (is_material_here f.shop) j.material names (e.here k j kept left) in
+        let same : w.one.carrier ≡ c.name = (bytes_eq-Decides w.one.carrier c.name).0 w.first in
+        let there : carrier_named c.name f.shop.carriers ≡ Some c = named_of f.shop.carriers c n (found_only (λ (x : Carrier). x.number == n) f.shop.carriers c b.shop.apart found) found in
+        let here : is_carrier_here (Some c) ≡ true = sym (ap is_carrier_here (ap (λ (i : List ℕ). carrier_named i f.shop.carriers) same ∙ there)) ∙ w.second in
+        let read : is_map_verified c.states.map ≡ true = (and_parts (is_map_verified c.states.map) (is_in_use c.states.access) (and_parts c.present (is_map_verified c.states.map && is_in_use c.states.access) here).1).0 in
+        true≢false (sym read ∙ is.not_yet)
+
+    filled : Goal (with_shop verified_shop (registers_slots c port 1 25 c.map f))
+    filled = slots-execute number counted verified_shop valid c (change c) port changed_there is.here is.then_is at refl 25 1 c.map f (omega arith) (omega arith) filling first_executes unnamed
+
+  at_port : (c : Carrier) → carrier_numbered n f.shop.carriers ≡ Some c → Becomes row c → (o : Option PortNo) → c.port ≡ o → Goal (with_shop verified_shop (registers_at_port o c f))
+  at_port c found is None at = absurd (subst (λ (o : Option PortNo). IsSomeAnd o (λ (m : PortNo). (1 ≤ m.0) × (m.0 ≤ length f.shop.ports))) at (has_number f.shop c (numbered_contained n f.shop.carriers c found) is.here b.shop))
+  at_port c found is (Some port) at = filled c found is port at
+
+  at_carrier : (o : Option Carrier) → carrier_numbered n f.shop.carriers ≡ o → Goal (with_shop verified_shop (registers_found o f))
+  at_carrier None found = absurd (let none : false ≡ true = sym (ap (carrier_starts map_number map_table (λ s. s.map) (λ to s. record s { map = to }) row) found) ∙ starts in cc)
+  at_carrier (Some c) found =
+      at_port c found
+      (becomes row c (true_of_found (λ (x : Carrier). x.number) n ReadWherePresent f.shop.carriers c b.shop.read found) reaches (sym (ap (carrier_starts map_number map_table (λ s. s.map) (λ to s. record s { map = to }) row) found) ∙ starts))
+      c.port refl
+
+  -- rows 1 and 3 of table 9
+  pub registration-executes : Executes number counted (floor_fired (firing 9 n row) f) × (owed_to counted (picture (floor_fired (firing 9 n row) f)) ≡ owed_to counted (picture f))
+  registration-executes = subst (λ (t : Bool). Goal (with_shop verified_shop (if t then registers_found (carrier_numbered n f.shop.carriers) f else f))) (sym reaches) (at_carrier (carrier_numbered n f.shop.carriers) refl)

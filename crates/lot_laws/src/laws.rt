@@ -24,7 +24,7 @@ ghost use Rattle.owed_laws.specs.Owed.{owed_to, number_of};
 ghost use Rattle.owed_laws.specs.Undisturbed.{AreUnaligned, Undisturbed};
 ghost use Rattle.queue_laws.specs.Started.{AreStarted};
 ghost use Rattle.queue_laws.specs.Steers.{AreAutomatic, disturbs_process, disturbs_control, is_completion};
-ghost use Rattle.lot_laws.specs.Lot.{counted_of, IsMaterialHere, AreInKeptJobs, Executes, is_registration, GoesOnOrCompletes, TakesOneOff};
+ghost use Rattle.lot_laws.specs.Lot.{counted_of, IsMaterialHere, AreInKeptJobs, Executes, GoesOnOrCompletes, TakesOneOff};
 
 /// As a control job starts by row 4 or 5 of table 15, where each process job that is left in it starts by itself and its material is
 /// here, it executes undisturbed, and eight Dones are owed for each substrate that is counted.
@@ -76,11 +76,10 @@ pub fn it_completes_where_no_done_is_owed()
         → Executes number counted f → floor_least f ≡ None → owed_to counted (picture f) ≡ 0 → ⊥ }
 {}
 
-/// It executes on behind the least row that is ready by itself, but for one that registers substrates, and as much is owed; or the
-/// row is its completion, and none is owed.
+/// It executes on behind the least row that is ready by itself, and as much is owed; or the row is its completion, and none is owed.
 pub fn the_least_row_leaves_as_much_owed_or_completes_it()
     ensures { (number : ℕ) (counted : ℕ → Bool) (f : ToolFloor) (x : Firing) → Sound f → AreTogether f.jobs → AreStarted f.jobs
-        → Executes number counted f → floor_least f ≡ Some x → is_registration x ≡ false → GoesOnOrCompletes number counted f x }
+        → Executes number counted f → floor_least f ≡ Some x → GoesOnOrCompletes number counted f x }
 {}
 
 /// Done of an open command takes one off: the one row of a Pick, a Place and an Align; of the two rows of a Process the first leaves

@@ -12,3 +12,4 @@ pub mod Working
 pub mod Shops
 pub mod Least
 pub mod Registering
+pub mod Inputs

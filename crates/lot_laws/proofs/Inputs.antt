@@ -15,16 +15,14 @@ use Rattle.control_job.specs.Jobs.{headed}
 use Rattle.tool_jobs.specs.Creating.{with_process, with_control, control_fault}
 use Rattle.tool_jobs.specs.Together.{AreTogether}
 use Rattle.tool_floor.specs.declared.tracking.Substrate.{Substrate}
-use Rattle.tool_floor.specs.Floor.{ToolFloor, with_jobs, fetched, substrate_numbered, number_of}
-use Rattle.tool_floor.specs.Jobs.{job_of, can_join}
+use Rattle.tool_floor.specs.Floor.{ToolFloor, with_jobs, fetched, number_of}
 use Rattle.floor_moves.specs.Floor.{is_done}
-use Rattle.place_laws.specs.Picture.{picture, module_of, of_one, of_job}
+use Rattle.place_laws.specs.Picture.{picture, module_of}
 use Rattle.place_laws.specs.Sound.{Sound}
 use Rattle.place_laws.proofs.Holding.{found_number, true_of_found}
 use Rattle.picture_laws.proofs.Issuing.{changed_there, changed_else}
 use Rattle.floor_laws.proofs.JobSays.{IsMember, member_tells, said_there}
-use Rattle.owed_laws.specs.Owed.{owed_to}
-use Rattle.queue_laws.specs.Started.{is_queued, is_left_in, AreStarted}
+use Rattle.queue_laws.specs.Started.{is_left_in, AreStarted}
 use Rattle.queue_laws.proofs.Lists.{one_more_back}
 use Rattle.queue_laws.proofs.Steering.{created-steers, added-steers, added_left, left_kept}
 use Rattle.lot_laws.specs.Lot.{IsInJob, Waits, Executes}

@@ -13,3 +13,4 @@ pub mod Shops
 pub mod Least
 pub mod Registering
 pub mod Inputs
+pub mod InJobs

@@ -1,6 +1,5 @@
 -- A control job executes on where the substrates of a carrier are registered: no process job that is left in it names the carrier.
-use Rattle.std.proofs.Common.{◌≡◌, ◌≤◌, ◌<◌, ℕ, zero, suc, ◌+◌, ◌==◌, Bool, true, false, if◌then◌else◌, not, ◌&&◌, ◌||◌, List, [], ◌∷◌, ◌++◌, length, map, Option, Some, None, IsSomeAnd, is_some, refl, sym, ◌∙◌, ap, subst, ◌⊎◌, inl, inr, arith}
-use Rattle.std.specs.List.{AllByRecursion, list_any}
+use Rattle.std.proofs.Common.{◌≡◌, ◌≤◌, ◌<◌, ℕ, zero, suc, ◌+◌, ◌==◌, Bool, true, false, if◌then◌else◌, not, ◌&&◌, List, [], ◌∷◌, ◌++◌, length, map, Option, Some, None, IsSomeAnd, refl, sym, ◌∙◌, ap, subst, ◌⊎◌, inl, inr, arith}
 use Rattle.std.proofs.lemmas.Bool.{true≢false, and_parts, false_from_ne_true}
 use Rattle.std.proofs.lemmas.Bool.Decides.{Decides-eqb}
 use Rattle.std.proofs.lemmas.Slice.Eq.{bytes_eq-Decides}
@@ -34,7 +33,7 @@ use Rattle.process_job.specs.declared.job.ProcessJob.{ProcessJob}
 use Rattle.tool_floor.specs.declared.tracking.Substrate.{Substrate}
 use Rattle.tool_floor.specs.Floor.{ToolFloor, with_shop, substrate_numbered, number_of}
 use Rattle.tool_floor.specs.Jobs.{is_material_here, is_carrier_here, is_in_use, is_of_carrier, names_carrier, can_join}
-use Rattle.tool_floor.specs.Machines.{floor_starts, floor_fired}
+use Rattle.tool_floor.specs.Machines.{floor_fired}
 use Rattle.tool_floor.specs.Substrates.{can_register, first_substrate, registers_at, registers_slot, registers_slots, registers_at_port, registers_found, reaches_verified}
 use Rattle.floor_moves.specs.Floor as law
 use Rattle.floor_moves.specs.Floor.{Loc, is_done}
@@ -45,11 +44,9 @@ use Rattle.floor_moves.proofs.Agreeing.{agree-keeps}
 use Rattle.floor_moves.proofs.Carrying.{verified-keeps}
 use Rattle.floor_moves.proofs.Registering.{registered-keeps}
 use Rattle.floor_moves.proofs.Maps.{set_else}
-use Rattle.place_laws.specs.Picture.{picture, loc_of, of_one, where_present, port_number}
+use Rattle.place_laws.specs.Picture.{picture, of_one, where_present, port_number}
 use Rattle.place_laws.specs.Standing.{IsCarried}
 use Rattle.place_laws.specs.Sound.{Base, Sound}
-use Rattle.place_laws.proofs.Appended.{front}
-use Rattle.place_laws.proofs.UnloadRows.{map-unloading}
 use Rattle.place_laws.proofs.Holding.{found_number, true_of_found, rising_given, kept_there, own_slot, IsThere}
 use Rattle.place_laws.proofs.Stays.{GoesOn, Stay, stay_numbered, stay-carried}
 use Rattle.place_laws.proofs.Leaving.{still_verified}
@@ -59,7 +56,7 @@ use Rattle.floor_laws.proofs.JobSight.{none_some, some_same}
 use Rattle.floor_laws.proofs.JobJoins.{both_pass}
 use Rattle.floor_laws.proofs.RegMore.{none_held, no_job}
 use Rattle.floor_laws.proofs.RegNames.{modules_same}
-use Rattle.floor_laws.proofs.RegSlots.{Filling, can, higher}
+use Rattle.floor_laws.proofs.RegSlots.{Filling, can}
 use Rattle.floor_laws.proofs.RegFilled.{slots_filled}
 use Rattle.floor_laws.proofs.RegVerified.{jobs_stay, found_changed}
 use Rattle.floor_laws.proofs.ShopAccess.{map_access}
@@ -70,7 +67,7 @@ use Rattle.owed_laws.proofs.Agreeing.{agree-undisturbed, agree-owed}
 use Rattle.queue_laws.specs.Started.{is_left_in}
 use Rattle.lot_laws.specs.Lot.{IsInJob, Waits, Executes}
 use Rattle.lot_laws.proofs.Naming.{slot_names_carrier}
-use Rattle.lot_laws.proofs.Standing.{not_so, joins_tell, undisturbed}
+use Rattle.lot_laws.proofs.Standing.{joins_tell, undisturbed}
 use Rattle.lot_laws.proofs.Shops.{named_of, same_use, shop-executes}
 
 -- one that is found with one more behind is one of those before, or that one
@@ -223,7 +220,7 @@ module _ (number : ℕ) (counted : ℕ → Bool) (s : Floor) (valid : IsFloor s)
       let one = slot-executes (record { 0 = k }) code f first (omega (arith, last)) fill e unnamed in
       let then_fill = (slots_filled s valid c d port found present is_read at named 1 k (code ∷ []) f first (omega (arith, last)) fill).filling in
       let rest = slots-execute count (k + 1) codes (registers_slot c port k code f) (omega (arith, first)) (omega (arith, last)) then_fill one.0
-          (λ i j kept left names. unnamed i j (sym (ap (λ w. job_numbered i w.process.kept) (jobs_same k code f)) ∙ kept) (sym (ap (λ w. is_left_in number j.id w) (jobs_same k code f)) ∙ left) names) in
+      (λ i j kept left names. unnamed i j (sym (ap (λ w. job_numbered i w.process.kept) (jobs_same k code f)) ∙ kept) (sym (ap (λ w. is_left_in number j.id w) (jobs_same k code f)) ∙ left) names) in
       (rest.0, rest.1 ∙ one.1)
 
 -- ---- the carrier

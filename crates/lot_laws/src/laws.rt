@@ -10,12 +10,16 @@ ghost use Rattle.tool_floor.specs.Signals.{done_row};
 ghost use Rattle.floor_moves.specs.Floor.{chamber};
 ghost use Rattle.gem_tables.specs.Table.{firing, is_one_of};
 ghost use Rattle.process_job.specs.Jobs.{job_numbered as process_numbered};
+ghost use Rattle.process_job.specs.Creating.{create_fault};
+ghost use Rattle.process_job.specs.declared.job.JobSpec.{JobSpec};
 ghost use Rattle.process_job.specs.declared.job.ProcessJob.{ProcessJob};
-ghost use Rattle.control_job.specs.Jobs.{job_numbered as control_numbered};
+ghost use Rattle.control_job.specs.Jobs.{job_numbered as control_numbered, headed};
 ghost use Rattle.control_job.specs.declared.job.ControlJob.{ControlJob};
 ghost use Rattle.tool_jobs.specs.Rows.{control_starts, control_ready};
+ghost use Rattle.tool_jobs.specs.Creating.{with_process, with_control, control_fault};
 ghost use Rattle.tool_jobs.specs.Together.{AreTogether};
-ghost use Rattle.tool_floor.specs.Floor.{ToolFloor};
+ghost use Rattle.tool_events.specs.declared.recipes.Recipe.{Recipe};
+ghost use Rattle.tool_floor.specs.Floor.{ToolFloor, opening, with_jobs, fetched};
 ghost use Rattle.tool_floor.specs.Jobs.{is_first_here};
 ghost use Rattle.tool_floor.specs.Machines.{floor_starts, floor_fired, floor_least};
 ghost use Rattle.place_laws.specs.Picture.{picture};
@@ -98,4 +102,25 @@ pub fn done_of_a_command_takes_one_off()
     ensures processed { (number : ℕ) (counted : ℕ → Bool) (f : ToolFloor) (n row d : ℕ) → SoundBut n f → Executes number counted f
         → is_one_of (3 ∷ 4 ∷ []) row ≡ true → floor_starts (firing 13 n row) f ≡ true → (picture f).place_of n ≡ Some (chamber d)
         → (picture f).jobs.is_member n ≡ true → TakesOneOff number counted f (floor_fired (firing 13 n row) f) }
+{}
+
+/// It executes on as jobs are created, as the order of the queue changes, and as the equipment fetches a command.
+pub fn it_executes_on_as_jobs_are_created()
+    ensures process { (number : ℕ) (counted : ℕ → Bool) (f : ToolFloor) (spec : JobSpec) → Sound f → AreTogether f.jobs
+        → AreStarted f.jobs → Executes number counted f → create_fault spec f.jobs.process ≡ None
+        → Executes number counted (with_jobs (with_process spec f.jobs) f) }
+    ensures control { (number : ℕ) (counted : ℕ → Bool) (f : ToolFloor) (name : List ℕ) (named : List (List ℕ)) (auto : Bool) → Sound f
+        → AreTogether f.jobs → AreStarted f.jobs → Executes number counted f → control_fault name named f.jobs ≡ None
+        → Executes number counted (with_jobs (with_control name named auto f.jobs) f) }
+    ensures head { (number : ℕ) (counted : ℕ → Bool) (f : ToolFloor) (name : List ℕ) → Sound f → AreTogether f.jobs → AreStarted f.jobs
+        → Executes number counted f → Executes number counted (with_jobs (record f.jobs { control = headed name f.jobs.control }) f) }
+    ensures fetched { (number : ℕ) (counted : ℕ → Bool) (f : ToolFloor) (m : ℕ) → Executes number counted f
+        → Executes number counted (fetched m f) }
+{}
+
+/// Each substrate is in no process job, or in one that is kept: so it is as the tool begins, and behind each row of a process job.
+pub fn each_substrate_is_in_a_job_that_is_kept()
+    ensures opening { (ports chambers : ℕ) (recipes : List Recipe) → AreInKeptJobs (opening ports chambers recipes) }
+    ensures process { (f : ToolFloor) (n row : ℕ) (j : ProcessJob) → AreInKeptJobs f → Sound f
+        → process_numbered n f.jobs.process.kept ≡ Some j → AreInKeptJobs (floor_fired (firing 14 n row) f) }
 {}

@@ -26,110 +26,146 @@ fn host_message(text: Vec<u8>) -> Event {
     }
 }
 
-fn answer_text(alloc: Global, answer: &Answer) -> Result<String, Fail> {
+// Adds an answer; false where there is no memory, as in all that adds here.
+fn add_answer(text: &mut String, answer: &Answer) -> bool {
     match answer {
-        Answer::Frame(frame) => Ok(String::from_utf8_lossy(alloc, frame.as_slice())?),
-        other => Ok(format!(in alloc; "{other:?}")?),
+        Answer::Frame(frame) => match str::from_utf8(frame.as_slice()) {
+            Ok(frame) => text.push_str(frame).is_ok(),
+            Err(_) => false,
+        },
+        other => write!(text, "{other:?}").is_ok(),
     }
 }
 
-// What a post is answered, as its own line.
-fn posted(alloc: Global, desk: &mut MemDesk, event: Event) -> Result<String, Fail> {
+// Adds what a post is answered, as its own line.
+fn add_posted(text: &mut String, desk: &mut MemDesk, event: Event) -> bool {
     match desk.post(AT, event) {
-        Ok(answer) => Ok(format!(in alloc; "{}\n", answer_text(alloc, &answer)?)?),
-        Err(fault) => Ok(format!(in alloc; "{fault:?}\n")?),
+        Ok(answer) => add_answer(text, &answer) && text.push('\n').is_ok(),
+        Err(fault) => write!(text, "{fault:?}\n").is_ok(),
     }
 }
 
-// What each of these posts is answered.
-fn all_posted(alloc: Global, desk: &mut MemDesk, events: Vec<Event>) -> Result<String, Fail> {
-    let mut text = String::new(alloc);
+// Adds what each of these posts is answered.
+fn add_all_posted(text: &mut String, desk: &mut MemDesk, events: Vec<Event>) -> bool {
     for event in events {
-        text.push_str(posted(alloc, desk, event)?.as_str())?;
+        if !add_posted(text, desk, event) {
+            return false;
+        }
     }
-    Ok(text)
+    true
 }
 
-// The posts that are recorded, each with its answer.
-fn recorded(alloc: Global, desk: &MemDesk) -> Result<String, Fail> {
-    let mut text = String::new(alloc);
+// Adds the posts that are recorded, each with its answer.
+fn add_recorded(text: &mut String, desk: &MemDesk) -> bool {
     for post in desk.posts() {
-        let answer = answer_text(alloc, &post.answer)?;
-        text.push_str(format!(in alloc; "{:?}: {answer}\n", post.event)?.as_str())?;
+        if write!(text, "{:?}: ", post.event).is_err()
+            || !add_answer(text, &post.answer)
+            || text.push('\n').is_err()
+        {
+            return false;
+        }
     }
-    Ok(text)
+    true
 }
 
-// How many posts found the history full or no memory, and the text of the last that found it full.
-fn counts(desk: &MemDesk) -> (u64, u64, u64) {
-    (desk.fulls(), desk.wants(), desk.full_bytes())
+// Adds how many posts found the history full or no memory, and the text of the last that found it full.
+fn add_counts(text: &mut String, desk: &MemDesk) -> bool {
+    let counts = (desk.fulls(), desk.wants(), desk.full_bytes());
+    write!(text, "{counts:?}").is_ok()
 }
 
-// What each of these posts is answered, the posts that are recorded then, and the counts.
-fn told(alloc: Global, mut desk: MemDesk, events: Vec<Event>) -> Result<String, Fail> {
-    let answers = all_posted(alloc, &mut desk, events)?;
-    let recorded = recorded(alloc, &desk)?;
-    let counts = counts(&desk);
-    Ok(format!(in alloc; "{answers}{recorded}{counts:?}")?)
+// What each of these posts is answered, the posts that are recorded then, and the counts. Empty where there is no memory.
+fn told(alloc: Global, desk: Option<MemDesk>, events: Option<Vec<Event>>) -> String {
+    let mut text = String::new(alloc);
+    if let (Some(mut desk), Some(events)) = (desk, events) {
+        let told = add_all_posted(&mut text, &mut desk, events)
+            && add_recorded(&mut text, &desk)
+            && add_counts(&mut text, &desk);
+        if !told {
+            text.clear();
+        }
+    }
+    text
 }
 
 // A desk that gives a session, has to be asked again, and gives a frame.
-fn of_a_frame(alloc: Global) -> Result<MemDesk, Fail> {
-    let frame = Bytes::from_vec(Vec::from_slice(alloc, b"frame")?);
-    let outcomes = vec![in alloc;
-        Ok(Answer::Session(3)),
-        Err(PostFault::Again),
-        Ok(Answer::Frame(frame)),
-    ]?;
-    Ok(MemDesk::new(alloc, outcomes))
+fn of_a_frame(alloc: Global) -> Option<MemDesk> {
+    match Vec::from_slice(alloc, b"frame") {
+        Ok(frame) => of_outcomes(
+            alloc,
+            vec![in alloc;
+                Ok(Answer::Session(3)),
+                Err(PostFault::Again),
+                Ok(Answer::Frame(Bytes::from_vec(frame))),
+            ]
+            .ok(),
+        ),
+        Err(_) => None,
+    }
+}
+
+fn of_outcomes(alloc: Global, outcomes: Option<Vec<Result<Answer, PostFault>>>) -> Option<MemDesk> {
+    match outcomes {
+        Some(outcomes) => Some(MemDesk::new(alloc, outcomes)),
+        None => None,
+    }
 }
 
 // A link comes up, and a frame is wanted twice.
-fn takes(alloc: Global) -> Result<Vec<Event>, Fail> {
-    let take = Event::Take { session: 3 };
-    Ok(vec![in alloc; Event::LinkUp, take, Event::Take { session: 3 }]?)
+fn takes(alloc: Global) -> Option<Vec<Event>> {
+    vec![in alloc;
+        Event::LinkUp,
+        Event::Take { session: 3 },
+        Event::Take { session: 3 },
+    ]
+    .ok()
 }
 
 #[test]
 fn posts_are_answered_from_the_list_and_recorded(rt: HostRuntime) -> Result<(), Fail> {
     let alloc = rt.alloc();
     assert_eq!(rt;
-        told(alloc, of_a_frame(alloc)?, takes(alloc)?)?.as_str(),
+        told(alloc, of_a_frame(alloc), takes(alloc)).as_str(),
         "Session(3)\nAgain\nframe\nLinkUp: Session(3)\nTake { session: 3 }: frame\n(0, 0, 0)"
     );
     Ok(())
 }
 
 // A desk that has nothing but this.
-fn of_two(
-    alloc: Global,
-    first: Result<Answer, PostFault>,
-    second: PostFault,
-) -> Result<MemDesk, Fail> {
-    Ok(MemDesk::new(alloc, vec![in alloc; first, Err(second)]?))
+fn of_two(alloc: Global, first: Result<Answer, PostFault>, second: PostFault) -> Option<MemDesk> {
+    of_outcomes(alloc, vec![in alloc; first, Err(second)].ok())
+}
+
+// A port is listened at, a link comes up, and a port is watched.
+fn others(alloc: Global) -> Option<Vec<Event>> {
+    vec![in alloc; Event::Listen, Event::LinkUp, Event::Watch(PortNo(1))].ok()
 }
 
 #[test]
 fn what_an_event_may_not_have_is_ended(rt: HostRuntime) -> Result<(), Fail> {
     let alloc = rt.alloc();
-    let mut desk = of_two(alloc, Ok(Answer::Done), PostFault::Again)?;
-    let events = vec![in alloc; Event::Listen, Event::LinkUp, Event::Watch(PortNo(1))]?;
-    let answers = all_posted(alloc, &mut desk, events)?;
-    assert_eq!(rt; answers.as_str(), "Ended\nEnded\nEnded\n");
+    let desk = of_two(alloc, Ok(Answer::Done), PostFault::Again);
+    let told = told(alloc, desk, others(alloc));
+    assert_eq!(rt;
+        told.as_str(),
+        "Ended\nEnded\nEnded\nListen: Ended\nLinkUp: Ended\nWatch(PortNo(1)): Ended\n(0, 0, 0)"
+    );
     Ok(())
 }
 
 // A message of the host comes, and the clock is looked at.
-fn message_and_tick(alloc: Global) -> Result<Vec<Event>, Fail> {
-    let text = Vec::from_slice(alloc, b"abcde")?;
-    Ok(vec![in alloc; host_message(text), Event::Tick]?)
+fn message_and_tick(alloc: Global) -> Option<Vec<Event>> {
+    match Vec::from_slice(alloc, b"abcde") {
+        Ok(text) => vec![in alloc; host_message(text), Event::Tick].ok(),
+        Err(_) => None,
+    }
 }
 
 #[test]
 fn the_text_of_the_last_full_post_is_told(rt: HostRuntime) -> Result<(), Fail> {
     let alloc = rt.alloc();
-    let desk = of_two(alloc, Err(PostFault::Full(9)), PostFault::NoMemory)?;
-    let told = told(alloc, desk, message_and_tick(alloc)?)?;
+    let desk = of_two(alloc, Err(PostFault::Full(9)), PostFault::NoMemory);
+    let told = told(alloc, desk, message_and_tick(alloc));
     assert_eq!(rt; told.as_str(), "Full(9)\nNoMemory\n(1, 1, 5)");
     Ok(())
 }

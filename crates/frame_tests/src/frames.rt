@@ -37,32 +37,53 @@ fn data() -> Header {
     }
 }
 
-// A text of 1,000 bytes.
-fn long_text(alloc: Global) -> Result<Vec<u8>, Fail> {
-    let mut text = Vec::new(alloc);
+// Adds a text of 1,000 bytes; false where there is no memory, as in all that adds here.
+fn add_long_text(text: &mut Vec<u8>) -> bool {
     for place in 0..1000_usize {
-        text.push((place % 251) as u8)?;
+        if text.push((place % 251) as u8).is_err() {
+            return false;
+        }
     }
-    Ok(text)
+    true
 }
 
-// The bytes of parts that stand one behind the other.
-fn joined(alloc: Global, parts: &[&[u8]]) -> Result<Vec<u8>, Fail> {
-    let mut bytes = Vec::new(alloc);
+// Adds the bytes of parts that stand one behind the other.
+fn add_joined(bytes: &mut Vec<u8>, parts: &[&[u8]]) -> bool {
     for part in parts {
-        bytes.extend_from_slice(part)?;
+        if bytes.extend_from_slice(part).is_err() {
+            return false;
+        }
     }
-    Ok(bytes)
+    true
 }
 
-// What arrives of a stream that comes in pieces of one byte, of seven bytes, or in one piece.
-fn arrivals(alloc: Global, max: u32, stream: &[u8], piece: usize) -> Result<Vec<Arrival>, Fail> {
-    let mut cutter = Cutter::new(alloc, max)?;
-    let mut out = Vec::new(alloc);
-    for piece in stream.chunks(piece.max(1)) {
-        cutter.feed(alloc, piece, &mut out)?;
+// Adds what arrives of a stream that comes in pieces of one byte, of seven bytes, or in one piece.
+fn add_arrivals(
+    alloc: Global,
+    out: &mut Vec<Arrival>,
+    max: u32,
+    stream: &[u8],
+    piece: usize,
+) -> bool {
+    match Cutter::new(alloc, max) {
+        Ok(mut cutter) => add_pieces(alloc, out, &mut cutter, stream, piece),
+        Err(_) => false,
     }
-    Ok(out)
+}
+
+fn add_pieces(
+    alloc: Global,
+    out: &mut Vec<Arrival>,
+    cutter: &mut Cutter,
+    stream: &[u8],
+    piece: usize,
+) -> bool {
+    for piece in stream.chunks(piece.max(1)) {
+        if cutter.feed(alloc, piece, out).is_err() {
+            return false;
+        }
+    }
+    true
 }
 
 // The arrival at this place is this frame.
@@ -73,18 +94,25 @@ fn is_frame(out: &[Arrival], at: usize, header: Header, text: &[u8]) -> bool {
     }
 }
 
-// The frames that arrived, written one behind the other.
-fn written(alloc: Global, out: &[Arrival]) -> Result<Vec<u8>, Fail> {
-    let mut bytes = Vec::new(alloc);
+// Adds the frames that arrived, written one behind the other; false where one is no frame that can be written, too.
+fn add_written(bytes: &mut Vec<u8>, out: &[Arrival]) -> bool {
     for arrival in out {
         match arrival {
             Arrival::Frame(frame) if frame.text.as_slice().len() < 4_294_967_286 => {
-                write_frame(frame, &mut bytes)?;
+                if write_frame(frame, bytes).is_err() {
+                    return false;
+                }
             }
-            _ => return Err("a frame that can be written".into()),
+            _ => return false,
         }
     }
-    Ok(bytes)
+    true
+}
+
+// Whether the frames that arrived are written as this stream.
+fn are_written(alloc: Global, out: &[Arrival], stream: &[u8]) -> bool {
+    let mut bytes = Vec::new(alloc);
+    add_written(&mut bytes, out) && bytes.as_slice() == stream
 }
 
 // Whether these are the frames of a select request, of S1F1 with this long text and with its own, and of a select
@@ -98,18 +126,26 @@ fn are_four(out: &[Arrival], text: &[u8]) -> bool {
 }
 
 // Whether they arrive so in pieces of so many bytes, where 0 is all, and are written again.
-fn four_arrive(alloc: Global, piece: usize) -> Result<bool, Fail> {
-    let text = long_text(alloc)?;
-    let stream = joined(alloc, &[&SELECT, &LONG_FRONT, &text, &DATA, &SELECT])?;
+fn four_arrive(alloc: Global, piece: usize) -> bool {
+    let mut text = Vec::new(alloc);
+    let mut stream = Vec::new(alloc);
+    add_long_text(&mut text)
+        && add_joined(&mut stream, &[&SELECT, &LONG_FRONT, &text, &DATA, &SELECT])
+        && are_four_of(alloc, stream.as_slice(), text.as_slice(), piece)
+}
+
+fn are_four_of(alloc: Global, stream: &[u8], text: &[u8], piece: usize) -> bool {
     let piece = if piece == 0 { stream.len() } else { piece };
-    let out = arrivals(alloc, GREATEST, &stream, piece)?;
-    Ok(are_four(&out, &text) && written(alloc, &out)?.as_slice() == stream.as_slice())
+    let mut out = Vec::new(alloc);
+    add_arrivals(alloc, &mut out, GREATEST, stream, piece)
+        && are_four(&out, text)
+        && are_written(alloc, &out, stream)
 }
 
 #[test]
 fn frames_arrive_once_and_are_written_again_byte_for_byte(rt: HostRuntime) -> Result<(), Fail> {
     for piece in [0, 1, 7, 14] {
-        assert!(rt; four_arrive(rt.alloc(), piece)?, "in pieces of {piece}");
+        assert!(rt; four_arrive(rt.alloc(), piece), "in pieces of {piece}");
     }
     Ok(())
 }
@@ -125,19 +161,28 @@ fn are_select_and_data(out: &[Arrival], count: usize) -> bool {
 }
 
 // Whether two frames arrive with a half of one behind them, and the third with the other half.
-fn half_arrives(alloc: Global) -> Result<[bool; 2], Fail> {
-    let piece = joined(alloc, &[&SELECT, &DATA, &DATA[..8]])?;
-    let mut cutter = Cutter::new(alloc, GREATEST)?;
+fn half_arrives(alloc: Global) -> [bool; 2] {
+    let mut piece = Vec::new(alloc);
+    if !add_joined(&mut piece, &[&SELECT, &DATA, &DATA[..8]]) {
+        return [false, false];
+    }
+    match Cutter::new(alloc, GREATEST) {
+        Ok(mut cutter) => halves_arrive(alloc, &mut cutter, piece.as_slice()),
+        Err(_) => [false, false],
+    }
+}
+
+fn halves_arrive(alloc: Global, cutter: &mut Cutter, piece: &[u8]) -> [bool; 2] {
     let mut out = Vec::new(alloc);
-    cutter.feed(alloc, &piece, &mut out)?;
-    let are_two = are_select_and_data(&out, 1);
-    cutter.feed(alloc, &DATA[8..], &mut out)?;
-    Ok([are_two, are_select_and_data(&out, 2)])
+    let first = cutter.feed(alloc, piece, &mut out).is_ok();
+    let are_two = first && are_select_and_data(&out, 1);
+    let second = cutter.feed(alloc, &DATA[8..], &mut out).is_ok();
+    [are_two, second && are_select_and_data(&out, 2)]
 }
 
 #[test]
 fn two_frames_and_a_half_in_one_piece(rt: HostRuntime) -> Result<(), Fail> {
-    assert_eq!(rt; half_arrives(rt.alloc())?, [true, true]);
+    assert_eq!(rt; half_arrives(rt.alloc()), [true, true]);
     Ok(())
 }
 
@@ -151,12 +196,19 @@ fn is_too_long(out: &[Arrival], want: Header, length: u32) -> bool {
 
 // Whether a text of five bytes is skipped where four are the most, in pieces of so many bytes, and the next frame
 // arrives.
-fn five_are_skipped(alloc: Global, piece: usize) -> Result<bool, Fail> {
+fn five_are_skipped(alloc: Global, piece: usize) -> bool {
     let front = [0, 0, 0, 0x0F];
-    let stream = joined(alloc, &[&front, &SELECT[4..], &[9, 9, 9, 9, 9], &DATA])?;
-    let out = arrivals(alloc, 4, &stream, piece)?;
-    let is_next = is_frame(&out, 1, data(), &[0xA5, 1, 7]);
-    Ok(out.len() == 2 && is_too_long(&out, select(), 15) && is_next)
+    let mut stream = Vec::new(alloc);
+    let mut out = Vec::new(alloc);
+    add_joined(
+        &mut stream,
+        &[&front, &SELECT[4..], &[9, 9, 9, 9, 9], &DATA],
+    ) && add_arrivals(alloc, &mut out, 4, stream.as_slice(), piece)
+        && are_skipped(&out)
+}
+
+fn are_skipped(out: &[Arrival]) -> bool {
+    out.len() == 2 && is_too_long(out, select(), 15) && is_frame(out, 1, data(), &[0xA5, 1, 7])
 }
 
 #[test]
@@ -164,45 +216,71 @@ fn a_text_over_the_greatest_is_skipped_and_the_next_frame_arrives(
     rt: HostRuntime,
 ) -> Result<(), Fail> {
     let skipped = [
-        five_are_skipped(rt.alloc(), 32)?,
-        five_are_skipped(rt.alloc(), 1)?,
+        five_are_skipped(rt.alloc(), 32),
+        five_are_skipped(rt.alloc(), 1),
     ];
     assert_eq!(rt; skipped, [true, true]);
     Ok(())
 }
 
-// A stream with a length of 9 is told, and so is all that comes behind it; whether only the frame before it arrived.
-fn short_length(alloc: Global) -> Result<([Result<(), CutFault>; 3], bool), Fail> {
-    let piece = joined(alloc, &[&SELECT, &[0, 0, 0, 9, 1, 2]])?;
-    let mut cutter = Cutter::new(alloc, GREATEST)?;
+// A stream with a length of 9 is told, and so is all that comes behind it; whether only the frame before it arrived. None where
+// there is no memory.
+fn short_length(alloc: Global) -> Option<([Result<(), CutFault>; 3], bool)> {
+    let mut piece = Vec::new(alloc);
+    if !add_joined(&mut piece, &[&SELECT, &[0, 0, 0, 9, 1, 2]]) {
+        return None;
+    }
+    match Cutter::new(alloc, GREATEST) {
+        Ok(mut cutter) => Some(short_answers(alloc, &mut cutter, piece.as_slice())),
+        Err(_) => None,
+    }
+}
+
+fn short_answers(
+    alloc: Global,
+    cutter: &mut Cutter,
+    piece: &[u8],
+) -> ([Result<(), CutFault>; 3], bool) {
     let mut out = Vec::new(alloc);
     let answers = [
-        cutter.feed(alloc, &piece, &mut out),
+        cutter.feed(alloc, piece, &mut out),
         cutter.feed(alloc, &SELECT, &mut out),
         cutter.feed(alloc, &[], &mut out),
     ];
-    Ok((answers, are_select_and_data(&out, 0)))
+    (answers, are_select_and_data(&out, 0))
 }
 
 #[test]
 fn a_short_length_is_told_for_good(rt: HostRuntime) -> Result<(), Fail> {
     let short = Err(CutFault::ShortLength(9));
-    assert_eq!(rt; short_length(rt.alloc())?, ([short; 3], true));
+    assert_eq!(rt; short_length(rt.alloc()), Some(([short; 3], true)));
     Ok(())
 }
 
-// S1F1 with its text, written.
-fn data_written(alloc: Global) -> Result<Vec<u8>, Fail> {
-    let text = Bytes::from_vec(Vec::from_slice(alloc, &[0xA5, 1, 7])?);
-    let header = data();
+// Whether S1F1 with its text is written as its bytes.
+fn is_data_written(alloc: Global) -> bool {
+    match Vec::from_slice(alloc, &[0xA5, 1, 7]) {
+        Ok(text) => is_frame_written(
+            alloc,
+            &Frame {
+                header: data(),
+                text: Bytes::from_vec(text),
+            },
+        ),
+        Err(_) => false,
+    }
+}
+
+fn is_frame_written(alloc: Global, frame: &Frame) -> bool {
     let mut out = Vec::new(alloc);
-    write_frame(&Frame { header, text }, &mut out)?;
-    Ok(out)
+    frame.text.as_slice().len() < 4_294_967_286
+        && write_frame(frame, &mut out).is_ok()
+        && out.as_slice() == DATA.as_slice()
 }
 
 #[test]
 fn frames_are_written_with_the_most_significant_byte_first(rt: HostRuntime) -> Result<(), Fail> {
     assert_eq!(rt; write_header(select()), SELECT);
-    assert_eq!(rt; data_written(rt.alloc())?.as_slice(), DATA.as_slice());
+    assert!(rt; is_data_written(rt.alloc()));
     Ok(())
 }

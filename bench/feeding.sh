@@ -15,7 +15,7 @@ fi
 feed() {
     { time "$program" feed "$config" < "$work/lines" > "$work/out" 2> "$work/err"; } 2> "$work/time" \
         || { cat "$work/err" >&2; exit 1; }
-    seconds=$(awk 'END { printf "%.2f", $1 + $2 }' "$work/time")
+    seconds=$(awk 'END { printf "%.3f", $1 + $2 }' "$work/time")
 }
 
 # Feeds the lines in $work/lines again, and leaves the peak memory of the program in $peak, in kilobytes.

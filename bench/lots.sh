@@ -9,7 +9,7 @@
 #
 # Which commands come is the tool's to say, so the lines of a run are written by a first run, in which each command that is printed is
 # answered; the runs that are timed are given these lines. A ratio of at most 2.2 is wanted: twice the lots take about twice the time.
-# The times are processor times, the least of three runs each. This is a measurement. It is no test, and no part of the merge gate.
+# The times are processor times, the least of five runs each. This is a measurement. It is no test, and no part of the merge gate.
 # Build the program first:
 #
 #     cd crates/gem300_tool && rt run -- feed ../../examples/first.toml < ../../examples/communication.lines
@@ -57,11 +57,11 @@ write_lines() {
     "$program" feed "$config" < <(answers "$1" < "$work/told" | tee "$work/lines") > "$work/told"
 }
 
-# Feeds so many lots three times, and prints what the quickest run took.
+# Feeds so many lots five times, and prints what the quickest run took.
 measure() {
     local least= run
     write_lines "$1"
-    for run in 1 2 3; do
+    for run in 1 2 3 4 5; do
         feed
         least=$(awk -v a="${least:-$seconds}" -v b="$seconds" 'BEGIN { print a < b ? a : b }')
     done
@@ -69,7 +69,7 @@ measure() {
     awk -v count="$1" -v seconds="$seconds" '
         FNR == NR { if (/^[>!]/) taken++; next }
         { posted++ }
-        END { printf "%d lots, %d entries: %.2f s, %.2f microseconds an entry\n", count, taken + posted, seconds, seconds * 1e6 / (taken + posted) }
+        END { printf "%d lots, %d entries: %.3f s, %.2f microseconds an entry\n", count, taken + posted, seconds, seconds * 1e6 / (taken + posted) }
     ' "$work/out" "$work/lines"
 }
 

@@ -1,5 +1,6 @@
 -- What one event does to what is held.
-use Rattle.std.proofs.Common.{◌≡◌, ℕ, true, Some, Ok, Err, Result, IfOk, OnOk, List, [], ◌∷◌, ◌++◌, refl, sym, ap, ◌∙◌, subst}
+use Rattle.std.proofs.Common.{◌≡◌, ◌⊎◌, inl, inr, ℕ, ◌+◌, ◌==◌, true, false, Some, None, Ok, Err, Result, IfOk, OnOk, List, [], ◌∷◌, ◌++◌, length, length-append, append_assoc, refl, sym, ap, ◌∙◌, subst, arith}
+use mathlib.Core.List.{IsPrefix}
 use Rattle.gem_ids.specs.declared.moment.Moment.{Moment}
 use Rattle.tool_events.specs.declared.config.Config.{Config}
 use Rattle.tool_events.specs.declared.entry.Entry.{Entry}
@@ -37,3 +38,34 @@ records old new seat at event (Ok a) legal there same s e =
     ∙ posted_more (opening old.config) old.history old.state (record { seat = seat; at = at; event = event }) s.0 (run_of old.config old.history old.state legal there) s.1
     ∙ ap (λ (b : Answer). posted_in old.config old.history ++ posted seat at.0 event b ∷ []) s.2
 records old new seat at event (Err x) legal there same s e = tt
+
+-- ---- what a turn leaves
+
+-- a front that begins a history begins it also where one entry more is behind it
+pub longer : {E : Type 0} (front old new behind : List E) → IsPrefix front old → behind ≡ new → (new ≡ old) ⊎ ((e : E) × (new ≡ old ++ e ∷ [])) → IsPrefix front behind
+longer front old new behind p same (inl e) = (p.0, p.1 ∙ sym e ∙ sym same)
+longer front old new behind p same (inr (e, g)) =
+    (p.0 ++ e ∷ [], sym (append_assoc front p.0 (e ∷ [])) ∙ ap (λ l. l ++ e ∷ []) p.1 ∙ sym g ∙ sym same)
+
+-- all that is recorded holds of a front that is the history with its answers
+pub known : (c : Config) (history : List Entry) (g : State) (from : Config) (front : List Posted) → IsConfig c → is_run (opening c) history ≡ true → after_all (opening c) history ≡ g
+    → c ≡ from → front ≡ posted_in c history → (k : State) × Recorded from (entries_of front) k × (front ≡ posted_in from (entries_of front))
+known c history g from front bounds legal there same here =
+    let run = run_of c history g legal there in
+    let back : entries_of front ≡ history = ap entries_of here ∙ posted_entries (opening c) history g run in
+    (g, subst (λ (k : Config). Recorded k (entries_of front) g) same (subst (λ (l : List Entry). Recorded c l g) (sym back) (recorded_as c history g bounds legal there)),
+    here ∙ ap (posted_in c) (sym back) ∙ ap (λ (k : Config). posted_in k (entries_of front)) same)
+
+-- the entry that is behind a list is the one that was put there
+last_of : {E : Type 0} (xs : List E) (x y : E) → xs ++ x ∷ [] ≡ xs ++ y ∷ [] → x ≡ y
+last_of [] x y e = cc
+last_of (z ∷ xs) x y e = last_of xs x y (cc)
+
+never_longer : {E : Type 0} (xs : List E) (x : E) → xs ≡ xs ++ x ∷ [] → ⊥
+never_longer xs x e = let l : length xs ≡ length xs + 1 = ap length e ∙ length-append xs (x ∷ []) in omega (arith, l)
+
+-- the own entries of a chair go on by what it posted
+pub own_more : {E : Type 0} (old new mine mine' : List E) (p : E) → new ≡ old ++ p ∷ []
+    → ((new ≡ old) × (mine' ≡ mine)) ⊎ ((e : E) × (new ≡ old ++ e ∷ []) × (mine' ≡ mine ++ e ∷ [])) → mine' ≡ mine ++ p ∷ []
+own_more old new mine mine' p grew (inl (same, stays)) = absurd (never_longer old p (sym same ∙ grew))
+own_more old new mine mine' p grew (inr (e, more, mine_more)) = mine_more ∙ ap (λ x. mine ++ x ∷ []) (last_of old e p (sym more ∙ grew))

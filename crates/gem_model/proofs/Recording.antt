@@ -42,7 +42,7 @@ recorded-of c history g bounds run =
       moves = run-moves c history g ports run;
       ends = run-ends-once c history g ports run;
       room = run-room c history g run;
-      works = λ usable up work. run-works c history g ports few usable run up work;
+      works = λ up work. run-works c history g ports few bounds.recipes run up work;
     }
 
 -- a history in which nothing happened

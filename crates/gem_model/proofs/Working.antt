@@ -5,7 +5,8 @@ use Rattle.tool_events.specs.declared.config.Config.{Config}
 use Rattle.tool_events.specs.declared.entry.Entry.{Entry}
 use Rattle.shop_floor.specs.Floor.{arrival_of}
 use Rattle.shop_floor.specs.Requests.{came, carrier_written}
-use Rattle.work_laws.specs.Equipped.{are_usable, most_chambers, Equipped}
+use Rattle.tool_events.specs.Configs.{are_usable}
+use Rattle.work_laws.specs.Equipped.{most_chambers, Equipped}
 use Rattle.work_laws.specs.Work.{is_work_left, is_any_down, is_any_open}
 use Rattle.work_laws.proofs.Staying.{opening_equipped, row_equipped, fetched_equipped, shop_equipped, created_equipped, control_equipped}
 use Rattle.work_laws.proofs.Working.{open_while_work}

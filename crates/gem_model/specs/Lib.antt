@@ -35,3 +35,4 @@ pub mod Printed
 pub mod Conversation
 pub mod Recorded
 pub mod Moved
+pub mod Completes

@@ -11,7 +11,6 @@ use Rattle.shop_floor.specs.Valid.{IsFloor}
 use Rattle.floor_moves.specs.OnePlace.{OnePlace}
 use Rattle.place_laws.specs.Picture.{picture}
 use Rattle.place_laws.specs.Standing.{AreRegistered}
-use Rattle.work_laws.specs.Equipped.{are_usable}
 use Rattle.work_laws.specs.Work.{is_work_left, is_any_down, is_any_open}
 use Rattle.gem_model.specs.State.{State, opening}
 use Rattle.gem_model.specs.Run.{Run}
@@ -58,5 +57,5 @@ pub record Recorded (c : Config) (history : List Entry) (g : State) : Type 0 whe
   pub ends : EndsOnce (opening c) history
   -- there is room to start a transaction
   pub room : is_full g.transactions ≡ false
-  -- where each recipe of the configuration has a chamber of the tool: while no module is Down and work is left, a command is open
-  pub works : are_usable c.chambers c.recipes ≡ true → is_any_down g.floor.modules ≡ false → is_work_left g.floor ≡ true → is_any_open g.floor.modules ≡ true
+  -- while no module is Down and work is left, a command is open
+  pub works : is_any_down g.floor.modules ≡ false → is_work_left g.floor ≡ true → is_any_open g.floor.modules ≡ true

@@ -13,7 +13,6 @@ ghost use Rattle.gem_model.specs.Step.{Outcome, acts};
 ghost use Rattle.gem_model.specs.Run.{Run};
 ghost use Rattle.gem_model.specs.Moved.{place_of, EachMoves, EndsOnce};
 ghost use Rattle.gem_model.specs.Recorded.{Recorded};
-ghost use Rattle.tool_events.specs.Configs.{IsConfig};
 ghost use Rattle.gem_model.specs.Reported.{told_as, reported_in, IsOf};
 ghost use Rattle.gem_model.specs.OpenNotes.{note_numbers, open_number, Carries, IsSent, IsOther, open_behind, frames_behind, NeverBack};
 ghost use Rattle.gem_model.specs.Fire.{fire};
@@ -29,7 +28,8 @@ ghost use Rattle.shop_floor.specs.Valid.{IsFloor};
 ghost use Rattle.floor_moves.specs.OnePlace.{OnePlace};
 ghost use Rattle.place_laws.specs.Picture.{picture};
 ghost use Rattle.place_laws.specs.Standing.{AreRegistered};
-ghost use Rattle.work_laws.specs.Equipped.{are_usable, most_chambers, Equipped};
+ghost use Rattle.tool_events.specs.Configs.{are_usable, IsConfig};
+ghost use Rattle.work_laws.specs.Equipped.{most_chambers, Equipped};
 ghost use Rattle.work_laws.specs.Work.{is_work_left, is_any_down, is_any_open};
 
 /// A primary of the tool always finds room among the open transactions: where a history leads, at most two are open, of the

@@ -47,6 +47,7 @@ worked_is = record {
   entries = omega arith;
   bytes = omega arith;
   start = omega arith;
+  recipes = refl;
 }
 
 -- a run that reads no input does nothing under a configuration

@@ -1,0 +1,86 @@
+-- A control job completes exactly at its last Done (after SEMI E94; this tool's profile, tables 14 and 15, and moves).
+use Rattle.std.specs.Prelude.{◌≡◌, ◌⊎◌, ℕ, ◌+◌, ◌*◌, ◌==◌, nat_le, Bool, true, false, not, if◌then◌else◌, List, [], ◌∷◌, ◌++◌, Option, Some, None}
+use Rattle.gem_tables.specs.Table.{firing, is_one_of}
+use Rattle.gem_tables.specs.declared.firing.Firing.{Firing}
+use Rattle.tool_events.specs.declared.entry.Entry.{Entry}
+use Rattle.tool_events.specs.declared.event.Event.{Event}
+use Rattle.tool_events.specs.declared.event.Event.TheVariants as event
+use Rattle.tool_events.specs.declared.event.Signal.TheVariants as signal
+use Rattle.robot_moves.specs.Modules.{is_open as has_open, is_down}
+use Rattle.process_job.specs.Jobs.{job_numbered as process_numbered}
+use Rattle.process_job.specs.declared.job.ProcessJob.{ProcessJob}
+use Rattle.control_job.specs.Jobs.{job_numbered as control_numbered, is_open}
+use Rattle.control_job.specs.Tables.{states_number}
+use Rattle.control_job.specs.declared.job.ControlJob.{ControlJob}
+use Rattle.place_laws.specs.Picture.{picture}
+use Rattle.owed_laws.specs.Owed.{number_of}
+use Rattle.queue_laws.specs.Started.{is_left_in}
+use Rattle.queue_laws.specs.Steers.{is_executing, goes_on, AreAutomatic}
+use Rattle.lot_laws.specs.Lot.{counted_of, IsMaterialHere}
+use Rattle.gem_model.specs.State.{State, raised}
+use Rattle.gem_model.specs.Fire.{fire_all}
+use Rattle.gem_model.specs.Settle.{settling}
+use Rattle.gem_model.specs.Signals.{module_of}
+use Rattle.gem_model.specs.Step.{Outcome, acts}
+use Rattle.gem_model.specs.Run.{entry_after, after_all}
+
+-- the control job of a number
+abbrev pub control_of : ℕ → State → Option ControlJob
+control_of number g = control_numbered number g.floor.jobs.control.jobs
+
+-- it is COMPLETED, or is kept no more
+abbrev pub has_completed : Option ControlJob → Bool
+has_completed None = true
+has_completed (Some c) = not (is_open c)
+
+-- it is WAITING FOR START, and isn't ending
+abbrev pub waits_for_start : Option ControlJob → Bool
+waits_for_start None = false
+waits_for_start (Some c) = states_number c.states == 2
+
+-- the control job of a number starts in an entry, in this state: by row 4 of table 15 as the tool settles, behind the rows before it, or
+-- by row 5, which the input fires
+pub data StartsAt (number : ℕ) (g : State) (entry : Entry) : State → Type 0 where
+  by_itself : (o : Outcome) (before behind : List Firing) → acts g.moment (raised g entry.at.0) entry.event ≡ Some o → settling o.after ≡ before ++ firing 15 number 4 ∷ behind → StartsAt number g entry (fire_all before o.after)
+  by_word : (o : Outcome) → acts g.moment (raised g entry.at.0) entry.event ≡ Some o → waits_for_start (control_of number g) ≡ true → is_executing (control_of number o.after) ≡ true → StartsAt number g entry (raised g entry.at.0)
+
+-- What an input does, before the tool settles, doesn't disturb it: it executes still; each process job that is left in it goes on; no
+-- counted substrate is ABORTED, STOPPED, LOST or SKIPPED that wasn't; and no module is Down that wasn't.
+pub record IsCalmAt (number : ℕ) (counted : ℕ → Bool) (g h : State) : Type 0 where
+  pub executes : is_executing (control_of number h) ≡ true
+  pub going : (n : ℕ) (j : ProcessJob) → process_numbered n g.floor.jobs.process.kept ≡ Some j → is_left_in number j.id g.floor.jobs ≡ true
+      → (k : ProcessJob) × (process_numbered n h.floor.jobs.process.kept ≡ Some k) × (goes_on k.states.state ≡ true)
+  pub works : (n : ℕ) → counted n ≡ true → is_one_of (3 ∷ 4 ∷ 6 ∷ 7 ∷ []) ((picture h.floor).processing n) ≡ true
+      → (picture h.floor).processing n ≡ (picture g.floor).processing n
+  pub up : (m : ℕ) → is_down (module_of m h) ≡ true → is_down (module_of m g) ≡ true
+
+-- no entry disturbs it, until it has completed
+abbrev pub IsCalmRun : ℕ → (ℕ → Bool) → State → List Entry → Type 0
+IsCalmRun number counted g [] = Unit {0}
+IsCalmRun number counted g (entry ∷ entries) =
+    (has_completed (control_of number g) ≡ true)
+    ⊎ (((o : Outcome) → acts g.moment (raised g entry.at.0) entry.event ≡ Some o → IsCalmAt number counted g o.after) × IsCalmRun number counted (entry_after g entry) entries)
+
+-- one at a Done that ends a command, else none; none once the run has ended
+abbrev pub done_of : State → Event → ℕ
+done_of g (event.Signal (signal.Done m number)) = if has_open number.0 (module_of m.0 g) then 1 else 0
+done_of g _ = 0
+
+abbrev pub dones : State → List Entry → ℕ
+dones g [] = 0
+dones g (entry ∷ entries) = (if g.quitting then 0 else done_of g entry.event) + dones (entry_after g entry) entries
+
+-- Where a control job starts in an entry, each process job that is left in it starting by itself and having its material here, and no
+-- entry behind disturbs it, it has completed behind so many entries exactly where eight Dones for each counted substrate ended commands
+-- in them.
+abbrev pub CompletesAtLast : State → Entry → List Entry → Type 0
+CompletesAtLast g entry entries =
+    (number : ℕ) (f : State) (some rest : List Entry) → StartsAt number g entry f → AreAutomatic number f.floor.jobs → IsMaterialHere number f.floor
+    → entries ≡ some ++ rest → IsCalmRun number (counted_of number f.floor) (entry_after g entry) some
+    → has_completed (control_of number (after_all (entry_after g entry) some))
+    ≡ nat_le (8 * number_of (counted_of number f.floor) (picture f.floor)) (dones (entry_after g entry) some)
+
+-- so it is at each entry of a history
+abbrev pub EachCompletes : State → List Entry → Type 0
+EachCompletes g [] = Unit {0}
+EachCompletes g (entry ∷ entries) = CompletesAtLast g entry entries × EachCompletes (entry_after g entry) entries

@@ -1,0 +1,16 @@
+pub mod Naming
+pub mod Standing
+pub mod Beginning
+pub mod Controls
+pub mod Going
+pub mod Processes
+pub mod Issuing
+pub mod Substrates
+pub mod Done
+pub mod Answers
+pub mod Working
+pub mod Shops
+pub mod Least
+pub mod Registering
+pub mod Inputs
+pub mod InJobs

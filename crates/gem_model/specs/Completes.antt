@@ -1,22 +1,19 @@
 -- A control job completes exactly at its last Done (after SEMI E94; this tool's profile, tables 14 and 15, and moves).
 use Rattle.std.specs.Prelude.{◌≡◌, ◌⊎◌, ℕ, ◌+◌, ◌*◌, ◌==◌, nat_le, Bool, true, false, not, if◌then◌else◌, List, [], ◌∷◌, ◌++◌, Option, Some, None}
-use Rattle.gem_tables.specs.Table.{firing, is_one_of}
+use Rattle.gem_tables.specs.Table.{firing}
 use Rattle.gem_tables.specs.declared.firing.Firing.{Firing}
 use Rattle.tool_events.specs.declared.entry.Entry.{Entry}
 use Rattle.tool_events.specs.declared.event.Event.{Event}
 use Rattle.tool_events.specs.declared.event.Event.TheVariants as event
 use Rattle.tool_events.specs.declared.event.Signal.TheVariants as signal
-use Rattle.robot_moves.specs.Modules.{is_open as has_open, is_down}
-use Rattle.process_job.specs.Jobs.{job_numbered as process_numbered}
-use Rattle.process_job.specs.declared.job.ProcessJob.{ProcessJob}
+use Rattle.robot_moves.specs.Modules.{is_open as has_open}
 use Rattle.control_job.specs.Jobs.{job_numbered as control_numbered, is_open}
-use Rattle.control_job.specs.Tables.{states_number}
 use Rattle.control_job.specs.declared.job.ControlJob.{ControlJob}
 use Rattle.place_laws.specs.Picture.{picture}
 use Rattle.owed_laws.specs.Owed.{number_of}
-use Rattle.queue_laws.specs.Started.{is_left_in}
-use Rattle.queue_laws.specs.Steers.{is_executing, goes_on, AreAutomatic}
-use Rattle.lot_laws.specs.Lot.{counted_of, IsMaterialHere}
+use Rattle.tool_floor.specs.Machines.{floor_starts, floor_fired}
+use Rattle.queue_laws.specs.Steers.{AreAutomatic}
+use Rattle.lot_laws.specs.Lot.{counted_of, IsMaterialHere, IsCalmBetween}
 use Rattle.gem_model.specs.State.{State, raised}
 use Rattle.gem_model.specs.Fire.{fire_all}
 use Rattle.gem_model.specs.Settle.{settling}
@@ -33,33 +30,22 @@ abbrev pub has_completed : Option ControlJob → Bool
 has_completed None = true
 has_completed (Some c) = not (is_open c)
 
--- it is WAITING FOR START, and isn't ending
-abbrev pub waits_for_start : Option ControlJob → Bool
-waits_for_start None = false
-waits_for_start (Some c) = states_number c.states == 2
+-- what the input of an entry does, before the tool settles; nothing once the run has ended
+abbrev pub input_of : State → Entry → Option Outcome
+input_of g entry = if g.quitting then None else acts g.moment (raised g entry.at.0) entry.event
 
--- the control job of a number starts in an entry, in this state: by row 4 of table 15 as the tool settles, behind the rows before it, or
--- by row 5, which the input fires
+-- The control job of a number starts in an entry, in this state: by row 4 of table 15 as the tool settles, behind the rows before it; or
+-- by row 5, which starts there and is all that the input does to the floor.
 pub data StartsAt (number : ℕ) (g : State) (entry : Entry) : State → Type 0 where
-  by_itself : (o : Outcome) (before behind : List Firing) → acts g.moment (raised g entry.at.0) entry.event ≡ Some o → settling o.after ≡ before ++ firing 15 number 4 ∷ behind → StartsAt number g entry (fire_all before o.after)
-  by_word : (o : Outcome) → acts g.moment (raised g entry.at.0) entry.event ≡ Some o → waits_for_start (control_of number g) ≡ true → is_executing (control_of number o.after) ≡ true → StartsAt number g entry (raised g entry.at.0)
-
--- What an input does, before the tool settles, doesn't disturb it: it executes still; each process job that is left in it goes on; no
--- counted substrate is ABORTED, STOPPED, LOST or SKIPPED that wasn't; and no module is Down that wasn't.
-pub record IsCalmAt (number : ℕ) (counted : ℕ → Bool) (g h : State) : Type 0 where
-  pub executes : is_executing (control_of number h) ≡ true
-  pub going : (n : ℕ) (j : ProcessJob) → process_numbered n g.floor.jobs.process.kept ≡ Some j → is_left_in number j.id g.floor.jobs ≡ true
-      → (k : ProcessJob) × (process_numbered n h.floor.jobs.process.kept ≡ Some k) × (goes_on k.states.state ≡ true)
-  pub works : (n : ℕ) → counted n ≡ true → is_one_of (3 ∷ 4 ∷ 6 ∷ 7 ∷ []) ((picture h.floor).processing n) ≡ true
-      → (picture h.floor).processing n ≡ (picture g.floor).processing n
-  pub up : (m : ℕ) → is_down (module_of m h) ≡ true → is_down (module_of m g) ≡ true
+  by_itself : (o : Outcome) (before behind : List Firing) → input_of g entry ≡ Some o → settling o.after ≡ before ++ firing 15 number 4 ∷ behind → StartsAt number g entry (fire_all before o.after)
+  by_word : (o : Outcome) → input_of g entry ≡ Some o → floor_starts (firing 15 number 5) g.floor ≡ true → o.after.floor ≡ floor_fired (firing 15 number 5) g.floor → StartsAt number g entry g
 
 -- no entry disturbs it, until it has completed
 abbrev pub IsCalmRun : ℕ → (ℕ → Bool) → State → List Entry → Type 0
 IsCalmRun number counted g [] = Unit {0}
 IsCalmRun number counted g (entry ∷ entries) =
     (has_completed (control_of number g) ≡ true)
-    ⊎ (((o : Outcome) → acts g.moment (raised g entry.at.0) entry.event ≡ Some o → IsCalmAt number counted g o.after) × IsCalmRun number counted (entry_after g entry) entries)
+    ⊎ (((o : Outcome) → input_of g entry ≡ Some o → IsCalmBetween number counted g.floor o.after.floor) × IsCalmRun number counted (entry_after g entry) entries)
 
 -- one at a Done that ends a command, else none; none once the run has ended
 abbrev pub done_of : State → Event → ℕ

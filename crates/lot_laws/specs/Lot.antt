@@ -1,13 +1,15 @@
 -- A control job that executes undisturbed on the floor of the tool: its substrates (after SEMI E40, SEMI E90 and SEMI E94; this tool's
 -- profile, tables 14 and 15, and moves). Which substrates are counted is settled as it starts.
-use Rattle.std.specs.Prelude.{◌≡◌, ◌⊎◌, ℕ, ◌+◌, ◌==◌, Bool, true, false, ◌&&◌, Some}
+use Rattle.std.specs.Prelude.{◌≡◌, ◌⊎◌, ℕ, ◌+◌, ◌==◌, Bool, true, false, ◌&&◌, [], ◌∷◌, Some}
 use Rattle.std.specs.List.{list_any}
-use Rattle.gem_tables.specs.Table.{firing}
+use Rattle.gem_tables.specs.Table.{firing, is_one_of}
 use Rattle.gem_tables.specs.declared.firing.Firing.{Firing}
 use Rattle.shop_floor.specs.Floor.{Floor}
 use Rattle.substrate.specs.Record.{is_at_source, is_needing}
 use Rattle.process_job.specs.Jobs.{job_numbered}
 use Rattle.process_job.specs.declared.job.ProcessJob.{ProcessJob}
+use Rattle.control_job.specs.Jobs.{job_numbered as control_numbered}
+use Rattle.tool_jobs.specs.Together.{AreTogether}
 use Rattle.tool_floor.specs.declared.tracking.Substrate.{Substrate}
 use Rattle.tool_floor.specs.Floor.{ToolFloor, substrate_numbered}
 use Rattle.tool_floor.specs.Jobs.{names_slot_of, can_join, is_here, job_of}
@@ -15,10 +17,11 @@ use Rattle.tool_floor.specs.Substrates.{reaches_verified}
 use Rattle.tool_floor.specs.Machines.{floor_fired}
 use Rattle.floor_moves.specs.Floor.{is_done}
 use Rattle.place_laws.specs.Picture.{picture, of_substrate}
+use Rattle.place_laws.specs.Sound.{Sound}
 use Rattle.owed_laws.specs.Owed.{owed_to}
-use Rattle.owed_laws.specs.Undisturbed.{SubstratesStand}
-use Rattle.queue_laws.specs.Started.{is_queued, is_left_in}
-use Rattle.queue_laws.specs.Steers.{Steers}
+use Rattle.owed_laws.specs.Undisturbed.{SubstratesStand, AreUnaligned}
+use Rattle.queue_laws.specs.Started.{is_queued, is_left_in, AreStarted}
+use Rattle.queue_laws.specs.Steers.{Steers, is_executing, goes_on}
 
 -- ---- as it starts
 
@@ -96,3 +99,23 @@ GoesOnOrCompletes number counted f x =
 -- behind a Done it executes on, and one less is owed
 abbrev pub TakesOneOff : ℕ → (ℕ → Bool) → ToolFloor → ToolFloor → Type 0
 TakesOneOff number counted f g = Executes number counted g × (owed_to counted (picture g) + 1 ≡ owed_to counted (picture f))
+
+-- ---- what holds on the floor at every moment
+
+pub record InOrder (f : ToolFloor) : Type 0 where
+  pub sound : Sound f
+  pub together : AreTogether f.jobs
+  pub started : AreStarted f.jobs
+  pub unaligned : AreUnaligned (picture f)
+  pub in_jobs : AreInKeptJobs f
+
+-- ---- what disturbs it
+
+-- What an input does to the floor, before the tool settles, doesn't disturb it: it executes still; each process job that was left in it
+-- is kept and goes on; and no counted substrate is ABORTED, STOPPED, LOST or SKIPPED that wasn't.
+pub record IsCalmBetween (number : ℕ) (counted : ℕ → Bool) (f g : ToolFloor) : Type 0 where
+  pub executes : is_executing (control_numbered number g.jobs.control.jobs) ≡ true
+  pub going : (n : ℕ) (j : ProcessJob) → job_numbered n f.jobs.process.kept ≡ Some j → is_left_in number j.id f.jobs ≡ true
+      → (k : ProcessJob) × (job_numbered n g.jobs.process.kept ≡ Some k) × (goes_on k.states.state ≡ true)
+  pub works : (n : ℕ) → counted n ≡ true → is_one_of (3 ∷ 4 ∷ 6 ∷ 7 ∷ []) ((picture g).processing n) ≡ true
+      → (picture g).processing n ≡ (picture f).processing n

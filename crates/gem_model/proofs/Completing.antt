@@ -95,31 +95,33 @@ after_acting g entry o here =
 -- it is Done of the open command of a module, or none
 data DoneOr (g : State) : Event → Type 0 where
   it_is : (m : ModuleId) (k : CmdNo) → has_open k.0 (module_of m.0 g) ≡ true → DoneOr g (event.Signal (signal.Done m k))
-  none_is : (e : Event) → done_of g e ≡ 0 → DoneOr g e
+  none_is : (e : Event) → ((h : State) → h.floor ≡ g.floor → done_of h e ≡ 0) → DoneOr g e
 
 done_or : (g : State) (e : Event) → DoneOr g e
-done_or g event.LinkUp = none_is event.LinkUp refl
-done_or g (event.LinkDown session cause) = none_is (event.LinkDown session cause) refl
-done_or g (event.Host session arrival) = none_is (event.Host session arrival) refl
-done_or g (event.Take session) = none_is (event.Take session) refl
-done_or g (event.Oper command) = none_is (event.Oper command) refl
-done_or g (event.Signal (signal.Placed port name slots)) = none_is (event.Signal (signal.Placed port name slots)) refl
-done_or g (event.Signal (signal.Removed port)) = none_is (event.Signal (signal.Removed port)) refl
-done_or g (event.Signal (signal.Failed m k)) = none_is (event.Signal (signal.Failed m k)) refl
-done_or g (event.Signal (signal.Down m)) = none_is (event.Signal (signal.Down m)) refl
-done_or g (event.Fetch m) = none_is (event.Fetch m) refl
-done_or g event.Tick = none_is event.Tick refl
-done_or g event.Listen = none_is event.Listen refl
-done_or g (event.Watch port) = none_is (event.Watch port) refl
+done_or g event.LinkUp = none_is event.LinkUp (λ h same. refl)
+done_or g (event.LinkDown session cause) = none_is (event.LinkDown session cause) (λ h same. refl)
+done_or g (event.Host session arrival) = none_is (event.Host session arrival) (λ h same. refl)
+done_or g (event.Take session) = none_is (event.Take session) (λ h same. refl)
+done_or g (event.Oper command) = none_is (event.Oper command) (λ h same. refl)
+done_or g (event.Signal (signal.Placed port name slots)) = none_is (event.Signal (signal.Placed port name slots)) (λ h same. refl)
+done_or g (event.Signal (signal.Removed port)) = none_is (event.Signal (signal.Removed port)) (λ h same. refl)
+done_or g (event.Signal (signal.Failed m k)) = none_is (event.Signal (signal.Failed m k)) (λ h same. refl)
+done_or g (event.Signal (signal.Down m)) = none_is (event.Signal (signal.Down m)) (λ h same. refl)
+done_or g (event.Fetch m) = none_is (event.Fetch m) (λ h same. refl)
+done_or g event.Tick = none_is event.Tick (λ h same. refl)
+done_or g event.Listen = none_is event.Listen (λ h same. refl)
+done_or g (event.Watch port) = none_is (event.Watch port) (λ h same. refl)
 done_or g (event.Signal (signal.Done m k)) = of (has_open k.0 (module_of m.0 g)) refl where
   of : (b : Bool) → has_open k.0 (module_of m.0 g) ≡ b → DoneOr g (event.Signal (signal.Done m k))
   of true is = it_is m k is
-  of false is = none_is (event.Signal (signal.Done m k)) (ap (λ (b : Bool). if b then 1 else 0) is)
+  of false is =
+      none_is (event.Signal (signal.Done m k))
+      (λ h same. ap (λ (f : ToolFloor). if has_open k.0 (module_at m.0 f.modules) then 1 else 0) same ∙ ap (λ (b : Bool). if b then 1 else 0) is)
 
 -- an event that has to wait is none
 waiting_none : (before : ℕ) (g h : State) (e : Event) → acts before h e ≡ None → DoneOr g e → done_of g e ≡ 0
-waiting_none before g h _ waits (none_is e none) = none
-waiting_none before g h _ waits (it_is m k open) = absurd (cc)
+waiting_none before g h _ waits (none_is e none) = none g refl
+waiting_none before g h _ waits (it_is m k opened) = absurd (cc)
 
 -- the module of such a command is one of the tool's
 open_there : (number k : ℕ) (g : State) → has_open k (module_of number g) ≡ true → lacks_module number g ≡ false
@@ -250,9 +252,9 @@ module _ (number : ℕ) (counted : ℕ → Bool) where
 
     stands_end : (all d k : ℕ) (g : State) → Goes k (settled g).floor → k + d ≡ all → Stands all d (settled g)
     stands_end all d k g at sum = record { order = at.order; rest = settled-rests g; stands = of at.goes } where
-        of : Owes k (settled g).floor ⊎ ((k ≡ 0) × IsPast number (settled g).floor.jobs.control) → ((k : ℕ) × Owes k (settled g).floor × (k + d ≡ all)) ⊎ ((all ≤ d) × IsPast number (settled g).floor.jobs.control)
-        of (inl owes) = inl (k, owes, sum)
-        of (inr past) = inr ((let zero = past.0 in omega (arith, zero, sum)), past.1)
+      of : Owes k (settled g).floor ⊎ ((k ≡ 0) × IsPast number (settled g).floor.jobs.control) → ((k : ℕ) × Owes k (settled g).floor × (k + d ≡ all)) ⊎ ((all ≤ d) × IsPast number (settled g).floor.jobs.control)
+      of (inl owes) = inl (k, owes, sum)
+      of (inr past) = inr ((let zero = past.0 in omega (arith, zero, sum)), past.1)
 
     stands_settled : (all d k : ℕ) (g : State) → Goes k g.floor → k + d ≡ all → Stands all d (settled g)
     stands_settled all d k g at sum = stands_end all d k g (goes_settled k g at) sum
@@ -278,8 +280,8 @@ module _ (number : ℕ) (counted : ℕ → Bool) where
     past_entry g entry past =
         behind_entry (λ (h : State). IsPast number h.floor.jobs.control) g entry past past
         (λ o here.
-            settled_keeps (λ (h : State). IsPast number h.floor.jobs.control) kept.ready kept.inner.created o.after
-            (kept_acts Any (λ (h : State). IsPast number h.floor.jobs.control) kept g.moment (raised g entry.at.0) entry.event o tt past (acted_so g entry o here).1))
+        settled_keeps (λ (h : State). IsPast number h.floor.jobs.control) kept.ready kept.inner.created o.after
+        (kept_acts Any (λ (h : State). IsPast number h.floor.jobs.control) kept g.moment (raised g entry.at.0) entry.event o tt past (acted_so g entry o here).1))
       where
         kept = each_kept (λ (h : State). IsPast number h.floor.jobs.control) (floor_each (λ (f : ToolFloor). IsPast number f.jobs.control) (past_each number))
 
@@ -296,17 +298,16 @@ module _ (number : ℕ) (counted : ℕ → Bool) where
         acted = (acted_so g entry o here).1
 
         by : (e : Event) → entry.event ≡ e → DoneOr g e → (j : ℕ) × Goes j o.after.floor × (j + done_of g e ≡ k)
-        by _ is (it_is m number_of open) =
+        by _ is (it_is m command opened) =
             let h = raised g entry.at.0 in
-            let same : answered answer.Done (signalled (signal.Done m number_of) h) ≡ o =
-                (let there : Some (answered answer.Done (signalled (signal.Done m number_of) h)) ≡ Some o = sym (ap (λ (x : Event). acts g.moment h x) is) ∙ acted in cc)
+            let same : answered answer.Done (signalled (signal.Done m command) h) ≡ o =
+            (let there : Some (answered answer.Done (signalled (signal.Done m command) h)) ≡ Some o = sym (ap (λ (x : Event). acts g.moment h x) is) ∙ acted in cc)
             in
-            let floor : o.after.floor ≡ listed (done_rows m.0 g.floor) g.floor = sym (ap (λ (x : Outcome). x.after.floor) same) ∙ done_floor m number_of h open in
-            let takes = steps.takes g.floor m.0 number_of.0 order rest owes.0 open in
+            let floor : o.after.floor ≡ listed (done_rows m.0 g.floor) g.floor = sym (ap (λ (x : Outcome). x.after.floor) same) ∙ done_floor m command h opened in
+            let takes = steps.takes g.floor m.0 command.0 order rest owes.0 opened in
             let less = takes.1 in
             let all = owes.1 in
-            let one = ap (λ (b : Bool). if b then 1 else 0) open in
-            (
+            let one = ap (λ (b : Bool). if b then 1 else 0) opened in (
               owed_to counted (picture (listed (done_rows m.0 g.floor) g.floor)),
               record {
                 order = order_acts g entry o order rest here;
@@ -316,11 +317,11 @@ module _ (number : ℕ) (counted : ℕ → Bool) where
             )
         by _ is (none_is e none) =
             let carried =
-                kept_input (Undone g.floor) (λ (h : State). steps.Carried g.floor h.floor) (fact_acting (Undone g.floor) (steps.Carried g.floor) (steps.changes g.floor order rest owes.0)) g.moment (raised g entry.at.0) entry.event o
-                (record { same = refl; none = ap (done_of g) is ∙ none }) (steps.begins g.floor order owes.0) acted
+            kept_input (Undone g.floor) (λ (h : State). steps.Carried g.floor h.floor) (fact_acting (Undone g.floor) (steps.Carried g.floor) (steps.changes g.floor order rest owes.0)) g.moment (raised g entry.at.0) entry.event o
+            (record { same = refl; none = ap (done_of (raised g entry.at.0)) is ∙ none (raised g entry.at.0) refl }) (steps.begins g.floor order owes.0) acted
             in
             let behind = steps.ends g.floor o.after.floor order owes.0 carried calm in
-            (k, record { order = steps.order g.floor o.after.floor carried; goes = inl (behind.0, behind.1 ∙ owes.1) }, (let zero = none in omega (arith, zero)))
+            (k, record { order = steps.order g.floor o.after.floor carried; goes = inl (behind.0, behind.1 ∙ owes.1) }, (let zero = none g refl in omega (arith, zero)))
 
       -- an entry that doesn't disturb it
       stands_entry : (all d k : ℕ) (g : State) (entry : Entry) → InOrder g.floor → AtRest g → Owes k g.floor → k + d ≡ all
@@ -439,10 +440,10 @@ module _ (number : ℕ) (orders : Orders) where
       let owes = starts_goes 4 f.floor there starts refl auto material in
       let floor : (fire f x).floor ≡ floor_fired x f.floor = ap (λ (h : State). h.floor) (effect_is f x (ready_is f x least_is)) in
       let goes : Goes number counted all (fire f x).floor =
-          subst (Goes number counted all) (sym floor) (record { order = orders.fact.ready x f.floor least_is there; goes = inl owes })
+      subst (Goes number counted all) (sym floor) (record { order = orders.fact.ready x f.floor least_is there; goes = inl owes })
       in
       let end : Goes number counted all (settled o.after).floor =
-          path_keeps (λ (h : State). Goes number counted all h.floor) (goes_automatic number counted orders all) (fact_creation (Goes number counted all)) (creations f x) behind (created_are f x) (fire f x) (settled o.after) fires.path goes
+      path_keeps (λ (h : State). Goes number counted all h.floor) (goes_automatic number counted orders all) (fact_creation (Goes number counted all)) (creations f x) behind (created_are f x) (fire f x) (settled o.after) fires.path goes
       in
       subst (Stands number counted orders all 0) (sym (after_acting g entry o here)) (stands_end number counted orders all 0 all o.after end (omega arith))
 
@@ -454,11 +455,10 @@ module _ (orders : Orders) (steps : (number : ℕ) (counted : ℕ → Bool) → 
 
   completes_each : (g : State) (entries : List Entry) → InOrder g.floor → AtRest g → EachCompletes g entries
   completes_each g [] order rest = tt
-  completes_each g (entry ∷ entries) order rest =
-      (
-        completes_at g entry entries order rest,
-        completes_each (entry_after g entry) entries (order_entry 0 (λ n. false) orders g entry order rest) (rest_entry 0 (λ n. false) orders g entry rest),
-      )
+  completes_each g (entry ∷ entries) order rest = (
+    completes_at g entry entries order rest,
+    completes_each (entry_after g entry) entries (order_entry 0 (λ n. false) orders g entry order rest) (rest_entry 0 (λ n. false) orders g entry rest),
+  )
 
   pub run_completes : (c : Config) (entries : List Entry) (h : State) → c.ports ≤ most_ports → Run (opening c) entries h → EachCompletes (opening c) entries
   run_completes c entries h few run = completes_each (opening c) entries (orders.first c few) (opening-rests c)

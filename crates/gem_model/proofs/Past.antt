@@ -105,8 +105,7 @@ module _ (P : JobStore → Type 0) (leaves_keep : (job : List ℕ) (s : JobStore
 
   control_row : (x : Firing) (f : ToolFloor) → Of f → Of (floor_fired x f)
   control_row x f at =
-      either_creates (λ (fs : List Firing) (h : ToolFloor). Of h) f x floor_machines at
-      (
+      either_creates (λ (fs : List Firing) (h : ToolFloor). Of h) f x floor_machines at (
         at,
         (
           at,

@@ -59,7 +59,7 @@ use Rattle.gem_model.proofs.Paths.{path_keeps, path_at, along_at, control_least}
 use Rattle.gem_model.proofs.Placed.{Rested}
 use Rattle.gem_model.proofs.Resting.{AtRest, opening-rests, settled-rests}
 use Rattle.gem_model.proofs.Settling.{settled_keeps, settled_along, settles_so}
-use Rattle.gem_model.proofs.Walk.{Any, kept_acts, kept_input, kept_step}
+use Rattle.gem_model.proofs.Walk.{Any, Kept, kept_acts, kept_input, kept_step}
 
 -- ---- entries
 
@@ -189,10 +189,10 @@ rising_to last given (n ∷ ns) r = let first = r.0 in let rest = rising_to n gi
 
 within_given : (n last given : ℕ) (cs : List ControlJob) (c : ControlJob) → AreRising last given (numbers_of cs) → control_numbered n cs ≡ Some c → n ≤ given
 within_given n last given [] c r e = absurd (cc)
-within_given n last given (d ∷ ds) c r e = of (d.number == n) refl e where
-  of : (b : Bool) → (d.number == n) ≡ b → (if b then Some d else control_numbered n ds) ≡ Some c → n ≤ given
-  of true is f = let its = (Decides-eqb d.number n).0 is in let rest = rising_to d.number given (numbers_of ds) r.1 in omega (arith, its, rest)
-  of false is f = within_given n d.number given ds c r.1 f
+within_given n last given (d ∷ ds) c r e = of (d.number == n) refl e (within_given n d.number given ds c r.1) where
+  of : (b : Bool) → (d.number == n) ≡ b → (if b then Some d else control_numbered n ds) ≡ Some c → (control_numbered n ds ≡ Some c → n ≤ given) → n ≤ given
+  of true is f later = let its = (Decides-eqb d.number n).0 is in let rest = rising_to d.number given (numbers_of ds) r.1 in omega (arith, its, rest)
+  of false is f later = later f
 
 -- ---- while it executes
 
@@ -283,6 +283,7 @@ module _ (number : ℕ) (counted : ℕ → Bool) where
         settled_keeps (λ (h : State). IsPast number h.floor.jobs.control) kept.ready kept.inner.created o.after
         (kept_acts Any (λ (h : State). IsPast number h.floor.jobs.control) kept g.moment (raised g entry.at.0) entry.event o tt past (acted_so g entry o here).1))
       where
+        kept : Kept Any (λ (h : State). IsPast number h.floor.jobs.control)
         kept = each_kept (λ (h : State). IsPast number h.floor.jobs.control) (floor_each (λ (f : ToolFloor). IsPast number f.jobs.control) (past_each number))
 
     past_entries : (g : State) (entries : List Entry) → IsPast number g.floor.jobs.control → IsPast number (after_all g entries).floor.jobs.control
@@ -307,7 +308,7 @@ module _ (number : ℕ) (counted : ℕ → Bool) where
             let takes = steps.takes g.floor m.0 command.0 order rest owes.0 opened in
             let less = takes.1 in
             let all = owes.1 in
-            let one = ap (λ (b : Bool). if b then 1 else 0) opened in (
+            let one : done_of g (event.Signal (signal.Done m command)) ≡ 1 = ap (λ (b : Bool). if b then 1 else 0) opened in (
               owed_to counted (picture (listed (done_rows m.0 g.floor) g.floor)),
               record {
                 order = order_acts g entry o order rest here;
@@ -329,12 +330,12 @@ module _ (number : ℕ) (counted : ℕ → Bool) where
           → Stands all (d + (if g.quitting then 0 else done_of g entry.event)) (entry_after g entry)
       stands_entry all d k g entry order rest owes sum calm = of g.quitting (acts g.moment (raised g entry.at.0) entry.event) refl refl where
         of : (b : Bool) (x : Option Outcome) → g.quitting ≡ b → acts g.moment (raised g entry.at.0) entry.event ≡ x → Stands all (d + (if b then 0 else done_of g entry.event)) (led_to b x entry.at.0 g)
-        of true x q a = record { order = order; rest = rest; stands = inl (k, owes, omega (arith, sum)) }
+        of true x q a = record { order = order; rest = rest; stands = inl (k, owes, (let s : k + (d + 0) ≡ all = omega (arith, sum) in s)) }
         of false None q a =
             record {
               order = order;
               rest = rest;
-              stands = inl (k, owes, (let zero = waiting_none g.moment g (raised g entry.at.0) entry.event a (done_or g entry.event) in omega (arith, sum, zero)));
+              stands = inl (k, owes, (let zero = waiting_none g.moment g (raised g entry.at.0) entry.event a (done_or g entry.event) in let s : k + (d + done_of g entry.event) ≡ all = omega (arith, sum, zero) in s));
             }
         of false (Some o) q a =
             let here : input_of g entry ≡ Some o = ap (λ (b : Bool). if b then None else acts g.moment (raised g entry.at.0) entry.event) q ∙ a in
@@ -345,7 +346,7 @@ module _ (number : ℕ) (counted : ℕ → Bool) where
       -- ---- entries
 
       -- it has completed behind them exactly where so many Dones came
-      Ends : ℕ → ℕ → State → Type 0
+      abbrev Ends : ℕ → ℕ → State → Type 0
       Ends all d g = has_completed (control_of number g) ≡ nat_le all d
 
       past_ends : (all d : ℕ) (g : State) → all ≤ d → IsPast number g.floor.jobs.control → Ends all d g
@@ -384,7 +385,7 @@ module _ (number : ℕ) (counted : ℕ → Bool) where
         of : ((k : ℕ) × Owes k g.floor × (k + d ≡ all)) ⊎ ((all ≤ d) × IsPast number g.floor.jobs.control) → Ends all (d + 0) g
         of (inl owes) = owed_ends all (d + 0) owes.0 g at.order at.rest owes.1 (let sum = owes.2 in omega (arith, sum))
         of (inr past) = past_ends all (d + 0) g (let enough = past.0 in omega (arith, enough)) past.1
-      ends_so all d g (entry ∷ entries) at calm = of at.stands calm where
+      ends_so all d g (entry ∷ entries) at calm = of at.stands calm (λ s c. ends_so all (d + came) (entry_after g entry) entries s c) where
         came : ℕ
         came = if g.quitting then 0 else done_of g entry.event
 
@@ -393,14 +394,15 @@ module _ (number : ℕ) (counted : ℕ → Bool) where
 
         of : ((k : ℕ) × Owes k g.floor × (k + d ≡ all)) ⊎ ((all ≤ d) × IsPast number g.floor.jobs.control)
             → (has_completed (control_of number g) ≡ true) ⊎ (((o : Outcome) → input_of g entry ≡ Some o → IsCalmBetween number counted g.floor o.after.floor) × IsCalmRun number counted (entry_after g entry) entries)
+            → (Stands all (d + came) (entry_after g entry) → IsCalmRun number counted (entry_after g entry) entries → Ends all ((d + came) + dones (entry_after g entry) entries) (after_all (entry_after g entry) entries))
             → Ends all (d + (came + dones (entry_after g entry) entries)) (after_all (entry_after g entry) entries)
-        of (inr past) calm =
+        of (inr past) calm later =
             past_ends all (d + (came + dones (entry_after g entry) entries)) (after_all (entry_after g entry) entries) (let enough = past.0 in omega (arith, enough))
             (past_entries g (entry ∷ entries) past.1)
-        of (inl owes) (inl completed) = absurd (true≢false (sym completed ∙ executing_open (control_of number g) owes.1.0.steers.executes))
-        of (inl owes) (inr calm) =
+        of (inl owes) (inl completed) later = absurd (true≢false (sym completed ∙ executing_open (control_of number g) owes.1.0.steers.executes))
+        of (inl owes) (inr calm) later =
             subst (λ (n : ℕ). Ends all n (after_all (entry_after g entry) entries)) (more (dones (entry_after g entry) entries))
-            (ends_so all (d + came) (entry_after g entry) entries (stands_entry all d owes.0 g entry at.order at.rest owes.1 owes.2 calm.0) calm.1)
+            (later (stands_entry all d owes.0 g entry at.order at.rest owes.1 owes.2 calm.0) calm.1)
 
 -- ---- its start
 

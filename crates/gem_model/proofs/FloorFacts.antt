@@ -363,7 +363,7 @@ module _ (Rest : Event → State → Type 0) (F : ToolFloor → Type 0) (fact : 
     event = λ g e o online st. st;
     answer = λ g st. st;
     row = λ g f end starts st. input_row g f (end_input f end) starts st;
-    created = (fact_creation F);
+    created = fact_creation F;
   }
 
   fact_inner : Inner Rest At
@@ -384,7 +384,7 @@ module _ (Rest : Event → State → Type 0) (F : ToolFloor → Type 0) (fact : 
     control = λ g s becomes st. fact.control s g.floor becomes st;
     row = λ g f free starts st. input_row g f (free_input f free) starts st;
     units = units;
-    created = (fact_creation F);
+    created = fact_creation F;
     answered = λ g h item test one found st. end_closed At ends g h item one st;
     failed = λ g test one found st. end_timed_out At ends g one st;
     disabled = end_disabled At ends;

@@ -4,6 +4,7 @@ use Rattle.std.proofs.lemmas.Bool.Decides.{Decides-eqb, nat_tests}
 use Rattle.gem_ids.specs.declared.numbers.CmdNo.{CmdNo}
 use Rattle.gem_ids.specs.declared.numbers.ModuleId.{ModuleId}
 use Rattle.gem_tables.specs.Table.{firing}
+use Rattle.gem_tables.specs.declared.firing.Firing.{Firing}
 use Rattle.load_port.specs.Ports.{most_ports}
 use Rattle.robot_moves.specs.declared.module.Module.{Module}
 use Rattle.robot_moves.specs.declared.module.Module.TheVariants.{Idle, Busy, Down}

@@ -185,15 +185,18 @@ module _ (number : ℕ) where
     new : ControlJob
     new = new_job (s.given + 1) name named auto
 
+    fits : number ≤ s.given + 1
+    fits = let a = past.given in omega (arith, a)
+
     closes : (js : List ControlJob) → ((c : ControlJob) → job_numbered number js ≡ Some c → is_open c ≡ false) → (c : ControlJob) → job_numbered number (js ++ new ∷ []) ≡ Some c → is_open c ≡ false
     closes js old c found = by (more_back new number js c found) where
       by : (job_numbered number js ≡ Some c) ⊎ (c ≡ new) → is_open c ≡ false
       by (inl before) = old c before
-      by (inr is) = absurd (let named = number_is number (js ++ new ∷ []) c found in let its = ap (λ (x : ControlJob). x.number) is in let a = past.given in omega (arith, named, its, a))
+      by (inr is) = absurd (let named = number_is number (js ++ new ∷ []) c found in let its : c.number ≡ s.given + 1 = ap (λ (x : ControlJob). x.number) is in let a = past.given in omega (arith, named, its, a))
 
     of : (o : Option ℕ) → IsPast number (with_created name named auto (kept_without o s))
-    of None = record { given = let a = past.given in omega (arith, a); closed = closes s.jobs past.closed }
-    of (Some k) = record { given = let a = past.given in omega (arith, a); closed = closes (jobs_without k s.jobs) (λ c found. past.closed c (without_back k number s.jobs c found)) }
+    of None = record { given = fits; closed = closes s.jobs past.closed }
+    of (Some k) = record { given = fits; closed = closes (jobs_without k s.jobs) (λ c found. past.closed c (without_back k number s.jobs c found)) }
 
   becomes_past : (w : Jobs) (s : JobStore) → BecomesControl w s → IsPast number w.control → IsPast number s
   becomes_past w _ (one_added name named auto none) past = added_past name named auto w.control past

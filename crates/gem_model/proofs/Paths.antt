@@ -37,12 +37,12 @@ pub record Fires (g : State) (x : Firing) (behind : List Firing) (h : State) : T
   pub path : Path (fire g x) (creations g x) behind h
 
 pub path_at : (before behind : List Firing) (x : Firing) (due : List Firing) → AreCreations due → is_creation x ≡ false → (g h : State) → Path g due (before ++ x ∷ behind) h → Fires (fire_all before g) x behind h
-path_at [] behind x [] are no g h path = record { ready = path.0; path = path.1 }
-path_at [] behind x (d ∷ due) are no g h path = absurd (true≢false (sym are.0 ∙ sym (ap is_creation path.0) ∙ no))
-path_at (y ∷ before) behind x [] are no g h path = path_at before behind x (creations g y) (created_are g y) no (fire g y) h path.1
-path_at (y ∷ before) behind x (d ∷ due) are no g h path =
+path_at [] behind x [] are made g h path = record { ready = path.0; path = path.1 }
+path_at [] behind x (d ∷ due) are made g h path = absurd (true≢false (sym are.0 ∙ sym (ap is_creation path.0) ∙ made))
+path_at (y ∷ before) behind x [] are made g h path = path_at before behind x (creations g y) (created_are g y) made (fire g y) h path.1
+path_at (y ∷ before) behind x (d ∷ due) are made g h path =
     subst (λ (z : Firing). Fires (fire_all before (fire g z)) x behind h) (sym path.0)
-    (path_at before behind x (creations g d ++ due) (due_are g d due are.0 are.1) no (fire g d) h path.1)
+    (path_at before behind x (creations g d ++ due) (due_are g d due are.0 are.1) made (fire g d) h path.1)
 
 -- a fact that holds along firings holds behind those of them that come first
 pub along_at : (Fact : State → Type 0) (before behind : List Firing) (g : State) → Along Fact g (before ++ behind) → Fact (fire_all before g)
@@ -58,7 +58,7 @@ is_of_table table (Some x) = x.row.table == table
 
 -- a row of tables 1 to 3 is none of table 15
 other_table : {P : Type 0} (y x : Firing) → (y.row.table == 15) ≡ false → (x.row.table == 15) ≡ true → Some y ≡ Some x → P
-other_table y x no is e = absurd (true≢false (sym is ∙ sym (ap (is_of_table 15) e) ∙ no))
+other_table y x other is e = absurd (true≢false (sym is ∙ sym (ap (is_of_table 15) e) ∙ other))
 
 -- where the least row is one of table 15, it is the least of the floor
 pub control_least : (g : State) (x : Firing) → (x.row.table == 15) ≡ true → least g ≡ Some x → floor_least g.floor ≡ Some x

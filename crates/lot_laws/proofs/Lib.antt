@@ -1,3 +1,4 @@
+pub mod AtWork
 pub mod Naming
 pub mod Standing
 pub mod Beginning

@@ -1,8 +1,11 @@
+pub mod AtWork
 pub mod Naming
 pub mod Standing
+pub mod Works
 pub mod Beginning
 pub mod Controls
 pub mod Going
+pub mod Disturbs
 pub mod Processes
 pub mod Issuing
 pub mod Substrates
@@ -14,3 +17,4 @@ pub mod Least
 pub mod Registering
 pub mod Inputs
 pub mod InJobs
+pub mod Words

@@ -1,5 +1,7 @@
+pub mod AtWork
 pub mod Naming
 pub mod Standing
+pub mod Works
 pub mod Beginning
 pub mod Controls
 pub mod Going
@@ -14,3 +16,9 @@ pub mod Least
 pub mod Registering
 pub mod Inputs
 pub mod InJobs
+pub mod Equipment
+pub mod Ordered
+pub mod Orderly
+pub mod Failing
+pub mod Shopping
+pub mod Removing

@@ -39,12 +39,13 @@ use Rattle.process_job.specs.Jobs.{job_numbered, created, fired as process_state
 use Rattle.process_job.specs.Creating.{create_fault}
 use Rattle.process_job.specs.declared.job.JobSpec.{JobSpec}
 use Rattle.process_job.specs.declared.job.ProcessJob.{ProcessJob}
-use Rattle.control_job.specs.Jobs.{job_numbered as control_numbered, is_any_active, headed}
-use Rattle.control_job.specs.Tables.{states_number, control_table}
+use Rattle.control_job.specs.Jobs.{job_numbered as control_numbered, is_any_active, first_waiting, headed}
+use Rattle.control_job.specs.Tables.{states_number, not_ending}
+use Rattle.control_job.specs.declared.record.ControlState.TheVariants.{Queued}
 use Rattle.control_job.specs.declared.job.ControlJob.{ControlJob}
 use Rattle.tool_jobs.specs.Jobs.{Jobs}
 use Rattle.tool_jobs.specs.Rows.{process_starts, process_does, found_does, process_fired, control_starts, control_fired}
-use Rattle.tool_jobs.specs.Wants.{control_wants}
+use Rattle.tool_jobs.specs.Wants.{is_that}
 use Rattle.tool_jobs.specs.Creating.{with_process, with_control, control_fault}
 use Rattle.tool_jobs.specs.Together.{AreTogether}
 use Rattle.tool_jobs.proofs.Together.{together_none, together_fired, together_ended, together_row, together_created, together_added, together_headed}
@@ -113,7 +114,9 @@ control-together : (row n : ℕ) (here : Bool) (w : Jobs) → control_starts row
 control-together row n here w starts t = together_row row n w (λ two. none (control_numbered n w.control.jobs) (subst (λ (r : ℕ). control_starts r (control_numbered n w.control.jobs) here w ≡ true) two starts)) t where
   none : (o : Option ControlJob) → control_starts 2 o here w ≡ true → is_any_active w.control.jobs ≡ false
   none None e = absurd (true≢false (sym e))
-  none (Some c) e = not-true _ (and_parts _ (not (is_any_active w.control.jobs)) (and_parts _ _ e).1).1
+  none (Some c) e =
+      let wants = and_parts (is_among states_number (not_ending Queued ∷ []) c.states) (is_that c.number (first_waiting w.control) && not (is_any_active w.control.jobs)) e in
+      not-true (is_any_active w.control.jobs) (and_parts (is_that c.number (first_waiting w.control)) (not (is_any_active w.control.jobs)) wants.1).1
 
 -- what a row of table 14 does to substrates
 job-unaligned : (f : ToolFloor) → UnalignedIn f.places f.substrates → (r : Option JobRow) (o : Option ProcessJob) → UnalignedIn (found_job_does r o f).places (found_job_does r o f).substrates
@@ -488,25 +491,25 @@ lost-in_order sub f o = in_order (listed (lost_rows sub f) f) (lost_rows_sound s
 -- what is found among some is found among all, where numbers differ
 pub found_among_all : {A : Type 0} (number : A → ℕ) (q : A → Bool) (n : ℕ) (xs : List A) (x : A) → IsDistinct (map number xs) → find (λ (y : A). number y == n) (filter q xs) ≡ Some x → (find (λ (y : A). number y == n) xs ≡ Some x) × (q x ≡ true)
 found_among_all number q n [] x d e = none_some x e
-found_among_all number q n (y ∷ ys) x d e = of (q y) refl e where
-  later : find (λ (z : _). number z == n) (filter q ys) ≡ Some x → (number y == n) ≡ false
-  later f = by (number y == n) refl where
-    w : (find (λ (z : _). number z == n) ys ≡ Some x) × (q x ≡ true)
-    w = found_among_all number q n ys x d.1 f
-
+found_among_all number q n (y ∷ ys) x d e = of (q y) refl e (found_among_all number q n ys x d.1) where
+  other : find (λ (z : _). number z == n) ys ≡ Some x → (number y == n) ≡ false
+  other there = by (number y == n) refl where
     by : (b : Bool) → (number y == n) ≡ b → b ≡ false
     by false g = refl
-    by true g = sym (found_among number n ys x w.0) ∙ ap (is_one_of (map number ys)) (sym ((Decides-eqb (number y) n).0 g)) ∙ d.0
+    by true g = sym (found_among number n ys x there) ∙ ap (is_one_of (map number ys)) (sym ((Decides-eqb (number y) n).0 g)) ∙ d.0
 
-  past : find (λ (z : _). number z == n) (filter q ys) ≡ Some x → (find (λ (z : _). number z == n) (y ∷ ys) ≡ Some x) × (q x ≡ true)
-  past f = let w = found_among_all number q n ys x d.1 f in (ap (λ (b : Bool). if b then Some y else find (λ (z : _). number z == n) ys) (later f) ∙ w.0, w.1)
+  past : (find (λ (z : _). number z == n) ys ≡ Some x) × (q x ≡ true) → (find (λ (z : _). number z == n) (y ∷ ys) ≡ Some x) × (q x ≡ true)
+  past w = (ap (λ (b : Bool). if b then Some y else find (λ (z : _). number z == n) ys) (other w.0) ∙ w.0, w.1)
 
-  of : (b : Bool) → q y ≡ b → find (λ (z : _). number z == n) (if b then y ∷ filter q ys else filter q ys) ≡ Some x → (find (λ (z : _). number z == n) (y ∷ ys) ≡ Some x) × (q x ≡ true)
-  of false g f = past f
-  of true g f = first (number y == n) refl f where
-    first : (b : Bool) → (number y == n) ≡ b → (if b then Some y else find (λ (z : _). number z == n) (filter q ys)) ≡ Some x → (find (λ (z : _). number z == n) (y ∷ ys) ≡ Some x) × (q x ≡ true)
-    first true h k = (ap (λ (b : Bool). if b then Some y else find (λ (z : _). number z == n) ys) h ∙ k, sym (ap q (some_same y x k)) ∙ g)
-    first false h k = past k
+  first : q y ≡ true → (b : Bool) → (number y == n) ≡ b → (if b then Some y else find (λ (z : _). number z == n) (filter q ys)) ≡ Some x
+      → (find (λ (z : _). number z == n) (filter q ys) ≡ Some x → (find (λ (z : _). number z == n) ys ≡ Some x) × (q x ≡ true)) → (find (λ (z : _). number z == n) (y ∷ ys) ≡ Some x) × (q x ≡ true)
+  first g true h k later = (ap (λ (b : Bool). if b then Some y else find (λ (z : _). number z == n) ys) h ∙ k, sym (ap q (some_same y x k)) ∙ g)
+  first g false h k later = past (later k)
+
+  of : (b : Bool) → q y ≡ b → find (λ (z : _). number z == n) (if b then y ∷ filter q ys else filter q ys) ≡ Some x
+      → (find (λ (z : _). number z == n) (filter q ys) ≡ Some x → (find (λ (z : _). number z == n) ys ≡ Some x) × (q x ≡ true)) → (find (λ (z : _). number z == n) (y ∷ ys) ≡ Some x) × (q x ≡ true)
+  of false g f later = past (later f)
+  of true g f later = first g (number y == n) refl f later
 
 without-ordered : (f : ToolFloor) → Base f → (k : Option ℕ) → OrderedAt f → OrderedAt (without_carrier k f)
 without-ordered f b None o = o

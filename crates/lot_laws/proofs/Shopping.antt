@@ -1,8 +1,10 @@
 -- A control job that is at work is so behind what the host writes of carriers, a carrier that is cancelled, a binding that is cancelled, and a
 -- carrier that is placed; and where one is removed from a port to which no carrier belongs.
-use Rattle.std.proofs.Common.{◌≡◌, ℕ, Bool, true, false, ◌||◌, List, Option, Some, None, refl, sym, ◌∙◌, ap, inr}
-use Rattle.std.proofs.lemmas.Bool.{true≢false, both_ways, or_parts}
+use Rattle.std.proofs.Common.{◌≡◌, ℕ, ◌==◌, Bool, true, false, ◌&&◌, ◌||◌, List, Option, Some, None, refl, sym, ◌∙◌, ap, subst, ◌⊎◌, inl, inr}
+use Rattle.std.proofs.lemmas.Bool.{true≢false, both_ways, or_parts, and_parts}
+use Rattle.std.proofs.lemmas.Bool.Decides.{Decides-eqb}
 use Rattle.gem_tables.specs.Table.{firing}
+use Rattle.gem_tables.specs.declared.firing.Firing.{Firing}
 use Rattle.load_port.specs.declared.caack.Caack.TheVariants as caack
 use Rattle.load_port.specs.Caack.{is_done_code}
 use Rattle.load_port.specs.Ports.{port_numbered}
@@ -24,6 +26,7 @@ use Rattle.shop_floor.proofs.Keeps.{row-keeps as shop_keeps, came-keeps, accessi
 use Rattle.tool_jobs.specs.Jobs.{Jobs}
 use Rattle.tool_floor.specs.Floor.{ToolFloor, with_shop}
 use Rattle.tool_floor.specs.Jobs.{is_any_of_carrier}
+use Rattle.tool_floor.specs.Substrates.{reaches_verified}
 use Rattle.tool_floor.specs.Machines.{floor_starts, floor_fired}
 use Rattle.place_laws.specs.Sound.{Sound}
 use Rattle.place_laws.proofs.Stays.{NonePresent}
@@ -33,8 +36,11 @@ use Rattle.place_laws.proofs.ShopRows.{transfer_leaves, accessing_leaves}
 use Rattle.place_laws.proofs.Written.{written_leaves}
 use Rattle.floor_laws.proofs.ShopAccess.{SameAccess, finds_without, finds_forgets, finds_more, finds_found, access_found, access_same, access_named, transfer_access}
 use Rattle.floor_laws.proofs.ShopHost.{forgets_leaves, still_placed}
-use Rattle.lot_laws.specs.Lot.{AtWork}
-use Rattle.lot_laws.proofs.Shops.{same_use, shop-works, accessing_use}
+use Rattle.floor_laws.proofs.ShopTables.{is_shop_row}
+use Rattle.lot_laws.specs.Lot.{is_registration, AtWork}
+use Rattle.lot_laws.proofs.Failing.{turned-works}
+use Rattle.lot_laws.proofs.Registering.{registration-works}
+use Rattle.lot_laws.proofs.Shops.{same_use, shop-works, shop_row-works, accessing_use}
 use Rattle.lot_laws.proofs.Works.{WorksOn}
 
 -- ---- states of accessing where the host writes
@@ -108,3 +114,19 @@ module _ (number : ℕ) (counted : ℕ → Bool) (f : ToolFloor) (sound : Sound 
   pub vacated-works : (port : ℕ) → floor_starts (firing 4 port 5) f ≡ true → WorksOn number counted before f (floor_fired (firing 4 port 5) f)
   vacated-works port starts =
       by_change (shop.floor_fired (firing 4 port 5) f.shop) (transfer_leaves f.substrates f.shop port 5) (shop_keeps (firing 4 port 5) f.shop starts sound.base.shop) (transfer_access f.shop port 5)
+
+  -- ---- a row alone
+
+  -- A row that inputs fire alone and that is none of a job: of the load ports, the carriers and the locations, one by which a slot map is
+  -- VERIFIED, or `up`.
+  pub row-works : (x : Firing) → floor_starts x f ≡ true → (is_shop_row x ≡ true) ⊎ ((is_registration x ≡ true) ⊎ (((x.row.table == 16) && (x.row.row == 10)) ≡ true)) → WorksOn number counted before f (floor_fired x f)
+  row-works x starts (inl is) = shop_row-works number counted f sound e x starts is
+  row-works x starts (inr (inl is)) =
+      let parts = and_parts (x.row.table == 9) (reaches_verified x.row.row) is in
+      let same : x ≡ firing 9 x.object x.row.row = ap (λ (n : ℕ). firing n x.object x.row.row) ((Decides-eqb x.row.table 9).0 parts.0) in
+      subst (λ (y : Firing). WorksOn number counted before f (floor_fired y f)) (sym same)
+      (registration-works number counted f sound e x.object x.row.row parts.1 (subst (λ (y : Firing). floor_starts y f ≡ true) same starts))
+  row-works x starts (inr (inr is)) =
+      let parts = and_parts (x.row.table == 16) (x.row.row == 10) is in
+      let same : x ≡ firing 16 x.object 10 = ap (λ (n : ℕ). firing n x.object x.row.row) ((Decides-eqb x.row.table 16).0 parts.0) ∙ ap (firing 16 x.object) ((Decides-eqb x.row.row 10).0 parts.1) in
+      subst (λ (y : Firing). WorksOn number counted before f (floor_fired y f)) (sym same) (turned-works number counted f e x.object 10 refl)

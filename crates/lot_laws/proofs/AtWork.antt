@@ -1,6 +1,7 @@
 -- One that executes is at work, and one that is at work executes where it is EXECUTING and each process job that is left in it goes on.
 use Rattle.std.proofs.Common.{◌≡◌, ℕ, ◌==◌, Bool, true, false, ◌||◌, [], ◌∷◌, Option, Some, None, refl, sym, ◌∙◌, ap}
 use Rattle.std.proofs.lemmas.Bool.{true≢false}
+use Rattle.std.proofs.lemmas.Bool.Decides.{Decides-eqb}
 use Rattle.gem_tables.specs.Table.{is_one_of}
 use Rattle.process_job.specs.Jobs.{job_numbered}
 use Rattle.process_job.specs.declared.record.JobState.{JobState}
@@ -12,7 +13,7 @@ use Rattle.control_job.specs.declared.job.ControlJob.{ControlJob}
 use Rattle.tool_floor.specs.Floor.{ToolFloor}
 use Rattle.queue_laws.specs.Started.{is_left_in}
 use Rattle.queue_laws.specs.Steers.{Steers, is_executing, goes_on}
-use Rattle.lot_laws.specs.Lot.{Executes, is_at_work, breaks_off, AtWork}
+use Rattle.lot_laws.specs.Lot.{Executes, is_under_way, breaks_off, AtWork}
 
 -- one that goes on isn't STOPPING or ABORTING
 pub going_whole : (s : JobState) → goes_on s ≡ true → breaks_off s ≡ false
@@ -27,12 +28,9 @@ going_whole state.Stopping g = absurd (true≢false (sym g))
 going_whole state.Aborting g = absurd (true≢false (sym g))
 
 -- one that is EXECUTING is at work
-pub executing_works : (o : Option ControlJob) → is_executing o ≡ true → is_at_work o ≡ true
+pub executing_works : (o : Option ControlJob) → is_executing o ≡ true → is_under_way o ≡ true
 executing_works None e = e
-executing_works (Some c) e = of (states_number c.states == 3) (states_number c.states == 4) e where
-  of : (a b : Bool) → a ≡ true → (a || (b || false)) ≡ true
-  of true b q = refl
-  of false b q = absurd (true≢false (sym q))
+executing_works (Some c) e = ap (is_one_of (3 ∷ 4 ∷ [])) ((Decides-eqb (states_number c.states) 3).0 e)
 
 pub at_work_of : (number : ℕ) (counted : ℕ → Bool) (f : ToolFloor) → Executes number counted f → AtWork number counted f.jobs f
 at_work_of number counted f e = record {

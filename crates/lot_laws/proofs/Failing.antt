@@ -82,7 +82,7 @@ module _ (m row : ℕ) (f : ToolFloor) where
 
 -- behind rows 7 to 10 of table 16, and where a command is fetched, its substrates stand as they do
 pub turned-works : (number : ℕ) (counted : ℕ → Bool) {before : Jobs} (f : ToolFloor) → AtWork number counted before f → (m row : ℕ) → is_one_of (7 ∷ 8 ∷ 9 ∷ 10 ∷ []) row ≡ true → WorksOn number counted before f (floor_fired (firing 16 m row) f)
-turned-works number counted f e m row one =
+turned-works number counted {before = before} f e m row one =
     subst (λ (g : ToolFloor). WorksOn number counted before f g) (sym (turns m row f one)) (modules-work number counted f e (change_module m (module_behind row) f.modules) (λ k c is. busy_back m row f k c is))
 
 pub fetched-works : (number : ℕ) (counted : ℕ → Bool) {before : Jobs} (f : ToolFloor) → AtWork number counted before f → (m : ℕ) → WorksOn number counted before f (fetched m f)
@@ -125,14 +125,14 @@ module _ (number : ℕ) (counted : ℕ → Bool) (f : ToolFloor) (sound : Sound 
         spoils n (e.members n p.member) (ap (is_one_of (3 ∷ 4 ∷ 6 ∷ 7 ∷ [])) then_is)
         (ap (λ (k : ℕ). k == (picture f).processing n) then_is ∙ ap (λ (k : ℕ). 3 == k) was)
       where
-      was : (picture f).processing n ≡ 1
-      was = ap (of_one 0 (λ (s : Substrate). processing_number s.states.processing)) p.known ∙ ap processing_number p.running
+        was : (picture f).processing n ≡ 1
+        was = ap (of_one 0 (λ (s : Substrate). processing_number s.states.processing)) p.known ∙ ap processing_number p.running
 
-      then_is : (picture (floor_fired (firing 13 n 4) (floor_fired (firing 16 m row) f))).processing n ≡ 3
-      then_is =
-          ap (of_one 0 (λ (s : Substrate). processing_number s.states.processing)) (found_there n (substrate_moves 13 4) (λ s. refl) (floor_fired (firing 16 m row) f).substrates)
-          ∙ ap (λ (o : Option Substrate). of_one 0 (λ (s : Substrate). processing_number s.states.processing) (option_map (substrate_moves 13 4) o)) (ap (substrate_numbered n) substrates_same ∙ p.known)
-          ∙ ap (λ (x : Processing). processing_number (after processing_number processing_table 4 x)) p.running
+        then_is : (picture (floor_fired (firing 13 n 4) (floor_fired (firing 16 m row) f))).processing n ≡ 3
+        then_is =
+            ap (of_one 0 (λ (s : Substrate). processing_number s.states.processing)) (found_there n (substrate_moves 13 4) (λ s. refl) (floor_fired (firing 16 m row) f).substrates)
+            ∙ ap (λ (o : Option Substrate). of_one 0 (λ (s : Substrate). processing_number s.states.processing) (option_map (substrate_moves 13 4) o)) (ap (substrate_numbered n) substrates_same ∙ p.known)
+            ∙ ap (λ (x : Processing). processing_number (after processing_number processing_table 4 x)) p.running
 
     module _ (c : ToolCommand) (fetched : Bool) (here : module_at m f.modules ≡ Some (Busy c fetched)) (starts : floor_starts (firing 16 m row) f ≡ true) where
       processed : (sub recipe : List ℕ) → c.task ≡ task.Process sub recipe → (o : Option ℕ) → number_named sub f.places ≡ o → WorksOnOrEnds number counted before f (listed (firing 16 m row ∷ at_processed 4 o) f)
@@ -181,37 +181,37 @@ module _ (number : ℕ) (counted : ℕ → Bool) (f : ToolFloor) (sound : Sound 
         spoils n (e.members n member) (ap (is_one_of (3 ∷ 4 ∷ 6 ∷ 7 ∷ [])) then_is)
         (ap (λ (k : ℕ). k == (picture f).processing n) then_is ∙ ap (λ (k : ℕ). 6 == k) was ∙ other s.states.processing among)
       where
-      among : is_among processing_number not_lost s.states.processing ≡ true
-      among = (and_parts (is_among processing_number not_lost s.states.processing) true (sym (ap (λ (o : Option Substrate). substrate_starts processing_number processing_table (λ x. x.processing) 8 o f) known) ∙ starts)).0
+        among : is_among processing_number not_lost s.states.processing ≡ true
+        among = (and_parts (is_among processing_number not_lost s.states.processing) true (sym (ap (λ (o : Option Substrate). substrate_starts processing_number processing_table (λ x. x.processing) 8 o f) known) ∙ starts)).0
 
-      was : (picture f).processing n ≡ processing_number s.states.processing
-      was = ap (of_one 0 (λ (x : Substrate). processing_number x.states.processing)) known
+        was : (picture f).processing n ≡ processing_number s.states.processing
+        was = ap (of_one 0 (λ (x : Substrate). processing_number x.states.processing)) known
 
-      lost_then : (p : Processing) → is_among processing_number not_lost p ≡ true → processing_number (after processing_number processing_table 8 p) ≡ 6
-      lost_then processing.NeedsProcessing a = refl
-      lost_then processing.InProcess a = refl
-      lost_then processing.Processed a = refl
-      lost_then processing.Aborted a = refl
-      lost_then processing.Stopped a = refl
-      lost_then processing.Rejected a = refl
-      lost_then processing.Lost a = refl
-      lost_then processing.Skipped a = refl
+        lost_then : (p : Processing) → is_among processing_number not_lost p ≡ true → processing_number (after processing_number processing_table 8 p) ≡ 6
+        lost_then processing.NeedsProcessing a = refl
+        lost_then processing.InProcess a = refl
+        lost_then processing.Processed a = refl
+        lost_then processing.Aborted a = refl
+        lost_then processing.Stopped a = refl
+        lost_then processing.Rejected a = refl
+        lost_then processing.Lost a = refl
+        lost_then processing.Skipped a = refl
 
-      other : (p : Processing) → is_among processing_number not_lost p ≡ true → (6 == processing_number p) ≡ false
-      other processing.NeedsProcessing a = refl
-      other processing.InProcess a = refl
-      other processing.Processed a = refl
-      other processing.Aborted a = refl
-      other processing.Stopped a = refl
-      other processing.Rejected a = refl
-      other processing.Skipped a = refl
-      other processing.Lost a = absurd (true≢false (sym a))
+        other : (p : Processing) → is_among processing_number not_lost p ≡ true → (6 == processing_number p) ≡ false
+        other processing.NeedsProcessing a = refl
+        other processing.InProcess a = refl
+        other processing.Processed a = refl
+        other processing.Aborted a = refl
+        other processing.Stopped a = refl
+        other processing.Rejected a = refl
+        other processing.Skipped a = refl
+        other processing.Lost a = absurd (true≢false (sym a))
 
-      then_is : (picture (floor_fired (firing 13 n 8) f)).processing n ≡ 6
-      then_is =
-          ap (of_one 0 (λ (x : Substrate). processing_number x.states.processing)) (found_there n (substrate_moves 13 8) (λ x. refl) f.substrates)
-          ∙ ap (λ (o : Option Substrate). of_one 0 (λ (x : Substrate). processing_number x.states.processing) (option_map (substrate_moves 13 8) o)) known
-          ∙ lost_then s.states.processing among
+        then_is : (picture (floor_fired (firing 13 n 8) f)).processing n ≡ 6
+        then_is =
+            ap (of_one 0 (λ (x : Substrate). processing_number x.states.processing)) (found_there n (substrate_moves 13 8) (λ x. refl) f.substrates)
+            ∙ ap (λ (o : Option Substrate). of_one 0 (λ (x : Substrate). processing_number x.states.processing) (option_map (substrate_moves 13 8) o)) known
+            ∙ lost_then s.states.processing among
 
   pub lost-works : (sub : List ℕ) → WorksOnOrEnds number counted before f (listed (lost_rows sub f) f)
   lost-works sub = of (substrate_named sub f.places.held) refl where

@@ -163,9 +163,6 @@ module _ (sub : List ℕ) (carrier : ℕ) (loc : LocId) (f : ToolFloor) (h : Ris
 
   more-unaligned : UnalignedIn (record f.places { held = f.places.held ++ record { sub = sub; number = f.places.given + 1; at = loc } ∷ []; given = f.places.given + 1 }) (f.substrates ++ first_substrate (f.places.given + 1) sub carrier loc ∷ [])
   more-unaligned n i k at left = of (substrate_numbered n f.substrates) refl where
-    abbrev then_found : Option Substrate
-    then_found = substrate_numbered n (f.substrates ++ first_substrate (f.places.given + 1) sub carrier loc ∷ [])
-
     was : (s : Substrate) → substrate_numbered n f.substrates ≡ Some s → (place_in f.places n ≡ Some (slot i k)) ⊎ (f.places.given + 1 ≡ n) → of_one false (λ (x : Substrate). x.aligned) (substrate_numbered n (f.substrates ++ first_substrate (f.places.given + 1) sub carrier loc ∷ [])) ≡ false
     was s q (inl before) =
         let there = found_front n f.substrates new s q in
@@ -198,16 +195,16 @@ module _ (sub : List ℕ) (carrier : ℕ) (loc : LocId) (f : ToolFloor) (h : Ris
     of true = (record { together = h.0.together; started = h.0.started; unaligned = more-unaligned; in_jobs = more-kept }, rise_more 0 f.places.given f.substrates new refl h.1)
     of false = h
 
-registers_in : (c : Carrier) (port : PortNo) (slot code : ℕ) (f : ToolFloor) → Rising f → Rising (registers_slot c port slot code f)
-registers_in c port slot code f h = of (code == 3) where
-  of : (b : Bool) → Rising (if b then registers_at (name_in_slot c.name slot) c.number (Slot port (record { 0 = slot })) f else f)
-  of true = registers_one (name_in_slot c.name slot) c.number (Slot port (record { 0 = slot })) f h
+registers_in : (c : Carrier) (port : PortNo) (at code : ℕ) (f : ToolFloor) → Rising f → Rising (registers_slot c port at code f)
+registers_in c port at code f h = of (code == 3) where
+  of : (b : Bool) → Rising (if b then registers_at (name_in_slot c.name at) c.number (Slot port (record { 0 = at })) f else f)
+  of true = registers_one (name_in_slot c.name at) c.number (Slot port (record { 0 = at })) f h
   of false = h
 
-registers_all : (c : Carrier) (port : PortNo) (slot count : ℕ) (codes : List ℕ) (f : ToolFloor) → Rising f → Rising (registers_slots c port slot count codes f)
-registers_all c port slot zero codes f h = h
-registers_all c port slot (suc count) [] f h = h
-registers_all c port slot (suc count) (code ∷ codes) f h = registers_all c port (slot + 1) count codes (registers_slot c port slot code f) (registers_in c port slot code f h)
+registers_all : (c : Carrier) (port : PortNo) (at count : ℕ) (codes : List ℕ) (f : ToolFloor) → Rising f → Rising (registers_slots c port at count codes f)
+registers_all c port at zero codes f h = h
+registers_all c port at (suc count) [] f h = h
+registers_all c port at (suc count) (code ∷ codes) f h = registers_all c port (at + 1) count codes (registers_slot c port at code f) (registers_in c port at code f h)
 
 pub registers-ordered : (o : Option Carrier) (f : ToolFloor) → OrderedAt f → RiseTo 0 f.places.given f.substrates → OrderedAt (registers_found o f)
 registers-ordered None f h rising = h

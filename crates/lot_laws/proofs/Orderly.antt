@@ -85,7 +85,7 @@ use Rattle.floor_laws.proofs.JobLists.{found_more}
 use Rattle.floor_laws.proofs.JobSight.{none_some, some_same}
 use Rattle.floor_laws.proofs.RemLists.{held_distinct}
 use Rattle.floor_laws.proofs.RemPlaces.{stays, removed_held}
-use Rattle.floor_laws.proofs.RemSound.{removal_left_sound}
+use Rattle.floor_laws.proofs.RemSound.{vacated_kept, removal_left_sound}
 use Rattle.floor_laws.proofs.ShopHost.{written_sound, unbinding_sound, placing_sound}
 use Rattle.floor_laws.proofs.ShopTables.{cancel_sound}
 use Rattle.queue_laws.specs.Started.{AreStarted}
@@ -318,7 +318,7 @@ module _ (f : ToolFloor) (sound : Sound f) (o : OrderedAt f) where
             (λ i r s. refl),
             (
               (λ i r s. ready_at_port association_number association_table (λ s. s.association) (λ to s. record s { association = to }) (λ (p q : ℕ). is_mild_row (firing 7 p q) ≡ true) f.shop i r
-              (λ place p at. ((λ i a w. refl), ((λ i a w. refl), ((λ i a w. refl), ((λ i a w. refl), ((λ i a w. refl), ((λ i a w. not_itself i), ((λ i a w. refl), tt)))))))) s),
+                  (λ place p at. ((λ i a w. refl), ((λ i a w. refl), ((λ i a w. refl), ((λ i a w. refl), ((λ i a w. refl), ((λ i a w. not_itself i), ((λ i a w. refl), tt)))))))) s),
               (
                 (λ i r s. refl),
                 (
@@ -540,8 +540,9 @@ without-ordered f b (Some carrier) o = record {
 pub removal-in_order : (port : ℕ) (f : ToolFloor) → floor_starts (firing 4 port 5) f ≡ true → floor_starts (firing 7 port 6) (floor_fired (firing 4 port 5) f) ≡ true → shop.floor_least f.shop ≡ None → InOrder f
     → InOrder (floor_fired (firing 7 port 6) (floor_fired (firing 4 port 5) f))
 removal-in_order port f starts next rests o =
-    in_order (floor_fired (firing 7 port 6) (floor_fired (firing 4 port 5) f)) (removed_sound port f starts next rests o.sound)
-    (without-ordered f o.sound.base (owner_number port (shop.floor_fired (firing 4 port 5) f.shop)) (to_ordered f o))
+    let g = floor_fired (firing 4 port 5) f in
+    in_order (floor_fired (firing 7 port 6) g) (removed_sound port f starts next rests o.sound)
+    (without-ordered g (vacated_kept port f starts (record { base = o.sound.base; valid = o.sound.valid })).base (owner_number port g.shop) (to_ordered f o))
 
 pub removal_left-in_order : (port : ℕ) (f : ToolFloor) → floor_starts (firing 4 port 5) f ≡ true → floor_starts (firing 7 port 6) (floor_fired (firing 4 port 5) f) ≡ false → InOrder f → InOrder (floor_fired (firing 4 port 5) f)
 removal_left-in_order port f starts left o = in_order (floor_fired (firing 4 port 5) f) (removal_left_sound port f starts left o.sound) (to_ordered f o)

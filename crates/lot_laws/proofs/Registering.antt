@@ -70,7 +70,7 @@ use Rattle.lot_laws.specs.Lot.{IsInJob, Waits, Executes, AtWork}
 use Rattle.lot_laws.proofs.Naming.{slot_names_carrier}
 use Rattle.lot_laws.proofs.Standing.{joins_tell, work-undisturbed}
 use Rattle.lot_laws.proofs.AtWork.{at_work_of}
-use Rattle.lot_laws.proofs.Works.{WorksOn, executes_on}
+use Rattle.lot_laws.proofs.Works.{WorksOn, works_execute}
 use Rattle.lot_laws.proofs.Shops.{named_of, same_use, shop-works}
 
 -- one that is found with one more behind is one of those before, or that one
@@ -86,7 +86,7 @@ found_either k (s ∷ ss) x y e = of (s.number == k) e (found_either k ss x y) w
   of false f later = later f
 
 -- the carrier whose substrates are registered, as it is before its map is VERIFIED, and then; its port
-module _ (number : ℕ) (counted : ℕ → Bool) {before : Jobs} (s : Floor) (valid : IsFloor s) (c d : Carrier) (port : PortNo) (found : carrier_numbered c.number s.carriers ≡ Some d) (present : d.present ≡ true) (is_read : is_map_verified d.states.map ≡ true) (at : d.port ≡ Some port) (named : d.name ≡ c.name) where
+module _ (number : ℕ) (counted : ℕ → Bool) (before : Jobs) (s : Floor) (valid : IsFloor s) (c d : Carrier) (port : PortNo) (found : carrier_numbered c.number s.carriers ≡ Some d) (present : d.present ≡ true) (is_read : is_map_verified d.states.map ≡ true) (at : d.port ≡ Some port) (named : d.name ≡ c.name) where
   abbrev Fills : ℕ → ToolFloor → Type 0
   Fills k f = Filling s valid c d port found present is_read at named k f
 
@@ -341,7 +341,7 @@ module _ (number : ℕ) (counted : ℕ → Bool) (f : ToolFloor) (sound : Sound 
         true≢false (sym read ∙ is.not_yet)
 
     filled : Goal (with_shop verified_shop (registers_slots c port 1 25 c.map f))
-    filled = slots-work number counted verified_shop valid c (change c) port changed_there is.here is.then_is at refl 25 1 c.map f (omega arith) (omega arith) filling first_works unnamed
+    filled = slots-work number counted before verified_shop valid c (change c) port changed_there is.here is.then_is at refl 25 1 c.map f (omega arith) (omega arith) filling first_works unnamed
 
   at_port : (c : Carrier) → carrier_numbered n f.shop.carriers ≡ Some c → Becomes row c → (o : Option PortNo) → c.port ≡ o → Goal (with_shop verified_shop (registers_at_port o c f))
   at_port c found is None at = absurd (subst (λ (o : Option PortNo). IsSomeAnd o (λ (m : PortNo). (1 ≤ m.0) × (m.0 ≤ length f.shop.ports))) at (has_number f.shop c (numbered_contained n f.shop.carriers c found) is.here b.shop))
@@ -384,4 +384,4 @@ module _ (number : ℕ) (counted : ℕ → Bool) (f : ToolFloor) (sound : Sound 
 pub registration-executes : (number : ℕ) (counted : ℕ → Bool) (f : ToolFloor) → Sound f → Executes number counted f → (n row : ℕ) → reaches_verified row ≡ true → shop.floor_starts (firing 9 n row) f.shop ≡ true
     → Executes number counted (floor_fired (firing 9 n row) f) × (owed_to counted (picture (floor_fired (firing 9 n row) f)) ≡ owed_to counted (picture f))
 registration-executes number counted f sound e n row reaches starts =
-    executes_on number counted f (floor_fired (firing 9 n row) f) e (registration-works number counted f sound (at_work_of number counted f e) n row reaches starts)
+    works_execute number counted f (floor_fired (firing 9 n row) f) e (registration-works number counted f sound (at_work_of number counted f e) n row reaches starts)

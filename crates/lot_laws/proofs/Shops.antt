@@ -51,7 +51,7 @@ use Rattle.lot_laws.specs.Lot.{IsInJob, Waits, Executes, AtWork}
 use Rattle.lot_laws.proofs.Naming.{use_number, name_there}
 use Rattle.lot_laws.proofs.Standing.{on_base, carried, work-jobs}
 use Rattle.lot_laws.proofs.AtWork.{at_work_of}
-use Rattle.lot_laws.proofs.Works.{WorksOn, executes_on}
+use Rattle.lot_laws.proofs.Works.{WorksOn, works_execute}
 
 -- ---- lists
 
@@ -314,4 +314,4 @@ module _ (number : ℕ) (counted : ℕ → Bool) (f : ToolFloor) (sound : Sound 
 pub shop_row-executes : (number : ℕ) (counted : ℕ → Bool) (f : ToolFloor) → Sound f → Executes number counted f → (x : Firing) → floor_starts x f ≡ true → is_shop_row x ≡ true
     → Executes number counted (floor_fired x f) × (owed_to counted (picture (floor_fired x f)) ≡ owed_to counted (picture f))
 shop_row-executes number counted f sound e x starts kind =
-    executes_on number counted f (floor_fired x f) e (shop_row-works number counted f sound (at_work_of number counted f e) x starts kind)
+    works_execute number counted f (floor_fired x f) e (shop_row-works number counted f sound (at_work_of number counted f e) x starts kind)

@@ -17,8 +17,8 @@ abbrev pub WorksOn : ℕ → (ℕ → Bool) → Jobs → ToolFloor → ToolFloor
 WorksOn number counted before f g = AtWork number counted before g × (g.jobs ≡ f.jobs) × (owed_to counted (picture g) ≡ owed_to counted (picture f))
 
 -- so it executes on
-pub executes_on : (number : ℕ) (counted : ℕ → Bool) (f g : ToolFloor) → Executes number counted f → WorksOn number counted f.jobs f g → Executes number counted g × (owed_to counted (picture g) ≡ owed_to counted (picture f))
-executes_on number counted f g e on = (executes_by number counted g on.0 (subst (λ (w : Jobs). Steers number w) (sym on.1) e.steers), on.2)
+pub works_execute : (number : ℕ) (counted : ℕ → Bool) (f g : ToolFloor) → Executes number counted f → WorksOn number counted f.jobs f g → Executes number counted g × (owed_to counted (picture g) ≡ owed_to counted (picture f))
+works_execute number counted f g e on = (executes_by number counted g on.0 (subst (λ (w : Jobs). Steers number w) (sym on.1) e.steers), on.2)
 
 -- where only modules change, and what is open was open before
 pub modules-work : (number : ℕ) (counted : ℕ → Bool) {before : Jobs} (f : ToolFloor) → AtWork number counted before f → (ms : List ToolModule)

@@ -129,9 +129,9 @@ pub record IsCalmBetween (number : ℕ) (counted : ℕ → Bool) (f g : ToolFloo
 -- ---- while an input comes
 
 -- a control job is EXECUTING or PAUSED, and isn't ending
-abbrev pub is_at_work : Option ControlJob → Bool
-is_at_work None = false
-is_at_work (Some c) = is_one_of (3 ∷ 4 ∷ []) (states_number c.states)
+abbrev pub is_under_way : Option ControlJob → Bool
+is_under_way None = false
+is_under_way (Some c) = is_one_of (3 ∷ 4 ∷ []) (states_number c.states)
 
 -- a process job is STOPPING or ABORTING
 abbrev pub breaks_off : JobState → Bool
@@ -144,7 +144,7 @@ WasLeft number before n = (j : ProcessJob) × (job_numbered n before.process.kep
 -- The control job of a number is EXECUTING or PAUSED and isn't ending, and no other one is active. Each process job that is left in it
 -- starts by itself, isn't STOPPING or ABORTING, and was left in it before; and each that isn't QUEUED is left in it.
 pub record IsAtWork (number : ℕ) (before w : Jobs) : Type 0 where
-  pub works : is_at_work (control_numbered number w.control.jobs) ≡ true
+  pub works : is_under_way (control_numbered number w.control.jobs) ≡ true
   pub alone : (m : ℕ) (c : ControlJob) → control_numbered m w.control.jobs ≡ Some c → is_active c.states.state ≡ true → m ≡ number
   pub auto : (n : ℕ) (j : ProcessJob) → job_numbered n w.process.kept ≡ Some j → is_left_in number j.id w ≡ true → j.auto ≡ true
   pub whole : (n : ℕ) (j : ProcessJob) → job_numbered n w.process.kept ≡ Some j → is_left_in number j.id w ≡ true → breaks_off j.states.state ≡ false

@@ -70,7 +70,7 @@ none_first_ready table ready (x ∷ xs) o e there = by_row (ready x) refl (x == 
 
 module _ {World : Type 0} where
   -- where none is the least, none is ready in any table
-  rest_none : (w : World) (ms : List (Machine World)) → least_in ms w ≡ None
+  pub rest_none : (w : World) (ms : List (Machine World)) → least_in ms w ≡ None
       → AllByRecursion (λ (m : Machine World). (o : ℕ) → is_one_of (m.objects w) o ≡ true → m.ready o w ≡ None) ms
   rest_none w [] e = tt
   rest_none w (m ∷ ms) e = by_first (first_ready m.table (λ object. m.ready object w) (m.objects w)) refl e (rest_none w ms) where

@@ -1,6 +1,7 @@
 pub mod AtWork
 pub mod Naming
 pub mod Standing
+pub mod Steering
 pub mod Works
 pub mod Beginning
 pub mod Controls
@@ -18,3 +19,9 @@ pub mod Registering
 pub mod Inputs
 pub mod InJobs
 pub mod Words
+pub mod Equipment
+pub mod Ordered
+pub mod Orderly
+pub mod Failing
+pub mod Shopping
+pub mod Removing

@@ -42,7 +42,7 @@ use Rattle.queue_laws.proofs.Lists.{gone_back, number_is}
 use Rattle.queue_laws.proofs.Rows.{stays_queued, start_fits}
 use Rattle.queue_laws.proofs.Owners.{same_number}
 use Rattle.lot_laws.specs.Lot.{InOrder, breaks_off, AtWork, Disturbed, ends, loses, breaks, WorksOrIsDisturbed, is_word}
-use Rattle.lot_laws.proofs.Works.{Found, is_working, by_working, starts_working, found, passive, out_queued, state-works, other_left, other-works, own_there, own_left, own-works}
+use Rattle.lot_laws.proofs.Steering.{Found, is_working, by_working, starts_working, found, passive, out_queued, state-works, other_left, other-works, own_there, own_left, own-works}
 use Rattle.lot_laws.proofs.Going.{behind_owed, controls-work}
 use Rattle.lot_laws.proofs.Processes.{state-work, ended-work, fifteen_is, queued_done}
 use Rattle.lot_laws.proofs.Inputs.{created-work, added-work, headed-work}

@@ -453,7 +453,11 @@ module _ (orders : Orders) (steps : (number : ℕ) (counted : ℕ → Bool) → 
   completes_at : (g : State) (entry : Entry) (entries : List Entry) → InOrder g.floor → AtRest g → CompletesAtLast g entry entries
   completes_at g entry entries order rest number f some rest_of starts auto here parts calm =
       let counted = counted_of number f.floor in
-      ends_so number counted orders (steps number counted) (8 * number_of counted (picture f.floor)) 0 (entry_after g entry) some (started_stands number orders g entry f order rest starts auto here) calm
+      let all = 8 * number_of counted (picture f.floor) in
+      let came = dones (entry_after g entry) some in
+      let none_before : 0 + came ≡ came = omega arith in
+      subst (λ (n : ℕ). has_completed (control_of number (after_all (entry_after g entry) some)) ≡ nat_le all n) none_before
+      (ends_so number counted orders (steps number counted) all 0 (entry_after g entry) some (started_stands number orders g entry f order rest starts auto here) calm)
 
   completes_each : (g : State) (entries : List Entry) → InOrder g.floor → AtRest g → EachCompletes g entries
   completes_each g [] order rest = tt

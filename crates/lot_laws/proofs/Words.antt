@@ -230,8 +230,11 @@ module _ (number : ℕ) (counted : ℕ → Bool) (before f : ToolFloor) (h : Sou
       -- of another one
       control_other : (m == number) ≡ false → (row : ℕ) → is_one_of control_words row ≡ true → ControlBehind m row
       control_other other row one =
-          inl (controls-work number counted f (fired_at m row f.jobs.control) (other_left number before.jobs f.jobs t s e.steers row m other) e
-          (other-works number before.jobs f.jobs t s e.steers row m d at other still), owed)
+          inl (
+            controls-work number counted f (fired_at m row f.jobs.control) (other_left number before.jobs f.jobs t s e.steers row m other) e
+                (other-works number before.jobs f.jobs t s e.steers row m d at other still),
+            owed,
+          )
         where
           still : is_active (control.fires_row row d).states.state ≡ false
           still = not_true (is_active (control.fires_row row d).states.state) (stays_passive row d.states (other_words row one).0 (ap not (passive number before.jobs f.jobs t s e.steers m d at other)))
@@ -250,8 +253,11 @@ module _ (number : ℕ) (counted : ℕ → Bool) (before f : ToolFloor) (h : Sou
 
         quiet : (r : ℕ) → is_one_of (1 ∷ 6 ∷ 7 ∷ []) r ≡ true → ControlBehind number r
         quiet r o =
-            inl (controls-work number counted f (fired_at number r f.jobs.control) (own_left number before.jobs f.jobs t s e.steers r o) e
-            (own-works number before.jobs f.jobs t s e.steers r o), owed)
+            inl (
+              controls-work number counted f (fired_at number r f.jobs.control) (own_left number before.jobs f.jobs t s e.steers r o) e
+                  (own-works number before.jobs f.jobs t s e.steers r o),
+              owed,
+            )
 
         ending : (r : ℕ) → is_ending (states.control_fired r mine.job.states).ending ≡ true → ControlBehind number r
         ending r so = inr (ends (ap (ends_so is_ending) (own_there number before.jobs f.jobs t s e.steers r) ∙ so))

@@ -28,7 +28,7 @@ use Rattle.queue_laws.specs.Steers.{Steers}
 use Rattle.lot_laws.specs.Lot.{IsInJob, Waits, Executes, IsAtWork, AtWork}
 use Rattle.lot_laws.proofs.AtWork.{executing_works, at_work_of, executes_by}
 use Rattle.lot_laws.proofs.Standing.{on_base, work-undisturbed}
-use Rattle.lot_laws.proofs.Works.{control-works}
+use Rattle.lot_laws.proofs.Steering.{control-works}
 
 -- a number is 1
 abbrev IsOne : ℕ → Type 0

@@ -28,7 +28,7 @@ use Rattle.queue_laws.proofs.Lists.{one_more_back}
 use Rattle.queue_laws.proofs.Steering.{created-steers, added-steers, added_left, headed-steers}
 use Rattle.lot_laws.specs.Lot.{IsInJob, Waits, Executes, AtWork}
 use Rattle.lot_laws.proofs.AtWork.{at_work_of, executes_by}
-use Rattle.lot_laws.proofs.Works.{left_in_kept, created-works, control-works, added_same, added-works}
+use Rattle.lot_laws.proofs.Steering.{left_in_kept, created-works, control-works, added_same, added-works}
 use Rattle.lot_laws.proofs.Going.{controls-work, controls-execute}
 use Rattle.lot_laws.proofs.Answers.{places-executes}
 

@@ -1,7 +1,7 @@
 pub mod AtWork
 pub mod Naming
 pub mod Standing
-pub mod Works
+pub mod Steering
 pub mod Beginning
 pub mod Controls
 pub mod Going

@@ -42,7 +42,7 @@ use Rattle.queue_laws.proofs.Steering.{process-goes, process-steers, ended-steer
 use Rattle.lot_laws.specs.Lot.{IsInJob, Waits, Executes, IsAtWork, AtWork}
 use Rattle.lot_laws.proofs.AtWork.{going_whole, at_work_of, executes_by}
 use Rattle.lot_laws.proofs.Standing.{on_base, joins_tell, member_begun}
-use Rattle.lot_laws.proofs.Works.{state-works, ended_back, ended_on, ended-works}
+use Rattle.lot_laws.proofs.Steering.{state-works, ended_back, ended_on, ended-works}
 use Rattle.lot_laws.proofs.Going.{behind, behind_owed, Stands, GoesOn, works_on}
 
 -- ---- numbers

@@ -28,10 +28,10 @@ use Rattle.control_job.specs.declared.record.ControlJobRecord.{ControlJobRecord}
 use Rattle.control_job.proofs.Called.{numbered_in}
 use Rattle.tool_jobs.specs.Jobs.{owner}
 use Rattle.tool_jobs.specs.Wants.{process_wants, is_none_left, is_ending, is_first, is_first_left}
-use Rattle.tool_jobs.specs.Rows.{control_starts, control_ready, control_fired, process_ready}
+use Rattle.tool_jobs.specs.Rows.{control_starts, control_ready, process_ready}
 use Rattle.tool_jobs.specs.Together.{AreTogether}
 use Rattle.tool_floor.specs.declared.tracking.Substrate.{Substrate}
-use Rattle.tool_floor.specs.Floor.{ToolFloor, with_jobs, substrate_numbered, number_of}
+use Rattle.tool_floor.specs.Floor.{ToolFloor, substrate_numbered, number_of}
 use Rattle.tool_floor.specs.Kept.{RiseTo}
 use Rattle.tool_floor.specs.Substrates.{is_in_slot, is_removed}
 use Rattle.tool_floor.specs.Jobs.{is_member, is_done_with, is_settled, is_here, sight, found_sight, is_first_here}

@@ -1,6 +1,5 @@
 -- What disturbs a control job for good stays as later changes of the same input come, and no such input is calm.
-use Rattle.std.proofs.Common.{◌≡◌, ◌≤◌, ℕ, zero, suc, ◌+◌, ◌==◌, Bool, true, false, true≢false, cond, if◌then◌else◌, not, ◌&&◌, ◌||◌, List, [], ◌∷◌, ◌++◌, Option, Some, None, option_map, refl, sym, ◌∙◌, ap, subst, ◌⊎◌, inl, inr, arith}
-use Rattle.std.proofs.lemmas.Bool.{and_parts}
+use Rattle.std.proofs.Common.{◌≡◌, ◌≤◌, ℕ, zero, suc, ◌+◌, ◌==◌, Bool, true, false, true≢false, cond, if◌then◌else◌, not, ◌&&◌, ◌||◌, List, [], ◌∷◌, ◌++◌, Option, Some, None, option_map, refl, sym, ◌∙◌, ap, subst, inl, inr, arith}
 use Rattle.std.proofs.lemmas.Bool.Decides.{Decides-eqb}
 use Rattle.gem_tables.specs.Table.{is_one_of, firing, after}
 use Rattle.gem_tables.specs.declared.firing.Firing.{Firing}
@@ -26,7 +25,7 @@ use Rattle.control_job.specs.Tables.{state_number, states_number, control_table}
 use Rattle.control_job.specs.Record as states
 use Rattle.control_job.specs.Record.{is_completed}
 use Rattle.control_job.specs.Jobs as control
-use Rattle.control_job.specs.Jobs.{JobStore, job_numbered as control_numbered, is_open, fires_at, leaves, headed}
+use Rattle.control_job.specs.Jobs.{JobStore, job_numbered as control_numbered, fires_at, leaves, headed}
 use Rattle.control_job.specs.declared.job.ControlJob.{ControlJob}
 use Rattle.control_job.specs.declared.record.ControlState.{ControlState}
 use Rattle.control_job.specs.declared.record.ControlState.TheVariants.{Queued, Selected, WaitingForStart, Executing, Paused, Completed}
@@ -44,7 +43,7 @@ use Rattle.tool_floor.specs.declared.tracking.Substrate.{Substrate}
 use Rattle.tool_floor.specs.Floor.{ToolFloor, with_shop, with_jobs, fetched, substrate_numbered}
 use Rattle.tool_floor.specs.Jobs.{freed, without_members}
 use Rattle.tool_floor.specs.Substrates.{reaches_verified, without_carrier, can_register, first_substrate, registers_at, registers_slot, registers_slots, registers_at_port, registers_found}
-use Rattle.tool_floor.specs.Machines.{floor_machines, floor_starts, floor_fired, registered_by, taken_along}
+use Rattle.tool_floor.specs.Machines.{floor_machines, floor_starts, floor_fired, registered_by}
 use Rattle.place_laws.specs.Picture.{picture, of_one}
 use Rattle.place_laws.specs.Sound.{Sound}
 use Rattle.floor_laws.proofs.JobSight.{none_some, some_same}
@@ -58,7 +57,7 @@ use Rattle.queue_laws.proofs.Lists.{numbered_changed, gone_back}
 use Rattle.queue_laws.proofs.Rows.{executed}
 use Rattle.queue_laws.proofs.Owners.{states_left}
 use Rattle.queue_laws.proofs.Starting as started
-use Rattle.lot_laws.specs.Lot.{Executes, IsCalmBetween, breaks_off, WasLeft, AtWork, Disturbed, ends, loses, breaks, spoils, WorksOrIsDisturbed}
+use Rattle.lot_laws.specs.Lot.{Executes, IsCalmBetween, breaks_off, Disturbed, ends, loses, breaks, spoils, WorksOrIsDisturbed}
 use Rattle.lot_laws.proofs.AtWork.{going_whole, at_work_of, executes_of}
 use Rattle.lot_laws.proofs.Going.{processing_same}
 

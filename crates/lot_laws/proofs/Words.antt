@@ -1,13 +1,13 @@
 -- A control job stays at work behind each row that a word fires and where jobs are created, and as much is owed; or it is disturbed for
 -- good.
-use Rattle.std.proofs.Common.{◌≡◌, ℕ, ◌==◌, Bool, true, false, not, ◌&&◌, ◌||◌, List, [], ◌∷◌, Option, Some, None, option_map, refl, sym, ◌∙◌, ap, subst, ◌⊎◌, inl, inr}
+use Rattle.std.proofs.Common.{◌≡◌, ℕ, ◌==◌, Bool, true, false, not, ◌||◌, List, [], ◌∷◌, Option, Some, None, option_map, refl, sym, ◌∙◌, ap, subst, inl, inr}
 use Rattle.std.proofs.lemmas.Bool.{true≢false}
 use Rattle.std.proofs.lemmas.Bool.Decides.{Decides-eqb}
-use Rattle.gem_tables.specs.Table.{is_one_of, is_among, row_of, found_starts, firing, after}
+use Rattle.gem_tables.specs.Table.{is_one_of, row_of, found_starts, firing, after}
 use Rattle.gem_tables.specs.declared.firing.Firing.{Firing}
 use Rattle.gem_tables.proofs.Machines.{starts_cases}
 use Rattle.gem_tables.proofs.Rows.{one_of_cases}
-use Rattle.process_job.specs.Tables.{JobWant, job_number, job_table, begun, begun_or_stopping}
+use Rattle.process_job.specs.Tables.{JobWant, job_number, job_table}
 use Rattle.process_job.specs.Jobs.{job_numbered, without_numbered, fires_row}
 use Rattle.process_job.specs.Creating.{create_fault}
 use Rattle.process_job.specs.declared.job.JobSpec.{JobSpec}
@@ -21,14 +21,13 @@ use Rattle.control_job.specs.Jobs as control
 use Rattle.control_job.specs.declared.job.ControlJob.{ControlJob}
 use Rattle.control_job.specs.declared.record.ControlJobRecord.{ControlJobRecord}
 use Rattle.control_job.proofs.Orders.{not_true}
-use Rattle.control_job.proofs.Keeping.{fires_number}
 use Rattle.tool_jobs.specs.Wants.{process_wants, control_wants, is_ending, ends_so}
 use Rattle.tool_jobs.specs.Rows.{ended, process_starts, control_starts, control_fired}
 use Rattle.tool_jobs.specs.Together.{AreTogether}
 use Rattle.tool_jobs.specs.Creating.{with_process, with_control, control_fault}
 use Rattle.tool_jobs.proofs.Rows.{stays_passive, after_meets}
-use Rattle.tool_floor.specs.Floor.{ToolFloor, with_jobs, fetched}
-use Rattle.tool_floor.specs.Jobs.{without_members, freed, sight, found_sight, is_first_here}
+use Rattle.tool_floor.specs.Floor.{ToolFloor, with_jobs}
+use Rattle.tool_floor.specs.Jobs.{freed, sight, found_sight, is_first_here}
 use Rattle.tool_floor.specs.Machines.{floor_machines, floor_starts, floor_fired}
 use Rattle.place_laws.specs.Picture.{picture}
 use Rattle.place_laws.specs.Sound.{Sound}
@@ -38,7 +37,7 @@ use Rattle.floor_laws.proofs.JobFires.{fired_jobs}
 use Rattle.floor_laws.proofs.JobEnds.{freed_alone}
 use Rattle.owed_laws.specs.Owed.{owed_to}
 use Rattle.queue_laws.specs.Started.{is_queued, is_left_in, AreStarted}
-use Rattle.queue_laws.proofs.Lists.{gone_back, number_is}
+use Rattle.queue_laws.proofs.Lists.{gone_back}
 use Rattle.queue_laws.proofs.Rows.{stays_queued, start_fits}
 use Rattle.queue_laws.proofs.Owners.{same_number}
 use Rattle.lot_laws.specs.Lot.{InOrder, breaks_off, AtWork, Disturbed, ends, loses, breaks, WorksOrIsDisturbed, is_word}
@@ -128,7 +127,7 @@ module _ (number : ℕ) (counted : ℕ → Bool) (before f : ToolFloor) (h : Sou
   abbrev Goes : ToolFloor → Type 0
   Goes g = WorksOrIsDisturbed number counted before g
 
-  AsMuch : Type 0
+  abbrev AsMuch : Type 0
   AsMuch = owed_to counted (picture f) ≡ owed_to counted (picture before)
 
   -- ---- words of process jobs
@@ -146,7 +145,7 @@ module _ (number : ℕ) (counted : ℕ → Bool) (before f : ToolFloor) (h : Sou
     module _ (e : AtWork number counted before.jobs f) (owed : AsMuch) where
       stays_at : (row : ℕ) → (row == 2) ≡ false → (is_left_in number j.id f.jobs ≡ true → breaks_off (after job_number job_table row j.states.state) ≡ false)
           → (is_queued (after job_number job_table row j.states.state) ≡ false → is_left_in number j.id f.jobs ≡ true) → Goes (with_jobs (fired_jobs n row f.jobs) f)
-      stays_at row two whole begun = inl (state-work number counted f h t s e n j known row two (state-works number before.jobs f.jobs t s e.steers row n j known whole begun), owed)
+      stays_at row two whole stays = inl (state-work number counted f h t s e n j known row two (state-works number before.jobs f.jobs t s e.steers row n j known whole stays), owed)
 
       -- of one that is left in it
       of_left : is_left_in number j.id f.jobs ≡ true → (row : ℕ) → is_one_of process_words row ≡ true → Starts row → Behind row

@@ -1,10 +1,7 @@
 -- What is carried over an input from the floor on which a control job executes: it is at work and as much is owed, or it is disturbed for
 -- good. So each control job that nobody disturbs completes exactly at its last Done.
-use Rattle.std.proofs.Common.{◌≡◌, ◌⊎◌, ◌≤◌, ℕ, ◌+◌, ◌==◌, Bool, true, false, ◌&&◌, ◌||◌, if◌then◌else◌, List, [], ◌∷◌, Option, Some, None, inl, inr, refl, sym, ◌∙◌, ap, subst, arith}
+use Rattle.std.proofs.Common.{◌≡◌, ◌⊎◌, ◌≤◌, ℕ, ◌==◌, Bool, true, false, ◌&&◌, ◌||◌, if◌then◌else◌, List, [], ◌∷◌, None, inl, inr, refl, sym, ◌∙◌, ap, subst, arith}
 use Rattle.std.proofs.lemmas.Bool.{true≢false}
-use Rattle.gem_ids.specs.declared.numbers.CmdNo.{CmdNo}
-use Rattle.gem_ids.specs.declared.numbers.ModuleId.{ModuleId}
-use Rattle.gem_ids.specs.declared.numbers.PortNo.{PortNo}
 use Rattle.gem_tables.specs.Table.{firing, is_one_of}
 use Rattle.gem_tables.specs.declared.firing.Firing.{Firing}
 use Rattle.gem_tables.proofs.Rows.{one_of_cases}
@@ -12,12 +9,9 @@ use Rattle.load_port.specs.Ports.{most_ports}
 use Rattle.shop_floor.specs.Floor.{arrival_of}
 use Rattle.shop_floor.specs.Requests.{came, carrier_written}
 use Rattle.shop_floor.specs.Machines as shop
-use Rattle.robot_moves.specs.Modules.{is_open}
 use Rattle.control_job.specs.Jobs.{JobStore}
 use Rattle.tool_events.specs.declared.config.Config.{Config}
 use Rattle.tool_events.specs.declared.entry.Entry.{Entry}
-use Rattle.tool_events.specs.declared.event.Event.TheVariants as event
-use Rattle.tool_events.specs.declared.event.Signal.TheVariants as signal
 use Rattle.tool_floor.specs.Floor.{ToolFloor, with_shop, with_jobs, fetched}
 use Rattle.tool_floor.specs.Signals.{closing_rows, lost_rows}
 use Rattle.tool_floor.specs.Machines.{floor_starts, floor_fired, floor_least}
@@ -36,9 +30,8 @@ use Rattle.lot_laws.proofs.Failing.{fetched-works, failed-either, down-either, l
 use Rattle.lot_laws.proofs.Shopping.{row-works, written-works, cancelled-works, unbinding-works, placing-works, vacated-works}
 use Rattle.lot_laws.proofs.Removing.{removed-works}
 use Rattle.gem_model.specs.State.{State, opening}
-use Rattle.gem_model.specs.Signals.{module_of}
 use Rattle.gem_model.specs.Run.{Run}
-use Rattle.gem_model.specs.Completes.{done_of, EachCompletes}
+use Rattle.gem_model.specs.Completes.{EachCompletes}
 use Rattle.gem_model.proofs.Creating.{BecomesControl, one_added, one_headed}
 use Rattle.gem_model.proofs.FloorRows.{IsOfInput, input_line, input_transfer, input_access, input_reservation, input_binding, input_name, input_map, input_process, input_control, input_module}
 use Rattle.gem_model.proofs.FloorFacts.{FloorChanges}

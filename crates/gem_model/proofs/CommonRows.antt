@@ -1,13 +1,11 @@
 -- Rows that inputs fire by themselves, and those that the ends of transactions and S3F17 list.
-use Rattle.std.proofs.Common.{◌≡◌, ◌⊎◌, ℕ, ◌==◌, Bool, true, false, ◌&&◌, ◌||◌, if◌then◌else◌, List, [], ◌∷◌, Option, Some, None, inl, inr, refl, sym, ◌∙◌, ap, subst, not, nat_lt, length, map}
-use Rattle.std.proofs.lemmas.Bool.{and_parts}
-use Rattle.std.proofs.lemmas.Bool.Decides.{Decides-eqb}
-use Rattle.gem_tables.specs.Table.{firing, is_one_of}
+use Rattle.std.proofs.Common.{◌≡◌, ℕ, Bool, true, false, ◌||◌, if◌then◌else◌, List, [], ◌∷◌, Option, Some, None, refl, ◌∙◌, ap, not, nat_lt, length, map}
+use Rattle.gem_tables.specs.Table.{firing}
 use Rattle.gem_tables.proofs.Rows.{one_of_cases}
 use Rattle.gem_tables.specs.declared.firing.Firing.{Firing}
 use Rattle.load_port.specs.Ports.{port_numbered, view_of}
 use Rattle.carrier.specs.declared.carrier.Carrier.{Carrier}
-use Rattle.carrier.specs.Record.{is_id_waiting, is_map_waiting}
+use Rattle.carrier.specs.Record.{is_id_waiting}
 use Rattle.carrier.specs.Carriers.{is_known, carrier_named}
 use Rattle.shop_floor.specs.Floor.{Floor}
 use Rattle.shop_floor.specs.Rows.{owner}

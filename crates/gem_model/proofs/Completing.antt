@@ -1,5 +1,5 @@
 -- A control job that executes undisturbed completes exactly at its last Done, in each history.
-use Rattle.std.proofs.Common.{◌≡◌, ◌⊎◌, ◌≤◌, ◌<◌, ℕ, zero, suc, ◌+◌, ◌*◌, ◌==◌, nat_le, Bool, true, false, if◌then◌else◌, List, [], ◌∷◌, ◌++◌, Option, Some, None, option_map, unwrap_or, is_some, not, inl, inr, refl, sym, ◌∙◌, ap, subst, arith}
+use Rattle.std.proofs.Common.{◌≡◌, ◌⊎◌, ◌≤◌, ℕ, zero, suc, ◌+◌, ◌*◌, ◌==◌, nat_le, Bool, true, false, if◌then◌else◌, List, [], ◌∷◌, Option, Some, None, option_map, unwrap_or, is_some, not, inl, inr, refl, sym, ◌∙◌, ap, subst, arith}
 use Rattle.std.proofs.lemmas.Bool.{true≢false}
 use Rattle.std.proofs.lemmas.Bool.Decides.{Decides-eqb, nat_tests}
 use Rattle.gem_ids.specs.declared.numbers.CmdNo.{CmdNo}
@@ -8,7 +8,7 @@ use Rattle.gem_tables.specs.Table.{firing, is_one_of}
 use Rattle.gem_tables.specs.declared.firing.Firing.{Firing}
 use Rattle.load_port.specs.Ports.{most_ports}
 use Rattle.robot_moves.specs.declared.module.Module.{Module}
-use Rattle.robot_moves.specs.declared.module.Module.TheVariants.{Idle, Busy, Down}
+use Rattle.robot_moves.specs.declared.module.Module.TheVariants.{Down}
 use Rattle.robot_moves.specs.Modules.{module_at, is_open as has_open}
 use Rattle.control_job.specs.Jobs.{job_numbered as control_numbered, is_open, numbers_of, AreRising, fires_at, fires_row}
 use Rattle.control_job.specs.Tables.{states_number}
@@ -44,14 +44,14 @@ use Rattle.gem_model.specs.State.{State, opening, raised}
 use Rattle.gem_model.specs.Noting.{sets_alarm}
 use Rattle.gem_model.specs.Fire.{fire, fire_all, fire_listed}
 use Rattle.gem_model.specs.Machines.{least, creations}
-use Rattle.gem_model.specs.Settle.{Path, settling, settled, Along}
+use Rattle.gem_model.specs.Settle.{Path, settled, Along}
 use Rattle.gem_model.specs.Signals.{module_of, lacks_module, module_done, signalled}
 use Rattle.gem_model.specs.Step.{Outcome, answered, acts, settles}
 use Rattle.gem_model.specs.Run.{Run, entry_after, after_all}
 use Rattle.gem_model.specs.Completes.{control_of, has_completed, input_of, StartsAt, by_itself, by_word, IsCalmRun, done_of, dones, CompletesAtLast, EachCompletes}
 use Rattle.gem_model.proofs.Tests.{none_some}
 use Rattle.gem_model.proofs.FloorRows.{created_are, effect_is, ready_is}
-use Rattle.gem_model.proofs.EachFloor.{EachOnFloor, at_automatic, floor_each}
+use Rattle.gem_model.proofs.EachFloor.{floor_each}
 use Rattle.gem_model.proofs.Each.{each_kept}
 use Rattle.gem_model.proofs.FloorFacts.{FloorChanges, FloorFact, fact_acting, fact_kept, fact_automatic, fact_creation, listed_is, done_quiet}
 use Rattle.gem_model.proofs.Past.{IsPast, past_each}
@@ -59,7 +59,7 @@ use Rattle.gem_model.proofs.Paths.{path_keeps, path_at, along_at, control_least}
 use Rattle.gem_model.proofs.Placed.{Rested}
 use Rattle.gem_model.proofs.Resting.{AtRest, opening-rests, settled-rests}
 use Rattle.gem_model.proofs.Settling.{settled_keeps, settled_along, settles_so}
-use Rattle.gem_model.proofs.Walk.{Any, Kept, kept_acts, kept_input, kept_step}
+use Rattle.gem_model.proofs.Walk.{Any, Kept, kept_acts, kept_input}
 
 -- ---- entries
 

@@ -1,8 +1,7 @@
 -- The floor stays in order, whatever comes.
-use Rattle.std.proofs.Common.{◌≡◌, ◌≤◌}
+use Rattle.std.proofs.Common.{◌≤◌}
 use Rattle.load_port.specs.Ports.{most_ports}
 use Rattle.control_job.specs.Jobs.{JobStore}
-use Rattle.tool_jobs.specs.Jobs.{Jobs}
 use Rattle.tool_events.specs.declared.config.Config.{Config}
 use Rattle.tool_floor.specs.Floor.{ToolFloor, with_jobs}
 use Rattle.floor_laws.proofs.FloorPlaces.{shop_rests}

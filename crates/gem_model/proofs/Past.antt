@@ -1,5 +1,5 @@
 -- A control job that has completed, or is kept no more, stays so, whatever comes.
-use Rattle.std.proofs.Common.{◌≡◌, ◌⊎◌, ◌≤◌, ℕ, ◌+◌, ◌==◌, Bool, true, false, if◌then◌else◌, List, [], ◌∷◌, ◌++◌, Option, Some, None, map, not, inl, inr, refl, sym, ◌∙◌, ap, subst, arith}
+use Rattle.std.proofs.Common.{◌≡◌, ◌⊎◌, ◌≤◌, ℕ, ◌+◌, ◌==◌, Bool, true, false, List, [], ◌∷◌, ◌++◌, Option, Some, None, map, not, inl, inr, refl, sym, ◌∙◌, ap, subst, arith}
 use Rattle.std.proofs.lemmas.Bool.{true≢false}
 use Rattle.gem_tables.specs.Table.{row_of}
 use Rattle.gem_tables.specs.declared.firing.Firing.{Firing}
@@ -9,19 +9,18 @@ use Rattle.process_job.specs.Jobs as process
 use Rattle.process_job.specs.Tables as effect
 use Rattle.process_job.specs.Tables.{JobRow, JobEffect, job_table}
 use Rattle.process_job.specs.declared.job.ProcessJob.{ProcessJob}
-use Rattle.control_job.specs.Jobs.{JobStore, job_numbered, is_open, headed, fired_at, fires_at, fires_row, leaves, left_by, new_job, jobs_without, with_created}
-use Rattle.control_job.specs.Record.{control_fired as states_fired, is_completed}
+use Rattle.control_job.specs.Jobs.{JobStore, job_numbered, is_open, fired_at, fires_at, fires_row, leaves, left_by, new_job, jobs_without, with_created}
+use Rattle.control_job.specs.Record.{is_completed}
 use Rattle.control_job.specs.Creating.{created, replaced_by, kept_without}
 use Rattle.control_job.specs.declared.job.ControlJob.{ControlJob}
 use Rattle.control_job.proofs.Keeping.{leaves_number, fires_number}
 use Rattle.tool_jobs.specs.Jobs.{Jobs}
-use Rattle.tool_jobs.specs.Rows.{left_by as job_left_by, process_does, found_does as jobs_behind, process_fired, control_fired}
+use Rattle.tool_jobs.specs.Rows.{left_by as job_left_by, process_does, found_does as jobs_behind, process_fired}
 use Rattle.tool_jobs.proofs.Rows.{stays_completed}
 use Rattle.tool_floor.specs.declared.tracking.Substrate.{Substrate}
 use Rattle.tool_floor.specs.Floor.{ToolFloor, substrate_numbered}
-use Rattle.tool_floor.specs.Jobs.{job_does, found_job_does}
 use Rattle.tool_floor.specs.Modules.{issued, open_task, aligned_by, move_does, found_move}
-use Rattle.tool_floor.specs.Machines.{taken_along, registered_by, floor_machines, floor_fired}
+use Rattle.tool_floor.specs.Machines.{taken_along, floor_machines, floor_fired}
 use Rattle.tool_floor.specs.Substrates.{without_carrier, substrate_does, found_does}
 use Rattle.tool_floor.specs.Views.{planned}
 use Rattle.tool_floor.proofs.Registrations.{row_registered}
@@ -34,7 +33,6 @@ use Rattle.substrate.specs.Tables.{SubstrateRow, SubstrateEffect, processing_tab
 use Rattle.substrate.specs.declared.record.Processing.{Processing}
 use Rattle.tool_events.specs.declared.answer.Task.{Task}
 use Rattle.tool_events.specs.declared.answer.Task.TheVariants as task
-use Rattle.process_job.specs.Jobs.{job_numbered as process_numbered}
 use Rattle.queue_laws.proofs.Lists.{number_is, changed_back, without_back, more_back}
 use Rattle.queue_laws.proofs.Owners.{states_left}
 use Rattle.gem_model.proofs.Creating.{BecomesControl, one_added, one_headed}

@@ -1,14 +1,12 @@
 -- What the firings of a settling keep, and where one of them finds the tool.
-use Rattle.std.proofs.Common.{◌≡◌, ℕ, ◌==◌, Bool, true, false, ◌&&◌, if◌then◌else◌, List, [], ◌∷◌, ◌++◌, Option, Some, None, not, refl, sym, ◌∙◌, ap, subst}
+use Rattle.std.proofs.Common.{◌≡◌, ℕ, ◌==◌, Bool, true, false, List, [], ◌∷◌, ◌++◌, Option, Some, None, refl, sym, ◌∙◌, ap, subst}
 use Rattle.std.specs.Option.{option_or}
-use Rattle.std.specs.List.{AllByRecursion}
 use Rattle.std.proofs.lemmas.Bool.{true≢false}
 use Rattle.gem_tables.specs.Table.{firing}
 use Rattle.gem_tables.specs.declared.firing.Firing.{Firing}
-use Rattle.note_line.specs.Table3 as table
 use Rattle.tool_floor.specs.Machines.{floor_least, is_creation}
 use Rattle.tool_floor.proofs.Keeping.{AreCreations}
-use Rattle.gem_model.specs.State.{State, around}
+use Rattle.gem_model.specs.State.{State}
 use Rattle.gem_model.specs.Fire.{fire, fire_all}
 use Rattle.gem_model.specs.Machines.{least, creations}
 use Rattle.gem_model.specs.Ready.{ready_line, ready_floor}

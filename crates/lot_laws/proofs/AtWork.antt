@@ -10,6 +10,7 @@ use Rattle.process_job.specs.declared.job.ProcessJob.{ProcessJob}
 use Rattle.control_job.specs.Jobs.{job_numbered as control_numbered}
 use Rattle.control_job.specs.Tables.{states_number}
 use Rattle.control_job.specs.declared.job.ControlJob.{ControlJob}
+use Rattle.tool_jobs.specs.Jobs.{Jobs}
 use Rattle.tool_floor.specs.Floor.{ToolFloor}
 use Rattle.queue_laws.specs.Started.{is_left_in}
 use Rattle.queue_laws.specs.Steers.{Steers, is_executing, goes_on}
@@ -50,7 +51,7 @@ at_work_of number counted f e = record {
 }
 
 module _ (number : ℕ) (counted : ℕ → Bool) (f : ToolFloor) where
-  pub executes_of : {before : _} → AtWork number counted before f → is_executing (control_numbered number f.jobs.control.jobs) ≡ true
+  pub executes_of : {before : Jobs} → AtWork number counted before f → is_executing (control_numbered number f.jobs.control.jobs) ≡ true
       → ((n : ℕ) (j : ProcessJob) → job_numbered n f.jobs.process.kept ≡ Some j → is_left_in number j.id f.jobs ≡ true → goes_on j.states.state ≡ true) → Executes number counted f
   executes_of e executes going = record {
     steers = record { executes = executes; alone = e.steers.alone; auto = e.steers.auto; going = going; started = e.steers.started };
@@ -62,5 +63,5 @@ module _ (number : ℕ) (counted : ℕ → Bool) (f : ToolFloor) where
   }
 
   -- so it does where it steers
-  pub executes_by : {before : _} → AtWork number counted before f → Steers number f.jobs → Executes number counted f
+  pub executes_by : {before : Jobs} → AtWork number counted before f → Steers number f.jobs → Executes number counted f
   executes_by e v = executes_of e v.executes v.going

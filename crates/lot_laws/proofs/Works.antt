@@ -10,7 +10,7 @@ use Rattle.place_laws.specs.Picture.{picture, module_of}
 use Rattle.owed_laws.specs.Owed.{owed_to}
 use Rattle.queue_laws.specs.Steers.{Steers}
 use Rattle.lot_laws.specs.Lot.{IsInJob, Waits, Executes, AtWork}
-use Rattle.lot_laws.proofs.AtWork.{at_work_of, executes_by}
+use Rattle.lot_laws.proofs.AtWork.{executes_by}
 
 -- it is at work behind the change, the jobs are the same, and as much is owed
 abbrev pub WorksOn : ℕ → (ℕ → Bool) → Jobs → ToolFloor → ToolFloor → Type 0

@@ -176,3 +176,11 @@ pub data Disturbed (number : ℕ) (counted : ℕ → Bool) (before f : ToolFloor
 abbrev pub WorksOrIsDisturbed : ℕ → (ℕ → Bool) → ToolFloor → ToolFloor → Type 0
 WorksOrIsDisturbed number counted before f =
     (AtWork number counted before.jobs f × (owed_to counted (picture f) ≡ owed_to counted (picture before))) ⊎ Disturbed number counted before f
+
+-- ---- rows that words fire
+
+-- A row of table 14 or 15 that no job fires by itself: that which creates it, and those of the commands to it.
+abbrev pub is_word : Firing → Bool
+is_word x =
+    ((x.row.table == 14) && is_one_of (1 ∷ 5 ∷ 8 ∷ 10 ∷ 11 ∷ 12 ∷ 15 ∷ []) x.row.row)
+    || ((x.row.table == 15) && is_one_of (1 ∷ 5 ∷ 6 ∷ 7 ∷ 9 ∷ 10 ∷ 11 ∷ 12 ∷ []) x.row.row)

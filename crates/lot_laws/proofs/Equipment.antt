@@ -3,7 +3,6 @@ use Rattle.std.proofs.Common.{◌≡◌, ℕ, ◌+◌, Bool, true, false, if◌t
 use Rattle.std.specs.List.{AllByRecursion, list_any}
 use Rattle.std.proofs.lemmas.Bool.{true≢false}
 use Rattle.gem_tables.specs.Table.{firing, is_one_of, is_among, first_itself}
-use Rattle.gem_tables.specs.declared.firing.Firing.{Firing}
 use Rattle.gem_tables.specs.Machine.{Machine}
 use Rattle.gem_tables.proofs.Rows.{one_of_cases}
 use Rattle.tool_events.specs.declared.answer.Command.{Command as ToolCommand}
@@ -24,8 +23,8 @@ use Rattle.tool_floor.specs.Signals.{at_module, done_row, at_done, done_processe
 use Rattle.tool_floor.specs.Wants.{substrate_wants}
 use Rattle.tool_floor.specs.Machines.{substrate_starts, substrate_ready, floor_machines, floor_starts, floor_fired, floor_least}
 use Rattle.floor_moves.specs.Floor as law
-use Rattle.floor_moves.specs.Floor.{Loc, process, named}
-use Rattle.place_laws.specs.Picture.{picture, of_one, numbered, number_or_none, task_of}
+use Rattle.floor_moves.specs.Floor.{process, named}
+use Rattle.place_laws.specs.Picture.{picture, of_one, number_or_none, task_of}
 use Rattle.place_laws.specs.Sound.{Sound, SoundBut}
 use Rattle.place_laws.proofs.Holding.{one_found, found_among}
 use Rattle.floor_laws.specs.Rows.{one_listed, listed}
@@ -33,7 +32,6 @@ use Rattle.floor_laws.proofs.EndAnswers.{idle_not, process_but}
 use Rattle.floor_laws.proofs.EndOpen.{command_of, busy_at, busy_processes}
 use Rattle.floor_laws.proofs.FloorInputs.{listed_starts, done_starts}
 use Rattle.floor_laws.proofs.JobSight.{none_some}
-use Rattle.owed_laws.specs.Owed.{owed_to}
 use Rattle.lot_laws.specs.Lot.{Executes, TakesOneOff}
 use Rattle.lot_laws.proofs.Answers.{done_moved-falls, closed-executes, processed-falls}
 use Rattle.lot_laws.proofs.Controls.{rest_none}

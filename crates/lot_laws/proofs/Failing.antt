@@ -1,6 +1,6 @@
 -- Where a command fails, a module goes down, or the operator says that a substrate is lost, the control job executes on and as much is
 -- owed, or a substrate of its that is counted has ended otherwise.
-use Rattle.std.proofs.Common.{◌≡◌, ℕ, ◌==◌, Bool, true, false, if◌then◌else◌, not, ◌&&◌, ◌++◌, List, [], ◌∷◌, Option, Some, None, option_map, refl, sym, ◌∙◌, ap, subst, ◌⊎◌, inl, inr, arith}
+use Rattle.std.proofs.Common.{◌≡◌, ℕ, ◌==◌, Bool, true, false, if◌then◌else◌, not, ◌++◌, List, [], ◌∷◌, Option, Some, None, option_map, refl, sym, ◌∙◌, ap, subst, ◌⊎◌, inl, inr}
 use Rattle.std.specs.List.{list_any}
 use Rattle.std.proofs.lemmas.Bool.{true≢false, and_parts, not-true}
 use Rattle.std.proofs.lemmas.Bool.Decides.{Decides-eqb}
@@ -26,21 +26,19 @@ use Rattle.tool_floor.specs.Floor.{ToolFloor, with_module, fetched, substrate_nu
 use Rattle.tool_floor.specs.Modules.{module_behind, in_state, found_move, move_does, number_named}
 use Rattle.tool_floor.specs.Naming.{module_names}
 use Rattle.tool_floor.specs.Signals.{at_module, at_processed, processed_rows, closing_at, closing_rows, can_be_lost, lost_at, lost_rows}
-use Rattle.tool_floor.specs.Substrates.{is_in_slot, removed_where}
+use Rattle.tool_floor.specs.Substrates.{is_in_slot}
 use Rattle.tool_floor.specs.Views.{planned}
-use Rattle.tool_floor.specs.Machines.{substrate_starts, substrate_moves, with_moved, floor_starts, floor_fired, floor_least}
+use Rattle.tool_floor.specs.Machines.{substrate_starts, substrate_moves, floor_starts, floor_fired, floor_least}
 use Rattle.floor_moves.specs.Floor as law
 use Rattle.floor_moves.specs.Floor.{Loc, Command, busy, is_outside}
-use Rattle.place_laws.specs.Picture.{picture, loc_of, place_in, module_of, of_one}
+use Rattle.place_laws.specs.Picture.{picture, loc_of, module_of, of_one}
 use Rattle.place_laws.specs.Sound.{Sound}
 use Rattle.picture_laws.proofs.Columns.{found_there}
 use Rattle.picture_laws.proofs.Issuing.{changed_there, changed_else}
 use Rattle.floor_laws.specs.Rows.{one_listed, listed}
-use Rattle.floor_laws.proofs.EndAnswers.{down_not, process_but}
 use Rattle.floor_laws.proofs.EndNames.{place_is, named_kept}
 use Rattle.floor_laws.proofs.FloorInputs.{listed_either, listed_starts, failed_starts, down_starts}
-use Rattle.floor_laws.proofs.JobSight.{none_some, some_same, in_slot_from}
-use Rattle.owed_laws.specs.Owed.{owed_to}
+use Rattle.floor_laws.proofs.JobSight.{in_slot_from}
 use Rattle.lot_laws.specs.Lot.{Executes, AtWork, Disturbed, spoils, WorksOrIsDisturbed}
 use Rattle.lot_laws.proofs.AtWork.{at_work_of}
 use Rattle.lot_laws.proofs.Works.{WorksOn, modules-work}

@@ -24,16 +24,15 @@ use Rattle.tool_floor.specs.Jobs.{job_of}
 use Rattle.tool_floor.specs.Substrates.{can_register, first_substrate, registers_at, registers_slot, registers_slots, registers_at_port, registers_found}
 use Rattle.tool_floor.specs.Machines.{substrate_moves}
 use Rattle.floor_moves.specs.Floor.{Loc, slot, is_finished}
-use Rattle.place_laws.specs.Picture.{picture, loc_of, place_in, of_one}
+use Rattle.place_laws.specs.Picture.{loc_of, place_in, of_one}
 use Rattle.place_laws.specs.Sound.{Sound}
 use Rattle.place_laws.proofs.Holding.{found_among, rising_given}
 use Rattle.picture_laws.proofs.Columns.{says_same, found_there, found_else}
 use Rattle.floor_laws.proofs.JobChanges.{IsJobAlone, says_map}
-use Rattle.floor_laws.proofs.JobSight.{none_some, some_same}
+use Rattle.floor_laws.proofs.JobSight.{none_some}
 use Rattle.floor_laws.proofs.RegMore.{rise_more, found_front}
 use Rattle.queue_laws.specs.Started.{AreStarted}
-use Rattle.owed_laws.specs.Undisturbed.{AreUnaligned}
-use Rattle.lot_laws.specs.Lot.{AreInKeptJobs, InOrder}
+use Rattle.lot_laws.specs.Lot.{InOrder}
 use Rattle.lot_laws.proofs.InJobs.{changed-in_jobs}
 use Rattle.lot_laws.proofs.Registering.{found_either}
 

@@ -1,8 +1,8 @@
 -- What holds of the floor at every moment holds as it begins, and is kept by each row and by what the host and the equipment do.
-use Rattle.std.proofs.Common.{◌≡◌, ◌≤◌, ℕ, ◌+◌, ◌==◌, Bool, true, false, if◌then◌else◌, not, ◌&&◌, ◌||◌, List, [], ◌∷◌, ◌++◌, find, filter, map, Option, Some, None, option_map, refl, sym, ◌∙◌, ap, subst, ◌⊎◌, inl, inr, arith}
+use Rattle.std.proofs.Common.{◌≡◌, ◌≤◌, ℕ, ◌+◌, ◌==◌, Bool, true, false, if◌then◌else◌, not, ◌&&◌, ◌||◌, List, [], ◌∷◌, ◌++◌, find, filter, map, Option, Some, None, option_map, refl, sym, ◌∙◌, ap, subst}
 use Rattle.std.proofs.lemmas.Bool.{true≢false, and_parts, not-true}
 use Rattle.std.proofs.lemmas.Bool.Decides.{Decides-eqb}
-use Rattle.gem_tables.specs.Table.{firing, is_one_of, is_among, is_creation, row_of, may_fire}
+use Rattle.gem_tables.specs.Table.{firing, is_one_of, is_among, row_of}
 use Rattle.gem_tables.specs.declared.firing.Firing.{Firing}
 use Rattle.gem_tables.proofs.Rows.{ready_row, one_of_cases, found_row}
 use Rattle.gem_tables.proofs.Machines.{starts_cases, least_cases}
@@ -23,9 +23,7 @@ use Rattle.shop_floor.specs.Rows.{owner}
 use Rattle.shop_floor.specs.Requests.{came, carrier_code, carrier_written}
 use Rattle.shop_floor.specs.Machines as shop
 use Rattle.shop_floor.proofs.Cases.{ready_at_port}
-use Rattle.substrate.specs.Tables.{SubstrateRow, SubstrateEffect, processing_number, processing_table}
-use Rattle.substrate.specs.Tables as substrate_want
-use Rattle.substrate.specs.Places.{PlaceMap}
+use Rattle.substrate.specs.Tables.{SubstrateRow, processing_number, processing_table}
 use Rattle.substrate.specs.declared.record.Processing.{Processing}
 use Rattle.substrate.specs.declared.registered.Registered.{Registered}
 use Rattle.robot_moves.specs.declared.module.Module.{Module}
@@ -51,29 +49,26 @@ use Rattle.tool_jobs.specs.Together.{AreTogether}
 use Rattle.tool_jobs.proofs.Together.{together_none, together_fired, together_ended, together_row, together_created, together_added, together_headed}
 use Rattle.tool_floor.specs.declared.tracking.Substrate.{Substrate}
 use Rattle.tool_floor.specs.Floor.{ToolFloor, opening, with_shop, with_jobs, fetched, substrate_numbered, change_numbered, number_of}
-use Rattle.tool_floor.specs.Kept.{RiseTo}
-use Rattle.tool_floor.specs.Jobs.{job_of, found_sight, is_first_here, joined, freed, gets_members, frees, stops_carriers, job_does, found_job_does, is_any_of_carrier}
-use Rattle.tool_floor.specs.Modules.{move_wants, move_ready, move_does, found_move, issued, open_task, transferred, aligned, aligned_numbered, aligned_by, number_named}
+use Rattle.tool_floor.specs.Jobs.{found_sight, is_first_here, joined, freed, job_does, found_job_does, is_any_of_carrier}
+use Rattle.tool_floor.specs.Modules.{move_wants, move_ready, move_does, found_move, issued, open_task, aligned, aligned_numbered, aligned_by, number_named}
 use Rattle.tool_floor.specs.Signals.{at_module, done_row, at_processed, processed_rows, done_processing, at_done, done_processed, done_at, done_rows, closing_at, closing_rows, can_be_lost, lost_at, lost_rows, is_of_aborting}
 use Rattle.tool_floor.specs.Substrates.{is_of, reaches_verified, registers_found, removed_of, without_carrier, removed_where, substrate_does}
 use Rattle.tool_floor.specs.Substrates as substrates
 use Rattle.tool_floor.specs.Views.{planned}
 use Rattle.tool_floor.specs.Wants.{substrate_wants}
-use Rattle.tool_floor.specs.Machines.{taken_along, registered_by, substrate_ready, substrate_moves, with_moved, floor_machines, floor_starts, floor_fired, floor_least}
+use Rattle.tool_floor.specs.Machines.{substrate_ready, substrate_moves, with_moved, floor_machines, floor_starts, floor_fired, floor_least}
 use Rattle.tool_floor.proofs.Keeping.{least_starts}
-use Rattle.floor_moves.specs.Floor as law
-use Rattle.floor_moves.specs.Floor.{Loc, slot, arm, aligner, is_finished, pick, place, align}
+use Rattle.floor_moves.specs.Floor.{Loc, slot, arm, aligner, is_finished, place, align}
 use Rattle.floor_moves.specs.Valid.{IsDistinct, PlaceStands}
 use Rattle.place_laws.specs.Picture.{picture, loc_of, place_in, numbered, number_or_none, task_of, of_one}
 use Rattle.place_laws.specs.Sound.{Base, Sound}
-use Rattle.place_laws.proofs.Holding.{found_among, found_number, rising_distinct}
+use Rattle.place_laws.proofs.Holding.{found_among, rising_distinct}
 use Rattle.place_laws.proofs.Stays.{NonePresent}
 use Rattle.picture_laws.proofs.Columns.{found_else}
 use Rattle.floor_laws.specs.Rows.{is_common, one_listed, listed}
 use Rattle.floor_laws.proofs.EndBut.{fetched_sound}
 use Rattle.floor_laws.proofs.EndOpen.{command_of, busy_at}
 use Rattle.floor_laws.proofs.FloorInputs.{listed_either, listed_starts, done_starts, done_sound, failed_sound, down_sound, lost_rows_sound}
-use Rattle.floor_laws.proofs.FloorPlaces.{shop_rests}
 use Rattle.floor_laws.proofs.FloorRemoved.{removed_sound}
 use Rattle.floor_laws.proofs.FloorRows.{row_sound, least_sound, opening_sound}
 use Rattle.floor_laws.proofs.GrowLost.{lost_places}
@@ -81,18 +76,16 @@ use Rattle.floor_laws.proofs.GrowTransfer.{Transfers, pick_places, place_places}
 use Rattle.floor_laws.proofs.JobCreated.{created_sound, control_changes_sound}
 use Rattle.floor_laws.proofs.JobEnds.{freed_alone}
 use Rattle.floor_laws.proofs.JobJoins.{joined_alone}
-use Rattle.floor_laws.proofs.JobLists.{found_more}
 use Rattle.floor_laws.proofs.JobSight.{none_some, some_same}
 use Rattle.floor_laws.proofs.RemLists.{held_distinct}
 use Rattle.floor_laws.proofs.RemPlaces.{stays, removed_held}
 use Rattle.floor_laws.proofs.RemSound.{vacated_kept, removal_left_sound}
 use Rattle.floor_laws.proofs.ShopHost.{written_sound, unbinding_sound, placing_sound}
 use Rattle.floor_laws.proofs.ShopTables.{cancel_sound}
-use Rattle.queue_laws.specs.Started.{AreStarted}
 use Rattle.queue_laws.proofs.Starting.{none-started, process-started, control-started, created-started, added-started, headed-started}
-use Rattle.lot_laws.specs.Lot.{AreInKeptJobs, InOrder}
+use Rattle.lot_laws.specs.Lot.{InOrder}
 use Rattle.lot_laws.proofs.InJobs.{changed-in_jobs, process-in_jobs}
-use Rattle.lot_laws.proofs.Ordered.{UnalignedIn, KeptIn, Ordered, OrderedAt, to_ordered, in_order, transport_mild, processing_mild, changed-ordered, mapped-unaligned, registers-ordered}
+use Rattle.lot_laws.proofs.Ordered.{UnalignedIn, Ordered, OrderedAt, to_ordered, in_order, transport_mild, processing_mild, changed-ordered, mapped-unaligned, registers-ordered}
 
 -- ---- the rows of jobs
 

@@ -16,7 +16,7 @@ use Rattle.carrier.specs.Tables.{map_number, map_table}
 use Rattle.carrier.specs.Record.{is_id_not_read, is_map_not_read, is_map_verified}
 use Rattle.carrier.specs.Wants.{is_verified}
 use Rattle.carrier.specs.Carriers as carriers
-use Rattle.carrier.specs.Carriers.{has_name, carrier_named, carrier_numbered, change_numbered, is_usable, is_host_map}
+use Rattle.carrier.specs.Carriers.{carrier_named, carrier_numbered, is_usable, is_host_map}
 use Rattle.shop_floor.specs.Floor.{Floor}
 use Rattle.shop_floor.specs.Machines as shop
 use Rattle.shop_floor.specs.Machines.{carrier_starts}

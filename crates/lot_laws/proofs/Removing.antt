@@ -1,11 +1,11 @@
 -- A control job that is at work is so where a carrier is removed from its port: that has ended, and so none of the process jobs that are left
 -- in the control job names it, and each of its substrates that is counted is done.
-use Rattle.std.proofs.Common.{◌≡◌, ◌≤◌, ℕ, zero, suc, ◌+◌, ◌==◌, Bool, true, false, if◌then◌else◌, not, ◌&&◌, ◌||◌, List, [], ◌∷◌, filter, map, length, Option, Some, None, option_map, bytes_eq, refl, sym, ◌∙◌, ap, subst, ◌⊎◌, inl, inr, arith}
+use Rattle.std.proofs.Common.{◌≡◌, ℕ, zero, suc, ◌==◌, Bool, true, false, if◌then◌else◌, not, ◌&&◌, ◌||◌, List, [], ◌∷◌, filter, map, Option, Some, None, option_map, bytes_eq, refl, sym, ◌∙◌, ap, subst, ◌⊎◌, inl, inr, arith}
 use Rattle.std.specs.List.{AllByRecursion, list_any, list_all}
 use Rattle.std.proofs.lemmas.Bool.{true≢false, and_parts, not-true}
 use Rattle.std.proofs.lemmas.Bool.Decides.{Decides-eqb}
 use Rattle.std.proofs.lemmas.Slice.Eq.{bytes_eq-Decides}
-use Rattle.gem_tables.specs.Table.{firing, is_one_of}
+use Rattle.gem_tables.specs.Table.{firing}
 use Rattle.gem_tables.proofs.Rows.{both}
 use Rattle.load_port.specs.declared.port.Port.{Port}
 use Rattle.load_port.specs.Ports as ports
@@ -14,39 +14,36 @@ use Rattle.carrier.specs.declared.carrier.Carrier.{Carrier}
 use Rattle.carrier.specs.Tables.{access_number}
 use Rattle.carrier.specs.Record.{is_done, is_map_verified}
 use Rattle.carrier.specs.Carriers.{has_name, carrier_named, carrier_numbered, without}
-use Rattle.shop_floor.specs.Floor.{Floor, floor_of, number_of as carrier_number}
+use Rattle.shop_floor.specs.Floor.{floor_of, number_of as carrier_number}
 use Rattle.shop_floor.specs.Owning.{number_named}
 use Rattle.shop_floor.specs.Rows.{freed, owner, forgets}
 use Rattle.shop_floor.specs.Machines as shop
 use Rattle.shop_floor.specs.Valid.{IsFloor, ReadWherePresent}
 use Rattle.shop_floor.proofs.Apart.{IsOnly, all_follows, found_only, found_passes, none_passes, unknown_all, named_so, has_its_name}
-use Rattle.shop_floor.proofs.Belonging.{owner_changed, ports_length}
+use Rattle.shop_floor.proofs.Belonging.{owner_changed}
 use Rattle.shop_floor.proofs.Keeps.{row-keeps as shop_keeps}
 use Rattle.substrate.specs.Tables.{processing_number}
-use Rattle.process_job.specs.Jobs.{job_numbered}
 use Rattle.process_job.specs.declared.job.Material.{Material}
 use Rattle.process_job.specs.declared.job.ProcessJob.{ProcessJob}
 use Rattle.substrate.specs.Record.{is_at_source, is_needing}
 use Rattle.tool_jobs.specs.Jobs.{Jobs}
 use Rattle.tool_floor.specs.declared.tracking.Substrate.{Substrate}
 use Rattle.tool_floor.specs.Floor.{ToolFloor, with_shop, substrate_numbered, number_of}
-use Rattle.tool_floor.specs.Jobs.{is_carrier_of, is_slot_named, names_slot_of, can_join, is_in_use, is_carrier_here, is_material_here, is_here}
+use Rattle.tool_floor.specs.Jobs.{is_carrier_of, is_slot_named, names_slot_of, can_join, is_in_use, is_carrier_here, is_material_here}
 use Rattle.tool_floor.specs.Machines.{floor_starts, floor_fired}
 use Rattle.tool_floor.specs.Substrates.{is_of, without_carrier}
 use Rattle.floor_moves.specs.Floor as law
 use Rattle.floor_moves.specs.Floor.{Loc, is_done as is_done_by_numbers}
 use Rattle.floor_moves.specs.Agree.{Agree}
 use Rattle.floor_moves.specs.Carriers.{HasEnded, forgotten}
-use Rattle.floor_moves.specs.Valid.{Valid}
 use Rattle.floor_moves.proofs.Carrying.{forgotten-keeps}
 use Rattle.place_laws.specs.Picture.{picture, of_one}
-use Rattle.place_laws.specs.Sound.{Base, Sound}
+use Rattle.place_laws.specs.Sound.{Sound}
 use Rattle.place_laws.proofs.Holding.{rising_distinct}
 use Rattle.place_laws.proofs.Leaving.{unverified}
 use Rattle.place_laws.proofs.Stays.{Stay, stay_same, at_found}
 use Rattle.floor_laws.proofs.GrowEnds.{ends_at, over_ended}
 use Rattle.floor_laws.proofs.GrowTaken.{by_its_number}
-use Rattle.floor_laws.proofs.JobSight.{none_some, some_same}
 use Rattle.floor_laws.proofs.RemAgree.{forgetting_agrees}
 use Rattle.floor_laws.proofs.RemPlaces.{filter_all}
 use Rattle.floor_laws.proofs.RemSound.{OwnerEnded, Kept, vacated_kept}
@@ -55,12 +52,11 @@ use Rattle.owed_laws.specs.Owed.{owed_to}
 use Rattle.owed_laws.specs.Undisturbed.{Undisturbed}
 use Rattle.owed_laws.proofs.Agreeing.{agree-undisturbed, agree-owed}
 use Rattle.owed_laws.proofs.Carrying.{forgotten-stays}
-use Rattle.queue_laws.specs.Started.{is_left_in}
-use Rattle.lot_laws.specs.Lot.{is_in_named_slot, IsInJob, Waits, AtWork}
+use Rattle.lot_laws.specs.Lot.{IsInJob, Waits, AtWork}
 use Rattle.lot_laws.proofs.Naming.{use_number}
 use Rattle.lot_laws.proofs.Orderly.{found_among_all}
 use Rattle.lot_laws.proofs.Shopping.{vacated-works}
-use Rattle.lot_laws.proofs.Shops.{same_use, shop-works}
+use Rattle.lot_laws.proofs.Shops.{any_alike, same_use, shop-works}
 use Rattle.lot_laws.proofs.Standing.{on_base, work-undisturbed}
 use Rattle.lot_laws.proofs.Works.{WorksOn}
 
@@ -73,11 +69,6 @@ any_left q t (x ∷ xs) all = of (q x) refl (any_left q t xs all.1) where
   of : (b : Bool) → q x ≡ b → list_any t (filter q xs) ≡ list_any t xs → list_any t (if b then x ∷ filter q xs else filter q xs) ≡ (t x || list_any t xs)
   of true e rest = ap (λ (b : Bool). t x || b) rest
   of false e rest = rest ∙ sym (ap (λ (b : Bool). b || list_any t xs) (all.0 e))
-
--- tests that agree on each find some alike
-any_alike : {A : Type 0} (t u : A → Bool) (xs : List A) → ((x : A) → t x ≡ u x) → list_any t xs ≡ list_any u xs
-any_alike t u [] h = refl
-any_alike t u (x ∷ xs) h = ap (λ (b : Bool). b || list_any t xs) (h x) ∙ ap (λ (b : Bool). u x || b) (any_alike t u xs h)
 
 -- a carrier of another name is found among the others
 named_still : (name other : List ℕ) (cs : List Carrier) → bytes_eq name other ≡ false → carrier_named other (without name cs) ≡ carrier_named other cs

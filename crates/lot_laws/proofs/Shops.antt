@@ -15,7 +15,7 @@ use Rattle.carrier.specs.declared.record.Accessing.TheVariants as access
 use Rattle.carrier.specs.Tables.{CarrierRow, access_number, accessing_table}
 use Rattle.carrier.specs.Record.{is_map_verified}
 use Rattle.carrier.specs.Carriers as carriers
-use Rattle.carrier.specs.Carriers.{has_name, carrier_named, carrier_numbered, change_numbered}
+use Rattle.carrier.specs.Carriers.{has_name, carrier_named, carrier_numbered}
 use Rattle.shop_floor.specs.Floor.{Floor, with_carrier}
 use Rattle.shop_floor.specs.Machines as shop
 use Rattle.shop_floor.specs.Valid.{IsFloor}
@@ -56,7 +56,7 @@ use Rattle.lot_laws.proofs.Works.{WorksOn, works_execute}
 -- ---- lists
 
 -- tests that agree on each find some alike
-any_alike : {A : Type 0} (t u : A → Bool) (xs : List A) → ((x : A) → t x ≡ u x) → list_any t xs ≡ list_any u xs
+pub any_alike : {A : Type 0} (t u : A → Bool) (xs : List A) → ((x : A) → t x ≡ u x) → list_any t xs ≡ list_any u xs
 any_alike t u [] h = refl
 any_alike t u (x ∷ xs) h = ap (λ (b : Bool). b || list_any t xs) (h x) ∙ ap (λ (b : Bool). u x || b) (any_alike t u xs h)
 

@@ -1,17 +1,15 @@
 -- What is carried over an input from the floor on which a control job executes: it is at work and as much is owed, or it is disturbed for
--- good. So each control job that nobody disturbs completes exactly at its last Done.
-use Rattle.std.proofs.Common.{◌≡◌, ◌⊎◌, ◌≤◌, ℕ, ◌==◌, Bool, true, false, ◌&&◌, ◌||◌, if◌then◌else◌, List, [], ◌∷◌, None, inl, inr, refl, sym, ◌∙◌, ap, subst, arith}
+-- good.
+use Rattle.std.proofs.Common.{◌≡◌, ◌⊎◌, ℕ, ◌==◌, Bool, true, false, ◌&&◌, ◌||◌, if◌then◌else◌, [], ◌∷◌, None, inl, inr, refl, sym, ◌∙◌, ap, subst, arith}
 use Rattle.std.proofs.lemmas.Bool.{true≢false}
 use Rattle.gem_tables.specs.Table.{firing, is_one_of}
 use Rattle.gem_tables.specs.declared.firing.Firing.{Firing}
 use Rattle.gem_tables.proofs.Rows.{one_of_cases}
-use Rattle.load_port.specs.Ports.{most_ports}
 use Rattle.shop_floor.specs.Floor.{arrival_of}
 use Rattle.shop_floor.specs.Requests.{came, carrier_written}
 use Rattle.shop_floor.specs.Machines as shop
 use Rattle.control_job.specs.Jobs.{JobStore}
-use Rattle.tool_events.specs.declared.config.Config.{Config}
-use Rattle.tool_events.specs.declared.entry.Entry.{Entry}
+use Rattle.tool_events.specs.declared.event.Event.{Event}
 use Rattle.tool_floor.specs.Floor.{ToolFloor, with_shop, with_jobs, fetched}
 use Rattle.tool_floor.specs.Signals.{closing_rows, lost_rows}
 use Rattle.tool_floor.specs.Machines.{floor_starts, floor_fired, floor_least}
@@ -24,19 +22,21 @@ use Rattle.lot_laws.specs.Lot.{is_registration, is_word, Executes, AtWork, Distu
 use Rattle.lot_laws.proofs.AtWork.{at_work_of}
 use Rattle.lot_laws.proofs.Works.{WorksOn}
 use Rattle.lot_laws.proofs.Words.{word-goes, created-goes, added-goes, headed-goes}
-use Rattle.lot_laws.proofs.Disturbs.{at_base, executes_at_end, leaves_jobs, disturbed-row, disturbed-shop, disturbed-fetched}
-use Rattle.lot_laws.proofs.Equipment.{done-falls}
+use Rattle.lot_laws.proofs.Disturbs.{leaves_jobs, disturbed-row, disturbed-shop, disturbed-fetched}
 use Rattle.lot_laws.proofs.Failing.{fetched-works, failed-either, down-either, lost-either}
 use Rattle.lot_laws.proofs.Shopping.{row-works, written-works, cancelled-works, unbinding-works, placing-works, vacated-works}
 use Rattle.lot_laws.proofs.Removing.{removed-works}
-use Rattle.gem_model.specs.State.{State, opening}
-use Rattle.gem_model.specs.Run.{Run}
-use Rattle.gem_model.specs.Completes.{EachCompletes}
+use Rattle.gem_model.specs.State.{State}
+use Rattle.gem_model.specs.Completes.{done_of}
 use Rattle.gem_model.proofs.Creating.{BecomesControl, one_added, one_headed}
 use Rattle.gem_model.proofs.FloorRows.{IsOfInput, input_line, input_transfer, input_access, input_reservation, input_binding, input_name, input_map, input_process, input_control, input_module}
 use Rattle.gem_model.proofs.FloorFacts.{FloorChanges}
-use Rattle.gem_model.proofs.Ordering.{order_changes, order_fact, order_first}
-use Rattle.gem_model.proofs.Completing.{Undone, Orders, Steps, run_completes}
+use Rattle.gem_model.proofs.Ordering.{order_changes}
+
+-- the event is no Done of an open command, and begins on this floor
+pub record Undone (f : ToolFloor) (e : Event) (g : State) : Type 0 where
+  pub same : g.floor ≡ f
+  pub none : done_of g e ≡ 0
 
 -- a row of the load ports and the carriers, one of a registration, or `up`
 abbrev Kind : Firing → Type 0
@@ -47,11 +47,11 @@ never_starts : (x : Firing) (f : ToolFloor) → is_one_of (1 ∷ 2 ∷ 3 ∷ [])
 never_starts x f is = one_of_cases (λ (t : ℕ). floor_starts (firing t x.object x.row.row) f ≡ false) (1 ∷ 2 ∷ 3 ∷ []) x.row.table (refl, (refl, (refl, tt))) is
 
 module _ (number : ℕ) (counted : ℕ → Bool) (f : ToolFloor) where
-  abbrev Works : ToolFloor → Type 0
+  abbrev pub Works : ToolFloor → Type 0
   Works h = WorksOrIsDisturbed number counted f h
 
   -- it is in order, and so it is
-  abbrev Carried : ToolFloor → Type 0
+  abbrev pub Carried : ToolFloor → Type 0
   Carried h = InOrder h × Works h
 
   works_on : (h k : ToolFloor) → (AtWork number counted f.jobs h → WorksOn number counted f.jobs h k) → (Disturbed number counted f h → Disturbed number counted f k) → Works h → Works k
@@ -93,7 +93,7 @@ module _ (number : ℕ) (counted : ℕ → Bool) (f : ToolFloor) where
     from_here : (P : ToolFloor → Type 0) (g : State) → g.floor ≡ f → P f → P g.floor
     from_here P g same at = subst P (sym same) at
 
-    carried_changes : FloorChanges (Undone f) Carried
+    pub carried_changes : FloorChanges (Undone f) Carried
     carried_changes = record {
       sound = λ h c. c.0.sound;
       row = λ x h starts input c. (order_changes.row x h starts input c.0, works_row x h c.0 starts input c.1);
@@ -141,20 +141,3 @@ module _ (number : ℕ) (counted : ℕ → Bool) (f : ToolFloor) where
         from_here (λ (h : ToolFloor). Works (listed (lost_rows sub h) h)) g acts.same (lost-either number counted f order.sound e sub),
       );
     }
-
-orders : Orders
-orders = record { fact = order_fact; first = order_first }
-
-steps : (number : ℕ) (counted : ℕ → Bool) → Steps number counted
-steps number counted = record {
-  Carried = Carried number counted;
-  order = λ f h c. c.0;
-  begins = λ f order e. (order, at_base number counted f e);
-  changes = λ f order rest e. carried_changes number counted f order rest e;
-  ends = λ f h order e c calm. executes_at_end number counted f h c.1 calm;
-  takes = λ f m k order rest e opened. done-falls number counted f order.sound rest e m k opened;
-}
-
--- each control job of a history does
-pub run-completes : (c : Config) (entries : List Entry) (h : State) → c.ports ≤ most_ports → Run (opening c) entries h → EachCompletes (opening c) entries
-run-completes c entries h few run = run_completes orders steps c entries h few run

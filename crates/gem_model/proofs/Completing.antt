@@ -36,9 +36,11 @@ use Rattle.floor_laws.specs.Rows.{listed}
 use Rattle.owed_laws.specs.Owed.{owed_to, number_of}
 use Rattle.queue_laws.specs.Steers.{is_executing, AreAutomatic}
 use Rattle.queue_laws.proofs.Lists.{number_is, changed_back}
-use Rattle.lot_laws.specs.Lot.{counted_of, IsMaterialHere, Executes, TakesOneOff, InOrder, IsCalmBetween}
+use Rattle.lot_laws.specs.Lot.{counted_of, IsMaterialHere, Executes, InOrder, IsCalmBetween}
 use Rattle.lot_laws.proofs.Beginning.{executes_then, owed_then}
 use Rattle.lot_laws.proofs.Controls.{rest_owes}
+use Rattle.lot_laws.proofs.Disturbs.{at_base, executes_at_end}
+use Rattle.lot_laws.proofs.Equipment.{done-falls}
 use Rattle.lot_laws.proofs.Least.{least-goes}
 use Rattle.gem_model.specs.State.{State, opening, raised}
 use Rattle.gem_model.specs.Noting.{sets_alarm}
@@ -53,10 +55,12 @@ use Rattle.gem_model.proofs.Tests.{none_some}
 use Rattle.gem_model.proofs.FloorRows.{created_are, effect_is, ready_is}
 use Rattle.gem_model.proofs.EachFloor.{floor_each}
 use Rattle.gem_model.proofs.Each.{each_kept}
-use Rattle.gem_model.proofs.FloorFacts.{FloorChanges, FloorFact, fact_acting, fact_kept, fact_automatic, fact_creation, listed_is, done_quiet}
+use Rattle.gem_model.proofs.FloorFacts.{fact_acting, fact_kept, fact_automatic, fact_creation, listed_is, done_quiet}
 use Rattle.gem_model.proofs.Past.{IsPast, past_each}
 use Rattle.gem_model.proofs.Paths.{path_keeps, path_at, along_at, control_least}
 use Rattle.gem_model.proofs.Placed.{Rested}
+use Rattle.gem_model.proofs.Ordering.{order_fact, order_first}
+use Rattle.gem_model.proofs.Carrying.{Undone, Carried, carried_changes}
 use Rattle.gem_model.proofs.Resting.{AtRest, opening-rests, settled-rests}
 use Rattle.gem_model.proofs.Settling.{settled_keeps, settled_along, settles_so}
 use Rattle.gem_model.proofs.Walk.{Any, Kept, kept_acts, kept_input}
@@ -66,9 +70,6 @@ use Rattle.gem_model.proofs.Walk.{Any, Kept, kept_acts, kept_input}
 -- what an entry leads to, by whether the run has ended and what the event does before the tool settles
 abbrev led_to : Bool → Option Outcome → ℕ → State → State
 led_to b x at g = unwrap_or (option_map (λ (o : Outcome). o.after) (if b then Some (answered answer.Ended (raised g at)) else option_map settles x)) g
-
-led_is : (g : State) (entry : Entry) → entry_after g entry ≡ led_to g.quitting (acts g.moment (raised g entry.at.0) entry.event) entry.at.0 g
-led_is g entry = refl
 
 -- what holds of the floor, of each state that an event makes of one, and of the settled one, holds behind an entry
 behind_entry : (P : State → Type 0) (g : State) (entry : Entry) → P g → P (raised g entry.at.0) → ((o : Outcome) → input_of g entry ≡ Some o → P (settled o.after)) → P (entry_after g entry)
@@ -89,6 +90,20 @@ after_acting : (g : State) (entry : Entry) (o : Outcome) → input_of g entry �
 after_acting g entry o here =
     let is = acted_so g entry o here in
     ap (λ (b : Bool). led_to b (acts g.moment (raised g entry.at.0) entry.event) entry.at.0 g) is.0 ∙ ap (λ (x : Option Outcome). led_to false x entry.at.0 g) is.1
+
+-- the floor stays in order
+order_acts : (g : State) (entry : Entry) (o : Outcome) → InOrder g.floor → AtRest g → input_of g entry ≡ Some o → InOrder o.after.floor
+order_acts g entry o order rest here =
+    kept_acts Rested (λ (h : State). InOrder h.floor) (fact_kept Rested InOrder order_fact) g.moment (raised g entry.at.0) entry.event o rest order (acted_so g entry o here).1
+
+order_settled : (g : State) → InOrder g.floor → InOrder (settled g).floor
+order_settled g order = settled_keeps (λ (h : State). InOrder h.floor) (fact_automatic InOrder order_fact.ready) (fact_creation InOrder) g order
+
+order_entry : (g : State) (entry : Entry) → InOrder g.floor → AtRest g → InOrder (entry_after g entry).floor
+order_entry g entry order rest = behind_entry (λ (h : State). InOrder h.floor) g entry order order (λ o here. order_settled o.after (order_acts g entry o order rest here))
+
+rest_entry : (g : State) (entry : Entry) → AtRest g → AtRest (entry_after g entry)
+rest_entry g entry rest = behind_entry AtRest g entry rest rest (λ o here. settled-rests o.after)
 
 -- ---- Done
 
@@ -136,28 +151,6 @@ done_floor m k g is =
     ap (λ (b : Bool). (if b then g else module_done m.0 k.0 g).floor) (open_there m.0 k.0 g is)
     ∙ ap (λ (b : Bool). (if b then fire_listed (done_rows m.0 g.floor) g else sets_alarm 50 g).floor) is
     ∙ listed_is (done_rows m.0 g.floor) (done_quiet m.0 (module_of m.0 g) g.floor) g
-
--- ---- what the floor does
-
--- the event is no Done of an open command, and begins on this floor
-pub record Undone (f : ToolFloor) (e : Event) (g : State) : Type 0 where
-  pub same : g.floor ≡ f
-  pub none : done_of g e ≡ 0
-
--- what is wanted of the floor
-pub record Orders : Type 1 where
-  pub fact : FloorFact Rested InOrder
-  pub first : (c : Config) → c.ports ≤ most_ports → InOrder (opening c).floor
-
-pub record Steps (number : ℕ) (counted : ℕ → Bool) : Type 1 where
-  pub Carried : ToolFloor → ToolFloor → Type 0
-  pub order : (f h : ToolFloor) → Carried f h → InOrder h
-  pub begins : (f : ToolFloor) → InOrder f → Executes number counted f → Carried f f
-  pub changes : (f : ToolFloor) → InOrder f → floor_least f ≡ None → Executes number counted f → FloorChanges (Undone f) (Carried f)
-  pub ends : (f h : ToolFloor) → InOrder f → Executes number counted f → Carried f h → IsCalmBetween number counted f h
-      → Executes number counted h × (owed_to counted (picture h) ≡ owed_to counted (picture f))
-  pub takes : (f : ToolFloor) (m k : ℕ) → InOrder f → floor_least f ≡ None → Executes number counted f → has_open k (module_at m f.modules) ≡ true
-      → TakesOneOff number counted f (listed (done_rows m f) f)
 
 -- ---- completion
 
@@ -224,189 +217,173 @@ module _ (number : ℕ) (counted : ℕ → Bool) where
           ap is_open b.2 ∙ ap (λ (x : ControlJob). is_open (fires_at number 8 x)) same ∙ closed c found is;
     }
 
-  module _ (orders : Orders) where
-    goes_ready : (k : ℕ) (x : Firing) (f : ToolFloor) → floor_least f ≡ Some x → Goes k f → Goes k (floor_fired x f)
-    goes_ready k x f ready g = record { order = orders.fact.ready x f ready g.order; goes = of g.goes } where
-      of : Owes k f ⊎ ((k ≡ 0) × IsPast number f.jobs.control) → Owes k (floor_fired x f) ⊎ ((k ≡ 0) × IsPast number (floor_fired x f).jobs.control)
-      of (inr past) = inr (past.0, (past_each number).row x f (least_starts f x ready) past.1)
-      of (inl owes) = by (least-goes number counted f g.order.sound g.order.together g.order.started owes.0 x ready) where
-        by : (Executes number counted (floor_fired x f) × (owed_to counted (picture (floor_fired x f)) ≡ owed_to counted (picture f))) ⊎ ((x ≡ firing 15 number 8) × (owed_to counted (picture f) ≡ 0))
-            → Owes k (floor_fired x f) ⊎ ((k ≡ 0) × IsPast number (floor_fired x f).jobs.control)
-        by (inl on) = inl (on.0, on.1 ∙ owes.1)
-        by (inr last) = inr (sym owes.1 ∙ last.1, subst (λ (y : Firing). IsPast number (floor_fired y f).jobs.control) (sym last.0) (completed_past f g.order owes.0))
+  goes_ready : (k : ℕ) (x : Firing) (f : ToolFloor) → floor_least f ≡ Some x → Goes k f → Goes k (floor_fired x f)
+  goes_ready k x f ready g = record { order = order_fact.ready x f ready g.order; goes = of g.goes } where
+    of : Owes k f ⊎ ((k ≡ 0) × IsPast number f.jobs.control) → Owes k (floor_fired x f) ⊎ ((k ≡ 0) × IsPast number (floor_fired x f).jobs.control)
+    of (inr past) = inr (past.0, (past_each number).row x f (least_starts f x ready) past.1)
+    of (inl owes) = by (least-goes number counted f g.order.sound g.order.together g.order.started owes.0 x ready) where
+      by : (Executes number counted (floor_fired x f) × (owed_to counted (picture (floor_fired x f)) ≡ owed_to counted (picture f))) ⊎ ((x ≡ firing 15 number 8) × (owed_to counted (picture f) ≡ 0))
+          → Owes k (floor_fired x f) ⊎ ((k ≡ 0) × IsPast number (floor_fired x f).jobs.control)
+      by (inl on) = inl (on.0, on.1 ∙ owes.1)
+      by (inr last) = inr (sym owes.1 ∙ last.1, subst (λ (y : Firing). IsPast number (floor_fired y f).jobs.control) (sym last.0) (completed_past f g.order owes.0))
 
-    -- so it is of states
-    goes_automatic : (k : ℕ) (g : State) (x : Firing) → least g ≡ Some x → Goes k g.floor → Goes k (fire g x).floor
-    goes_automatic k g x ready at = fact_automatic (Goes k) (goes_ready k) g x ready at
+  -- so it is of states
+  goes_automatic : (k : ℕ) (g : State) (x : Firing) → least g ≡ Some x → Goes k g.floor → Goes k (fire g x).floor
+  goes_automatic k g x ready at = fact_automatic (Goes k) (goes_ready k) g x ready at
 
-    goes_settled : (k : ℕ) (g : State) → Goes k g.floor → Goes k (settled g).floor
-    goes_settled k g at = settled_keeps (λ (h : State). Goes k h.floor) (goes_automatic k) (fact_creation (Goes k)) g at
+  goes_settled : (k : ℕ) (g : State) → Goes k g.floor → Goes k (settled g).floor
+  goes_settled k g at = settled_keeps (λ (h : State). Goes k h.floor) (goes_automatic k) (fact_creation (Goes k)) g at
 
-    -- ---- at rest, before and behind its completion
+  -- ---- at rest, before and behind its completion
 
-    -- so many Dones came, of all; while it executes some are owed, and behind its completion none are
-    record Stands (all d : ℕ) (g : State) : Type 0 where
-      order : InOrder g.floor
-      rest : AtRest g
-      stands : ((k : ℕ) × Owes k g.floor × (k + d ≡ all)) ⊎ ((all ≤ d) × IsPast number g.floor.jobs.control)
+  -- so many Dones came, of all; while it executes some are owed, and behind its completion none are
+  record Stands (all d : ℕ) (g : State) : Type 0 where
+    order : InOrder g.floor
+    rest : AtRest g
+    stands : ((k : ℕ) × Owes k g.floor × (k + d ≡ all)) ⊎ ((all ≤ d) × IsPast number g.floor.jobs.control)
 
-    stands_end : (all d k : ℕ) (g : State) → Goes k (settled g).floor → k + d ≡ all → Stands all d (settled g)
-    stands_end all d k g at sum = record { order = at.order; rest = settled-rests g; stands = of at.goes } where
-      of : Owes k (settled g).floor ⊎ ((k ≡ 0) × IsPast number (settled g).floor.jobs.control) → ((k : ℕ) × Owes k (settled g).floor × (k + d ≡ all)) ⊎ ((all ≤ d) × IsPast number (settled g).floor.jobs.control)
-      of (inl owes) = inl (k, owes, sum)
-      of (inr past) = inr ((let zero = past.0 in omega (arith, zero, sum)), past.1)
+  stands_end : (all d k : ℕ) (g : State) → Goes k (settled g).floor → k + d ≡ all → Stands all d (settled g)
+  stands_end all d k g at sum = record { order = at.order; rest = settled-rests g; stands = of at.goes } where
+    of : Owes k (settled g).floor ⊎ ((k ≡ 0) × IsPast number (settled g).floor.jobs.control) → ((k : ℕ) × Owes k (settled g).floor × (k + d ≡ all)) ⊎ ((all ≤ d) × IsPast number (settled g).floor.jobs.control)
+    of (inl owes) = inl (k, owes, sum)
+    of (inr past) = inr ((let zero = past.0 in omega (arith, zero, sum)), past.1)
 
-    stands_settled : (all d k : ℕ) (g : State) → Goes k g.floor → k + d ≡ all → Stands all d (settled g)
-    stands_settled all d k g at sum = stands_end all d k g (goes_settled k g at) sum
+  stands_settled : (all d k : ℕ) (g : State) → Goes k g.floor → k + d ≡ all → Stands all d (settled g)
+  stands_settled all d k g at sum = stands_end all d k g (goes_settled k g at) sum
 
-    -- ---- an entry
+  -- ---- an entry
 
-    -- the floor stays in order
-    order_acts : (g : State) (entry : Entry) (o : Outcome) → InOrder g.floor → AtRest g → input_of g entry ≡ Some o → InOrder o.after.floor
-    order_acts g entry o order rest here =
-        kept_acts Rested (λ (h : State). InOrder h.floor) (fact_kept Rested InOrder orders.fact) g.moment (raised g entry.at.0) entry.event o rest order (acted_so g entry o here).1
+  -- one that is past stays so
+  past_entry : (g : State) (entry : Entry) → IsPast number g.floor.jobs.control → IsPast number (entry_after g entry).floor.jobs.control
+  past_entry g entry past =
+      behind_entry (λ (h : State). IsPast number h.floor.jobs.control) g entry past past
+      (λ o here.
+      settled_keeps (λ (h : State). IsPast number h.floor.jobs.control) kept.ready kept.inner.created o.after
+      (kept_acts Any (λ (h : State). IsPast number h.floor.jobs.control) kept g.moment (raised g entry.at.0) entry.event o tt past (acted_so g entry o here).1))
+    where
+      kept : Kept Any (λ (h : State). IsPast number h.floor.jobs.control)
+      kept = each_kept (λ (h : State). IsPast number h.floor.jobs.control) (floor_each (λ (f : ToolFloor). IsPast number f.jobs.control) (past_each number))
 
-    order_settled : (g : State) → InOrder g.floor → InOrder (settled g).floor
-    order_settled g order = settled_keeps (λ (h : State). InOrder h.floor) (fact_automatic InOrder orders.fact.ready) (fact_creation InOrder) g order
+  past_entries : (g : State) (entries : List Entry) → IsPast number g.floor.jobs.control → IsPast number (after_all g entries).floor.jobs.control
+  past_entries g [] past = past
+  past_entries g (entry ∷ entries) past = past_entries (entry_after g entry) entries (past_entry g entry past)
 
-    order_entry : (g : State) (entry : Entry) → InOrder g.floor → AtRest g → InOrder (entry_after g entry).floor
-    order_entry g entry order rest = behind_entry (λ (h : State). InOrder h.floor) g entry order order (λ o here. order_settled o.after (order_acts g entry o order rest here))
+  -- behind an input that doesn't disturb it, as much is owed, one less at a Done
+  input_goes : (g : State) (k : ℕ) (entry : Entry) (o : Outcome) → InOrder g.floor → AtRest g → Owes k g.floor → input_of g entry ≡ Some o → IsCalmBetween number counted g.floor o.after.floor
+      → (j : ℕ) × Goes j o.after.floor × (j + done_of g entry.event ≡ k)
+  input_goes g k entry o order rest owes here calm = by entry.event refl (done_or g entry.event) where
+    acted : acts g.moment (raised g entry.at.0) entry.event ≡ Some o
+    acted = (acted_so g entry o here).1
 
-    rest_entry : (g : State) (entry : Entry) → AtRest g → AtRest (entry_after g entry)
-    rest_entry g entry rest = behind_entry AtRest g entry rest rest (λ o here. settled-rests o.after)
+    by : (e : Event) → entry.event ≡ e → DoneOr g e → (j : ℕ) × Goes j o.after.floor × (j + done_of g e ≡ k)
+    by _ is (it_is m command opened) =
+        let h = raised g entry.at.0 in
+        let same : answered answer.Done (signalled (signal.Done m command) h) ≡ o =
+        (let there : Some (answered answer.Done (signalled (signal.Done m command) h)) ≡ Some o = sym (ap (λ (x : Event). acts g.moment h x) is) ∙ acted in cc)
+        in
+        let floor : o.after.floor ≡ listed (done_rows m.0 g.floor) g.floor = sym (ap (λ (x : Outcome). x.after.floor) same) ∙ done_floor m command h opened in
+        let takes = done-falls number counted g.floor order.sound rest owes.0 m.0 command.0 opened in
+        let less = takes.1 in
+        let all = owes.1 in
+        let one : done_of g (event.Signal (signal.Done m command)) ≡ 1 = ap (λ (b : Bool). if b then 1 else 0) opened in (
+          owed_to counted (picture (listed (done_rows m.0 g.floor) g.floor)),
+          record {
+            order = order_acts g entry o order rest here;
+            goes = inl (subst (Owes (owed_to counted (picture (listed (done_rows m.0 g.floor) g.floor)))) (sym floor) (takes.0, refl));
+          },
+          omega (arith, less, all, one),
+        )
+    by _ is (none_is e none) =
+        let carried =
+        kept_input (Undone g.floor) (λ (h : State). Carried number counted g.floor h.floor) (fact_acting (Undone g.floor) (Carried number counted g.floor) (carried_changes number counted g.floor order rest owes.0)) g.moment (raised g entry.at.0) entry.event o
+        (record { same = refl; none = ap (done_of (raised g entry.at.0)) is ∙ none (raised g entry.at.0) refl }) (order, at_base number counted g.floor owes.0) acted
+        in
+        let behind = executes_at_end number counted g.floor o.after.floor carried.1 calm in
+        (k, record { order = carried.0; goes = inl (behind.0, behind.1 ∙ owes.1) }, (let zero = none g refl in omega (arith, zero)))
 
-    -- one that is past stays so
-    past_entry : (g : State) (entry : Entry) → IsPast number g.floor.jobs.control → IsPast number (entry_after g entry).floor.jobs.control
-    past_entry g entry past =
-        behind_entry (λ (h : State). IsPast number h.floor.jobs.control) g entry past past
-        (λ o here.
-        settled_keeps (λ (h : State). IsPast number h.floor.jobs.control) kept.ready kept.inner.created o.after
-        (kept_acts Any (λ (h : State). IsPast number h.floor.jobs.control) kept g.moment (raised g entry.at.0) entry.event o tt past (acted_so g entry o here).1))
-      where
-        kept : Kept Any (λ (h : State). IsPast number h.floor.jobs.control)
-        kept = each_kept (λ (h : State). IsPast number h.floor.jobs.control) (floor_each (λ (f : ToolFloor). IsPast number f.jobs.control) (past_each number))
+  -- an entry that doesn't disturb it
+  stands_entry : (all d k : ℕ) (g : State) (entry : Entry) → InOrder g.floor → AtRest g → Owes k g.floor → k + d ≡ all
+      → ((o : Outcome) → input_of g entry ≡ Some o → IsCalmBetween number counted g.floor o.after.floor)
+      → Stands all (d + (if g.quitting then 0 else done_of g entry.event)) (entry_after g entry)
+  stands_entry all d k g entry order rest owes sum calm = of g.quitting (acts g.moment (raised g entry.at.0) entry.event) refl refl where
+    of : (b : Bool) (x : Option Outcome) → g.quitting ≡ b → acts g.moment (raised g entry.at.0) entry.event ≡ x → Stands all (d + (if b then 0 else done_of g entry.event)) (led_to b x entry.at.0 g)
+    of true x q a = record { order = order; rest = rest; stands = inl (k, owes, (let s : k + (d + 0) ≡ all = omega (arith, sum) in s)) }
+    of false None q a =
+        record {
+          order = order;
+          rest = rest;
+          stands = inl (k, owes, (let zero = waiting_none g.moment g (raised g entry.at.0) entry.event a (done_or g entry.event) in let s : k + (d + done_of g entry.event) ≡ all = omega (arith, sum, zero) in s));
+        }
+    of false (Some o) q a =
+        let here : input_of g entry ≡ Some o = ap (λ (b : Bool). if b then None else acts g.moment (raised g entry.at.0) entry.event) q ∙ a in
+        let behind = input_goes g k entry o order rest owes here (calm o here) in
+        let less = behind.2 in
+        stands_settled all (d + done_of g entry.event) behind.0 o.after behind.1 (omega (arith, less, sum))
 
-    past_entries : (g : State) (entries : List Entry) → IsPast number g.floor.jobs.control → IsPast number (after_all g entries).floor.jobs.control
-    past_entries g [] past = past
-    past_entries g (entry ∷ entries) past = past_entries (entry_after g entry) entries (past_entry g entry past)
+  -- ---- entries
 
-    module _ (steps : Steps number counted) where
-      -- behind an input that doesn't disturb it, as much is owed, one less at a Done
-      input_goes : (g : State) (k : ℕ) (entry : Entry) (o : Outcome) → InOrder g.floor → AtRest g → Owes k g.floor → input_of g entry ≡ Some o → IsCalmBetween number counted g.floor o.after.floor
-          → (j : ℕ) × Goes j o.after.floor × (j + done_of g entry.event ≡ k)
-      input_goes g k entry o order rest owes here calm = by entry.event refl (done_or g entry.event) where
-        acted : acts g.moment (raised g entry.at.0) entry.event ≡ Some o
-        acted = (acted_so g entry o here).1
+  -- it has completed behind them exactly where so many Dones came
+  abbrev Ends : ℕ → ℕ → State → Type 0
+  Ends all d g = has_completed (control_of number g) ≡ nat_le all d
 
-        by : (e : Event) → entry.event ≡ e → DoneOr g e → (j : ℕ) × Goes j o.after.floor × (j + done_of g e ≡ k)
-        by _ is (it_is m command opened) =
-            let h = raised g entry.at.0 in
-            let same : answered answer.Done (signalled (signal.Done m command) h) ≡ o =
-            (let there : Some (answered answer.Done (signalled (signal.Done m command) h)) ≡ Some o = sym (ap (λ (x : Event). acts g.moment h x) is) ∙ acted in cc)
-            in
-            let floor : o.after.floor ≡ listed (done_rows m.0 g.floor) g.floor = sym (ap (λ (x : Outcome). x.after.floor) same) ∙ done_floor m command h opened in
-            let takes = steps.takes g.floor m.0 command.0 order rest owes.0 opened in
-            let less = takes.1 in
-            let all = owes.1 in
-            let one : done_of g (event.Signal (signal.Done m command)) ≡ 1 = ap (λ (b : Bool). if b then 1 else 0) opened in (
-              owed_to counted (picture (listed (done_rows m.0 g.floor) g.floor)),
-              record {
-                order = order_acts g entry o order rest here;
-                goes = inl (subst (Owes (owed_to counted (picture (listed (done_rows m.0 g.floor) g.floor)))) (sym floor) (takes.0, refl));
-              },
-              omega (arith, less, all, one),
-            )
-        by _ is (none_is e none) =
-            let carried =
-            kept_input (Undone g.floor) (λ (h : State). steps.Carried g.floor h.floor) (fact_acting (Undone g.floor) (steps.Carried g.floor) (steps.changes g.floor order rest owes.0)) g.moment (raised g entry.at.0) entry.event o
-            (record { same = refl; none = ap (done_of (raised g entry.at.0)) is ∙ none (raised g entry.at.0) refl }) (steps.begins g.floor order owes.0) acted
-            in
-            let behind = steps.ends g.floor o.after.floor order owes.0 carried calm in
-            (k, record { order = steps.order g.floor o.after.floor carried; goes = inl (behind.0, behind.1 ∙ owes.1) }, (let zero = none g refl in omega (arith, zero)))
+  past_ends : (all d : ℕ) (g : State) → all ≤ d → IsPast number g.floor.jobs.control → Ends all d g
+  past_ends all d g enough past = of (control_of number g) refl where
+    many : nat_le all d ≡ true
+    many = grind (arith, nat_tests, enough)
 
-      -- an entry that doesn't disturb it
-      stands_entry : (all d k : ℕ) (g : State) (entry : Entry) → InOrder g.floor → AtRest g → Owes k g.floor → k + d ≡ all
-          → ((o : Outcome) → input_of g entry ≡ Some o → IsCalmBetween number counted g.floor o.after.floor)
-          → Stands all (d + (if g.quitting then 0 else done_of g entry.event)) (entry_after g entry)
-      stands_entry all d k g entry order rest owes sum calm = of g.quitting (acts g.moment (raised g entry.at.0) entry.event) refl refl where
-        of : (b : Bool) (x : Option Outcome) → g.quitting ≡ b → acts g.moment (raised g entry.at.0) entry.event ≡ x → Stands all (d + (if b then 0 else done_of g entry.event)) (led_to b x entry.at.0 g)
-        of true x q a = record { order = order; rest = rest; stands = inl (k, owes, (let s : k + (d + 0) ≡ all = omega (arith, sum) in s)) }
-        of false None q a =
-            record {
-              order = order;
-              rest = rest;
-              stands = inl (k, owes, (let zero = waiting_none g.moment g (raised g entry.at.0) entry.event a (done_or g entry.event) in let s : k + (d + done_of g entry.event) ≡ all = omega (arith, sum, zero) in s));
-            }
-        of false (Some o) q a =
-            let here : input_of g entry ≡ Some o = ap (λ (b : Bool). if b then None else acts g.moment (raised g entry.at.0) entry.event) q ∙ a in
-            let behind = input_goes g k entry o order rest owes here (calm o here) in
-            let less = behind.2 in
-            stands_settled all (d + done_of g entry.event) behind.0 o.after behind.1 (omega (arith, less, sum))
+    of : (o : Option ControlJob) → control_of number g ≡ o → has_completed o ≡ nat_le all d
+    of None at = sym many
+    of (Some c) at = ap not (past.closed c at) ∙ sym many
 
-      -- ---- entries
+  -- one that executes isn't COMPLETED
+  open_3 : (state : ControlState) (ending : Ending) → (states_number (record { state = state; ending = ending }) == 3) ≡ true → not (not (is_completed state)) ≡ false
+  open_3 Executing ending e = refl
+  open_3 Queued ending e = refl
+  open_3 Selected ending e = refl
+  open_3 WaitingForStart ending e = refl
+  open_3 Paused ending e = refl
+  open_3 Completed No e = absurd (true≢false (sym e))
+  open_3 Completed ByStop e = absurd (true≢false (sym e))
+  open_3 Completed ByAbort e = absurd (true≢false (sym e))
 
-      -- it has completed behind them exactly where so many Dones came
-      abbrev Ends : ℕ → ℕ → State → Type 0
-      Ends all d g = has_completed (control_of number g) ≡ nat_le all d
+  executing_open : (o : Option ControlJob) → is_executing o ≡ true → has_completed o ≡ false
+  executing_open None is = absurd (true≢false (sym is))
+  executing_open (Some c) is = open_3 c.states.state c.states.ending is
 
-      past_ends : (all d : ℕ) (g : State) → all ≤ d → IsPast number g.floor.jobs.control → Ends all d g
-      past_ends all d g enough past = of (control_of number g) refl where
-        many : nat_le all d ≡ true
-        many = grind (arith, nat_tests, enough)
+  -- some are owed at rest
+  owed_ends : (all d k : ℕ) (g : State) → InOrder g.floor → AtRest g → Owes k g.floor → k + d ≡ all → Ends all d g
+  owed_ends all d zero g order rest owes sum = absurd (rest_owes number counted g.floor order.sound order.together order.started owes.0 rest owes.1)
+  owed_ends all d (suc k) g order rest owes sum =
+      let few : nat_le all d ≡ false = grind (arith, nat_tests, sum) in
+      executing_open (control_of number g) owes.0.steers.executes ∙ sym few
 
-        of : (o : Option ControlJob) → control_of number g ≡ o → has_completed o ≡ nat_le all d
-        of None at = sym many
-        of (Some c) at = ap not (past.closed c at) ∙ sym many
+  ends_so : (all d : ℕ) (g : State) (entries : List Entry) → Stands all d g → IsCalmRun number counted g entries → Ends all (d + dones g entries) (after_all g entries)
+  ends_so all d g [] at calm = of at.stands where
+    of : ((k : ℕ) × Owes k g.floor × (k + d ≡ all)) ⊎ ((all ≤ d) × IsPast number g.floor.jobs.control) → Ends all (d + 0) g
+    of (inl owes) = owed_ends all (d + 0) owes.0 g at.order at.rest owes.1 (let sum = owes.2 in omega (arith, sum))
+    of (inr past) = past_ends all (d + 0) g (let enough = past.0 in omega (arith, enough)) past.1
+  ends_so all d g (entry ∷ entries) at calm = of at.stands calm (λ s c. ends_so all (d + came) (entry_after g entry) entries s c) where
+    came : ℕ
+    came = if g.quitting then 0 else done_of g entry.event
 
-      -- one that executes isn't COMPLETED
-      open_3 : (state : ControlState) (ending : Ending) → (states_number (record { state = state; ending = ending }) == 3) ≡ true → not (not (is_completed state)) ≡ false
-      open_3 Executing ending e = refl
-      open_3 Queued ending e = refl
-      open_3 Selected ending e = refl
-      open_3 WaitingForStart ending e = refl
-      open_3 Paused ending e = refl
-      open_3 Completed No e = absurd (true≢false (sym e))
-      open_3 Completed ByStop e = absurd (true≢false (sym e))
-      open_3 Completed ByAbort e = absurd (true≢false (sym e))
+    more : (n : ℕ) → (d + came) + n ≡ d + (came + n)
+    more n = omega arith
 
-      executing_open : (o : Option ControlJob) → is_executing o ≡ true → has_completed o ≡ false
-      executing_open None is = absurd (true≢false (sym is))
-      executing_open (Some c) is = open_3 c.states.state c.states.ending is
-
-      -- some are owed at rest
-      owed_ends : (all d k : ℕ) (g : State) → InOrder g.floor → AtRest g → Owes k g.floor → k + d ≡ all → Ends all d g
-      owed_ends all d zero g order rest owes sum = absurd (rest_owes number counted g.floor order.sound order.together order.started owes.0 rest owes.1)
-      owed_ends all d (suc k) g order rest owes sum =
-          let few : nat_le all d ≡ false = grind (arith, nat_tests, sum) in
-          executing_open (control_of number g) owes.0.steers.executes ∙ sym few
-
-      ends_so : (all d : ℕ) (g : State) (entries : List Entry) → Stands all d g → IsCalmRun number counted g entries → Ends all (d + dones g entries) (after_all g entries)
-      ends_so all d g [] at calm = of at.stands where
-        of : ((k : ℕ) × Owes k g.floor × (k + d ≡ all)) ⊎ ((all ≤ d) × IsPast number g.floor.jobs.control) → Ends all (d + 0) g
-        of (inl owes) = owed_ends all (d + 0) owes.0 g at.order at.rest owes.1 (let sum = owes.2 in omega (arith, sum))
-        of (inr past) = past_ends all (d + 0) g (let enough = past.0 in omega (arith, enough)) past.1
-      ends_so all d g (entry ∷ entries) at calm = of at.stands calm (λ s c. ends_so all (d + came) (entry_after g entry) entries s c) where
-        came : ℕ
-        came = if g.quitting then 0 else done_of g entry.event
-
-        more : (n : ℕ) → (d + came) + n ≡ d + (came + n)
-        more n = omega arith
-
-        of : ((k : ℕ) × Owes k g.floor × (k + d ≡ all)) ⊎ ((all ≤ d) × IsPast number g.floor.jobs.control)
-            → (has_completed (control_of number g) ≡ true) ⊎ (((o : Outcome) → input_of g entry ≡ Some o → IsCalmBetween number counted g.floor o.after.floor) × IsCalmRun number counted (entry_after g entry) entries)
-            → (Stands all (d + came) (entry_after g entry) → IsCalmRun number counted (entry_after g entry) entries → Ends all ((d + came) + dones (entry_after g entry) entries) (after_all (entry_after g entry) entries))
-            → Ends all (d + (came + dones (entry_after g entry) entries)) (after_all (entry_after g entry) entries)
-        of (inr past) calm later =
-            past_ends all (d + (came + dones (entry_after g entry) entries)) (after_all (entry_after g entry) entries) (let enough = past.0 in omega (arith, enough))
-            (past_entries g (entry ∷ entries) past.1)
-        of (inl owes) (inl completed) later = absurd (true≢false (sym completed ∙ executing_open (control_of number g) owes.1.0.steers.executes))
-        of (inl owes) (inr calm) later =
-            subst (λ (n : ℕ). Ends all n (after_all (entry_after g entry) entries)) (more (dones (entry_after g entry) entries))
-            (later (stands_entry all d owes.0 g entry at.order at.rest owes.1 owes.2 calm.0) calm.1)
+    of : ((k : ℕ) × Owes k g.floor × (k + d ≡ all)) ⊎ ((all ≤ d) × IsPast number g.floor.jobs.control)
+        → (has_completed (control_of number g) ≡ true) ⊎ (((o : Outcome) → input_of g entry ≡ Some o → IsCalmBetween number counted g.floor o.after.floor) × IsCalmRun number counted (entry_after g entry) entries)
+        → (Stands all (d + came) (entry_after g entry) → IsCalmRun number counted (entry_after g entry) entries → Ends all ((d + came) + dones (entry_after g entry) entries) (after_all (entry_after g entry) entries))
+        → Ends all (d + (came + dones (entry_after g entry) entries)) (after_all (entry_after g entry) entries)
+    of (inr past) calm later =
+        past_ends all (d + (came + dones (entry_after g entry) entries)) (after_all (entry_after g entry) entries) (let enough = past.0 in omega (arith, enough))
+        (past_entries g (entry ∷ entries) past.1)
+    of (inl owes) (inl completed) later = absurd (true≢false (sym completed ∙ executing_open (control_of number g) owes.1.0.steers.executes))
+    of (inl owes) (inr calm) later =
+        subst (λ (n : ℕ). Ends all n (after_all (entry_after g entry) entries)) (more (dones (entry_after g entry) entries))
+        (later (stands_entry all d owes.0 g entry at.order at.rest owes.1 owes.2 calm.0) calm.1)
 
 -- ---- its start
 
-module _ (number : ℕ) (orders : Orders) where
+module _ (number : ℕ) where
   -- behind row 4 or 5 eight Dones are owed for each substrate that is counted
   starts_goes : (row : ℕ) (f : ToolFloor) → InOrder f → floor_starts (firing 15 number row) f ≡ true → is_one_of (4 ∷ 5 ∷ []) row ≡ true → AreAutomatic number f.jobs → IsMaterialHere number f
       → Owes number (counted_of number f) (8 * number_of (counted_of number f) (picture f)) (floor_fired (firing 15 number row) f)
@@ -421,20 +398,20 @@ module _ (number : ℕ) (orders : Orders) where
 
   -- where it starts, so it stands behind the entry
   started_stands : (g : State) (entry : Entry) (f : State) → InOrder g.floor → AtRest g → StartsAt number g entry f → AreAutomatic number f.floor.jobs → IsMaterialHere number f.floor
-      → Stands number (counted_of number f.floor) orders (8 * number_of (counted_of number f.floor) (picture f.floor)) 0 (entry_after g entry)
+      → Stands number (counted_of number f.floor) (8 * number_of (counted_of number f.floor) (picture f.floor)) 0 (entry_after g entry)
   started_stands g entry _ order rest (by_word o here starts is) auto material =
       let counted = counted_of number g.floor in
       let all = 8 * number_of counted (picture g.floor) in
       let owes : Owes number counted all o.after.floor = subst (Owes number counted all) (sym is) (starts_goes 5 g.floor order starts refl auto material) in
-      subst (Stands number counted orders all 0) (sym (after_acting g entry o here))
-      (stands_settled number counted orders all 0 all o.after (record { order = order_acts number counted orders g entry o order rest here; goes = inl owes }) (omega arith))
+      subst (Stands number counted all 0) (sym (after_acting g entry o here))
+      (stands_settled number counted all 0 all o.after (record { order = order_acts g entry o order rest here; goes = inl owes }) (omega arith))
   started_stands g entry _ order rest (by_itself o before behind here is) auto material =
       let f : State = fire_all before o.after in
       let x = firing 15 number 4 in
       let counted = counted_of number f.floor in
       let all = 8 * number_of counted (picture f.floor) in
-      let acted = order_acts number counted orders g entry o order rest here in
-      let along = settled_along (λ (h : State). InOrder h.floor) (λ (h : State). InOrder h.floor) (λ h at. at) (fact_automatic InOrder orders.fact.ready) (fact_creation InOrder) o.after acted in
+      let acted = order_acts g entry o order rest here in
+      let along = settled_along (λ (h : State). InOrder h.floor) (λ (h : State). InOrder h.floor) (λ h at. at) (fact_automatic InOrder order_fact.ready) (fact_creation InOrder) o.after acted in
       let there : InOrder f.floor = along_at (λ (h : State). InOrder h.floor) before (x ∷ behind) o.after (subst (Along (λ (h : State). InOrder h.floor) o.after) is along) in
       let fires = path_at before behind x [] tt refl o.after (settled o.after) (subst (λ (fs : List Firing). Path o.after [] fs (settled o.after)) is (settles_so o.after)) in
       let least_is = control_least f x refl fires.ready in
@@ -442,29 +419,28 @@ module _ (number : ℕ) (orders : Orders) where
       let owes = starts_goes 4 f.floor there starts refl auto material in
       let floor : (fire f x).floor ≡ floor_fired x f.floor = ap (λ (h : State). h.floor) (effect_is f x (ready_is f x least_is)) in
       let goes : Goes number counted all (fire f x).floor =
-      subst (Goes number counted all) (sym floor) (record { order = orders.fact.ready x f.floor least_is there; goes = inl owes })
+      subst (Goes number counted all) (sym floor) (record { order = order_fact.ready x f.floor least_is there; goes = inl owes })
       in
       let end : Goes number counted all (settled o.after).floor =
-      path_keeps (λ (h : State). Goes number counted all h.floor) (goes_automatic number counted orders all) (fact_creation (Goes number counted all)) (creations f x) behind (created_are f x) (fire f x) (settled o.after) fires.path goes
+      path_keeps (λ (h : State). Goes number counted all h.floor) (goes_automatic number counted all) (fact_creation (Goes number counted all)) (creations f x) behind (created_are f x) (fire f x) (settled o.after) fires.path goes
       in
-      subst (Stands number counted orders all 0) (sym (after_acting g entry o here)) (stands_end number counted orders all 0 all o.after end (omega arith))
+      subst (Stands number counted all 0) (sym (after_acting g entry o here)) (stands_end number counted all 0 all o.after end (omega arith))
 
-module _ (orders : Orders) (steps : (number : ℕ) (counted : ℕ → Bool) → Steps number counted) where
-  completes_at : (g : State) (entry : Entry) (entries : List Entry) → InOrder g.floor → AtRest g → CompletesAtLast g entry entries
-  completes_at g entry entries order rest number f some rest_of starts auto here parts calm =
-      let counted = counted_of number f.floor in
-      let all = 8 * number_of counted (picture f.floor) in
-      let came = dones (entry_after g entry) some in
-      let none_before : 0 + came ≡ came = omega arith in
-      subst (λ (n : ℕ). has_completed (control_of number (after_all (entry_after g entry) some)) ≡ nat_le all n) none_before
-      (ends_so number counted orders (steps number counted) all 0 (entry_after g entry) some (started_stands number orders g entry f order rest starts auto here) calm)
+completes_at : (g : State) (entry : Entry) (entries : List Entry) → InOrder g.floor → AtRest g → CompletesAtLast g entry entries
+completes_at g entry entries order rest number f some rest_of starts auto here parts calm =
+    let counted = counted_of number f.floor in
+    let all = 8 * number_of counted (picture f.floor) in
+    let came = dones (entry_after g entry) some in
+    let none_before : 0 + came ≡ came = omega arith in
+    subst (λ (n : ℕ). has_completed (control_of number (after_all (entry_after g entry) some)) ≡ nat_le all n) none_before
+    (ends_so number counted all 0 (entry_after g entry) some (started_stands number g entry f order rest starts auto here) calm)
 
-  completes_each : (g : State) (entries : List Entry) → InOrder g.floor → AtRest g → EachCompletes g entries
-  completes_each g [] order rest = tt
-  completes_each g (entry ∷ entries) order rest = (
-    completes_at g entry entries order rest,
-    completes_each (entry_after g entry) entries (order_entry 0 (λ n. false) orders g entry order rest) (rest_entry 0 (λ n. false) orders g entry rest),
-  )
+completes_each : (g : State) (entries : List Entry) → InOrder g.floor → AtRest g → EachCompletes g entries
+completes_each g [] order rest = tt
+completes_each g (entry ∷ entries) order rest = (
+  completes_at g entry entries order rest,
+  completes_each (entry_after g entry) entries (order_entry g entry order rest) (rest_entry g entry rest),
+)
 
-  pub run_completes : (c : Config) (entries : List Entry) (h : State) → c.ports ≤ most_ports → Run (opening c) entries h → EachCompletes (opening c) entries
-  run_completes c entries h few run = completes_each (opening c) entries (orders.first c few) (opening-rests c)
+pub run-completes : (c : Config) (entries : List Entry) (h : State) → c.ports ≤ most_ports → Run (opening c) entries h → EachCompletes (opening c) entries
+run-completes c entries h few run = completes_each (opening c) entries (order_first c few) (opening-rests c)

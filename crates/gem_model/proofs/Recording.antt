@@ -15,7 +15,7 @@ use Rattle.gem_model.proofs.NoteNumbers.{run-own}
 use Rattle.gem_model.proofs.Floored.{run-floor, run-carriers}
 use Rattle.gem_model.proofs.Placed.{run-placed}
 use Rattle.gem_model.proofs.Working.{run-works}
-use Rattle.gem_model.proofs.Carrying.{run-completes}
+use Rattle.gem_model.proofs.Completing.{run-completes}
 use Rattle.gem_model.proofs.Moved.{run-moves, run-ends-once, run-given}
 use Rattle.floor_laws.proofs.FloorPlaces.{one_place_sound}
 

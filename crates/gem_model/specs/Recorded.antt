@@ -60,6 +60,5 @@ pub record Recorded (c : Config) (history : List Entry) (g : State) : Type 0 whe
   pub room : is_full g.transactions ≡ false
   -- while no module is Down and work is left, a command is open
   pub works : is_any_down g.floor.modules ≡ false → is_work_left g.floor ≡ true → is_any_open g.floor.modules ≡ true
-  -- a control job whose process jobs start by themselves and have their material here, and that no input disturbs, has completed exactly
-  -- where eight Dones for each of its substrates ended commands
+  -- where nobody disturbs it, a control job completes exactly at its last Done, of eight for each of its substrates
   pub completes : EachCompletes (opening c) history

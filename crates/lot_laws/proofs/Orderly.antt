@@ -566,17 +566,23 @@ created-in_order spec f free o =
       of true r later = r
       of false r later = later r
 
--- control jobs change: one is added, the order of the queue changes, or nothing does
+-- a control job is added
 pub added-in_order : (name : List ℕ) (named : List (List ℕ)) (auto : Bool) (f : ToolFloor) → control_fault name named f.jobs ≡ None → InOrder f → InOrder (with_jobs (with_control name named auto f.jobs) f)
 added-in_order name named auto f free o =
     in_order (with_jobs (with_control name named auto f.jobs) f) (control_changes_sound f (with_control name named auto f.jobs).control o.sound)
     (record { together = together_added name named auto f.jobs free o.together; started = added-started f.jobs o.together o.started name named auto free; unaligned = o.unaligned; in_jobs = o.in_jobs })
 
+-- the order of the queue changes
 pub headed-in_order : (name : List ℕ) (f : ToolFloor) → InOrder f → InOrder (with_jobs (record f.jobs { control = headed name f.jobs.control }) f)
 headed-in_order name f o =
     in_order (with_jobs (record f.jobs { control = headed name f.jobs.control }) f) (control_changes_sound f (headed name f.jobs.control) o.sound)
     (record { together = together_headed name f.jobs o.together; started = headed-started f.jobs o.together o.started name; unaligned = o.unaligned; in_jobs = o.in_jobs })
 
+-- nothing does
+pub unchanged-in_order : (f : ToolFloor) → InOrder f → InOrder (with_jobs (record f.jobs { control = f.jobs.control }) f)
+unchanged-in_order f o = o
+
+-- a command is fetched
 pub fetched-in_order : (m : ℕ) (f : ToolFloor) → InOrder f → InOrder (fetched m f)
 fetched-in_order m f o = in_order (fetched m f) (fetched_sound m f o.sound) (to_ordered f o)
 

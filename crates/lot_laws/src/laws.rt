@@ -28,7 +28,8 @@ ghost use Rattle.owed_laws.specs.Owed.{owed_to, number_of};
 ghost use Rattle.owed_laws.specs.Undisturbed.{AreUnaligned, Undisturbed};
 ghost use Rattle.queue_laws.specs.Started.{AreStarted};
 ghost use Rattle.queue_laws.specs.Steers.{AreAutomatic, disturbs_process, disturbs_control, is_completion};
-ghost use Rattle.lot_laws.specs.Lot.{counted_of, IsMaterialHere, AreInKeptJobs, Executes, GoesOnOrCompletes, TakesOneOff, InOrder, IsCalmBetween, WorksOrIsDisturbed, is_word};
+ghost use Rattle.lot_laws.specs.Lot.{counted_of, IsMaterialHere, AreInKeptJobs, Executes, GoesOnOrCompletes, TakesOneOff};
+ghost use Rattle.lot_laws.specs.Lot.{InOrder, IsCalmBetween, WorksOrIsDisturbed, is_word};
 
 /// As a control job starts by row 4 or 5 of table 15, where each process job that is left in it starts by itself and its material is
 /// here, it executes undisturbed, and eight Dones are owed for each substrate that is counted.

@@ -2,9 +2,11 @@ pub mod AtWork
 pub mod Naming
 pub mod Standing
 pub mod Works
+pub mod Steering
 pub mod Beginning
 pub mod Controls
 pub mod Going
+pub mod Disturbs
 pub mod Processes
 pub mod Issuing
 pub mod Substrates
@@ -22,3 +24,4 @@ pub mod Orderly
 pub mod Failing
 pub mod Shopping
 pub mod Removing
+pub mod Words

@@ -25,3 +25,4 @@ pub mod Failing
 pub mod Shopping
 pub mod Removing
 pub mod Words
+pub mod Changes

@@ -48,9 +48,9 @@ slots carrier row = of (reaches_verified row) refl where
   of false is = inl (ap (λ (b : Bool). not b || false) is)
 
 -- so is each that leaves the jobs
-kind : (x : Firing) (f : ToolFloor) → floor_starts x f ≡ true → is_common x ≡ true → leaves_jobs x ≡ true → Kind x
-kind x f starts common leaves =
-    starts_cases (λ (y : Firing). is_common y ≡ true → leaves_jobs y ≡ true → Kind y) f x floor_machines (
+kind : (number : ℕ) (counted : ℕ → Bool) (before f : ToolFloor) (x : Firing) → floor_starts x f ≡ true → is_common x ≡ true → leaves_jobs number counted before x ≡ true → Kind x
+kind number counted before f x starts common leaves =
+    starts_cases (λ (y : Firing). is_common y ≡ true → leaves_jobs number counted before y ≡ true → Kind y) f x floor_machines (
       (λ s c l. inl c),
       (
         (λ s c l. inl refl),
@@ -88,9 +88,9 @@ module _ (number : ℕ) (counted : ℕ → Bool) (before f : ToolFloor) (sound :
   goes_on g work stays (inr d) = inr (stays d)
 
   -- a row that an input fires alone and that leaves the jobs
-  pub row-goes : (x : Firing) → floor_starts x f ≡ true → is_common x ≡ true → leaves_jobs x ≡ true → WorksOrIsDisturbed number counted before f → WorksOrIsDisturbed number counted before (floor_fired x f)
+  pub row-goes : (x : Firing) → floor_starts x f ≡ true → is_common x ≡ true → leaves_jobs number counted before x ≡ true → WorksOrIsDisturbed number counted before f → WorksOrIsDisturbed number counted before (floor_fired x f)
   row-goes x starts common leaves =
-      goes_on (floor_fired x f) (λ e. row-works number counted f sound e x starts (kind x f starts common leaves)) (λ d. disturbed-row number counted before f d x starts leaves)
+      goes_on (floor_fired x f) (λ e. row-works number counted f sound e x starts (kind number counted before f x starts common leaves)) (λ d. disturbed-row number counted before f d x starts leaves)
 
   -- a command is fetched
   pub fetched-goes : (m : ℕ) → WorksOrIsDisturbed number counted before f → WorksOrIsDisturbed number counted before (fetched m f)

@@ -1,33 +1,25 @@
 -- What is carried over an input from the floor on which a control job executes: it is at work and as much is owed, or it is disturbed for
 -- good.
-use Rattle.std.proofs.Common.{◌≡◌, ◌⊎◌, ℕ, ◌==◌, Bool, true, false, ◌&&◌, ◌||◌, if◌then◌else◌, [], ◌∷◌, None, inl, inr, refl, sym, ◌∙◌, ap, subst, arith}
+use Rattle.std.proofs.Common.{◌≡◌, ℕ, Bool, true, false, ◌||◌, if◌then◌else◌, [], ◌∷◌, None, refl, sym, ◌∙◌, ap, subst, arith}
 use Rattle.std.proofs.lemmas.Bool.{true≢false}
 use Rattle.gem_tables.specs.Table.{firing, is_one_of}
 use Rattle.gem_tables.specs.declared.firing.Firing.{Firing}
 use Rattle.gem_tables.proofs.Rows.{one_of_cases}
-use Rattle.shop_floor.specs.Floor.{arrival_of}
-use Rattle.shop_floor.specs.Requests.{came, carrier_written}
-use Rattle.shop_floor.specs.Machines as shop
 use Rattle.control_job.specs.Jobs.{JobStore}
 use Rattle.tool_events.specs.declared.event.Event.{Event}
-use Rattle.tool_floor.specs.Floor.{ToolFloor, with_shop, with_jobs, fetched}
+use Rattle.tool_floor.specs.Floor.{ToolFloor, with_jobs, fetched}
 use Rattle.tool_floor.specs.Signals.{closing_rows, lost_rows}
 use Rattle.tool_floor.specs.Machines.{floor_starts, floor_fired, floor_least}
-use Rattle.place_laws.specs.Picture.{picture}
 use Rattle.floor_laws.specs.Rows.{listed}
 use Rattle.floor_laws.proofs.FloorPlaces.{shop_rests}
-use Rattle.floor_laws.proofs.ShopTables.{is_shop_row}
-use Rattle.owed_laws.specs.Owed.{owed_to}
-use Rattle.lot_laws.specs.Lot.{is_registration, is_word, Executes, AtWork, Disturbed, WorksOrIsDisturbed, InOrder}
-use Rattle.lot_laws.proofs.AtWork.{at_work_of}
-use Rattle.lot_laws.proofs.Works.{WorksOn}
+use Rattle.lot_laws.specs.Lot.{is_word, Executes, WorksOrIsDisturbed, InOrder}
 use Rattle.lot_laws.proofs.Words.{word-goes, created-goes, added-goes, headed-goes}
-use Rattle.lot_laws.proofs.Disturbs.{leaves_jobs, disturbed-row, disturbed-shop, disturbed-fetched}
-use Rattle.lot_laws.proofs.Failing.{fetched-works, failed-either, down-either, lost-either}
-use Rattle.lot_laws.proofs.Shopping.{row-works, written-works, cancelled-works, unbinding-works, placing-works, vacated-works}
-use Rattle.lot_laws.proofs.Removing.{removed-works}
+use Rattle.lot_laws.proofs.Disturbs.{leaves_jobs}
+use Rattle.lot_laws.proofs.Changes.{row-goes, fetched-goes, written-goes, cancelled-goes, unbinding-goes, placing-goes, removal_left-goes, removal-goes}
+use Rattle.lot_laws.proofs.Failing.{failed-either, down-either, lost-either}
 use Rattle.gem_model.specs.State.{State}
 use Rattle.gem_model.specs.Completes.{done_of}
+use Rattle.gem_model.proofs.CommonRows.{input_common}
 use Rattle.gem_model.proofs.Creating.{BecomesControl, one_added, one_headed}
 use Rattle.gem_model.proofs.FloorRows.{IsOfInput, input_line, input_transfer, input_access, input_reservation, input_binding, input_name, input_map, input_process, input_control, input_module}
 use Rattle.gem_model.proofs.FloorFacts.{FloorChanges}
@@ -37,10 +29,6 @@ use Rattle.gem_model.proofs.Ordering.{order_changes}
 pub record Undone (f : ToolFloor) (e : Event) (g : State) : Type 0 where
   pub same : g.floor ≡ f
   pub none : done_of g e ≡ 0
-
--- a row of the load ports and the carriers, one of a registration, or `up`
-abbrev Kind : Firing → Type 0
-Kind x = (is_shop_row x ≡ true) ⊎ ((is_registration x ≡ true) ⊎ (((x.row.table == 16) && (x.row.row == 10)) ≡ true))
 
 -- a row of tables 1 to 3 starts nowhere on the floor
 never_starts : (x : Firing) (f : ToolFloor) → is_one_of (1 ∷ 2 ∷ 3 ∷ []) x.row.table ≡ true → floor_starts x f ≡ false
@@ -54,37 +42,39 @@ module _ (number : ℕ) (counted : ℕ → Bool) (f : ToolFloor) where
   abbrev pub Carried : ToolFloor → Type 0
   Carried h = InOrder h × Works h
 
-  works_on : (h k : ToolFloor) → (AtWork number counted f.jobs h → WorksOn number counted f.jobs h k) → (Disturbed number counted f h → Disturbed number counted f k) → Works h → Works k
-  works_on h k on stays (inl w) = let b = on w.0 in inl (b.0, b.2 ∙ w.1)
-  works_on h k on stays (inr d) = inr (stays d)
-
   -- ---- a row
 
-  by_kind : (x y : Firing) (h : ToolFloor) → InOrder h → floor_starts x h ≡ true → Kind y → leaves_jobs number counted f y ≡ true → x ≡ y → Works h → Works (floor_fired x h)
-  by_kind x y h o starts kind leaves same w =
-      works_on h (floor_fired x h) (λ at. row-works number counted h o.sound at x starts (subst Kind (sym same) kind))
-      (λ d. disturbed-row number counted f h d x starts (subst (λ (z : Firing). leaves_jobs number counted f z ≡ true) (sym same) leaves)) w
+  leaving : (x y : Firing) (h : ToolFloor) → InOrder h → floor_starts x h ≡ true → IsOfInput x → leaves_jobs number counted f y ≡ true → x ≡ y → Works h → Works (floor_fired x h)
+  leaving x y h o starts input leaves same w =
+      row-goes number counted f h o.sound x starts (input_common x input) (subst (λ (z : Firing). leaves_jobs number counted f z ≡ true) (sym same) leaves) w
 
-  by_word : (x y : Firing) (h : ToolFloor) → InOrder h → floor_starts x h ≡ true → is_word y ≡ true → x ≡ y → Works h → Works (floor_fired x h)
-  by_word x y h o starts word same w = word-goes number counted f h o x (subst (λ (z : Firing). is_word z ≡ true) (sym same) word) starts w
+  worded : (x y : Firing) (h : ToolFloor) → InOrder h → floor_starts x h ≡ true → is_word y ≡ true → x ≡ y → Works h → Works (floor_fired x h)
+  worded x y h o starts word same w = word-goes number counted f h o x (subst (λ (z : Firing). is_word z ≡ true) (sym same) word) starts w
 
   works_row : (x : Firing) (h : ToolFloor) → InOrder h → floor_starts x h ≡ true → IsOfInput x → Works h → Works (floor_fired x h)
   works_row x h o starts (input_line is) w = absurd (true≢false (sym starts ∙ never_starts x h is))
-  works_row x h o starts (input_transfer n row is same) w =
-      by_kind x (firing 4 n row) h o starts (inl (one_of_cases (λ (r : ℕ). is_shop_row (firing 4 n r) ≡ true) (1 ∷ 2 ∷ []) row (refl, (refl, tt)) is)) refl same w
-  works_row x h o starts (input_access n row same) w = by_kind x (firing 5 n row) h o starts (inl refl) refl same w
-  works_row x h o starts (input_reservation n row same) w = by_kind x (firing 6 n row) h o starts (inl refl) refl same w
-  works_row x h o starts (input_binding n same) w = by_kind x (firing 7 n 1) h o starts (inl refl) refl same w
-  works_row x h o starts (input_name n row is same) w = by_kind x (firing 8 n row) h o starts (inl refl) refl same w
-  works_row x h o starts (input_map n row is same) w =
-      by_kind x (firing 9 n row) h o starts (one_of_cases (λ (r : ℕ). Kind (firing 9 n r)) (3 ∷ 4 ∷ []) row (inr (inl refl), (inl refl, tt)) is) refl same w
-  works_row x h o starts (input_process n row is same) w = by_word x (firing 14 n row) h o starts (ap (λ (b : Bool). b || false) is) same w
-  works_row x h o starts (input_control n row is same) w = by_word x (firing 15 n row) h o starts is same w
-  works_row x h o starts (input_module n same) w = by_kind x (firing 16 n 10) h o starts (inr (inr refl)) refl same w
+  works_row x h o starts (input_transfer n row is same) w = leaving x (firing 4 n row) h o starts (input_transfer n row is same) refl same w
+  works_row x h o starts (input_access n row same) w = leaving x (firing 5 n row) h o starts (input_access n row same) refl same w
+  works_row x h o starts (input_reservation n row same) w = leaving x (firing 6 n row) h o starts (input_reservation n row same) refl same w
+  works_row x h o starts (input_binding n same) w = leaving x (firing 7 n 1) h o starts (input_binding n same) refl same w
+  works_row x h o starts (input_name n row is same) w = leaving x (firing 8 n row) h o starts (input_name n row is same) refl same w
+  works_row x h o starts (input_map n row is same) w = leaving x (firing 9 n row) h o starts (input_map n row is same) refl same w
+  works_row x h o starts (input_process n row is same) w = worded x (firing 14 n row) h o starts (ap (λ (b : Bool). b || false) is) same w
+  works_row x h o starts (input_control n row is same) w = worded x (firing 15 n row) h o starts is same w
+  works_row x h o starts (input_module n same) w = leaving x (firing 16 n 10) h o starts (input_module n same) refl same w
 
   works_control : (s : JobStore) (h : ToolFloor) → InOrder h → BecomesControl h.jobs s → Works h → Works (with_jobs (record h.jobs { control = s }) h)
   works_control _ h o (one_added name named auto none) w = added-goes number counted f h o name named auto none w
   works_control _ h o (one_headed name) w = headed-goes number counted f h o name w
+
+  -- no row is ready by itself
+  abbrev Rests : ToolFloor → Type 0
+  Rests h = floor_least h ≡ None
+
+  -- so it is behind rows 5 of table 4 and 6 of table 7, where they start
+  abbrev Removal : ℕ → ToolFloor → Type 0
+  Removal port h =
+      floor_starts (firing 4 port 5) h ≡ true → floor_starts (firing 7 port 6) (floor_fired (firing 4 port 5) h) ≡ true → Works (floor_fired (firing 7 port 6) (floor_fired (firing 4 port 5) h))
 
   -- ---- an input
 
@@ -99,45 +89,28 @@ module _ (number : ℕ) (counted : ℕ → Bool) (f : ToolFloor) where
       row = λ x h starts input c. (order_changes.row x h starts input c.0, works_row x h c.0 starts input c.1);
       process = λ spec h faultless c. (order_changes.process spec h faultless c.0, created-goes number counted f h c.0 spec faultless c.1);
       control = λ s h becomes c. (order_changes.control s h becomes c.0, works_control s h c.0 becomes c.1);
-      cancelled = λ n d h here starts unnamed c. (
-        order_changes.cancelled n d h here starts unnamed c.0,
-        works_on h (floor_fired (firing 10 n 4) h) (λ at. cancelled-works number counted h c.0.sound at n d here unnamed) (λ is. disturbed-row number counted f h is (firing 10 n 4) starts refl) c.1,
+      cancelled = λ n d h here starts unnamed c. (order_changes.cancelled n d h here starts unnamed c.0, cancelled-goes number counted f h c.0.sound n d here unnamed c.1);
+      written = λ a h code c. (order_changes.written a h code c.0, written-goes number counted f h c.0.sound a code c.1);
+      unbinding = λ port h starts away c. (order_changes.unbinding port h starts away c.0, unbinding-goes number counted f h c.0.sound port starts away c.1);
+      placing = λ g port name slots acts starts c.
+          (order_changes.placing g port name slots (from_here Rests g acts.same rest) starts c.0, placing-goes number counted f g.floor c.0.sound port.0 name slots starts c.1);
+      removal = λ g port acts starts next c. (
+        order_changes.removal g port (from_here Rests g acts.same rest) starts next c.0,
+        from_here (Removal port.0) g acts.same (λ one two. removal-goes number counted f order.sound e port.0 one two (shop_rests f rest)) starts next,
       );
-      written = λ a h code c. (
-        order_changes.written a h code c.0,
-        works_on h (with_shop (carrier_written a h.shop) h) (λ at. written-works number counted h c.0.sound at a code) (λ is. disturbed-shop number counted f h (carrier_written a h.shop) is) c.1,
-      );
-      unbinding = λ port h starts away c. (
-        order_changes.unbinding port h starts away c.0,
-        works_on h (floor_fired (firing 7 port 2) h) (λ at. unbinding-works number counted h c.0.sound at port starts away) (λ is. disturbed-row number counted f h is (firing 7 port 2) starts refl) c.1,
-      );
-      placing = λ g port name slots acts starts c. (
-        order_changes.placing g port name slots (subst (λ (h : ToolFloor). floor_least h ≡ None) (sym acts.same) rest) starts c.0,
-        works_on g.floor _ (λ at. placing-works number counted g.floor c.0.sound at port.0 name slots starts)
-            (λ is. disturbed-shop number counted f g.floor (shop.floor_fired (firing 4 port.0 3) (came port.0 (arrival_of port.0 name slots g.floor.shop.carriers) g.floor.shop)) is) c.1,
-      );
-      removal = λ g port acts starts next c.
-          let rests = subst (λ (h : ToolFloor). floor_least h ≡ None) (sym acts.same) rest in
-          let at : AtWork number counted f.jobs g.floor = from_here (λ (h : ToolFloor). AtWork number counted f.jobs h) g acts.same (at_work_of number counted f e) in (
-            order_changes.removal g port rests starts next c.0,
-            (let on = removed-works number counted port.0 g.floor c.0.sound at starts next (shop_rests g.floor rests) in inl (on.0, on.2 ∙ ap (λ (h : ToolFloor). owed_to counted (picture h)) acts.same)),
-          );
-      removal_left = λ g port starts left c. (
-        order_changes.removal_left g port starts left c.0,
-        works_on g.floor (floor_fired (firing 4 port.0 5) g.floor) (λ at. vacated-works number counted g.floor c.0.sound at port.0 starts) (λ is. disturbed-row number counted f g.floor is (firing 4 port.0 5) starts refl) c.1,
-      );
-      fetched = λ m h c. (order_changes.fetched m h c.0, works_on h (fetched m h) (λ at. fetched-works number counted h at m) (λ is. disturbed-fetched number counted f h m is) c.1);
+      removal_left = λ g port starts left c. (order_changes.removal_left g port starts left c.0, removal_left-goes number counted f g.floor c.0.sound port.0 starts c.1);
+      fetched = λ m h c. (order_changes.fetched m h c.0, fetched-goes number counted f h c.0.sound m c.1);
       did = λ g m command acts is c. absurd (let none : 1 ≡ 0 = sym (ap (λ (b : Bool). if b then 1 else 0) is) ∙ acts.none in omega (arith, none));
       failed_at = λ g m command acts is c. (
-        order_changes.failed_at g m command (subst (λ (h : ToolFloor). floor_least h ≡ None) (sym acts.same) rest) is c.0,
+        order_changes.failed_at g m command (from_here Rests g acts.same rest) is c.0,
         from_here (λ (h : ToolFloor). Works (listed (closing_rows 8 m.0 h) h)) g acts.same (failed-either number counted f order.sound e rest m.0),
       );
       went_down = λ g m acts up c. (
-        order_changes.went_down g m (subst (λ (h : ToolFloor). floor_least h ≡ None) (sym acts.same) rest) up c.0,
+        order_changes.went_down g m (from_here Rests g acts.same rest) up c.0,
         from_here (λ (h : ToolFloor). Works (listed (closing_rows 9 m.0 h) h)) g acts.same (down-either number counted f order.sound e rest m.0),
       );
       lost = λ g sub acts c. (
-        order_changes.lost g sub (subst (λ (h : ToolFloor). floor_least h ≡ None) (sym acts.same) rest) c.0,
+        order_changes.lost g sub (from_here Rests g acts.same rest) c.0,
         from_here (λ (h : ToolFloor). Works (listed (lost_rows sub h) h)) g acts.same (lost-either number counted f order.sound e sub),
       );
     }

@@ -1,13 +1,11 @@
--- Rows that inputs list by themselves, and those that the ends of transactions and S3F17 list.
-use Rattle.std.proofs.Common.{◌≡◌, ◌⊎◌, ℕ, ◌==◌, Bool, true, false, ◌&&◌, ◌||◌, if◌then◌else◌, List, [], ◌∷◌, Option, Some, None, inl, inr, refl, sym, ◌∙◌, ap, subst, not, nat_lt, length, map}
-use Rattle.std.proofs.lemmas.Bool.{and_parts}
-use Rattle.std.proofs.lemmas.Bool.Decides.{Decides-eqb}
-use Rattle.gem_tables.specs.Table.{firing, is_one_of}
+-- Rows that inputs fire by themselves, and those that the ends of transactions and S3F17 list.
+use Rattle.std.proofs.Common.{◌≡◌, ℕ, Bool, true, false, ◌||◌, if◌then◌else◌, List, [], ◌∷◌, Option, Some, None, refl, ◌∙◌, ap, not, nat_lt, length, map}
+use Rattle.gem_tables.specs.Table.{firing}
 use Rattle.gem_tables.proofs.Rows.{one_of_cases}
 use Rattle.gem_tables.specs.declared.firing.Firing.{Firing}
 use Rattle.load_port.specs.Ports.{port_numbered, view_of}
 use Rattle.carrier.specs.declared.carrier.Carrier.{Carrier}
-use Rattle.carrier.specs.Record.{is_id_waiting, is_map_waiting}
+use Rattle.carrier.specs.Record.{is_id_waiting}
 use Rattle.carrier.specs.Carriers.{is_known, carrier_named}
 use Rattle.shop_floor.specs.Floor.{Floor}
 use Rattle.shop_floor.specs.Rows.{owner}
@@ -30,59 +28,37 @@ use Rattle.gem_model.specs.Fire.{fire, fire_all, advanced}
 use Rattle.gem_model.specs.Machines.{creations}
 use Rattle.gem_model.specs.Direct.{Are}
 use Rattle.gem_model.proofs.Tests.{either_way}
-use Rattle.gem_model.proofs.FloorRows.{IsFloorRow, is_alone, effect_is}
+use Rattle.gem_model.proofs.FloorRows.{IsFloorRow, IsOfInput, input_line, input_transfer, input_access, input_reservation, input_binding, input_name, input_map, input_process, input_control, input_module, effect_is}
 use Rattle.gem_model.proofs.Listed.{IsFree, free_enabled, free_met, free_attempted, free_off_line, free_elsewhere, free_unload, free_purge, free_floor, IsEnd}
 
-either : (a b : Bool) → (a || b) ≡ true → (a ≡ true) ⊎ (b ≡ true)
-either true b e = inl refl
-either false b e = inr e
+common_so : {f x : Firing} → is_common x ≡ true → f ≡ x → is_common f ≡ true
+common_so is same = rw same is
 
--- those that inputs list alone are none of those that they list together
-pub alone_common : (f : Firing) → is_alone f ≡ true → is_common f ≡ true
-alone_common f e = first (either _ _ e) where
-  of_table : (n : ℕ) → ((row : ℕ) → is_common (firing n f.object row) ≡ true) → (f.row.table == n) ≡ true → is_common f ≡ true
-  of_table n all is = subst (λ (t : ℕ). is_common (firing t f.object f.row.row) ≡ true) (sym ((Decides-eqb f.row.table n).0 is)) (all f.row.row)
+-- what inputs fire by themselves is none of what they fire together
+pub input_common : (f : Firing) → IsOfInput f → is_common f ≡ true
+input_common f (input_line is) = one_of_cases (λ (t : ℕ). is_common (firing t f.object f.row.row) ≡ true) (1 ∷ 2 ∷ 3 ∷ []) f.row.table (refl, (refl, (refl, tt))) is
+input_common f (input_transfer n row is same) = common_so (one_of_cases (λ (r : ℕ). is_common (firing 4 n r) ≡ true) (1 ∷ 2 ∷ []) row (refl, (refl, tt)) is) same
+input_common f (input_access n row same) = common_so refl same
+input_common f (input_reservation n row same) = common_so refl same
+input_common f (input_binding n same) = common_so refl same
+input_common f (input_name n row is same) = common_so refl same
+input_common f (input_map n row is same) = common_so refl same
+input_common f (input_process n row is same) = common_so refl same
+input_common f (input_control n row is same) = common_so refl same
+input_common f (input_module n same) = common_so refl same
 
-  of_four : (n : ℕ) → is_common (firing 4 f.object n) ≡ true → (f.row.table == 4) ≡ true → (f.row.row == n) ≡ true → is_common f ≡ true
-  of_four n common is row =
-      subst (λ (t : ℕ). is_common (firing t f.object f.row.row) ≡ true) (sym ((Decides-eqb f.row.table 4).0 is))
-      (subst (λ (r : ℕ). is_common (firing 4 f.object r) ≡ true) (sym ((Decides-eqb f.row.row n).0 row)) common)
+pub free_input : (f : Firing) → IsFree f → IsOfInput f
+free_input f (free_enabled same) = input_line (rw same refl)
+free_input f (free_met same) = input_line (rw same refl)
+free_input f (free_attempted same) = input_line (rw same refl)
+free_input f (free_off_line same) = input_line (rw same refl)
+free_input f (free_elsewhere row never alone same) = input_line (rw same refl)
+free_input f (free_unload same) = input_line (rw same refl)
+free_input f (free_purge same) = input_line (rw same refl)
+free_input f (free_floor floor input) = input
 
-  one_or_two : (f.row.table == 4) ≡ true → ((f.row.row == 1) ≡ true) ⊎ ((f.row.row == 2) ≡ true) → is_common f ≡ true
-  one_or_two is (inl row) = of_four 1 refl is row
-  one_or_two is (inr row) = of_four 2 refl is row
-
-  fifth : (is_one_of (14 ∷ 15 ∷ []) f.row.table ≡ true) ⊎ (((f.row.table == 16) && (f.row.row == 10)) ≡ true) → is_common f ≡ true
-  fifth (inl is) = one_of_cases (λ (t : ℕ). is_common (firing t f.object f.row.row) ≡ true) (14 ∷ 15 ∷ []) f.row.table (refl, (refl, tt)) is
-  fifth (inr is) =
-      let parts = and_parts (f.row.table == 16) (f.row.row == 10) is in
-      subst (λ (t : ℕ). is_common (firing t f.object f.row.row) ≡ true) (sym ((Decides-eqb f.row.table 16).0 parts.0))
-      (subst (λ (r : ℕ). is_common (firing 16 f.object r) ≡ true) (sym ((Decides-eqb f.row.row 10).0 parts.1)) refl)
-
-  fourth : ((f.row.table == 6) ≡ true) ⊎ ((is_one_of (14 ∷ 15 ∷ []) f.row.table || ((f.row.table == 16) && (f.row.row == 10))) ≡ true) → is_common f ≡ true
-  fourth (inl is) = of_table 6 (λ row. refl) is
-  fourth (inr is) = fifth (either _ _ is)
-
-  third : ((f.row.table == 5) ≡ true) ⊎ (((f.row.table == 6) || (is_one_of (14 ∷ 15 ∷ []) f.row.table || ((f.row.table == 16) && (f.row.row == 10)))) ≡ true) → is_common f ≡ true
-  third (inl is) = of_table 5 (λ row. refl) is
-  third (inr is) = fourth (either _ _ is)
-
-  first : (((f.row.table == 4) && ((f.row.row == 1) || (f.row.row == 2))) ≡ true) ⊎ (((f.row.table == 5) || ((f.row.table == 6) || (is_one_of (14 ∷ 15 ∷ []) f.row.table || ((f.row.table == 16) && (f.row.row == 10))))) ≡ true) → is_common f ≡ true
-  first (inl is) = let parts = and_parts (f.row.table == 4) ((f.row.row == 1) || (f.row.row == 2)) is in one_or_two parts.0 (either _ _ parts.1)
-  first (inr is) = third (either _ _ is)
-
-pub free_common : (f : Firing) → IsFree f → is_common f ≡ true
-free_common f (free_enabled same) = rw same refl
-free_common f (free_met same) = rw same refl
-free_common f (free_attempted same) = rw same refl
-free_common f (free_off_line same) = rw same refl
-free_common f (free_elsewhere row never alone same) = rw same refl
-free_common f (free_unload same) = rw same refl
-free_common f (free_purge same) = rw same refl
-free_common f (free_floor floor alone) = alone_common f alone
-
-pub end_common : (f : Firing) → IsEnd f → is_common f ≡ true
-end_common f end = one_of_cases (λ (t : ℕ). is_common (firing t f.object f.row.row) ≡ true) (1 ∷ 2 ∷ 3 ∷ []) f.row.table (refl, (refl, (refl, tt))) end.first_tables
+pub end_input : (f : Firing) → IsEnd f → IsOfInput f
+end_input f end = input_line end.first_tables
 
 pub is_4 : (n row : ℕ) → IsFloorRow (firing 4 n row)
 is_4 n row = record { not_1 = refl; not_2 = refl; not_3 = refl }
@@ -100,15 +76,15 @@ is_10 n row = record { not_1 = refl; not_2 = refl; not_3 = refl }
 pub advanced_floor : (g : State) (f : Firing) → IsFloorRow f → creations g f ≡ [] → (advanced g f).floor ≡ floor_fired f g.floor
 advanced_floor g f floor none = ap (λ (ds : List Firing). (fire_all ds (fire g f)).floor) none ∙ ap (λ (h : State). h.floor) (effect_is g f floor)
 
-abbrev pub AreCommon : List Firing → Type 0
-AreCommon fs = Are (λ (f : Firing). is_common f ≡ true) fs
+abbrev pub AreOfInput : List Firing → Type 0
+AreOfInput fs = Are IsOfInput fs
 
-pub created_common : (name : List ℕ) (f : Floor) → AreCommon (creation_of name f)
-created_common name f = either_way AreCommon (is_known name f.carriers) [] (firing 8 f.next_carrier 1 ∷ []) tt (refl, tt)
+pub created_input : (name : List ℕ) (f : Floor) → AreOfInput (creation_of name f)
+created_input name f = either_way AreOfInput (is_known name f.carriers) [] (firing 8 f.next_carrier 1 ∷ []) tt (input_name f.next_carrier 1 refl refl, tt)
 
-pub proceeding_common : (o : Option Carrier) → AreCommon (proceeding o)
-proceeding_common None = tt
-proceeding_common (Some c) = either_way AreCommon (is_id_waiting c.states.id) (firing 8 c.number 4 ∷ []) (firing 9 c.number 3 ∷ []) (refl, tt) (refl, tt)
+pub proceeding_input : (o : Option Carrier) → AreOfInput (proceeding o)
+proceeding_input None = tt
+proceeding_input (Some c) = either_way AreOfInput (is_id_waiting c.states.id) (firing 8 c.number 4 ∷ []) (firing 9 c.number 3 ∷ []) (input_name c.number 4 refl refl, tt) (input_map c.number 3 refl refl, tt)
 
 -- the carrier that belongs to a port is not present
 abbrev pub IsAway : ℕ → ToolFloor → Type 0

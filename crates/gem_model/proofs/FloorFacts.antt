@@ -32,7 +32,7 @@ use Rattle.tool_events.specs.declared.event.Event.TheVariants as event
 use Rattle.tool_events.specs.declared.event.Signal.TheVariants as signal
 use Rattle.place_laws.specs.Sound.{Sound}
 use Rattle.place_laws.proofs.Stays.{NonePresent}
-use Rattle.floor_laws.specs.Rows.{is_common, one_listed, listed}
+use Rattle.floor_laws.specs.Rows.{one_listed, listed}
 use Rattle.floor_laws.proofs.GrowTaken.{by_its_number}
 use Rattle.floor_laws.proofs.ShopHost.{still_placed}
 use Rattle.place_laws.proofs.Written.{unbound}
@@ -41,6 +41,7 @@ use Rattle.carrier.specs.declared.carrier.Carrier.{Carrier}
 use Rattle.carrier.specs.Record.{is_id_waiting, is_map_waiting, is_map_verified, is_not_accessed}
 use Rattle.carrier.specs.Verdict.{cancel_code}
 use Rattle.shop_floor.proofs.Apart.{found_passes, named_so}
+use Rattle.process_job.specs.Creating.{create_fault}
 use Rattle.process_job.specs.declared.job.JobSpec.{JobSpec}
 use Rattle.control_job.specs.Jobs.{JobStore}
 use Rattle.tool_jobs.specs.Creating.{with_process}
@@ -62,22 +63,21 @@ use Rattle.gem_model.specs.Direct.{Are}
 use Rattle.gem_model.proofs.Effects.{asks_host, gives_up, least_is}
 use Rattle.gem_model.proofs.OnFloor.{effect_as, starts_as}
 use Rattle.gem_model.proofs.Tests.{went, either_way, or_went, none_some}
-use Rattle.gem_model.proofs.FloorRows.{IsFloorRow, effect_is, starts_is, creations_is, creation_is, ready_is, advanced_keeps}
+use Rattle.gem_model.proofs.FloorRows.{IsFloorRow, IsOfInput, input_reservation, input_binding, input_name, input_map, effect_is, starts_is, creations_is, creation_is, ready_is, advanced_keeps}
 use Rattle.gem_model.proofs.Listed.{are_both, listed_keeps}
 use Rattle.gem_model.proofs.Each.{EachEnd, end_closed, end_timed_out, end_disabled, end_session}
-use Rattle.gem_model.proofs.CommonRows.{free_common, end_common, is_4, is_6, is_7, is_10, advanced_floor, created_common, proceeding_common, cancel_done, IsAway}
-use Rattle.gem_model.proofs.Walk.{Units, Inner, Kept}
+use Rattle.gem_model.proofs.CommonRows.{free_input, end_input, is_4, is_6, is_7, is_10, advanced_floor, created_input, proceeding_input, cancel_done, IsAway}
+use Rattle.gem_model.proofs.Creating.{BecomesControl}
+use Rattle.gem_model.proofs.Walk.{Units, Inner, Acting, Kept}
 use Rattle.gem_model.proofs.EachFloor.{SameFloor, floor_comm, floor_control, floor_line}
 
--- A fact of the floor of the tool that holds with what holds at every moment. The rows that are ready by themselves keep it, and those that
--- inputs fire alone; so does what the host writes, and what becomes of jobs; and lists of rows of an event do, where this is known of the
--- event and its state.
-pub record FloorFact (Rest : Event → State → Type 0) (F : ToolFloor → Type 0) : Type 1 where
+-- A fact of the floor of the tool that holds with what holds at every moment. The rows that inputs fire by themselves keep it; so does
+-- what the host writes, and what becomes of jobs; and lists of rows of an event do, where this is known of the event and its state.
+pub record FloorChanges (Rest : Event → State → Type 0) (F : ToolFloor → Type 0) : Type 1 where
   pub sound : (f : ToolFloor) → F f → Sound f
-  pub ready : (x : Firing) (f : ToolFloor) → floor_least f ≡ Some x → F f → F (floor_fired x f)
-  pub row : (x : Firing) (f : ToolFloor) → floor_starts x f ≡ true → is_common x ≡ true → F f → F (floor_fired x f)
-  pub process : (spec : JobSpec) (f : ToolFloor) → F f → F (with_jobs (with_process spec f.jobs) f)
-  pub control : (s : JobStore) (f : ToolFloor) → F f → F (with_jobs (record f.jobs { control = s }) f)
+  pub row : (x : Firing) (f : ToolFloor) → floor_starts x f ≡ true → IsOfInput x → F f → F (floor_fired x f)
+  pub process : (spec : JobSpec) (f : ToolFloor) → create_fault spec f.jobs.process ≡ None → F f → F (with_jobs (with_process spec f.jobs) f)
+  pub control : (s : JobStore) (f : ToolFloor) → BecomesControl f.jobs s → F f → F (with_jobs (record f.jobs { control = s }) f)
   pub cancelled : (n : ℕ) (c : Carrier) (f : ToolFloor) → carrier_numbered n f.shop.carriers ≡ Some c → floor_starts (firing 10 n 4) f ≡ true → is_any_of_carrier c.name f.jobs ≡ false → F f → F (floor_fired (firing 10 n 4) f)
   pub written : (a : CarrierAction) (f : ToolFloor) → is_done_code (code_alone f.shop a) ≡ true → F f → F (with_shop (carrier_written a f.shop) f)
   pub unbinding : (port : ℕ) (f : ToolFloor) → floor_starts (firing 7 port 2) f ≡ true → IsAway port f → F f → F (floor_fired (firing 7 port 2) f)
@@ -91,6 +91,11 @@ pub record FloorFact (Rest : Event → State → Type 0) (F : ToolFloor → Type
   pub failed_at : (g : State) (number : ModuleId) (command : CmdNo) → Rest (event.Signal (signal.Failed number command)) g → is_open command.0 (module_of number.0 g) ≡ true → F g.floor → F (listed (closing_rows 8 number.0 g.floor) g.floor)
   pub went_down : (g : State) (number : ModuleId) → Rest (event.Signal (signal.Down number)) g → is_up (module_of number.0 g) ≡ true → F g.floor → F (listed (closing_rows 9 number.0 g.floor) g.floor)
   pub lost : (g : State) (sub : List ℕ) → Rest (event.Oper (oper.Lost sub)) g → F g.floor → F (listed (lost_rows sub g.floor) g.floor)
+
+-- the same, where the rows that are ready by themselves keep it too
+pub record FloorFact (Rest : Event → State → Type 0) (F : ToolFloor → Type 0) : Type 1 where
+  pub changes : FloorChanges Rest F
+  pub ready : (x : Firing) (f : ToolFloor) → floor_least f ≡ Some x → F f → F (floor_fired x f)
 
 -- ---- rows of the floor that create nothing
 
@@ -168,7 +173,7 @@ not_named o true c is id slots code =
       of false false false g e f = refl
 not_named o false c is id slots code = refl
 
-module _ (Rest : Event → State → Type 0) (F : ToolFloor → Type 0) (fact : FloorFact Rest F) where
+module _ (F : ToolFloor → Type 0) where
   -- it holds of a state
   abbrev pub Holds : State → Type 0
   Holds g = F g.floor
@@ -176,20 +181,8 @@ module _ (Rest : Event → State → Type 0) (F : ToolFloor → Type 0) (fact : 
   fact_same : (g h : State) → SameFloor g h → Holds g → Holds h
   fact_same g h same st = subst F (sym same) st
 
-  -- ---- rows that are fired alone
-
-  by_tables : (first second third : Bool) (f : Firing) (row : ℕ) (g : State) → is_common f ≡ true →
-      (if first then comm_starts row g.comm else (if second then control_starts row g.control else (if third then line_starts (around g) row g.line else floor_starts f g.floor))) ≡ true →
-      Holds g → Holds (if first then fire_comm row g else (if second then fire_control row g else (if third then fire_line row g else fire_floor f g)))
-  by_tables true second third f row g common is st = fact_same g (fire_comm row g) (floor_comm g row) st
-  by_tables false true third f row g common is st = fact_same g (fire_control row g) (floor_control g row) st
-  by_tables false false true f row g common is st = fact_same g (fire_line row g) (floor_line g row) st
-  by_tables false false false f row g common is st = fact.row f g.floor is common st
-
-  common_row : (g : State) (f : Firing) → is_common f ≡ true → row_starts g f ≡ true → Holds g → Holds (takes_effect g f)
-  common_row g f common is st = subst Holds (sym (effect_as g f)) (by_tables (f.row.table == 1) (f.row.table == 2) (f.row.table == 3) f f.row.row g common (sym (starts_as g f) ∙ is) st)
-
-  -- ---- settling
+  fact_one : (g : State) (f one : Firing) → Holds (fire g one) → Some one ≡ Some f → Holds (fire g f)
+  fact_one g f one st here = let same : one ≡ f = cc in subst (λ (x : Firing). Holds (fire g x)) same st
 
   fact_line : (g : State) (row : Option ℕ) (f : Firing) → option_map (firing 3 0) row ≡ Some f → Holds g → Holds (fire g f)
   fact_line g None f here st = none_some f here
@@ -197,53 +190,68 @@ module _ (Rest : Event → State → Type 0) (F : ToolFloor → Type 0) (fact : 
       let same : firing 3 0 row ≡ f = cc in
       subst (λ (x : Firing). Holds (fire g x)) same (fact_same g (fire_line row g) (floor_line g row) st)
 
-  fact_one : (g : State) (f one : Firing) → Holds (fire g one) → Some one ≡ Some f → Holds (fire g f)
-  fact_one g f one st here = let same : one ≡ f = cc in subst (λ (x : Firing). Holds (fire g x)) same st
-
-  fact_ready : (g : State) (f : Firing) → ready_floor g ≡ Some f → Holds g → Holds (fire g f)
-  fact_ready g f ready st = subst Holds (sym (effect_is g f (ready_is g f ready))) (fact.ready f g.floor ready st)
-
-  pub fact_automatic : (g : State) (f : Firing) → least g ≡ Some f → Holds g → Holds (fire g f)
-  fact_automatic g f ready st =
+  -- where the rows of the floor that are ready by themselves keep it, each does
+  pub fact_automatic : ((x : Firing) (f : ToolFloor) → floor_least f ≡ Some x → F f → F (floor_fired x f)) → (g : State) (f : Firing) → least g ≡ Some f → Holds g → Holds (fire g f)
+  fact_automatic ready g f is st =
       or_went (asks_host g) (option_or (gives_up g) (option_or (ready_line g) (ready_floor g))) f
       (λ at. went _ _ _ _ (λ over e. fact_one g f (firing 1 0 3) (fact_same g (fire_comm 3 g) (floor_comm g 3) st) e) (λ _ e. none_some f e) at)
       (λ _ behind. or_went (gives_up g) (option_or (ready_line g) (ready_floor g)) f
       (λ at. went _ _ _ _ (λ can e. fact_one g f (firing 2 0 2) (fact_same g (fire_control 2 g) (floor_control g 2) st) e) (λ _ e. none_some f e) at)
-      (λ _ last. or_went (ready_line g) (ready_floor g) f (λ at. fact_line g (table.least (around g) g.line) f at st) (λ _ at. fact_ready g f at st) last) behind)
-      (sym (least_is g) ∙ ready)
+      (λ _ last. or_went (ready_line g) (ready_floor g) f (λ at. fact_line g (table.least (around g) g.line) f at st) (λ _ at. there at) last) behind)
+      (sym (least_is g) ∙ is)
+    where
+      there : ready_floor g ≡ Some f → Holds (fire g f)
+      there at = subst Holds (sym (effect_is g f (ready_is g f at))) (ready f g.floor at st)
 
   pub fact_creation : (g : State) (d : Firing) → is_creation d ≡ true → Holds g → Holds (fire g d)
   fact_creation g d is st = subst F (sym (ap (λ (k : State). k.floor) (effect_is g d (creation_is d is)) ∙ creation_same g.floor d is)) st
 
+module _ (Rest : Event → State → Type 0) (F : ToolFloor → Type 0) (fact : FloorChanges Rest F) where
+  abbrev At : State → Type 0
+  At g = F g.floor
+
+  -- ---- rows that are fired alone
+
+  by_tables : (first second third : Bool) (f : Firing) (row : ℕ) (g : State) → IsOfInput f →
+      (if first then comm_starts row g.comm else (if second then control_starts row g.control else (if third then line_starts (around g) row g.line else floor_starts f g.floor))) ≡ true →
+      At g → At (if first then fire_comm row g else (if second then fire_control row g else (if third then fire_line row g else fire_floor f g)))
+  by_tables true second third f row g input is st = fact_same F g (fire_comm row g) (floor_comm g row) st
+  by_tables false true third f row g input is st = fact_same F g (fire_control row g) (floor_control g row) st
+  by_tables false false true f row g input is st = fact_same F g (fire_line row g) (floor_line g row) st
+  by_tables false false false f row g input is st = fact.row f g.floor is input st
+
+  input_row : (g : State) (f : Firing) → IsOfInput f → row_starts g f ≡ true → At g → At (takes_effect g f)
+  input_row g f input is st = subst At (sym (effect_as g f)) (by_tables (f.row.table == 1) (f.row.table == 2) (f.row.table == 3) f f.row.row g input (sym (starts_as g f) ∙ is) st)
+
   -- ---- lists of rows
 
   -- what firings leave where each is one that may be fired alone
-  common_listed : (fs : List Firing) → Are (λ (f : Firing). is_common f ≡ true) fs → (g : State) → Holds g → Holds (fire_listed fs g)
-  common_listed fs common g st = listed_keeps Holds (λ (f : Firing). is_common f ≡ true) (λ h e o online at. at) common_row fact_creation fs common g st
+  input_listed : (fs : List Firing) → Are IsOfInput fs → (g : State) → At g → At (fire_listed fs g)
+  input_listed fs are g st = listed_keeps At IsOfInput (λ h e o online at. at) input_row (fact_creation F) fs are g st
 
   -- a row of the floor fires, with what it creates
-  advances : (g : State) (f : Firing) → IsFloorRow f → F (floor_fired f g.floor) → Holds (advanced g f)
-  advances g f floor st = advanced_keeps Holds fact_creation g f (subst Holds (sym (effect_is g f floor)) st)
+  advances : (g : State) (f : Firing) → IsFloorRow f → F (floor_fired f g.floor) → At (advanced g f)
+  advances g f floor st = advanced_keeps At (fact_creation F) g f (subst At (sym (effect_is g f floor)) st)
 
   -- a carrier is placed
-  placing : (g : State) (port : PortNo) (name : Option (List ℕ)) (slots : List ℕ) → port_row_starts 3 port.0 g ≡ true → Rest (event.Signal (signal.Placed port name slots)) g → Holds g → Holds (fire_listed (at_port 4 3 port.0) (with_arrival port.0 name slots g))
+  placing : (g : State) (port : PortNo) (name : Option (List ℕ)) (slots : List ℕ) → port_row_starts 3 port.0 g ≡ true → Rest (event.Signal (signal.Placed port name slots)) g → At g → At (fire_listed (at_port 4 3 port.0) (with_arrival port.0 name slots g))
   placing g port name slots starts rest st =
       let h = with_arrival port.0 name slots g in
       let x = firing 4 port.0 3 in
       let here : floor_starts x g.floor ≡ true = sym (starts_is g x (is_4 port.0 3)) ∙ starts in
       let again : row_starts h x ≡ true = starts_is h x (is_4 port.0 3) ∙ still_placed port.0 (arrival_of port.0 name slots g.floor.shop.carriers) g.floor.shop here in
-      subst (λ (b : Bool). Holds (if b then advanced h x else h)) (sym again)
+      subst (λ (b : Bool). At (if b then advanced h x else h)) (sym again)
       (advances h x (is_4 port.0 3) (fact.placing g port name slots rest here st))
 
   -- a carrier is removed
-  removing : (g : State) (port : PortNo) → port_row_starts 5 port.0 g ≡ true → Rest (event.Signal (signal.Removed port)) g → Holds g → Holds (fire_listed (removal port.0) g)
+  removing : (g : State) (port : PortNo) → port_row_starts 5 port.0 g ≡ true → Rest (event.Signal (signal.Removed port)) g → At g → At (fire_listed (removal port.0) g)
   removing g port starts rest st =
       let x = firing 4 port.0 5 in
       let here : floor_starts x g.floor ≡ true = sym (starts_is g x (is_4 port.0 5)) ∙ starts in
       let h = advanced g x in
       let floor : h.floor ≡ floor_fired x g.floor = advanced_floor g x (is_4 port.0 5) (creations_is g x (is_4 port.0 5)) in
-      subst (λ (b : Bool). Holds (fire_listed (firing 7 port.0 6 ∷ []) (if b then h else g))) (sym starts) (of h floor here (row_starts h (firing 7 port.0 6)) refl) where
-        of : (h : State) → h.floor ≡ floor_fired (firing 4 port.0 5) g.floor → floor_starts (firing 4 port.0 5) g.floor ≡ true → (b : Bool) → row_starts h (firing 7 port.0 6) ≡ b → Holds (if b then advanced h (firing 7 port.0 6) else h)
+      subst (λ (b : Bool). At (fire_listed (firing 7 port.0 6 ∷ []) (if b then h else g))) (sym starts) (of h floor here (row_starts h (firing 7 port.0 6)) refl) where
+        of : (h : State) → h.floor ≡ floor_fired (firing 4 port.0 5) g.floor → floor_starts (firing 4 port.0 5) g.floor ≡ true → (b : Bool) → row_starts h (firing 7 port.0 6) ≡ b → At (if b then advanced h (firing 7 port.0 6) else h)
         of h floor here true is =
             let next : floor_starts (firing 7 port.0 6) (floor_fired (firing 4 port.0 5) g.floor) ≡ true = subst (λ (f : ToolFloor). floor_starts (firing 7 port.0 6) f ≡ true) floor (sym (starts_is h (firing 7 port.0 6) (is_7 port.0 6)) ∙ is) in
             advances h (firing 7 port.0 6) (is_7 port.0 6) (subst (λ (f : ToolFloor). F (floor_fired (firing 7 port.0 6) f)) (sym floor) (fact.removal g port rest here next st))
@@ -253,39 +261,39 @@ module _ (Rest : Event → State → Type 0) (F : ToolFloor → Type 0) (fact : 
 
   -- ---- modules
 
-  fact_alarm : (g : State) (alid : ℕ) → Holds g → Holds (sets_alarm alid g)
-  fact_alarm g alid st = either_way Holds _ _ g st st
+  fact_alarm : (g : State) (alid : ℕ) → At g → At (sets_alarm alid g)
+  fact_alarm g alid st = either_way At _ _ g st st
 
   -- an alarm leaves the floor as it is
   alarm_floor : (g : State) (alid : ℕ) → (sets_alarm alid g).floor ≡ g.floor
   alarm_floor g alid = either_way (λ (h : State). h.floor ≡ g.floor) _ _ g refl refl
 
   -- rows that create nothing are listed in a state with this floor
-  listed_holds : (xs : List Firing) → Are Quiet xs → (g h : State) → h.floor ≡ g.floor → F (listed xs g.floor) → Holds (fire_listed xs h)
+  listed_holds : (xs : List Firing) → Are Quiet xs → (g h : State) → h.floor ≡ g.floor → F (listed xs g.floor) → At (fire_listed xs h)
   listed_holds xs are g h same st = subst F (sym (listed_is xs are h ∙ ap (listed xs) same)) st
 
-  did : (g : State) (number : ModuleId) (command : CmdNo) → is_open command.0 (module_of number.0 g) ≡ true → Rest (event.Signal (signal.Done number command)) g → Holds g → Holds (fire_listed (done_rows number.0 g.floor) g)
+  did : (g : State) (number : ModuleId) (command : CmdNo) → is_open command.0 (module_of number.0 g) ≡ true → Rest (event.Signal (signal.Done number command)) g → At g → At (fire_listed (done_rows number.0 g.floor) g)
   did g number command is rest st = listed_holds (done_rows number.0 g.floor) (done_quiet number.0 (module_of number.0 g) g.floor) g g refl (fact.did g number command rest is st)
 
-  failed_at : (g : State) (number : ModuleId) (command : CmdNo) → is_open command.0 (module_of number.0 g) ≡ true → Rest (event.Signal (signal.Failed number command)) g → Holds g
-      → Holds (fire_listed (closing_rows 8 number.0 g.floor) (sets_alarm (module_alarm number.0) g))
+  failed_at : (g : State) (number : ModuleId) (command : CmdNo) → is_open command.0 (module_of number.0 g) ≡ true → Rest (event.Signal (signal.Failed number command)) g → At g
+      → At (fire_listed (closing_rows 8 number.0 g.floor) (sets_alarm (module_alarm number.0) g))
   failed_at g number command is rest st =
       listed_holds (closing_rows 8 number.0 g.floor) (closing_quiet 8 number.0 (module_of number.0 g) g.floor) g (sets_alarm (module_alarm number.0) g) (alarm_floor g (module_alarm number.0))
       (fact.failed_at g number command rest is st)
 
-  went_down : (g : State) (number : ModuleId) → is_up (module_of number.0 g) ≡ true → Rest (event.Signal (signal.Down number)) g → Holds g → Holds (fire_listed (closing_rows 9 number.0 g.floor) (sets_alarm (module_alarm number.0) g))
+  went_down : (g : State) (number : ModuleId) → is_up (module_of number.0 g) ≡ true → Rest (event.Signal (signal.Down number)) g → At g → At (fire_listed (closing_rows 9 number.0 g.floor) (sets_alarm (module_alarm number.0) g))
   went_down g number up rest st =
       listed_holds (closing_rows 9 number.0 g.floor) (closing_quiet 9 number.0 (module_of number.0 g) g.floor) g (sets_alarm (module_alarm number.0) g) (alarm_floor g (module_alarm number.0))
       (fact.went_down g number rest up st)
 
-  losing : (g : State) (sub : List ℕ) → Rest (event.Oper (oper.Lost sub)) g → Holds g → Holds (fire_listed (lost_rows sub g.floor) g)
+  losing : (g : State) (sub : List ℕ) → Rest (event.Oper (oper.Lost sub)) g → At g → At (fire_listed (lost_rows sub g.floor) g)
   losing g sub rest st = listed_holds (lost_rows sub g.floor) (lost_quiet (number_named sub g.floor.places) g.floor) g g refl (fact.lost g sub rest st)
 
   -- ---- S3F17
 
   -- rows 6.2 and 7.2 at its port
-  unbinds : (port : ℕ) (h : State) → IsAway port h.floor → Holds h → Holds (fire_listed (unbinding port) h)
-  unbinds port h away st = second (if row_starts h (firing 6 port 2) then advanced h (firing 6 port 2) else h) (common_listed (at_port 6 2 port) (refl, tt) h st) (first (row_starts h (firing 6 port 2))) where
+  unbinds : (port : ℕ) (h : State) → IsAway port h.floor → At h → At (fire_listed (unbinding port) h)
+  unbinds port h away st = second (if row_starts h (firing 6 port 2) then advanced h (firing 6 port 2) else h) (input_listed (at_port 6 2 port) (input_reservation port 2 refl, tt) h st) (first (row_starts h (firing 6 port 2))) where
     first : (b : Bool) → IsAway port (if b then advanced h (firing 6 port 2) else h).floor
     first true name is =
         let x = firing 6 port 2 in
@@ -294,14 +302,14 @@ module _ (Rest : Event → State → Type 0) (F : ToolFloor → Type 0) (fact : 
         (away name (sym (owner_changed (Some (record { 0 = port })) port (ports.fires_row 6 2) h.floor.shop.ports (λ p. refl)) ∙ ap (λ (f : ToolFloor). owner (port_numbered port f.shop.ports)) (sym floor) ∙ is))
     first false name is = away name is
 
-    second : (k : State) → Holds k → IsAway port k.floor → Holds (if row_starts k (firing 7 port 2) then advanced k (firing 7 port 2) else k)
+    second : (k : State) → At k → IsAway port k.floor → At (if row_starts k (firing 7 port 2) then advanced k (firing 7 port 2) else k)
     second k at gone = of (row_starts k (firing 7 port 2)) refl where
-      of : (b : Bool) → row_starts k (firing 7 port 2) ≡ b → Holds (if b then advanced k (firing 7 port 2) else k)
+      of : (b : Bool) → row_starts k (firing 7 port 2) ≡ b → At (if b then advanced k (firing 7 port 2) else k)
       of true is = advances k (firing 7 port 2) (is_7 port 2) (fact.unbinding port k.floor (sym (starts_is k (firing 7 port 2) (is_7 port 2)) ∙ is) gone at)
       of false is = at
 
   -- the row of CancelCarrier
-  cancels : (g h : State) (a : CarrierAction) → a.word ≡ word.Cancel → is_done_code (carrier_code a g.floor) ≡ true → h.floor ≡ g.floor → (o : Option Carrier) → carrier_named a.id g.floor.shop.carriers ≡ o → Holds g → Holds h → Holds (fire_listed (cancelling o) h)
+  cancels : (g h : State) (a : CarrierAction) → a.word ≡ word.Cancel → is_done_code (carrier_code a g.floor) ≡ true → h.floor ≡ g.floor → (o : Option Carrier) → carrier_named a.id g.floor.shop.carriers ≡ o → At g → At h → At (fire_listed (cancelling o) h)
   cancels g h a is code same None found st at = at
   cancels g h a is code same (Some c) found st at = of (is_id_waiting c.states.id) (is_map_waiting c.states.map) refl refl where
     named : a.id ≡ c.name
@@ -313,31 +321,31 @@ module _ (Rest : Event → State → Type 0) (F : ToolFloor → Type 0) (fact : 
     here : carrier_numbered c.number h.floor.shop.carriers ≡ Some c
     here = subst (λ (f : ToolFloor). carrier_numbered c.number f.shop.carriers ≡ Some c) (sym same) (by_its_number g.floor.shop (fact.sound g.floor st).base.shop a.id c found)
 
-    stops : is_any_of_carrier c.name g.floor.jobs ≡ false → (b : Bool) → row_starts h (firing 10 c.number 4) ≡ b → Holds (if b then advanced h (firing 10 c.number 4) else h)
+    stops : is_any_of_carrier c.name g.floor.jobs ≡ false → (b : Bool) → row_starts h (firing 10 c.number 4) ≡ b → At (if b then advanced h (firing 10 c.number 4) else h)
     stops unnamed true starts =
         advances h (firing 10 c.number 4) (is_10 c.number 4)
         (fact.cancelled c.number c h.floor here (sym (starts_is h (firing 10 c.number 4) (is_10 c.number 4)) ∙ starts) (subst (λ (f : ToolFloor). is_any_of_carrier c.name f.jobs ≡ false) (sym same) unnamed) at)
     stops unnamed false starts = at
 
-    of : (a b : Bool) → is_id_waiting c.states.id ≡ a → is_map_waiting c.states.map ≡ b → Holds (fire_listed (if a then firing 8 c.number 5 ∷ [] else (if b then firing 9 c.number 4 ∷ [] else firing 10 c.number 4 ∷ [])) h)
-    of true b id slots = common_listed (firing 8 c.number 5 ∷ []) (refl, tt) h at
-    of false true id slots = common_listed (firing 9 c.number 4 ∷ []) (refl, tt) h at
+    of : (a b : Bool) → is_id_waiting c.states.id ≡ a → is_map_waiting c.states.map ≡ b → At (fire_listed (if a then firing 8 c.number 5 ∷ [] else (if b then firing 9 c.number 4 ∷ [] else firing 10 c.number 4 ∷ [])) h)
+    of true b id slots = input_listed (firing 8 c.number 5 ∷ []) (input_name c.number 5 refl refl, tt) h at
+    of false true id slots = input_listed (firing 9 c.number 4 ∷ []) (input_map c.number 4 refl refl, tt) h at
     of false false id slots = stops (free id slots) (row_starts h (firing 10 c.number 4)) refl
 
-  asking : (w : CarrierWord) (g h : State) (a : CarrierAction) → a.word ≡ w → is_done_code (carrier_code a g.floor) ≡ true → h.floor ≡ with_shop (word_written w a g.floor.shop) g.floor → Holds g → Holds h → Holds (fire_listed (word_rows w a g.floor.shop) h)
-  asking word.Bind g h a is code same st at = common_listed (creation_of a.id g.floor.shop ++ (at_port 6 1 a.port ++ at_port 7 1 a.port)) (are_both (λ (f : Firing). is_common f ≡ true) (creation_of a.id g.floor.shop) (at_port 6 1 a.port ++ at_port 7 1 a.port) (created_common a.id g.floor.shop) (refl, (refl, tt))) h at
+  asking : (w : CarrierWord) (g h : State) (a : CarrierAction) → a.word ≡ w → is_done_code (carrier_code a g.floor) ≡ true → h.floor ≡ with_shop (word_written w a g.floor.shop) g.floor → At g → At h → At (fire_listed (word_rows w a g.floor.shop) h)
+  asking word.Bind g h a is code same st at = input_listed (creation_of a.id g.floor.shop ++ (at_port 6 1 a.port ++ at_port 7 1 a.port)) (are_both IsOfInput (creation_of a.id g.floor.shop) (at_port 6 1 a.port ++ at_port 7 1 a.port) (created_input a.id g.floor.shop) (input_reservation a.port 1 refl, (input_binding a.port refl, tt))) h at
   asking word.CancelBind g h a is code same st at =
       unbinds (port_number_of (carrier_named a.id g.floor.shop.carriers)) h
       (subst (IsAway (port_number_of (carrier_named a.id g.floor.shop.carriers))) (sym same) (unbound g.floor.shop (fact.sound g.floor st).base.shop a is (done_by_jobs a g.floor code))) at
-  asking word.Proceed g h a is code same st at = common_listed (proceeding (carrier_named a.id g.floor.shop.carriers)) (proceeding_common (carrier_named a.id g.floor.shop.carriers)) h at
+  asking word.Proceed g h a is code same st at = input_listed (proceeding (carrier_named a.id g.floor.shop.carriers)) (proceeding_input (carrier_named a.id g.floor.shop.carriers)) h at
   asking word.Cancel g h a is code same st at = cancels g h a is code same (carrier_named a.id g.floor.shop.carriers) refl st at
-  asking word.Notify g h a is code same st at = common_listed (creation_of a.id g.floor.shop) (created_common a.id g.floor.shop) h at
+  asking word.Notify g h a is code same st at = input_listed (creation_of a.id g.floor.shop) (created_input a.id g.floor.shop) h at
   asking word.CancelNotify g h a is code same st at = at
   asking word.Unknown g h a is code same st at = at
 
   -- ---- a step
 
-  units : Units Rest Holds
+  units : Units Rest At
   units = record {
     placing = placing;
     removal = removing;
@@ -348,17 +356,17 @@ module _ (Rest : Event → State → Type 0) (F : ToolFloor → Type 0) (fact : 
     asked = λ g h a code same st at. asking a.word g h a refl code same st at;
   }
 
-  ends : EachEnd Holds
+  ends : EachEnd At
   ends = record {
     transactions = λ g t st. st;
     waiting = λ g w st. st;
     event = λ g e o online st. st;
     answer = λ g st. st;
-    row = λ g f end starts st. common_row g f (end_common f end) starts st;
-    created = fact_creation;
+    row = λ g f end starts st. input_row g f (end_input f end) starts st;
+    created = fact_creation F;
   }
 
-  fact_inner : Inner Rest Holds
+  fact_inner : Inner Rest At
   fact_inner = record {
     clock = λ g c st. st;
     switch = λ g b st. st;
@@ -372,22 +380,33 @@ module _ (Rest : Event → State → Type 0) (F : ToolFloor → Type 0) (fact : 
     kinds = λ g k st. st;
     fetched = λ g number st. fact.fetched number g.floor st;
     written = λ g a code st. fact.written a g.floor (done_by_jobs a g.floor code) st;
-    process = λ g spec faultless st. fact.process spec g.floor st;
-    control = λ g s st. fact.control s g.floor st;
-    row = λ g f free starts st. common_row g f (free_common f free) starts st;
+    process = λ g spec faultless st. fact.process spec g.floor faultless st;
+    control = λ g s becomes st. fact.control s g.floor becomes st;
+    row = λ g f free starts st. input_row g f (free_input f free) starts st;
     units = units;
-    ready = fact_automatic;
-    created = fact_creation;
-    answered = λ g h item test one found st. end_closed Holds ends g h item one st;
-    failed = λ g test one found st. end_timed_out Holds ends g one st;
-    disabled = end_disabled Holds ends;
+    created = fact_creation F;
+    answered = λ g h item test one found st. end_closed At ends g h item one st;
+    failed = λ g test one found st. end_timed_out At ends g one st;
+    disabled = end_disabled At ends;
   }
 
-  pub fact_kept : Kept Rest Holds
-  fact_kept = record {
+  pub fact_acting : Acting Rest At
+  fact_acting = record {
     inner = fact_inner;
-    moment = λ g m st. st;
     quitting = λ g st. st;
     link = λ g l selected st. st;
-    ended = end_session Holds ends (λ g l st. st);
+    ended = end_session At ends (λ g l st. st);
   }
+
+module _ (Rest : Event → State → Type 0) (F : ToolFloor → Type 0) (fact : FloorFact Rest F) where
+  pub fact_kept : Kept Rest (Holds F)
+  fact_kept =
+      let acting = fact_acting Rest F fact.changes in
+      record {
+        inner = acting.inner;
+        ready = fact_automatic F fact.ready;
+        moment = λ g m st. st;
+        quitting = acting.quitting;
+        link = acting.link;
+        ended = acting.ended;
+      }

@@ -4,6 +4,7 @@ use Rattle.std.proofs.lemmas.Bool.Decides.{Decides-eqb, nat_tests}
 use Rattle.gem_ids.specs.declared.numbers.CmdNo.{CmdNo}
 use Rattle.gem_ids.specs.declared.numbers.ModuleId.{ModuleId}
 use Rattle.gem_tables.specs.Table.{firing}
+use Rattle.gem_tables.specs.declared.firing.Firing.{Firing}
 use Rattle.load_port.specs.Ports.{most_ports}
 use Rattle.robot_moves.specs.declared.module.Module.{Module}
 use Rattle.robot_moves.specs.declared.module.Module.TheVariants.{Idle, Busy, Down}
@@ -53,7 +54,9 @@ use Rattle.gem_model.specs.Step.{Outcome, answered, acts, settles, step_from}
 use Rattle.gem_model.specs.Run.{Run, entry_step, entry_after}
 use Rattle.gem_model.specs.Moved.{place_of, HasOpen, Moves, stays, is_registered, goes_with_carrier, is_lost, by_pick, by_place, EachMoves, if_open, open_number, ended_by, NeverEnds, EndsOnce}
 use Rattle.gem_model.proofs.Tests.{either_way, none_some}
-use Rattle.gem_model.proofs.FloorFacts.{FloorFact, fact_kept, listed_is, done_quiet, closing_quiet}
+use Rattle.tool_floor.specs.Machines.{floor_least, floor_fired}
+use Rattle.gem_model.proofs.CommonRows.{input_common}
+use Rattle.gem_model.proofs.FloorFacts.{FloorChanges, FloorFact, fact_kept, listed_is, done_quiet, closing_quiet}
 use Rattle.gem_model.proofs.Walk.{kept_step, kept_settled, kept_signalled}
 use Rattle.gem_model.proofs.Resting.{AtRest}
 use Rattle.gem_model.proofs.Placed.{Rested, sound_fact, Rests, run_rests, run_at}
@@ -200,13 +203,15 @@ module _ (e : Event) (f : ToolFloor) where
         beyond n l past there (inl same) = absurd (let less = place_given f.places n l since.sound.base.places.numbered (sym same ∙ there) in omega (arith, less, past))
         beyond n l past there (inr w) = no_place l (sym w.1 ∙ there)
 
-  since_fact : FloorFact Acts Since
-  since_fact = record {
+  since_ready : (x : Firing) (g : ToolFloor) → floor_least g ≡ Some x → Since g → Since (floor_fired x g)
+  since_ready x g ready since = goes_on g _ (least_sound x g ready since.sound) (row_grows MayGo x g (least_starts g x ready) (least_still g x ready) since.sound.base) (row_opens x g (least_starts g x ready)) since
+
+  since_changes : FloorChanges Acts Since
+  since_changes = record {
     sound = λ g since. since.sound;
-    ready = λ x g ready since. goes_on g _ (least_sound x g ready since.sound) (row_grows MayGo x g (least_starts g x ready) (least_still g x ready) since.sound.base) (row_opens x g (least_starts g x ready)) since;
-    row = λ x g starts common since. goes_on g _ (row_sound x g starts common since.sound) (row_grows MayGo x g starts (common_still x common) since.sound.base) (row_opens x g starts) since;
-    process = λ spec g since. still_on g _ (created_sound g spec since.sound) refl (opens_same g _ refl refl) since;
-    control = λ s g since. still_on g _ (control_changes_sound g s since.sound) refl (opens_same g _ refl refl) since;
+    row = λ x g starts input since. goes_on g _ (row_sound x g starts (input_common x input) since.sound) (row_grows MayGo x g starts (common_still x (input_common x input)) since.sound.base) (row_opens x g starts) since;
+    process = λ spec g faultless since. still_on g _ (created_sound g spec since.sound) refl (opens_same g _ refl refl) since;
+    control = λ s g becomes since. still_on g _ (control_changes_sound g s since.sound) refl (opens_same g _ refl refl) since;
     cancelled = λ n c g here starts unnamed since. still_on g _ (cancel_sound g n c here starts unnamed since.sound) refl (opens_same g _ refl refl) since;
     written = λ a g code since. still_on g _ (written_sound a g code since.sound) refl (opens_same g _ refl refl) since;
     unbinding = λ port g starts away since. still_on g _ (unbinding_sound port g starts away since.sound) refl (opens_same g _ refl refl) since;
@@ -225,6 +230,9 @@ module _ (e : Event) (f : ToolFloor) where
     -- what is so of this floor is so of the state's, which is the same
     on_floor : (g : State) → g.floor ≡ f → (P Q : ToolFloor → Type 0) → (P f → Since f → Q f) → P g.floor → Since g.floor → Q g.floor
     on_floor g same P Q on p since = subst Q (sym same) (on (subst P same p) (subst Since same since))
+
+  since_fact : FloorFact Acts Since
+  since_fact = record { changes = since_changes; ready = since_ready }
 
 -- ---- what a step did to a place
 
@@ -276,13 +284,15 @@ record Follows (f g : ToolFloor) : Type 0 where
 follows_on : (f g h : ToolFloor) → Sound h → Opens g h → Follows f g → Follows f h
 follows_on f g h sound opens follows = record { sound = sound; opens = opens_then f g h follows.opens opens }
 
-follows_fact : (f : ToolFloor) → FloorFact Rested (Follows f)
-follows_fact f = record {
+follows_ready : (f : ToolFloor) (x : Firing) (g : ToolFloor) → floor_least g ≡ Some x → Follows f g → Follows f (floor_fired x g)
+follows_ready f x g ready s = follows_on f g _ (least_sound x g ready s.sound) (row_opens x g (least_starts g x ready)) s
+
+follows_changes : (f : ToolFloor) → FloorChanges Rested (Follows f)
+follows_changes f = record {
   sound = λ g s. s.sound;
-  ready = λ x g ready s. follows_on f g _ (least_sound x g ready s.sound) (row_opens x g (least_starts g x ready)) s;
-  row = λ x g starts common s. follows_on f g _ (row_sound x g starts common s.sound) (row_opens x g starts) s;
-  process = λ spec g s. follows_on f g _ (created_sound g spec s.sound) (opens_same g _ refl refl) s;
-  control = λ c g s. follows_on f g _ (control_changes_sound g c s.sound) (opens_same g _ refl refl) s;
+  row = λ x g starts input s. follows_on f g _ (row_sound x g starts (input_common x input) s.sound) (row_opens x g starts) s;
+  process = λ spec g faultless s. follows_on f g _ (created_sound g spec s.sound) (opens_same g _ refl refl) s;
+  control = λ c g becomes s. follows_on f g _ (control_changes_sound g c s.sound) (opens_same g _ refl refl) s;
   cancelled = λ n c g here starts unnamed s. follows_on f g _ (cancel_sound g n c here starts unnamed s.sound) (opens_same g _ refl refl) s;
   written = λ a g code s. follows_on f g _ (written_sound a g code s.sound) (opens_same g _ refl refl) s;
   unbinding = λ port g starts away s. follows_on f g _ (unbinding_sound port g starts away s.sound) (opens_same g _ refl refl) s;
@@ -296,6 +306,9 @@ follows_fact f = record {
   lost = λ g sub rest s. follows_on f g.floor _ (lost_rows_sound sub g.floor s.sound) (opens_listed (lost_rows sub g.floor) g.floor) s;
 }
 
+follows_fact : (f : ToolFloor) → FloorFact Rested (Follows f)
+follows_fact f = record { changes = follows_changes f; ready = follows_ready f }
+
 -- a number is given, and open at no module
 record IsOver (number : ℕ) (f : ToolFloor) : Type 0 where
   given : number ≤ f.commands
@@ -307,8 +320,8 @@ over_on number f g opens over = record { given = let a = over.given in let b = o
 -- it stays so while the tool settles
 over_settled : (number : ℕ) (g : State) → Sound g.floor → IsOver number g.floor → IsOver number (settled g).floor
 over_settled number g sound over =
-    let fact = (fact_kept Rested (Follows g.floor) (follows_fact g.floor)).inner in
-    let behind = kept_settled Rested (λ (h : State). Follows g.floor h.floor) fact g (record { sound = sound; opens = opens_same g.floor g.floor refl refl }) in
+    let fact = fact_kept Rested (Follows g.floor) (follows_fact g.floor) in
+    let behind = kept_settled Rested (λ (h : State). Follows g.floor h.floor) fact.inner fact.ready g (record { sound = sound; opens = opens_same g.floor g.floor refl refl }) in
     over_on number g.floor (settled g).floor behind.opens over
 
 -- an event by which the command of a number ends leaves it so

@@ -20,7 +20,8 @@ use Rattle.gem_model.specs.State.{State, opening, raised}
 use Rattle.gem_model.specs.Settle.{settling, Along}
 use Rattle.gem_model.specs.Step.{Outcome, acts}
 use Rattle.gem_model.specs.Run.{Run}
-use Rattle.gem_model.proofs.FloorFacts.{FloorFact, fact_kept, fact_automatic, fact_creation}
+use Rattle.gem_model.proofs.CommonRows.{input_common}
+use Rattle.gem_model.proofs.FloorFacts.{FloorChanges, FloorFact, fact_kept, fact_automatic, fact_creation}
 use Rattle.gem_model.proofs.Walk.{Kept, kept_acts, kept_step}
 use Rattle.gem_model.proofs.Resting.{AtRest, opening-rests, step-rests}
 use Rattle.gem_model.proofs.Settling.{settled_along}
@@ -29,13 +30,12 @@ use Rattle.gem_model.proofs.Settling.{settled_along}
 abbrev pub Rested : Event → State → Type 0
 Rested e g = AtRest g
 
-pub sound_fact : FloorFact Rested Sound
-sound_fact = record {
+pub sound_changes : FloorChanges Rested Sound
+sound_changes = record {
   sound = λ f st. st;
-  ready = least_sound;
-  row = row_sound;
-  process = λ spec f st. created_sound f spec st;
-  control = λ s f st. control_changes_sound f s st;
+  row = λ x f starts input st. row_sound x f starts (input_common x input) st;
+  process = λ spec f faultless st. created_sound f spec st;
+  control = λ s f becomes st. control_changes_sound f s st;
   cancelled = λ n c f here starts unnamed st. cancel_sound f n c here starts unnamed st;
   written = written_sound;
   unbinding = unbinding_sound;
@@ -48,6 +48,9 @@ sound_fact = record {
   went_down = λ g number rest up st. down_sound number.0 g.floor up st;
   lost = λ g sub rest st. lost_rows_sound sub g.floor st;
 }
+
+pub sound_fact : FloorFact Rested Sound
+sound_fact = record { changes = sound_changes; ready = least_sound }
 
 abbrev Placed : State → Type 0
 Placed g = Sound g.floor
@@ -81,5 +84,5 @@ pub run-places-along : (c : Config) (entries : List Entry) (h : State) (at : ℕ
     → Along (λ (g : State). OnePlace (picture g.floor)) o.after (settling o.after)
 run-places-along c entries h at e o few run here =
     let rests = run_at c entries h few run in
-    settled_along Placed (λ (g : State). OnePlace (picture g.floor)) (λ g st. one_place_sound g.floor st) (fact_automatic Rested Sound sound_fact) (fact_creation Rested Sound sound_fact) o.after
+    settled_along Placed (λ (g : State). OnePlace (picture g.floor)) (λ g st. one_place_sound g.floor st) (fact_automatic Sound least_sound) (fact_creation Sound) o.after
     (kept_acts Rested Placed placed_kept h.moment (raised h at) e o rests.rest rests.placed here)

@@ -15,6 +15,7 @@ use Rattle.gem_model.proofs.NoteNumbers.{run-own}
 use Rattle.gem_model.proofs.Floored.{run-floor, run-carriers}
 use Rattle.gem_model.proofs.Placed.{run-placed}
 use Rattle.gem_model.proofs.Working.{run-works}
+use Rattle.gem_model.proofs.Completing.{run-completes}
 use Rattle.gem_model.proofs.Moved.{run-moves, run-ends-once, run-given}
 use Rattle.floor_laws.proofs.FloorPlaces.{one_place_sound}
 
@@ -43,6 +44,7 @@ recorded-of c history g bounds run =
       ends = run-ends-once c history g ports run;
       room = run-room c history g run;
       works = λ up work. run-works c history g ports few bounds.recipes run up work;
+      completes = run-completes c history g ports run;
     }
 
 -- a history in which nothing happened

@@ -23,7 +23,7 @@ equipped_each = record {
   came = λ port name slots f has. shop_equipped (came port (arrival_of port name slots f.shop.carriers) f.shop) f has;
   written = λ a f is has. shop_equipped (carrier_written a f.shop) f has;
   process = λ spec f faultless has. created_equipped f spec faultless has;
-  control = λ s f has. control_equipped f s has;
+  control = λ s f becomes has. control_equipped f s has;
 }
 
 -- so it has it where a history leads, where each recipe of the configuration has a chamber of the tool

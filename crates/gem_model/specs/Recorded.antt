@@ -15,6 +15,7 @@ use Rattle.work_laws.specs.Work.{is_work_left, is_any_down, is_any_open}
 use Rattle.gem_model.specs.State.{State, opening}
 use Rattle.gem_model.specs.Run.{Run}
 use Rattle.gem_model.specs.Moved.{place_of, EachMoves, EndsOnce}
+use Rattle.gem_model.specs.Completes.{EachCompletes}
 use Rattle.gem_model.specs.Reported.{told_as, reported_in, IsOf}
 use Rattle.gem_model.specs.OpenNotes.{Carries, NeverBack, open_behind, frames_behind, note_numbers, open_number}
 
@@ -59,3 +60,5 @@ pub record Recorded (c : Config) (history : List Entry) (g : State) : Type 0 whe
   pub room : is_full g.transactions ≡ false
   -- while no module is Down and work is left, a command is open
   pub works : is_any_down g.floor.modules ≡ false → is_work_left g.floor ≡ true → is_any_open g.floor.modules ≡ true
+  -- where nobody disturbs it, a control job completes exactly at its last Done, of eight for each of its substrates
+  pub completes : EachCompletes (opening c) history

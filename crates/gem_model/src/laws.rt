@@ -12,6 +12,7 @@ ghost use Rattle.gem_model.specs.Settle.{Settles, settling, settled, Along};
 ghost use Rattle.gem_model.specs.Step.{Outcome, acts};
 ghost use Rattle.gem_model.specs.Run.{Run};
 ghost use Rattle.gem_model.specs.Moved.{place_of, EachMoves, EndsOnce};
+ghost use Rattle.gem_model.specs.Completes.{EachCompletes};
 ghost use Rattle.gem_model.specs.Recorded.{Recorded};
 ghost use Rattle.gem_model.specs.Reported.{told_as, reported_in, IsOf};
 ghost use Rattle.gem_model.specs.OpenNotes.{note_numbers, open_number, Carries, IsSent, IsOther, open_behind, frames_behind, NeverBack};
@@ -142,6 +143,13 @@ pub fn a_command_is_open_in_a_history()
         → is_any_down h.floor.modules ≡ false → is_work_left h.floor ≡ true → is_any_open h.floor.modules ≡ true }
     ensures equipped { (c : Config) (entries : List Entry) (h : State) → c.chambers ≤ most_chambers
         → are_usable c.chambers c.recipes ≡ true → Run (opening c) entries h → Equipped h.floor }
+{}
+
+/// Where a control job starts in an entry of a history, each process job that is left in it starting by itself and having its material
+/// here, and no entry behind disturbs it, it has completed behind so many entries exactly where eight Dones for each counted substrate
+/// ended commands in them. (Counted is each substrate that is AT SOURCE and NEEDS PROCESSING then, in a slot that the material names.)
+pub fn a_control_job_completes_at_its_last_done()
+    ensures { (c : Config) (entries : List Entry) (h : State) → c.ports ≤ most_ports → Run (opening c) entries h → EachCompletes (opening c) entries }
 {}
 
 /// Where a history leads, an INACTIVE spool is empty. So the kinds of note that are spooled change wherever the host sets

@@ -70,7 +70,7 @@ impl Played {
         let name = format!(in alloc; "CAR{port}").ok()?;
         let id = CarrierId::read(Text80::read(name.as_bytes()).ok()?);
         let map = map_of(substrates);
-        let port_no = PortNo(port as u8);
+        let port_no = PortNo(u8::try_from(port).ok()?);
         self.post(
             alloc,
             Event::Signal(Signal::Placed {

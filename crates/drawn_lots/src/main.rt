@@ -17,7 +17,8 @@ use std::process::ExitCode;
 // How many lots there are of a shape.
 const LOTS: u64 = 250;
 
-// Plays the lot of a seed, and gives how many substrates it has, and how many commands ended. None is told of.
+// Plays the lot of a seed, and gives how many substrates it has, and how many commands ended. None: it goes otherwise than is wanted,
+// which is told, or there is no memory for its tool.
 fn play(rt: &HostRuntime, shape: Shape, seed: u64, is_disturbed: bool) -> Option<(u64, u64)> {
     let mut played = opened(rt.alloc(), shape, seed)?;
     let counts = played.plays(rt.alloc(), shape, is_disturbed);
@@ -43,27 +44,20 @@ fn play_shape(rt: &HostRuntime, shape: Shape, first: u64, name: &str) -> Option<
     println!(rt; "{name}: {LOTS} lots, {substrates} substrates, {dones} Dones").ok()
 }
 
-// Plays all of them.
-fn play_all(rt: &HostRuntime) -> Option<()> {
-    play_shape(rt, Shape::One, 0, "a process job over a carrier")?;
-    play_shape(
-        rt,
-        Shape::Shared,
-        250,
-        "two process jobs that share slots of a carrier",
-    )?;
-    play_shape(
-        rt,
-        Shape::Each,
-        500,
-        "a process job over each of two carriers",
-    )?;
-    play_shape(rt, Shape::Both, 750, "a process job over two carriers")
-}
-
 fn main(rt: HostRuntime) -> ExitCode {
-    match play_all(&rt) {
-        Some(()) => ExitCode::SUCCESS,
-        None => ExitCode::FAILURE,
+    for (shape, first, name) in [
+        (Shape::One, 0, "a process job over a carrier"),
+        (
+            Shape::Shared,
+            250,
+            "two process jobs that share slots of a carrier",
+        ),
+        (Shape::Each, 500, "a process job over each of two carriers"),
+        (Shape::Both, 750, "a process job over two carriers"),
+    ] {
+        if play_shape(&rt, shape, first, name).is_none() {
+            return ExitCode::FAILURE;
+        }
     }
+    ExitCode::SUCCESS
 }

@@ -4,9 +4,9 @@
 
 use conversation_files::spelled;
 use event_reports::Values;
-use gem_ids::{ModuleId, Moment};
+use gem_ids::{ModuleId, Moment, Text80};
 use hsms_frame::{Arrival, Bytes, Frame};
-use secs_items::{Bytes as Text, Item};
+use secs_items::Item;
 use std::alloc::Global;
 use test_lines::{bytes, header};
 use tool_core::Core;
@@ -52,9 +52,18 @@ fn is_completion(frame: &[u8]) -> bool {
         && matches!(frame.get(28..32), Some([0, 0, 0x05, 0xE4]))
 }
 
-fn is_among(name: &Text, names: &[Text]) -> bool {
+// The name of a variable's value, empty where it has none.
+fn name_of(alloc: Global, core: &Core, variable: u32) -> Option<Text80> {
+    match &value(alloc, core, variable) {
+        Some(Some(Item::Ascii(name))) => Text80::read(name.as_slice()).ok(),
+        Some(_) => Some(Text80::empty()),
+        None => None,
+    }
+}
+
+fn is_among(name: Text80, names: &[Text80]) -> bool {
     for other in names {
-        if other.as_slice() == name.as_slice() {
+        if other.as_bytes() == name.as_bytes() {
             return true;
         }
     }
@@ -125,7 +134,7 @@ impl Played {
 
     // Takes the next frame that waits. False: there is none.
     fn take(&mut self, alloc: Global) -> Option<bool> {
-        match posted(alloc, &mut self.core, Event::Take { session: 1 }) {
+        match &posted(alloc, &mut self.core, Event::Take { session: 1 }) {
             Ok(Answer::Frame(frame)) => {
                 if is_completion(frame.as_slice()) {
                     self.told = self.told.saturating_add(1);
@@ -139,8 +148,8 @@ impl Played {
 
     // A module fetches its command, where it has one.
     fn fetch(&mut self, alloc: Global, module: ModuleId) -> Option<()> {
-        match posted(alloc, &mut self.core, Event::Fetch(module)) {
-            Ok(Answer::Command(command)) => self.open.push((module, command)).ok(),
+        match &posted(alloc, &mut self.core, Event::Fetch(module)) {
+            Ok(Answer::Command(command)) => self.open.push((module, *command)).ok(),
             Err(PostFault::Again) => Some(()),
             _ => None,
         }
@@ -160,17 +169,15 @@ impl Played {
     }
 
     /// The names of what is on the arm, at the aligner and in the chambers. It is wanted that none is there twice.
-    pub(crate) fn outside(&mut self, alloc: Global) -> Option<Vec<Text>> {
+    pub(crate) fn outside(&mut self, alloc: Global) -> Option<Vec<Text80>> {
         let mut names = Vec::new(alloc);
         for variable in [12, 13, 21, 22] {
-            match value(alloc, &self.core, variable)? {
-                Some(Item::Ascii(name)) if !name.as_slice().is_empty() => {
-                    if is_among(&name, names.as_slice()) {
-                        return self.wrong("a substrate is at two places");
-                    }
-                    names.push(name).ok()?;
-                }
-                _ => {}
+            let name = name_of(alloc, &self.core, variable)?;
+            if is_among(name, names.as_slice()) {
+                return self.wrong("a substrate is at two places");
+            }
+            if name.len() > 0 {
+                names.push(name).ok()?;
             }
         }
         Some(names)

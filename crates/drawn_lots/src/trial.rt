@@ -2,9 +2,9 @@
 
 use crate::lots::{Shape, up_to};
 use crate::played::{Awaited, Played};
-use gem_ids::{ModuleId, SubstrateId, Text80};
+use gem_ids::{CmdNo, ModuleId, SubstrateId, Text80};
 use std::alloc::Global;
-use tool_events::{Command, Event, OperCmd, Signal, Task};
+use tool_events::{Event, OperCmd, Signal, Task};
 
 // Whether a task is for the substrate of this name.
 fn is_of(task: &Task, name: &[u8]) -> bool {
@@ -20,20 +20,20 @@ impl Played {
     // ---- commands
 
     // One of the open commands, which is drawn, and is open no longer.
-    fn draw_open(&mut self) -> Option<(ModuleId, Command)> {
+    fn draw_open(&mut self) -> Option<(ModuleId, CmdNo)> {
         let place = up_to(&mut self.last, self.open.len() as u64).saturating_sub(1) as usize;
-        let drawn = *self.open.get(place)?;
+        let (module, command) = *self.open.get(place)?;
         let other = self.open.pop()?;
         if let Some(there) = self.open.get_mut(place) {
             *there = other;
         }
-        Some(drawn)
+        Some((module, command.number))
     }
 
     // One of them is done.
     fn end_one(&mut self, alloc: Global) -> Option<()> {
-        let (module, command) = self.draw_open()?;
-        self.end(alloc, Signal::Done(module, command.number))
+        let (module, number) = self.draw_open()?;
+        self.end(alloc, Signal::Done(module, number))
     }
 
     // Whether an open command names the substrate of this name.
@@ -50,26 +50,26 @@ impl Played {
 
     // One of the open commands ends otherwise than by Done, and its module is Down.
     fn fail(&mut self, alloc: Global, is_told_down: bool) -> Option<()> {
-        let (module, command) = self.draw_open()?;
+        let (module, number) = self.draw_open()?;
         self.down = Some(module);
         if is_told_down {
             self.end(alloc, Signal::Down(module))
         } else {
-            self.end(alloc, Signal::Failed(module, command.number))
+            self.end(alloc, Signal::Failed(module, number))
         }
     }
 
-    // The host stops both process jobs, of which one runs; the other is QUEUED, has ended, or never was.
+    // The host stops both process jobs: that which runs, and the other where it runs next; else that is refused.
     fn stop(&mut self, alloc: Global) -> Option<()> {
         self.send(alloc, "S16F5 W 6 L[U4 0, A PJ1, A STOP, L[]]")?;
         self.send(alloc, "S16F5 W 7 L[U4 0, A PJ2, A STOP, L[]]")
     }
 
     // Whether the operator can say that a substrate outside its slot is lost. It is wanted exactly where no open command names it.
-    fn is_lost(&mut self, alloc: Global, name: &[u8]) -> Option<bool> {
-        let substrate = SubstrateId::read(Text80::read(name).ok()?)?;
+    fn is_lost(&mut self, alloc: Global, name: Text80) -> Option<bool> {
+        let substrate = SubstrateId::read(name)?;
         let accepted = self.operate(alloc, OperCmd::Lost(substrate))?;
-        if accepted == self.is_named(name) {
+        if accepted == self.is_named(name.as_bytes()) {
             return self.wrong("a substrate that a command names can be lost, or another cannot");
         }
         Some(accepted)
@@ -78,7 +78,7 @@ impl Played {
     // The first that can be lost is. Where none can be, a command is done.
     fn lose(&mut self, alloc: Global) -> Option<()> {
         for name in self.outside(alloc)?.as_slice() {
-            if self.is_lost(alloc, name.as_slice())? {
+            if self.is_lost(alloc, *name)? {
                 return Some(());
             }
         }
@@ -142,10 +142,11 @@ impl Played {
         Some(())
     }
 
-    /// Plays a lot, and gives how many substrates it has, and how many commands ended. Undisturbed they are eight Dones for each substrate, in whatever order; at
-    /// the last of them the control job is told to be COMPLETED, and until then a command is open. Disturbed, at a drawn Done or as
-    /// soon behind it as can be, it comes to rest where a module that is Down is brought up once no command is open. At no step is
-    /// a substrate at two places, and at rest all are in their slots or lost, and the control job was told to be COMPLETED.
+    /// Plays a lot, and gives how many substrates it has, and how many commands ended. Undisturbed these are eight Dones for each
+    /// substrate, in whatever order; at the last of them the control job is told to be COMPLETED, and until then a command is open.
+    /// Disturbed, in the place of a Done that is drawn or as soon behind it as can be, the tool comes to rest, where a module that is
+    /// Down is brought up once no command is open. At no step is a substrate at two places; and at rest all are in their slots or
+    /// lost, and the control job was told to be COMPLETED.
     pub(crate) fn plays(
         &mut self,
         alloc: Global,
@@ -166,7 +167,7 @@ impl Played {
             if !is_disturbed {
                 self.check(dones)?;
             }
-            if !self.step(alloc, self.ended >= due)? {
+            if !self.step(alloc, self.ended.saturating_add(1) >= due)? {
                 self.rests(alloc)?;
                 return Some((substrates, self.ended));
             }

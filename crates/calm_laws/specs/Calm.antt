@@ -1,7 +1,7 @@
--- The rows that an input fires, and a run in which none of them disturbs a control job (after SEMI E94, SEMI E40 and SEMI E90; this tool's
--- profile, tables 13 to 16, and direct rows). They are listed in order, each where it starts at the state then reached; a row that fires
--- for an object that one of them creates is no input's, and isn't listed. Each word is named by what happens, and passes the states of
--- the word that says what that does.
+-- The rows that an input fires, and a run in which none of them disturbs a control job (after SEMI E94, SEMI E40 and SEMI E90; this
+-- tool's profile, tables 13 to 16, and direct rows). They are listed in order, each where it starts at the state then reached; a
+-- row that fires for an object that one of them creates is no input's, and isn't listed. Each word is named by what happens, and
+-- passes the states of the word that says what that does.
 use Rattle.std.specs.Prelude.{◌≡◌, ◌⊎◌, ℕ, ◌+◌, ◌*◌, ◌==◌, nat_le, Bool, true, false, not, ◌&&◌, if◌then◌else◌, List, [], ◌∷◌, ◌++◌, Option, Some, None}
 use Rattle.std.specs.List.{list_any}
 use Rattle.gem_tables.specs.Table.{is_one_of}
@@ -77,7 +77,8 @@ rows_of_done number command g = if is_open command (module_of number g) then fir
 
 abbrev pub rows_of_failed : ℕ → ℕ → State → List Firing
 rows_of_failed number command g =
-    if is_open command (module_of number g) then fired_of (closing_rows 8 number g.floor) (sets_alarm (module_alarm number) g) else []
+    if is_open command (module_of number g) then fired_of (closing_rows 8 number g.floor) (sets_alarm (module_alarm number) g)
+    else []
 
 -- a module went down
 abbrev pub rows_of_down : ℕ → State → List Firing
@@ -146,7 +147,8 @@ rows_of_dues (due ∷ dues) g = rows_of_due due g ++ rows_of_dues dues (due_done
 abbrev pub rows_of_act : ℕ → State → Posted → List Firing
 rows_of_act before g (event.LinkDown session cause) = if is_session_up g session then rows_of_session_end g else []
 rows_of_act before g (event.Host session arrival) =
-    if is_session_up g session then rows_of_host (linked g (header_of arrival)) arrival (link_act (header_of arrival) g.link) else []
+    if is_session_up g session then rows_of_host (linked g (header_of arrival)) arrival (link_act (header_of arrival) g.link)
+    else []
 rows_of_act before g (event.Oper command) = rows_of_operator command g
 rows_of_act before g (event.Signal signal) = rows_of_signal signal g
 rows_of_act before g event.Tick = if is_due before g then rows_of_dues (dues g) g else []
@@ -163,9 +165,9 @@ abbrev pub is_job_left : ℕ → Option ProcessJob → Jobs → Bool
 is_job_left number None w = false
 is_job_left number (Some j) w = is_left_in number j.id w
 
--- A row disturbs the control job of a number, of which these substrates are counted, as the floor was before the input: 4 to 8 of table 13
--- at one that is counted; 8, 11, 12 or 15 to 18 of table 14 at a process job that is left in it; 6, 11 or 12 of table 15 at itself; and 8
--- or 9 of table 16.
+-- A row disturbs the control job of a number, of which these substrates are counted, as the floor was before the input: 4 to 8 of
+-- table 13 at one that is counted; 8, 11, 12 or 15 to 18 of table 14 at a process job that is left in it; 6, 11 or 12 of table 15
+-- at itself; and 8 or 9 of table 16.
 abbrev pub disturbs : ℕ → (ℕ → Bool) → ToolFloor → Firing → Bool
 disturbs number counted f x =
     if x.row.table == 13 then is_one_of (4 ∷ 5 ∷ 6 ∷ 7 ∷ 8 ∷ []) x.row.row && counted x.object
@@ -188,13 +190,14 @@ IsCalmByRows number counted g (entry ∷ entries) =
 
 -- ---- completion
 
--- Where a control job starts in an entry, each process job that is left in it starting by itself and having its material here, and no row
--- that an input behind fires disturbs it, it has completed behind so many entries exactly where eight Dones for each counted substrate
--- ended commands in them.
+-- Where a control job starts in an entry, each process job that is left in it starting by itself and having its material here, and
+-- no row that an input behind fires disturbs it, it has completed behind so many entries exactly where eight Dones for each counted
+-- substrate ended commands in them.
 abbrev pub CompletesByRows : State → Entry → List Entry → Type 0
 CompletesByRows g entry entries =
-    (number : ℕ) (f : State) (some rest : List Entry) → StartsAt number g entry f → AreAutomatic number f.floor.jobs → IsMaterialHere number f.floor
-    → entries ≡ some ++ rest → IsCalmByRows number (counted_of number f.floor) (entry_after g entry) some
+    (number : ℕ) (f : State) (some rest : List Entry) → StartsAt number g entry f → AreAutomatic number f.floor.jobs
+    → IsMaterialHere number f.floor → entries ≡ some ++ rest
+    → IsCalmByRows number (counted_of number f.floor) (entry_after g entry) some
     → has_completed (control_of number (after_all (entry_after g entry) some))
     ≡ nat_le (8 * number_of (counted_of number f.floor) (picture f.floor)) (dones (entry_after g entry) some)
 

@@ -12,18 +12,19 @@ ghost use Rattle.gem_model.specs.Run.{Run};
 ghost use Rattle.gem_model.specs.Completes.{input_of};
 ghost use Rattle.calm_laws.specs.Calm.{is_calm, EachCompletesByRows};
 
-/// Where a control job executes on a floor at rest, and none of the rows that the input of an entry fires disturbs it, the input leaves it
-/// calm: it executes still, each process job that was left in it is kept and goes on, and no counted substrate is ABORTED, STOPPED, LOST or
-/// SKIPPED that wasn't.
+/// Where a control job executes on a floor at rest, and none of the rows that the input of an entry fires disturbs it, the input
+/// leaves it calm: it executes still, each process job that was left in it is kept and goes on, and no counted substrate is
+/// ABORTED, STOPPED, LOST or SKIPPED that wasn't.
 pub fn an_input_of_which_no_row_disturbs_leaves_it_calm()
-    ensures { (number : ℕ) (counted : ℕ → Bool) (g : State) (entry : Entry) (o : Outcome) → InOrder g.floor → floor_least g.floor ≡ None
-        → Executes number counted g.floor → input_of g entry ≡ Some o → is_calm number counted g entry ≡ true
-        → IsCalmBetween number counted g.floor o.after.floor }
+    ensures { (number : ℕ) (counted : ℕ → Bool) (g : State) (entry : Entry) (o : Outcome) → InOrder g.floor
+        → floor_least g.floor ≡ None → Executes number counted g.floor → input_of g entry ≡ Some o
+        → is_calm number counted g entry ≡ true → IsCalmBetween number counted g.floor o.after.floor }
 {}
 
-/// Where a control job starts in an entry of a history, each process job that is left in it starting by itself and having its material
-/// here, and no row that an input behind fires disturbs it, it has completed behind so many entries exactly where eight Dones for each
-/// counted substrate ended commands in them.
+/// Where a control job starts in an entry of a history, each process job that is left in it starting by itself and having its
+/// material here, and no row that an input behind fires disturbs it, it has completed behind so many entries exactly where eight
+/// Dones for each counted substrate ended commands in them.
 pub fn a_control_job_completes_where_no_row_disturbs_it()
-    ensures { (c : Config) (entries : List Entry) (h : State) → c.ports ≤ most_ports → Run (opening c) entries h → EachCompletesByRows (opening c) entries }
+    ensures { (c : Config) (entries : List Entry) (h : State) → c.ports ≤ most_ports → Run (opening c) entries h
+        → EachCompletesByRows (opening c) entries }
 {}

@@ -13,7 +13,7 @@ use Rattle.work_laws.proofs.Working.{open_while_work}
 use Rattle.gem_model.specs.State.{State, opening}
 use Rattle.gem_model.specs.Run.{Run}
 use Rattle.gem_model.proofs.EachFloor.{EachOnFloor, run_holds}
-use Rattle.gem_model.proofs.Placed.{Rests, run_at}
+use Rattle.history_laws.proofs.Placed.{Rests, run_at}
 
 -- what the tool has for its process jobs stays
 equipped_each : EachOnFloor Equipped

@@ -7,16 +7,16 @@ use Rattle.load_port.specs.Ports.{most_ports}
 use Rattle.work_laws.specs.Equipped.{most_chambers}
 use Rattle.gem_model.specs.State.{State, opening}
 use Rattle.gem_model.specs.Run.{Run, after_all}
-use Rattle.gem_model.specs.Recorded.{Recorded}
+use Rattle.history_laws.specs.Recorded.{Recorded}
 use Rattle.gem_model.proofs.Runs.{after_all-run}
 use Rattle.gem_model.proofs.Reporting.{run-reported, run-texts, run-sent, run-frames}
 use Rattle.gem_model.proofs.Validity.{run-line, run-sendings, run-empty, run-room}
 use Rattle.gem_model.proofs.NoteNumbers.{run-own}
 use Rattle.gem_model.proofs.Floored.{run-floor, run-carriers}
-use Rattle.gem_model.proofs.Placed.{run-placed}
-use Rattle.gem_model.proofs.Working.{run-works}
-use Rattle.gem_model.proofs.Completing.{run-completes}
-use Rattle.gem_model.proofs.Moved.{run-moves, run-ends-once, run-given}
+use Rattle.history_laws.proofs.Placed.{run-placed}
+use Rattle.history_laws.proofs.Working.{run-works}
+use Rattle.history_laws.proofs.Completing.{run-completes}
+use Rattle.history_laws.proofs.Moved.{run-moves, run-ends-once, run-given}
 use Rattle.floor_laws.proofs.FloorPlaces.{one_place_sound}
 
 pub recorded-of : (c : Config) (history : List Entry) (g : State) → IsConfig c → Run (opening c) history g → Recorded c history g

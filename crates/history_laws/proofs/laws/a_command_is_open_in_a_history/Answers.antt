@@ -1,5 +1,5 @@
-use Rattle.gem_model.proofs.Working.{run-works, run-equipped}
-use Rattle.gem_model.proofs.laws.a_command_is_open_in_a_history.Goals as goal
+use Rattle.history_laws.proofs.Working.{run-works, run-equipped}
+use Rattle.history_laws.proofs.laws.a_command_is_open_in_a_history.Goals as goal
 
 pub returns-clause-works : goal.returns-clause-works
 returns-clause-works c = run-works

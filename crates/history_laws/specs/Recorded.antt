@@ -14,8 +14,8 @@ use Rattle.place_laws.specs.Standing.{AreRegistered}
 use Rattle.work_laws.specs.Work.{is_work_left, is_any_down, is_any_open}
 use Rattle.gem_model.specs.State.{State, opening}
 use Rattle.gem_model.specs.Run.{Run}
-use Rattle.gem_model.specs.Moved.{place_of, EachMoves, EndsOnce}
-use Rattle.gem_model.specs.Completes.{EachCompletes}
+use Rattle.history_laws.specs.Moved.{place_of, EachMoves, EndsOnce}
+use Rattle.history_laws.specs.Completes.{EachCompletes}
 use Rattle.gem_model.specs.Reported.{told_as, reported_in, IsOf}
 use Rattle.gem_model.specs.OpenNotes.{Carries, NeverBack, open_behind, frames_behind, note_numbers, open_number}
 

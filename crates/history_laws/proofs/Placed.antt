@@ -20,8 +20,8 @@ use Rattle.gem_model.specs.State.{State, opening, raised}
 use Rattle.gem_model.specs.Settle.{settling, Along}
 use Rattle.gem_model.specs.Step.{Outcome, acts}
 use Rattle.gem_model.specs.Run.{Run}
-use Rattle.gem_model.proofs.CommonRows.{input_common}
-use Rattle.gem_model.proofs.FloorFacts.{FloorChanges, FloorFact, fact_kept, fact_automatic, fact_creation}
+use Rattle.history_laws.proofs.CommonRows.{input_common}
+use Rattle.history_laws.proofs.FloorFacts.{FloorChanges, FloorFact, fact_kept, fact_automatic, fact_creation}
 use Rattle.gem_model.proofs.Walk.{Kept, kept_acts, kept_step}
 use Rattle.gem_model.proofs.Resting.{AtRest, opening-rests, step-rests}
 use Rattle.gem_model.proofs.Settling.{settled_along}

@@ -18,12 +18,12 @@ use Rattle.lot_laws.proofs.Disturbs.{leaves_jobs}
 use Rattle.lot_laws.proofs.Changes.{row-goes, fetched-goes, written-goes, cancelled-goes, unbinding-goes, placing-goes, removal_left-goes, removal-goes}
 use Rattle.lot_laws.proofs.Failing.{failed-either, down-either, lost-either}
 use Rattle.gem_model.specs.State.{State}
-use Rattle.gem_model.specs.Completes.{done_of}
-use Rattle.gem_model.proofs.CommonRows.{input_common}
+use Rattle.history_laws.specs.Completes.{done_of}
+use Rattle.history_laws.proofs.CommonRows.{input_common}
 use Rattle.gem_model.proofs.Creating.{BecomesControl, one_added, one_headed}
 use Rattle.gem_model.proofs.FloorRows.{IsOfInput, input_line, input_transfer, input_access, input_reservation, input_binding, input_name, input_map, input_process, input_control, input_module}
-use Rattle.gem_model.proofs.FloorFacts.{FloorChanges}
-use Rattle.gem_model.proofs.Ordering.{order_changes}
+use Rattle.history_laws.proofs.FloorFacts.{FloorChanges}
+use Rattle.history_laws.proofs.Ordering.{order_changes}
 
 -- the event is no Done of an open command, and begins on this floor
 pub record Undone (f : ToolFloor) (e : Event) (g : State) : Type 0 where

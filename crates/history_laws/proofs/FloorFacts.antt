@@ -66,7 +66,7 @@ use Rattle.gem_model.proofs.Tests.{went, either_way, or_went, none_some}
 use Rattle.gem_model.proofs.FloorRows.{IsFloorRow, IsOfInput, input_reservation, input_binding, input_name, input_map, effect_is, starts_is, creations_is, creation_is, ready_is, advanced_keeps}
 use Rattle.gem_model.proofs.Listed.{are_both, listed_keeps}
 use Rattle.gem_model.proofs.Each.{EachEnd, end_closed, end_timed_out, end_disabled, end_session}
-use Rattle.gem_model.proofs.CommonRows.{free_input, end_input, is_4, is_6, is_7, is_10, advanced_floor, created_input, proceeding_input, cancel_done, IsAway}
+use Rattle.history_laws.proofs.CommonRows.{free_input, end_input, is_4, is_6, is_7, is_10, advanced_floor, created_input, proceeding_input, cancel_done, IsAway}
 use Rattle.gem_model.proofs.Creating.{BecomesControl}
 use Rattle.gem_model.proofs.Walk.{Units, Inner, Acting, Kept}
 use Rattle.gem_model.proofs.EachFloor.{SameFloor, floor_comm, floor_control, floor_line}

@@ -52,14 +52,14 @@ use Rattle.gem_model.specs.Settle.{settled}
 use Rattle.gem_model.specs.Signals.{module_of, module_alarm, lacks_module, module_done, module_failed, module_down, signalled}
 use Rattle.gem_model.specs.Step.{Outcome, answered, acts, settles, step_from}
 use Rattle.gem_model.specs.Run.{Run, entry_step, entry_after}
-use Rattle.gem_model.specs.Moved.{place_of, HasOpen, Moves, stays, is_registered, goes_with_carrier, is_lost, by_pick, by_place, EachMoves, if_open, open_number, ended_by, NeverEnds, EndsOnce}
+use Rattle.history_laws.specs.Moved.{place_of, HasOpen, Moves, stays, is_registered, goes_with_carrier, is_lost, by_pick, by_place, EachMoves, if_open, open_number, ended_by, NeverEnds, EndsOnce}
 use Rattle.gem_model.proofs.Tests.{either_way, none_some}
 use Rattle.tool_floor.specs.Machines.{floor_least, floor_fired}
-use Rattle.gem_model.proofs.CommonRows.{input_common}
-use Rattle.gem_model.proofs.FloorFacts.{FloorChanges, FloorFact, fact_kept, listed_is, done_quiet, closing_quiet}
+use Rattle.history_laws.proofs.CommonRows.{input_common}
+use Rattle.history_laws.proofs.FloorFacts.{FloorChanges, FloorFact, fact_kept, listed_is, done_quiet, closing_quiet}
 use Rattle.gem_model.proofs.Walk.{kept_step, kept_settled, kept_signalled}
 use Rattle.gem_model.proofs.Resting.{AtRest}
-use Rattle.gem_model.proofs.Placed.{Rested, sound_fact, Rests, run_rests, run_at}
+use Rattle.history_laws.proofs.Placed.{Rested, sound_fact, Rests, run_rests, run_at}
 
 -- no place is a place
 no_place : {P : Type 0} (l : Loc) → None ≡ Some l → P

@@ -1,5 +1,5 @@
-use Rattle.gem_model.proofs.Moved.{run-moves, run-ends-once, run-given, run-removed}
-use Rattle.gem_model.proofs.laws.each_substrate_moves_once_a_command_in_a_history.Goals as goal
+use Rattle.history_laws.proofs.Moved.{run-moves, run-ends-once, run-given, run-removed}
+use Rattle.history_laws.proofs.laws.each_substrate_moves_once_a_command_in_a_history.Goals as goal
 
 pub returns-clause-moves : goal.returns-clause-moves
 returns-clause-moves c = run-moves

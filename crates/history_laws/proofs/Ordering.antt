@@ -8,10 +8,10 @@ use Rattle.floor_laws.proofs.FloorPlaces.{shop_rests}
 use Rattle.lot_laws.specs.Lot.{InOrder}
 use Rattle.lot_laws.proofs.Orderly.{done-in_order, failed-in_order, down-in_order, lost-in_order, removal-in_order, removal_left-in_order, opening-in_order, least-in_order, row-in_order, created-in_order, added-in_order, headed-in_order, fetched-in_order, cancelled-in_order, written-in_order, unbinding-in_order, placing-in_order}
 use Rattle.gem_model.specs.State.{opening}
-use Rattle.gem_model.proofs.CommonRows.{input_common}
+use Rattle.history_laws.proofs.CommonRows.{input_common}
 use Rattle.gem_model.proofs.Creating.{BecomesControl, one_added, one_headed}
-use Rattle.gem_model.proofs.FloorFacts.{FloorChanges, FloorFact}
-use Rattle.gem_model.proofs.Placed.{Rested}
+use Rattle.history_laws.proofs.FloorFacts.{FloorChanges, FloorFact}
+use Rattle.history_laws.proofs.Placed.{Rested}
 
 becomes_order : (f : ToolFloor) (s : JobStore) → BecomesControl f.jobs s → InOrder f → InOrder (with_jobs (record f.jobs { control = s }) f)
 becomes_order f _ (one_added name named auto none) o = added-in_order name named auto f none o

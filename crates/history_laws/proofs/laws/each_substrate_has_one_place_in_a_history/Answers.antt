@@ -1,6 +1,6 @@
 use Rattle.floor_laws.proofs.FloorPlaces.{one_place_sound}
-use Rattle.gem_model.proofs.Placed.{run-placed, run-places-along}
-use Rattle.gem_model.proofs.laws.each_substrate_has_one_place_in_a_history.Goals as goal
+use Rattle.history_laws.proofs.Placed.{run-placed, run-places-along}
+use Rattle.history_laws.proofs.laws.each_substrate_has_one_place_in_a_history.Goals as goal
 
 pub returns-clause-places : goal.returns-clause-places
 returns-clause-places c = λ config entries h few run. one_place_sound h.floor (run-placed config entries h few run)

@@ -43,18 +43,18 @@ use Rattle.gem_model.specs.Settle.{Path, settled, Along}
 use Rattle.gem_model.specs.Signals.{module_of, lacks_module, module_done, signalled}
 use Rattle.gem_model.specs.Step.{Outcome, answered, acts, settles}
 use Rattle.gem_model.specs.Run.{Run, entry_after}
-use Rattle.gem_model.specs.Completes.{control_of, has_completed, input_of, StartsAt, by_itself, by_word, IsCalmRun, done_of, EachCompletes}
+use Rattle.history_laws.specs.Completes.{control_of, has_completed, input_of, StartsAt, by_itself, by_word, IsCalmRun, done_of, EachCompletes}
 use Rattle.gem_model.proofs.FloorRows.{created_are, effect_is, ready_is}
-use Rattle.gem_model.proofs.FloorFacts.{fact_acting, fact_kept, fact_automatic, fact_creation, listed_is, done_quiet}
-use Rattle.gem_model.proofs.Past.{IsPast, past_each}
+use Rattle.history_laws.proofs.FloorFacts.{fact_acting, fact_kept, fact_automatic, fact_creation, listed_is, done_quiet}
+use Rattle.history_laws.proofs.Past.{IsPast, past_each}
 use Rattle.gem_model.proofs.Paths.{path_keeps, path_at, along_at, control_least}
-use Rattle.gem_model.proofs.Placed.{Rested}
-use Rattle.gem_model.proofs.Ordering.{order_fact, order_first}
-use Rattle.gem_model.proofs.Carrying.{Undone, Carried, carried_changes}
+use Rattle.history_laws.proofs.Placed.{Rested}
+use Rattle.history_laws.proofs.Ordering.{order_fact, order_first}
+use Rattle.history_laws.proofs.Carrying.{Undone, Carried, carried_changes}
 use Rattle.gem_model.proofs.Resting.{AtRest, opening-rests, settled-rests}
 use Rattle.gem_model.proofs.Settling.{settled_keeps, settled_along, settles_so}
 use Rattle.gem_model.proofs.Walk.{kept_acts, kept_input}
-use Rattle.gem_model.proofs.Completing.{run-completes}
+use Rattle.history_laws.proofs.Completing.{run-completes}
 use Rattle.calm_laws.specs.Calm.{IsCalmByRows, EachCompletesByRows}
 use Rattle.calm_laws.proofs.Rows.{by_executing}
 use Rattle.calm_laws.proofs.Entries.{acted_so, entry_calm}

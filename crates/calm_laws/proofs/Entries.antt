@@ -8,7 +8,7 @@ use Rattle.control_job.proofs.Orders.{not_true}
 use Rattle.lot_laws.specs.Lot.{Executes, InOrder, IsCalmBetween}
 use Rattle.gem_model.specs.State.{State, raised}
 use Rattle.gem_model.specs.Step.{Outcome, acts}
-use Rattle.gem_model.specs.Completes.{input_of}
+use Rattle.history_laws.specs.Completes.{input_of}
 use Rattle.gem_model.proofs.Tests.{none_some}
 use Rattle.calm_laws.specs.Calm.{rows_of_act, rows_of_input, disturbs, is_calm}
 use Rattle.calm_laws.proofs.Rows.{calm_base}

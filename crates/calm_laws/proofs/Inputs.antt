@@ -68,9 +68,9 @@ use Rattle.gem_model.proofs.Tests.{either_way, none_some}
 use Rattle.gem_model.proofs.OnFloor.{effect_as, starts_as}
 use Rattle.gem_model.proofs.EachFloor.{SameFloor, floor_comm, floor_control, floor_line}
 use Rattle.gem_model.proofs.FloorRows.{advanced_keeps, creations_is, effect_is, starts_is}
-use Rattle.gem_model.proofs.CommonRows.{is_4, is_7, advanced_floor, end_input}
+use Rattle.history_laws.proofs.CommonRows.{is_4, is_7, advanced_floor, end_input}
 use Rattle.gem_model.proofs.Creating.{faultless, control_faultless}
-use Rattle.gem_model.proofs.FloorFacts.{fact_creation}
+use Rattle.history_laws.proofs.FloorFacts.{fact_creation}
 use Rattle.gem_model.proofs.Each.{EachEnd, end_closed, end_timed_out, end_disabled, end_session}
 use Rattle.gem_model.proofs.Listed.{IsFree, IsEnd, free_enable, free_online, free_offline, free_local, free_remote, free_service, free_access, free_up, free_command, free_control}
 use Rattle.calm_laws.specs.Calm.{fired_of, fired_by, rows_of_placed, rows_of_removed, rows_of_done, rows_of_failed, rows_of_down, rows_of_signal, rows_of_message, rows_of_data, rows_of_host, rows_of_operator, rows_of_act, disturbs}

@@ -31,7 +31,7 @@ use Rattle.gem_model.specs.Shop.{carrier_action, carrier_caack, port_word, port_
 use Rattle.gem_model.specs.Messages.{done, gem_done, shop_done}
 use Rattle.gem_model.proofs.Tests.{either_way}
 use Rattle.gem_model.proofs.FloorRows.{IsOfInput, input_line, input_transfer, input_access, input_reservation, input_binding, input_name, input_map, input_process, input_control, input_module}
-use Rattle.gem_model.proofs.CommonRows.{free_input, end_input}
+use Rattle.history_laws.proofs.CommonRows.{free_input, end_input}
 use Rattle.gem_model.proofs.Listed.{IsFree, IsEnd, are_both, free_gem, free_port, free_jobs}
 use Rattle.calm_laws.proofs.Rows.{is_input}
 

@@ -48,7 +48,7 @@ use Rattle.gem_model.specs.Act.{replied, note_answered}
 use Rattle.gem_model.specs.Due.{Due, EndOfSession, Linktest, Timeout, dues, is_due, due_done}
 use Rattle.gem_model.specs.Step.{linked, switched}
 use Rattle.gem_model.specs.Run.{entry_after, after_all}
-use Rattle.gem_model.specs.Completes.{control_of, has_completed, StartsAt, dones}
+use Rattle.history_laws.specs.Completes.{control_of, has_completed, StartsAt, dones}
 
 -- ---- the rows that fire
 

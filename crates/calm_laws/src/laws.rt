@@ -9,7 +9,7 @@ ghost use Rattle.lot_laws.specs.Lot.{Executes, InOrder, IsCalmBetween};
 ghost use Rattle.gem_model.specs.State.{State, opening};
 ghost use Rattle.gem_model.specs.Step.{Outcome};
 ghost use Rattle.gem_model.specs.Run.{Run};
-ghost use Rattle.gem_model.specs.Completes.{input_of};
+ghost use Rattle.history_laws.specs.Completes.{input_of};
 ghost use Rattle.calm_laws.specs.Calm.{is_calm, EachCompletesByRows};
 
 /// Where a control job executes on a floor at rest, and none of the rows that the input of an entry fires disturbs it, the input

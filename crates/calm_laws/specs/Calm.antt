@@ -172,8 +172,8 @@ abbrev pub disturbs : ℕ → (ℕ → Bool) → ToolFloor → Firing → Bool
 disturbs number counted f x =
     if x.row.table == 13 then is_one_of (4 ∷ 5 ∷ 6 ∷ 7 ∷ 8 ∷ []) x.row.row && counted x.object
     else (if x.row.table == 14 then
-        is_one_of (8 ∷ 11 ∷ 12 ∷ 15 ∷ 16 ∷ 17 ∷ 18 ∷ []) x.row.row
-        && is_job_left number (job_numbered x.object f.jobs.process.kept) f.jobs
+    is_one_of (8 ∷ 11 ∷ 12 ∷ 15 ∷ 16 ∷ 17 ∷ 18 ∷ []) x.row.row
+    && is_job_left number (job_numbered x.object f.jobs.process.kept) f.jobs
     else (if x.row.table == 15 then disturbs_control number x.object x.row.row
     else (x.row.table == 16) && is_one_of (8 ∷ 9 ∷ []) x.row.row))
 

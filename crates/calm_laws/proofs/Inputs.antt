@@ -109,12 +109,13 @@ module _ (number : ℕ) (counted : ℕ → Bool) (f : ToolFloor) where
   -- rows that are listed, where none that fires disturbs
   pub listed_calm : (xs : List Firing) → AreInputs xs → (g : State) → Quiet (fired_of xs g) → Holds g → Holds (fire_listed xs g)
   listed_calm [] are g quiet c = c
-  listed_calm (x ∷ xs) are g quiet c = of (row_starts g x) refl quiet where
-    of : (b : Bool) → row_starts g x ≡ b → Quiet (if b then x ∷ fired_of xs (advanced g x) else fired_of xs g) → Holds (fire_listed xs (if b then advanced g x else g))
-    of true starts q =
+  listed_calm (x ∷ xs) are g quiet c = of (row_starts g x) refl quiet (λ h q at. listed_calm xs are.1 h q at) where
+    of : (b : Bool) → row_starts g x ≡ b → Quiet (if b then x ∷ fired_of xs (advanced g x) else fired_of xs g) → ((h : State) → Quiet (fired_of xs h) → Holds h → Holds (fire_listed xs h))
+        → Holds (fire_listed xs (if b then advanced g x else g))
+    of true starts q later =
         let parts = or_parts (disturbs number counted f x) (list_any (disturbs number counted f) (fired_of xs (advanced g x))) q in
-        listed_calm xs are.1 (advanced g x) parts.1 (advances g x are.0 parts.0 starts c)
-    of false starts q = listed_calm xs are.1 g q c
+        later (advanced g x) parts.1 (advances g x are.0 parts.0 starts c)
+    of false starts q later = later g q c
 
   -- ---- the ends of transactions, and of a session
 

@@ -1,5 +1,5 @@
 -- A run that no row disturbs, from where a control job starts, is calm; so it completes exactly at its last Done.
-use Rattle.std.proofs.Common.{◌≡◌, ◌⊎◌, ◌≤◌, ℕ, ◌==◌, Bool, true, false, if◌then◌else◌, List, [], ◌∷◌, ◌++◌, Option, Some, None, option_map, unwrap_or, is_some, not, inl, inr, refl, sym, ◌∙◌, ap, subst, arith}
+use Rattle.std.proofs.Common.{◌≡◌, ◌⊎◌, ◌≤◌, ℕ, ◌==◌, Bool, true, false, if◌then◌else◌, List, [], ◌∷◌, Option, Some, None, option_map, unwrap_or, is_some, not, inl, inr, refl, sym, ◌∙◌, ap, subst, arith}
 use Rattle.std.proofs.lemmas.Bool.{true≢false}
 use Rattle.std.proofs.lemmas.Bool.Decides.{Decides-eqb}
 use Rattle.gem_ids.specs.declared.numbers.CmdNo.{CmdNo}
@@ -8,7 +8,7 @@ use Rattle.gem_tables.specs.Table.{firing, is_one_of}
 use Rattle.gem_tables.specs.declared.firing.Firing.{Firing}
 use Rattle.load_port.specs.Ports.{most_ports}
 use Rattle.robot_moves.specs.declared.module.Module.{Module}
-use Rattle.robot_moves.specs.Modules.{module_at, is_open as has_open}
+use Rattle.robot_moves.specs.Modules.{is_open as has_open}
 use Rattle.control_job.specs.Jobs.{job_numbered as control_numbered, is_open, numbers_of, AreRising, fires_at, fires_row}
 use Rattle.control_job.specs.Tables.{states_number}
 use Rattle.control_job.specs.Record.{control_fired as states_fired, is_completed}

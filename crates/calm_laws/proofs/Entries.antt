@@ -1,7 +1,6 @@
 -- An entry of which no row disturbs the control job leaves it calm.
-use Rattle.std.proofs.Common.{◌≡◌, ℕ, Bool, true, false, if◌then◌else◌, List, [], Option, Some, None, refl, sym, ◌∙◌, ap, subst}
+use Rattle.std.proofs.Common.{◌≡◌, ℕ, Bool, true, false, if◌then◌else◌, [], Some, None, refl, sym, ◌∙◌, ap}
 use Rattle.std.specs.List.{list_any}
-use Rattle.gem_tables.specs.declared.firing.Firing.{Firing}
 use Rattle.tool_events.specs.declared.entry.Entry.{Entry}
 use Rattle.tool_floor.specs.Machines.{floor_least}
 use Rattle.control_job.proofs.Orders.{not_true}

@@ -1,5 +1,5 @@
 -- An input of which no row disturbs the control job leaves it calm.
-use Rattle.std.proofs.Common.{◌≡◌, ℕ, ◌+◌, ◌==◌, Bool, true, false, not, ◌&&◌, ◌||◌, if◌then◌else◌, List, [], ◌∷◌, map, Option, Some, None, refl, sym, ◌∙◌, ap, subst, Result, Ok, Err}
+use Rattle.std.proofs.Common.{◌≡◌, ℕ, ◌+◌, ◌==◌, Bool, true, false, not, ◌&&◌, if◌then◌else◌, List, [], ◌∷◌, map, Option, Some, None, refl, sym, ◌∙◌, subst, Result, Ok, Err}
 use Rattle.std.specs.List.{list_any}
 use Rattle.std.proofs.lemmas.Bool.{or_parts}
 use Rattle.gem_tables.specs.Table.{firing}
@@ -15,7 +15,6 @@ use Rattle.hsms_link.specs.declared.table.LinkAct.TheVariants as link
 use Rattle.hsms_link.specs.LinkTable.{link_act}
 use Rattle.secs_items.specs.Data.{Data}
 use Rattle.gem_ids.specs.Civil.{moment_in}
-use Rattle.gem_ids.specs.declared.numbers.ModuleId.{ModuleId}
 use Rattle.gem_primaries.specs.declared.primary.GemMsg.{GemMsg}
 use Rattle.gem_primaries.specs.declared.primary.GemMsg.TheVariants as msg
 use Rattle.msgs_300.specs.Primaries.{Message, S3F17, S3F25, S3F27, S14F9, S16F5, S16F11, S16F17, S16F19, S16F21, S16F27}
@@ -43,14 +42,14 @@ use Rattle.transactions.specs.Endings.{answered as found_open}
 use Rattle.robot_moves.specs.Modules.{is_open, unfetched, is_up as is_up_module}
 use Rattle.tool_floor.specs.Floor.{ToolFloor, with_shop, number_of}
 use Rattle.tool_floor.specs.Machines.{floor_starts, floor_fired}
-use Rattle.tool_floor.specs.Signals.{done_rows, closing_rows, lost_rows}
+use Rattle.tool_floor.specs.Signals.{done_rows, closing_rows}
 use Rattle.floor_moves.specs.Valid.{IsDistinct}
 use Rattle.place_laws.proofs.Holding.{rising_distinct}
 use Rattle.lot_laws.specs.Lot.{InOrder}
 use Rattle.gem_model.specs.State.{State, around, is_up, is_session_up}
 use Rattle.gem_model.specs.Effects.{fire_comm, fire_control, fire_line}
 use Rattle.gem_model.specs.Machines.{fire_floor, row_starts, takes_effect}
-use Rattle.gem_model.specs.Fire.{fire, fires, fire_listed, advanced}
+use Rattle.gem_model.specs.Fire.{fires, fire_listed, advanced}
 use Rattle.gem_model.specs.Noting.{sets_alarm, clears_alarm}
 use Rattle.gem_model.specs.Remote.{Decision, refused, goes_local, clears, commands, decided, is_local}
 use Rattle.gem_model.specs.Spooling.{rspack}
@@ -68,14 +67,14 @@ use Rattle.gem_model.proofs.Tests.{either_way, none_some}
 use Rattle.gem_model.proofs.OnFloor.{effect_as, starts_as}
 use Rattle.gem_model.proofs.EachFloor.{SameFloor, floor_comm, floor_control, floor_line}
 use Rattle.gem_model.proofs.FloorRows.{advanced_keeps, creations_is, effect_is, starts_is}
-use Rattle.history_laws.proofs.CommonRows.{is_4, is_7, advanced_floor, end_input}
-use Rattle.gem_model.proofs.Creating.{faultless, control_faultless}
+use Rattle.history_laws.proofs.CommonRows.{is_4, is_7, advanced_floor}
+use Rattle.gem_model.proofs.Creating.{control_faultless}
 use Rattle.history_laws.proofs.FloorFacts.{fact_creation}
 use Rattle.gem_model.proofs.Each.{EachEnd, end_closed, end_timed_out, end_disabled, end_session}
 use Rattle.gem_model.proofs.Listed.{IsFree, IsEnd, free_enable, free_online, free_offline, free_local, free_remote, free_service, free_access, free_up, free_command, free_control}
 use Rattle.calm_laws.specs.Calm.{fired_of, fired_by, rows_of_placed, rows_of_removed, rows_of_done, rows_of_failed, rows_of_down, rows_of_signal, rows_of_message, rows_of_data, rows_of_host, rows_of_operator, rows_of_act, disturbs}
 use Rattle.calm_laws.proofs.Rows.{Calm, calm_shop, calm_fetched, calm_removed, calm_row, calm_created, calm_added, calm_headed}
-use Rattle.calm_laws.proofs.Lists.{IsInput, AreInputs, free_inputs, placing_inputs, vacated_inputs, done_inputs, failed_inputs, down_inputs, lost_inputs, message_inputs}
+use Rattle.calm_laws.proofs.Lists.{IsInput, AreInputs, free_inputs, placing_inputs, done_inputs, failed_inputs, down_inputs, lost_inputs, message_inputs}
 
 module _ (number : ℕ) (counted : ℕ → Bool) (f : ToolFloor) where
   -- the floor of a state is calm

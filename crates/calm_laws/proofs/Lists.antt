@@ -1,5 +1,5 @@
 -- The rows that inputs list are such as inputs fire.
-use Rattle.std.proofs.Common.{◌≡◌, ℕ, Bool, true, false, if◌then◌else◌, List, [], ◌∷◌, ◌++◌, Option, Some, None, refl, sym, subst}
+use Rattle.std.proofs.Common.{◌≡◌, ℕ, true, if◌then◌else◌, List, [], ◌∷◌, ◌++◌, Option, Some, None, refl, sym, subst}
 use Rattle.gem_tables.specs.Table.{firing}
 use Rattle.gem_tables.specs.declared.firing.Firing.{Firing}
 use Rattle.gem_tables.proofs.Rows.{one_of_cases}
@@ -31,8 +31,8 @@ use Rattle.gem_model.specs.Shop.{carrier_action, carrier_caack, port_word, port_
 use Rattle.gem_model.specs.Messages.{done, gem_done, shop_done}
 use Rattle.gem_model.proofs.Tests.{either_way}
 use Rattle.gem_model.proofs.FloorRows.{IsOfInput, input_line, input_transfer, input_access, input_reservation, input_binding, input_name, input_map, input_process, input_control, input_module}
-use Rattle.history_laws.proofs.CommonRows.{free_input, end_input}
-use Rattle.gem_model.proofs.Listed.{IsFree, IsEnd, are_both, free_gem, free_port, free_jobs}
+use Rattle.history_laws.proofs.CommonRows.{free_input}
+use Rattle.gem_model.proofs.Listed.{IsFree, are_both, free_gem, free_port, free_jobs}
 use Rattle.calm_laws.proofs.Rows.{is_input}
 
 -- an input fires it
@@ -70,9 +70,6 @@ free_inputs xs are = all IsFree free_input xs are
 
 pub placing_inputs : (port : ℕ) → AreInputs (at_port 4 3 port)
 placing_inputs port = (refl, tt)
-
-pub vacated_inputs : (port : ℕ) → AreInputs (at_port 4 5 port)
-vacated_inputs port = (refl, tt)
 
 done_one : (n : ℕ) (f : ToolFloor) → IsInput (firing 13 n (done_processing n f))
 done_one n f = either_way (λ (row : ℕ). IsInput (firing 13 n row)) (is_of_aborting (substrate_numbered n f.substrates) f) 4 3 refl refl

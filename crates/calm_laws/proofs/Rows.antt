@@ -23,7 +23,7 @@ use Rattle.substrate.specs.Tables.{processing_number, processing_table}
 use Rattle.substrate.specs.declared.record.Processing.{Processing}
 use Rattle.substrate.specs.declared.record.Processing.TheVariants as processing
 use Rattle.process_job.specs.Tables.{job_number, job_table}
-use Rattle.process_job.specs.Jobs.{job_numbered, change_numbered as change_job, without_numbered, fires_row, created}
+use Rattle.process_job.specs.Jobs.{job_numbered, change_numbered as change_job, fires_row, created}
 use Rattle.process_job.specs.declared.job.JobSpec.{JobSpec}
 use Rattle.process_job.specs.declared.job.ProcessJob.{ProcessJob}
 use Rattle.process_job.specs.declared.record.JobState.{JobState}
@@ -55,7 +55,6 @@ use Rattle.floor_moves.specs.Valid.{IsDistinct}
 use Rattle.place_laws.specs.Picture.{picture, of_one}
 use Rattle.place_laws.specs.Sound.{Sound}
 use Rattle.picture_laws.proofs.Columns.{found_there, found_else, says_same}
-use Rattle.floor_laws.proofs.JobSight.{some_same}
 use Rattle.floor_laws.proofs.JobLists.{job_number_is, fired_there, fired_else, without_else, found_more}
 use Rattle.floor_laws.proofs.JobFires.{fired_jobs}
 use Rattle.floor_laws.proofs.JobEnds.{freed_alone}

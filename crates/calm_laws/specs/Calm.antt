@@ -41,7 +41,7 @@ use Rattle.gem_model.specs.Noting.{sets_alarm}
 use Rattle.gem_model.specs.Sending.{data_header, sends_stream9}
 use Rattle.gem_model.specs.Direct.{answer_rows, session_end_rows, timeout_rows, operator_rows}
 use Rattle.gem_model.specs.Signals.{lacks_port, port_row_starts, with_arrival, lacks_module, module_of, module_alarm}
-use Rattle.gem_model.specs.HostMessages.{HostMessage, reply_text, Done}
+use Rattle.gem_model.specs.HostMessages.{reply_text, Done}
 use Rattle.gem_model.specs.Messages.{done}
 use Rattle.gem_model.specs.Verdict.{Verdict, Answers, Taken, verdict, header_of, item_of, stream_of, function_of}
 use Rattle.gem_model.specs.Act.{replied, note_answered}

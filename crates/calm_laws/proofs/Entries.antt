@@ -2,7 +2,6 @@
 use Rattle.std.proofs.Common.{◌≡◌, ℕ, Bool, true, false, if◌then◌else◌, [], Some, None, refl, sym, ◌∙◌, ap}
 use Rattle.std.specs.List.{list_any}
 use Rattle.tool_events.specs.declared.entry.Entry.{Entry}
-use Rattle.tool_floor.specs.Machines.{floor_least}
 use Rattle.control_job.proofs.Orders.{not_true}
 use Rattle.lot_laws.specs.Lot.{Executes, InOrder, IsCalmBetween}
 use Rattle.gem_model.specs.State.{State, raised}
@@ -28,7 +27,3 @@ entry_calm number counted g entry o order e here calm =
     (sym (ap (λ (b : Bool). list_any (disturbs number counted g.floor) (if b then [] else rows_of_act g.moment (raised g entry.at.0) entry.event)) acted.0)
     ∙ not_true (list_any (disturbs number counted g.floor) (rows_of_input g entry)) calm)
     acted.1
-
-pub input_calm : (number : ℕ) (counted : ℕ → Bool) (g : State) (entry : Entry) (o : Outcome) → InOrder g.floor → floor_least g.floor ≡ None → Executes number counted g.floor → input_of g entry ≡ Some o → is_calm number counted g entry ≡ true
-    → IsCalmBetween number counted g.floor o.after.floor
-input_calm number counted g entry o order rest e here calm = entry_calm number counted g entry o order e here calm

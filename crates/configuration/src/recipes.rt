@@ -1,5 +1,6 @@
 //! The reader of recipes.
-ghost use Rattle.std.specs.Prelude.{◌≡◌, ◌≤◌, [], Some, None, option_map, if◌then◌else◌};
+ghost use Rattle.std.specs.Prelude.{◌≡◌, ◌≤◌, true, [], Some, None, option_map, if◌then◌else◌};
+ghost use Rattle.tool_events.specs.Configs.{are_usable};
 ghost use Rattle.toml.specs.Data.{get_member};
 ghost use Rattle.toml.specs.View.{view, table_view, items_view};
 ghost use Rattle.configuration.specs.Recipes.{chambers_in, recipe_in, has_name, with_recipe, recipes_of, recipes_behind, recipe_for_all};
@@ -97,7 +98,8 @@ pub(crate) fn recipes_of(value: &Value, chambers: u8) -> Option<Recipes>
 
 // One recipe, `R1`, for all chambers.
 pub(crate) fn recipe_for_all(chambers: u8) -> Recipes
-    ensures { result ≡ recipe_for_all chambers }
+    ensures value { result ≡ recipe_for_all chambers }
+    ensures usable { 1 ≤ chambers → are_usable chambers result ≡ true }
 {
     let mut recipes = Recipes::none();
     recipes.push(Recipe {

@@ -1,7 +1,7 @@
 //! The lines of a carrier in a batch (`sim_modules`).
 
-ghost use Rattle.std.specs.Prelude.{◌≡◌, ◌≤◌, IfOk};
-ghost use Rattle.tool_events.specs.Configs.{IsConfig};
+ghost use Rattle.std.specs.Prelude.{◌≡◌, ◌≤◌, true, IfOk};
+ghost use Rattle.tool_events.specs.Configs.{are_usable, IsConfig};
 
 use gem_ids::{Moment, Text80};
 use sim_modules::lot_line;
@@ -16,7 +16,9 @@ fn word(bytes: &[u8]) -> Result<Text80, Fail>
 }
 
 // The recipes of a tool, of which the first is named so.
-fn recipes(first: &[u8]) -> Result<Recipes, Fail> {
+fn recipes(first: &[u8]) -> Result<Recipes, Fail>
+    ensures { IfOk result (λ recipes. are_usable 2 recipes ≡ true) }
+{
     let chambers = RecipeChambers {
         one: true,
         two: false,

@@ -1,7 +1,17 @@
 -- What a configuration may say (this tool's profile, configuration).
-use Rattle.std.specs.Prelude.{◌≤◌, length}
+use Rattle.std.specs.Prelude.{◌≡◌, ◌≤◌, ℕ, nat_le, Bool, true, ◌&&◌, ◌||◌, List, length}
+use Rattle.std.specs.List.{list_all}
 use Rattle.gem_ids.specs.Moments.{last_moment}
 use Rattle.tool_events.specs.declared.config.Config.{Config}
+use Rattle.tool_events.specs.declared.recipes.Recipe.{Recipe}
+
+-- a recipe has one of the chambers of a tool with so many (this tool's profile, configuration)
+abbrev pub is_usable : ℕ → Recipe → Bool
+is_usable chambers r = r.chambers.one && nat_le 1 chambers || r.chambers.two && nat_le 2 chambers
+
+-- each of these has
+abbrev pub are_usable : ℕ → List Recipe → Bool
+are_usable chambers recipes = list_all (is_usable chambers) recipes
 
 -- the configuration keeps its bounds (this tool's profile, other configurations)
 pub record IsConfig (c : Config) : Type 0 where
@@ -30,3 +40,4 @@ pub record IsConfig (c : Config) : Type 0 where
   pub entries : c.max_entries ≤ 4000000
   pub bytes : c.max_bytes ≤ 536870912
   pub start : c.start_moment.0 ≤ last_moment
+  pub recipes : are_usable c.chambers c.recipes ≡ true

@@ -50,7 +50,8 @@ use Rattle.tool_floor.specs.Substrates.{can_register, first_substrate, registers
 use Rattle.tool_floor.specs.Views.{planned}
 use Rattle.floor_laws.proofs.IssueSound.{changed_many}
 use Rattle.floor_laws.proofs.RemPlaces.{removed_chambers}
-use Rattle.work_laws.specs.Equipped.{are_usable, HasRecipe, most_chambers, Equipped}
+use Rattle.tool_events.specs.Configs.{are_usable}
+use Rattle.work_laws.specs.Equipped.{HasRecipe, most_chambers, Equipped}
 
 -- each of these process jobs has one of these recipes
 abbrev AreKnown : List Recipe → List ProcessJob → Type 0

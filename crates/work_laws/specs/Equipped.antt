@@ -1,27 +1,16 @@
 -- What the tool has for its process jobs at every moment: its modules, and recipes by which its chambers can process (this tool's
 -- profile, configuration, moves and process jobs).
-use Rattle.std.specs.Prelude.{◌≡◌, ℕ, ◌+◌, nat_le, Bool, true, ◌&&◌, ◌||◌, List, length}
-use Rattle.std.specs.List.{AllByRecursion, list_all}
+use Rattle.std.specs.Prelude.{◌≡◌, ℕ, ◌+◌, true, List, length}
+use Rattle.std.specs.List.{AllByRecursion}
+use Rattle.tool_events.specs.Configs.{are_usable}
 use Rattle.tool_events.specs.declared.recipes.Recipe.{Recipe}
 use Rattle.process_job.specs.Creating.{is_recipe}
 use Rattle.process_job.specs.declared.job.ProcessJob.{ProcessJob}
 use Rattle.tool_floor.specs.Floor.{ToolFloor}
 
--- ---- recipes
-
--- a recipe has one of the chambers of a tool with so many
-abbrev pub is_usable : ℕ → Recipe → Bool
-is_usable chambers r = r.chambers.one && nat_le 1 chambers || r.chambers.two && nat_le 2 chambers
-
--- each of these has
-abbrev pub are_usable : ℕ → List Recipe → Bool
-are_usable chambers recipes = list_all (is_usable chambers) recipes
-
 -- the recipe of a process job is one of these
 abbrev pub HasRecipe : List Recipe → ProcessJob → Type 0
 HasRecipe recipes j = is_recipe j.recipe recipes ≡ true
-
--- ---- all of it
 
 -- the most chambers of a tool whose modules have numbers up to 255
 abbrev pub most_chambers : ℕ

@@ -11,7 +11,8 @@ ghost use Rattle.shop_floor.specs.Floor.{Floor};
 ghost use Rattle.tool_floor.specs.Floor.{ToolFloor, opening, with_shop, with_jobs, fetched};
 ghost use Rattle.tool_floor.specs.Machines.{floor_fired, floor_least};
 ghost use Rattle.place_laws.specs.Sound.{Sound};
-ghost use Rattle.work_laws.specs.Equipped.{are_usable, most_chambers, Equipped};
+ghost use Rattle.tool_events.specs.Configs.{are_usable};
+ghost use Rattle.work_laws.specs.Equipped.{most_chambers, Equipped};
 ghost use Rattle.work_laws.specs.Work.{is_work_left, is_any_down, is_any_open};
 
 /// Where no row of the floor is ready by itself, no module is Down and work is left, a command is open: the tool never stands still

@@ -28,7 +28,7 @@ text_taken default same taken_text key ms e t = rw (← e) t
 pub returns-clause-given : goal.returns-clause-given
 unfolding rules
 returns-clause-given c =
-    let rs = for_plant _ _ _ _ (codes "recipes") (table_view c.args.self.now.table.now) c.number-chambers.ensures.value c.recipe_for_all.ensures c.recipes-recipes.ensures.value in (
+    let rs = for_plant _ _ _ _ (codes "recipes") (table_view c.args.self.now.table.now) c.number-chambers.ensures.value c.recipe_for_all.ensures.value c.recipes-recipes.ensures.value in (
       c.number-version.ensures.value,
       (
         c.number-device.ensures.value,

@@ -1,0 +1,5 @@
+pub mod Rows
+pub mod Lists
+pub mod Inputs
+pub mod Entries
+pub mod Completing

@@ -1,0 +1,160 @@
+-- The recipes that are taken have chambers of the tool.
+use Rattle.std.proofs.Common.{◌≡◌, ◌≤◌, ℕ, zero, suc, nat_eq, nat_le, Bool, true, false, ◌&&◌, ◌||◌, if◌then◌else◌, List, [], ◌∷◌, ◌++◌, codes, length, Option, Some, None, option_and_then, option_map, refl, sym, ap, subst, ◌∙◌, arith}
+use Rattle.std.specs.List.{list_any, list_all}
+use Rattle.std.proofs.lemmas.Bool.{and_parts, and_from, or_left, or_right}
+use Rattle.std.proofs.lemmas.Bool.Decides.{nat_tests}
+use Rattle.toml.specs.Data.{Data, Items, no_items, item, Members, as_table, as_array, get_member}
+use Rattle.tool_events.specs.Configs.{is_usable, are_usable}
+use Rattle.tool_events.specs.declared.recipes.Recipe.{Recipe}
+use Rattle.tool_events.specs.declared.recipes.RecipeChambers.{RecipeChambers}
+use Rattle.configuration.specs.Values.{is_between, as_natural, number_in, text_of, has, numbers_behind, some_items, filled_list, has_other}
+use Rattle.configuration.specs.Recipes.{most_recipes, recipe_keys, chambers_in, recipe_in, has_name, with_recipe, recipes_behind, recipes_of}
+use Rattle.configuration.specs.Rules.{recipes, said_at, taken}
+
+-- ---- lists of numbers
+
+-- what is in a list is in a longer one
+any_front : (test : ℕ → Bool) (xs ys : List ℕ) → list_any test xs ≡ true → list_any test (xs ++ ys) ≡ true
+any_front test [] ys e = absurd (cc)
+any_front test (x ∷ xs) ys e = of (test x) e (any_front test xs ys) where
+  of : (b : Bool) → (b || list_any test xs) ≡ true → (list_any test xs ≡ true → list_any test (xs ++ ys) ≡ true) → (b || list_any test (xs ++ ys)) ≡ true
+  of true e rest = refl
+  of false e rest = rest e
+
+any_last : (n : ℕ) (xs : List ℕ) → has n (xs ++ n ∷ []) ≡ true
+any_last n [] = let same : nat_eq n n ≡ true = grind (arith, nat_tests) in ap (λ (t : Bool). t || false) same
+any_last n (x ∷ xs) = or_right (nat_eq n x) (has n (xs ++ n ∷ [])) (any_last n xs)
+
+-- a number that was found is one of those that are taken
+stays_in : (n least most : ℕ) (found : List ℕ) (ds : Items) (ns : List ℕ) → has n found ≡ true → numbers_behind least most found ds ≡ Some ns → has n ns ≡ true
+stays_in n least most found no_items ns here e = let same : found ≡ ns = cc in ap (has n) (sym same) ∙ here
+stays_in n least most found (item d ds) ns here e = of (number_in least most d) e (λ k later. stays_in n least most (found ++ k ∷ []) ds ns (any_front (nat_eq n) found (k ∷ []) here) later) where
+  by_test : (k : ℕ) (b : Bool) → (if b then None else numbers_behind least most (found ++ k ∷ []) ds) ≡ Some ns → (numbers_behind least most (found ++ k ∷ []) ds ≡ Some ns → has n ns ≡ true) → has n ns ≡ true
+  by_test k true e rest = absurd (cc)
+  by_test k false e rest = rest e
+
+  of : (o : Option ℕ) → option_and_then (λ k. if has k found then None else numbers_behind least most (found ++ k ∷ []) ds) o ≡ Some ns → ((k : ℕ) → numbers_behind least most (found ++ k ∷ []) ds ≡ Some ns → has n ns ≡ true) → has n ns ≡ true
+  of None e rest = absurd (cc)
+  of (Some k) e rest = by_test k (has k found) e (rest k)
+
+-- ---- chambers
+
+-- a number of a list of chambers that is taken
+record IsChamber (chambers : ℕ) (ns : List ℕ) : Type 0 where
+  n : ℕ
+  first : 1 ≤ n
+  last : n ≤ chambers
+  there : has n ns ≡ true
+
+number_lies : (least most n : ℕ) (d : Data) → number_in least most d ≡ Some n → is_between least most n ≡ true
+number_lies least most n d e = of (as_natural d) e where
+  by_test : (k : ℕ) (b : Bool) → is_between least most k ≡ b → (if b then Some k else None) ≡ Some n → is_between least most n ≡ true
+  by_test k true q e = let same : k ≡ n = cc in ap (is_between least most) (sym same) ∙ q
+  by_test k false q e = absurd (cc)
+
+  of : (o : Option ℕ) → option_and_then (λ k. if is_between least most k then Some k else None) o ≡ Some n → is_between least most n ≡ true
+  of None e = absurd (cc)
+  of (Some k) e = by_test k (is_between least most k) refl e
+
+-- the first number of a list that isn't empty
+first_chamber : (chambers : ℕ) (d : Data) (ds : Items) (ns : List ℕ) → numbers_behind 1 chambers [] (item d ds) ≡ Some ns → IsChamber chambers ns
+first_chamber chambers d ds ns e = of (number_in 1 chambers d) refl e where
+  of : (o : Option ℕ) → number_in 1 chambers d ≡ o → option_and_then (λ k. if has k [] then None else numbers_behind 1 chambers ([] ++ k ∷ []) ds) o ≡ Some ns → IsChamber chambers ns
+  of None q e = absurd (cc)
+  of (Some n) q e =
+      let lies = and_parts (nat_le 1 n) (nat_le n chambers) (number_lies 1 chambers n d q) in
+      let a = lies.0 in
+      let b = lies.1 in
+      record { n = n; first = grind (arith, nat_tests, a); last = grind (arith, nat_tests, b); there = stays_in n 1 chambers (n ∷ []) ds ns (any_last n []) e }
+
+-- such a number is one of the two
+usable_by : (chambers : ℕ) (ns : List ℕ) → chambers ≤ 2 → IsChamber chambers ns → (has 1 ns && nat_le 1 chambers || has 2 ns && nat_le 2 chambers) ≡ true
+usable_by chambers ns few c = of c.n c.first c.last c.there where
+  at_least : (k : ℕ) → k ≤ chambers → nat_le k chambers ≡ true
+  at_least k less = grind (arith, nat_tests)
+
+  of : (n : ℕ) → 1 ≤ n → n ≤ chambers → has n ns ≡ true → (has 1 ns && nat_le 1 chambers || has 2 ns && nat_le 2 chambers) ≡ true
+  of zero first last there = absurd (omega (arith, first))
+  of (suc zero) first last there = or_left (has 1 ns && nat_le 1 chambers) (has 2 ns && nat_le 2 chambers) (and_from (has 1 ns) (nat_le 1 chambers) there (at_least 1 last))
+  of (suc (suc zero)) first last there = or_right (has 1 ns && nat_le 1 chambers) (has 2 ns && nat_le 2 chambers) (and_from (has 2 ns) (nat_le 2 chambers) there (at_least 2 last))
+  of (suc (suc (suc k))) first last there = absurd (omega (arith, last, few))
+
+-- ---- recipes
+
+chambers_usable : (chambers : ℕ) (name : List ℕ) (d : Data) (cs : RecipeChambers) → chambers ≤ 2 → chambers_in chambers d ≡ Some cs → is_usable chambers (record { name = name; chambers = cs }) ≡ true
+chambers_usable chambers name d cs few e = of_list (filled_list d) refl e where
+  of_numbers : (ds : Items) (o : Option (List ℕ)) → numbers_behind 1 chambers [] ds ≡ o → ((ns : List ℕ) → o ≡ Some ns → IsChamber chambers ns) → option_map (λ ns. record { one = has 1 ns; two = has 2 ns }) o ≡ Some cs → is_usable chambers (record { name = name; chambers = cs }) ≡ true
+  of_numbers ds None q each e = absurd (cc)
+  of_numbers ds (Some ns) q each e =
+      let same : record { one = has 1 ns; two = has 2 ns } ≡ cs = cc in
+      subst (λ (x : RecipeChambers). is_usable chambers (record { name = name; chambers = x }) ≡ true) same (usable_by chambers ns few (each ns refl))
+
+  filled : (o : Option Items) (ds : Items) → option_and_then some_items o ≡ Some ds → (d : Data) × (rest : Items) × (ds ≡ item d rest)
+  filled None ds e = absurd (cc)
+  filled (Some no_items) ds e = absurd (cc)
+  filled (Some (item d rest)) ds e = (d, rest, cc)
+
+  of_list : (o : Option Items) → filled_list d ≡ o → option_map (λ ns. record { one = has 1 ns; two = has 2 ns }) (option_and_then (numbers_behind 1 chambers []) o) ≡ Some cs → is_usable chambers (record { name = name; chambers = cs }) ≡ true
+  of_list None q e = absurd (cc)
+  of_list (Some ds) q e =
+      let w = filled (as_array d) ds q in
+      of_numbers ds (numbers_behind 1 chambers [] ds) refl
+      (λ ns is. first_chamber chambers w.0 w.1 ns (subst (λ (x : Items). numbers_behind 1 chambers [] x ≡ Some ns) w.2 is)) e
+
+recipe_usable : (chambers : ℕ) (ms : Members) (r : Recipe) → chambers ≤ 2 → recipe_in chambers ms ≡ Some r → is_usable chambers r ≡ true
+recipe_usable chambers ms r few e = by_keys (has_other recipe_keys ms) e where
+  by_chambers : (name : List ℕ) (d : Option Data) → option_map (λ cs. record { name = name; chambers = cs }) (option_and_then (chambers_in chambers) d) ≡ Some r → is_usable chambers r ≡ true
+  by_chambers name None e = absurd (cc)
+  by_chambers name (Some d) e = of (chambers_in chambers d) refl e where
+    of : (o : Option RecipeChambers) → chambers_in chambers d ≡ o → option_map (λ cs. record { name = name; chambers = cs }) o ≡ Some r → is_usable chambers r ≡ true
+    of None q e = absurd (cc)
+    of (Some cs) q e =
+        let same : record { name = name; chambers = cs } ≡ r = cc in
+        subst (λ (x : Recipe). is_usable chambers x ≡ true) same (chambers_usable chambers name d cs few q)
+
+  by_name : (o : Option (List ℕ)) → option_and_then (λ name. option_map (λ cs. record { name = name; chambers = cs }) (option_and_then (chambers_in chambers) (get_member (codes "chambers") ms))) o ≡ Some r → is_usable chambers r ≡ true
+  by_name None e = absurd (cc)
+  by_name (Some name) e = by_chambers name (get_member (codes "chambers") ms) e
+
+  by_keys : (b : Bool) → (if b then None else option_and_then (λ name. option_map (λ cs. record { name = name; chambers = cs }) (option_and_then (chambers_in chambers) (get_member (codes "chambers") ms))) (option_and_then (text_of 64) (get_member (codes "name") ms))) ≡ Some r → is_usable chambers r ≡ true
+  by_keys true e = absurd (cc)
+  by_keys false e = by_name (option_and_then (text_of 64) (get_member (codes "name") ms)) e
+
+-- one more
+all_more : (test : Recipe → Bool) (rs : List Recipe) (r : Recipe) → list_all test rs ≡ true → test r ≡ true → list_all test (rs ++ r ∷ []) ≡ true
+all_more test [] r all is = and_from (test r) true is refl
+all_more test (x ∷ xs) r all is = let parts = and_parts (test x) (list_all test xs) all in and_from (test x) (list_all test (xs ++ r ∷ [])) parts.0 (all_more test xs r parts.1 is)
+
+all_usable : (chambers : ℕ) (found : List Recipe) (ds : Items) (rs : List Recipe) → chambers ≤ 2 → are_usable chambers found ≡ true → recipes_behind chambers found ds ≡ Some rs → are_usable chambers rs ≡ true
+all_usable chambers found no_items rs few before e = let same : found ≡ rs = cc in ap (are_usable chambers) (sym same) ∙ before
+all_usable chambers found (item d ds) rs few before e = of_table (as_table d) e (λ more usable later. all_usable chambers more ds rs few usable later) where
+  of_test : (r : Recipe) (b : Bool) → is_usable chambers r ≡ true → option_and_then (λ more. recipes_behind chambers more ds) (if b then None else Some (found ++ r ∷ [])) ≡ Some rs → ((more : List Recipe) → are_usable chambers more ≡ true → recipes_behind chambers more ds ≡ Some rs → are_usable chambers rs ≡ true) → are_usable chambers rs ≡ true
+  of_test r true is e rest = absurd (cc)
+  of_test r false is e rest = rest (found ++ r ∷ []) (all_more (is_usable chambers) found r before is) e
+
+  of_recipe : (o : Option Recipe) → ((r : Recipe) → o ≡ Some r → is_usable chambers r ≡ true) → option_and_then (λ more. recipes_behind chambers more ds) (option_and_then (with_recipe found) o) ≡ Some rs → ((more : List Recipe) → are_usable chambers more ≡ true → recipes_behind chambers more ds ≡ Some rs → are_usable chambers rs ≡ true) → are_usable chambers rs ≡ true
+  of_recipe None each e rest = absurd (cc)
+  of_recipe (Some r) each e rest = of_test r (nat_le most_recipes (length found) || has_name r.name found) (each r refl) e rest
+
+  of_table : (o : Option Members) → option_and_then (λ more. recipes_behind chambers more ds) (option_and_then (with_recipe found) (option_and_then (recipe_in chambers) o)) ≡ Some rs → ((more : List Recipe) → are_usable chambers more ≡ true → recipes_behind chambers more ds ≡ Some rs → are_usable chambers rs ≡ true) → are_usable chambers rs ≡ true
+  of_table None e rest = absurd (cc)
+  of_table (Some ms) e rest = of_recipe (recipe_in chambers ms) (λ r q. recipe_usable chambers ms r few q) e rest
+
+list_usable : (chambers : ℕ) (d : Data) (rs : List Recipe) → chambers ≤ 2 → recipes_of chambers d ≡ Some rs → are_usable chambers rs ≡ true
+list_usable chambers d rs few e = of (filled_list d) e where
+  of : (o : Option Items) → option_and_then (recipes_behind chambers []) o ≡ Some rs → are_usable chambers rs ≡ true
+  of None e = absurd (cc)
+  of (Some ds) e = all_usable chambers [] ds rs few refl e
+
+-- ---- what is taken
+
+-- the recipes that are taken have chambers of the tool, where those by default have
+pub taken_usable : (chambers : ℕ) (default rs : List Recipe) (key : List ℕ) (ms : Members) → chambers ≤ 2 → are_usable chambers default ≡ true → rs ≡ taken default (said_at (recipes chambers) key ms) → are_usable chambers rs ≡ true
+taken_usable chambers default rs key ms few usable e = ap (are_usable chambers) e ∙ of_member (get_member key ms) where
+  of_said : (o : Option (List Recipe)) → ((xs : List Recipe) → o ≡ Some xs → are_usable chambers xs ≡ true) → are_usable chambers (taken default (Some o)) ≡ true
+  of_said None each = usable
+  of_said (Some xs) each = each xs refl
+
+  of_member : (o : Option Data) → are_usable chambers (taken default (option_map (recipes_of chambers) o)) ≡ true
+  of_member None = usable
+  of_member (Some d) = of_said (recipes_of chambers d) (λ xs q. list_usable chambers d xs few q)

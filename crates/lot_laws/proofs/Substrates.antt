@@ -1,0 +1,165 @@
+-- A control job executes on behind the rows of tables 12 and 13 that fire by themselves.
+use Rattle.std.proofs.Common.{◌≡◌, ℕ, ◌==◌, Bool, true, false, not, ◌&&◌, List, map, Option, Some, None, option_map, refl, sym, ◌∙◌, ap, subst, ◌⊎◌, inl, inr, arith}
+use Rattle.std.proofs.lemmas.Bool.{true≢false}
+use Rattle.std.proofs.lemmas.Bool.Decides.{Decides-eqb}
+use Rattle.gem_tables.specs.Table.{is_one_of, after}
+use Rattle.gem_tables.proofs.Rows.{both}
+use Rattle.substrate.specs.Tables.{transport_number, transport_table, processing_number}
+use Rattle.substrate.specs.Record.{is_at_source, is_needing}
+use Rattle.substrate.specs.declared.record.Transport.{Transport}
+use Rattle.substrate.specs.declared.record.Transport.TheVariants as transport
+use Rattle.process_job.specs.Jobs.{job_numbered}
+use Rattle.process_job.specs.declared.job.ProcessJob.{ProcessJob}
+use Rattle.tool_jobs.proofs.Rows.{after_meets}
+use Rattle.tool_floor.specs.declared.tracking.Substrate.{Substrate}
+use Rattle.tool_floor.specs.Floor.{ToolFloor, substrate_numbered, number_of, change_numbered}
+use Rattle.tool_floor.specs.Jobs.{job_of, can_join}
+use Rattle.tool_floor.specs.Substrates.{is_outside}
+use Rattle.tool_floor.specs.Machines.{substrate_moves, with_moved}
+use Rattle.floor_moves.specs.Floor as law
+use Rattle.floor_moves.specs.Floor.{is_done}
+use Rattle.floor_moves.specs.Agree.{Agree}
+use Rattle.place_laws.specs.Picture.{picture, of_one}
+use Rattle.place_laws.specs.Sound.{Sound}
+use Rattle.picture_laws.proofs.Columns.{unknown_none, numbers_same, says_same, found_there, found_else}
+use Rattle.picture_laws.proofs.JobViews.{substrates_alike}
+use Rattle.floor_laws.proofs.JobSight.{none_some, some_same, outside_same}
+use Rattle.floor_laws.proofs.JobSays.{member_tells}
+use Rattle.floor_laws.proofs.JobLists.{none_first}
+use Rattle.owed_laws.specs.Owed.{owed_to}
+use Rattle.owed_laws.proofs.Agreeing.{agree-undisturbed, agree-owed}
+use Rattle.queue_laws.specs.Started.{is_left_in}
+use Rattle.lot_laws.specs.Lot.{is_in_named_slot, IsInJob, Waits, Executes}
+use Rattle.lot_laws.proofs.Standing.{on_base, Joins, joins_tell, undisturbed}
+
+-- a number is 1
+abbrev IsOne : ℕ → Type 0
+IsOne k = k ≡ 1
+
+-- ---- one that is found behind a change of the substrate of a number
+
+pub found_back : (n : ℕ) (change : Substrate → Substrate) → ((s : Substrate) → (change s).number ≡ s.number) → (k : ℕ) (ss : List Substrate) (y : Substrate) → substrate_numbered k (change_numbered n change ss) ≡ Some y
+    → (x : Substrate) × (substrate_numbered k ss ≡ Some x) × (((k ≡ n) × (y ≡ change x)) ⊎ (((k == n) ≡ false) × (y ≡ x)))
+found_back n change keeps k ss y e = of (k == n) refl where
+  of : (b : Bool) → (k == n) ≡ b → (x : Substrate) × (substrate_numbered k ss ≡ Some x) × (((k ≡ n) × (y ≡ change x)) ⊎ (((k == n) ≡ false) × (y ≡ x)))
+  of false q = (y, sym (found_else n change keeps k (λ same. true≢false (sym ((Decides-eqb k n).1 same) ∙ q)) ss) ∙ e, inr (q, refl))
+  of true q = at (substrate_numbered k ss) refl where
+    same : k ≡ n
+    same = (Decides-eqb k n).0 q
+
+    there : substrate_numbered n (change_numbered n change ss) ≡ Some y
+    there = subst (λ (i : ℕ). substrate_numbered i (change_numbered n change ss) ≡ Some y) same e
+
+    at : (o : Option Substrate) → substrate_numbered k ss ≡ o → (x : Substrate) × (substrate_numbered k ss ≡ Some x) × (((k ≡ n) × (y ≡ change x)) ⊎ (((k == n) ≡ false) × (y ≡ x)))
+    at None g = none_some y (sym (ap (option_map change) (sym (ap (λ (i : ℕ). substrate_numbered i ss) same) ∙ g)) ∙ sym (found_there n change keeps ss) ∙ there)
+    at (Some x) g = (x, g, inl (same, sym (some_same (change x) y (sym (ap (option_map change) (sym (ap (λ (i : ℕ). substrate_numbered i ss) same) ∙ g)) ∙ sym (found_there n change keeps ss) ∙ there))))
+
+-- ---- states
+
+-- what isn't AT SOURCE isn't behind a row
+source_before : (row : ℕ) (t : Transport) → is_at_source (after transport_number transport_table row t) ≡ true → is_at_source t ≡ true
+source_before row transport.AtSource e = refl
+source_before row transport.AtWork e = absurd (true≢false (sym (true_not (is_at_source (after transport_number transport_table row transport.AtWork)) (after_meets transport_number (λ (x : Transport). not (is_at_source x)) (λ n. false) row transport.AtWork transport_table refl refl refl) e))) where
+  true_not : (b : Bool) → not b ≡ true → b ≡ true → false ≡ true
+  true_not true p q = p
+  true_not false p q = q
+source_before row transport.AtDestination e = absurd (true≢false (sym (true_not (is_at_source (after transport_number transport_table row transport.AtDestination)) (after_meets transport_number (λ (x : Transport). not (is_at_source x)) (λ n. false) row transport.AtDestination transport_table refl refl refl) e))) where
+  true_not : (b : Bool) → not b ≡ true → b ≡ true → false ≡ true
+  true_not true p q = p
+  true_not false p q = q
+
+-- AT SOURCE stays so behind another row than 2
+source_stays : (row : ℕ) (t : Transport) → (row == 2) ≡ false → is_at_source t ≡ true → is_at_source (after transport_number transport_table row t) ≡ true
+source_stays row transport.AtSource two e = after_meets transport_number is_at_source (λ n. n == 2) row transport.AtSource transport_table two refl refl
+source_stays row transport.AtWork two e = absurd (true≢false (sym e))
+source_stays row transport.AtDestination two e = absurd (true≢false (sym e))
+
+module _ (number : ℕ) (counted : ℕ → Bool) (f : ToolFloor) (h : Sound f) (e : Executes number counted f) (n row : ℕ) where
+  -- what the table of transport changes isn't looked at by numbers
+  moved_agrees : Agree (picture f) (picture (with_moved 12 row n f))
+  moved_agrees = record {
+    substrates = numbers_same n (substrate_moves 12 row) (λ s. refl) f.substrates;
+    next_substrate = refl;
+    carrier_of = λ k _. says_same n (substrate_moves 12 row) (λ s. refl) 0 _ (λ s. refl) k f.substrates;
+    port_of = λ k _. says_same n (substrate_moves 12 row) (λ s. refl) 0 _ (λ s. refl) k f.substrates;
+    slot_of = λ k _. says_same n (substrate_moves 12 row) (λ s. refl) 0 _ (λ s. refl) k f.substrates;
+    place_of = λ k. refl;
+    processing = λ k _. says_same n (substrate_moves 12 row) (λ s. refl) 0 _ (λ s. refl) k f.substrates;
+    unknown = λ k e one. unknown_is k e (sym (says_same n (substrate_moves 12 row) (λ s. refl) 0 _ (λ s. refl) k f.substrates) ∙ one);
+    is_aligned = λ k _. says_same n (substrate_moves 12 row) (λ s. refl) false _ (λ s. refl) k f.substrates;
+    carriers = refl;
+    present_at = λ c. refl;
+    is_verified = λ c _. refl;
+    access = λ c _. refl;
+    jobs = substrates_alike _ f.jobs f.shop.carriers f.substrates _ (λ B else_ says k. says_same n (substrate_moves 12 row) (λ s. refl) else_ (λ s. says s.job) (λ s. refl) k f.substrates);
+    chambers = refl;
+    equipment = λ m. refl;
+    next_command = refl;
+  } where
+    unknown_is : (k : ℕ) → is_one_of (map number_of f.substrates) k ≡ false → of_one 0 (λ (s : Substrate). processing_number s.states.processing) (substrate_numbered k f.substrates) ≡ 1 → ⊥
+    unknown_is k e one = let z : IsOne 0 = sym (ap (of_one 0 (λ (s : Substrate). processing_number s.states.processing)) (unknown_none k f.substrates e)) ∙ one in omega (arith, z)
+
+  -- the row of the number starts: 2 where the substrate is outside
+  module _ (starts : (x : Substrate) → substrate_numbered n f.substrates ≡ Some x → (row == 2) ≡ true → is_outside x f.places ≡ true) where
+    -- one that waits isn't outside
+    not_outside : (k : ℕ) (x : Substrate) → substrate_numbered k f.substrates ≡ Some x → (w : Waits number x f) → is_outside x f.places ≡ true → ⊥
+    not_outside k x found w out =
+        let is = h.valid.members.outside k (sym (outside_same f h.base k x found) ∙ out) in
+        let m = member_tells f.substrates f.jobs k (λ j. true) is in
+        let one : x ≡ m.one = some_same x m.one (sym found ∙ m.found) in
+        let zero : m.one.job ≡ 0 = (Decides-eqb m.one.job 0).0 (subst (λ (y : Substrate). (y.job == 0) ≡ true) one (joins_tell w.job f x w.joins).free) in
+        in_none m.job (subst (λ (i : ℕ). job_numbered i f.jobs.process.kept ≡ Some m.job) zero m.its)
+      where
+        in_none : (j : ProcessJob) → job_numbered 0 f.jobs.process.kept ≡ Some j → ⊥
+        in_none j g = none_some j (sym (none_first f.jobs.process.given f.jobs.process.kept h.base.jobs.numbered) ∙ g)
+
+    waits_on : (k : ℕ) (x : Substrate) → substrate_numbered k f.substrates ≡ Some x → k ≡ n → Waits number x f → Waits number (substrate_moves 12 row x) (with_moved 12 row n f)
+    waits_on k x found same w = record { at = w.at; job = w.job; kept = w.kept; left = w.left; queued = w.queued; joins = joins } where
+      tells : Joins w.job f x
+      tells = joins_tell w.job f x w.joins
+
+      other : (b : Bool) → (row == 2) ≡ b → b ≡ false
+      other false q = refl
+      other true q = absurd (not_outside k x found w (starts x (subst (λ (i : ℕ). substrate_numbered i f.substrates ≡ Some x) same found) q))
+
+      joins : can_join w.job f.shop (substrate_moves 12 row x) ≡ true
+      joins =
+          both (is_at_source (after transport_number transport_table row x.states.transport) && is_needing x.states.processing) ((x.job == 0) && is_in_named_slot w.job f.shop x)
+          (both (is_at_source (after transport_number transport_table row x.states.transport)) (is_needing x.states.processing) (source_stays row x.states.transport (other (row == 2) refl) tells.source) tells.needs)
+          (both (x.job == 0) (is_in_named_slot w.job f.shop x) tells.free tells.named)
+
+    -- table 12
+    pub transport-executes : Executes number counted (with_moved 12 row n f) × (owed_to counted (picture (with_moved 12 row n f)) ≡ owed_to counted (picture f))
+    transport-executes = (
+      record {
+        steers = e.steers;
+        here = e.here;
+        members = λ k is. e.members k (sym (moved_agrees.jobs.is_member k) ∙ is);
+        stands = λ k y found is. let b = found_back n (substrate_moves 12 row) (λ s. refl) k f.substrates y found in stands k y b.0 b.1 b.2 (e.stands k b.0 b.1 is);
+        all = λ k i y j found q left can. let b = found_back n (substrate_moves 12 row) (λ s. refl) k f.substrates y found in takes k i y j b.0 b.1 b.2 q left can;
+        substrates = (agree-undisturbed (picture f) (picture (with_moved 12 row n f)) moved_agrees counted h.valid (undisturbed number counted f (on_base f h.base) e)).substrates;
+      },
+      agree-owed (picture f) (picture (with_moved 12 row n f)) moved_agrees counted,
+    ) where
+      done_same : (k : ℕ) → is_done k (picture (with_moved 12 row n f)) ≡ is_done k (picture f)
+      done_same k = ap (λ (p : ℕ). law.is_finished p && not (law.is_outside ((picture f).place_of k))) (says_same n (substrate_moves 12 row) (λ s. refl) 0 (λ (s : Substrate). processing_number s.states.processing) (λ s. refl) k f.substrates)
+
+      Case : ℕ → Substrate → Substrate → Type 0
+      Case k y x = ((k ≡ n) × (y ≡ substrate_moves 12 row x)) ⊎ (((k == n) ≡ false) × (y ≡ x))
+
+      stands : (k : ℕ) (y x : Substrate) → substrate_numbered k f.substrates ≡ Some x → Case k y x → (is_done k (picture f) ≡ true) ⊎ (IsInJob x f ⊎ Waits number x f)
+          → (is_done k (picture (with_moved 12 row n f)) ≡ true) ⊎ (IsInJob y (with_moved 12 row n f) ⊎ Waits number y (with_moved 12 row n f))
+      stands k y x found case (inl done) = inl (done_same k ∙ done)
+      stands k y x found (inl c) (inr (inl its)) = inr (inl (its.0, ap (λ (z : Substrate). job_of z f.jobs) c.1 ∙ its.1))
+      stands k y x found (inr c) (inr (inl its)) = inr (inl (its.0, ap (λ (z : Substrate). job_of z f.jobs) c.1 ∙ its.1))
+      stands k y x found (inl c) (inr (inr w)) = inr (inr (subst (λ (z : Substrate). Waits number z (with_moved 12 row n f)) (sym c.1) (waits_on k x found c.0 w)))
+      stands k y x found (inr c) (inr (inr w)) = inr (inr (subst (λ (z : Substrate). Waits number z (with_moved 12 row n f)) (sym c.1) (record { at = w.at; job = w.job; kept = w.kept; left = w.left; queued = w.queued; joins = w.joins })))
+
+      takes : (k i : ℕ) (y : Substrate) (j : ProcessJob) (x : Substrate) → substrate_numbered k f.substrates ≡ Some x → Case k y x → job_numbered i f.jobs.process.kept ≡ Some j → is_left_in number j.id f.jobs ≡ true → can_join j f.shop y ≡ true → counted k ≡ true
+      takes k i y j x found (inr c) q left can = e.all k i x j found q left (subst (λ (z : Substrate). can_join j f.shop z ≡ true) c.1 can)
+      takes k i y j x found (inl c) q left can =
+          let tells = joins_tell j f (substrate_moves 12 row x) (subst (λ (z : Substrate). can_join j f.shop z ≡ true) c.1 can) in
+          e.all k i x j found q left
+          (both (is_at_source x.states.transport && is_needing x.states.processing) ((x.job == 0) && is_in_named_slot j f.shop x)
+          (both (is_at_source x.states.transport) (is_needing x.states.processing) (source_before row x.states.transport tells.source) tells.needs)
+          (both (x.job == 0) (is_in_named_slot j f.shop x) tells.free tells.named))

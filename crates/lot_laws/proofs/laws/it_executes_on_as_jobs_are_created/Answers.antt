@@ -1,0 +1,14 @@
+use Rattle.lot_laws.proofs.Inputs.{created-executes, added-executes, headed-executes, fetched-executes}
+use Rattle.lot_laws.proofs.laws.it_executes_on_as_jobs_are_created.Goals as goal
+
+pub returns-clause-process : goal.returns-clause-process
+returns-clause-process c = λ number counted f spec h t s e free. created-executes number counted f h t s e spec free
+
+pub returns-clause-control : goal.returns-clause-control
+returns-clause-control c = λ number counted f name named auto h t s e free. added-executes number counted f h t s e name named auto free
+
+pub returns-clause-head : goal.returns-clause-head
+returns-clause-head c = λ number counted f name h t s e. headed-executes number counted f h t s e name
+
+pub returns-clause-fetched : goal.returns-clause-fetched
+returns-clause-fetched c = λ number counted f m e. fetched-executes number counted f e m

@@ -1,0 +1,148 @@
+//! Laws of a control job that executes undisturbed, for proofs to cite. Each function is empty: what it ensures holds of the definitions.
+
+ghost use Rattle.std.specs.Prelude.{◌≡◌, ℕ, ◌*◌, Bool, true, false, List, [], ◌∷◌, Some, None};
+ghost use Rattle.gem_tables.specs.declared.firing.Firing.{Firing};
+ghost use Rattle.tool_events.specs.declared.answer.Command.{Command};
+ghost use Rattle.tool_events.specs.declared.answer.Task.TheVariants as task;
+ghost use Rattle.robot_moves.specs.declared.module.Module.TheVariants.{Busy};
+ghost use Rattle.robot_moves.specs.Modules.{module_at};
+ghost use Rattle.tool_floor.specs.Signals.{done_row};
+ghost use Rattle.floor_moves.specs.Floor.{chamber};
+ghost use Rattle.gem_tables.specs.Table.{firing, is_one_of};
+ghost use Rattle.process_job.specs.Jobs.{job_numbered as process_numbered};
+ghost use Rattle.process_job.specs.Creating.{create_fault};
+ghost use Rattle.process_job.specs.declared.job.JobSpec.{JobSpec};
+ghost use Rattle.process_job.specs.declared.job.ProcessJob.{ProcessJob};
+ghost use Rattle.control_job.specs.Jobs.{job_numbered as control_numbered, headed};
+ghost use Rattle.control_job.specs.declared.job.ControlJob.{ControlJob};
+ghost use Rattle.tool_jobs.specs.Rows.{control_starts, control_ready};
+ghost use Rattle.tool_jobs.specs.Creating.{with_process, with_control, control_fault};
+ghost use Rattle.tool_jobs.specs.Together.{AreTogether};
+ghost use Rattle.tool_events.specs.declared.recipes.Recipe.{Recipe};
+ghost use Rattle.tool_floor.specs.Floor.{ToolFloor, opening, with_jobs, fetched};
+ghost use Rattle.tool_floor.specs.Jobs.{is_first_here};
+ghost use Rattle.tool_floor.specs.Machines.{floor_starts, floor_fired, floor_least};
+ghost use Rattle.place_laws.specs.Picture.{picture};
+ghost use Rattle.place_laws.specs.Sound.{Sound, SoundBut};
+ghost use Rattle.owed_laws.specs.Owed.{owed_to, number_of};
+ghost use Rattle.owed_laws.specs.Undisturbed.{AreUnaligned, Undisturbed};
+ghost use Rattle.queue_laws.specs.Started.{AreStarted};
+ghost use Rattle.queue_laws.specs.Steers.{AreAutomatic, disturbs_process, disturbs_control, is_completion};
+ghost use Rattle.lot_laws.specs.Lot.{counted_of, IsMaterialHere, AreInKeptJobs, Executes, GoesOnOrCompletes, TakesOneOff};
+ghost use Rattle.lot_laws.specs.Lot.{InOrder, IsCalmBetween, WorksOrIsDisturbed, is_word};
+
+/// As a control job starts by row 4 or 5 of table 15, where each process job that is left in it starts by itself and its material is
+/// here, it executes undisturbed, and eight Dones are owed for each substrate that is counted.
+pub fn a_control_job_starts_with_its_material_in_place()
+    ensures executes { (number row : ℕ) (f : ToolFloor) (c : ControlJob) → Sound f → AreTogether f.jobs → AreStarted f.jobs
+        → AreUnaligned (picture f) → AreInKeptJobs f → control_numbered number f.jobs.control.jobs ≡ Some c
+        → control_starts row (Some c) (is_first_here number f) f.jobs ≡ true → is_one_of (4 ∷ 5 ∷ []) row ≡ true
+        → AreAutomatic number f.jobs → IsMaterialHere number f → Executes number (counted_of number f) (floor_fired (firing 15 number row) f) }
+    ensures owed { (number row : ℕ) (f : ToolFloor) (c : ControlJob) → Sound f → AreTogether f.jobs → AreStarted f.jobs
+        → AreUnaligned (picture f) → AreInKeptJobs f → control_numbered number f.jobs.control.jobs ≡ Some c
+        → control_starts row (Some c) (is_first_here number f) f.jobs ≡ true → is_one_of (4 ∷ 5 ∷ []) row ≡ true
+        → AreAutomatic number f.jobs → IsMaterialHere number f
+        → owed_to (counted_of number f) (picture (floor_fired (firing 15 number row) f)) ≡ 8 * number_of (counted_of number f) (picture f) }
+{}
+
+/// While it executes, its substrates stand undisturbed.
+pub fn its_substrates_stand_undisturbed()
+    ensures { (number : ℕ) (counted : ℕ → Bool) (f : ToolFloor) → Sound f → Executes number counted f → Undisturbed counted (picture f) }
+{}
+
+/// It executes on behind each row of table 14 that starts and doesn't disturb it, and as much is owed.
+pub fn it_executes_on_behind_rows_of_process_jobs()
+    ensures executes { (number : ℕ) (counted : ℕ → Bool) (f : ToolFloor) (n row : ℕ) (j : ProcessJob) → Sound f → AreTogether f.jobs
+        → AreStarted f.jobs → Executes number counted f → process_numbered n f.jobs.process.kept ≡ Some j
+        → floor_starts (firing 14 n row) f ≡ true → disturbs_process number j.id row f.jobs ≡ false
+        → Executes number counted (floor_fired (firing 14 n row) f) }
+    ensures as_much { (number : ℕ) (counted : ℕ → Bool) (f : ToolFloor) (n row : ℕ) (j : ProcessJob) → Sound f → AreTogether f.jobs
+        → AreStarted f.jobs → Executes number counted f → process_numbered n f.jobs.process.kept ≡ Some j
+        → floor_starts (firing 14 n row) f ≡ true → disturbs_process number j.id row f.jobs ≡ false
+        → owed_to counted (picture (floor_fired (firing 14 n row) f)) ≡ owed_to counted (picture f) }
+{}
+
+/// It executes on behind each row of table 15 that starts and doesn't disturb it, but for its completion, and as much is owed.
+pub fn it_executes_on_behind_rows_of_control_jobs()
+    ensures executes { (number : ℕ) (counted : ℕ → Bool) (f : ToolFloor) (m row : ℕ) (c : ControlJob) → Sound f → AreTogether f.jobs
+        → AreStarted f.jobs → Executes number counted f → control_numbered m f.jobs.control.jobs ≡ Some c
+        → control_starts row (Some c) (is_first_here m f) f.jobs ≡ true → disturbs_control number m row ≡ false
+        → is_completion number m row ≡ false → Executes number counted (floor_fired (firing 15 m row) f) }
+    ensures as_much { (counted : ℕ → Bool) (f : ToolFloor) (m row : ℕ)
+        → owed_to counted (picture (floor_fired (firing 15 m row) f)) ≡ owed_to counted (picture f) }
+{}
+
+/// Its completion is ready only where no Done is owed, and where none is owed some row is ready: at rest it has completed.
+pub fn it_completes_where_no_done_is_owed()
+    ensures ready { (number : ℕ) (counted : ℕ → Bool) (f : ToolFloor) (row : ℕ) (here : Bool) → Sound f → AreTogether f.jobs
+        → AreStarted f.jobs → Executes number counted f → control_ready (control_numbered number f.jobs.control.jobs) here f.jobs ≡ Some row
+        → owed_to counted (picture f) ≡ 0 }
+    ensures at_rest { (number : ℕ) (counted : ℕ → Bool) (f : ToolFloor) → Sound f → AreTogether f.jobs → AreStarted f.jobs
+        → Executes number counted f → floor_least f ≡ None → owed_to counted (picture f) ≡ 0 → ⊥ }
+{}
+
+/// It executes on behind the least row that is ready by itself, and as much is owed; or the row is its completion, and none is owed.
+pub fn the_least_row_leaves_as_much_owed_or_completes_it()
+    ensures { (number : ℕ) (counted : ℕ → Bool) (f : ToolFloor) (x : Firing) → Sound f → AreTogether f.jobs → AreStarted f.jobs
+        → Executes number counted f → floor_least f ≡ Some x → GoesOnOrCompletes number counted f x }
+{}
+
+/// Done of an open command takes one off: the one row of a Pick, a Place and an Align; of the two rows of a Process the first leaves
+/// as much owed, and the second, row 3 or 4 of table 13, takes one off.
+pub fn done_of_a_command_takes_one_off()
+    ensures moved { (number : ℕ) (counted : ℕ → Bool) (f : ToolFloor) (m : ℕ) (c : Command) (fetched : Bool) → Sound f
+        → Executes number counted f → module_at m f.modules ≡ Some (Busy c fetched)
+        → ((sub recipe : List ℕ) → c.task ≡ task.Process sub recipe → ⊥)
+        → TakesOneOff number counted f (floor_fired (firing 16 m (done_row c.task)) f) }
+    ensures closed { (number : ℕ) (counted : ℕ → Bool) (f : ToolFloor) (m : ℕ) (c : Command) (fetched : Bool) → Sound f
+        → Executes number counted f → module_at m f.modules ≡ Some (Busy c fetched)
+        → Executes number counted (floor_fired (firing 16 m 7) f) }
+    ensures closed_as_much { (number : ℕ) (counted : ℕ → Bool) (f : ToolFloor) (m : ℕ) (c : Command) (fetched : Bool) → Sound f
+        → Executes number counted f → module_at m f.modules ≡ Some (Busy c fetched)
+        → owed_to counted (picture (floor_fired (firing 16 m 7) f)) ≡ owed_to counted (picture f) }
+    ensures processed { (number : ℕ) (counted : ℕ → Bool) (f : ToolFloor) (n row d : ℕ) → SoundBut n f → Executes number counted f
+        → is_one_of (3 ∷ 4 ∷ []) row ≡ true → floor_starts (firing 13 n row) f ≡ true → (picture f).place_of n ≡ Some (chamber d)
+        → (picture f).jobs.is_member n ≡ true → TakesOneOff number counted f (floor_fired (firing 13 n row) f) }
+{}
+
+/// It executes on as jobs are created, as the order of the queue changes, and as the equipment fetches a command.
+pub fn it_executes_on_as_jobs_are_created()
+    ensures process { (number : ℕ) (counted : ℕ → Bool) (f : ToolFloor) (spec : JobSpec) → Sound f → AreTogether f.jobs
+        → AreStarted f.jobs → Executes number counted f → create_fault spec f.jobs.process ≡ None
+        → Executes number counted (with_jobs (with_process spec f.jobs) f) }
+    ensures control { (number : ℕ) (counted : ℕ → Bool) (f : ToolFloor) (name : List ℕ) (named : List (List ℕ)) (auto : Bool) → Sound f
+        → AreTogether f.jobs → AreStarted f.jobs → Executes number counted f → control_fault name named f.jobs ≡ None
+        → Executes number counted (with_jobs (with_control name named auto f.jobs) f) }
+    ensures head { (number : ℕ) (counted : ℕ → Bool) (f : ToolFloor) (name : List ℕ) → Sound f → AreTogether f.jobs → AreStarted f.jobs
+        → Executes number counted f → Executes number counted (with_jobs (record f.jobs { control = headed name f.jobs.control }) f) }
+    ensures fetched { (number : ℕ) (counted : ℕ → Bool) (f : ToolFloor) (m : ℕ) → Executes number counted f
+        → Executes number counted (fetched m f) }
+{}
+
+/// As an input comes it is at work and as much is owed, and so it is behind each row that a word fires, as jobs are created and as the
+/// order of the queue changes, or it is disturbed for good. Where all that the input does is calm it executes then, and as much is owed.
+pub fn an_input_leaves_it_at_work_or_disturbs_it_for_good()
+    ensures comes { (number : ℕ) (counted : ℕ → Bool) (f : ToolFloor) → Executes number counted f → WorksOrIsDisturbed number counted f f }
+    ensures word { (number : ℕ) (counted : ℕ → Bool) (before f : ToolFloor) (x : Firing) → InOrder f → is_word x ≡ true
+        → floor_starts x f ≡ true → WorksOrIsDisturbed number counted before f → WorksOrIsDisturbed number counted before (floor_fired x f) }
+    ensures process { (number : ℕ) (counted : ℕ → Bool) (before f : ToolFloor) (spec : JobSpec) → InOrder f
+        → create_fault spec f.jobs.process ≡ None → WorksOrIsDisturbed number counted before f
+        → WorksOrIsDisturbed number counted before (with_jobs (with_process spec f.jobs) f) }
+    ensures control { (number : ℕ) (counted : ℕ → Bool) (before f : ToolFloor) (name : List ℕ) (named : List (List ℕ)) (auto : Bool)
+        → InOrder f → control_fault name named f.jobs ≡ None → WorksOrIsDisturbed number counted before f
+        → WorksOrIsDisturbed number counted before (with_jobs (with_control name named auto f.jobs) f) }
+    ensures head { (number : ℕ) (counted : ℕ → Bool) (before f : ToolFloor) (name : List ℕ) → InOrder f
+        → WorksOrIsDisturbed number counted before f
+        → WorksOrIsDisturbed number counted before (with_jobs (record f.jobs { control = headed name f.jobs.control }) f) }
+    ensures executes { (number : ℕ) (counted : ℕ → Bool) (before f : ToolFloor) → WorksOrIsDisturbed number counted before f
+        → IsCalmBetween number counted before f → Executes number counted f }
+    ensures as_much { (number : ℕ) (counted : ℕ → Bool) (before f : ToolFloor) → WorksOrIsDisturbed number counted before f
+        → IsCalmBetween number counted before f → owed_to counted (picture f) ≡ owed_to counted (picture before) }
+{}
+
+/// Each substrate is in no process job, or in one that is kept: so it is as the tool begins, and behind each row of a process job.
+pub fn each_substrate_is_in_a_job_that_is_kept()
+    ensures opening { (ports chambers : ℕ) (recipes : List Recipe) → AreInKeptJobs (opening ports chambers recipes) }
+    ensures process { (f : ToolFloor) (n row : ℕ) (j : ProcessJob) → AreInKeptJobs f → Sound f
+        → process_numbered n f.jobs.process.kept ≡ Some j → AreInKeptJobs (floor_fired (firing 14 n row) f) }
+{}

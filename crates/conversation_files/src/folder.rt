@@ -34,8 +34,10 @@ fn is_played<P: Player>(
         Ok(None) => Ok(true),
         Ok(Some(why)) => {
             let name = section.name;
-            let _ = eprintln!(rt; "{file}, {name}: {why}");
-            Ok(false)
+            match eprintln!(rt; "{file}, {name}: {why}") {
+                Ok(()) => Ok(false),
+                Err(_) => bail!("its fault cannot be told"),
+            }
         }
         Err(why) => Err(why),
     }

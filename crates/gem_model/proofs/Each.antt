@@ -37,6 +37,7 @@ use Rattle.gem_model.specs.Act.{note_answered, closed_by, session_ended}
 use Rattle.gem_model.specs.Due.{timed_out}
 use Rattle.gem_model.specs.Direct.{Are, IsListed}
 use Rattle.gem_model.proofs.Listed.{listed_keeps, listed_floor, free_listed, IsEnd, listed_answer, listed_timeout, listed_ended, listed_disable}
+use Rattle.gem_model.proofs.Creating.{BecomesControl}
 use Rattle.gem_model.proofs.Walk.{Any, Inner, Kept, row_units, out_of, told_of}
 
 -- what keeps a fact of states through the ends of transactions and of sessions: each change that they make, and each row that they
@@ -67,7 +68,7 @@ pub record EachInner (P : State → Type 0) : Type 1 where
   pub came : (g : State) (port : ℕ) (name : Option (List ℕ)) (slots : List ℕ) → P g → P (with_arrival port name slots g)
   pub written : (g : State) (a : CarrierAction) → is_done_code (carrier_code a g.floor) ≡ true → P g → P (record g { floor = with_shop (carrier_written a g.floor.shop) g.floor })
   pub process : (g : State) (spec : JobSpec) → create_fault spec (jobs_of g).process ≡ None → P g → P (with_jobs_now (with_process spec (jobs_of g)) g)
-  pub control : (g : State) (s : JobStore) → P g → P (with_jobs_now (record (jobs_of g) { control = s }) g)
+  pub control : (g : State) (s : JobStore) → BecomesControl (jobs_of g) s → P g → P (with_jobs_now (record (jobs_of g) { control = s }) g)
   pub row : (g : State) (f : Firing) → IsListed f → row_starts g f ≡ true → P g → P (takes_effect g f)
   pub ready : (g : State) (f : Firing) → least g ≡ Some f → P g → P (fire g f)
   pub created : (g : State) (d : Firing) → is_creation d ≡ true → P g → P (fire g d)
@@ -132,7 +133,6 @@ module _ (P : State → Type 0) (each : EachInner P) where
     control = each.control;
     row = λ g f free starts at. each.row g f (free_listed f free) starts at;
     units = row_units P each.came each.alarms each.alarm each.event (λ g f floor starts at. each.row g f (listed_floor f floor) starts at) each.created;
-    ready = each.ready;
     created = each.created;
     answered = λ g h item test one found at. end_closed P (each_end P each) g h item one at;
     failed = λ g test one found at. each_timed_out g one at;
@@ -143,6 +143,7 @@ module _ (P : State → Type 0) (each : Each P) where
   pub each_kept : Kept Any P
   each_kept = record {
     inner = each_inner P each.inner;
+    ready = each.inner.ready;
     moment = each.moment;
     quitting = each.quitting;
     link = λ g l selected at. each.link g l at;

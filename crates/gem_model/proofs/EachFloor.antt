@@ -32,6 +32,7 @@ use Rattle.gem_model.proofs.OnFloor.{effect_as, starts_as}
 use Rattle.gem_model.proofs.Tests.{went, either_way, or_went, none_some}
 use Rattle.gem_model.proofs.FloorRows.{creation_is, effect_is, ready_is}
 use Rattle.gem_model.proofs.Each.{Each, each_kept}
+use Rattle.gem_model.proofs.Creating.{BecomesControl}
 use Rattle.gem_model.proofs.Walk.{Any, kept_step}
 
 -- ---- rows of other tables
@@ -72,7 +73,7 @@ pub record EachOnFloor (F : ToolFloor → Type 0) : Type 1 where
   pub came : (port : ℕ) (name : Option (List ℕ)) (slots : List ℕ) (f : ToolFloor) → F f → F (with_shop (came port (arrival_of port name slots f.shop.carriers) f.shop) f)
   pub written : (a : CarrierAction) (f : ToolFloor) → is_done_code (carrier_code a f) ≡ true → F f → F (with_shop (carrier_written a f.shop) f)
   pub process : (spec : JobSpec) (f : ToolFloor) → create_fault spec f.jobs.process ≡ None → F f → F (with_jobs (with_process spec f.jobs) f)
-  pub control : (s : JobStore) (f : ToolFloor) → F f → F (with_jobs (record f.jobs { control = s }) f)
+  pub control : (s : JobStore) (f : ToolFloor) → BecomesControl f.jobs s → F f → F (with_jobs (record f.jobs { control = s }) f)
 
 module _ (F : ToolFloor → Type 0) (each : EachOnFloor F) where
   -- it holds of the floor of a state
@@ -136,7 +137,7 @@ module _ (F : ToolFloor → Type 0) (each : EachOnFloor F) where
       came = λ g port name slots at. each.came port name slots g.floor at;
       written = λ g a is at. each.written a g.floor is at;
       process = λ g spec faultless at. each.process spec g.floor faultless at;
-      control = λ g s at. each.control s g.floor at;
+      control = λ g s becomes at. each.control s g.floor becomes at;
       row = λ g f listed is at. subst Holds (sym (effect_as g f)) (by_tables (f.row.table == 1) (f.row.table == 2) (f.row.table == 3) f f.row.row g (sym (starts_as g f) ∙ is) at);
       ready = λ g f ready at. at_automatic g f ready at;
       created = λ g d is at. at_creation g d is at;

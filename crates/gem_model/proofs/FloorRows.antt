@@ -1,5 +1,5 @@
 -- The rows of the load ports and the carriers: what they leave alone, whether an input fires them or they fire by themselves.
-use Rattle.std.proofs.Common.{◌≡◌, ℕ, ◌+◌, ◌*◌, ◌==◌, Bool, true, false, ◌&&◌, ◌||◌, if◌then◌else◌, List, [], ◌∷◌, ◌++◌, Option, Some, None, refl, sym, subst, ◌∙◌, Result, Ok, Err}
+use Rattle.std.proofs.Common.{◌≡◌, ℕ, ◌+◌, ◌*◌, ◌==◌, Bool, true, false, if◌then◌else◌, List, [], ◌∷◌, ◌++◌, Option, Some, None, refl, sym, subst, ◌∙◌, Result, Ok, Err}
 use Rattle.gem_tables.specs.Table.{firing, is_one_of}
 use Rattle.gem_tables.specs.declared.firing.Firing.{Firing}
 use Rattle.gem_rows.specs.Events.{ceid_of}
@@ -65,11 +65,18 @@ pub record IsFloorRow (f : Firing) : Type 0 where
 abbrev pub AreFloorRows : List Firing → Type 0
 AreFloorRows fs = Are IsFloorRow fs
 
--- a row of the floor that inputs list by itself: 1 and 2 of table 4, those of tables 5, 6, 14 and 15, and 10 of table 16
-abbrev pub is_alone : Firing → Bool
-is_alone f =
-    ((f.row.table == 4) && ((f.row.row == 1) || (f.row.row == 2)))
-    || ((f.row.table == 5) || ((f.row.table == 6) || (is_one_of (14 ∷ 15 ∷ []) f.row.table || ((f.row.table == 16) && (f.row.row == 10)))))
+-- a row that an input fires by itself, and keeps what holds of the floor wherever it starts: one of tables 1 to 3, or of the floor these
+pub data IsOfInput (x : Firing) : Type 0 where
+  input_line : is_one_of (1 ∷ 2 ∷ 3 ∷ []) x.row.table ≡ true → IsOfInput x
+  input_transfer : (n row : ℕ) → is_one_of (1 ∷ 2 ∷ []) row ≡ true → x ≡ firing 4 n row → IsOfInput x
+  input_access : (n row : ℕ) → x ≡ firing 5 n row → IsOfInput x
+  input_reservation : (n row : ℕ) → x ≡ firing 6 n row → IsOfInput x
+  input_binding : (n : ℕ) → x ≡ firing 7 n 1 → IsOfInput x
+  input_name : (n row : ℕ) → is_one_of (1 ∷ 4 ∷ 5 ∷ []) row ≡ true → x ≡ firing 8 n row → IsOfInput x
+  input_map : (n row : ℕ) → is_one_of (3 ∷ 4 ∷ []) row ≡ true → x ≡ firing 9 n row → IsOfInput x
+  input_process : (n row : ℕ) → is_one_of (1 ∷ 5 ∷ 8 ∷ 10 ∷ 11 ∷ 12 ∷ 15 ∷ []) row ≡ true → x ≡ firing 14 n row → IsOfInput x
+  input_control : (n row : ℕ) → is_one_of (1 ∷ 5 ∷ 6 ∷ 7 ∷ 9 ∷ 10 ∷ 11 ∷ 12 ∷ []) row ≡ true → x ≡ firing 15 n row → IsOfInput x
+  input_module : (n : ℕ) → x ≡ firing 16 n 10 → IsOfInput x
 
 pub effect_is : (g : State) (f : Firing) → IsFloorRow f → takes_effect g f ≡ fire_floor f g
 effect_is g f is = effect_as g f ∙ rw (is.not_1, is.not_2, is.not_3) refl

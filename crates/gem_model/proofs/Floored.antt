@@ -34,7 +34,7 @@ shop_each = record {
   came = λ port name slots f valid. came-keeps port (arrival_of port name slots f.shop.carriers) f.shop valid;
   written = λ a f is valid. written-keeps a f.shop (done_by_jobs a f is) valid;
   process = λ spec f faultless valid. valid;
-  control = λ s f valid. valid;
+  control = λ s f becomes valid. valid;
 }
 
 -- those of a state

@@ -147,7 +147,7 @@ lined_each g = record {
     came = λ h port name slots lined. lined;
     written = λ h a is lined. lined;
     process = λ h spec faultless lined. lined;
-    control = λ h s lined. lined;
+    control = λ h s becomes lined. lined;
     row = λ h f listed is lined. lined_then g h (takes_effect h f) lined (subst (Lined h) (sym (effect_as h f)) (by_tables (f.row.table == 1) (f.row.table == 2) (f.row.table == 3) f f.row.row h listed (sym (starts_as h f) ∙ is)));
     ready = λ h f ready lined. lined_then g h (fire h f) lined (lined_automatic h f ready);
     created = λ h d is lined. lined_then g h (fire h d) lined (lined_creation h d is);

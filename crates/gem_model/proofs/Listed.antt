@@ -1,7 +1,7 @@
 -- The rows that an input lists: of table 3 they are those that inputs fire. Free are those that no transaction's end fires, and of the
 -- floor those that inputs list by themselves.
 use Rattle.msgs_300.specs.Primaries.{Message, S3F17, S3F25, S3F27, S14F9, S16F5, S16F11, S16F17, S16F19, S16F21, S16F27}
-use Rattle.std.proofs.Common.{◌≡◌, ℕ, ◌+◌, ◌*◌, ◌==◌, Bool, true, false, if◌then◌else◌, List, [], ◌∷◌, ◌++◌, Option, refl, sym, ◌∙◌, is_some, Result, Ok, Err, Some, None}
+use Rattle.std.proofs.Common.{◌≡◌, ℕ, ◌+◌, ◌*◌, ◌==◌, Bool, true, false, if◌then◌else◌, List, [], ◌∷◌, ◌++◌, Option, refl, sym, ◌∙◌, ap, subst, is_some, Result, Ok, Err, Some, None}
 use Rattle.secs_items.specs.Data.{Data}
 use Rattle.gem_primaries.specs.declared.primary.GemMsg.{GemMsg}
 use Rattle.gem_primaries.specs.declared.primary.GemMsg.TheVariants as msg
@@ -15,11 +15,11 @@ use Rattle.transactions.specs.declared.transaction.What.{What}
 use Rattle.transactions.specs.declared.transaction.What.TheVariants as what
 use Rattle.transactions.specs.Endings.{first_of}
 use Rattle.tool_events.specs.declared.event.JobWord.{JobWord}
-use Rattle.tool_events.specs.declared.event.JobWord.TheVariants.{Cancel}
+use Rattle.tool_events.specs.declared.event.JobWord.TheVariants.{Start, Pause, Resume, Stop, Abort, Cancel}
 use Rattle.process_job.specs.Commands.{row_of}
 use Rattle.process_job.specs.Jobs.{job_named as process_named}
 use Rattle.process_job.specs.declared.job.ProcessJob.{ProcessJob}
-use Rattle.control_job.specs.Commands.{command_answer}
+use Rattle.control_job.specs.Commands.{act_of, can_act, answer, command_answer}
 use Rattle.control_job.specs.Jobs.{job_named as control_named}
 use Rattle.control_job.specs.declared.command.CtlAct.{CtlAct}
 use Rattle.control_job.specs.declared.command.CtlAct.TheVariants.{Row, Head}
@@ -44,8 +44,8 @@ use Rattle.gem_model.specs.HostMessages.{HostMessage, Gem, Shop}
 use Rattle.gem_model.specs.Messages.{done, gem_done, shop_done, port_done, remote_done}
 use Rattle.gem_model.specs.Spooling.{unload_rows}
 use Rattle.gem_model.specs.Direct.{Are, IsListed, by_comm, by_control, note_fails, attempt_fails, all_fail, operator_rows, answer_rows, timeout_rows, session_end_rows, establish_answer, attempt_answer}
-use Rattle.gem_model.proofs.Tests.{either_way}
-use Rattle.gem_model.proofs.FloorRows.{IsFloorRow, AreFloorRows, is_alone, module_are, shop_are, port_are, service_are, access_are, advanced_keeps, command_are, control_rows_are}
+use Rattle.gem_model.proofs.Tests.{went, either_way}
+use Rattle.gem_model.proofs.FloorRows.{IsFloorRow, AreFloorRows, IsOfInput, input_transfer, input_access, input_reservation, input_process, input_control, input_module, module_are, shop_are, port_are, service_are, access_are, advanced_keeps, command_are, control_rows_are}
 use Rattle.load_port.specs.declared.action.PortAction.{PortAction}
 use Rattle.load_port.specs.declared.action.PortAction.TheVariants as ask
 use Rattle.load_port.specs.declared.caack.Caack.{Caack}
@@ -69,7 +69,7 @@ pub data IsFree (f : Firing) : Type 0 where
   free_elsewhere : (row : ℕ) → control_starts row Attempt ≡ false → ((g : State) → control_effect row g ≡ g) → f ≡ firing 2 0 row → IsFree f
   free_unload : f ≡ firing 3 0 4 → IsFree f
   free_purge : f ≡ firing 3 0 5 → IsFree f
-  free_floor : IsFloorRow f → is_alone f ≡ true → IsFree f
+  free_floor : IsFloorRow f → IsOfInput f → IsFree f
 
 -- each of these firings is of a free row
 abbrev pub AreFree : List Firing → Type 0
@@ -153,9 +153,9 @@ free_listed f (free_unload same) is = rw same refl
 free_listed f (free_purge same) is = rw same refl
 free_listed f (free_floor floor alone) is = listed_floor f floor is
 
--- each of these firings is of a row that inputs list by itself
+-- each of these firings is of a row that an input fires by itself
 abbrev AreAlone : List Firing → Type 0
-AreAlone fs = Are (λ (f : Firing). is_alone f ≡ true) fs
+AreAlone fs = Are IsOfInput fs
 
 of_floor : (fs : List Firing) → AreFloorRows fs → AreAlone fs → AreFree fs
 of_floor [] are alone = tt
@@ -180,13 +180,13 @@ pub free_remote : (g : State) → AreFree (by_control trigger.Remote g)
 free_remote g = elsewhere 10 refl (λ g. refl)
 
 pub free_service : (port : ℕ) (on : Bool) (g : State) → AreFree (at_port 4 (if on then 1 else 2) port)
-free_service port on g = of_floor (at_port 4 (if on then 1 else 2) port) (service_are on port) (either_way (λ (row : ℕ). AreAlone (at_port 4 row port)) on 1 2 (refl, tt) (refl, tt))
+free_service port on g = of_floor (at_port 4 (if on then 1 else 2) port) (service_are on port) (either_way (λ (row : ℕ). AreAlone (at_port 4 row port)) on 1 2 (input_transfer port 1 refl refl, tt) (input_transfer port 2 refl refl, tt))
 
 pub free_access : (port : ℕ) (auto : Bool) (g : State) → AreFree (at_port 5 (if auto then 1 else 2) port)
-free_access port auto g = of_floor (at_port 5 (if auto then 1 else 2) port) (access_are auto port) (refl, tt)
+free_access port auto g = of_floor (at_port 5 (if auto then 1 else 2) port) (access_are auto port) (input_access port (if auto then 1 else 2) refl, tt)
 
 pub free_up : (number : ℕ) → AreFree (at_module 10 number)
-free_up number = of_floor (at_module 10 number) (module_are 10 number) (refl, tt)
+free_up number = of_floor (at_module 10 number) (module_are 10 number) (input_module number refl, tt)
 
 -- a message of streams 14 and 16
 abbrev pub is_of_jobs : Message → Bool
@@ -196,21 +196,58 @@ is_of_jobs (S3F27 mode numbers) = false
 is_of_jobs _ = true
 
 -- those of commands to jobs, and of what else the host asks of them
-alone_process : (row : ℕ) (o : Option ProcessJob) → AreAlone (at_process row o)
-alone_process row None = tt
-alone_process row (Some j) = (refl, tt)
+is_process_row : (word : JobWord) → is_one_of (1 ∷ 5 ∷ 8 ∷ 10 ∷ 11 ∷ 12 ∷ 15 ∷ []) (row_of word) ≡ true
+is_process_row Start = refl
+is_process_row Pause = refl
+is_process_row Resume = refl
+is_process_row Stop = refl
+is_process_row Abort = refl
+is_process_row Cancel = refl
 
-alone_control : (row : ℕ) (o : Option ControlJob) → AreAlone (at_control row o)
-alone_control row None = tt
-alone_control row (Some c) = (refl, tt)
+alone_process : (word : JobWord) (o : Option ProcessJob) → AreAlone (at_process (row_of word) o)
+alone_process word None = tt
+alone_process word (Some j) = (input_process j.number (row_of word) (is_process_row word) refl, tt)
+
+-- the row is one that a command on a control job fires
+abbrev IsControlRow : ℕ → Type 0
+IsControlRow row = is_one_of (1 ∷ 5 ∷ 6 ∷ 7 ∷ 9 ∷ 10 ∷ 11 ∷ 12 ∷ []) row ≡ true
+
+control_row_is : (n row : ℕ) → IsControlRow n → Some (Row n) ≡ Some (Row row) → IsControlRow row
+control_row_is n row is e = let same : n ≡ row = cc in subst IsControlRow same is
+
+act_is_row : (command row : ℕ) → act_of command ≡ Some (Row row) → IsControlRow row
+act_is_row command row e =
+    went (command == 1) _ _ _ (λ _ e. control_row_is 5 row refl e) (λ _ e.
+    went (command == 2) _ _ _ (λ _ e. control_row_is 6 row refl e) (λ _ e.
+    went (command == 3) _ _ _ (λ _ e. control_row_is 7 row refl e) (λ _ e.
+    went (command == 4) _ _ _ (λ _ e. control_row_is 9 row refl e) (λ _ e.
+    went (command == 5) _ _ _ (λ _ e. control_row_is 10 row refl e) (λ _ e.
+    went (command == 6) _ _ _ (λ _ e. control_row_is 11 row refl e) (λ _ e.
+    went (command == 7) _ _ _ (λ _ e. control_row_is 12 row refl e) (λ _ e.
+    went (command == 8) (Some Head) None (Some (Row row)) (λ _ e. absurd (cc)) (λ _ e. absurd (cc)) e) e) e) e) e) e) e) e
+
+-- what is answered of such a command
+answer_is_row : (a : Option CtlAct) (o : Option ControlJob) (row : ℕ) → ((n : ℕ) → a ≡ Some (Row n) → IsControlRow n) → answer a o ≡ Ok (Row row) → IsControlRow row
+answer_is_row None o row acts e = absurd (cc)
+answer_is_row (Some act) None row acts e = absurd (cc)
+answer_is_row (Some act) (Some c) row acts e =
+    went (can_act act c) (Ok act) (Err 2) (Ok (Row row)) (λ _ e. acts row (let same : act ≡ Row row = cc in ap (λ (x : CtlAct). Some x) same)) (λ _ e. absurd (cc)) e
+
+alone_control : (row : ℕ) (o : Option ControlJob) → IsControlRow row → AreAlone (at_control row o)
+alone_control row None is = tt
+alone_control row (Some c) is = (input_control c.number row is refl, tt)
 
 pub free_command : (job : List ℕ) (word : JobWord) (w : Jobs) → AreFree (command_rows job word w)
-free_command job word w = of_floor (command_rows job word w) (command_are job word w) (alone_process (row_of word) (process_named job w.process.kept))
+free_command job word w = of_floor (command_rows job word w) (command_are job word w) (alone_process word (process_named job w.process.kept))
 
-pub free_control : (job : List ℕ) (a : Result CtlAct ℕ) (w : Jobs) → AreFree (control_command_rows job a w)
-free_control job (Ok (Row row)) w = of_floor (control_command_rows job (Ok (Row row)) w) (control_rows_are job (Ok (Row row)) w) (alone_control row (control_named job w.control.jobs))
-free_control job (Ok Head) w = tt
-free_control job (Err code) w = tt
+pub free_control : (job : List ℕ) (command : ℕ) (w : Jobs) → AreFree (control_command_rows job (command_answer job command w.control.jobs) w)
+free_control job command w = of (command_answer job command w.control.jobs) refl where
+  of : (a : Result CtlAct ℕ) → command_answer job command w.control.jobs ≡ a → AreFree (control_command_rows job a w)
+  of (Ok (Row row)) is =
+      of_floor (control_command_rows job (Ok (Row row)) w) (control_rows_are job (Ok (Row row)) w)
+      (alone_control row (control_named job w.control.jobs) (answer_is_row (act_of command) (control_named job w.control.jobs) row (act_is_row command) is))
+  of (Ok Head) is = tt
+  of (Err code) is = tt
 
 free_word : (job : List ℕ) (o : Option JobWord) (w : Jobs) → AreFree (rows_of_command job o w)
 free_word job None w = tt
@@ -221,10 +258,10 @@ free_cancel [] w = tt
 free_cancel (n ∷ names) w = are_both IsFree (command_rows n Cancel w) (cancel_rows names w) (free_command n Cancel w) (free_cancel names w)
 
 free_process : (w : Jobs) → AreFree (process_rows w)
-free_process w = (free_floor (record { not_1 = refl; not_2 = refl; not_3 = refl }) refl, tt)
+free_process w = (free_floor (record { not_1 = refl; not_2 = refl; not_3 = refl }) (input_process (w.process.given + 1) 1 refl refl), tt)
 
 free_creation : (w : Jobs) → AreFree (creation_rows_of w)
-free_creation w = (free_floor (record { not_1 = refl; not_2 = refl; not_3 = refl }) refl, tt)
+free_creation w = (free_floor (record { not_1 = refl; not_2 = refl; not_3 = refl }) (input_control (w.control.given + 1) 1 refl refl), tt)
 
 free_asked : (g : State) (r : ShopReply) (e : Option JobError) (w : Jobs) (rows : List Firing) → AreFree rows → AreFree (asked_of_jobs g r e w rows).rows
 free_asked g r (Some e) w rows free = tt
@@ -241,7 +278,7 @@ free_jobs (S16F11 dataid job material recipe start events) g e = free_asked g _ 
 free_jobs (S16F17 jobs) g e = free_asked g _ (cancel_error (is_local g.control) jobs (jobs_of g)) _ (cancel_rows (cancelled jobs (jobs_of g)) (jobs_of g)) (free_cancel (cancelled jobs (jobs_of g)) (jobs_of g))
 free_jobs S16F19 g e = tt
 free_jobs S16F21 g e = tt
-free_jobs (S16F27 job command value) g e = free_asked g _ (control_command_error (is_local g.control) job command (jobs_of g)) _ (control_command_rows job (command_answer job command (jobs_of g).control.jobs) (jobs_of g)) (free_control job (command_answer job command (jobs_of g).control.jobs) (jobs_of g))
+free_jobs (S16F27 job command value) g e = free_asked g _ (control_command_error (is_local g.control) job command (jobs_of g)) _ (control_command_rows job (command_answer job command (jobs_of g).control.jobs) (jobs_of g)) (free_control job command (jobs_of g))
 
 free_decided : (d : Decision) (g : State) → AreFree (remote_done g d).rows
 free_decided (refused code faults) g = tt
@@ -268,11 +305,11 @@ free_gem _ g = tt
 -- those of an action on ports
 alone_ports : (row : ℕ) (numbers : List ℕ) → AreAlone (at_ports 5 row numbers)
 alone_ports row [] = tt
-alone_ports row (n ∷ ns) = (refl, alone_ports row ns)
+alone_ports row (n ∷ ns) = (input_access n row refl, alone_ports row ns)
 
 alone_action : (a : PortAction) (f : Floor) → AreAlone (port_rows a f)
-alone_action (ask.Reserve number) f = (refl, tt)
-alone_action (ask.CancelReserve number) f = (refl, tt)
+alone_action (ask.Reserve number) f = (input_reservation number 1 refl, tt)
+alone_action (ask.CancelReserve number) f = (input_reservation number 2 refl, tt)
 alone_action (ask.Access mode numbers) f = alone_ports (mode_row mode) (or_all numbers f)
 alone_action ask.Unknown f = tt
 

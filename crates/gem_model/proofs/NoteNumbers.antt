@@ -478,15 +478,15 @@ both_kept = record {
     fetched = λ g number both. both;
     written = λ g a is both. both;
     process = λ g spec faultless both. both;
-    control = λ g s both. both;
+    control = λ g s becomes both. both;
     row = λ g f free is both. (few_kept.inner.row g f free is both.0, own_row g f free both.1);
     units = alone_units Both both_alone (λ g a both. both) both_alarm;
-    ready = λ g f ready both. (few_kept.inner.ready g f ready both.0, own_automatic g f ready both.0 both.1);
     created = λ g d is both. alone_fire Both both_alone g d (creation_is d is) both;
     answered = λ g h item test one found both. (few_kept.inner.answered g h item test one found both.0, own_closed g h item test (Some one) found both.1);
     failed = λ g test one found both. (few_kept.inner.failed g test one found both.0, own_timed_out g test one found both.1);
     disabled = λ g both. (few_kept.inner.disabled g both.0, own_disabled g both.0 both.1);
   };
+  ready = λ g f ready both. (few_kept.ready g f ready both.0, own_automatic g f ready both.0 both.1);
   moment = λ g m both. both;
   quitting = λ g both. both;
   link = λ g l selected both. (few_kept.link g l selected both.0, both.1);

@@ -571,15 +571,15 @@ few_kept = record {
     fetched = λ g number few. few;
     written = λ g a is few. few;
     process = λ g spec faultless few. few;
-    control = λ g s few. few;
+    control = λ g s becomes few. few;
     row = few_row;
     units = alone_units Few few_alone (λ g a few. few) few_alarm;
-    ready = few-automatic;
     created = few_creation;
     answered = λ g h item test one found few. few-closed g h item test (Some one) found few;
     failed = λ g test one found few. few-timed_out g test one found few;
     disabled = few-disabled;
   };
+  ready = few-automatic;
   moment = λ g m few. few;
   quitting = λ g few. few;
   link = few_link;

@@ -127,7 +127,7 @@ same_each g = record {
   came = λ h port name slots same. record { config = same.config; link = same.link; quitting = same.quitting };
   written = λ h a is same. record { config = same.config; link = same.link; quitting = same.quitting };
   process = λ h spec faultless same. record { config = same.config; link = same.link; quitting = same.quitting };
-  control = λ h s same. record { config = same.config; link = same.link; quitting = same.quitting };
+  control = λ h s becomes same. record { config = same.config; link = same.link; quitting = same.quitting };
   row = λ h f listed is same. same_then g h (takes_effect h f) same (same_effect h f);
   ready = λ h f ready same. same_then g h (fire h f) same (same_fire h f);
   created = same_created g;

@@ -25,7 +25,7 @@ use Rattle.tool_jobs.specs.Creating.{with_process}
 use Rattle.job_requests.specs.declared.error.JobError.{JobError}
 use Rattle.job_requests.specs.Requests.{command_named, command_error, asked_process, process_error, asked_control, request_error, cancel_error, control_command_error, control_after}
 use Rattle.gem_model.specs.JobMessages.{jobs_of, with_jobs_now, asked_of_jobs}
-use Rattle.gem_model.proofs.Creating.{faultless}
+use Rattle.gem_model.proofs.Creating.{BecomesControl, one_added, one_headed, faultless, control_faultless}
 use Rattle.gem_model.proofs.Links.{link_after-keeps}
 use Rattle.secs_items.specs.Data.{Data}
 use Rattle.gem_primaries.specs.declared.primary.GemMsg.{GemMsg}
@@ -131,18 +131,25 @@ pub record Inner (Rest : Event → State → Type 0) (P : State → Type 0) : Ty
   pub written : (g : State) (a : CarrierAction) → is_done_code (carrier_code a g.floor) ≡ true → P g → P (record g { floor = with_shop (carrier_written a g.floor.shop) g.floor })
   -- a process job is created against which no fault stands, and the control jobs change
   pub process : (g : State) (spec : JobSpec) → create_fault spec (jobs_of g).process ≡ None → P g → P (with_jobs_now (with_process spec (jobs_of g)) g)
-  pub control : (g : State) (s : JobStore) → P g → P (with_jobs_now (record (jobs_of g) { control = s }) g)
+  pub control : (g : State) (s : JobStore) → BecomesControl (jobs_of g) s → P g → P (with_jobs_now (record (jobs_of g) { control = s }) g)
   pub row : (g : State) (f : Firing) → IsFree f → row_starts g f ≡ true → P g → P (takes_effect g f)
   pub units : Units Rest P
-  pub ready : (g : State) (f : Firing) → least g ≡ Some f → P g → P (fire g f)
   pub created : (g : State) (d : Firing) → is_creation d ≡ true → P g → P (fire g d)
   pub answered : (g : State) (h : Header) (item : Option Data) (test : Open → Bool) (one : Open) → find test g.transactions.opened ≡ Some one → P g → P (closed_by h item (Some one) g)
   pub failed : (g : State) (test : Open → Bool) (one : Open) → find test g.transactions.opened ≡ Some one → P g → P (timed_out one g)
   pub disabled : (g : State) → P g → P (fires (operator_rows oper.Disable) g)
 
--- the same of all that a step changes
+-- the same of all that an event changes before the tool settles
+pub record Acting (Rest : Event → State → Type 0) (P : State → Type 0) : Type 1 where
+  pub inner : Inner Rest P
+  pub quitting : (g : State) → P g → P (record g { quitting = true })
+  pub link : (g : State) (l : LinkState) → (links.is_selected g.link.phase ≡ true → links.is_selected l.phase ≡ true) → P g → P (record g { link = l })
+  pub ended : (g : State) → P g → P (session_ended g)
+
+-- and of all that a step changes
 pub record Kept (Rest : Event → State → Type 0) (P : State → Type 0) : Type 1 where
   pub inner : Inner Rest P
+  pub ready : (g : State) (f : Firing) → least g ≡ Some f → P g → P (fire g f)
   pub moment : (g : State) (m : ℕ) → P g → P (record g { moment = m })
   pub quitting : (g : State) → P g → P (record g { quitting = true })
   pub link : (g : State) (l : LinkState) → (links.is_selected g.link.phase ≡ true → links.is_selected l.phase ≡ true) → P g → P (record g { link = l })
@@ -221,8 +228,8 @@ module _ (Rest : Event → State → Type 0) (P : State → Type 0) (inner : Inn
   pub kept_listed : (fs : List Firing) → Are IsFree fs → (g : State) → P g → P (fire_listed fs g)
   kept_listed fs free g at = listed_keeps P IsFree inner.event inner.row inner.created fs free g at
 
-  pub kept_settled : (g : State) → P g → P (settled g)
-  kept_settled g at = settled_keeps P inner.ready inner.created g at
+  pub kept_settled : ((h : State) (f : Firing) → least h ≡ Some f → P h → P (fire h f)) → (g : State) → P g → P (settled g)
+  kept_settled ready g at = settled_keeps P ready inner.created g at
 
   kept_set : (g : State) (alid : ℕ) → P g → P (sets_alarm alid g)
   kept_set g alid at = set_keeps P inner.alarms inner.alarm g alid at
@@ -262,7 +269,7 @@ module _ (Rest : Event → State → Type 0) (P : State → Type 0) (inner : Inn
   kept_jobs g r None w rows at behind = behind refl
 
   kept_headed : (g : State) (job : List ℕ) (a : Result CtlAct ℕ) → P g → P (with_jobs_now (control_after job a (jobs_of g)) g)
-  kept_headed g job (Ok Head) at = inner.control g _ at
+  kept_headed g job (Ok Head) at = inner.control g _ (one_headed job) at
   kept_headed g job (Ok (Row row)) at = at
   kept_headed g job (Err code) at = at
 
@@ -270,7 +277,10 @@ module _ (Rest : Event → State → Type 0) (P : State → Type 0) (inner : Inn
   kept_shop (S3F17 dataid action carrier number attributes) g at = kept_action (carrier_action action carrier number attributes) g at
   kept_shop (S3F25 action number value) g at = at
   kept_shop (S3F27 mode numbers) g at = at
-  kept_shop (S14F9 object type attributes) g at = kept_jobs g _ (request_error (is_local g.control) type (asked_control attributes) (jobs_of g)) _ _ at (λ _. inner.control g _ at)
+  kept_shop (S14F9 object type attributes) g at =
+      let r = asked_control attributes in
+      kept_jobs g _ (request_error (is_local g.control) type r (jobs_of g)) _ _ at
+      (λ none. inner.control g _ (one_added r.name r.jobs r.auto (control_faultless (is_local g.control) type r (jobs_of g) none)) at)
   kept_shop (S16F5 dataid job command value) g at = kept_jobs g _ (command_error (is_local g.control) job (command_named command) (jobs_of g)) _ _ at (λ _. at)
   kept_shop (S16F11 dataid job material recipe start events) g at = kept_jobs g _ (process_error (is_local g.control) (asked_process job material recipe.0 start) events (jobs_of g)) _ _ at (λ none. inner.process g (asked_process job material recipe.0 start) (faultless (is_local g.control) (asked_process job material recipe.0 start) events (jobs_of g) none) at)
   kept_shop (S16F17 jobs) g at = kept_jobs g _ (cancel_error (is_local g.control) jobs (jobs_of g)) _ _ at (λ _. at)
@@ -391,7 +401,7 @@ module _ (Rest : Event → State → Type 0) (P : State → Type 0) (inner : Inn
   pub kept_expired : (g h : State) → h.transactions.opened ≡ g.transactions.opened → P h → P (all_done (timeouts g) h)
   kept_expired g h same at = kept_timeouts (length g.transactions.opened) g.moment g.transactions.opened (first_expired g.moment g.transactions.opened) h same refl at
 
-module _ (Rest : Event → State → Type 0) (P : State → Type 0) (kept : Kept Rest P) where
+module _ (Rest : Event → State → Type 0) (P : State → Type 0) (kept : Acting Rest P) where
   abbrev KeptTo : Outcome → Type 0
   KeptTo o = P o.after
 
@@ -415,7 +425,7 @@ module _ (Rest : Event → State → Type 0) (P : State → Type 0) (kept : Kept
   kept_operated (oper.Job job word) g rest at = kept_by_rows Rest P kept.inner (oper.Job job word) g (free_command job word (jobs_of g)) at
   kept_operated (oper.CtlJob job command) g rest at =
       let h = switched (oper.CtlJob job command) g in
-      kept_by_rows Rest P kept.inner (oper.CtlJob job command) g (free_control job (command_answer job command (jobs_of h).control.jobs) (jobs_of h)) at
+      kept_by_rows Rest P kept.inner (oper.CtlJob job command) g (free_control job command (jobs_of h)) at
 
   kept_linktest : (g : State) → P g → P (asks_linktest g)
   kept_linktest g at = kept.inner.waiting (record (record g { transactions = _ }) { link = _ }) _ (kept.link (record g { transactions = _ }) _ (λ is. is) (kept.inner.drawn g _ refl at))
@@ -443,30 +453,37 @@ module _ (Rest : Event → State → Type 0) (P : State → Type 0) (kept : Kept
   kept_command g number None o at here = none_some o here
   kept_command g number (Some command) o at here = the_kept _ o (kept.inner.fetched g number at) here
 
-  pub kept_acts : (before : ℕ) (g : State) (e : Event) (o : Outcome) → Rest e g → P g → acts before g e ≡ Some o → KeptTo o
-  kept_acts before g event.LinkUp o rest at here = went (is_up g) _ _ _ (λ _ e. the_kept _ o at e) (λ down e. the_kept _ o (kept.link g _ (λ is. absurd (true≢false (sym is ∙ not_selected g.link.phase down))) at) e) here
-  kept_acts before g (event.LinkDown session cause) o rest at here = went (is_session_up g session) _ _ _ (λ _ e. the_kept _ o (kept.ended g at) e) (λ _ e. the_kept _ o at e) here
-  kept_acts before g (event.Host session arrival) o rest at here =
+  pub kept_input : (before : ℕ) (g : State) (e : Event) (o : Outcome) → Rest e g → P g → acts before g e ≡ Some o → KeptTo o
+  kept_input before g event.LinkUp o rest at here = went (is_up g) _ _ _ (λ _ e. the_kept _ o at e) (λ down e. the_kept _ o (kept.link g _ (λ is. absurd (true≢false (sym is ∙ not_selected g.link.phase down))) at) e) here
+  kept_input before g (event.LinkDown session cause) o rest at here = went (is_session_up g session) _ _ _ (λ _ e. the_kept _ o (kept.ended g at) e) (λ _ e. the_kept _ o at e) here
+  kept_input before g (event.Host session arrival) o rest at here =
       went (is_session_up g session) _ _ _
       (λ _ e. the_kept _ o (kept_hosted (linked g (header_of arrival)) arrival (link_act (header_of arrival) g.link) (kept.link g _ (link_after-keeps (header_of arrival) g.moment g.link).selected at)) e)
       (λ _ e. the_kept _ o at e) here
-  kept_acts before g (event.Take session) o rest at here = went (is_session_up g session) _ _ _ (λ _ e. kept_frame g g.waiting o at e) (λ _ e. the_kept _ o at e) here
-  kept_acts before g (event.Oper command) o rest at here = the_kept (operated command g) o (kept_operated command g rest at) here
-  kept_acts before g (event.Signal signal) o rest at here = the_kept _ o (kept_signalled Rest P kept.inner signal g rest at) here
-  kept_acts before g (event.Fetch m) o rest at here = kept_command g m.0 (unfetched (module_of m.0 g)) o at here
-  kept_acts before g event.Tick o rest at here = went (is_due before g) _ _ _ (λ _ e. the_kept _ o (kept_due g (due_at (link_times g) g.link g.moment) at) e) (λ _ e. none_some o e) here
-  kept_acts before g event.Listen o rest at here = none_some o here
-  kept_acts before g (event.Watch port) o rest at here = went (is_ready_to_unload port.0 g) _ _ _ (λ _ e. the_kept _ o at e) (λ _ e. none_some o e) here
+  kept_input before g (event.Take session) o rest at here = went (is_session_up g session) _ _ _ (λ _ e. kept_frame g g.waiting o at e) (λ _ e. the_kept _ o at e) here
+  kept_input before g (event.Oper command) o rest at here = the_kept (operated command g) o (kept_operated command g rest at) here
+  kept_input before g (event.Signal signal) o rest at here = the_kept _ o (kept_signalled Rest P kept.inner signal g rest at) here
+  kept_input before g (event.Fetch m) o rest at here = kept_command g m.0 (unfetched (module_of m.0 g)) o at here
+  kept_input before g event.Tick o rest at here = went (is_due before g) _ _ _ (λ _ e. the_kept _ o (kept_due g (due_at (link_times g) g.link g.moment) at) e) (λ _ e. none_some o e) here
+  kept_input before g event.Listen o rest at here = none_some o here
+  kept_input before g (event.Watch port) o rest at here = went (is_ready_to_unload port.0 g) _ _ _ (λ _ e. the_kept _ o at e) (λ _ e. none_some o e) here
 
-  kept_mapped : (x : Option Outcome) (o : Outcome) → ((p : Outcome) → x ≡ Some p → KeptTo p) → option_map settles x ≡ Some o → KeptTo o
+module _ (Rest : Event → State → Type 0) (P : State → Type 0) (kept : Kept Rest P) where
+  acting : Acting Rest P
+  acting = record { inner = kept.inner; quitting = kept.quitting; link = kept.link; ended = kept.ended }
+
+  pub kept_acts : (before : ℕ) (g : State) (e : Event) (o : Outcome) → Rest e g → P g → acts before g e ≡ Some o → P o.after
+  kept_acts before g e o rest at here = kept_input Rest P acting before g e o rest at here
+
+  kept_mapped : (x : Option Outcome) (o : Outcome) → ((p : Outcome) → x ≡ Some p → P p.after) → option_map settles x ≡ Some o → P o.after
   kept_mapped None o at here = none_some o here
-  kept_mapped (Some p) o at here = the_kept (settles p) o (kept_settled Rest P kept.inner p.after (at p refl)) here
+  kept_mapped (Some p) o at here = the_kept Rest P acting (settles p) o (kept_settled Rest P kept.inner kept.ready p.after (at p refl)) here
 
   -- what each change keeps, a step keeps
-  pub kept_step_from : (before : ℕ) (g : State) (e : Event) (o : Outcome) → Rest e g → P g → step_from before g e ≡ Some o → KeptTo o
+  pub kept_step_from : (before : ℕ) (g : State) (e : Event) (o : Outcome) → Rest e g → P g → step_from before g e ≡ Some o → P o.after
   kept_step_from before g e o rest there here =
-      went g.quitting _ _ _ (λ _ is. the_kept _ o there is)
+      went g.quitting _ _ _ (λ _ is. the_kept Rest P acting _ o there is)
       (λ _ is. kept_mapped (acts before g e) o (λ p acted. kept_acts before g e p rest there acted) is) here
 
-  pub kept_step : (g : State) (at : ℕ) (e : Event) (o : Outcome) → Rest e (raised g at) → P g → step g at e ≡ Some o → KeptTo o
+  pub kept_step : (g : State) (at : ℕ) (e : Event) (o : Outcome) → Rest e (raised g at) → P g → step g at e ≡ Some o → P o.after
   kept_step g at e o rest there here = kept_step_from g.moment (raised g at) e o rest (kept.moment g _ there) here

@@ -33,6 +33,3 @@ pub mod Feed
 pub mod SessionBytes
 pub mod Printed
 pub mod Conversation
-pub mod Recorded
-pub mod Moved
-pub mod Completes

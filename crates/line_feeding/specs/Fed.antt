@@ -9,7 +9,7 @@ use Rattle.configuration.specs.Reading.{configuration_bytes, Says, Breaks}
 use Rattle.gem_model.specs.State.{opening}
 use Rattle.gem_model.specs.Sizes.{bytes_of}
 use Rattle.gem_model.specs.Run.{after_all}
-use Rattle.gem_model.specs.Recorded.{Recorded}
+use Rattle.history_laws.specs.Recorded.{Recorded}
 use Rattle.gem_model.specs.Lines.{whole_lines}
 use Rattle.gem_model.specs.Feed.{AllRead, OutsideGrammar, QuitAt, feed_entries}
 use Rattle.gem_model.specs.Printed.{printed}

@@ -27,7 +27,7 @@ use Rattle.tool_floor.specs.Modules.{module_behind, open_task, transferred, alig
 use Rattle.tool_floor.specs.Signals.{done_row}
 use Rattle.tool_floor.specs.Machines.{substrate_starts, with_moved, floor_starts, floor_fired}
 use Rattle.floor_moves.specs.Floor as law
-use Rattle.floor_moves.specs.Floor.{Loc, Floor, Command, arm, aligner, pick, place, align, process, busy, idle, is_done}
+use Rattle.floor_moves.specs.Floor.{Loc, Command, arm, aligner, pick, place, align, busy, idle, is_done}
 use Rattle.floor_moves.specs.Effects.{moved, aligned as aligned_by_numbers, turned, worked}
 use Rattle.floor_moves.specs.Agree.{Agree}
 use Rattle.floor_moves.specs.Valid.{PlaceStands, Valid}

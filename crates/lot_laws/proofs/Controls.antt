@@ -18,7 +18,7 @@ use Rattle.process_job.specs.declared.job.ProcessJob.{ProcessJob}
 use Rattle.process_job.proofs.Names.{same_name, own_name}
 use Rattle.control_job.specs.Tables.{state_number, states_number}
 use Rattle.control_job.specs.Names.{is_in}
-use Rattle.control_job.specs.Jobs.{job_numbered as control_numbered, owns, is_open}
+use Rattle.control_job.specs.Jobs.{job_numbered as control_numbered, owns, is_open, fired_at}
 use Rattle.control_job.specs.declared.job.ControlJob.{ControlJob}
 use Rattle.control_job.specs.declared.record.ControlState.{ControlState}
 use Rattle.control_job.specs.declared.record.ControlState.TheVariants.{Queued, Selected, WaitingForStart, Executing, Paused, Completed}
@@ -28,10 +28,10 @@ use Rattle.control_job.specs.declared.record.ControlJobRecord.{ControlJobRecord}
 use Rattle.control_job.proofs.Called.{numbered_in}
 use Rattle.tool_jobs.specs.Jobs.{owner}
 use Rattle.tool_jobs.specs.Wants.{process_wants, is_none_left, is_ending, is_first, is_first_left}
-use Rattle.tool_jobs.specs.Rows.{control_starts, control_ready, control_fired, process_ready}
+use Rattle.tool_jobs.specs.Rows.{control_starts, control_ready, process_ready}
 use Rattle.tool_jobs.specs.Together.{AreTogether}
 use Rattle.tool_floor.specs.declared.tracking.Substrate.{Substrate}
-use Rattle.tool_floor.specs.Floor.{ToolFloor, with_jobs, substrate_numbered, number_of}
+use Rattle.tool_floor.specs.Floor.{ToolFloor, substrate_numbered, number_of}
 use Rattle.tool_floor.specs.Kept.{RiseTo}
 use Rattle.tool_floor.specs.Substrates.{is_in_slot, is_removed}
 use Rattle.tool_floor.specs.Jobs.{is_member, is_done_with, is_settled, is_here, sight, found_sight, is_first_here}
@@ -54,6 +54,7 @@ use Rattle.queue_laws.proofs.Steering.{Found, found_executing, left_owned, owned
 use Rattle.lot_laws.specs.Lot.{IsInJob, Waits, Executes}
 use Rattle.lot_laws.proofs.Naming.{any_numbered}
 use Rattle.lot_laws.proofs.Standing.{on_base, member_left}
+use Rattle.lot_laws.proofs.Going.{controls-execute}
 
 -- ---- at rest
 
@@ -69,7 +70,7 @@ none_first_ready table ready (x ∷ xs) o e there = by_row (ready x) refl (x == 
 
 module _ {World : Type 0} where
   -- where none is the least, none is ready in any table
-  rest_none : (w : World) (ms : List (Machine World)) → least_in ms w ≡ None
+  pub rest_none : (w : World) (ms : List (Machine World)) → least_in ms w ≡ None
       → AllByRecursion (λ (m : Machine World). (o : ℕ) → is_one_of (m.objects w) o ≡ true → m.ready o w ≡ None) ms
   rest_none w [] e = tt
   rest_none w (m ∷ ms) e = by_first (first_ready m.table (λ object. m.ready object w) (m.objects w)) refl e (rest_none w ms) where
@@ -163,21 +164,9 @@ module _ (number : ℕ) (counted : ℕ → Bool) (f : ToolFloor) (h : Sound f) (
 
   pub control-executes : (row m : ℕ) (d : ControlJob) → control_numbered m f.jobs.control.jobs ≡ Some d → control_starts row (Some d) (is_first_here m f) f.jobs ≡ true
       → disturbs_control number m row ≡ false → is_completion number m row ≡ false → Executes number counted (floor_fired (firing 15 m row) f)
-  control-executes row m d at starts calm on = record {
-    steers = control-steers number f.jobs t s e.steers row m (is_first_here m f) d at starts calm on;
-    here = λ k j q left. e.here k j q (sym (same j.id) ∙ left);
-    members = e.members;
-    stands = λ n x found is. by n x (e.stands n x found is);
-    all = λ n k x j found q left joins. e.all n k x j found q (sym (same j.id) ∙ left) joins;
-    substrates = e.substrates;
-  } where
-    same : (job : List ℕ) → is_left_in number job (control_fired row m f.jobs) ≡ is_left_in number job f.jobs
-    same job = control_left number f.jobs t s e.steers row m (is_first_here m f) d at starts calm on job
-
-    by : (n : ℕ) (x : Substrate) → (is_done n (picture f) ≡ true) ⊎ (IsInJob x f ⊎ Waits number x f) → (is_done n (picture f) ≡ true) ⊎ (IsInJob x (with_jobs (control_fired row m f.jobs) f) ⊎ Waits number x (with_jobs (control_fired row m f.jobs) f))
-    by n x (inl done) = inl done
-    by n x (inr (inl its)) = inr (inl its)
-    by n x (inr (inr w)) = inr (inr (record { at = w.at; job = w.job; kept = w.kept; left = same w.job.id ∙ w.left; queued = w.queued; joins = w.joins }))
+  control-executes row m d at starts calm on =
+      controls-execute number counted f (fired_at m row f.jobs.control) (λ job. control_left number f.jobs t s e.steers row m (is_first_here m f) d at starts calm on job) t s e
+      (control-steers number f.jobs t s e.steers row m (is_first_here m f) d at starts calm on)
 
   -- ---- it completes
 

@@ -16,7 +16,7 @@ use Rattle.tool_floor.specs.Floor.{ToolFloor, substrate_numbered, number_of}
 use Rattle.tool_floor.specs.Jobs.{job_of, can_join}
 use Rattle.tool_floor.specs.Machines.{substrate_moves, with_moved}
 use Rattle.floor_moves.specs.Floor as law
-use Rattle.floor_moves.specs.Floor.{Floor, is_done, set}
+use Rattle.floor_moves.specs.Floor.{is_done}
 use Rattle.floor_moves.specs.Effects.{worked}
 use Rattle.floor_moves.specs.Agree.{Agree}
 use Rattle.floor_moves.specs.Valid.{Valid}

@@ -1,12 +1,14 @@
--- A control job executes on where the process jobs and the jobs of substrates change.
+-- A control job stays at work where the process jobs and the jobs of substrates change.
 use Rattle.std.proofs.Common.{◌≡◌, ℕ, Bool, true, false, not, ◌&&◌, List, map, Option, Some, None, option_map, refl, sym, ◌∙◌, ap, subst, ◌⊎◌, inl, inr, arith}
 use Rattle.substrate.specs.Tables.{processing_number}
 use Rattle.process_job.specs.Jobs.{job_numbered}
 use Rattle.process_job.specs.declared.job.Material.{Material}
 use Rattle.process_job.specs.declared.job.ProcessJob.{ProcessJob}
+use Rattle.control_job.specs.Jobs.{JobStore, job_numbered as control_numbered}
 use Rattle.tool_jobs.specs.Jobs.{Jobs}
+use Rattle.tool_jobs.specs.Together.{AreTogether}
 use Rattle.tool_floor.specs.declared.tracking.Substrate.{Substrate}
-use Rattle.tool_floor.specs.Floor.{ToolFloor, substrate_numbered}
+use Rattle.tool_floor.specs.Floor.{ToolFloor, with_jobs, substrate_numbered}
 use Rattle.tool_floor.specs.Jobs.{is_material_here, job_of, can_join}
 use Rattle.floor_moves.specs.Floor as law
 use Rattle.floor_moves.specs.Floor.{is_done}
@@ -21,10 +23,12 @@ use Rattle.floor_laws.proofs.JobSays.{member_tells}
 use Rattle.owed_laws.specs.Owed.{owed_to}
 use Rattle.owed_laws.proofs.Agreeing.{agree-undisturbed, agree-owed, agree-unaligned}
 use Rattle.owed_laws.specs.Undisturbed.{AreUnaligned}
-use Rattle.queue_laws.specs.Started.{is_left_in}
+use Rattle.queue_laws.specs.Started.{is_left_in, AreStarted}
 use Rattle.queue_laws.specs.Steers.{Steers}
-use Rattle.lot_laws.specs.Lot.{IsInJob, Waits, Executes}
-use Rattle.lot_laws.proofs.Standing.{on_base, undisturbed}
+use Rattle.lot_laws.specs.Lot.{IsInJob, Waits, Executes, IsAtWork, AtWork}
+use Rattle.lot_laws.proofs.AtWork.{executing_works, at_work_of, executes_by}
+use Rattle.lot_laws.proofs.Standing.{on_base, work-undisturbed}
+use Rattle.lot_laws.proofs.Steering.{control-works}
 
 -- a number is 1
 abbrev IsOne : ℕ → Type 0
@@ -35,7 +39,7 @@ module _ (f : ToolFloor) (change : Substrate → Substrate) (alone : IsJobAlone 
   abbrev pub behind : ToolFloor
   behind = record f { substrates = map change f.substrates; jobs = w }
 
-  processing_same : (n : ℕ) → (picture behind).processing n ≡ (picture f).processing n
+  pub processing_same : (n : ℕ) → (picture behind).processing n ≡ (picture f).processing n
   processing_same n = says_map change alone 0 (λ (s : Substrate). processing_number s.states.processing) (λ s. ap (λ (x : Substrate). processing_number x.states.processing) (alone s)) n f.substrates
 
   -- by numbers it says the same, but for what jobs say
@@ -87,17 +91,17 @@ module _ (f : ToolFloor) (change : Substrate → Substrate) (alone : IsJobAlone 
   pub behind_unaligned : Sound f → AreUnaligned (picture f) → AreUnaligned (picture behind)
   behind_unaligned h u = agree-unaligned (picture f) (record (picture behind) { jobs = (picture f).jobs }) behind_agrees h.valid u
 
-  -- ---- when it executes on
+  -- ---- when it stays at work
 
-  module _ (number : ℕ) (counted : ℕ → Bool) where
+  module _ (number : ℕ) (counted : ℕ → Bool) (before : Jobs) where
     -- how a counted one stands
     abbrev pub Stands : ℕ → Substrate → ToolFloor → Type 0
     Stands n x g = (is_done n (picture f) ≡ true) ⊎ (IsInJob x g ⊎ Waits number x g)
 
-    -- It steers on. What is left in it was, of the same material. Who is in a job is counted. Each counted one stands, and what a job can
+    -- Of the jobs it is so. What is left in it was, of the same material. Who is in a job is counted. Each counted one stands, and what a job can
     -- take that is left in it is counted.
     pub record GoesOn : Type 0 where
-      pub steers : Steers number w
+      pub steers : IsAtWork number before w
       pub left : (k : ℕ) (i : ProcessJob) → job_numbered k w.process.kept ≡ Some i → is_left_in number i.id w ≡ true
           → (m : ℕ) × (j : ProcessJob) × (job_numbered m f.jobs.process.kept ≡ Some j) × (is_left_in number j.id f.jobs ≡ true) × (i.material ≡ j.material)
       pub members : (n : ℕ) (x : Substrate) (i : ProcessJob) → substrate_numbered n f.substrates ≡ Some x → job_of (change x) w ≡ Some i → counted n ≡ true
@@ -105,15 +109,40 @@ module _ (f : ToolFloor) (change : Substrate → Substrate) (alone : IsJobAlone 
       pub joins : (n k : ℕ) (x : Substrate) (i : ProcessJob) → substrate_numbered n f.substrates ≡ Some x → job_numbered k w.process.kept ≡ Some i → is_left_in number i.id w ≡ true
           → can_join i f.shop (change x) ≡ true → counted n ≡ true
 
-    pub executes_on : Sound f → Executes number counted f → GoesOn → Executes number counted behind
-    executes_on h e goes = record {
+    pub works_on : Sound f → AtWork number counted before f → GoesOn → AtWork number counted before behind
+    works_on h e goes = record {
       steers = goes.steers;
       here = λ k i kept left. let b = goes.left k i kept left in ap (λ (ms : List Material). list_all (is_material_here f.shop) ms) b.4 ∙ e.here b.0 b.1 b.2 b.3;
       members = λ n is. let m = member_tells (map change f.substrates) w n (λ j. true) is in let b = found_before n m.one m.found in goes.members n b.0 m.job b.1 (ap (λ (x : Substrate). job_of x w) b.2 ∙ m.its);
       stands = λ n y found is. let b = found_before n y found in by n y (subst (λ (x : Substrate). Stands n x behind) b.2 (goes.stands n b.0 b.1 is (e.stands n b.0 b.1 is)));
       all = λ n k y i found kept left can. let b = found_before n y found in goes.joins n k b.0 i b.1 kept left (ap (λ (x : Substrate). can_join i f.shop x) b.2 ∙ can);
-      substrates = (agree-undisturbed (picture f) (record (picture behind) { jobs = (picture f).jobs }) behind_agrees counted h.valid (undisturbed number counted f (on_base f h.base) e)).substrates;
+      substrates = (agree-undisturbed (picture f) (record (picture behind) { jobs = (picture f).jobs }) behind_agrees counted h.valid (work-undisturbed number counted f (on_base f h.base) e)).substrates;
     } where
       by : (n : ℕ) (y : Substrate) → Stands n y behind → (is_done n (picture behind) ≡ true) ⊎ (IsInJob y behind ⊎ Waits number y behind)
       by n y (inl done) = inl (done_same n ∙ done)
       by n y (inr rest) = inr rest
+
+-- ---- where control jobs change
+
+module _ (number : ℕ) (counted : ℕ → Bool) (f : ToolFloor) (c : JobStore) (same : (job : List ℕ) → is_left_in number job (record f.jobs { control = c }) ≡ is_left_in number job f.jobs) where
+  -- it stays at work, where the same process jobs are left in it
+  pub controls-work : {before : Jobs} → AtWork number counted before f → IsAtWork number before (record f.jobs { control = c }) → AtWork number counted before (with_jobs (record f.jobs { control = c }) f)
+  controls-work e steers = record {
+    steers = steers;
+    here = λ k j kept left. e.here k j kept (sym (same j.id) ∙ left);
+    members = e.members;
+    stands = λ n x found is. by n x (e.stands n x found is);
+    all = λ n k x j found kept left joins. e.all n k x j found kept (sym (same j.id) ∙ left) joins;
+    substrates = e.substrates;
+  } where
+    by : (n : ℕ) (x : Substrate) → (is_done n (picture f) ≡ true) ⊎ (IsInJob x f ⊎ Waits number x f) → (is_done n (picture f) ≡ true) ⊎ (IsInJob x (with_jobs (record f.jobs { control = c }) f) ⊎ Waits number x (with_jobs (record f.jobs { control = c }) f))
+    by n x (inl done) = inl done
+    by n x (inr (inl its)) = inr (inl its)
+    by n x (inr (inr w)) = inr (inr (record { at = w.at; job = w.job; kept = w.kept; left = same w.job.id ∙ w.left; queued = w.queued; joins = w.joins }))
+
+  -- it executes on, where it steers
+  pub controls-execute : AreTogether f.jobs → AreStarted f.jobs → Executes number counted f → Steers number (record f.jobs { control = c }) → Executes number counted (with_jobs (record f.jobs { control = c }) f)
+  controls-execute t s e v =
+      let at_work = at_work_of number counted f e in
+      executes_by number counted (with_jobs (record f.jobs { control = c }) f)
+      (controls-work at_work (control-works number f.jobs f.jobs t s at_work.steers c (executing_works (control_numbered number c.jobs) v.executes) v.alone same)) v

@@ -1,4 +1,4 @@
--- A control job executes on where jobs are created, where the order of the queue changes, and where a command is fetched.
+-- A control job stays at work and executes on where jobs are created, where the order of the queue changes, and where a command is fetched.
 use Rattle.std.proofs.Common.{◌≡◌, ◌≤◌, ℕ, if◌then◌else◌, arith, ◌+◌, ◌==◌, Bool, true, false, List, [], ◌∷◌, ◌++◌, Option, Some, None, option_map, refl, sym, ◌∙◌, ap, subst, ◌⊎◌, inl, inr}
 use Rattle.std.proofs.lemmas.Bool.{true≢false}
 use Rattle.std.proofs.lemmas.Bool.Decides.{Decides-eqb}
@@ -12,6 +12,7 @@ use Rattle.process_job.specs.declared.job.JobSpec.{JobSpec}
 use Rattle.process_job.specs.declared.job.ProcessJob.{ProcessJob}
 use Rattle.process_job.proofs.Faults.{is_free}
 use Rattle.control_job.specs.Jobs.{headed}
+use Rattle.tool_jobs.specs.Jobs.{Jobs}
 use Rattle.tool_jobs.specs.Creating.{with_process, with_control, control_fault}
 use Rattle.tool_jobs.specs.Together.{AreTogether}
 use Rattle.tool_floor.specs.declared.tracking.Substrate.{Substrate}
@@ -24,11 +25,14 @@ use Rattle.picture_laws.proofs.Issuing.{changed_there, changed_else}
 use Rattle.floor_laws.proofs.JobSays.{IsMember, member_tells, said_there}
 use Rattle.queue_laws.specs.Started.{is_left_in, AreStarted}
 use Rattle.queue_laws.proofs.Lists.{one_more_back}
-use Rattle.queue_laws.proofs.Steering.{created-steers, added-steers, added_left, left_kept}
-use Rattle.lot_laws.specs.Lot.{IsInJob, Waits, Executes}
+use Rattle.queue_laws.proofs.Steering.{created-steers, added-steers, added_left, headed-steers}
+use Rattle.lot_laws.specs.Lot.{IsInJob, Waits, Executes, AtWork}
+use Rattle.lot_laws.proofs.AtWork.{at_work_of, executes_by}
+use Rattle.lot_laws.proofs.Steering.{left_in_kept, created-works, control-works, added_same, added-works}
+use Rattle.lot_laws.proofs.Going.{controls-work, controls-execute}
 use Rattle.lot_laws.proofs.Answers.{places-executes}
 
-module _ (number : ℕ) (counted : ℕ → Bool) (f : ToolFloor) (h : Sound f) (t : AreTogether f.jobs) (s : AreStarted f.jobs) (e : Executes number counted f) where
+module _ (number : ℕ) (counted : ℕ → Bool) (f : ToolFloor) (h : Sound f) (t : AreTogether f.jobs) (s : AreStarted f.jobs) {before : Jobs} (e : AtWork number counted before f) where
   -- ---- a process job is created
 
   module _ (spec : JobSpec) (free : create_fault spec f.jobs.process ≡ None) where
@@ -36,7 +40,7 @@ module _ (number : ℕ) (counted : ℕ → Bool) (f : ToolFloor) (h : Sound f) (
     new = created (f.jobs.process.given + 1) spec
 
     -- one that is found before is found then
-    more_on : (k : ℕ) (js : List ProcessJob) (j : ProcessJob) → job_numbered k js ≡ Some j → job_numbered k (js ++ created (f.jobs.process.given + 1) spec ∷ []) ≡ Some j
+    pub more_on : (k : ℕ) (js : List ProcessJob) (j : ProcessJob) → job_numbered k js ≡ Some j → job_numbered k (js ++ created (f.jobs.process.given + 1) spec ∷ []) ≡ Some j
     more_on k [] j q = absurd (cc)
     more_on k (x ∷ xs) j q = of (x.number == k) q (more_on k xs j) where
       of : (b : Bool) → (if b then Some x else job_numbered k xs) ≡ Some j → (job_numbered k xs ≡ Some j → job_numbered k (xs ++ created (f.jobs.process.given + 1) spec ∷ []) ≡ Some j) → (if b then Some x else job_numbered k (xs ++ created (f.jobs.process.given + 1) spec ∷ [])) ≡ Some j
@@ -45,7 +49,7 @@ module _ (number : ℕ) (counted : ℕ → Bool) (f : ToolFloor) (h : Sound f) (
 
     -- the new one is left in no control job
     not_left : (j : ProcessJob) → j ≡ created (f.jobs.process.given + 1) spec → is_left_in number j.id f.jobs ≡ true → ⊥
-    not_left j same left = true≢false (sym (left_kept number f.jobs t s e.steers spec.id (subst (λ (x : ProcessJob). is_left_in number x.id f.jobs ≡ true) same left)) ∙ (is_free spec f.jobs.process free).unknown)
+    not_left j same left = true≢false (sym (left_in_kept number before f.jobs t s e.steers spec.id (subst (λ (x : ProcessJob). is_left_in number x.id f.jobs ≡ true) same left)) ∙ (is_free spec f.jobs.process free).unknown)
 
     back : (k : ℕ) (j : ProcessJob) → job_numbered k (with_process spec f.jobs).process.kept ≡ Some j → is_left_in number j.id f.jobs ≡ true → job_numbered k f.jobs.process.kept ≡ Some j
     back k j q left = of (one_more_back (created (f.jobs.process.given + 1) spec) k f.jobs.process.kept j q) where
@@ -64,9 +68,9 @@ module _ (number : ℕ) (counted : ℕ → Bool) (f : ToolFloor) (h : Sound f) (
           let less : m.one.job ≤ f.jobs.process.given = true_of_found number_of n (λ (x : Substrate). x.job ≤ f.jobs.process.given) f.substrates m.one h.base.jobs.given m.found in
           absurd (omega (arith, number, its, less))
 
-    pub created-executes : Executes number counted (with_jobs (with_process spec f.jobs) f)
-    created-executes = record {
-      steers = created-steers number f.jobs t s e.steers spec free;
+    pub created-work : AtWork number counted before (with_jobs (with_process spec f.jobs) f)
+    created-work = record {
+      steers = created-works number before f.jobs t s e.steers spec free;
       here = λ k j q left. e.here k j (back k j q left) left;
       members = λ n is. member_back n (member_tells f.substrates (with_process spec f.jobs) n (λ j. true) is);
       stands = λ n x found is. by n x (e.stands n x found is);
@@ -80,36 +84,29 @@ module _ (number : ℕ) (counted : ℕ → Bool) (f : ToolFloor) (h : Sound f) (
 
   -- ---- a control job is created, and the order of the queue changes
 
-  pub added-executes : (name : List ℕ) (named : List (List ℕ)) (auto : Bool) → control_fault name named f.jobs ≡ None → Executes number counted (with_jobs (with_control name named auto f.jobs) f)
-  added-executes name named auto free = record {
-    steers = added-steers number f.jobs t s e.steers name named auto free;
-    here = λ k j q left. e.here k j q (sym (same j.id) ∙ left);
-    members = e.members;
-    stands = λ n x found is. by n x (e.stands n x found is);
-    all = λ n k x j found q left can. e.all n k x j found q (sym (same j.id) ∙ left) can;
-    substrates = e.substrates;
-  } where
-    same : (job : List ℕ) → is_left_in number job (with_control name named auto f.jobs) ≡ is_left_in number job f.jobs
-    same job = added_left number f.jobs t s e.steers name named auto free job
+  pub added-work : (name : List ℕ) (named : List (List ℕ)) (auto : Bool) → control_fault name named f.jobs ≡ None → AtWork number counted before (with_jobs (with_control name named auto f.jobs) f)
+  added-work name named auto free =
+      controls-work number counted f (with_control name named auto f.jobs).control (λ job. added_same number before f.jobs t s e.steers name named auto free job) e
+      (added-works number before f.jobs t s e.steers name named auto free)
 
-    by : (n : ℕ) (x : Substrate) → (is_done n (picture f) ≡ true) ⊎ (IsInJob x f ⊎ Waits number x f) → (is_done n (picture f) ≡ true) ⊎ (IsInJob x (with_jobs (with_control name named auto f.jobs) f) ⊎ Waits number x (with_jobs (with_control name named auto f.jobs) f))
-    by n x (inl done) = inl done
-    by n x (inr (inl its)) = inr (inl its)
-    by n x (inr (inr w)) = inr (inr (record { at = w.at; job = w.job; kept = w.kept; left = same w.job.id ∙ w.left; queued = w.queued; joins = w.joins }))
+  pub headed-work : (name : List ℕ) → AtWork number counted before (with_jobs (record f.jobs { control = headed name f.jobs.control }) f)
+  headed-work name =
+      controls-work number counted f (headed name f.jobs.control) (λ job. refl) e
+      (control-works number before f.jobs t s e.steers (headed name f.jobs.control) e.steers.works e.steers.alone (λ job. refl))
+
+module _ (number : ℕ) (counted : ℕ → Bool) (f : ToolFloor) (h : Sound f) (t : AreTogether f.jobs) (s : AreStarted f.jobs) (e : Executes number counted f) where
+  pub created-executes : (spec : JobSpec) → create_fault spec f.jobs.process ≡ None → Executes number counted (with_jobs (with_process spec f.jobs) f)
+  created-executes spec free =
+      executes_by number counted (with_jobs (with_process spec f.jobs) f) (created-work number counted f h t s (at_work_of number counted f e) spec free)
+      (created-steers number f.jobs t s e.steers spec free)
+
+  pub added-executes : (name : List ℕ) (named : List (List ℕ)) (auto : Bool) → control_fault name named f.jobs ≡ None → Executes number counted (with_jobs (with_control name named auto f.jobs) f)
+  added-executes name named auto free =
+      controls-execute number counted f (with_control name named auto f.jobs).control (λ job. added_left number f.jobs t s e.steers name named auto free job) t s e
+      (added-steers number f.jobs t s e.steers name named auto free)
 
   pub headed-executes : (name : List ℕ) → Executes number counted (with_jobs (record f.jobs { control = headed name f.jobs.control }) f)
-  headed-executes name = record {
-    steers = record { executes = e.steers.executes; alone = e.steers.alone; auto = e.steers.auto; going = e.steers.going; started = e.steers.started };
-    here = e.here;
-    members = e.members;
-    stands = λ n x found is. by n x (e.stands n x found is);
-    all = e.all;
-    substrates = e.substrates;
-  } where
-    by : (n : ℕ) (x : Substrate) → (is_done n (picture f) ≡ true) ⊎ (IsInJob x f ⊎ Waits number x f) → (is_done n (picture f) ≡ true) ⊎ (IsInJob x (with_jobs (record f.jobs { control = headed name f.jobs.control }) f) ⊎ Waits number x (with_jobs (record f.jobs { control = headed name f.jobs.control }) f))
-    by n x (inl done) = inl done
-    by n x (inr (inl its)) = inr (inl its)
-    by n x (inr (inr w)) = inr (inr (record { at = w.at; job = w.job; kept = w.kept; left = w.left; queued = w.queued; joins = w.joins }))
+  headed-executes name = controls-execute number counted f (headed name f.jobs.control) (λ job. refl) t s e (headed-steers number f.jobs t s e.steers name)
 
 -- ---- a command is fetched
 

@@ -1,8 +1,12 @@
+pub mod AtWork
 pub mod Naming
 pub mod Standing
+pub mod Works
+pub mod Steering
 pub mod Beginning
 pub mod Controls
 pub mod Going
+pub mod Disturbs
 pub mod Processes
 pub mod Issuing
 pub mod Substrates
@@ -14,3 +18,11 @@ pub mod Least
 pub mod Registering
 pub mod Inputs
 pub mod InJobs
+pub mod Equipment
+pub mod Ordered
+pub mod Orderly
+pub mod Failing
+pub mod Shopping
+pub mod Removing
+pub mod Words
+pub mod Changes

@@ -1,12 +1,13 @@
--- A control job executes on behind each row of a process job that starts and doesn't disturb it, and as much is owed.
+-- A control job stays at work where the state of a process job changes, where one gets its members, and where one ends. So it executes on
+-- behind each row of a process job that starts and doesn't disturb it, and as much is owed.
 use Rattle.std.proofs.Common.{◌≡◌, ◌≤◌, ◌<◌, ℕ, ◌==◌, Bool, true, false, if◌then◌else◌, not, List, [], ◌∷◌, Option, Some, option_map, refl, sym, ◌∙◌, ap, subst, ◌⊎◌, inl, inr, arith}
 use Rattle.std.proofs.lemmas.Bool.{true≢false, and_parts}
 use Rattle.std.proofs.lemmas.Bool.Decides.{Decides-eqb}
-use Rattle.gem_tables.specs.Table.{is_among, firing}
+use Rattle.gem_tables.specs.Table.{is_among, firing, after}
 use Rattle.substrate.specs.Record.{is_needing, is_finished}
 use Rattle.substrate.specs.declared.record.Processing.{Processing}
 use Rattle.substrate.specs.declared.record.Processing.TheVariants as processing
-use Rattle.process_job.specs.Tables.{job_number}
+use Rattle.process_job.specs.Tables.{job_number, job_table}
 use Rattle.process_job.specs.Jobs.{job_numbered, change_numbered, without_numbered, fires_row}
 use Rattle.process_job.specs.declared.record.JobState.{JobState}
 use Rattle.process_job.specs.declared.record.JobState.TheVariants as state
@@ -37,10 +38,12 @@ use Rattle.queue_laws.specs.Started.{is_queued, is_left_in, AreStarted}
 use Rattle.queue_laws.specs.Steers.{Steers, disturbs_process}
 use Rattle.queue_laws.proofs.Lists.{gone_back, names_differ}
 use Rattle.queue_laws.proofs.Rows.{stays_queued}
-use Rattle.queue_laws.proofs.Steering.{process-goes, process-steers, ended-steers, ended_left, left_ended}
-use Rattle.lot_laws.specs.Lot.{IsInJob, Waits, Executes}
+use Rattle.queue_laws.proofs.Steering.{process-goes, process-steers, ended-steers}
+use Rattle.lot_laws.specs.Lot.{IsInJob, Waits, Executes, IsAtWork, AtWork}
+use Rattle.lot_laws.proofs.AtWork.{going_whole, at_work_of, executes_by}
 use Rattle.lot_laws.proofs.Standing.{on_base, joins_tell, member_begun}
-use Rattle.lot_laws.proofs.Going.{behind, behind_owed, Stands, GoesOn, executes_on}
+use Rattle.lot_laws.proofs.Steering.{state-works, ended_back, ended_on, ended-works}
+use Rattle.lot_laws.proofs.Going.{behind, behind_owed, Stands, GoesOn, works_on}
 
 -- ---- numbers
 
@@ -64,7 +67,7 @@ needing_unfinished processing.Rejected e = absurd (true≢false (sym e))
 needing_unfinished processing.Lost e = absurd (true≢false (sym e))
 needing_unfinished processing.Skipped e = absurd (true≢false (sym e))
 
-module _ (number : ℕ) (counted : ℕ → Bool) (f : ToolFloor) (h : Sound f) (t : AreTogether f.jobs) (s : AreStarted f.jobs) (e : Executes number counted f)
+module _ (number : ℕ) (counted : ℕ → Bool) (f : ToolFloor) (h : Sound f) (t : AreTogether f.jobs) (s : AreStarted f.jobs) {before : Jobs} (e : AtWork number counted before f)
     (n : ℕ) (j : ProcessJob) (known : job_numbered n f.jobs.process.kept ≡ Some j)
   where
     number_is : (j.number ≡ n) × (0 < n) × (n ≤ f.jobs.process.given)
@@ -107,10 +110,10 @@ module _ (number : ℕ) (counted : ℕ → Bool) (f : ToolFloor) (h : Sound f) (
 
     -- ---- rows 1, 4 and 6
 
-    pub state-executes : (row : ℕ) → (row == 2) ≡ false → Steers number (fired_jobs n row f.jobs) → Executes number counted (with_jobs (fired_jobs n row f.jobs) f)
-    state-executes row two steers =
-        subst (λ (ss : List Substrate). Executes number counted (record f { substrates = ss; jobs = fired_jobs n row f.jobs })) (map_same f.substrates)
-        (executes_on f (λ (x : Substrate). x) stays_alone (fired_jobs n row f.jobs) number counted h e goes)
+    pub state-work : (row : ℕ) → (row == 2) ≡ false → IsAtWork number before (fired_jobs n row f.jobs) → AtWork number counted before (with_jobs (fired_jobs n row f.jobs) f)
+    state-work row two steers =
+        subst (λ (ss : List Substrate). AtWork number counted before (record f { substrates = ss; jobs = fired_jobs n row f.jobs })) (map_same f.substrates)
+        (works_on f (λ (x : Substrate). x) stays_alone (fired_jobs n row f.jobs) number counted before h e goes)
       where
         waits : (x : Substrate) (v : Waits number x f) → (b : Bool) → (v.at == n) ≡ b → Waits number x (with_jobs (fired_jobs n row f.jobs) f)
         waits x v false q = waits_else row x v (apart_from v.at n q)
@@ -123,12 +126,12 @@ module _ (number : ℕ) (counted : ℕ → Bool) (f : ToolFloor) (h : Sound f) (
           joins = v.joins;
         }
 
-        stands : (m : ℕ) (x : Substrate) → Stands f (λ (x : Substrate). x) stays_alone (fired_jobs n row f.jobs) number counted m x f → Stands f (λ (x : Substrate). x) stays_alone (fired_jobs n row f.jobs) number counted m x (behind f (λ (x : Substrate). x) stays_alone (fired_jobs n row f.jobs))
+        stands : (m : ℕ) (x : Substrate) → Stands f (λ (x : Substrate). x) stays_alone (fired_jobs n row f.jobs) number counted before m x f → Stands f (λ (x : Substrate). x) stays_alone (fired_jobs n row f.jobs) number counted before m x (behind f (λ (x : Substrate). x) stays_alone (fired_jobs n row f.jobs))
         stands m x (inl done) = inl done
         stands m x (inr (inl its)) = let on = fired_on n row x.job f.jobs.process.kept its.0 its.1 in inr (inl (on.0, on.1))
         stands m x (inr (inr v)) = let u = waits x v (v.at == n) refl in inr (inr (record { at = u.at; job = u.job; kept = u.kept; left = u.left; queued = u.queued; joins = u.joins }))
 
-        goes : GoesOn f (λ (x : Substrate). x) stays_alone (fired_jobs n row f.jobs) number counted
+        goes : GoesOn f (λ (x : Substrate). x) stays_alone (fired_jobs n row f.jobs) number counted before
         goes = record {
           steers = steers;
           left = λ k i q left. fired_left row k i q left;
@@ -145,13 +148,13 @@ module _ (number : ℕ) (counted : ℕ → Bool) (f : ToolFloor) (h : Sound f) (
     joined_job : (x : Substrate) → can_join j f.shop x ≡ true → (joined j f.shop x).job ≡ n
     joined_job x q = ap (λ (b : Bool). (if b then record x { job = j.number } else x).job) q ∙ number_is.0
 
-    pub joined-executes : is_left_in number j.id f.jobs ≡ true → Steers number (fired_jobs n 2 f.jobs) → Executes number counted (with_jobs (fired_jobs n 2 f.jobs) (with_members j f))
-    joined-executes left_in steers = executes_on f (joined j f.shop) (joined_alone f j) (fired_jobs n 2 f.jobs) number counted h e goes where
+    pub joined-work : is_left_in number j.id f.jobs ≡ true → IsAtWork number before (fired_jobs n 2 f.jobs) → AtWork number counted before (with_jobs (fired_jobs n 2 f.jobs) (with_members j f))
+    joined-work left_in steers = works_on f (joined j f.shop) (joined_alone f j) (fired_jobs n 2 f.jobs) number counted before h e goes where
       then_in : (x : Substrate) → can_join j f.shop x ≡ true → IsInJob (joined j f.shop x) (behind f (joined j f.shop) (joined_alone f j) (fired_jobs n 2 f.jobs))
       then_in x q = (fires_row 2 j, ap (λ (k : ℕ). job_numbered k (change_numbered n (fires_row 2) f.jobs.process.kept)) (joined_job x q) ∙ fired_there n 2 f.jobs.process.kept ∙ ap (option_map (fires_row 2)) known)
 
-      stands : (m : ℕ) (x : Substrate) → substrate_numbered m f.substrates ≡ Some x → Stands f (joined j f.shop) (joined_alone f j) (fired_jobs n 2 f.jobs) number counted m x f → (b : Bool) → can_join j f.shop x ≡ b
-          → Stands f (joined j f.shop) (joined_alone f j) (fired_jobs n 2 f.jobs) number counted m (joined j f.shop x) (behind f (joined j f.shop) (joined_alone f j) (fired_jobs n 2 f.jobs))
+      stands : (m : ℕ) (x : Substrate) → substrate_numbered m f.substrates ≡ Some x → Stands f (joined j f.shop) (joined_alone f j) (fired_jobs n 2 f.jobs) number counted before m x f → (b : Bool) → can_join j f.shop x ≡ b
+          → Stands f (joined j f.shop) (joined_alone f j) (fired_jobs n 2 f.jobs) number counted before m (joined j f.shop x) (behind f (joined j f.shop) (joined_alone f j) (fired_jobs n 2 f.jobs))
       stands m x found (inl done) b q = inl done
       stands m x found (inr how) true q = inr (inl (then_in x q))
       stands m x found (inr (inl its)) false q =
@@ -171,7 +174,7 @@ module _ (number : ℕ) (counted : ℕ → Bool) (f : ToolFloor) (h : Sound f) (
       joins m k x i found q left can true g = e.all m n x j found known left_in g
       joins m k x i found q left can false g = fired_joins 2 m k x i found q left (sym (ap (can_join i f.shop) (joined_same x g)) ∙ can)
 
-      goes : GoesOn f (joined j f.shop) (joined_alone f j) (fired_jobs n 2 f.jobs) number counted
+      goes : GoesOn f (joined j f.shop) (joined_alone f j) (fired_jobs n 2 f.jobs) number counted before
       goes = record {
         steers = steers;
         left = λ k i q left. fired_left 2 k i q left;
@@ -209,11 +212,11 @@ module _ (number : ℕ) (counted : ℕ → Bool) (f : ToolFloor) (h : Sound f) (
             let less : 0 < n = number_is.1 in
             omega (arith, same, zero, less))
 
-        stands : (m : ℕ) (x : Substrate) → substrate_numbered m f.substrates ≡ Some x → Stands f (freed n) (freed_alone n) (ended n f.jobs) number counted m x f
-            → Stands f (freed n) (freed_alone n) (ended n f.jobs) number counted m (freed n x) (behind f (freed n) (freed_alone n) (ended n f.jobs))
+        stands : (m : ℕ) (x : Substrate) → substrate_numbered m f.substrates ≡ Some x → Stands f (freed n) (freed_alone n) (ended n f.jobs) number counted before m x f
+            → Stands f (freed n) (freed_alone n) (ended n f.jobs) number counted before m (freed n x) (behind f (freed n) (freed_alone n) (ended n f.jobs))
         stands m x found (inl is) = inl is
         stands m x found (inr (inl its)) = of (x.job == n) refl where
-          of : (b : Bool) → (x.job == n) ≡ b → Stands f (freed n) (freed_alone n) (ended n f.jobs) number counted m (freed n x) (behind f (freed n) (freed_alone n) (ended n f.jobs))
+          of : (b : Bool) → (x.job == n) ≡ b → Stands f (freed n) (freed_alone n) (ended n f.jobs) number counted before m (freed n x) (behind f (freed n) (freed_alone n) (ended n f.jobs))
           of true q = inl (done m x found ((Decides-eqb x.job n).0 q))
           of false q = inr (inl (its.0, ap (λ (y : Substrate). job_numbered y.job (without_numbered n f.jobs.process.kept)) (freed_same x q) ∙ without_else n x.job (apart_from x.job n q) f.jobs.process.kept ∙ its.1))
         stands m x found (inr (inr v)) =
@@ -222,7 +225,7 @@ module _ (number : ℕ) (counted : ℕ → Bool) (f : ToolFloor) (h : Sound f) (
               at = v.at;
               job = v.job;
               kept = without_else n v.at other f.jobs.process.kept ∙ v.kept;
-              left = left_ended number f.jobs t s e.steers n j v.job.id known (names_differ v.at n f.jobs.process.kept v.job j t.process.apart v.kept known (differs v.at n other)) v.left;
+              left = ended_on number before f.jobs t s e.steers n j v.job.id known (names_differ v.at n f.jobs.process.kept v.job j t.process.apart v.kept known (differs v.at n other)) v.left;
               queued = v.queued;
               joins = ap (can_join v.job f.shop) (freed_same x (free_apart v.job x v.joins)) ∙ v.joins;
             }))
@@ -237,53 +240,81 @@ module _ (number : ℕ) (counted : ℕ → Bool) (f : ToolFloor) (h : Sound f) (
             absurd (true≢false (sym finished ∙ finished_same f h.base m x found ∙ needing_unfinished x.states.processing states))
         joins m k x i found q left can false g =
             let back = gone_back n k 0 f.jobs.process.given f.jobs.process.kept i h.base.jobs.numbered q in
-            e.all m k x i found back.0 (ended_left number f.jobs t s e.steers n i.id left) (sym (ap (can_join i f.shop) (freed_same x g)) ∙ can)
+            e.all m k x i found back.0 (ended_back number before f.jobs t s e.steers n i.id left) (sym (ap (can_join i f.shop) (freed_same x g)) ∙ can)
 
-        goes : GoesOn f (freed n) (freed_alone n) (ended n f.jobs) number counted
+        goes : GoesOn f (freed n) (freed_alone n) (ended n f.jobs) number counted before
         goes = record {
-          steers = ended-steers number f.jobs t s e.steers n;
-          left = λ k i q left. let back = gone_back n k 0 f.jobs.process.given f.jobs.process.kept i h.base.jobs.numbered q in (k, i, back.0, ended_left number f.jobs t s e.steers n i.id left, refl);
+          steers = ended-works number before f.jobs t s e.steers n;
+          left = λ k i q left. let back = gone_back n k 0 f.jobs.process.given f.jobs.process.kept i h.base.jobs.numbered q in (k, i, back.0, ended_back number before f.jobs t s e.steers n i.id left, refl);
           members = λ m x i found its. in_job_counted m x i found (was_in x i its (x.job == n) refl).1;
           stands = λ m x found is how. stands m x found how;
           joins = λ m k x i found q left can. joins m k x i found q left can (x.job == n) refl;
         }
 
-        pub ended-executes : Executes number counted (with_jobs (ended n f.jobs) (without_members j.number f))
-        ended-executes = subst (λ (k : ℕ). Executes number counted (with_jobs (ended n f.jobs) (without_members k f))) (sym number_is.0) (executes_on f (freed n) (freed_alone n) (ended n f.jobs) number counted h e goes)
+        pub ended-work : AtWork number counted before (with_jobs (ended n f.jobs) (without_members j.number f))
+        ended-work = subst (λ (k : ℕ). AtWork number counted before (with_jobs (ended n f.jobs) (without_members k f))) (sym number_is.0) (works_on f (freed n) (freed_alone n) (ended n f.jobs) number counted before h e goes)
 
-    -- ---- all of them
+-- ---- what the floor is behind the rows
 
-    -- what the floor is behind the rows
-    two_is : floor_fired (firing 14 n 2) f ≡ with_jobs (fired_jobs n 2 f.jobs) (with_members j f)
-    two_is = ap (λ (o : Option ProcessJob). with_jobs (fired_jobs n 2 f.jobs) (gets_members o f)) known
+module _ (f : ToolFloor) (n : ℕ) (j : ProcessJob) (known : job_numbered n f.jobs.process.kept ≡ Some j) where
+  two_is : floor_fired (firing 14 n 2) f ≡ with_jobs (fired_jobs n 2 f.jobs) (with_members j f)
+  two_is = ap (λ (o : Option ProcessJob). with_jobs (fired_jobs n 2 f.jobs) (gets_members o f)) known
 
-    seven_is : floor_fired (firing 14 n 7) f ≡ with_jobs (ended n f.jobs) (without_members j.number f)
-    seven_is = ap (λ (o : Option ProcessJob). with_jobs (process_fired 7 n f.jobs) (frees o f)) known ∙ ap (λ (x : Jobs). with_jobs x (without_members j.number f)) (sym (fired_ends n 7 f.jobs refl))
+  seven_is : floor_fired (firing 14 n 7) f ≡ with_jobs (ended n f.jobs) (without_members j.number f)
+  seven_is = ap (λ (o : Option ProcessJob). with_jobs (process_fired 7 n f.jobs) (frees o f)) known ∙ ap (λ (x : Jobs). with_jobs x (without_members j.number f)) (sym (fired_ends n 7 f.jobs refl))
 
-    fifteen_is : floor_fired (firing 14 n 15) f ≡ with_jobs (ended n f.jobs) (without_members j.number f)
-    fifteen_is = ap (λ (o : Option ProcessJob). with_jobs (process_fired 15 n f.jobs) (frees o f)) known ∙ ap (λ (x : Jobs). with_jobs x (without_members j.number f)) (sym (fired_ends n 15 f.jobs refl))
+  pub fifteen_is : floor_fired (firing 14 n 15) f ≡ with_jobs (ended n f.jobs) (without_members j.number f)
+  fifteen_is = ap (λ (o : Option ProcessJob). with_jobs (process_fired 15 n f.jobs) (frees o f)) known ∙ ap (λ (x : Jobs). with_jobs x (without_members j.number f)) (sym (fired_ends n 15 f.jobs refl))
 
+  module _ (h : Sound f) where
     -- the members of one that is PROCESS COMPLETE are done
     complete_done : is_complete j.states.state ≡ true → (k : ℕ) (x : Substrate) → substrate_numbered k f.substrates ≡ Some x → x.job ≡ n → is_done k (picture f) ≡ true
     complete_done is k x found its = over_before f h.valid k x j found (subst (λ (m : ℕ). job_numbered m f.jobs.process.kept ≡ Some j) (sym its) known) is
 
     -- one that is QUEUED has none
-    queued_done : is_queued j.states.state ≡ true → (k : ℕ) (x : Substrate) → substrate_numbered k f.substrates ≡ Some x → x.job ≡ n → is_done k (picture f) ≡ true
+    pub queued_done : is_queued j.states.state ≡ true → (k : ℕ) (x : Substrate) → substrate_numbered k f.substrates ≡ Some x → x.job ≡ n → is_done k (picture f) ≡ true
     queued_done is k x found its =
         absurd (true≢false (sym is ∙ member_begun f (on_base f h.base) k x j found (subst (λ (m : ℕ). job_numbered m f.jobs.process.kept ≡ Some j) (sym its) known)))
 
-    complete_not_queued : is_complete j.states.state ≡ true → is_queued j.states.state ≡ true → ⊥
-    complete_not_queued is queued = of j.states.state is queued where
-      of : (x : JobState) → is_complete x ≡ true → is_queued x ≡ true → ⊥
-      of state.Complete p q = true≢false (sym q)
-      of state.Queued p q = true≢false (sym p)
-      of state.SettingUp p q = true≢false (sym q)
-      of state.WaitingForStart p q = true≢false (sym q)
-      of state.Processing p q = true≢false (sym q)
-      of state.Pausing p q = true≢false (sym q)
-      of state.Paused p q = true≢false (sym q)
-      of state.Stopping p q = true≢false (sym q)
-      of state.Aborting p q = true≢false (sym q)
+-- one that is PROCESS COMPLETE isn't QUEUED
+complete_not_queued : (x : JobState) → is_complete x ≡ true → is_queued x ≡ true → ⊥
+complete_not_queued state.Complete p q = true≢false (sym q)
+complete_not_queued state.Queued p q = true≢false (sym p)
+complete_not_queued state.SettingUp p q = true≢false (sym q)
+complete_not_queued state.WaitingForStart p q = true≢false (sym q)
+complete_not_queued state.Processing p q = true≢false (sym q)
+complete_not_queued state.Pausing p q = true≢false (sym q)
+complete_not_queued state.Paused p q = true≢false (sym q)
+complete_not_queued state.Stopping p q = true≢false (sym q)
+complete_not_queued state.Aborting p q = true≢false (sym q)
+
+-- ---- while it executes
+
+module _ (number : ℕ) (counted : ℕ → Bool) (f : ToolFloor) (h : Sound f) (t : AreTogether f.jobs) (s : AreStarted f.jobs) (e : Executes number counted f)
+    (n : ℕ) (j : ProcessJob) (known : job_numbered n f.jobs.process.kept ≡ Some j)
+  where
+    at_work : AtWork number counted f.jobs f
+    at_work = at_work_of number counted f e
+
+    -- where it steers behind a row that changes the state, it is at work there
+    works_so : (row : ℕ) → Steers number (fired_jobs n row f.jobs) → IsAtWork number f.jobs (fired_jobs n row f.jobs)
+    works_so row v =
+        state-works number f.jobs f.jobs t s at_work.steers row n j known (λ left. going_whole (after job_number job_table row j.states.state) (v.going n (fires_row row j) found_then left))
+        (λ q. v.started n (fires_row row j) found_then q)
+      where
+        found_then : job_numbered n (fired_jobs n row f.jobs).process.kept ≡ Some (fires_row row j)
+        found_then = fired_there n row f.jobs.process.kept ∙ ap (option_map (fires_row row)) known
+
+    state-executes : (row : ℕ) → (row == 2) ≡ false → Steers number (fired_jobs n row f.jobs) → Executes number counted (with_jobs (fired_jobs n row f.jobs) f)
+    state-executes row two v = executes_by number counted (with_jobs (fired_jobs n row f.jobs) f) (state-work number counted f h t s at_work n j known row two (works_so row v)) v
+
+    joined-executes : is_left_in number j.id f.jobs ≡ true → Steers number (fired_jobs n 2 f.jobs) → Executes number counted (with_jobs (fired_jobs n 2 f.jobs) (with_members j f))
+    joined-executes left v = executes_by number counted (with_jobs (fired_jobs n 2 f.jobs) (with_members j f)) (joined-work number counted f h t s at_work n j known left (works_so 2 v)) v
+
+    ended-executes : ((k : ℕ) (x : Substrate) → substrate_numbered k f.substrates ≡ Some x → x.job ≡ n → is_done k (picture f) ≡ true)
+        → (is_queued j.states.state ≡ true → is_left_in number j.id f.jobs ≡ true → ⊥) → Executes number counted (with_jobs (ended n f.jobs) (without_members j.number f))
+    ended-executes done apart =
+        executes_by number counted (with_jobs (ended n f.jobs) (without_members j.number f)) (ended-work number counted f h t s at_work n j known done apart) (ended-steers number f.jobs t s e.steers n)
 
     -- a row of the process job leaves it as it is, and as much is owed
     abbrev Keeps : ℕ → Type 0
@@ -314,7 +345,7 @@ module _ (number : ℕ) (counted : ℕ → Bool) (f : ToolFloor) (h : Sound f) (
 
         joins : is_left_in number j.id f.jobs ≡ true → Starts 2 → Calm 2 → Keeps 2
         joins left st c =
-            subst (λ (g : ToolFloor). Executes number counted g × (owed_to counted (picture g) ≡ owed_to counted (picture f))) (sym two_is)
+            subst (λ (g : ToolFloor). Executes number counted g × (owed_to counted (picture g) ≡ owed_to counted (picture f))) (sym (two_is f n j known))
             (joined-executes left (steers 2 st c), behind_owed f (joined j f.shop) (joined_alone f j) (fired_jobs n 2 f.jobs) counted)
 
         owed_ended : owed_to counted (picture (with_jobs (ended n f.jobs) (without_members j.number f))) ≡ owed_to counted (picture f)
@@ -323,10 +354,10 @@ module _ (number : ℕ) (counted : ℕ → Bool) (f : ToolFloor) (h : Sound f) (
         ends : is_left_in number j.id f.jobs ≡ true → Starts 7 → Calm 7 → Keeps 7
         ends left st c =
             let complete = complete_tells j.states.state (and_parts (is_among job_number (state.Complete ∷ []) j.states.state) true st).0 in
-            subst (λ (g : ToolFloor). Executes number counted g × (owed_to counted (picture g) ≡ owed_to counted (picture f))) (sym seven_is)
-            (ended-executes (complete_done complete) (λ q l. complete_not_queued complete q), owed_ended)
+            subst (λ (g : ToolFloor). Executes number counted g × (owed_to counted (picture g) ≡ owed_to counted (picture f))) (sym (seven_is f n j known))
+            (ended-executes (complete_done f n j known h complete) (λ q l. complete_not_queued j.states.state complete q), owed_ended)
 
         fifteen : is_left_in number j.id f.jobs ≡ false → is_queued j.states.state ≡ true → Starts 15 → Calm 15 → Keeps 15
         fifteen out queued st c =
-            subst (λ (g : ToolFloor). Executes number counted g × (owed_to counted (picture g) ≡ owed_to counted (picture f))) (sym fifteen_is)
-            (ended-executes (queued_done queued) (λ q l. true≢false (sym l ∙ out)), owed_ended)
+            subst (λ (g : ToolFloor). Executes number counted g × (owed_to counted (picture g) ≡ owed_to counted (picture f))) (sym (fifteen_is f n j known))
+            (ended-executes (queued_done f n j known h queued) (λ q l. true≢false (sym l ∙ out)), owed_ended)

@@ -16,7 +16,7 @@ use Rattle.carrier.specs.Tables.{map_number, map_table}
 use Rattle.carrier.specs.Record.{is_id_not_read, is_map_not_read, is_map_verified}
 use Rattle.carrier.specs.Wants.{is_verified}
 use Rattle.carrier.specs.Carriers as carriers
-use Rattle.carrier.specs.Carriers.{has_name, carrier_named, carrier_numbered, change_numbered, is_usable, is_host_map}
+use Rattle.carrier.specs.Carriers.{carrier_named, carrier_numbered, is_usable, is_host_map}
 use Rattle.shop_floor.specs.Floor.{Floor}
 use Rattle.shop_floor.specs.Machines as shop
 use Rattle.shop_floor.specs.Machines.{carrier_starts}
@@ -29,6 +29,7 @@ use Rattle.substrate.specs.Tables.{processing_number}
 use Rattle.substrate.specs.Places.{registered, substrate_named, has_name as place_has_name}
 use Rattle.substrate.specs.declared.registered.Registered.{Registered}
 use Rattle.process_job.specs.Jobs.{job_numbered}
+use Rattle.tool_jobs.specs.Jobs.{Jobs}
 use Rattle.process_job.specs.declared.job.ProcessJob.{ProcessJob}
 use Rattle.tool_floor.specs.declared.tracking.Substrate.{Substrate}
 use Rattle.tool_floor.specs.Floor.{ToolFloor, with_shop, substrate_numbered, number_of}
@@ -65,13 +66,15 @@ use Rattle.owed_laws.specs.Undisturbed.{Undisturbed}
 use Rattle.owed_laws.proofs.Carrying.{registered-stays}
 use Rattle.owed_laws.proofs.Agreeing.{agree-undisturbed, agree-owed}
 use Rattle.queue_laws.specs.Started.{is_left_in}
-use Rattle.lot_laws.specs.Lot.{IsInJob, Waits, Executes}
+use Rattle.lot_laws.specs.Lot.{IsInJob, Waits, Executes, AtWork}
 use Rattle.lot_laws.proofs.Naming.{slot_names_carrier}
-use Rattle.lot_laws.proofs.Standing.{joins_tell, undisturbed}
-use Rattle.lot_laws.proofs.Shops.{named_of, same_use, shop-executes}
+use Rattle.lot_laws.proofs.Standing.{joins_tell, work-undisturbed}
+use Rattle.lot_laws.proofs.AtWork.{at_work_of}
+use Rattle.lot_laws.proofs.Works.{WorksOn, works_execute}
+use Rattle.lot_laws.proofs.Shops.{named_of, same_use, shop-works}
 
 -- one that is found with one more behind is one of those before, or that one
-found_either : (k : ℕ) (ss : List Substrate) (x y : Substrate) → substrate_numbered k (ss ++ x ∷ []) ≡ Some y → (substrate_numbered k ss ≡ Some y) ⊎ ((x.number ≡ k) × (y ≡ x))
+pub found_either : (k : ℕ) (ss : List Substrate) (x y : Substrate) → substrate_numbered k (ss ++ x ∷ []) ≡ Some y → (substrate_numbered k ss ≡ Some y) ⊎ ((x.number ≡ k) × (y ≡ x))
 found_either k [] x y e = of (x.number == k) refl e where
   of : (b : Bool) → (x.number == k) ≡ b → (if b then Some x else None) ≡ Some y → (substrate_numbered k [] ≡ Some y) ⊎ ((x.number ≡ k) × (y ≡ x))
   of true q f = inr ((Decides-eqb x.number k).0 q, sym (some_same x y f))
@@ -83,7 +86,7 @@ found_either k (s ∷ ss) x y e = of (s.number == k) e (found_either k ss x y) w
   of false f later = later f
 
 -- the carrier whose substrates are registered, as it is before its map is VERIFIED, and then; its port
-module _ (number : ℕ) (counted : ℕ → Bool) (s : Floor) (valid : IsFloor s) (c d : Carrier) (port : PortNo) (found : carrier_numbered c.number s.carriers ≡ Some d) (present : d.present ≡ true) (is_read : is_map_verified d.states.map ≡ true) (at : d.port ≡ Some port) (named : d.name ≡ c.name) where
+module _ (number : ℕ) (counted : ℕ → Bool) (before : Jobs) (s : Floor) (valid : IsFloor s) (c d : Carrier) (port : PortNo) (found : carrier_numbered c.number s.carriers ≡ Some d) (present : d.present ≡ true) (is_read : is_map_verified d.states.map ≡ true) (at : d.port ≡ Some port) (named : d.name ≡ c.name) where
   abbrev Fills : ℕ → ToolFloor → Type 0
   Fills k f = Filling s valid c d port found present is_read at named k f
 
@@ -92,11 +95,11 @@ module _ (number : ℕ) (counted : ℕ → Bool) (s : Floor) (valid : IsFloor s)
   Unnamed f = (k : ℕ) (j : ProcessJob) → job_numbered k f.jobs.process.kept ≡ Some j → is_left_in number j.id f.jobs ≡ true → names_carrier c.name j ≡ true → ⊥
 
   abbrev Keeps : ToolFloor → ToolFloor → Type 0
-  Keeps f g = Executes number counted (with_shop s g) × (owed_to counted (picture (with_shop s g)) ≡ owed_to counted (picture (with_shop s f)))
+  Keeps f g = AtWork number counted before (with_shop s g) × (owed_to counted (picture (with_shop s g)) ≡ owed_to counted (picture (with_shop s f)))
 
   -- ---- one
 
-  module _ (slot : SlotNo) (f : ToolFloor) (first : 1 ≤ slot.0) (last : slot.0 ≤ 25) (fill : Filling s valid c d port found present is_read at named slot.0 f) (e : Executes number counted (with_shop s f)) (unnamed : Unnamed f) where
+  module _ (slot : SlotNo) (f : ToolFloor) (first : 1 ≤ slot.0) (last : slot.0 ≤ 25) (fill : Filling s valid c d port found present is_read at named slot.0 f) (e : AtWork number counted before (with_shop s f)) (unnamed : Unnamed f) where
     name : List ℕ
     name = name_in_slot c.name slot.0
 
@@ -119,7 +122,7 @@ module _ (number : ℕ) (counted : ℕ → Bool) (s : Floor) (valid : IsFloor s)
 
     -- it stands undisturbed before
     u : Undisturbed counted (picture (with_shop s f))
-    u = undisturbed number counted (with_shop s f) (record { shop = valid; carried = fill.carried; members = fill.members }) e
+    u = work-undisturbed number counted (with_shop s f) (record { shop = valid; carried = fill.carried; members = fill.members }) e
 
     abbrev new : Substrate
     new = first_substrate (f.places.given + 1) (name_in_slot c.name slot.0) c.number (Slot port slot)
@@ -158,9 +161,9 @@ module _ (number : ℕ) (counted : ℕ → Bool) (s : Floor) (valid : IsFloor s)
         ∙ ap (λ (l : Option Loc). law.is_finished ((picture (with_shop s f)).processing k) && not (law.is_outside l)) (agrees.place_of k ∙ set_else (f.places.given + 1) k (Some (law.slot port.0 slot.0)) (picture (with_shop s f)).place_of apart)
         ∙ done
 
-    pub one-executes : Executes number counted (with_shop s (record f { places = registered (name_in_slot c.name slot.0) (Slot port slot) f.places; substrates = f.substrates ++ first_substrate (f.places.given + 1) (name_in_slot c.name slot.0) c.number (Slot port slot) ∷ [] }))
+    pub one-works : AtWork number counted before (with_shop s (record f { places = registered (name_in_slot c.name slot.0) (Slot port slot) f.places; substrates = f.substrates ++ first_substrate (f.places.given + 1) (name_in_slot c.name slot.0) c.number (Slot port slot) ∷ [] }))
         × (owed_to counted (picture (with_shop s (record f { places = registered (name_in_slot c.name slot.0) (Slot port slot) f.places; substrates = f.substrates ++ first_substrate (f.places.given + 1) (name_in_slot c.name slot.0) c.number (Slot port slot) ∷ [] }))) ≡ owed_to counted (picture (with_shop s f)))
-    one-executes = (
+    one-works = (
       record {
         steers = e.steers;
         here = e.here;
@@ -192,10 +195,10 @@ module _ (number : ℕ) (counted : ℕ → Bool) (s : Floor) (valid : IsFloor s)
 
   -- ---- so many slots
 
-  slot-executes : (slot : SlotNo) (code : ℕ) (f : ToolFloor) → 1 ≤ slot.0 → slot.0 ≤ 25 → Fills slot.0 f → Executes number counted (with_shop s f) → Unnamed f → Keeps f (registers_slot c port slot.0 code f)
-  slot-executes slot code f first last fill e unnamed = by_code (code == 3) where
+  slot-works : (slot : SlotNo) (code : ℕ) (f : ToolFloor) → 1 ≤ slot.0 → slot.0 ≤ 25 → Fills slot.0 f → AtWork number counted before (with_shop s f) → Unnamed f → Keeps f (registers_slot c port slot.0 code f)
+  slot-works slot code f first last fill e unnamed = by_code (code == 3) where
     by_can : (b : Bool) → Keeps f (if b then record f { places = registered (name_in_slot c.name slot.0) (Slot port slot) f.places; substrates = f.substrates ++ first_substrate (f.places.given + 1) (name_in_slot c.name slot.0) c.number (Slot port slot) ∷ [] } else f)
-    by_can true = one-executes slot f first last fill e unnamed
+    by_can true = one-works slot f first last fill e unnamed
     by_can false = (e, refl)
 
     by_code : (b : Bool) → Keeps f (if b then registers_at (name_in_slot c.name slot.0) c.number (Slot port slot) f else f)
@@ -212,14 +215,14 @@ module _ (number : ℕ) (counted : ℕ → Bool) (s : Floor) (valid : IsFloor s)
     by_code true = by_can (can_register (name_in_slot c.name slot) (Slot port (record { 0 = slot })) f.places)
     by_code false = refl
 
-  pub slots-execute : (count k : ℕ) (codes : List ℕ) (f : ToolFloor) → 1 ≤ k → k + count ≤ 26 → Filling s valid c d port found present is_read at named k f → Executes number counted (with_shop s f) → Unnamed f
-      → Executes number counted (with_shop s (registers_slots c port k count codes f)) × (owed_to counted (picture (with_shop s (registers_slots c port k count codes f))) ≡ owed_to counted (picture (with_shop s f)))
-  slots-execute zero k codes f first last fill e unnamed = (e, refl)
-  slots-execute (suc count) k [] f first last fill e unnamed = (e, refl)
-  slots-execute (suc count) k (code ∷ codes) f first last fill e unnamed =
-      let one = slot-executes (record { 0 = k }) code f first (omega (arith, last)) fill e unnamed in
+  pub slots-work : (count k : ℕ) (codes : List ℕ) (f : ToolFloor) → 1 ≤ k → k + count ≤ 26 → Filling s valid c d port found present is_read at named k f → AtWork number counted before (with_shop s f) → Unnamed f
+      → AtWork number counted before (with_shop s (registers_slots c port k count codes f)) × (owed_to counted (picture (with_shop s (registers_slots c port k count codes f))) ≡ owed_to counted (picture (with_shop s f)))
+  slots-work zero k codes f first last fill e unnamed = (e, refl)
+  slots-work (suc count) k [] f first last fill e unnamed = (e, refl)
+  slots-work (suc count) k (code ∷ codes) f first last fill e unnamed =
+      let one = slot-works (record { 0 = k }) code f first (omega (arith, last)) fill e unnamed in
       let then_fill = (slots_filled s valid c d port found present is_read at named 1 k (code ∷ []) f first (omega (arith, last)) fill).filling in
-      let rest = slots-execute count (k + 1) codes (registers_slot c port k code f) (omega (arith, first)) (omega (arith, last)) then_fill one.0
+      let rest = slots-work count (k + 1) codes (registers_slot c port k code f) (omega (arith, first)) (omega (arith, last)) then_fill one.0
       (λ i j kept left names. unnamed i j (sym (ap (λ w. job_numbered i w.process.kept) (jobs_same k code f)) ∙ kept) (sym (ap (λ w. is_left_in number j.id w) (jobs_same k code f)) ∙ left) names) in
       (rest.0, rest.1 ∙ one.1)
 
@@ -269,7 +272,7 @@ becomes row c reads reaches starts =
 
 -- ---- the row
 
-module _ (number : ℕ) (counted : ℕ → Bool) (f : ToolFloor) (sound : Sound f) (e : Executes number counted f) (n row : ℕ) (reaches : reaches_verified row ≡ true) (starts : shop.floor_starts (firing 9 n row) f.shop ≡ true) where
+module _ (number : ℕ) (counted : ℕ → Bool) (f : ToolFloor) (sound : Sound f) {before : Jobs} (e : AtWork number counted before f) (n row : ℕ) (reaches : reaches_verified row ≡ true) (starts : shop.floor_starts (firing 9 n row) f.shop ≡ true) where
   b : Base f
   b = sound.base
 
@@ -289,11 +292,11 @@ module _ (number : ℕ) (counted : ℕ → Bool) (f : ToolFloor) (sound : Sound 
   stay = stay_numbered n change (λ c. refl) goes f.shop.carriers
 
   -- first the map is VERIFIED
-  first_executes : Executes number counted (with_shop verified_shop f)
-  first_executes = shop-executes number counted f sound e verified_shop stay valid (same_use f verified_shop (map_access f.shop n row))
+  first_works : AtWork number counted before (with_shop verified_shop f)
+  first_works = shop-works number counted f b e verified_shop stay valid (same_use f verified_shop (map_access f.shop n row))
 
   abbrev Goal : ToolFloor → Type 0
-  Goal g = Executes number counted g × (owed_to counted (picture g) ≡ owed_to counted (picture f))
+  Goal g = AtWork number counted before g × (owed_to counted (picture g) ≡ owed_to counted (picture f))
 
   module _ (c : Carrier) (found : carrier_numbered n f.shop.carriers ≡ Some c) (is : Becomes row c) (port : PortNo) (at : c.port ≡ Some port) where
     its_number : c.number ≡ n
@@ -338,7 +341,7 @@ module _ (number : ℕ) (counted : ℕ → Bool) (f : ToolFloor) (sound : Sound 
         true≢false (sym read ∙ is.not_yet)
 
     filled : Goal (with_shop verified_shop (registers_slots c port 1 25 c.map f))
-    filled = slots-execute number counted verified_shop valid c (change c) port changed_there is.here is.then_is at refl 25 1 c.map f (omega arith) (omega arith) filling first_executes unnamed
+    filled = slots-work number counted before verified_shop valid c (change c) port changed_there is.here is.then_is at refl 25 1 c.map f (omega arith) (omega arith) filling first_works unnamed
 
   at_port : (c : Carrier) → carrier_numbered n f.shop.carriers ≡ Some c → Becomes row c → (o : Option PortNo) → c.port ≡ o → Goal (with_shop verified_shop (registers_at_port o c f))
   at_port c found is None at = absurd (subst (λ (o : Option PortNo). IsSomeAnd o (λ (m : PortNo). (1 ≤ m.0) × (m.0 ≤ length f.shop.ports))) at (has_number f.shop c (numbered_contained n f.shop.carriers c found) is.here b.shop))
@@ -351,6 +354,34 @@ module _ (number : ℕ) (counted : ℕ → Bool) (f : ToolFloor) (sound : Sound 
       (becomes row c (true_of_found (λ (x : Carrier). x.number) n ReadWherePresent f.shop.carriers c b.shop.read found) reaches (sym (ap (carrier_starts map_number map_table (λ s. s.map) (λ to s. record s { map = to }) row) found) ∙ starts))
       c.port refl
 
+  -- the jobs are the same
+  same_slots : (c : Carrier) (port : PortNo) (count k : ℕ) (codes : List ℕ) (g : ToolFloor) → (registers_slots c port k count codes g).jobs ≡ g.jobs
+  same_slots c port zero k codes g = refl
+  same_slots c port (suc count) k [] g = refl
+  same_slots c port (suc count) k (code ∷ codes) g = same_slots c port count (k + 1) codes (registers_slot c port k code g) ∙ by_code (code == 3) where
+    by_can : (b : Bool) → (if b then record g { places = registered (name_in_slot c.name k) (Slot port (record { 0 = k })) g.places; substrates = g.substrates ++ first_substrate (g.places.given + 1) (name_in_slot c.name k) c.number (Slot port (record { 0 = k })) ∷ [] } else g).jobs ≡ g.jobs
+    by_can true = refl
+    by_can false = refl
+
+    by_code : (b : Bool) → (if b then registers_at (name_in_slot c.name k) c.number (Slot port (record { 0 = k })) g else g).jobs ≡ g.jobs
+    by_code true = by_can (can_register (name_in_slot c.name k) (Slot port (record { 0 = k })) g.places)
+    by_code false = refl
+
+  same_found : (o : Option Carrier) → (registers_found o f).jobs ≡ f.jobs
+  same_found None = refl
+  same_found (Some c) = of c.port where
+    of : (o : Option PortNo) → (registers_at_port o c f).jobs ≡ f.jobs
+    of None = refl
+    of (Some port) = same_slots c port 25 1 c.map f
+
   -- rows 1 and 3 of table 9
-  pub registration-executes : Executes number counted (floor_fired (firing 9 n row) f) × (owed_to counted (picture (floor_fired (firing 9 n row) f)) ≡ owed_to counted (picture f))
-  registration-executes = subst (λ (t : Bool). Goal (with_shop verified_shop (if t then registers_found (carrier_numbered n f.shop.carriers) f else f))) (sym reaches) (at_carrier (carrier_numbered n f.shop.carriers) refl)
+  pub registration-works : WorksOn number counted before f (floor_fired (firing 9 n row) f)
+  registration-works =
+      subst (λ (t : Bool). WorksOn number counted before f (with_shop verified_shop (if t then registers_found (carrier_numbered n f.shop.carriers) f else f))) (sym reaches)
+      (let on = at_carrier (carrier_numbered n f.shop.carriers) refl in (on.0, same_found (carrier_numbered n f.shop.carriers), on.1))
+
+-- so it executes on behind them
+pub registration-executes : (number : ℕ) (counted : ℕ → Bool) (f : ToolFloor) → Sound f → Executes number counted f → (n row : ℕ) → reaches_verified row ≡ true → shop.floor_starts (firing 9 n row) f.shop ≡ true
+    → Executes number counted (floor_fired (firing 9 n row) f) × (owed_to counted (picture (floor_fired (firing 9 n row) f)) ≡ owed_to counted (picture f))
+registration-executes number counted f sound e n row reaches starts =
+    works_execute number counted f (floor_fired (firing 9 n row) f) e (registration-works number counted f sound (at_work_of number counted f e) n row reaches starts)

@@ -15,7 +15,7 @@ use Rattle.carrier.specs.declared.record.Accessing.TheVariants as access
 use Rattle.carrier.specs.Tables.{CarrierRow, access_number, accessing_table}
 use Rattle.carrier.specs.Record.{is_map_verified}
 use Rattle.carrier.specs.Carriers as carriers
-use Rattle.carrier.specs.Carriers.{has_name, carrier_named, carrier_numbered, change_numbered}
+use Rattle.carrier.specs.Carriers.{has_name, carrier_named, carrier_numbered}
 use Rattle.shop_floor.specs.Floor.{Floor, with_carrier}
 use Rattle.shop_floor.specs.Machines as shop
 use Rattle.shop_floor.specs.Valid.{IsFloor}
@@ -23,6 +23,7 @@ use Rattle.shop_floor.proofs.Apart.{IsOnly, found_only, found_passes, has_its_na
 use Rattle.shop_floor.proofs.Keeps.{row-keeps as shop_keeps, accessing-keeps}
 use Rattle.substrate.specs.Record.{is_at_source, is_needing}
 use Rattle.process_job.specs.Jobs.{job_numbered}
+use Rattle.tool_jobs.specs.Jobs.{Jobs}
 use Rattle.process_job.specs.declared.job.Material.{Material}
 use Rattle.process_job.specs.declared.job.ProcessJob.{ProcessJob}
 use Rattle.tool_floor.specs.declared.tracking.Substrate.{Substrate}
@@ -34,7 +35,7 @@ use Rattle.tool_floor.specs.Substrates.{reaches_verified, without_carrier, regis
 use Rattle.shop_floor.specs.Owning.{owner_number}
 use Rattle.floor_moves.specs.Floor.{is_done}
 use Rattle.place_laws.specs.Picture.{picture, of_one}
-use Rattle.place_laws.specs.Sound.{Sound}
+use Rattle.place_laws.specs.Sound.{Base, Sound}
 use Rattle.place_laws.proofs.Stays.{Stay}
 use Rattle.place_laws.proofs.Leaving.{Leaves}
 use Rattle.place_laws.proofs.Holding.{kept_there, its_carrier}
@@ -46,14 +47,16 @@ use Rattle.floor_laws.proofs.GrowTaken.{by_its_number}
 use Rattle.floor_laws.proofs.ShopAccess.{SameAccess, found_numbered, transfer_access, mode_access, reservation_access, association_access, id_access, map_access}
 use Rattle.floor_laws.proofs.ShopTables.{is_shop_row}
 use Rattle.owed_laws.specs.Owed.{owed_to}
-use Rattle.lot_laws.specs.Lot.{IsInJob, Waits, Executes}
+use Rattle.lot_laws.specs.Lot.{IsInJob, Waits, Executes, AtWork}
 use Rattle.lot_laws.proofs.Naming.{use_number, name_there}
-use Rattle.lot_laws.proofs.Standing.{on_base, carried, jobs_stand}
+use Rattle.lot_laws.proofs.Standing.{on_base, carried, work-jobs}
+use Rattle.lot_laws.proofs.AtWork.{at_work_of}
+use Rattle.lot_laws.proofs.Works.{WorksOn, works_execute}
 
 -- ---- lists
 
 -- tests that agree on each find some alike
-any_alike : {A : Type 0} (t u : A → Bool) (xs : List A) → ((x : A) → t x ≡ u x) → list_any t xs ≡ list_any u xs
+pub any_alike : {A : Type 0} (t u : A → Bool) (xs : List A) → ((x : A) → t x ≡ u x) → list_any t xs ≡ list_any u xs
 any_alike t u [] h = refl
 any_alike t u (x ∷ xs) h = ap (λ (b : Bool). b || list_any t xs) (h x) ∙ ap (λ (b : Bool). u x || b) (any_alike t u xs h)
 
@@ -92,16 +95,16 @@ same_use f s same k c d found present there named less =
     let one : d ≡ w.0 = some_same d w.0 (sym there ∙ w.1) in
     subst (λ (a : ℕ). a ≤ 1) (sym (ap (λ (x : Carrier). access_number x.states.access) one ∙ w.2)) less
 
-module _ (number : ℕ) (counted : ℕ → Bool) (f : ToolFloor) (h : Sound f) (e : Executes number counted f) (s : Floor) (stay : Stay f.shop.carriers s.carriers) (valid : IsFloor s) (keep : KeepUse f s) where
+module _ (number : ℕ) (counted : ℕ → Bool) (f : ToolFloor) (h : Base f) {before : Jobs} (e : AtWork number counted before f) (s : Floor) (stay : Stay f.shop.carriers s.carriers) (valid : IsFloor s) (keep : KeepUse f s) where
   -- ---- the slots that are named
 
   carrier_same : (n : ℕ) (x : Substrate) → substrate_numbered n f.substrates ≡ Some x → (name : List ℕ) → list_any (is_carrier_of name x.carrier) s.carriers ≡ list_any (is_carrier_of name x.carrier) f.shop.carriers
   carrier_same n x found name =
-      let c = carried f (on_base f h.base) n x found in
+      let c = carried f (on_base f h) n x found in
       let d = stay x.carrier c.0 c.1 c.2.present c.2.verified in
       same_test _ _
       (λ q. let its = name_there name x.carrier 1 s.next_carrier s.carriers d.0 valid.rising q d.1 in there f.shop.carriers c.0 c.1 (sym d.2.name ∙ its))
-      (λ q. let its = name_there name x.carrier 1 f.shop.next_carrier f.shop.carriers c.0 h.base.shop.rising q c.1 in there s.carriers d.0 d.1 (d.2.name ∙ its))
+      (λ q. let its = name_there name x.carrier 1 f.shop.next_carrier f.shop.carriers c.0 h.shop.rising q c.1 in there s.carriers d.0 d.1 (d.2.name ∙ its))
     where
       there : (cs : List Carrier) (y : Carrier) → carrier_numbered x.carrier cs ≡ Some y → y.name ≡ name → list_any (is_carrier_of name x.carrier) cs ≡ true
       there cs y q its =
@@ -124,7 +127,7 @@ module _ (number : ℕ) (counted : ℕ → Bool) (f : ToolFloor) (h : Sound f) (
         let outer = and_parts c.present (is_map_verified c.states.map && is_in_use c.states.access) g in
         let inner = and_parts (is_map_verified c.states.map) (is_in_use c.states.access) outer.1 in
         let its = named_so name c (found_passes (has_name name) f.shop.carriers c q) in
-        let at = by_its_number f.shop h.base.shop name c q in
+        let at = by_its_number f.shop h.shop name c q in
         let d = stay c.number c at outer.0 inner.0 in
         let named : is_any_of_carrier c.name f.jobs ≡ true = any_found _ (names_carrier c.name) f.jobs.process.kept j kept (ap (λ (n : List ℕ). names_carrier n j) its ∙ names) in
         let less = keep c.number c d.0 at outer.0 d.1 named (use_number c.states.access inner.1) in
@@ -149,15 +152,15 @@ module _ (number : ℕ) (counted : ℕ → Bool) (f : ToolFloor) (h : Sound f) (
 
   -- ---- all of it
 
-  pub shop-executes : Executes number counted (with_shop s f)
-  shop-executes = record {
+  pub shop-works : AtWork number counted before (with_shop s f)
+  shop-works = record {
     steers = e.steers;
     here = λ k j kept left. material_here k j kept (e.here k j kept left);
     members = e.members;
     stands = λ n x found is. by n x found (e.stands n x found is);
     all = λ n k x j found kept left can. e.all n k x j found kept left (sym (join_same n x found j) ∙ can);
     substrates = record {
-      here = λ n kept is left. in_access n kept ((jobs_stand number counted f (on_base f h.base) e).named n kept is left) (e.substrates.here n kept is left);
+      here = λ n kept is left. in_access n kept ((work-jobs number counted f (on_base f h) e).named n kept is left) (e.substrates.here n kept is left);
       finished = e.substrates.finished;
       in_chamber = e.substrates.in_chamber;
       in_slot = e.substrates.in_slot;
@@ -172,13 +175,13 @@ module _ (number : ℕ) (counted : ℕ → Bool) (f : ToolFloor) (h : Sound f) (
 
     in_access : (n : ℕ) → is_one_of (picture f).substrates n ≡ true → (picture f).jobs.names_carrier ((picture f).carrier_of n) ≡ true → (picture f).access ((picture f).carrier_of n) ≤ 1 → (picture (with_shop s f)).access ((picture f).carrier_of n) ≤ 1
     in_access n kept named less =
-        let k = kept_there f h.base.carried n kept in
+        let k = kept_there f h.carried n kept in
         let which : (picture f).carrier_of n ≡ k.one.carrier = ap (of_one 0 (λ (t : Substrate). t.carrier)) k.found in
         let d = stay k.one.carrier k.its k.known k.of.present k.of.verified in
         let names : is_any_of_carrier k.its.name f.jobs ≡ true = sym (its_carrier f false (λ (x : Carrier). is_any_of_carrier x.name f.jobs) n k) ∙ named in
-        let before : access_number k.its.states.access ≤ 1 = subst (λ (a : ℕ). a ≤ 1) (its_carrier f 0 (λ (x : Carrier). access_number x.states.access) n k) less in
+        let earlier : access_number k.its.states.access ≤ 1 = subst (λ (a : ℕ). a ≤ 1) (its_carrier f 0 (λ (x : Carrier). access_number x.states.access) n k) less in
         let now : (picture (with_shop s f)).access ((picture f).carrier_of n) ≡ access_number d.0.states.access = ap (λ (m : ℕ). of_one 0 (λ (x : Carrier). access_number x.states.access) (carrier_numbered m s.carriers)) which ∙ ap (of_one 0 (λ (x : Carrier). access_number x.states.access)) d.1 in
-        subst (λ (a : ℕ). a ≤ 1) (sym now) (keep k.one.carrier k.its d.0 k.known k.of.present d.1 names before)
+        subst (λ (a : ℕ). a ≤ 1) (sym now) (keep k.one.carrier k.its d.0 k.known k.of.present d.1 names earlier)
 
 -- ---- table 10
 
@@ -190,7 +193,7 @@ begins access.Complete among = absurd (cc)
 begins access.Stopped among = absurd (cc)
 
 -- behind the row the carrier is NOT ACCESSED or IN ACCESS, or no process job names it
-abbrev MayAccess : ToolFloor → ℕ → Carrier → Type 0
+abbrev pub MayAccess : ToolFloor → ℕ → Carrier → Type 0
 MayAccess f row c = (access_number (carriers.fires_row 10 row c).states.access ≤ 1) ⊎ (is_any_of_carrier c.name f.jobs ≡ false)
 
 quiet_unnamed : (c : Carrier) (f : ToolFloor) (b : Bool) → (is_quiet c f && b) ≡ true → is_any_of_carrier c.name f.jobs ≡ false
@@ -209,7 +212,7 @@ may_access f row c other starts = of (row_of accessing_table row) refl starts ot
       subst (λ (m : ℕ). (m == 4) ≡ false → MayAccess f m c) here.1 (here.0 parts.0 parts.1) not_four
 
 -- the carriers that are named stay NOT ACCESSED or IN ACCESS behind it
-accessing_use : (f : ToolFloor) (n row : ℕ) (c : Carrier) → carrier_numbered n f.shop.carriers ≡ Some c → MayAccess f row c → KeepUse f (with_carrier n (carriers.fires_row 10 row) f.shop)
+pub accessing_use : (f : ToolFloor) (n row : ℕ) (c : Carrier) → carrier_numbered n f.shop.carriers ≡ Some c → MayAccess f row c → KeepUse f (with_carrier n (carriers.fires_row 10 row) f.shop)
 accessing_use f n row c known may k x d found present there named less =
     let at = found_numbered n (carriers.fires_row 10 row) (λ y. refl) k x f.shop.carriers found in
     let one : d ≡ (if k == n then carriers.fires_row 10 row x else x) = some_same d (if k == n then carriers.fires_row 10 row x else x) (sym there ∙ at) in
@@ -223,23 +226,24 @@ accessing_use f n row c known may k x d found present there named less =
     of false q = less
     of true q = its (some_same x c (sym found ∙ ap (λ (i : ℕ). carrier_numbered i f.shop.carriers) ((Decides-eqb k n).0 q) ∙ known)) may
 
-module _ (number : ℕ) (counted : ℕ → Bool) (f : ToolFloor) (sound : Sound f) (e : Executes number counted f) where
+module _ (number : ℕ) (counted : ℕ → Bool) (f : ToolFloor) (sound : Sound f) {before : Jobs} (e : AtWork number counted before f) where
   abbrev Keeps : ToolFloor → Type 0
-  Keeps g = Executes number counted g × (owed_to counted (picture g) ≡ owed_to counted (picture f))
+  Keeps g = WorksOn number counted before f g
 
-  accessing-executes : (n row : ℕ) → (row == 4) ≡ false → floor_starts (firing 10 n row) f ≡ true → Keeps (floor_fired (firing 10 n row) f)
-  accessing-executes n row other starts = of (carrier_numbered n f.shop.carriers) refl starts where
+  accessing-works : (n row : ℕ) → (row == 4) ≡ false → floor_starts (firing 10 n row) f ≡ true → Keeps (floor_fired (firing 10 n row) f)
+  accessing-works n row other starts = of (carrier_numbered n f.shop.carriers) refl starts where
     of : (o : Option Carrier) → carrier_numbered n f.shop.carriers ≡ o → accessing_starts row o f ≡ true → Keeps (floor_fired (firing 10 n row) f)
     of None known w = absurd (true≢false (sym w))
     of (Some c) known w = (
-      shop-executes number counted f sound e (with_carrier n (carriers.fires_row 10 row) f.shop) (accessing_leaves f.substrates f.shop n row).stay (accessing-keeps f.shop n row sound.base.shop)
+      shop-works number counted f sound.base e (with_carrier n (carriers.fires_row 10 row) f.shop) (accessing_leaves f.substrates f.shop n row).stay (accessing-keeps f.shop n row sound.base.shop)
           (accessing_use f n row c known (may_access f row c other w)),
+      refl,
       refl,
     )
 
   -- the locations
-  location-executes : (n row : ℕ) → Keeps (floor_fired (firing 11 n row) f)
-  location-executes n row = (record { steers = e.steers; here = e.here; members = e.members; stands = λ k x found is. by k x (e.stands k x found is); all = e.all; substrates = e.substrates }, refl) where
+  location-works : (n row : ℕ) → Keeps (floor_fired (firing 11 n row) f)
+  location-works n row = (record { steers = e.steers; here = e.here; members = e.members; stands = λ k x found is. by k x (e.stands k x found is); all = e.all; substrates = e.substrates }, refl, refl) where
     by : (k : ℕ) (x : Substrate) → (is_done k (picture f) ≡ true) ⊎ (IsInJob x f ⊎ Waits number x f) → (is_done k (picture f) ≡ true) ⊎ (IsInJob x (floor_fired (firing 11 n row) f) ⊎ Waits number x (floor_fired (firing 11 n row) f))
     by k x (inl done) = inl done
     by k x (inr (inl its)) = inr (inl its)
@@ -249,7 +253,7 @@ module _ (number : ℕ) (counted : ℕ → Bool) (f : ToolFloor) (sound : Sound 
       → Keeps (with_shop (shop.floor_fired (firing table object row) f.shop) f)
   by_shop table object row s leaves same =
       let g = shop.floor_fired (firing table object row) f.shop in
-      (shop-executes number counted f sound e g leaves.stay (shop_keeps (firing table object row) f.shop s sound.base.shop) (same_use f g same), refl)
+      (shop-works number counted f sound.base e g leaves.stay (shop_keeps (firing table object row) f.shop s sound.base.shop) (same_use f g same), refl, refl)
 
   -- a row of table 7 that takes nothing along
   takes_none : (row port : ℕ) → is_gentle row ≡ true → taken_along row port f ≡ f
@@ -260,19 +264,19 @@ module _ (number : ℕ) (counted : ℕ → Bool) (f : ToolFloor) (sound : Sound 
         absurd (let clash : false ≡ true = sym (ap is_gentle same) ∙ gentle in cc)
     of false is = refl
 
-  association-executes : (port row : ℕ) → shop.floor_starts (firing 7 port row) f.shop ≡ true → is_gentle row ≡ true → Keeps (floor_fired (firing 7 port row) f)
-  association-executes port row s gentle =
+  association-works : (port row : ℕ) → shop.floor_starts (firing 7 port row) f.shop ≡ true → is_gentle row ≡ true → Keeps (floor_fired (firing 7 port row) f)
+  association-works port row s gentle =
       subst (λ (g : ToolFloor). Keeps (with_shop (shop.floor_fired (firing 7 port row) f.shop) g)) (sym (takes_none row port gentle))
       (by_shop 7 port row s (association_leaves f.substrates f.shop port row sound.base.shop sound.ports gentle s) (association_access f.shop port row sound.ports gentle s))
 
-  slots-execute : (carrier row : ℕ) → shop.floor_starts (firing 9 carrier row) f.shop ≡ true → reaches_verified row ≡ false → Keeps (floor_fired (firing 9 carrier row) f)
-  slots-execute carrier row s reaches =
+  slots-work : (carrier row : ℕ) → shop.floor_starts (firing 9 carrier row) f.shop ≡ true → reaches_verified row ≡ false → Keeps (floor_fired (firing 9 carrier row) f)
+  slots-work carrier row s reaches =
       subst (λ (t : Bool). Keeps (with_shop (shop.floor_fired (firing 9 carrier row) f.shop) (if t then registers_found (carrier_numbered carrier f.shop.carriers) f else f))) (sym reaches)
       (by_shop 9 carrier row s (map_leaves f.substrates f.shop carrier row reaches) (map_access f.shop carrier row))
 
   -- The rows of tables 4 to 11, but for 3 and 5 of table 4, 2 and 6 of table 7, those of table 9 that reach VERIFIED, and 4 of table 10.
-  pub shop_row-executes : (x : Firing) → floor_starts x f ≡ true → is_shop_row x ≡ true → Executes number counted (floor_fired x f) × (owed_to counted (picture (floor_fired x f)) ≡ owed_to counted (picture f))
-  shop_row-executes x starts kind =
+  pub shop_row-works : (x : Firing) → floor_starts x f ≡ true → is_shop_row x ≡ true → WorksOn number counted before f (floor_fired x f)
+  shop_row-works x starts kind =
       starts_cases (λ (y : Firing). is_shop_row y ≡ true → Keeps (floor_fired y f)) f x floor_machines (
         (λ s kind. by_shop 4 x.object x.row.row s (transfer_leaves f.substrates f.shop x.object x.row.row) (transfer_access f.shop x.object x.row.row)),
         (
@@ -280,15 +284,15 @@ module _ (number : ℕ) (counted : ℕ → Bool) (f : ToolFloor) (sound : Sound 
           (
             (λ s kind. by_shop 6 x.object x.row.row s (reservation_leaves f.substrates f.shop x.object x.row.row) (reservation_access f.shop x.object x.row.row)),
             (
-              (λ s kind. association-executes x.object x.row.row s (and_parts (is_plain_row (firing 7 x.object x.row.row)) _ kind).0),
+              (λ s kind. association-works x.object x.row.row s (and_parts (is_plain_row (firing 7 x.object x.row.row)) _ kind).0),
               (
                 (λ s kind. by_shop 8 x.object x.row.row s (id_leaves f.substrates f.shop x.object x.row.row) (id_access f.shop x.object x.row.row)),
                 (
-                  (λ s kind. slots-execute x.object x.row.row s (not-true _ (unverified x.row.row kind))),
+                  (λ s kind. slots-work x.object x.row.row s (not-true _ (unverified x.row.row kind))),
                   (
-                    (λ s kind. accessing-executes x.object x.row.row (not-true _ kind) s),
+                    (λ s kind. accessing-works x.object x.row.row (not-true _ kind) s),
                     (
-                      (λ s kind. location-executes x.object x.row.row),
+                      (λ s kind. location-works x.object x.row.row),
                       ((λ s kind. absurd (cc)), ((λ s kind. absurd (cc)), ((λ s kind. absurd (cc)), ((λ s kind. absurd (cc)), ((λ s kind. absurd (cc)), tt))))),
                     ),
                   ),
@@ -305,3 +309,9 @@ module _ (number : ℕ) (counted : ℕ → Bool) (f : ToolFloor) (sound : Sound 
         of : (t : Bool) → (t || false) ≡ true → t ≡ true
         of true q = refl
         of false q = q
+
+-- so it executes on behind them
+pub shop_row-executes : (number : ℕ) (counted : ℕ → Bool) (f : ToolFloor) → Sound f → Executes number counted f → (x : Firing) → floor_starts x f ≡ true → is_shop_row x ≡ true
+    → Executes number counted (floor_fired x f) × (owed_to counted (picture (floor_fired x f)) ≡ owed_to counted (picture f))
+shop_row-executes number counted f sound e x starts kind =
+    works_execute number counted f (floor_fired x f) e (shop_row-works number counted f sound (at_work_of number counted f e) x starts kind)

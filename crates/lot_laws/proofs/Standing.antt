@@ -1,5 +1,5 @@
--- While a control job executes, what its process jobs say of substrates stands as it does undisturbed.
-use Rattle.std.proofs.Common.{◌≡◌, ℕ, ◌==◌, Bool, true, false, not, ◌&&◌, Some, refl, sym, ◌∙◌, ap, ◌⊎◌, inl, inr}
+-- While a control job is at work, what its process jobs say of substrates stands as it does undisturbed.
+use Rattle.std.proofs.Common.{◌≡◌, ℕ, ◌==◌, Bool, true, false, not, ◌&&◌, ◌||◌, Some, refl, sym, ◌∙◌, ap, ◌⊎◌, inl, inr}
 use Rattle.std.specs.List.{AllByRecursion}
 use Rattle.std.proofs.lemmas.Bool.{true≢false, and_parts}
 use Rattle.carrier.specs.declared.carrier.Carrier.{Carrier}
@@ -10,6 +10,7 @@ use Rattle.process_job.specs.Jobs.{job_numbered}
 use Rattle.process_job.specs.declared.record.JobState.{JobState}
 use Rattle.process_job.specs.declared.record.JobState.TheVariants as state
 use Rattle.process_job.specs.declared.job.ProcessJob.{ProcessJob}
+use Rattle.tool_jobs.specs.Jobs.{Jobs}
 use Rattle.tool_floor.specs.declared.tracking.Substrate.{Substrate}
 use Rattle.tool_floor.specs.Floor.{ToolFloor, substrate_numbered, number_of}
 use Rattle.tool_floor.specs.Jobs.{job_of, names_carrier, is_any_of_carrier, is_stopping, is_aborting, can_join}
@@ -23,8 +24,8 @@ use Rattle.place_laws.proofs.Holding.{one_found, true_of_found}
 use Rattle.floor_laws.proofs.JobSays.{IsMember, member_tells, any_found}
 use Rattle.owed_laws.specs.Undisturbed.{JobsStand, Undisturbed}
 use Rattle.queue_laws.specs.Started.{is_queued, is_left_in}
-use Rattle.queue_laws.specs.Steers.{goes_on}
-use Rattle.lot_laws.specs.Lot.{is_in_named_slot, IsInJob, Waits, Executes}
+use Rattle.lot_laws.specs.Lot.{is_in_named_slot, IsInJob, Waits, Executes, breaks_off, AtWork}
+use Rattle.lot_laws.proofs.AtWork.{at_work_of}
 use Rattle.lot_laws.proofs.Naming.{slot_names_carrier}
 
 -- ---- states
@@ -39,28 +40,6 @@ queued_same state.Pausing = refl
 queued_same state.Paused = refl
 queued_same state.Stopping = refl
 queued_same state.Aborting = refl
-
-going_not_stopping : (s : JobState) → goes_on s ≡ true → is_stopping s ≡ true → ⊥
-going_not_stopping state.Stopping g e = true≢false (sym g)
-going_not_stopping state.Queued g e = true≢false (sym e)
-going_not_stopping state.SettingUp g e = true≢false (sym e)
-going_not_stopping state.WaitingForStart g e = true≢false (sym e)
-going_not_stopping state.Processing g e = true≢false (sym e)
-going_not_stopping state.Complete g e = true≢false (sym e)
-going_not_stopping state.Pausing g e = true≢false (sym e)
-going_not_stopping state.Paused g e = true≢false (sym e)
-going_not_stopping state.Aborting g e = true≢false (sym e)
-
-going_not_aborting : (s : JobState) → goes_on s ≡ true → is_aborting s ≡ true → ⊥
-going_not_aborting state.Aborting g e = true≢false (sym g)
-going_not_aborting state.Queued g e = true≢false (sym e)
-going_not_aborting state.SettingUp g e = true≢false (sym e)
-going_not_aborting state.WaitingForStart g e = true≢false (sym e)
-going_not_aborting state.Processing g e = true≢false (sym e)
-going_not_aborting state.Complete g e = true≢false (sym e)
-going_not_aborting state.Pausing g e = true≢false (sym e)
-going_not_aborting state.Paused g e = true≢false (sym e)
-going_not_aborting state.Stopping g e = true≢false (sym e)
 
 -- what isn't so
 pub not_so : (b : Bool) → (b ≡ true → ⊥) → b ≡ false
@@ -116,29 +95,34 @@ module _ (f : ToolFloor) (h : IsCarriedOn f) where
       ∙ ap (of_one false (λ (x : Carrier). is_any_of_carrier x.name f.jobs)) its
       ∙ any_found _ (names_carrier c.name) f.jobs.process.kept j kept named
 
--- ---- while it executes
+-- ---- while it is at work
 
-module _ (number : ℕ) (counted : ℕ → Bool) (f : ToolFloor) (h : IsCarriedOn f) (e : Executes number counted f) where
+-- one that isn't STOPPING or ABORTING is neither
+neither : (a b : Bool) → (a || b) ≡ false → (a ≡ false) × (b ≡ false)
+neither true b q = absurd (true≢false q)
+neither false b q = (refl, q)
+
+module _ (number : ℕ) (counted : ℕ → Bool) {before : Jobs} (f : ToolFloor) (h : IsCarriedOn f) (e : AtWork number counted before f) where
   -- the job of one that is in one is left in the control job
-  pub member_left : (n : ℕ) (s : Substrate) (j : ProcessJob) → substrate_numbered n f.substrates ≡ Some s → job_of s f.jobs ≡ Some j → is_left_in number j.id f.jobs ≡ true
-  member_left n s j found its = e.steers.started s.job j its (member_begun f h n s j found its)
+  pub work-left : (n : ℕ) (s : Substrate) (j : ProcessJob) → substrate_numbered n f.substrates ≡ Some s → job_of s f.jobs ≡ Some j → is_left_in number j.id f.jobs ≡ true
+  work-left n s j found its = e.steers.started s.job j its (member_begun f h n s j found its)
 
-  -- and goes on
-  member_goes : (n : ℕ) (s : Substrate) (j : ProcessJob) → substrate_numbered n f.substrates ≡ Some s → job_of s f.jobs ≡ Some j → goes_on j.states.state ≡ true
-  member_goes n s j found its = e.steers.going s.job j its (member_left n s j found its)
+  -- and isn't STOPPING or ABORTING
+  member_whole : (n : ℕ) (s : Substrate) (j : ProcessJob) → substrate_numbered n f.substrates ≡ Some s → job_of s f.jobs ≡ Some j → breaks_off j.states.state ≡ false
+  member_whole n s j found its = e.steers.whole s.job j its (work-left n s j found its)
 
-  pub jobs_stand : JobsStand counted (picture f)
-  jobs_stand = record {
+  pub work-jobs : JobsStand counted (picture f)
+  work-jobs = record {
     members = e.members;
     not_stopping = λ n. not_so ((picture f).jobs.is_stopping n) (λ is. stops n (member_tells f.substrates f.jobs n (λ j. is_stopping j.states.state) is));
     not_aborting = λ n. not_so ((picture f).jobs.is_aborting n) (λ is. aborts n (member_tells f.substrates f.jobs n (λ j. is_aborting j.states.state) is));
     named = λ n kept is left. let s = one_found number_of n f.substrates kept in names n s.0 s.1 left (e.stands n s.0 s.1 is);
   } where
     stops : (n : ℕ) → IsMember f.substrates f.jobs (λ j. is_stopping j.states.state) n → ⊥
-    stops n m = going_not_stopping m.job.states.state (member_goes n m.one m.job m.found m.its) m.so
+    stops n m = true≢false (sym m.so ∙ (neither (is_stopping m.job.states.state) (is_aborting m.job.states.state) (member_whole n m.one m.job m.found m.its)).0)
 
     aborts : (n : ℕ) → IsMember f.substrates f.jobs (λ j. is_aborting j.states.state) n → ⊥
-    aborts n m = going_not_aborting m.job.states.state (member_goes n m.one m.job m.found m.its) m.so
+    aborts n m = true≢false (sym m.so ∙ (neither (is_stopping m.job.states.state) (is_aborting m.job.states.state) (member_whole n m.one m.job m.found m.its)).1)
 
     first_so : (a b : Bool) → (a && b) ≡ true → a ≡ true
     first_so true b q = refl
@@ -154,5 +138,17 @@ module _ (number : ℕ) (counted : ℕ → Bool) (f : ToolFloor) (h : IsCarriedO
         let c = carried f h n s found in
         named_by f h n w.at s w.job c.0 found w.kept c.1 (slot_names_carrier w.job f.shop s c.0 h.shop c.1 (joins_tell w.job f s w.joins).named)
 
+  pub work-undisturbed : Undisturbed counted (picture f)
+  work-undisturbed = record { jobs = work-jobs; substrates = e.substrates }
+
+-- ---- while it executes
+
+module _ (number : ℕ) (counted : ℕ → Bool) (f : ToolFloor) (h : IsCarriedOn f) (e : Executes number counted f) where
+  pub member_left : (n : ℕ) (s : Substrate) (j : ProcessJob) → substrate_numbered n f.substrates ≡ Some s → job_of s f.jobs ≡ Some j → is_left_in number j.id f.jobs ≡ true
+  member_left = work-left number counted f h (at_work_of number counted f e)
+
+  pub jobs_stand : JobsStand counted (picture f)
+  jobs_stand = work-jobs number counted f h (at_work_of number counted f e)
+
   pub undisturbed : Undisturbed counted (picture f)
-  undisturbed = record { jobs = jobs_stand; substrates = e.substrates }
+  undisturbed = work-undisturbed number counted f h (at_work_of number counted f e)

@@ -1,6 +1,6 @@
 -- A control job that executes undisturbed on the floor of the tool: its substrates (after SEMI E40, SEMI E90 and SEMI E94; this tool's
 -- profile, tables 14 and 15, and moves). Which substrates are counted is settled as it starts.
-use Rattle.std.specs.Prelude.{◌≡◌, ◌⊎◌, ℕ, ◌+◌, ◌==◌, Bool, true, false, ◌&&◌, [], ◌∷◌, Some}
+use Rattle.std.specs.Prelude.{◌≡◌, ◌⊎◌, ℕ, ◌+◌, ◌==◌, ◌≤◌, Bool, true, false, ◌&&◌, ◌||◌, [], ◌∷◌, Option, Some, None}
 use Rattle.std.specs.List.{list_any}
 use Rattle.gem_tables.specs.Table.{firing, is_one_of}
 use Rattle.gem_tables.specs.declared.firing.Firing.{Firing}
@@ -8,11 +8,17 @@ use Rattle.shop_floor.specs.Floor.{Floor}
 use Rattle.substrate.specs.Record.{is_at_source, is_needing}
 use Rattle.process_job.specs.Jobs.{job_numbered}
 use Rattle.process_job.specs.declared.job.ProcessJob.{ProcessJob}
+use Rattle.process_job.specs.declared.record.JobState.{JobState}
 use Rattle.control_job.specs.Jobs.{job_numbered as control_numbered}
+use Rattle.control_job.specs.Tables.{states_number}
+use Rattle.control_job.specs.Record.{is_active}
+use Rattle.control_job.specs.declared.job.ControlJob.{ControlJob}
+use Rattle.tool_jobs.specs.Jobs.{Jobs}
+use Rattle.tool_jobs.specs.Wants.{is_ending, ends_so}
 use Rattle.tool_jobs.specs.Together.{AreTogether}
 use Rattle.tool_floor.specs.declared.tracking.Substrate.{Substrate}
 use Rattle.tool_floor.specs.Floor.{ToolFloor, substrate_numbered}
-use Rattle.tool_floor.specs.Jobs.{names_slot_of, can_join, is_here, job_of}
+use Rattle.tool_floor.specs.Jobs.{names_slot_of, can_join, is_here, job_of, is_stopping, is_aborting}
 use Rattle.tool_floor.specs.Substrates.{reaches_verified}
 use Rattle.tool_floor.specs.Machines.{floor_fired}
 use Rattle.floor_moves.specs.Floor.{is_done}
@@ -119,3 +125,62 @@ pub record IsCalmBetween (number : ℕ) (counted : ℕ → Bool) (f g : ToolFloo
       → (k : ProcessJob) × (job_numbered n g.jobs.process.kept ≡ Some k) × (goes_on k.states.state ≡ true)
   pub works : (n : ℕ) → counted n ≡ true → is_one_of (3 ∷ 4 ∷ 6 ∷ 7 ∷ []) ((picture g).processing n) ≡ true
       → (picture g).processing n ≡ (picture f).processing n
+
+-- ---- while an input comes
+
+-- a control job is EXECUTING or PAUSED, and isn't ending
+abbrev pub is_under_way : Option ControlJob → Bool
+is_under_way None = false
+is_under_way (Some c) = is_one_of (3 ∷ 4 ∷ []) (states_number c.states)
+
+-- a process job is STOPPING or ABORTING
+abbrev pub breaks_off : JobState → Bool
+breaks_off s = is_stopping s || is_aborting s
+
+-- the process job of a number was kept, and was left in the control job of a number
+abbrev pub WasLeft : ℕ → Jobs → ℕ → Type 0
+WasLeft number before n = (j : ProcessJob) × (job_numbered n before.process.kept ≡ Some j) × (is_left_in number j.id before ≡ true)
+
+-- The control job of a number is EXECUTING or PAUSED and isn't ending, and no other one is active. Each process job that is left in it
+-- starts by itself, isn't STOPPING or ABORTING, and was left in it before; and each that isn't QUEUED is left in it.
+pub record IsAtWork (number : ℕ) (before w : Jobs) : Type 0 where
+  pub works : is_under_way (control_numbered number w.control.jobs) ≡ true
+  pub alone : (m : ℕ) (c : ControlJob) → control_numbered m w.control.jobs ≡ Some c → is_active c.states.state ≡ true → m ≡ number
+  pub auto : (n : ℕ) (j : ProcessJob) → job_numbered n w.process.kept ≡ Some j → is_left_in number j.id w ≡ true → j.auto ≡ true
+  pub whole : (n : ℕ) (j : ProcessJob) → job_numbered n w.process.kept ≡ Some j → is_left_in number j.id w ≡ true → breaks_off j.states.state ≡ false
+  pub started : (n : ℕ) (j : ProcessJob) → job_numbered n w.process.kept ≡ Some j → is_queued j.states.state ≡ false → is_left_in number j.id w ≡ true
+  pub were : (n : ℕ) (j : ProcessJob) → job_numbered n w.process.kept ≡ Some j → is_left_in number j.id w ≡ true → WasLeft number before n
+
+-- It is at work, and for the rest all is as where it executes.
+pub record AtWork (number : ℕ) (counted : ℕ → Bool) (before : Jobs) (f : ToolFloor) : Type 0 where
+  pub steers : IsAtWork number before f.jobs
+  pub here : IsMaterialHere number f
+  pub members : (n : ℕ) → (picture f).jobs.is_member n ≡ true → counted n ≡ true
+  pub stands : (n : ℕ) (s : Substrate) → substrate_numbered n f.substrates ≡ Some s → counted n ≡ true
+      → (is_done n (picture f) ≡ true) ⊎ (IsInJob s f ⊎ Waits number s f)
+  pub all : (n k : ℕ) (s : Substrate) (j : ProcessJob) → substrate_numbered n f.substrates ≡ Some s
+      → job_numbered k f.jobs.process.kept ≡ Some j → is_left_in number j.id f.jobs ≡ true → can_join j f.shop s ≡ true → counted n ≡ true
+  pub substrates : SubstratesStand counted (picture f)
+
+-- An input disturbs it for good: it is ending; a process job that was left in it is kept no more, or is STOPPING or ABORTING; or a
+-- counted substrate is ABORTED, STOPPED, LOST or SKIPPED that wasn't. The floor as the input came goes first.
+pub data Disturbed (number : ℕ) (counted : ℕ → Bool) (before f : ToolFloor) : Type 0 where
+  ends : ends_so is_ending (control_numbered number f.jobs.control.jobs) ≡ true → Disturbed number counted before f
+  loses : (n : ℕ) → WasLeft number before.jobs n → n ≤ f.jobs.process.given → job_numbered n f.jobs.process.kept ≡ None → Disturbed number counted before f
+  breaks : (n : ℕ) (k : ProcessJob) → WasLeft number before.jobs n → job_numbered n f.jobs.process.kept ≡ Some k → breaks_off k.states.state ≡ true
+      → Disturbed number counted before f
+  spoils : (n : ℕ) → counted n ≡ true → is_one_of (3 ∷ 4 ∷ 6 ∷ 7 ∷ []) ((picture f).processing n) ≡ true
+      → ((picture f).processing n == (picture before).processing n) ≡ false → Disturbed number counted before f
+
+-- It is at work and as much is owed as as the input came, or it is disturbed.
+abbrev pub WorksOrIsDisturbed : ℕ → (ℕ → Bool) → ToolFloor → ToolFloor → Type 0
+WorksOrIsDisturbed number counted before f =
+    (AtWork number counted before.jobs f × (owed_to counted (picture f) ≡ owed_to counted (picture before))) ⊎ Disturbed number counted before f
+
+-- ---- rows that words fire
+
+-- A row of table 14 or 15 that no job fires by itself: that which creates it, and those of the commands to it.
+abbrev pub is_word : Firing → Bool
+is_word x =
+    ((x.row.table == 14) && is_one_of (1 ∷ 5 ∷ 8 ∷ 10 ∷ 11 ∷ 12 ∷ 15 ∷ []) x.row.row)
+    || ((x.row.table == 15) && is_one_of (1 ∷ 5 ∷ 6 ∷ 7 ∷ 9 ∷ 10 ∷ 11 ∷ 12 ∷ []) x.row.row)

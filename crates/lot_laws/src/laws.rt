@@ -29,6 +29,7 @@ ghost use Rattle.owed_laws.specs.Undisturbed.{AreUnaligned, Undisturbed};
 ghost use Rattle.queue_laws.specs.Started.{AreStarted};
 ghost use Rattle.queue_laws.specs.Steers.{AreAutomatic, disturbs_process, disturbs_control, is_completion};
 ghost use Rattle.lot_laws.specs.Lot.{counted_of, IsMaterialHere, AreInKeptJobs, Executes, GoesOnOrCompletes, TakesOneOff};
+ghost use Rattle.lot_laws.specs.Lot.{InOrder, IsCalmBetween, WorksOrIsDisturbed, is_word};
 
 /// As a control job starts by row 4 or 5 of table 15, where each process job that is left in it starts by itself and its material is
 /// here, it executes undisturbed, and eight Dones are owed for each substrate that is counted.
@@ -116,6 +117,27 @@ pub fn it_executes_on_as_jobs_are_created()
         → Executes number counted f → Executes number counted (with_jobs (record f.jobs { control = headed name f.jobs.control }) f) }
     ensures fetched { (number : ℕ) (counted : ℕ → Bool) (f : ToolFloor) (m : ℕ) → Executes number counted f
         → Executes number counted (fetched m f) }
+{}
+
+/// As an input comes it is at work and as much is owed, and so it is behind each row that a word fires, as jobs are created and as the
+/// order of the queue changes, or it is disturbed for good. Where all that the input does is calm it executes then, and as much is owed.
+pub fn an_input_leaves_it_at_work_or_disturbs_it_for_good()
+    ensures comes { (number : ℕ) (counted : ℕ → Bool) (f : ToolFloor) → Executes number counted f → WorksOrIsDisturbed number counted f f }
+    ensures word { (number : ℕ) (counted : ℕ → Bool) (before f : ToolFloor) (x : Firing) → InOrder f → is_word x ≡ true
+        → floor_starts x f ≡ true → WorksOrIsDisturbed number counted before f → WorksOrIsDisturbed number counted before (floor_fired x f) }
+    ensures process { (number : ℕ) (counted : ℕ → Bool) (before f : ToolFloor) (spec : JobSpec) → InOrder f
+        → create_fault spec f.jobs.process ≡ None → WorksOrIsDisturbed number counted before f
+        → WorksOrIsDisturbed number counted before (with_jobs (with_process spec f.jobs) f) }
+    ensures control { (number : ℕ) (counted : ℕ → Bool) (before f : ToolFloor) (name : List ℕ) (named : List (List ℕ)) (auto : Bool)
+        → InOrder f → control_fault name named f.jobs ≡ None → WorksOrIsDisturbed number counted before f
+        → WorksOrIsDisturbed number counted before (with_jobs (with_control name named auto f.jobs) f) }
+    ensures head { (number : ℕ) (counted : ℕ → Bool) (before f : ToolFloor) (name : List ℕ) → InOrder f
+        → WorksOrIsDisturbed number counted before f
+        → WorksOrIsDisturbed number counted before (with_jobs (record f.jobs { control = headed name f.jobs.control }) f) }
+    ensures executes { (number : ℕ) (counted : ℕ → Bool) (before f : ToolFloor) → WorksOrIsDisturbed number counted before f
+        → IsCalmBetween number counted before f → Executes number counted f }
+    ensures as_much { (number : ℕ) (counted : ℕ → Bool) (before f : ToolFloor) → WorksOrIsDisturbed number counted before f
+        → IsCalmBetween number counted before f → owed_to counted (picture f) ≡ owed_to counted (picture before) }
 {}
 
 /// Each substrate is in no process job, or in one that is kept: so it is as the tool begins, and behind each row of a process job.

@@ -5,3 +5,4 @@ pub mod Ending
 pub mod Best
 pub mod Least
 pub mod Giving
+pub mod Finding

@@ -1,6 +1,6 @@
 //! The next move of the tool.
 
-ghost use Rattle.std.specs.Prelude.{◌≡◌, ◌<◌, IsOk};
+ghost use Rattle.std.specs.Prelude.{◌≡◌, ◌<◌, ℕ, None, IsOk};
 ghost use Rattle.robot_moves.specs.Moves.{place_move, arm_move, robot_move, align_move, aligner_move, process_move, chamber_move, module_move, next_move};
 
 use crate::listed::Listed;
@@ -32,7 +32,8 @@ impl Planner {
     /// holds, if that is unfinished and isn't aligned. A chamber, when Idle, processes what it holds, if that is NEEDS
     /// PROCESSING. Takes no memory.
     pub fn next(&self, places: &[PlaceView], modules: &Modules) -> Option<Move>
-        ensures { result ≡ next_move places.now modules.now }
+        ensures least { result ≡ next_move places.now modules.now }
+        ensures finds { result ≡ None → (number : ℕ) → module_move number places.now modules.now ≡ None }
     {
         let listed = Listed { views: places };
         self.next_of(&listed, modules)

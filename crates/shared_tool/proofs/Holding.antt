@@ -12,8 +12,8 @@ use Rattle.core_view.specs.CoreView.{CoreView}
 use Rattle.gem_model.specs.State.{State, opening}
 use Rattle.gem_model.specs.Step.{Outcome, step}
 use Rattle.gem_model.specs.Run.{Run, after_all}
-use Rattle.gem_model.specs.Recorded.{Recorded}
-use Rattle.gem_model.proofs.Recording.{recorded-of}
+use Rattle.history_laws.specs.Recorded.{Recorded}
+use Rattle.history_laws.proofs.Recording.{recorded-of}
 use Rattle.shared_tool.specs.declared.posted.Posted.{Posted}
 use Rattle.shared_tool.specs.Posts.{is_run, posted, posted_in, entries_of}
 use Rattle.shared_tool.specs.Laws.{from_legal, posted_more, posted_entries, posted_length}

@@ -9,7 +9,7 @@ ghost use Rattle.tool_events.specs.declared.answer.PostFault.TheVariants as Post
 ghost use Rattle.tool_events.specs.Configs.{IsConfig};
 ghost use Rattle.gem_model.specs.State.{State};
 ghost use Rattle.gem_model.specs.Step.{step};
-ghost use Rattle.gem_model.specs.Recorded.{Recorded};
+ghost use Rattle.history_laws.specs.Recorded.{Recorded};
 ghost use Rattle.gem_model.specs.Sizes.{is_full};
 ghost use Rattle.shared_tool.specs.Posts.{posted, posted_in, entries_of};
 ghost use Rattle.shared_tool.specs.Chairs.{seats_of, config_of, IsChairOf, AreChairsOf, AreSeated};

@@ -1,5 +1,5 @@
-//! The replies, and their texts. None where the tool has no such reply, or there is no memory for its text. A word that is no
-//! number stands for 0, and one that is no text for that of no bytes.
+//! The replies, and their texts. None where the tool has no such reply, a number is none, or there is no memory for its text. A word
+//! that is no text stands for that of no bytes.
 
 ghost use Rattle.std.specs.Prelude.{◌≡◌, true};
 ghost use Rattle.msgs_300.specs.Sendable.{HasSendableParts};
@@ -17,9 +17,47 @@ pub(crate) fn add_reply(alloc: Global, stream: u8, said: &str, answer: &mut Stri
     let Ok(words) = words(alloc, first) else {
         return None;
     };
+    if !has_numbers(stream, words.as_slice(), more) {
+        return None;
+    }
     match reply(alloc, stream, words.as_slice(), more) {
         Some(reply) => add_encoded(alloc, &reply, answer),
         None => None,
+    }
+}
+
+// Whether the words and parts of a reply that stand for numbers are numbers.
+fn has_numbers(stream: u8, words: &[&str], more: &str) -> bool {
+    let function = small(words, 0);
+    let is_number = match (stream, function) {
+        (3, _) => at(words, 1).parse::<u8>().is_ok(),
+        (14, _) => at(words, 2).parse::<u8>().is_ok(),
+        (16, 22) => at(words, 1).parse::<u16>().is_ok(),
+        _ => true,
+    };
+    is_number && are_parts(more, stream == 16 && function == 20)
+}
+
+// Whether each part is an error, or else a job with its state.
+fn are_parts(more: &str, is_of_jobs: bool) -> bool {
+    for part in more.split(';') {
+        if !is_part(part.trim(), is_of_jobs) {
+            return false;
+        }
+    }
+    true
+}
+
+// Whether the code of an error, which stands first, or the state of a job, which stands behind it, is a number; so it is where
+// there is no part.
+fn is_part(part: &str, is_of_jobs: bool) -> bool {
+    match part.split_once(' ') {
+        Some((_, state)) if is_of_jobs => match counted(state) {
+            Some((state, _)) => state.parse::<u8>().is_ok(),
+            None => false,
+        },
+        Some((code, _)) => code.parse::<u8>().is_ok(),
+        None => part.is_empty(),
     }
 }
 

@@ -10,7 +10,7 @@ ghost use Rattle.note_line.specs.Line.{fate_of};
 ghost use Rattle.gem_model.specs.State.{opening, is_up, is_session_up};
 ghost use Rattle.gem_model.specs.Step.{Outcome, step};
 ghost use Rattle.gem_model.specs.Valid.{Valid};
-ghost use Rattle.gem_model.specs.Recorded.{Recorded};
+ghost use Rattle.history_laws.specs.Recorded.{Recorded};
 ghost use Rattle.gem_model.specs.Sessions.{session_count, session_end, session_out, frame_taken};
 ghost use Rattle.gem_model.specs.Sizes.{bytes_of, counted, is_full};
 ghost use Rattle.core_view.specs.Counts.{count_of, taker};

@@ -5,9 +5,9 @@ use Rattle.tool_events.specs.declared.entry.Entry.{Entry}
 use Rattle.tool_events.specs.Configs.{IsConfig}
 use Rattle.gem_model.specs.State.{opening}
 use Rattle.gem_model.specs.Run.{after_all}
-use Rattle.gem_model.specs.Recorded.{Recorded}
+use Rattle.history_laws.specs.Recorded.{Recorded}
 use Rattle.gem_model.specs.Conversation.{worked_config}
-use Rattle.gem_model.proofs.Recording.{recorded-none}
+use Rattle.history_laws.proofs.Recording.{recorded-none}
 use Rattle.line_feeding.specs.declared.ended.Cause.{Cause}
 use Rattle.line_feeding.specs.declared.ended.Cause.TheVariants as cause
 use Rattle.line_feeding.specs.CauseOf.{Refuses}

@@ -2,7 +2,7 @@
 ghost use Rattle.std.specs.Prelude.{◌≡◌, ◌<◌, ◌≤◌, [], length, true, Ok, IfOk, OnOk, OnErr};
 ghost use Rattle.tool_events.specs.Configs.{IsConfig};
 ghost use Rattle.gem_model.specs.State.{opening, is_session_up};
-ghost use Rattle.gem_model.specs.Recorded.{Recorded};
+ghost use Rattle.history_laws.specs.Recorded.{Recorded};
 ghost use Rattle.gem_model.specs.Sizes.{bytes_of};
 ghost use Rattle.line_grammar.specs.declared.line.Line.TheVariants as line;
 ghost use Rattle.line_grammar.specs.Reading.{feed_line_of};

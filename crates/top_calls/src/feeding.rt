@@ -5,7 +5,7 @@ ghost use Rattle.tool_events.specs.Configs.{IsConfig};
 ghost use Rattle.tool_events.specs.declared.config.Config.{Config};
 ghost use Rattle.gem_model.specs.State.{opening};
 ghost use Rattle.gem_model.specs.Run.{after_all};
-ghost use Rattle.gem_model.specs.Recorded.{Recorded};
+ghost use Rattle.history_laws.specs.Recorded.{Recorded};
 ghost use Rattle.gem_model.specs.Sizes.{bytes_of};
 ghost use Rattle.line_feeding.specs.declared.ended.Cause.TheVariants as cause;
 ghost use Rattle.line_feeding.specs.Counts.{Failed};

@@ -6,7 +6,7 @@ use Rattle.line_feeding.specs.Fed.{looked, FedBy, ReadToEnd, Shown}
 use Rattle.line_feeding.specs.Noted.{NotedBy}
 use Rattle.line_feeding.specs.Stopping.{GivenBy}
 use Rattle.top_calls.proofs.Ending.{not_read, not_write, FedBy-end, NotedBy-end, Shown-end, Shown-memory}
-use Rattle.gem_model.proofs.Recording.{recorded-after}
+use Rattle.history_laws.proofs.Recording.{recorded-after}
 use Rattle.top_calls.proofs.NothingHappened.{recorded_none}
 use Rattle.top_calls.proofs.feeding.feed_config.Goals as goal
 

@@ -1,4 +1,4 @@
-use Rattle.gem_model.proofs.Recording.{recorded-of}
+use Rattle.history_laws.proofs.Recording.{recorded-of}
 use Rattle.tool_core.proofs.tool.Core.history.Goals as goal
 
 pub returns-clause-recorded : goal.returns-clause-recorded

@@ -1,0 +1,10 @@
+pub mod Recording
+pub mod CommonRows
+pub mod FloorFacts
+pub mod Past
+pub mod Placed
+pub mod Ordering
+pub mod Carrying
+pub mod Completing
+pub mod Working
+pub mod Moved

@@ -1,0 +1,64 @@
+-- What holds of each history that is recorded, and of the state to which it leads.
+use Rattle.std.proofs.Common.{◌≡◌, ◌≤◌, ◌<◌, ℕ, true, false, List, length, map, None}
+use Rattle.std.specs.List.{AllByRecursion}
+use Rattle.transactions.specs.Table.{is_full}
+use Rattle.tool_events.specs.declared.config.Config.{Config}
+use Rattle.tool_events.specs.declared.entry.Entry.{Entry}
+use Rattle.spool.specs.Spool.{is_inactive, has_note}
+use Rattle.note_line.specs.Line.{standing}
+use Rattle.note_line.specs.Fates.{LineValid, tells}
+use Rattle.shop_floor.specs.Valid.{IsFloor}
+use Rattle.floor_moves.specs.OnePlace.{OnePlace}
+use Rattle.place_laws.specs.Picture.{picture}
+use Rattle.place_laws.specs.Standing.{AreRegistered}
+use Rattle.work_laws.specs.Work.{is_work_left, is_any_down, is_any_open}
+use Rattle.gem_model.specs.State.{State, opening}
+use Rattle.gem_model.specs.Run.{Run}
+use Rattle.history_laws.specs.Moved.{place_of, EachMoves, EndsOnce}
+use Rattle.history_laws.specs.Completes.{EachCompletes}
+use Rattle.gem_model.specs.Reported.{told_as, reported_in, IsOf}
+use Rattle.gem_model.specs.OpenNotes.{Carries, NeverBack, open_behind, frames_behind, note_numbers, open_number}
+
+-- Facts of a history that began under this configuration and led to this state. Each public call that hands out a history has
+-- them; a further one is a field more.
+pub record Recorded (c : Config) (history : List Entry) (g : State) : Type 0 where
+  -- the history is a run of the tables from the first state
+  pub run : Run (opening c) history g
+  -- the notes are those of its firings and changes of alarms that are reported, one for one and in order
+  pub notes : map tells g.line.told ≡ map told_as (reported_in (opening c) history)
+  -- each note that has not ended has the text of what was reported under its number, with the values behind its own firing
+  pub texts : AllByRecursion (IsOf (reported_in (opening c) history)) (standing g.line)
+  -- and so has each note that was sent: each that is open behind an entry
+  pub sent : AllByRecursion (IsOf (reported_in (opening c) history)) (open_behind (opening c) history)
+  -- each frame of S6F11 and S5F1 that goes out is that of a note, and has the text of what was reported under its number
+  pub frames : AllByRecursion (Carries (IsOf (reported_in (opening c) history))) (frames_behind (opening c) history)
+  -- each note has one fate, and of each kind those that have not ended stand in the order of their numbers
+  pub fates : LineValid g.line
+  -- sendings of one kind never go back to a lower number
+  pub sendings : NeverBack (opening c) history
+  -- the open note is the one whose transaction is open
+  pub open_note : note_numbers g.transactions.opened ≡ open_number g.line
+  -- an INACTIVE spool is empty
+  pub spool : is_inactive g.line.spool.load ≡ true → has_note g.line.spool ≡ false
+  -- each carrier has a name of its own, and one that is present or bound belongs to the port where it is
+  pub floor : IsFloor g.floor.shop
+  -- at most 16 carriers are known
+  pub carriers : length g.floor.shop.carriers ≤ 16
+  -- each substrate has one place, and open commands fit the places
+  pub places : OnePlace (picture g.floor)
+  -- no registration was refused: where the slot map of a carrier is VERIFIED, the substrate of each slot that is correctly occupied
+  -- is registered
+  pub registered : AllByRecursion (AreRegistered g.floor.substrates) g.floor.shop.carriers
+  -- a place changes only so: by registration, by Done of an open Pick or Place that names the substrate, from the named start to the named
+  -- end, with its carrier, or by the operator's word; and no number of registration is given twice
+  pub moves : EachMoves (opening c) history
+  -- a number of registration that was not given has no place
+  pub given : (n : ℕ) → g.floor.places.given < n → place_of n g ≡ None
+  -- the command of each number ends at most once
+  pub ends : EndsOnce (opening c) history
+  -- there is room to start a transaction
+  pub room : is_full g.transactions ≡ false
+  -- while no module is Down and work is left, a command is open
+  pub works : is_any_down g.floor.modules ≡ false → is_work_left g.floor ≡ true → is_any_open g.floor.modules ≡ true
+  -- where nobody disturbs it, a control job completes exactly at its last Done, of eight for each of its substrates
+  pub completes : EachCompletes (opening c) history

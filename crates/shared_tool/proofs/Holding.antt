@@ -52,9 +52,11 @@ pub known : (c : Config) (history : List Entry) (g : State) (from : Config) (fro
     → c ≡ from → front ≡ posted_in c history → (k : State) × Recorded from (entries_of front) k × (front ≡ posted_in from (entries_of front))
 known c history g from front bounds legal there same here =
     let run = run_of c history g legal there in
-    let back : entries_of front ≡ history = ap entries_of here ∙ posted_entries (opening c) history g run in
-    (g, subst (λ (k : Config). Recorded k (entries_of front) g) same (subst (λ (l : List Entry). Recorded c l g) (sym back) (recorded_as c history g bounds legal there)),
-    here ∙ ap (posted_in c) (sym back) ∙ ap (λ (k : Config). posted_in k (entries_of front)) same)
+    let back : entries_of front ≡ history = ap entries_of here ∙ posted_entries (opening c) history g run in (
+      g,
+      subst (λ (k : Config). Recorded k (entries_of front) g) same (subst (λ (l : List Entry). Recorded c l g) (sym back) (recorded_as c history g bounds legal there)),
+      here ∙ ap (posted_in c) (sym back) ∙ ap (λ (k : Config). posted_in k (entries_of front)) same,
+    )
 
 -- the entry that is behind a list is the one that was put there
 last_of : {E : Type 0} (xs : List E) (x y : E) → xs ++ x ∷ [] ≡ xs ++ y ∷ [] → x ≡ y

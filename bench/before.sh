@@ -77,13 +77,6 @@ least_of() {
     least=$(awk -v a="$seconds" -v b="$2" 'BEGIN { print a < b ? a : b }')
 }
 
-# The instructions of a program on the lines in $work/lines.
-instructions() {
-    command -v valgrind > /dev/null || return 0
-    valgrind --tool=callgrind --callgrind-out-file=/dev/null "$1" feed "$config" < "$work/lines" 2>&1 > /dev/null \
-        | awk '/refs/ { gsub(",", "", $NF); print $NF }'
-}
-
 # Measures a load of so many, named by its function, and its instructions on a shorter one.
 measure() {
     local load=$1 count=$2 short=$3 a=1e9 b=1e9 peaks run

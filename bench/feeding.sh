@@ -41,6 +41,13 @@ feed_for_peak() {
     peak=$(cat "$work/peak")
 }
 
+# The instructions of a program on the lines in $work/lines, by valgrind; nothing where it is not there.
+instructions() {
+    command -v valgrind > /dev/null || return 0
+    valgrind --tool=callgrind --callgrind-out-file=/dev/null "$1" feed "$config" < "$work/lines" 2>&1 > /dev/null \
+        | awk '/refs/ { gsub(",", "", $NF); print $NF }'
+}
+
 # Prints the ratio of two times, of which the second is of twice as much.
 ratio() {
     awk -v a="$1" -v b="$2" 'BEGIN {

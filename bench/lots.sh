@@ -9,7 +9,9 @@
 #
 # Which commands come is the tool's to say, so the lines of a run are written by a first run, in which each command that is printed is
 # answered; the runs that are timed are given these lines. A ratio of at most 2.2 is wanted: twice the lots take about twice the time.
-# The times are processor times, the least of five runs each. This is a measurement. It is no test, and no part of the merge gate.
+# The times are processor times, the least of five runs each; on a machine that is shared they differ by a third from one call of this to
+# the next. With valgrind on the machine the instructions are told as well, which are the same in every run. This is a measurement. It is
+# no test, and no part of the merge gate.
 # Build the program first:
 #
 #     cd crates/gem300_tool && rt run -- feed ../../examples/first.toml < ../../examples/communication.lines
@@ -75,5 +77,10 @@ measure() {
 
 measure 40
 first_seconds=$seconds
+first_count=$(instructions "$program")
 measure 80
 ratio "$first_seconds" "$seconds"
+count=$(instructions "$program")
+if [ -n "$count" ]; then
+    awk -v a="$first_count" -v b="$count" 'BEGIN { printf "instructions: %.0f and %.0f, ratio %.3f\n", a, b, b / a }'
+fi

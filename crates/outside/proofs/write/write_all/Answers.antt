@@ -1,9 +1,13 @@
 use Rattle.std.proofs.Common.{arith, ◌∙◌, ◌+◌, length-drop, ℕ, ap, length}
-use Rattle.line_feeding.proofs.Writing.{Ok-same, Written-same, Written-next, WrittenFront-at}
-use Rattle.line_feeding.proofs.write.write_all.Goals as goal
+use Rattle.outside.proofs.Writing.{Ok-same, Written-same, Written-next, Written-none-more, WrittenFront-at}
+use Rattle.outside.proofs.write.write_all.Goals as goal
 
 pub returns-in-Ok-eq0-clause-front : goal.returns-in-Ok-eq0-clause-front
 returns-in-Ok-eq0-clause-front g c = WrittenFront-at _ _ _ (c.loop-at.at + 0) (Written-next _ _ _ _ _ 0 c.loop-at.invariant.front (rw c.in-Ok-eq0.field-0-test at c.in-Ok-eq0.ensures.written))
+
+pub returns-in-Ok-eq0-clause-count : goal.returns-in-Ok-eq0-clause-count
+returns-in-Ok-eq0-clause-count g c =
+    (c.loop-at.invariant.within, Written-none-more _ _ _ _ c.loop-at.invariant.front (rw c.in-Ok-eq0.field-0-test at c.in-Ok-eq0.ensures.written))
 
 pub loop-at-preserved : goal.loop-at-preserved
 loop-at-preserved g c =
@@ -17,3 +21,6 @@ loop-at-preserved g c =
 
 pub returns-in-Err-clause-front : goal.returns-in-Err-clause-front
 returns-in-Err-clause-front g c = WrittenFront-at _ _ _ c.loop-at.at (Written-same _ _ _ _ c.loop-at.invariant.front c.in-Err.ensures.unwritten)
+
+pub returns-in-Err-clause-count : goal.returns-in-Err-clause-count
+returns-in-Err-clause-count g c = (c.loop-at.invariant.within, Written-same _ _ _ _ c.loop-at.invariant.front c.in-Err.ensures.unwritten)

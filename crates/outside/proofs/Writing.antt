@@ -1,11 +1,10 @@
 -- What is written, one piece after another.
-use Rattle.std.proofs.Common.{◌≡◌, ℕ, ◌+◌, ◌<◌, ◌≤◌, ◌⊎◌, inl, inr, List, [], ◌++◌, take, drop, Option, Some, None, Result, Ok, sym, ◌∙◌, ap, append_assoc, arith}
+use Rattle.std.proofs.Common.{◌≡◌, ℕ, ◌+◌, ◌<◌, ◌≤◌, ◌⊎◌, inl, inr, List, [], ◌++◌, take, drop, Option, Some, None, Result, Ok, sym, subst, ◌∙◌, ap, append_assoc, arith}
 use Rattle.std.proofs.Math.Seq.{take-add}
 use Rattle.std.proofs.lemmas.List.{take-append-drop, append-nil}
 use Rattle.std.proofs.lemmas.Bool.{cases_lt}
 use Rattle.outside.specs.Counts.{Rose}
-use Rattle.outside.specs.Told.{Written}
-use Rattle.line_feeding.specs.Printing.{WrittenFront}
+use Rattle.outside.specs.Told.{Written, WrittenFront}
 
 abbrev pub result_of : {A E : Type 0} → A → Result A E
 result_of a = Ok a
@@ -25,6 +24,10 @@ Written-more (Some old) None c xs ys first second = cc
 Written-more (Some old) (Some mid) c xs ys first second =
     let here : mid ≡ old ++ xs = cc in
     second ∙ ap (λ (bs : List ℕ). Some (bs ++ ys)) here ∙ ap (λ (bs : List ℕ). Some bs) (append_assoc old xs ys)
+
+-- nothing more was written
+pub Written-none-more : (a b c : Option (List ℕ)) (xs : List ℕ) → Written a b xs → Written b c [] → Written a c xs
+Written-none-more a b c xs first second = subst (λ (zs : List ℕ). Written a c zs) (append-nil xs) (Written-more a b c xs [] first second)
 
 -- what is held stays, or is replaced by an equal
 pub Written-same : (a b c : Option (List ℕ)) (xs : List ℕ) → Written a b xs → c ≡ b → Written a c xs

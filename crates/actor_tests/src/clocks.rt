@@ -31,12 +31,7 @@ impl Clock for SlowClock {
 }
 
 // How the actor of the clock ends at a desk.
-fn end_of(
-    rt: &impl Wait,
-    desk: &mut MemDesk,
-    clock: &mut SlowClock,
-    gate: &impl Gate,
-) -> ActorEnd {
+fn end_of(rt: &impl Wait, desk: &mut MemDesk, clock: &mut SlowClock, gate: &impl Gate) -> ActorEnd {
     keep_time(rt, desk, clock, gate)
 }
 
@@ -60,7 +55,9 @@ fn told(
 }
 
 #[test]
-fn the_clock_is_read_anew_for_each_tick_and_waits_between_them(rt: HostRuntime) -> Result<(), Fail> {
+fn the_clock_is_read_anew_for_each_tick_and_waits_between_them(
+    rt: HostRuntime,
+) -> Result<(), Fail> {
     let alloc = rt.alloc();
     let outcomes = vec![in alloc;
         Ok(Answer::Done),

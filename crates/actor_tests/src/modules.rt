@@ -108,7 +108,10 @@ fn a_module_ends_where_its_signal_is_refused(rt: HostRuntime) -> Result<(), Fail
     let full = told_behind(&rt, alloc, PostFault::Full(7))?;
     let want = told_behind(&rt, alloc, PostFault::NoMemory)?;
     assert_eq!(rt; full.as_str(), "0 Fetch(ModuleId(3)): CmdNo(1)\n1 0 Full");
-    assert_eq!(rt; want.as_str(), "0 Fetch(ModuleId(3)): CmdNo(1)\n0 1 NoMemory");
+    assert_eq!(rt;
+        want.as_str(),
+        "0 Fetch(ModuleId(3)): CmdNo(1)\n0 1 NoMemory"
+    );
     Ok(())
 }
 

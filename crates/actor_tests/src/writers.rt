@@ -108,7 +108,9 @@ fn told_of_four(
 }
 
 #[test]
-fn the_front_of_a_frame_is_counted_where_the_link_takes_no_more(rt: HostRuntime) -> Result<(), Fail> {
+fn the_front_of_a_frame_is_counted_where_the_link_takes_no_more(
+    rt: HostRuntime,
+) -> Result<(), Fail> {
     let text = told_of_four(&rt, rt.alloc(), Ok(Answer::Ended))?;
     let want = "0 Take { session: 2 }: abc\n\
         0 Take { session: 2 }: def\n\
@@ -146,7 +148,13 @@ fn the_writer_ends_where_a_take_is_refused(rt: HostRuntime) -> Result<(), Fail> 
     let alloc = rt.alloc();
     let full = told_of(&rt, alloc, PostFault::Full(7))?;
     let want = told_of(&rt, alloc, PostFault::NoMemory)?;
-    assert_eq!(rt; full.as_str(), "0 Take { session: 2 }: abc\n1 0 Full 3 abc true");
-    assert_eq!(rt; want.as_str(), "0 Take { session: 2 }: abc\n0 1 NoMemory 3 abc true");
+    assert_eq!(rt;
+        full.as_str(),
+        "0 Take { session: 2 }: abc\n1 0 Full 3 abc true"
+    );
+    assert_eq!(rt;
+        want.as_str(),
+        "0 Take { session: 2 }: abc\n0 1 NoMemory 3 abc true"
+    );
     Ok(())
 }

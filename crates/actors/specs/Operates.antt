@@ -1,11 +1,12 @@
 -- What the operator did (this tool's profile, serving and scripts).
-use Rattle.std.specs.Prelude.{◌≡◌, ◌⊎◌, ℕ, ⊤, List, [], ◌++◌, length, Option, MatchOption}
+use Rattle.std.specs.Prelude.{◌≡◌, ◌⊎◌, ℕ, List, [], ◌++◌, length, Option}
 use Rattle.outside.specs.Counts.{Rose}
 use Rattle.outside.specs.Told.{Taken}
 use Rattle.tool_events.specs.declared.entry.Post.{Post}
 use Rattle.tool_events.specs.declared.event.Event.{Event}
 use Rattle.gem_model.specs.Front.{IsFront}
 use Rattle.gem_model.specs.Lines.{whole_lines}
+use Rattle.line_feeding.specs.Input.{Whole}
 use Rattle.line_feeding.specs.Stopping.{NumberEnded, EndedLines}
 use Rattle.actors.specs.Ends.{ArePosted, LastEnded, NoneBehindEnded, QuitPosted, QuitPostedOr}
 use Rattle.actors.specs.Reads.{ReaderCounts}
@@ -19,7 +20,7 @@ script_bytes = 4294967296
 
 -- the script was read to its end: where it tells them, these bytes are all that it had left
 abbrev pub ScriptOver : Option (List ℕ) → List ℕ → ReaderCounts → ReaderCounts → Type 0
-ScriptOver left text before after = MatchOption left ⊤ (λ all. all ≡ text) × Rose before.ends after.ends
+ScriptOver left text before after = Whole left text × Rose before.ends after.ends
 
 -- the events are a front of what lines say that have ended
 abbrev pub SaidBy : Type 0 → List ℕ → List Event → Type 0

@@ -1,8 +1,9 @@
 -- What the reader of a session did (this tool's profile, serving).
-use Rattle.std.specs.Prelude.{◌≡◌, ◌⊎◌, ℕ, ◌-◌, ◌^◌, min, ⊤, true, List, [], ◌∷◌, ◌++◌, length, map, Option, MatchOption}
+use Rattle.std.specs.Prelude.{◌≡◌, ◌⊎◌, ℕ, ◌-◌, ◌^◌, min, true, List, [], ◌∷◌, ◌++◌, length, map, Option}
 use Rattle.outside.specs.Counts.{Rose}
 use Rattle.outside.specs.Told.{Taken}
 use Rattle.hsms_frame.specs.declared.frame.Arrival.{Arrival}
+use Rattle.line_feeding.specs.Input.{Whole}
 use Rattle.hsms_frame.specs.Cut.{arrivals_of, behind_of, is_short}
 use Rattle.gem_model.specs.Feed.{text_bytes}
 use Rattle.tool_events.specs.declared.entry.Post.{Post}
@@ -25,10 +26,6 @@ pub record ReaderCounts : Type 0 where
 abbrev pub reader_counts : {D L : Type 0} → (D → ℕ) → (D → ℕ) → (L → ℕ) → (L → ℕ) → D → L → ReaderCounts
 reader_counts fulls wants faults ends desk link =
     record { fulls = fulls desk; wants = wants desk; faults = faults link; ends = ends link }
-
--- where the link tells them, these bytes are all that it had left
-abbrev pub Whole : Option (List ℕ) → List ℕ → Type 0
-Whole left bytes = MatchOption left ⊤ (λ all. all ≡ bytes)
 
 -- why the reader saw the session end: the peer closed the link, behind all bytes; a read failed; or a length below 10 came
 abbrev pub LinkEnds : SessionCause → List ℕ → Option (List ℕ) → ReaderCounts → ReaderCounts → Type 0

@@ -1,7 +1,8 @@
 ghost use Rattle.std.specs.Prelude.{◌≢◌, ◌≡◌, ℕ, ◌-◌, ◌<◌, ◌≤◌, length, codes, Ok, Err};
 ghost use Rattle.line_grammar.specs.Grammar.{Reads, gives, says, ◌or◌};
-ghost use Rattle.line_grammar.specs.Lines.{skipped_line, comment_line, moment_line, operator_line, signal_line, watch_line, common_lines, hex_line, link_lines, feed_lines, all_lines, operator_words};
+ghost use Rattle.line_grammar.specs.Lines.{skipped_line, comment_line, moment_line, operator_line, signal_line, watch_line, common_lines, hex_line, link_lines, feed_lines, script_lines, all_lines, operator_words};
 ghost use Rattle.line_grammar.specs.Reading.{read, either_of, Gives, feed_line_of};
+ghost use Rattle.tool_texts.specs.Scripts.{script_line_of};
 
 use crate::cursor::Cursor;
 use crate::operator::{either, operator, says};
@@ -52,6 +53,23 @@ pub fn read_feed_line(alloc: Global, line: &[u8]) -> Result<Line, LineFault>
         return Err(LineFault::Place(600_000));
     }
     feed(alloc, Cursor::new(line))
+}
+
+/// What a line says in a script: as `read_line`, but a line that begins with `L`, `T` or `H` is refused at place 0, since it
+/// stands in the input of `feed` only (this tool's profile, scripts and refused lines). Takes no memory.
+pub fn read_script_line(line: &[u8]) -> Result<Line, LineFault>
+    ensures long { 600000 < length line.now → result ≡ Err (LineFault.Place 600000) }
+    ensures reads { length line.now ≤ 600000 → Reads script_lines line.now result }
+    ensures line { Gives result (script_line_of line.now) }
+    ensures memory { result ≢ Err LineFault.NoMemory }
+{
+    if line.len() > LINE_BYTES {
+        return Err(LineFault::Place(600_000));
+    }
+    match scripted(Cursor::new(line)) {
+        Ok(says) => Ok(says),
+        Err(place) => Err(LineFault::Place(place as u64)),
+    }
 }
 
 // Any line.
@@ -147,6 +165,14 @@ fn short_link(text: Cursor) -> Result<Line, usize>
 {
     let found = either(says(text, b"L+", Line::Up), says(text, b"L-", Line::Down));
     either(found, moment(text))
+}
+
+// A line that a script has.
+#[tactic(auto, unfolding(line_grammar::specs::Lines::script_lines))]
+fn scripted(text: Cursor) -> Result<Line, usize>
+    ensures { result ≡ read script_lines text.entry.total text.entry.rest.now }
+{
+    either(common(text), watch(text))
 }
 
 // A line that says nothing.

@@ -28,7 +28,7 @@ use Rattle.line_feeding.specs.Quitting.{quit_behind}
 use Rattle.line_feeding.specs.Stopping.{IsLong, GivenBy, CountsTo}
 use Rattle.top_calls.specs.Standing.{IsOneLine, Stands, StoppedAs, StopsAt, AllTaken, Prints, StandsOrStopped, Takes, AllOrStopped}
 use Rattle.line_feeding.proofs.Going.{IsFront-append, Failed-wider, stay_then}
-use Rattle.line_feeding.proofs.Writing.{WrittenFront-all}
+use Rattle.outside.proofs.Writing.{WrittenFront-all}
 use Rattle.top_calls.proofs.AtText.{text_goes, at_end, last_line, text_in}
 use Rattle.top_calls.proofs.Stopping.{stopped_before, given_before, stopped_outside, line_at, line_gives, line_counts, stopped_cases}
 

@@ -12,7 +12,7 @@ use Rattle.line_feeding.specs.declared.halt.Halt.{Halt}
 use Rattle.line_feeding.specs.declared.halt.Halt.TheVariants as halt
 use Rattle.top_calls.specs.declared.reader.Reader.{Reader}
 use Rattle.line_feeding.specs.Limits.{IsFullAt}
-use Rattle.line_feeding.specs.Counts.{Failed}
+use Rattle.outside.specs.Counts.{Failed}
 use Rattle.line_feeding.specs.Going.{SinkView, Shows, ShowsAtEnd}
 use Rattle.line_feeding.specs.Reads.{HaveRead}
 use Rattle.top_calls.specs.Reading.{IsReading}

@@ -1,0 +1,11 @@
+pub mod Posting
+pub mod Acting
+pub mod Ticking
+pub mod Taking
+pub mod ReaderPosts
+pub mod ReaderReads
+pub mod ReaderDone
+pub mod ScriptLineEnds
+pub mod ScriptReading
+pub mod Operating
+pub mod ScriptStanding

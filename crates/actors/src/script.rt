@@ -1,0 +1,219 @@
+//! A script as lines: bytes are read in pieces and gathered to lines.
+ghost use Rattle.std.specs.Prelude.{◌≡◌, ◌≢◌, ◌+◌, ◌-◌, ◌⊎◌, ◌<◌, ◌≤◌, ◌==◌, ℕ, [], ◌∷◌, ◌++◌, length, take, drop, false, Err, IfSome, IfNone, IfErr, OnOk, OnErr};
+ghost use Rattle.std.specs.List.{list_any};
+ghost use Rattle.actors.specs.declared.no_line.NoLine.TheVariants as no_line;
+ghost use Rattle.actors.specs.Operates.{script_bytes};
+ghost use Rattle.actors.specs.ScriptReads.{TakesKept, ReadsPiece, NextLine, source_told};
+
+use crate::no_line::NoLine;
+use memchr::memchr;
+use outside::{Source, read_front};
+use std::alloc::Global;
+use std::marker::Model;
+use tool_texts::LINE_BYTES;
+
+/// So many bytes of a script are read at most.
+pub(crate) const SCRIPT_BYTES: u64 = 4_294_967_296;
+
+/// So many bytes are read at once at most.
+const PIECE: usize = 4096;
+
+/// Reads a script, and gives its lines one after the other.
+#[derive(Drop)]
+pub(crate) struct ScriptLines {
+    /// The line that was given last, or what came of one that isn't whole.
+    line: Vec<u8>,
+    /// The piece that was read last. What of it is in no line yet lies from `at` up to `end`.
+    piece: [u8; PIECE],
+    at: usize,
+    end: usize,
+    /// How many bytes were read at all.
+    count: u64,
+}
+
+impl Model for ScriptLines {
+    ghost use Rattle.std.specs.Prelude.{◌≤◌, ◌-◌, take, drop};
+    ghost use Rattle.actors.specs.ScriptReads.{ScriptRead};
+
+    ghost Value = { ScriptRead };
+
+    ghost view = { λ s. record {
+      line = s.line.items;
+      kept = take (s.end - s.at) (drop s.at s.piece);
+      count = s.count;
+    } };
+
+    ghost invariant = { λ s. (s.at ≤ s.end) × (s.end ≤ 4096) };
+}
+
+impl ScriptLines {
+    /// A reader before the first byte.
+    pub fn new(alloc: Global) -> ScriptLines
+        ensures { result ≡ record { line = []; kept = []; count = 0 } }
+    {
+        ScriptLines {
+            line: Vec::new(alloc),
+            piece: [0; PIECE],
+            at: 0,
+            end: 0,
+            count: 0,
+        }
+    }
+
+    /// The line that was given last, or what came of one that isn't whole.
+    pub fn line(&self) -> &[u8]
+        ensures { result.now ≡ self.now.line }
+    {
+        self.line.as_slice()
+    }
+
+    /// How many bytes were read at all.
+    pub fn count(&self) -> u64
+        ensures { result ≡ self.now.count }
+    {
+        self.count
+    }
+
+    // The next line begins.
+    fn begin_line(&mut self)
+        ensures { self.new ≡ record self.old { line = [] } }
+    {
+        self.line.clear();
+    }
+
+    // How much is kept.
+    fn kept_size(&self) -> usize
+        ensures { result ≡ length self.now.kept }
+    {
+        part(&self.piece, self.at, self.end).len()
+    }
+
+    // The place of the first line feed in what is kept.
+    fn kept_end(&self) -> Option<usize>
+        ensures within { IfSome result (λ end. end < length self.now.kept) }
+        ensures feed { IfSome result (λ end. self.now.kept ≡ take end self.now.kept ++ 10 ∷ drop (end + 1) self.now.kept) }
+        ensures line { IfSome result (λ end. list_any (λ b. b == 10) (take end self.now.kept) ≡ false) }
+        ensures none { IfNone result (list_any (λ b. b == 10) self.now.kept ≡ false) }
+    {
+        line_end(part(&self.piece, self.at, self.end))
+    }
+
+    // So many bytes of what is kept go to the line, and so many are done with.
+    fn push_kept(&mut self, count: usize, used: usize) -> Result<(), NoLine>
+        requires order { count ≤ used }
+        requires within { used ≤ length self.old.kept }
+        ensures line { OnOk result (self.new.line ≡ self.old.line ++ take count self.old.kept) }
+        ensures kept { OnOk result (self.new.kept ≡ drop used self.old.kept) }
+        ensures fits { OnOk result (length self.old.line ≤ 600000 → length self.new.line ≤ 600000) }
+        ensures long { result ≡ Err no_line.Long → 600000 < length self.old.line + count }
+        ensures why { IfErr result (λ why. (why ≡ no_line.Long) ⊎ (why ≡ no_line.NoMemory)) }
+        ensures count { self.new.count ≡ self.old.count }
+    {
+        let to = self.at + count;
+        match join(&mut self.line, part(&self.piece, self.at, to)) {
+            Ok(()) => {
+                self.at += used;
+                Ok(())
+            }
+            Err(why) => Err(why),
+        }
+    }
+
+    // What is kept goes to the line, up to its first line feed, where it has one: then the line is whole.
+    fn take_kept(&mut self) -> Result<bool, NoLine>
+        ensures { TakesKept self.old self.new result }
+    {
+        let all = self.kept_size();
+        match self.kept_end() {
+            Some(end) => match self.push_kept(end, end + 1) {
+                Ok(()) => Ok(true),
+                Err(why) => Err(why),
+            },
+            None => match self.push_kept(all, all) {
+                Ok(()) => Ok(false),
+                Err(why) => Err(why),
+            },
+        }
+    }
+
+    // Reads the next piece, where nothing is kept. One that is shorter than it may be is no end.
+    fn read_piece<S: Source>(&mut self, script: &mut S) -> Result<(), NoLine>
+        requires kept { self.old.kept ≡ [] }
+        requires within { self.old.count ≤ script_bytes }
+        ensures line { self.new.line ≡ self.old.line }
+        ensures kept { OnErr result (self.new.kept ≡ []) }
+        ensures reads { ReadsPiece self.old self.new (source_told S.left S.faults S.ends script.old) (source_told S.left S.faults S.ends script.new) result }
+    {
+        self.at = 0;
+        self.end = 0;
+        if self.count >= SCRIPT_BYTES {
+            return Err(NoLine::Bound);
+        }
+        let room = (SCRIPT_BYTES - self.count).min(PIECE as u64) as usize;
+        let Ok(more) = read_front(script, &mut self.piece, room) else {
+            return Err(NoLine::Fault);
+        };
+        if more == 0 {
+            return Err(NoLine::End);
+        }
+        self.end = more;
+        self.count += more as u64;
+        Ok(())
+    }
+
+    /// Reads on up to the next line feed, and gives the line before it as `line`. The other answers say why there is none;
+    /// `line` is then what came of it. A short read is no end: a line is given only once its line feed has come. After an
+    /// error no line is to be asked for any more.
+    pub fn next_line<S: Source>(&mut self, script: &mut S) -> Result<(), NoLine>
+        requires { self.old.count ≤ script_bytes }
+        ensures { NextLine self.old self.new (source_told S.left S.faults S.ends script.old) (source_told S.left S.faults S.ends script.new) result }
+    {
+        self.begin_line();
+        loop {
+            match self.take_kept() {
+                Ok(true) => return Ok(()),
+                Ok(false) => {}
+                Err(why) => return Err(why),
+            }
+            match self.read_piece(script) {
+                Ok(()) => {}
+                Err(why) => return Err(why),
+            }
+        }
+    }
+}
+
+// The bytes of a piece from one place up to another.
+fn part(piece: &[u8], from: usize, to: usize) -> &[u8]
+    requires order { from ≤ to }
+    requires within { to ≤ length piece.now }
+    ensures { result.now ≡ take (to - from) (drop from piece.now) }
+{
+    &piece[from..to]
+}
+
+// These bytes go behind the line, unless it would then have over 600,000.
+fn join(line: &mut Vec<u8>, part: &[u8]) -> Result<(), NoLine>
+    ensures joined { OnOk result (line.new.items ≡ line.old.items ++ part.now) }
+    ensures fits { OnOk result (length line.old.items ≤ 600000 → length line.new.items ≤ 600000) }
+    ensures long { result ≡ Err no_line.Long → 600000 < length line.old.items + length part.now }
+    ensures why { IfErr result (λ why. (why ≡ no_line.Long) ⊎ (why ≡ no_line.NoMemory)) }
+{
+    if part.len() > LINE_BYTES.saturating_sub(line.len()) {
+        return Err(NoLine::Long);
+    }
+    match line.extend_from_slice(part) {
+        Ok(()) => Ok(()),
+        Err(_) => Err(NoLine::NoMemory),
+    }
+}
+
+// The place of the first line feed.
+fn line_end(bytes: &[u8]) -> Option<usize>
+    ensures within { IfSome result (λ end. end < length bytes.now) }
+    ensures feed { IfSome result (λ end. bytes.now ≡ take end bytes.now ++ 10 ∷ drop (end + 1) bytes.now) }
+    ensures line { IfSome result (λ end. list_any (λ b. b == 10) (take end bytes.now) ≡ false) }
+    ensures none { IfNone result (list_any (λ b. b == 10) bytes.now ≡ false) }
+{
+    memchr(b'\n', bytes)
+}

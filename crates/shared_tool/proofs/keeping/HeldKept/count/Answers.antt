@@ -1,0 +1,11 @@
+use Rattle.std.proofs.Common.{length, sym, ap, ◌∙◌}
+use Rattle.gem_model.specs.State.{opening}
+use Rattle.shared_tool.specs.Laws.{posted_length}
+use Rattle.shared_tool.proofs.Holding.{run_of}
+use Rattle.shared_tool.proofs.keeping.HeldKept.count.Goals as goal
+
+pub returns : goal.returns
+returns c =
+    let h = c.args.self.now in
+    ap length c.history.ensures.history
+    ∙ sym (posted_length (opening h.core.config) h.core.history h.core.state (run_of h.core.config h.core.history h.core.state h.legal h.there))

@@ -1,0 +1,4 @@
+pub mod Posts
+pub mod Laws
+pub mod Chairs
+pub mod Seats

@@ -1,9 +1,10 @@
 -- One part of feed after another.
 use Rattle.std.proofs.Common.{◌≡◌, ℕ, ◌≤◌, inl, inr, Bool, true, false, List, [], ◌∷◌, ◌++◌, Option, Some, None, IfSome, Result, Ok, Err, refl, sym, ◌∙◌, ap, append_assoc, arith, length, length-append, option_map, option_and_then, if◌then◌else◌}
 use Rattle.std.proofs.lemmas.List.{append-nil}
-use Rattle.outside.specs.Told.{Written}
+use Rattle.outside.specs.Counts.{Failed}
+use Rattle.outside.specs.Told.{Written, WrittenFront}
 use Rattle.tool_events.specs.declared.entry.Entry.{Entry}
-use Rattle.gem_model.specs.Front.{IsFront}
+use Rattle.line_grammar.specs.Texts.{IsFront}
 use Rattle.gem_model.specs.State.{opening}
 use Rattle.gem_model.specs.Step.{Outcome}
 use Rattle.gem_model.specs.Run.{Run, entry_step, entry_after}
@@ -24,10 +25,8 @@ use Rattle.tool_events.specs.declared.event.SessionEnd.{SessionEnd}
 use Rattle.core_view.specs.CoreView.{CoreView}
 use Rattle.line_feeding.specs.declared.halt.Halt.{Halt}
 use Rattle.line_feeding.specs.declared.halt.Halt.TheVariants as halt
-use Rattle.line_feeding.specs.Counts.{Failed}
-use Rattle.line_feeding.specs.Printing.{WrittenFront}
 use Rattle.line_feeding.specs.Going.{SinkView, WentOn, Shows, Goes}
-use Rattle.line_feeding.proofs.Writing.{Written-more, WrittenFront-all, WrittenFront-more, WrittenFront-wider, Rose-wider}
+use Rattle.outside.proofs.Writing.{Written-more, WrittenFront-all, WrittenFront-more, WrittenFront-wider, Rose-wider}
 
 pub IsFront-append : {A : Type 0} → (front more : List A) → IsFront front (front ++ more)
 IsFront-append front more = record { behind = more; joined = refl }

@@ -1,4 +1,3 @@
-pub mod Writing
 pub mod Going
 pub mod Parts
 pub mod Cutting

@@ -1,7 +1,8 @@
 -- What a part of feed does to the core and to the output.
 use Rattle.std.specs.Prelude.{◌≡◌, ◌≢◌, ℕ, ◌<◌, ◌≤◌, List, ◌++◌, length, Option, Result, Ok, Err, IsErrOf}
-use Rattle.outside.specs.Told.{Written}
-use Rattle.gem_model.specs.Front.{IsFront}
+use Rattle.outside.specs.Counts.{Failed}
+use Rattle.outside.specs.Told.{Written, WrittenFront}
+use Rattle.line_grammar.specs.Texts.{IsFront}
 use Rattle.gem_model.specs.State.{opening}
 use Rattle.gem_model.specs.Feed.{Given}
 use Rattle.gem_model.specs.Printed.{printed}
@@ -9,8 +10,6 @@ use Rattle.core_view.specs.CoreView.{CoreView}
 use Rattle.line_feeding.specs.declared.halt.Halt.{Halt}
 use Rattle.line_feeding.specs.declared.halt.Halt.TheVariants as halt
 use Rattle.line_feeding.specs.Limits.{IsFullAt}
-use Rattle.line_feeding.specs.Counts.{Failed}
-use Rattle.line_feeding.specs.Printing.{WrittenFront}
 
 -- what a sink tells: the bytes that it holds, where it tells them, how often it failed, and how often it took nothing
 pub record SinkView : Type 0 where

@@ -1,6 +1,4 @@
 pub mod Words
-pub mod Printing
-pub mod Counts
 pub mod Limits
 pub mod Going
 pub mod Reads

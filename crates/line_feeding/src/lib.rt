@@ -1,5 +1,5 @@
 //! What the feeding of lines needs beside the core: the words of the command, the configuration, reading from sources, the
-//! cutting of a session's bytes, the lines of an answer, writing to sinks, and how a run of lines ends (this tool's profile,
+//! cutting of a session's bytes, the lines of an answer, and how a run of lines ends (this tool's profile,
 //! docs/profile/lines.md).
 //!
 //! The definitions of all that `feed` promises stand here too, with what follows from them alone. It posts no event: the reader
@@ -13,13 +13,11 @@ mod halt;
 mod print;
 mod read;
 mod words;
-mod write;
 
 pub use configured::read_configuration;
 pub use cuts::{cut_bytes, ends_run, quit_behind};
 pub use ended::{Cause, Ended, Notes, Panels, SessionNote};
 pub use halt::{Halt, InputEnd, InputRead};
 pub use print::{fetches, outcome_text};
-pub use read::{TextFault, front, read_front, read_text};
+pub use read::{TextFault, read_text};
 pub use words::check_words;
-pub use write::{WriteFault, write_all};

@@ -1,5 +1,6 @@
--- What sources and sinks in memory are, without how they lie there.
+-- What sources, sinks, doors and clocks in memory are, without how they lie there.
 use Rattle.std.specs.Prelude.{ℕ, List, Bool, false, ◌&&◌, nat_lt, ◌==◌, Result, Ok, Err}
+use Rattle.gem_ids.specs.declared.moment.Moment.{Moment}
 
 -- a source in memory (this tool's profile, sources and sinks in memory)
 pub record Reading : Type 0 where
@@ -32,6 +33,40 @@ pub record Writing : Type 0 where
   pub faults : ℕ
   -- how many of them were answered 0 for a piece that isn't empty
   pub refusals : ℕ
+
+-- a door in memory (this tool's profile, links and doors in memory)
+pub record Meeting (L : Type 0) : Type 0 where
+  -- the links that are left to be given
+  pub left : List L
+  -- whether the answer behind the last one is Closed
+  pub is_closing : Bool
+  -- the links that were handed back and for which there was room
+  pub backs : List L
+  -- for how many there is room at all
+  pub room : ℕ
+  -- whether there was room for each that was handed back
+  pub is_kept : Bool
+  -- which calls fail, the first being 1
+  pub fails : List ℕ
+  -- how many calls there were
+  pub calls : ℕ
+  -- how many of them failed
+  pub faults : ℕ
+  -- how many links were given
+  pub links : ℕ
+  -- how often the answer was NotYet
+  pub waits : ℕ
+  -- how often the answer was Closed
+  pub closings : ℕ
+
+-- a clock in memory (this tool's profile, clocks and gates)
+pub record Ticking : Type 0 where
+  -- the moments that it gives
+  pub moments : List Moment
+  -- how often it was read
+  pub reads : ℕ
+  -- whether that is no more than the count holds
+  pub is_counted : Bool
 
 -- a call for so many bytes was answered 0, though they are not none
 abbrev pub is_zero_of : {E : Type 0} → ℕ → Result ℕ E → Bool

@@ -1,5 +1,5 @@
--- What is read and written, where the object outside tells its bytes.
-use Rattle.std.specs.Prelude.{◌≡◌, ℕ, ⊤, List, [], ◌++◌, Option, Some, None, MatchOption}
+-- What is read, written, given and handed back, where the object outside tells it.
+use Rattle.std.specs.Prelude.{◌≡◌, ℕ, ⊤, Bool, true, false, List, [], ◌∷◌, ◌++◌, Option, Some, None, MatchOption}
 
 -- xs is a front of ys
 abbrev pub IsFrontOf : List ℕ → List ℕ → Type 0
@@ -18,3 +18,24 @@ NothingLeft left = MatchOption left ⊤ (λ bytes. bytes ≡ [])
 abbrev pub Written : Option (List ℕ) → Option (List ℕ) → List ℕ → Type 0
 Written None new bytes = ⊤
 Written (Some old) new bytes = new ≡ Some (old ++ bytes)
+
+-- what is told, where it is told at all
+abbrev pub told : {A : Type 0} → Bool → A → Option A
+told true x = Some x
+told false x = None
+
+module _ {A : Type 0} where
+  -- this now stands behind all that was there, where that is told afterwards
+  abbrev pub Grew : Option (List A) → Option (List A) → A → Type 0
+  Grew old None x = ⊤
+  Grew old (Some new) x = (before : List A) × (old ≡ Some before) × (new ≡ before ++ x ∷ [])
+
+  -- this, if it is anything, was the first of what was left, and else that stays
+  abbrev pub Given : Option A → Option (List A) → Option (List A) → Type 0
+  Given None old new = new ≡ old
+  Given (Some x) None new = ⊤
+  Given (Some x) (Some old) new = (rest : List A) × (old ≡ x ∷ rest) × (new ≡ Some rest)
+
+-- a front of these bytes was put behind what was held
+abbrev pub WrittenFront : Option (List ℕ) → Option (List ℕ) → List ℕ → Type 0
+WrittenFront old new bytes = (front : List ℕ) × IsFrontOf front bytes × Written old new front

@@ -1,21 +1,53 @@
-//! The world outside: where bytes come from and where they go. A `Source` and a `Sink` say in their contracts what is
-//! left and what is held, where they tell it, and count their faults, so that code above can prove that it gives up only
-//! where something outside failed. The crate has sources and sinks in memory, with a list of calls that are to fail, and
-//! thin adapters of a file, standard input and standard output, which tell no content. It buffers nothing, tries nothing
-//! again and waits for nothing of its own. Begin with the traits; a test begins with `MemSource::new` and `MemSink::new`.
+//! The world outside: where bytes come from and where they go, links and the door that gives them, clocks, and gates that
+//! hold who passes them. A `Source` and a `Sink` say in their contracts what is left and what is held, where they tell it,
+//! and count their faults, so that code above can prove that it gives up only where something outside failed. A `LinkIn`
+//! and a `LinkOut` are both ends of a link, and a `Door` gives links. The crate has all of these in memory, those that can
+//! fail with a list of calls that are to, and thin adapters of a file, standard input and standard output, TCP and the
+//! system's clock, which tell no content. It buffers nothing and tries nothing again; `write_all` writes on until all is
+//! written. Begin with the traits; a test begins
+//! with `MemSource::new` and `MemSink::new`, and with `MemDoor::new` for links.
 #![tactic(auto)]
 
+mod clock;
 mod counts;
+mod door;
 mod file_source;
+mod gate;
+mod gates;
+mod link;
+mod list_clock;
+mod meetings;
+mod mem_door;
+mod mem_link;
 mod mem_sink;
 mod mem_source;
+mod met;
+mod read;
 mod sink;
 mod source;
 mod standard;
+mod system_clock;
+mod tcp_door;
+mod tcp_link;
+mod write;
 
+pub use clock::Clock;
+pub use door::Door;
 pub use file_source::FileSource;
+pub use gate::{Gate, Point};
+pub use gates::{HoldGate, OpenGate, SleepGate};
+pub use link::{LinkIn, LinkOut};
+pub use list_clock::ListClock;
+pub use mem_door::MemDoor;
+pub use mem_link::{MemIn, MemOut};
 pub use mem_sink::{MemSink, NoMemory};
 pub use mem_source::MemSource;
+pub use met::Met;
+pub use read::{front, read_front};
 pub use sink::Sink;
 pub use source::{Failed, Source};
 pub use standard::{StdinSource, StdoutSink};
+pub use system_clock::SystemClock;
+pub use tcp_door::TcpDoor;
+pub use tcp_link::{TcpIn, TcpOut};
+pub use write::{WriteFault, write_all};

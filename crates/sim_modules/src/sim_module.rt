@@ -39,6 +39,13 @@ impl SimModule {
         })
     }
 
+    /// Its number.
+    pub fn number(&self) -> ModuleId
+        ensures { result ≡ self.now.number }
+    {
+        self.number
+    }
+
     /// Acts on a command, whatever its task: the answer has the module's number and the command's, and is Failed exactly where
     /// the plan has the count of this act, else Done. A module acts once more each time that it is told, of the same command
     /// too. Takes no memory.

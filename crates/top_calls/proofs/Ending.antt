@@ -21,7 +21,7 @@ use Rattle.line_feeding.specs.Reads.{AreCounts}
 use Rattle.line_feeding.specs.Notes.{AreNotes}
 use Rattle.line_feeding.specs.Noted.{NotedBy}
 use Rattle.line_feeding.proofs.Reading.{Taken-nothing}
-use Rattle.line_feeding.proofs.Writing.{Written-nothing, WrittenFront-all}
+use Rattle.outside.proofs.Writing.{Written-nothing, WrittenFront-all}
 
 pub FedBy-end : (end : InputEnd) (text : List ℕ) (count : ℕ) (reader : Reader) (source source' : SourceView) → length text ≡ count → InputEnds end text reader source source' → FedBy reader.feeder.core.config (cause_after end count reader.feeder.core.history reader.number) (ReadToEnd source source') text reader.feeder.core.history
 FedBy-end input.Whole text count reader source source' size h = inl (h.0.told, h.1)

@@ -13,7 +13,7 @@ use Rattle.line_feeding.specs.declared.ended.Cause.TheVariants as cause
 use Rattle.line_feeding.specs.CauseOf.{Refuses}
 use Rattle.line_feeding.specs.Fed.{SourceView, Fed, Shown, IsRead, Configured, RanUnder}
 use Rattle.line_feeding.proofs.Reading.{Taken-nothing}
-use Rattle.line_feeding.proofs.Writing.{Written-nothing}
+use Rattle.outside.proofs.Writing.{Written-nothing}
 use Rattle.top_calls.proofs.Ending.{Fed-refused, Shown-refused}
 
 pub recorded_none : (c : Config) (history : List Entry) → IsConfig c → history ≡ [] → Recorded c history (after_all (opening c) history)

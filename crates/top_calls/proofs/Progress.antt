@@ -15,7 +15,7 @@ use Rattle.top_calls.specs.InputEnds.{InputEnds, as_result}
 use Rattle.line_feeding.specs.Stopping.{GivenBy}
 use Rattle.top_calls.specs.Standing.{Stands, StopsAt, AllTaken, Prints, Takes, Finishes}
 use Rattle.line_feeding.proofs.Going.{IsFront-same}
-use Rattle.line_feeding.proofs.Writing.{Rose-wider}
+use Rattle.outside.proofs.Writing.{Rose-wider}
 use Rattle.line_feeding.proofs.Reading.{Taken-more, Taken-same, Whole-taken, whole_any}
 use Rattle.top_calls.proofs.Stopping.{StopsAt-known}
 use Rattle.top_calls.proofs.Standing.{Stands-whole, Stands-given, Prints-then}

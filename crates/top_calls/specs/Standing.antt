@@ -3,8 +3,7 @@ use Rattle.std.specs.Prelude.{◌≡◌, ◌≢◌, ℕ, ◌+◌, ◌≤◌, ⊤
 use Rattle.std.specs.List.{list_any}
 use Rattle.tool_events.specs.declared.entry.Entry.{Entry}
 use Rattle.tool_events.specs.declared.config.Config.{Config}
-use Rattle.gem_model.specs.Front.{IsFront}
-use Rattle.gem_model.specs.Lines.{lines_of, whole_lines}
+use Rattle.line_grammar.specs.Texts.{IsFront, lines_of, whole_lines}
 use Rattle.gem_model.specs.SessionBytes.{lines_bytes_in, session_in}
 use Rattle.gem_model.specs.Feed.{Reading, Told, AllRead, OutsideGrammar, QuitAt, feed_lines, feed_entries, told_behind}
 use Rattle.core_view.specs.CoreView.{CoreView}
@@ -12,7 +11,7 @@ use Rattle.line_feeding.specs.declared.halt.Halt.{Halt}
 use Rattle.line_feeding.specs.declared.halt.Halt.TheVariants as halt
 use Rattle.top_calls.specs.declared.reader.Reader.{Reader}
 use Rattle.line_feeding.specs.Limits.{IsFullAt}
-use Rattle.line_feeding.specs.Counts.{Failed}
+use Rattle.outside.specs.Counts.{Failed}
 use Rattle.line_feeding.specs.Going.{SinkView, Shows, ShowsAtEnd}
 use Rattle.line_feeding.specs.Reads.{HaveRead}
 use Rattle.top_calls.specs.Reading.{IsReading}

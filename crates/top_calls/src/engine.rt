@@ -9,8 +9,8 @@ ghost use Rattle.line_feeding.specs.Going.{Goes, seen};
 
 use gem_ids::{ModuleId, Moment};
 use hsms_frame::Arrival;
-use line_feeding::{Halt, fetches, outcome_text, write_all};
-use outside::Sink;
+use line_feeding::{Halt, fetches, outcome_text};
+use outside::{Sink, write_all};
 use std::alloc::Global;
 use tool_core::Core;
 use tool_events::{Event, PostFault, SessionCause, SessionEnd};

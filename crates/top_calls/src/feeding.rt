@@ -1,6 +1,6 @@
 //! `feed`: lines in, lines out.
 ghost use Rattle.std.specs.Prelude.{◌≡◌, ◌≢◌, ◌≤◌, ◌↔◌, ◌⊎◌, ℕ, Some, [], List, length, map, Err};
-ghost use Rattle.outside.specs.Counts.{Rose};
+ghost use Rattle.outside.specs.Counts.{Rose, Failed};
 ghost use Rattle.tool_events.specs.Configs.{IsConfig};
 ghost use Rattle.tool_events.specs.declared.config.Config.{Config};
 ghost use Rattle.gem_model.specs.State.{opening};
@@ -8,7 +8,6 @@ ghost use Rattle.gem_model.specs.Run.{after_all};
 ghost use Rattle.history_laws.specs.Recorded.{Recorded};
 ghost use Rattle.gem_model.specs.Sizes.{bytes_of};
 ghost use Rattle.line_feeding.specs.declared.ended.Cause.TheVariants as cause;
-ghost use Rattle.line_feeding.specs.Counts.{Failed};
 ghost use Rattle.line_feeding.specs.Status.{status_of};
 ghost use Rattle.line_feeding.specs.Fed.{looked, Fed, Shown, Configured, RanUnder};
 ghost use Rattle.line_feeding.specs.Words.{refused_at};

@@ -8,8 +8,8 @@ ghost use Rattle.line_feeding.specs.Stopping.{GivenBy};
 ghost use Rattle.top_calls.specs.Standing.{Stands, Prints};
 
 use crate::reader::Reader;
-use line_feeding::{InputEnd, InputRead, front, read_front};
-use outside::{Sink, Source};
+use line_feeding::{InputEnd, InputRead};
+use outside::{Sink, Source, front, read_front};
 use std::alloc::Global;
 
 /// So many bytes of an input are read at most.

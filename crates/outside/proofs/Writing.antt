@@ -5,7 +5,7 @@ use Rattle.std.proofs.lemmas.List.{take-append-drop, append-nil}
 use Rattle.std.proofs.lemmas.Bool.{cases_lt}
 use Rattle.outside.specs.Counts.{Rose}
 use Rattle.outside.specs.Told.{Written}
-use Rattle.line_feeding.specs.Printing.{WrittenFront}
+use Rattle.outside.specs.Told.{WrittenFront}
 
 abbrev pub result_of : {A E : Type 0} → A → Result A E
 result_of a = Ok a

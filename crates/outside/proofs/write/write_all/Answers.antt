@@ -1,6 +1,6 @@
 use Rattle.std.proofs.Common.{arith, ◌∙◌, ◌+◌, length-drop, ℕ, ap, length}
-use Rattle.line_feeding.proofs.Writing.{Ok-same, Written-same, Written-next, WrittenFront-at}
-use Rattle.line_feeding.proofs.write.write_all.Goals as goal
+use Rattle.outside.proofs.Writing.{Ok-same, Written-same, Written-next, WrittenFront-at}
+use Rattle.outside.proofs.write.write_all.Goals as goal
 
 pub returns-in-Ok-eq0-clause-front : goal.returns-in-Ok-eq0-clause-front
 returns-in-Ok-eq0-clause-front g c = WrittenFront-at _ _ _ (c.loop-at.at + 0) (Written-next _ _ _ _ _ 0 c.loop-at.invariant.front (rw c.in-Ok-eq0.field-0-test at c.in-Ok-eq0.ensures.written))

@@ -1,6 +1,6 @@
 use Rattle.std.proofs.Common.{◌≡◌, length, ◌-◌, ◌≤◌, take}
 use Rattle.outside.specs.Told.{Written}
-use Rattle.line_feeding.proofs.write.write_all.Given as goal
+use Rattle.outside.proofs.write.write_all.Given as goal
 
 -- a front of the bytes is written, and no write failed or took nothing
 abbrev pub invariant-loop-at : goal.invariant-loop-at

@@ -2,7 +2,7 @@
 use Rattle.std.proofs.Common.{◌≡◌, ◌≢◌, ℕ, ◌≤◌, Bool, true, false, ◌||◌, ◌==◌, if◌then◌else◌, List, [], ◌∷◌, ◌++◌, length, refl, ◌∙◌, ap, arith}
 use Rattle.std.specs.List.{list_any}
 use Rattle.std.proofs.lemmas.Bool.{true≢false, eqb-true}
-use Rattle.gem_model.specs.Lines.{lines_of, whole_lines, onto_first}
+use Rattle.line_grammar.specs.Texts.{lines_of, whole_lines, onto_first}
 
 abbrev is_feed : ℕ → Bool
 is_feed b = b == 10

@@ -1,10 +1,9 @@
 //! Writing all bytes.
 ghost use Rattle.std.specs.Prelude.{◌≡◌, ◌≤◌, length, drop, OnOk, OnErr};
-ghost use Rattle.outside.specs.Told.{Written};
-ghost use Rattle.line_feeding.specs.Counts.{Failed};
-ghost use Rattle.line_feeding.specs.Printing.{WrittenFront};
+ghost use Rattle.outside.specs.Counts.{Failed};
+ghost use Rattle.outside.specs.Told.{Written, WrittenFront};
 
-use outside::Sink;
+use crate::sink::Sink;
 
 /// A write failed, or took nothing of a piece.
 #[derive(Clone, Copy, Debug, PartialEq, Eq)]

@@ -1,0 +1,22 @@
+/// A point that an actor passes.
+#[derive(Clone, Copy, Debug, PartialEq, Eq)]
+pub enum Point {
+    /// Nothing is to be done just now.
+    Idle,
+    /// Before a door is asked for a link.
+    Accept,
+    /// Before a link is read.
+    HostRead,
+    /// After a line of the operator was answered.
+    OperLine,
+    /// Before the module of this number fetches a command.
+    Module(u8),
+    /// Before the clock ticks.
+    Tick,
+}
+
+/// What actors pass on their way, so that a test can hold one of them. Nothing is said of what it does.
+pub trait Gate {
+    /// Passes a point.
+    fn pass(&self, point: Point);
+}

@@ -1,3 +1,0 @@
-pub mod Posts
-pub mod Laws
-pub mod Chairs

@@ -9,7 +9,7 @@ use Rattle.tool_events.specs.declared.event.SessionCause.TheVariants.{PeerEnd, S
 use Rattle.tool_events.specs.declared.config.Config.{Config}
 use Rattle.gem_model.specs.State.{State, opening, is_up, is_session_up}
 use Rattle.gem_model.specs.Step.{step, after}
-use Rattle.tool_floor.specs.Floor.{module_numbers}
+use Rattle.floor_model.specs.Floor.{module_numbers}
 use Rattle.gem_model.specs.Run.{after_all}
 use Rattle.tool_events.specs.Sizes.{text_bytes}
 use Rattle.line_grammar.specs.Texts.{lines_of, is_quit}

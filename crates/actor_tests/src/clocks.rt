@@ -1,5 +1,7 @@
 //! How the clock is looked at (`keep_time`).
 
+ghost use Rattle.std.specs.Prelude.{None};
+
 use crate::posted::{desk_of, posts_of};
 use crate::seen_gate::SeenGate;
 use actors::{ActorEnd, keep_time};

@@ -6,9 +6,9 @@ use Rattle.std.proofs.lemmas.Bool.Decides.{nat_tests}
 use Rattle.gem_tables.specs.Table.{firing}
 use Rattle.gem_tables.specs.Machine.{starts_in}
 use Rattle.gem_tables.specs.declared.firing.Firing.{Firing}
-use Rattle.tool_floor.specs.Floor.{ToolFloor}
-use Rattle.tool_floor.specs.Machines.{floor_machines, floor_starts, floor_fired, creation_rows, is_creation, floor_least, object_name as floor_object}
-use Rattle.tool_floor.proofs.Keeping.{creation_same, creations as floor_creations, creations_start, AreCreations, not_table_3, least_starts}
+use Rattle.floor_model.specs.Floor.{ToolFloor}
+use Rattle.floor_model.specs.Machines.{floor_machines, floor_starts, floor_fired, creation_rows, is_creation, floor_least, object_name as floor_object}
+use Rattle.floor_model.proofs.Keeping.{creation_same, creations as floor_creations, creations_start, AreCreations, not_table_3, least_starts}
 use Rattle.gem_model.specs.State.{State, is_online}
 use Rattle.gem_model.specs.Noting.{noted_as}
 use Rattle.gem_model.specs.Machines.{row_starts, takes_effect, creations, object_name, fire_floor}

@@ -3,10 +3,10 @@
 ghost use Rattle.std.specs.Prelude.{◌≡◌, ◌≤◌, true, false, not, length, OnOk, IfOk};
 ghost use Rattle.load_port.specs.Caack.{is_done_code};
 ghost use Rattle.shop_floor.specs.Floor.{numbers_from};
-ghost use Rattle.tool_floor.specs.Jobs.{carrier_code};
+ghost use Rattle.floor_model.specs.Jobs.{carrier_code};
 ghost use Rattle.shop_floor.specs.Requests.{carrier_written, carrier_rows, port_code, port_rows, at_ports, mode_row, or_all};
-ghost use Rattle.tool_floor.specs.Floor.{with_shop};
-ghost use Rattle.tool_floor.specs.Machines.{floor_starts, creation_rows, object_name};
+ghost use Rattle.floor_model.specs.Floor.{with_shop};
+ghost use Rattle.floor_model.specs.Machines.{floor_starts, creation_rows, object_name};
 ghost use Rattle.gem_model.specs.Ready.{ready_floor};
 ghost use Rattle.gem_model.specs.Fire.{fire};
 ghost use Rattle.gem_model.specs.Machines.{fire_floor};

@@ -1,7 +1,7 @@
 -- What a run of feed did, by how it ended.
 use Rattle.std.specs.Prelude.{◌≡◌, ◌⊎◌, ℕ, ◌+◌, ◌≤◌, List, [], length, Option}
 use Rattle.outside.specs.Counts.{Rose}
-use Rattle.outside.specs.Told.{Taken, Written, WrittenFront}
+use Rattle.outside.specs.Told.{Taken, Written, WrittenFront, Whole}
 use Rattle.tool_events.specs.declared.entry.Entry.{Entry}
 use Rattle.tool_events.specs.declared.config.Config.{Config}
 use Rattle.configuration.specs.declared.fault.ConfigFault.TheVariants as fault
@@ -10,15 +10,14 @@ use Rattle.gem_model.specs.State.{opening}
 use Rattle.gem_model.specs.Sizes.{bytes_of}
 use Rattle.gem_model.specs.Run.{after_all}
 use Rattle.history_laws.specs.Recorded.{Recorded}
-use Rattle.gem_model.specs.Lines.{whole_lines}
+use Rattle.line_grammar.specs.Texts.{whole_lines, NumberEnded}
 use Rattle.gem_model.specs.Feed.{AllRead, OutsideGrammar, QuitAt, feed_entries}
 use Rattle.gem_model.specs.Printed.{printed}
 use Rattle.line_feeding.specs.declared.ended.Cause.{Cause}
 use Rattle.line_feeding.specs.declared.ended.Cause.TheVariants as cause
 use Rattle.line_feeding.specs.declared.ended.SessionNote.{SessionNote}
 use Rattle.line_feeding.specs.Limits.{IsFullAt, MeetsBound}
-use Rattle.line_feeding.specs.Input.{Whole}
-use Rattle.line_feeding.specs.Stopping.{NumberEnded, GivenBy}
+use Rattle.line_feeding.specs.Stopping.{GivenBy}
 use Rattle.line_feeding.specs.Noted.{NotedBy}
 
 -- what a source tells: the bytes that it has left, where it tells them, how often it failed, and how often it ended

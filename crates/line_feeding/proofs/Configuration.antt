@@ -44,3 +44,4 @@ refuses config config' text (cause.Words place) taken whole most unsaid = absurd
 refuses config config' text cause.WriteFault taken whole most unsaid = absurd unsaid
 refuses config config' text (cause.Full entries bytes number) taken whole most unsaid = absurd unsaid
 refuses config config' text (cause.Line number place) taken whole most unsaid = absurd unsaid
+refuses config config' text cause.Door taken whole most unsaid = absurd unsaid

@@ -1,5 +1,5 @@
 -- Settling by automatic firings.
-use Rattle.std.proofs.Common.{◌≡◌, ℕ, ◌+◌, ◌<◌, Bool, true, false, if◌then◌else◌, Option, Some, None, is_some, option_map, refl, sym, ◌∙◌, ap, arith}
+use Rattle.std.proofs.Common.{◌≡◌, ℕ, ◌+◌, ◌<◌, Bool, if◌then◌else◌, Option, Some, None, option_map, refl, sym, ◌∙◌, ap, arith}
 use Rattle.gem_tables.specs.declared.firing.Firing.{Firing}
 use Rattle.gem_model.specs.State.{State}
 use Rattle.gem_model.specs.Machines.{least}

@@ -1,5 +1,5 @@
 //! The rows of the line of notes and of the spool (table 3).
-ghost use Rattle.std.specs.Prelude.{true, ◌≡◌, ◌==◌, false, is_some, None, OnOk, IfOk, Some};
+ghost use Rattle.std.specs.Prelude.{true, ◌≡◌, ◌==◌, false, is_some, length, None, OnOk, IfOk, Some};
 ghost use Rattle.gem_tables.specs.Table.{firing};
 ghost use Rattle.spool.specs.Spool.{is_inactive, rsda};
 ghost use Rattle.note_line.specs.Line.{answered, fate_of, restated, with_kinds};

@@ -234,10 +234,16 @@ impl Plant {
             StatusVariable::Clock => self.clock_value(alloc),
             StatusVariable::CommState => state_number(alloc, self.comm.number()),
             StatusVariable::ControlState => state_number(alloc, self.control.number()),
-            StatusVariable::SpoolCountActual => count(alloc, self.line.notes().spooled_len() as u32),
+            StatusVariable::SpoolCountActual => count(
+                alloc,
+                self.line.notes().spooled_len() as u32,
+            ),
             StatusVariable::SpoolCountTotal => count(alloc, self.line.notes().spooled_total()),
             StatusVariable::SpoolLoad => state_number(alloc, load_number(self.line.notes().load())),
-            StatusVariable::SpoolUnload => state_number(alloc, unload_number(self.line.notes().unload())),
+            StatusVariable::SpoolUnload => state_number(
+                alloc,
+                unload_number(self.line.notes().unload()),
+            ),
             StatusVariable::AlarmsSet => self.set_alarms(alloc),
             StatusVariable::PortTransfer(number) => self.port_transfer(alloc, number),
             StatusVariable::PortAccess(number) => self.port_access(alloc, number),

@@ -13,11 +13,10 @@ use Rattle.tool_events.specs.declared.answer.Task.{Task}
 use Rattle.tool_events.specs.declared.answer.Task.TheVariants as task
 use Rattle.load_port.specs.Tables as word
 use Rattle.load_port.specs.Tables.{PortEffect, PortRow, transfer_table, access_table, reservation_table, association_table}
-use Rattle.load_port.specs.declared.port.Port.{Port}
 use Rattle.carrier.specs.declared.carrier.Carrier.{Carrier}
 use Rattle.carrier.specs.Carriers.{carrier_numbered}
 use Rattle.shop_floor.specs.Floor.{Floor}
-use Rattle.shop_floor.specs.Rows.{is_new, port_creates, found_creates}
+use Rattle.shop_floor.specs.Rows.{port_creates, found_creates}
 use Rattle.shop_floor.specs.Owning.{owner_number}
 use Rattle.substrate.specs.Tables as substrate_word
 use Rattle.substrate.specs.Tables.{SubstrateEffect, SubstrateRow, processing_table}

@@ -8,5 +8,5 @@ invariant_of-self-2 c =
       c.self.invariant.0,
       c.self.invariant.1,
       registered_is c.registered_behind-self-inside.result c.take-before.result c.self.inside.floor c.fire.new.self c.args.f c.as_slice.result.now
-      c.registered_behind-self-inside.ensures was c.in_ok-created.ensures.ok (c.as_slice.ensures.value ∙ c.in_ok-created.ensures.follow),
+          c.registered_behind-self-inside.ensures was c.in_ok-created.ensures.ok (c.as_slice.ensures.value ∙ c.in_ok-created.ensures.follow),
     )

@@ -1,4 +1,4 @@
-use Rattle.std.proofs.Common.{◌≡◌, ◌&&◌, not, false, IfOk, OnOk, option_map, Option, Bool, sym, ap, ◌∙◌, subst}
+use Rattle.std.proofs.Common.{◌≡◌, ◌&&◌, not, false, IfOk, OnOk, option_map, Option, Bool, sym, ◌∙◌, subst}
 use Rattle.gem_tables.specs.declared.firing.Firing.{Firing}
 use Rattle.history_totals.specs.Counts.{completes}
 use Rattle.core_state.specs.Firing.{fire_first}

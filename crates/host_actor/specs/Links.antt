@@ -53,12 +53,12 @@ door_told left backs faults links waits closings door = record {
 -- these were the first of what was left, in their order, where that was told
 abbrev pub AllGiven : {L : Type 0} → List L → Option (List L) → Option (List L) → Type 0
 AllGiven links None new = ⊤
-AllGiven links (Some old) new = (rest : List L) × (old ≡ links ++ rest) × (new ≡ Some rest)
+AllGiven {L} links (Some old) new = (rest : List L) × (old ≡ links ++ rest) × (new ≡ Some rest)
 
 -- these now stand behind all that was there, in their order, where that is told afterwards
 abbrev pub AllBack : {L : Type 0} → List L → Option (List L) → Option (List L) → Type 0
 AllBack links old None = ⊤
-AllBack links old (Some new) = (before : List L) × (old ≡ Some before) × (new ≡ before ++ links)
+AllBack {L} links old (Some new) = (before : List L) × (old ≡ Some before) × (new ≡ before ++ links)
 
 -- the count after so many links more: where there are any, it stands still at the greatest number that it holds
 abbrev pub raised : ℕ → ℕ → ℕ

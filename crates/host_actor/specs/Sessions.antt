@@ -72,4 +72,4 @@ all_writes (s ∷ sessions) = s.writes ++ all_writes sessions
 
 -- the bytes of these sessions
 abbrev pub all_bytes : {L : Type 0} → List (Session L) → List SessionBytes
-all_bytes sessions = map (λ (s : Session L). record { session = s.number; read = s.read; written = s.written }) sessions
+all_bytes {L} sessions = map (λ (s : Session L). record { session = s.number; read = s.read; written = s.written }) sessions

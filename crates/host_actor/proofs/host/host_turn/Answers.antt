@@ -37,3 +37,7 @@ returns-in-Err-clause-did g c =
     let met = c.in-Err.ensures in
     door-failed _ _ _ _ _ _ _ _ _ _ (record { left = met.given; backs = met.backs; links = met.links }) (inl met.waits) c.in-Ok.ensures.items
     _ c.end_run-in-Err.ensures.end met.failed c.end_run-in-Err.ensures.tried
+
+pub returns-in_default-clause-did : goal.returns-in_default-clause-did
+returns-in_default-clause-did g c =
+    no-room _ _ _ _ _ _ _ _ _ _ (record { left = refl; backs = refl; links = refl }) (inl refl) c.in_default.ensures.items _ c.end_run.ensures.end c.end_run.ensures.tried

@@ -1,2 +1,6 @@
 pub mod Apart
 pub mod Numbers
+pub mod Telling
+pub mod OneSession
+pub mod Others
+pub mod Each

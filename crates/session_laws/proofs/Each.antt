@@ -63,7 +63,7 @@ module _ {L : Type 0} where
       ap (λ l. h (up_of s) ++ l) (flat_map-append h s.reads (all_reads ss) ∙ ap (λ l. flat_map h s.reads ++ l) (gather_reads h ss))
       ∙ sym (append_assoc (h (up_of s)) (flat_map h s.reads) (flat_map (λ (r : Session L). h (up_of r) ++ flat_map h r.reads) ss))
 
-  gather_writes : {A : Type 0} (h : Post → List A) (ss : List (Session L)) → flat_map h (all_writes ss) ≡ flat_map (λ (s : Session L). flat_map h s.writes) ss
+  pub gather_writes : {A : Type 0} (h : Post → List A) (ss : List (Session L)) → flat_map h (all_writes ss) ≡ flat_map (λ (s : Session L). flat_map h s.writes) ss
   gather_writes h [] = refl
   gather_writes h (s ∷ ss) = flat_map-append h s.writes (all_writes ss) ∙ ap (λ l. flat_map h s.writes ++ l) (gather_writes h ss)
 
@@ -152,12 +152,11 @@ module _ {L : Type 0} where
       all_kept n (s ∷ ss) are numbered came taken =
           let reads = reads_apart (s ∷ ss) are in
           let writes = writes_apart (s ∷ ss) are in
-          let number : Session L → ℕ = λ s. s.number in
-          (
+          let number : Session L → ℕ = λ s. s.number in (
             one_kept n s are.0 numbered.0 (came n (omega arith) ∙ first_alone number came_in n s ss numbered reads)
-            (taken n (omega arith) ∙ first_alone number taken_in n s ss numbered writes),
+                (taken n (omega arith) ∙ first_alone number taken_in n s ss numbered writes),
             all_kept (suc n) ss are.1 numbered.1 (λ k more. came k (omega arith) ∙ later_alone number came_in n k s ss numbered reads more)
-            (λ k more. taken k (omega arith) ∙ later_alone number taken_in n k s ss numbered writes more),
+                (λ k more. taken k (omega arith) ∙ later_alone number taken_in n k s ss numbered writes more),
           )
 
 -- ---- behind the sessions

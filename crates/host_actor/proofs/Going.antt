@@ -1,5 +1,5 @@
 -- Turns of the host actor, one behind another.
-use Rattle.std.proofs.Common.{◌≡◌, ◌⊎◌, inl, inr, ℕ, ◌+◌, List, [], ◌∷◌, ◌++◌, length, map, Result, Ok, Err, refl, sym, ap, subst, ◌∙◌, append-nil, append_assoc, length-append}
+use Rattle.std.proofs.Common.{◌≡◌, ◌⊎◌, inl, inr, ℕ, ◌+◌, List, [], ◌++◌, length, map, Result, Ok, Err, refl, sym, ap, subst, ◌∙◌, append-nil, append_assoc, length-append}
 use Rattle.outside.specs.Counts.{Rose}
 use Rattle.tool_events.specs.declared.entry.Post.{Post}
 use Rattle.actors.specs.declared.end.ActorEnd.{ActorEnd}

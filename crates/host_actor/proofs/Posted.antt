@@ -1,5 +1,5 @@
 -- What the host actor posted itself.
-use Rattle.std.proofs.Common.{◌≡◌, inl, inr, ℕ, ◌<◌, List, [], ◌∷◌, ◌++◌, Result, Ok, Err, IfOk, OnErr, IsTrue, sym, subst, arith}
+use Rattle.std.proofs.Common.{◌≡◌, inl, inr, ℕ, ◌<◌, List, [], ◌∷◌, ◌++◌, Result, Err, IfOk, OnErr, IsTrue, sym, subst, arith}
 use Rattle.outside.specs.Counts.{one_more}
 use Rattle.tool_events.specs.Answering.{may_wait}
 use Rattle.tool_events.specs.Posts.{Rises, is_full, is_want}

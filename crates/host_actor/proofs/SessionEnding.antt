@@ -1,16 +1,16 @@
 -- How a session ends, and what comes behind it.
-use Rattle.std.proofs.Common.{◌≡◌, ◌≢◌, ◌⊎◌, inl, inr, ℕ, ◌<◌, List, [], ◌∷◌, ◌++◌, Option, Result, Ok, Err, refl, sym, subst, ◌∙◌}
+use Rattle.std.proofs.Common.{◌≡◌, ◌≢◌, ◌⊎◌, inl, inr, ℕ, ◌<◌, List, [], Option, Result, Ok, Err, refl, sym, subst}
 use Rattle.outside.specs.Counts.{Rose}
 use Rattle.hsms_frame.specs.declared.frame.Arrival.{Arrival}
 use Rattle.tool_events.specs.declared.entry.Post.{Post}
 use Rattle.actors.specs.declared.end.ActorEnd.{ActorEnd}
 use Rattle.actors.specs.declared.end.ActorEnd.TheVariants as end
 use Rattle.actors.specs.Ends.{IsRefused}
-use Rattle.actors.specs.Reads.{ReaderCounts, ReaderEnds, ReaderDid}
-use Rattle.actors.specs.Writes.{WriterEnds, WriterDid}
+use Rattle.actors.specs.Reads.{ReaderCounts, ReaderEnds}
+use Rattle.actors.specs.Writes.{WriterEnds}
 use Rattle.host_actor.specs.Links.{LinkTold, DoorTold}
 use Rattle.host_actor.specs.Sessions.{Session, IsSession, end_behind}
-use Rattle.host_actor.specs.Hosting.{LastLink, Broke, HostEnds}
+use Rattle.host_actor.specs.Hosting.{Broke, HostEnds}
 use Rattle.host_actor.specs.HostSteps.{SessionEnds, TurnEnds}
 use Rattle.host_actor.proofs.Counting.{rose-some}
 

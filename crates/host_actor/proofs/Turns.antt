@@ -1,5 +1,5 @@
 -- One turn of the host actor, by what the door answered.
-use Rattle.std.proofs.Common.{◌≡◌, ◌⊎◌, inl, inr, ℕ, ◌<◌, List, [], ◌∷◌, ◌++◌, Option, true, Result, Ok, Err, refl, sym, ap, subst, ◌∙◌, append-nil, append_assoc}
+use Rattle.std.proofs.Common.{◌≡◌, inl, inr, ℕ, List, [], ◌∷◌, ◌++◌, Option, true, Result, Ok, Err, refl, sym, ap, subst, ◌∙◌, append-nil, append_assoc}
 use Rattle.outside.specs.Counts.{Failed, Rose}
 use Rattle.tool_events.specs.declared.entry.Post.{Post}
 use Rattle.tool_events.specs.declared.event.Event.TheVariants as event
@@ -11,7 +11,7 @@ use Rattle.actors.specs.Writes.{WriterDid}
 use Rattle.host_actor.specs.declared.bytes.SessionBytes.{SessionBytes}
 use Rattle.host_actor.specs.Links.{LinkTold, DoorTold, AllGiven, AllBack, raised}
 use Rattle.host_actor.specs.Sessions.{Session, IsSession, post_of}
-use Rattle.host_actor.specs.Hosting.{LastLink, NoLink, Unmade, Broke, HostEnds}
+use Rattle.host_actor.specs.Hosting.{NoLink, Unmade, Broke, HostEnds}
 use Rattle.host_actor.specs.HostSteps.{ClosedEnds, Gave, LinkedUp, Listened, Moved, RunEnded, SessionEnds, TookBack, TurnDid, TurnEnds}
 use Rattle.host_actor.proofs.DoorLists.{given-as, given-one, back-as, back-one}
 use Rattle.host_actor.proofs.SessionEnding.{session-turn}

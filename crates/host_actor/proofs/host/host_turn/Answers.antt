@@ -1,4 +1,4 @@
-use Rattle.std.proofs.Common.{◌≡◌, inl, inr, refl}
+use Rattle.std.proofs.Common.{inl, inr, refl}
 use Rattle.actors.proofs.Posting.{rises-rose}
 use Rattle.host_actor.proofs.Turns.{no-room, door-failed, not-yet, closed, turn-as}
 use Rattle.host_actor.proofs.host.host_turn.Goals as goal

@@ -1,10 +1,17 @@
 -- What is told of the entries of one seat alone, where those of the other seats tell nothing.
-use Rattle.std.proofs.Common.{◌≡◌, ◌≢◌, ◌⊎◌, inl, inr, ℕ, ◌==◌, Bool, true, false, cond, eqb, List, [], ◌∷◌, ◌++◌, map, refl, sym, ◌∙◌, ap}
+use Rattle.std.proofs.Common.{◌≡◌, ◌≢◌, ◌⊎◌, inl, inr, ℕ, ◌==◌, Bool, true, false, cond, List, [], ◌∷◌, ◌++◌, map, refl, sym, ◌∙◌, ap}
 use Rattle.std.specs.List.{flat_map, AllByRecursion}
 use Rattle.std.proofs.lemmas.Bool.{eq-eqb, ne_eqb}
 use Rattle.std.proofs.lemmas.Bool.Decides.{eqb_tells}
 use Rattle.std.proofs.lemmas.List.Folds.{flat_map-map}
 use Rattle.tool_lock.specs.Turned.{own}
+
+-- two numbers are the same or not
+pub same_or_other : (a b : ℕ) → (a ≡ b) ⊎ (a ≢ b)
+same_or_other a b = elim (eqb_tells a b) [
+  | inl same ↦ inl same.1
+  | inr other ↦ inr other.1
+]
 
 module _ {A : Type 0} where
   -- both parts of an empty list are empty
@@ -42,13 +49,13 @@ module _ {E A : Type 0} (number : E → ℕ) (f : E → List A) where
   -- where those of all other numbers tell nothing, those of this one tell all
   only : (a : ℕ) (xs : List E) → ((k : ℕ) → k ≢ a → flat_map f (own number k xs) ≡ []) → flat_map f xs ≡ flat_map f (own number a xs)
   only a [] none = refl
-  only a (x ∷ xs) none = by (eqb_tells (number x) a) (only a xs (λ k other. none_later x xs k (none k other))) where
-    by : ((eqb (number x) a ≡ true) × (number x ≡ a)) ⊎ ((eqb (number x) a ≡ false) × (number x ≢ a)) → flat_map f xs ≡ flat_map f (own number a xs)
+  only a (x ∷ xs) none = by (same_or_other (number x) a) (only a xs (λ k other. none_later x xs k (none k other))) where
+    by : (number x ≡ a) ⊎ (number x ≢ a) → flat_map f xs ≡ flat_map f (own number a xs)
         → flat_map f (x ∷ xs) ≡ flat_map f (own number a (x ∷ xs))
-    by (inl same) rest = ap (λ (l : List A). f x ++ l) rest ∙ sym (ap (flat_map f) (own_here x xs a same.1))
+    by (inl same) rest = ap (λ (l : List A). f x ++ l) rest ∙ sym (ap (flat_map f) (own_here x xs a same))
     by (inr other) rest =
-        ap (λ (l : List A). l ++ flat_map f xs) (none_here x xs (number x) refl (none (number x) other.1)) ∙ rest
-        ∙ sym (ap (flat_map f) (own_later x xs a other.1))
+        ap (λ (l : List A). l ++ flat_map f xs) (none_here x xs (number x) refl (none (number x) other)) ∙ rest
+        ∙ sym (ap (flat_map f) (own_later x xs a other))
 
 module _ {E P A : Type 0} (seat : E → ℕ) (post : E → P) (h : P → List A) where
   -- what the posts of all seats tell is what those of one seat tell, where those of the others tell nothing

@@ -1,5 +1,5 @@
 -- What the posts of all sessions of the host tell; and so, of each session by its number, what the history has of it.
-use Rattle.std.proofs.Common.{◌≡◌, ◌≢◌, ◌⊎◌, inl, inr, ℕ, suc, ◌+◌, ◌<◌, ◌≤◌, List, [], ◌∷◌, ◌++◌, map, refl, sym, ◌∙◌, ap, subst, arith, append-nil, append_assoc}
+use Rattle.std.proofs.Common.{◌≡◌, ◌≢◌, inl, inr, ℕ, suc, ◌<◌, ◌≤◌, List, [], ◌∷◌, ◌++◌, map, refl, sym, ◌∙◌, ap, subst, arith, append-nil, append_assoc}
 use Rattle.std.specs.List.{flat_map, AllByRecursion}
 use Rattle.std.proofs.lemmas.Grind.{flat_map-append}
 use Rattle.hsms_frame.specs.declared.frame.Arrival.{Arrival}
@@ -7,21 +7,19 @@ use Rattle.tool_events.specs.declared.config.Config.{Config}
 use Rattle.tool_events.specs.declared.entry.Entry.{Entry}
 use Rattle.tool_events.specs.declared.entry.Post.{Post}
 use Rattle.tool_events.specs.declared.event.Event.TheVariants as event
-use Rattle.tool_events.specs.declared.event.OperCmd.TheVariants as oper
 use Rattle.tool_events.specs.declared.answer.Answer.TheVariants as answer
 use Rattle.gem_model.specs.State.{opening}
 use Rattle.gem_model.specs.Sessions.{session_out}
 use Rattle.actors.specs.declared.end.ActorEnd.{ActorEnd}
 use Rattle.actors.specs.declared.end.ActorEnd.TheVariants as end
-use Rattle.actors.specs.Ends.{QuitPosted}
 use Rattle.actors.specs.Writes.{frames_of}
 use Rattle.host_actor.specs.Links.{LinkTold, DoorTold}
 use Rattle.host_actor.specs.Sessions.{Session, IsSession, AreSessions, post_of, all_reads, all_writes}
-use Rattle.host_actor.specs.Hosting.{LastLink, NoLink, Unmade, Broke, BrokeWith, EndsRun, HostEnds}
+use Rattle.host_actor.specs.Hosting.{LastLink, NoLink, Unmade, Broke, BrokeWith, HostEnds}
 use Rattle.session_laws.specs.Kept.{session_in, KeptSession, EachKept}
 use Rattle.session_laws.proofs.Apart.{all_none}
 use Rattle.session_laws.proofs.Numbers.{AreFrom}
-use Rattle.session_laws.proofs.Telling.{came_by, taken_by, given_by, IsQuiet, AreOf, AreSilent, quit_quiet, quiet_silent, none_silent, with_silent}
+use Rattle.session_laws.proofs.Telling.{came_by, taken_by, given_by, AreSilent, none_so, quit_or_none, with_silent}
 use Rattle.session_laws.proofs.OneSession.{ReadsTell, WritesTell, reads_tell, writes_tell, came_all, out_all}
 
 -- ---- parts of numbered sessions
@@ -167,13 +165,6 @@ ended_silent posts is = subst AreSilent (sym is) (record { came = λ k. refl; ta
 listened_silent : (posts : List Post) → posts ≡ post_of event.Listen answer.Ended ∷ [] → AreSilent posts
 listened_silent posts is = subst AreSilent (sym is) (record { came = λ k. refl; taken = λ k. refl; given = refl })
 
-none_so : (posts : List Post) → posts ≡ [] → AreSilent posts
-none_so posts is = subst AreSilent (sym is) none_silent
-
-run_silent : (fulls wants : ℕ) (behind : List Post) → EndsRun fulls wants behind → AreSilent behind
-run_silent fulls wants behind (inl posted) = quiet_silent behind (quit_quiet behind posted)
-run_silent fulls wants behind (inr none) = none_so behind none.0
-
 broke_silent : {L : Type 0} (last : LastLink L) (behind : List Post) (e : ActorEnd) → BrokeWith last behind e → AreSilent behind
 broke_silent NoLink behind e broke = absurd broke
 broke_silent (Unmade link) behind e broke = absurd broke
@@ -183,12 +174,12 @@ pub behind_silent : {L : Type 0} (e : ActorEnd) (door door' : DoorTold L) (fulls
     → HostEnds e door door' fulls wants last behind → AreSilent behind
 behind_silent end.Quit door door' fulls wants last behind (inl h) = ended_silent behind h.2
 behind_silent end.Quit door door' fulls wants last behind (inr h) = listened_silent behind h.1
-behind_silent end.Door door door' fulls wants last behind h = run_silent fulls wants behind h.2
+behind_silent end.Door door door' fulls wants last behind h = quit_or_none behind _ h.2
 behind_silent end.Full door door' fulls wants last behind (inl h) = none_so behind h.1
 behind_silent end.Full door door' fulls wants last behind (inr h) = broke_silent last behind end.Full h
 behind_silent end.NoMemory door door' fulls wants last behind (inl h) = none_so behind h.1
 behind_silent end.NoMemory door door' fulls wants last behind (inr (inl h)) = broke_silent last behind end.NoMemory h
-behind_silent end.NoMemory door door' fulls wants last behind (inr (inr h)) = run_silent fulls wants behind h.1
+behind_silent end.NoMemory door door' fulls wants last behind (inr (inr h)) = quit_or_none behind _ h.1
 behind_silent end.ReadFault door door' fulls wants last behind h = absurd h
 behind_silent (end.Line number place) door door' fulls wants last behind h = absurd h
 

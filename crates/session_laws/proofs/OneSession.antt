@@ -1,9 +1,8 @@
 -- What the posts of one session of the host tell: its reader brought the messages of its own session alone, and its writer took the
 -- frames of that session alone.
 use Rattle.std.proofs.Common.{◌≡◌, ◌≢◌, ◌⊎◌, inl, inr, ℕ, ◌==◌, Bool, true, false, if◌then◌else◌, List, [], ◌∷◌, ◌++◌, map, Option, refl, sym, ◌∙◌, ap, subst, append-nil}
-use Rattle.std.specs.List.{flat_map, AllByRecursion}
+use Rattle.std.specs.List.{flat_map}
 use Rattle.std.proofs.lemmas.Bool.{eq-eqb, ne_eqb}
-use Rattle.std.proofs.lemmas.Grind.{flat_map-append}
 use Rattle.hsms_frame.specs.declared.frame.Arrival.{Arrival}
 use Rattle.tool_events.specs.declared.entry.Post.{Post}
 use Rattle.tool_events.specs.declared.event.Event.{Event}
@@ -15,11 +14,11 @@ use Rattle.tool_events.specs.declared.answer.Answer.TheVariants as answer
 use Rattle.gem_model.specs.Sessions.{frame_taken}
 use Rattle.actors.specs.declared.end.ActorEnd.{ActorEnd}
 use Rattle.actors.specs.declared.end.ActorEnd.TheVariants as end
-use Rattle.actors.specs.Ends.{ArePosted, LastEnded, QuitPosted}
+use Rattle.actors.specs.Ends.{ArePosted, LastEnded}
 use Rattle.actors.specs.Reads.{ReaderCounts, ReaderEnds, ReaderDid}
 use Rattle.actors.specs.Writes.{AreTakes, WriterEnds, WriterDid, frame_of, frames_of}
 use Rattle.session_laws.specs.Kept.{arrival_of}
-use Rattle.session_laws.proofs.Telling.{came_by, taken_by, given_by, BringsNone, TakesNone, GivesNone, IsQuiet, AreOf, AreSilent, all_mapped, posted_of, quit_quiet, quiet_silent, none_silent, brought_none, took_none, gave_none, with_silent}
+use Rattle.session_laws.proofs.Telling.{came_by, taken_by, given_by, BringsNone, TakesNone, GivesNone, IsQuiet, AreOf, AreSilent, all_mapped, posted_of, quiet_silent, none_so, quit_or_none, brought_none, took_none, gave_none, with_silent}
 
 -- ---- its reader
 
@@ -61,14 +60,6 @@ hosts_tell session given ps posted = record {
 }
 
 -- ---- what comes behind the messages or the takes
-
-none_so : (ps : List Post) → ps ≡ [] → AreSilent ps
-none_so ps none = subst AreSilent (sym none) none_silent
-
--- the end of the run was told, or nothing
-quit_or_none : (ps : List Post) (A : Type 0) → QuitPosted ps ⊎ ((ps ≡ []) × A) → AreSilent ps
-quit_or_none ps A (inl posted) = quiet_silent ps (quit_quiet ps posted)
-quit_or_none ps A (inr none) = none_so ps none.0
 
 -- that the link was lost was told, or nothing
 down_or_none : (session : ℕ) (why : SessionCause) (ps : List Post) (A B : Type 0) → (A × ArePosted (event.LinkDown session why ∷ []) ps) ⊎ ((ps ≡ []) × B) → AreSilent ps

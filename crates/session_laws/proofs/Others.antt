@@ -1,10 +1,9 @@
 -- What the operator, the clock and the modules posted tells nothing of sessions.
-use Rattle.std.proofs.Common.{◌≡◌, ◌⊎◌, inl, inr, ℕ, ◌+◌, Bool, if◌then◌else◌, List, [], ◌∷◌, ◌++◌, Option, Result, Ok, Err, refl, sym, ◌∙◌, ap, subst}
+use Rattle.std.proofs.Common.{◌≡◌, inl, inr, ℕ, ◌+◌, if◌then◌else◌, List, [], ◌∷◌, Option, Result, Ok, Err, sym, subst}
 use Rattle.std.specs.List.{AllByRecursion}
 use Rattle.gem_ids.specs.declared.moment.Moment.{Moment}
 use Rattle.tool_events.specs.declared.entry.Post.{Post}
 use Rattle.tool_events.specs.declared.event.Event.{Event}
-use Rattle.tool_events.specs.declared.event.Event.TheVariants as event
 use Rattle.tool_events.specs.declared.answer.Answer.{Answer}
 use Rattle.tool_events.specs.declared.answer.Command.{Command}
 use Rattle.line_grammar.specs.declared.line.Line.{Line}
@@ -15,7 +14,7 @@ use Rattle.sim_modules.specs.Acting.{Acting, one_more}
 use Rattle.gem_model.proofs.Tests.{either_way}
 use Rattle.actors.specs.declared.end.ActorEnd.{ActorEnd}
 use Rattle.actors.specs.declared.end.ActorEnd.TheVariants as end
-use Rattle.actors.specs.Ends.{QuitPosted, QuitPostedOr}
+use Rattle.actors.specs.Ends.{QuitPostedOr}
 use Rattle.actors.specs.Reads.{ReaderCounts}
 use Rattle.actors.specs.Scripts.{Script, ScriptStop, QuitAt, line_events, line_says, lines_say, script_of}
 use Rattle.actors.specs.Operates.{SaidBy, ScriptOver, OperatorEnds, OperatorDid}

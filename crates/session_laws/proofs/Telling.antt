@@ -1,6 +1,6 @@
--- What posts tell of sessions, by the kinds of their events: the messages that came, the frames that were taken, and the numbers that
--- were given.
-use Rattle.std.proofs.Common.{◌≡◌, ℕ, Bool, if◌then◌else◌, List, [], ◌∷◌, ◌++◌, map, refl, sym, ◌∙◌, ap, subst, append-nil}
+-- What posts tell of sessions, by the kinds of their events: the messages that came, the frames that were taken, and the numbers
+-- that were given.
+use Rattle.std.proofs.Common.{◌≡◌, ◌⊎◌, inl, inr, ℕ, List, [], ◌∷◌, ◌++◌, map, refl, sym, ◌∙◌, ap, subst, append-nil}
 use Rattle.std.specs.List.{flat_map, AllByRecursion}
 use Rattle.std.proofs.lemmas.Grind.{flat_map-append}
 use Rattle.hsms_frame.specs.declared.frame.Arrival.{Arrival}
@@ -119,6 +119,14 @@ quiet_silent ps all = record {
   taken = λ k. took_none k ps (all_of (λ (p : Post). IsQuiet p.event) (λ (p : Post). TakesNone p.event) (λ p is. is.takes) ps all);
   given = gave_none ps (all_of (λ (p : Post). IsQuiet p.event) (λ (p : Post). GivesNone p.event) (λ p is. is.gives) ps all);
 }
+
+pub none_so : (ps : List Post) → ps ≡ [] → AreSilent ps
+none_so ps none = subst AreSilent (sym none) none_silent
+
+-- the end of the run was told, or nothing
+pub quit_or_none : (ps : List Post) (A : Type 0) → QuitPosted ps ⊎ ((ps ≡ []) × A) → AreSilent ps
+quit_or_none ps A (inl posted) = quiet_silent ps (quit_quiet ps posted)
+quit_or_none ps A (inr none) = none_so ps none.0
 
 -- what posts tell with others behind them that tell nothing
 pub with_silent : {A : Type 0} (h : Post → List A) (ps qs : List Post) → flat_map h qs ≡ [] → flat_map h (ps ++ qs) ≡ flat_map h ps

@@ -26,9 +26,9 @@ arrival_of k _ = []
 abbrev pub session_in : List Entry → ℕ → List Arrival
 session_in history k = flat_map (λ (e : Entry). arrival_of k e.event) history
 
--- The history has of a session of this number what its link told. The bytes that were read are cut to messages, of which a front came,
--- and all of them unless one was answered Ended or the reader ended otherwise than with Quit. The bytes that were written are a front of
--- the frames that went out, and all of them unless the link failed. Both are counted.
+-- The history has of a session of this number what its link told. The bytes that were read are cut to messages, of which a front
+-- came, and all of them unless one was answered Ended or the reader ended otherwise than with Quit. The bytes that were written are
+-- a front of the frames that went out, and all of them unless the link failed. Both are counted.
 pub record KeptSession {L : Type 0} (told : L → LinkTold) (c : Config) (history : List Entry) (k : ℕ) (s : Session L) : Type 0 where
   pub numbered : s.number ≡ k
   pub bytes : List ℕ

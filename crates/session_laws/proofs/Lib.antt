@@ -4,3 +4,4 @@ pub mod Telling
 pub mod OneSession
 pub mod Others
 pub mod Each
+pub mod Sessions

@@ -138,5 +138,5 @@ module _ {L : Type 0} (told : L → LinkTold) (out out' : Outside L) (c : Config
         (λ k from. history_came k) (λ k from. history_taken k)
 
   -- and so for what it did in the run
-  pub each_kept_in_run : EachKept told c history 1 (r.host.2.went ++ last_session r.host.2.last)
-  each_kept_in_run = each_kept r.host.2
+  pub each_kept_in_run : EachKept told c history 1 (r.host.did.went ++ last_session r.host.did.last)
+  each_kept_in_run = each_kept r.host.did

@@ -10,8 +10,8 @@ use Rattle.history_totals.proofs.Summing.{totals-snoc}
 use Rattle.tool_core.proofs.Replaying.{GoesOn, goes-snoc, state-snoc}
 use Rattle.tool_core.proofs.tool.Core.record.Goals as goal
 
-pub invariant_of-self-4 : goal.invariant_of-self-4
-invariant_of-self-4 c =
+pub invariant_of-self-3 : goal.invariant_of-self-3
+invariant_of-self-3 c =
     let k = c.self.inside in
     let i = c.self.invariant in
     let whole : k.is_whole ≡ true = ap (λ (v : CoreView). v.is_whole) c.self.view_is ∙ c.requires.whole in

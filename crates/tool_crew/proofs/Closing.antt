@@ -217,3 +217,16 @@ run_did told out out' bytes' count ends c history state s recorded entries bytes
   door_unfailed = s.door_unfailed;
   script_unfailed = s.script_unfailed;
 }
+
+-- the same, of the seats with their chairs
+pub run_left : {L : Type 0} (told : L → LinkTold) (t : Shared) (out out' : Outside L) (bytes bytes' : List SessionBytes) (count : ℕ) (c kept : Config) (history : List Entry) (state : State) (old new : List Seat) (ends : Ends)
+    → kept ≡ c → length old ≡ 4 + modules_of c → bytes ≡ [] → NewFrom t 0 old → CrewDid told t out out' bytes bytes' count old new → AllKnown (posted_in kept history) new → AreEnds new ends
+    → Recorded kept history state → length history ≤ kept.max_entries → bytes_of history ≤ kept.max_bytes
+    → ((seat : ℕ) → 4 + modules_of c ≤ seat → own (λ (e : Posted). e.seat) seat (posted_in kept history) ≡ []) → RunDid told out out' c history bytes' count ends
+run_left told t out out' bytes bytes' count c kept history state old new ends same len none n d known e recorded entries fit others =
+    run_did told out out' bytes' count ends c history state
+    (served told t out out' bytes bytes' count c history old new ends len none n d (subst (λ k. AllKnown (posted_in k history) new) same known) e)
+    (subst (λ k. Recorded k history state) same recorded)
+    (subst (λ (k : Config). length history ≤ k.max_entries) same entries)
+    (subst (λ (k : Config). bytes_of history ≤ k.max_bytes) same fit)
+    (λ seat above. subst (λ k. own (λ (e : Posted). e.seat) seat (posted_in k history) ≡ []) same (others seat above))

@@ -8,9 +8,8 @@ ghost use Rattle.host_actor.specs.Links.{link_told, door_told};
 ghost use Rattle.tool_crew.specs.Doings.{Hosted, Operated, Worked};
 ghost use Rattle.tool_crew.specs.Seating.{IsOf, Stays, posts_in, AllOf, AllWorked};
 
-use crate::seat::Seat;
+use crate::seat::{HostSeat, Seat};
 use crate::seated::{host_in, module_in, operate_in, time_in};
-use host_actor::SessionBytes;
 use outside::{Clock, Door, Gate, Source};
 use shared_tool::Shared;
 use std::alloc::Global;
@@ -121,26 +120,24 @@ pub fn run_all<
     shared: &Shared,
     gate: &G,
     door: &mut X,
-    bytes: &mut Vec<SessionBytes>,
-    reader: &mut Seat,
-    writer: &mut Seat,
+    host: &mut HostSeat,
     script: &mut S,
     operator: &mut Seat,
     clock: &mut T,
     time: &mut Seat,
     modules: &mut [Seat],
 ) -> u64
-    requires host { IsOf shared.now reader.old.chair × IsOf shared.now writer.old.chair }
+    requires host { IsOf shared.now host.old.reader × IsOf shared.now host.old.writer }
     requires operator { IsOf shared.now operator.old.chair }
     requires time { IsOf shared.now time.old.chair }
     requires modules { AllOf shared.now modules.old }
     requires few { 1 + length modules.old ≤ 256 }
-    ensures reader_same { Stays shared.now reader.old.chair reader.new.chair }
-    ensures writer_same { Stays shared.now writer.old.chair writer.new.chair }
+    ensures reader_same { Stays shared.now host.old.reader host.new.reader }
+    ensures writer_same { Stays shared.now host.old.writer host.new.writer }
     ensures hosted { Hosted (link_told X.In.left X.In.faults X.In.ends X.Out.held X.Out.faults X.Out.refusals X.Out.is_shut)
         (door_told X.left X.backs X.faults X.links X.waits X.closings door.old) (door_told X.left X.backs X.faults X.links X.waits X.closings door.new)
-        (posts_in reader.old.chair) (posts_in reader.new.chair) (posts_in writer.old.chair) (posts_in writer.new.chair) bytes.old.items bytes.new.items reader.new.end }
-    ensures door { reader.new.end ≢ end.Door → X.faults door.new ≡ X.faults door.old }
+        (posts_in host.old.reader) (posts_in host.new.reader) (posts_in host.old.writer) (posts_in host.new.writer) host.old.bytes.items host.new.bytes.items host.new.end }
+    ensures door { host.new.end ≢ end.Door → X.faults door.new ≡ X.faults door.old }
     ensures operator_same { Stays shared.now operator.old.chair operator.new.chair }
     ensures operated { Operated (source_told S.left S.faults S.ends script.old) (source_told S.left S.faults S.ends script.new)
         (posts_in operator.old.chair) (posts_in operator.new.chair) result operator.new.end }
@@ -152,15 +149,15 @@ pub fn run_all<
     let (_, count) = join_mut(
         rt,
         &mut ||
-            requires { IsOf shared.now reader.now.chair × IsOf shared.now writer.now.chair }
-            ensures reader { Stays shared.entry.now reader.entry.now.chair reader.exit.now.chair }
-            ensures writer { Stays shared.entry.now writer.entry.now.chair writer.exit.now.chair }
+            requires { IsOf shared.now host.now.reader × IsOf shared.now host.now.writer }
+            ensures reader { Stays shared.entry.now host.entry.now.reader host.exit.now.reader }
+            ensures writer { Stays shared.entry.now host.entry.now.writer host.exit.now.writer }
             ensures did { Hosted (link_told X.In.left X.In.faults X.In.ends X.Out.held X.Out.faults X.Out.refusals X.Out.is_shut)
                 (door_told X.left X.backs X.faults X.links X.waits X.closings door.entry.now) (door_told X.left X.backs X.faults X.links X.waits X.closings door.exit.now)
-                (posts_in reader.entry.now.chair) (posts_in reader.exit.now.chair) (posts_in writer.entry.now.chair) (posts_in writer.exit.now.chair)
-                bytes.entry.now.items bytes.exit.now.items reader.exit.now.end }
-            ensures unfailed { reader.exit.now.end ≢ end.Door → X.faults door.exit.now ≡ X.faults door.entry.now }
-        { host_in(rt, alloc, shared, door, bytes, gate, reader, writer) },
+                (posts_in host.entry.now.reader) (posts_in host.exit.now.reader) (posts_in host.entry.now.writer) (posts_in host.exit.now.writer)
+                host.entry.now.bytes.items host.exit.now.bytes.items host.exit.now.end }
+            ensures unfailed { host.exit.now.end ≢ end.Door → X.faults door.exit.now ≡ X.faults door.entry.now }
+        { host_in(rt, alloc, shared, door, gate, host) },
         &mut || -> u64
             requires operator { IsOf shared.now operator.now.chair }
             requires time { IsOf shared.now time.now.chair }

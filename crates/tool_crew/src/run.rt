@@ -1,5 +1,5 @@
 //! The whole run.
-ghost use Rattle.std.specs.Prelude.{◌≡◌, ◌≤◌, length, IfOk, OnErr};
+ghost use Rattle.std.specs.Prelude.{◌≡◌, ◌≤◌, [], length, IfOk, OnErr};
 ghost use Rattle.tool_events.specs.Configs.{IsConfig};
 ghost use Rattle.actors.specs.ScriptReads.{source_told};
 ghost use Rattle.host_actor.specs.Links.{link_told, door_told};
@@ -9,8 +9,9 @@ ghost use Rattle.tool_crew.specs.Ran.{RunDid};
 
 use crate::crew::run_all;
 use crate::ends::Ends;
-use crate::seat::Seat;
+use crate::seat::{HostSeat, Seat};
 use crate::seating::{ends_of, seat_all, unseat_all};
+use actors::ActorEnd;
 use host_actor::SessionBytes;
 use outside::{Clock, Door, Gate, Source};
 use shared_tool::{NoMemory, Shared};
@@ -30,7 +31,7 @@ pub struct Ran {
     pub script_bytes: u64,
 }
 
-// All actors in their seats.
+// All actors in their seats. Gives how many bytes of the script were read, and the bytes of the sessions.
 fn run_crew<
     R: Threads + Wait + Sync,
     X: Door + Send,
@@ -42,19 +43,18 @@ fn run_crew<
     alloc: Global,
     shared: &Shared,
     door: &mut X,
-    bytes: &mut Vec<SessionBytes>,
     script: &mut S,
     clock: &mut T,
     gate: &G,
     seats: &mut [Seat],
-) -> u64
+) -> (u64, Vec<SessionBytes>)
     requires four { 4 ≤ length seats.old }
     requires few { length seats.old ≤ 259 }
     requires all { AllOf shared.now seats.old }
     ensures did { CrewDid (link_told X.In.left X.In.faults X.In.ends X.Out.held X.Out.faults X.Out.refusals X.Out.is_shut) shared.now
         (outside (door_told X.left X.backs X.faults X.links X.waits X.closings door.old) (source_told S.left S.faults S.ends script.old) (T.given clock.old))
         (outside (door_told X.left X.backs X.faults X.links X.waits X.closings door.new) (source_told S.left S.faults S.ends script.new) (T.given clock.new))
-        bytes.old.items bytes.new.items result seats.old seats.new }
+        [] result.1.items result.0 seats.old seats.new }
 {
     let Some((reader, rest)) = seats.split_first_mut() else {
         unreachable!()
@@ -68,10 +68,25 @@ fn run_crew<
     let Some((time, modules)) = rest.split_first_mut() else {
         unreachable!()
     };
-    run_all(
-        rt, alloc, shared, gate, door, bytes, reader, writer, script, operator, clock, time,
-        modules,
-    )
+    let mut host = HostSeat {
+        reader: reader.chair.take(),
+        writer: writer.chair.take(),
+        bytes: Vec::new(alloc),
+        end: ActorEnd::Quit,
+    };
+    let count = run_all(
+        rt, alloc, shared, gate, door, &mut host, script, operator, clock, time, modules,
+    );
+    let HostSeat {
+        reader: first,
+        writer: second,
+        bytes,
+        end,
+    } = host;
+    reader.chair = first;
+    reader.end = end;
+    writer.chair = second;
+    (count, bytes)
 }
 
 // The same, of a list of seats, and how the actors in them ended.
@@ -86,35 +101,33 @@ fn run_seats<
     alloc: Global,
     shared: &Shared,
     door: &mut X,
-    bytes: &mut Vec<SessionBytes>,
     script: &mut S,
     clock: &mut T,
     gate: &G,
     seats: Vec<Seat>,
-) -> (Vec<Seat>, (Ends, u64))
+) -> (Vec<Seat>, (Ends, (u64, Vec<SessionBytes>)))
     requires four { 4 ≤ length seats.items }
     requires few { length seats.items ≤ 259 }
     requires all { AllOf shared.now seats.items }
     ensures did { CrewDid (link_told X.In.left X.In.faults X.In.ends X.Out.held X.Out.faults X.Out.refusals X.Out.is_shut) shared.now
         (outside (door_told X.left X.backs X.faults X.links X.waits X.closings door.old) (source_told S.left S.faults S.ends script.old) (T.given clock.old))
         (outside (door_told X.left X.backs X.faults X.links X.waits X.closings door.new) (source_told S.left S.faults S.ends script.new) (T.given clock.new))
-        bytes.old.items bytes.new.items result.1.1 seats.items result.0.items }
+        [] result.1.1.1.items result.1.1.0 seats.items result.0.items }
     ensures ends { AreEnds result.0.items result.1.0 }
 {
     let mut seats = seats;
-    let count = run_crew(
+    let ran = run_crew(
         rt,
         alloc,
         shared,
         door,
-        bytes,
         script,
         clock,
         gate,
         seats.as_mut_slice(),
     );
     let ends = ends_of(seats.as_slice());
-    (seats, (ends, count))
+    (seats, (ends, ran))
 }
 
 /// Runs all actors over the core of this configuration, each on a thread of its own, until all have ended.
@@ -152,17 +165,8 @@ pub fn run_tool<
     let (shared, chairs) = Shared::open(alloc, core, 4 + count as u32)?;
     let room = Vec::with_capacity(alloc, chairs.len())?;
     let seats = seat_all(alloc, chairs)?;
-    let mut sessions = Vec::new(alloc);
-    let (seats, (ends, script_bytes)) = run_seats(
-        rt,
-        alloc,
-        &shared,
-        door,
-        &mut sessions,
-        script,
-        clock,
-        gate,
-        seats,
+    let (seats, (ends, (script_bytes, sessions))) = run_seats(
+        rt, alloc, &shared, door, script, clock, gate, seats,
     );
     let chairs = unseat_all(&shared, seats, room);
     let core = shared.close(chairs);

@@ -7,44 +7,50 @@ ghost use Rattle.host_actor.specs.Links.{link_told, door_told};
 ghost use Rattle.tool_crew.specs.Doings.{Hosted, Operated, Worked};
 ghost use Rattle.tool_crew.specs.Seating.{IsOf, Stays, posts_in};
 
-use crate::seat::Seat;
+use crate::seat::{HostSeat, Seat};
 use crate::seats::{host_seated, module_seated, operate_seated, time_seated};
-use host_actor::SessionBytes;
 use outside::{Clock, Door, Gate, Source};
 use shared_tool::Shared;
 use std::alloc::Global;
 use std::sync::Wait;
 use std::thread::Threads;
 
-/// The host actor takes the chairs of two seats, and gives them back. How it ended stands in the reader's seat.
+/// The host actor takes both chairs of its seat, and gives them back.
 pub fn host_in<R: Threads + Wait + Sync, X: Door, G: Gate + Sync>(
     rt: &R,
     alloc: Global,
     shared: &Shared,
     door: &mut X,
-    bytes: &mut Vec<SessionBytes>,
     gate: &G,
-    reader: &mut Seat,
-    writer: &mut Seat,
+    host: &mut HostSeat,
 )
-    requires { IsOf shared.now reader.old.chair × IsOf shared.now writer.old.chair }
-    ensures reader { Stays shared.now reader.old.chair reader.new.chair }
-    ensures writer { Stays shared.now writer.old.chair writer.new.chair }
+    requires { IsOf shared.now host.old.reader × IsOf shared.now host.old.writer }
+    ensures reader { Stays shared.now host.old.reader host.new.reader }
+    ensures writer { Stays shared.now host.old.writer host.new.writer }
     ensures did { Hosted (link_told X.In.left X.In.faults X.In.ends X.Out.held X.Out.faults X.Out.refusals X.Out.is_shut)
         (door_told X.left X.backs X.faults X.links X.waits X.closings door.old) (door_told X.left X.backs X.faults X.links X.waits X.closings door.new)
-        (posts_in reader.old.chair) (posts_in reader.new.chair) (posts_in writer.old.chair) (posts_in writer.new.chair) bytes.old.items bytes.new.items reader.new.end }
-    ensures unfailed { reader.new.end ≢ end.Door → X.faults door.new ≡ X.faults door.old }
+        (posts_in host.old.reader) (posts_in host.new.reader) (posts_in host.old.writer) (posts_in host.new.writer) host.old.bytes.items host.new.bytes.items host.new.end }
+    ensures unfailed { host.new.end ≢ end.Door → X.faults door.new ≡ X.faults door.old }
 {
-    let Some(first) = reader.chair.take() else {
+    let Some(first) = host.reader.take() else {
         unreachable!()
     };
-    let Some(second) = writer.chair.take() else {
+    let Some(second) = host.writer.take() else {
         unreachable!()
     };
-    let ((first, second), end) = host_seated(rt, alloc, shared, first, second, door, bytes, gate);
-    reader.chair = Some(first);
-    writer.chair = Some(second);
-    reader.end = end;
+    let ((first, second), end) = host_seated(
+        rt,
+        alloc,
+        shared,
+        first,
+        second,
+        door,
+        &mut host.bytes,
+        gate,
+    );
+    host.reader = Some(first);
+    host.writer = Some(second);
+    host.end = end;
 }
 
 /// The operator takes the chair of its seat, and gives it back; beside that it gives how many bytes of the script were read.

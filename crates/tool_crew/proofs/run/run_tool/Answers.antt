@@ -1,4 +1,4 @@
-use Rattle.std.proofs.Common.{◌≡◌, ◌+◌, ◌∙◌, sym, ap, length, arith}
+use Rattle.std.proofs.Common.{◌≡◌, ◌+◌, ◌∙◌, refl, sym, ap, length, arith}
 use Rattle.core_view.specs.CoreView.{CoreView}
 use Rattle.tool_crew.specs.Ran.{modules_of}
 use Rattle.tool_crew.proofs.Closing.{seats_new, all_of_new, crew_all, are_of, all_known, same_length, run_left}
@@ -44,7 +44,7 @@ returns-clause-did g c =
     let opened = ap (λ (x : CoreView). length x.state.floor.modules) c.in_ok-core.ensures in
     let all : length c.in_ok-seats.seats.items ≡ 4 + modules_of c.args.config.now = omega arith in
     let same = c.close-core.ensures.config ∙ (c.in_ok-shared.ensures.config ∙ ap (λ (x : CoreView). x.config) c.in_ok-core.ensures) in
-    run_left _ c.in_ok-shared.shared _ _ _ _ _ c.args.config.now _ _ _ _ _ _ same all c.new-sessions.ensures.items
+    run_left _ c.in_ok-shared.shared _ _ _ _ _ c.args.config.now _ _ _ _ _ _ same all refl
     (seats_new c.in_ok-shared.shared _ _ c.in_ok-shared.ensures.chairs c.in_ok-seats.ensures) c.run_seats-seats.ensures.did
     (all_known _ _ _ c.close-core.ensures.known c.unseat_all-chairs.ensures) c.run_seats-seats.ensures.ends
     c.close-core.ensures.recorded c.history.ensures.entries_fit c.history.ensures.bytes_fit

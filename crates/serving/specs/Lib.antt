@@ -1,3 +1,0 @@
-pub mod Log
-pub mod Ending
-pub mod Served

@@ -1,2 +1,0 @@
-mod Closing
-mod Hosts

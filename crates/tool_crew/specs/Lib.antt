@@ -1,4 +1,0 @@
-pub mod Doings
-pub mod Seating
-pub mod Crews
-pub mod Ran

@@ -7,14 +7,10 @@ use Rattle.tool_events.specs.declared.entry.Post.{Post}
 use Rattle.tool_events.specs.declared.event.Event.{Event}
 use Rattle.line_grammar.specs.declared.line.Line.{Line}
 use Rattle.line_grammar.specs.declared.line.Line.TheVariants as line
-use Rattle.line_grammar.specs.Reading.{end_at, literal_at, before_space, from_space, digits_at, number_at, run_at, pairs_at, hex_at, line_bytes}
-use Rattle.tool_texts.specs.Scripts.{script_line_of}
+use Rattle.line_grammar.specs.Reading.{end_at, literal_at, before_space, from_space, digits_at, number_at, run_at, pairs_at, hex_at, line_bytes, script_line_of}
 use Rattle.line_grammar.specs.Lines.{script_lines, service_words, access_words, job_word, job_words, control_job_words, up_words, clear_words, lost_words, operator_words, placed_line, removed_line, done_line, failed_line, down_line, skipped_line, comment_line, operator_line, signal_line, watch_line, common_lines}
-use Rattle.gem_model.specs.Feed.{is_quit}
-use Rattle.gem_model.specs.Front.{IsFront}
-use Rattle.gem_model.specs.Lines.{lines_of, whole_lines}
-use Rattle.line_feeding.specs.Stopping.{LineEnded}
-use Rattle.gem_model.proofs.Texts.{lines-line, lines-last, whole-feed, whole-none, first-long}
+use Rattle.line_grammar.specs.Texts.{is_quit, IsFront, lines_of, whole_lines, LineEnded}
+use Rattle.line_grammar.proofs.Texts.{lines-line, lines-last, whole-feed, whole-none, first-long}
 use Rattle.tool_texts.proofs.ScriptLines.{long_scripted}
 use Rattle.actors.specs.Ends.{ArePosted, LastEnded, NoneEnded, NoneBehindEnded, QuitPostedOr}
 use Rattle.actors.specs.Scripts.{Script, AllSaid, OutsideGrammar, QuitAt, behind, line_events, line_says, lines_say, script_of}

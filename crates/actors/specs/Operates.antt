@@ -1,13 +1,10 @@
 -- What the operator did (this tool's profile, serving and scripts).
 use Rattle.std.specs.Prelude.{◌≡◌, ◌⊎◌, ℕ, List, [], ◌++◌, length, Option}
 use Rattle.outside.specs.Counts.{Rose}
-use Rattle.outside.specs.Told.{Taken}
+use Rattle.outside.specs.Told.{Taken, Whole}
 use Rattle.tool_events.specs.declared.entry.Post.{Post}
 use Rattle.tool_events.specs.declared.event.Event.{Event}
-use Rattle.gem_model.specs.Front.{IsFront}
-use Rattle.gem_model.specs.Lines.{whole_lines}
-use Rattle.line_feeding.specs.Input.{Whole}
-use Rattle.line_feeding.specs.Stopping.{NumberEnded, EndedLines}
+use Rattle.line_grammar.specs.Texts.{IsFront, whole_lines, NumberEnded, EndedLines}
 use Rattle.actors.specs.Ends.{ArePosted, LastEnded, NoneBehindEnded, QuitPosted, QuitPostedOr}
 use Rattle.actors.specs.Reads.{ReaderCounts}
 use Rattle.actors.specs.Scripts.{AllSaid, OutsideGrammar, QuitAt, script_of}

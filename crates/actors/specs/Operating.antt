@@ -6,7 +6,7 @@ use Rattle.tool_events.specs.declared.event.Event.{Event}
 use Rattle.tool_events.specs.declared.answer.Answer.{Answer}
 use Rattle.tool_events.specs.declared.answer.Answer.TheVariants as answer
 use Rattle.line_grammar.specs.declared.line.Line.{Line}
-use Rattle.gem_model.specs.Feed.{is_quit}
+use Rattle.line_grammar.specs.Texts.{is_quit}
 use Rattle.line_grammar.specs.Reading.{line_bytes}
 use Rattle.actors.specs.Ends.{ArePosted, LastEnded, NoneEnded, NoneBehindEnded, QuitPosted, QuitPostedOr}
 use Rattle.actors.specs.Reads.{ReaderCounts}

@@ -4,7 +4,7 @@ use Rattle.outside.specs.Counts.{one_more}
 use Rattle.outside.specs.Told.{Taken}
 use Rattle.hsms_frame.specs.declared.frame.Arrival.{Arrival}
 use Rattle.hsms_frame.specs.Cut.{Kept, IsCutOf, arrivals_of, behind_of, is_short}
-use Rattle.gem_model.specs.Feed.{text_bytes}
+use Rattle.tool_events.specs.Sizes.{text_bytes}
 use Rattle.tool_events.specs.declared.entry.Post.{Post}
 use Rattle.tool_events.specs.declared.event.Event.{Event}
 use Rattle.tool_events.specs.declared.event.Event.TheVariants as event

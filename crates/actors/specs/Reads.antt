@@ -1,11 +1,10 @@
 -- What the reader of a session did (this tool's profile, serving).
 use Rattle.std.specs.Prelude.{◌≡◌, ◌⊎◌, ℕ, ◌-◌, ◌^◌, min, true, List, [], ◌∷◌, ◌++◌, length, map, Option}
 use Rattle.outside.specs.Counts.{Rose}
-use Rattle.outside.specs.Told.{Taken}
+use Rattle.outside.specs.Told.{Taken, Whole}
 use Rattle.hsms_frame.specs.declared.frame.Arrival.{Arrival}
-use Rattle.line_feeding.specs.Input.{Whole}
 use Rattle.hsms_frame.specs.Cut.{arrivals_of, behind_of, is_short}
-use Rattle.gem_model.specs.Feed.{text_bytes}
+use Rattle.tool_events.specs.Sizes.{text_bytes}
 use Rattle.tool_events.specs.declared.entry.Post.{Post}
 use Rattle.tool_events.specs.declared.event.Event.TheVariants as event
 use Rattle.tool_events.specs.declared.event.SessionCause.{SessionCause}

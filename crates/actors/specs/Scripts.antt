@@ -4,9 +4,8 @@ use Rattle.tool_events.specs.declared.event.Event.{Event}
 use Rattle.tool_events.specs.declared.event.Event.TheVariants as event
 use Rattle.line_grammar.specs.declared.line.Line.{Line}
 use Rattle.line_grammar.specs.declared.line.Line.TheVariants as line
-use Rattle.gem_model.specs.Feed.{is_quit}
-use Rattle.gem_model.specs.Lines.{lines_of}
-use Rattle.tool_texts.specs.Scripts.{script_line_of}
+use Rattle.line_grammar.specs.Texts.{is_quit, lines_of}
+use Rattle.line_grammar.specs.Reading.{script_line_of}
 
 -- what a line of a script posts: a watch is posted until it is answered
 abbrev pub line_events : Line → List Event

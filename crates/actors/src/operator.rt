@@ -2,8 +2,8 @@
 ghost use Rattle.std.specs.Prelude.{◌≡◌, ◌≢◌, ℕ, ◌+◌, ◌<◌, ◌^◌, [], false, if◌then◌else◌, Result, Ok, Err};
 ghost use Rattle.tool_events.specs.Answering.{may_wait};
 ghost use Rattle.tool_events.specs.declared.event.Event.TheVariants as event;
-ghost use Rattle.tool_texts.specs.Scripts.{script_line_of};
-ghost use Rattle.gem_model.specs.Feed.{is_quit};
+ghost use Rattle.line_grammar.specs.Reading.{script_line_of};
+ghost use Rattle.line_grammar.specs.Texts.{is_quit};
 ghost use Rattle.line_grammar.specs.declared.line.Line.TheVariants as line;
 ghost use Rattle.actors.specs.Operates.{OperatorDid};
 ghost use Rattle.actors.specs.Operating.{Posts, PostsLine, GivesUp, TakesLine, TakesLast, Quits, EndsAt, after_answer, desk_told, counts_of};

@@ -11,10 +11,7 @@ use hsms_frame::{Arrival, CutFault, Cutter};
 use outside::{Gate, LinkIn, Point, front};
 use std::alloc::Global;
 use std::sync::Wait;
-use tool_events::{Answer, Desk, Event, OperCmd, PostFault, SessionCause};
-
-/// The longest text of a message, in bytes.
-const TEXT_BYTES: u32 = 262_144;
+use tool_events::{Answer, Desk, Event, OperCmd, PostFault, SessionCause, TEXT_BYTES};
 
 /// The moment of what isn't a look at the clock.
 const AT_ONCE: Moment = Moment(0);

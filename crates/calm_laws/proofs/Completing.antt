@@ -22,11 +22,11 @@ use Rattle.tool_events.specs.declared.event.Event.{Event}
 use Rattle.tool_events.specs.declared.event.Event.TheVariants as event
 use Rattle.tool_events.specs.declared.event.Signal.TheVariants as signal
 use Rattle.tool_events.specs.declared.answer.Answer.TheVariants as answer
-use Rattle.tool_floor.specs.Floor.{ToolFloor}
-use Rattle.tool_floor.specs.Jobs.{is_first_here}
-use Rattle.tool_floor.specs.Signals.{done_rows}
-use Rattle.tool_floor.specs.Machines.{floor_starts, floor_fired, floor_least}
-use Rattle.tool_floor.proofs.Keeping.{least_starts}
+use Rattle.floor_model.specs.Floor.{ToolFloor}
+use Rattle.floor_model.specs.Jobs.{is_first_here}
+use Rattle.floor_model.specs.Signals.{done_rows}
+use Rattle.floor_model.specs.Machines.{floor_starts, floor_fired, floor_least}
+use Rattle.floor_model.proofs.Keeping.{least_starts}
 use Rattle.floor_laws.specs.Rows.{listed}
 use Rattle.queue_laws.specs.Steers.{is_executing, AreAutomatic}
 use Rattle.queue_laws.proofs.Lists.{number_is, changed_back}

@@ -40,9 +40,9 @@ use Rattle.tool_events.specs.declared.event.Signal.TheVariants as signal
 use Rattle.transactions.specs.declared.transaction.Open.{Open}
 use Rattle.transactions.specs.Endings.{answered as found_open}
 use Rattle.robot_moves.specs.Modules.{is_open, unfetched, is_up as is_up_module}
-use Rattle.tool_floor.specs.Floor.{ToolFloor, with_shop, number_of}
-use Rattle.tool_floor.specs.Machines.{floor_starts, floor_fired}
-use Rattle.tool_floor.specs.Signals.{done_rows, closing_rows}
+use Rattle.floor_model.specs.Floor.{ToolFloor, with_shop, number_of}
+use Rattle.floor_model.specs.Machines.{floor_starts, floor_fired}
+use Rattle.floor_model.specs.Signals.{done_rows, closing_rows}
 use Rattle.floor_moves.specs.Valid.{IsDistinct}
 use Rattle.place_laws.proofs.Holding.{rising_distinct}
 use Rattle.lot_laws.specs.Lot.{InOrder}

@@ -21,9 +21,9 @@ use Rattle.tool_events.specs.declared.answer.Task.TheVariants as task
 use Rattle.robot_moves.specs.declared.module.Module.{Module}
 use Rattle.robot_moves.specs.declared.module.Module.TheVariants.{Idle, Busy, Down}
 use Rattle.robot_moves.specs.Modules.{module_at}
-use Rattle.tool_floor.specs.Floor.{ToolFloor, substrate_numbered}
-use Rattle.tool_floor.specs.Modules.{number_named}
-use Rattle.tool_floor.specs.Signals.{done_row, at_module, at_processed, processed_rows, is_of_aborting, done_processing, at_done, done_processed, done_at, done_rows, closing_at, closing_rows, can_be_lost, lost_at, lost_rows}
+use Rattle.floor_model.specs.Floor.{ToolFloor, substrate_numbered}
+use Rattle.floor_model.specs.Modules.{number_named}
+use Rattle.floor_model.specs.Signals.{done_row, at_module, at_processed, processed_rows, is_of_aborting, done_processing, at_done, done_processed, done_at, done_rows, closing_at, closing_rows, can_be_lost, lost_at, lost_rows}
 use Rattle.gem_model.specs.State.{State}
 use Rattle.gem_model.specs.Direct.{Are}
 use Rattle.gem_model.specs.HostMessages.{HostMessage, Gem, Shop}

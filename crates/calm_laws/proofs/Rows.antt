@@ -45,12 +45,12 @@ use Rattle.tool_jobs.specs.Rows.{left_by, ended, process_starts, control_fired}
 use Rattle.tool_jobs.specs.Together.{AreTogether}
 use Rattle.tool_jobs.specs.Creating.{with_process, with_control, control_fault}
 use Rattle.tool_jobs.proofs.Rows.{after_meets}
-use Rattle.tool_floor.specs.declared.tracking.Substrate.{Substrate}
-use Rattle.tool_floor.specs.Floor.{ToolFloor, with_shop, with_jobs, with_module, fetched, substrate_numbered, change_numbered, number_of}
-use Rattle.tool_floor.specs.Jobs.{freed, found_sight, without_members}
-use Rattle.tool_floor.specs.Modules.{module_behind, open_task, number_named, aligned, aligned_numbered, aligned_by}
-use Rattle.tool_floor.specs.Substrates.{reaches_verified, is_of, without_carrier, can_register, first_substrate, registers_at, registers_slot, registers_slots, registers_at_port, registers_found}
-use Rattle.tool_floor.specs.Machines.{floor_machines, floor_starts, floor_fired, registered_by, substrate_moves}
+use Rattle.floor_model.specs.declared.tracked.Substrate.{Substrate}
+use Rattle.floor_model.specs.Floor.{ToolFloor, with_shop, with_jobs, with_module, fetched, substrate_numbered, change_numbered, number_of}
+use Rattle.floor_model.specs.Jobs.{freed, found_sight, without_members}
+use Rattle.floor_model.specs.Modules.{module_behind, open_task, number_named, aligned, aligned_numbered, aligned_by}
+use Rattle.floor_model.specs.Substrates.{reaches_verified, is_of, without_carrier, can_register, first_substrate, registers_at, registers_slot, registers_slots, registers_at_port, registers_found}
+use Rattle.floor_model.specs.Machines.{floor_machines, floor_starts, floor_fired, registered_by, substrate_moves}
 use Rattle.floor_moves.specs.Valid.{IsDistinct}
 use Rattle.place_laws.specs.Picture.{picture, of_one}
 use Rattle.place_laws.specs.Sound.{Sound}

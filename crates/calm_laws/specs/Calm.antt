@@ -27,8 +27,8 @@ use Rattle.robot_moves.specs.Modules.{is_open, is_up as is_up_module}
 use Rattle.process_job.specs.Jobs.{job_numbered}
 use Rattle.process_job.specs.declared.job.ProcessJob.{ProcessJob}
 use Rattle.tool_jobs.specs.Jobs.{Jobs}
-use Rattle.tool_floor.specs.Floor.{ToolFloor}
-use Rattle.tool_floor.specs.Signals.{done_rows, closing_rows}
+use Rattle.floor_model.specs.Floor.{ToolFloor}
+use Rattle.floor_model.specs.Signals.{done_rows, closing_rows}
 use Rattle.place_laws.specs.Picture.{picture}
 use Rattle.owed_laws.specs.Owed.{number_of}
 use Rattle.queue_laws.specs.Started.{is_left_in}

@@ -56,6 +56,10 @@ fn words_text(alloc: Global, command: Words) -> Result<String> {
             let config = file_text(alloc, config.as_bytes())?;
             Ok(format!(in alloc; "feed {config}")?)
         }
+        Words::Serve(config) => {
+            let config = file_text(alloc, config.as_bytes())?;
+            Ok(format!(in alloc; "serve {config}")?)
+        }
         Words::Batch(seed, carriers, config) => {
             let config = file_text(alloc, config.as_bytes())?;
             Ok(format!(in alloc; "batch {seed} {carriers} {config}")?)

@@ -5,7 +5,7 @@ ghost use Rattle.gem_tables.specs.Table.{firing};
 ghost use Rattle.shop_floor.specs.Requests.{at_port, removal};
 ghost use Rattle.gem_model.specs.Fire.{fire_listed};
 ghost use Rattle.robot_moves.specs.Modules.{is_open, is_up};
-ghost use Rattle.tool_floor.specs.Signals.{done_rows, closing_rows};
+ghost use Rattle.floor_model.specs.Signals.{done_rows, closing_rows};
 ghost use Rattle.gem_model.specs.Noting.{sets_alarm};
 ghost use Rattle.gem_model.specs.Signals.{lacks_port, port_row_starts, with_arrival, placed, removed, module_of, module_alarm, module_done, module_failed, module_down, signalled};
 

@@ -1,15 +1,17 @@
 -- The rows of the load ports, the carriers and the modules, as the plant fires them.
-use Rattle.std.proofs.Common.{drop, get_or, drop-cons, add-one, ◌++◌, ◌+◌, ◌<◌, zero, suc, ◌≡◌, ℕ, ◌==◌, ◌≤◌, ◌&&◌, not, length, take, Bool, true, false, if◌then◌else◌, List, [], ◌∷◌, Option, Some, None, is_some, refl, sym, ◌∙◌, ap, subst, arith}
+use Rattle.std.proofs.Common.{drop, get_or, drop-cons, add-one, ◌++◌, ◌+◌, ◌<◌, zero, suc, ◌≡◌, ℕ, ◌==◌, ◌≤◌, ◌&&◌, not, length, take, Bool, true, false, if◌then◌else◌, List, [], ◌∷◌, Option, Some, None, is_some, option_map, refl, sym, ◌∙◌, ap, subst, arith}
 use Rattle.std.specs.Option.{option_or}
 use Rattle.std.specs.List.{AllByRecursion}
 use Rattle.std.proofs.lemmas.Bool.Decides.{nat_tests}
 use Rattle.gem_tables.specs.Table.{firing}
 use Rattle.gem_tables.specs.Machine.{starts_in}
 use Rattle.gem_tables.specs.declared.firing.Firing.{Firing}
-use Rattle.tool_floor.specs.Floor.{ToolFloor}
-use Rattle.tool_floor.specs.Machines.{floor_machines, floor_starts, floor_fired, creation_rows, is_creation, floor_least, object_name as floor_object}
-use Rattle.tool_floor.proofs.Keeping.{creation_same, creations as floor_creations, creations_start, AreCreations, not_table_3, least_starts}
-use Rattle.gem_model.specs.State.{State, is_online}
+use Rattle.floor_model.specs.Floor.{ToolFloor}
+use Rattle.floor_model.specs.Machines.{floor_machines, floor_starts, floor_fired, creation_rows, is_creation, floor_least, object_name as floor_object}
+use Rattle.floor_model.proofs.Keeping.{creation_same, creations as floor_creations, creations_start, AreCreations, not_table_3, least_starts}
+use Rattle.note_line.specs.Table3 as line
+use Rattle.history_totals.specs.Counts.{completes}
+use Rattle.gem_model.specs.State.{State, is_online, around}
 use Rattle.gem_model.specs.Noting.{noted_as}
 use Rattle.gem_model.specs.Machines.{row_starts, takes_effect, creations, object_name, fire_floor}
 use Rattle.gem_model.specs.Fire.{fire, advanced, fire_listed}
@@ -97,9 +99,12 @@ of_table_3 g x is = subst (λ (t : ℕ). fire g (firing 3 0 x.row.row) ≡ fire 
 
 -- ---- the first of two that is ready
 
-pub or_some : (x y : Option Firing) → is_some x ≡ true → true ≡ is_some (option_or x y)
-or_some None y is = absurd (cc)
-or_some (Some f) y is = refl
+-- a row of the line of notes completes no control job
+pub line_none : (g : State) (y : Option Firing) → is_some (ready_line g) ≡ true → Some false ≡ option_map completes (option_or (ready_line g) y)
+line_none g y = of (line.least (around g) g.line) where
+  of : (row : Option ℕ) → is_some (option_map (firing 3 0) row) ≡ true → Some false ≡ option_map completes (option_or (option_map (firing 3 0) row) y)
+  of None is = absurd (cc)
+  of (Some row) is = refl
 
 pub or_first : (x y : Option Firing) (g : State) → is_some x ≡ true → fire_first x g ≡ fire_first (option_or x y) g
 or_first None y g is = absurd (cc)

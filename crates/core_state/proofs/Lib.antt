@@ -6,3 +6,4 @@ pub mod PortValues
 pub mod Floors
 pub mod Sendings
 pub mod ModuleRows
+pub mod Registered

@@ -1,8 +1,8 @@
 -- Firings of the plant.
 use Rattle.std.specs.Prelude.{◌≡◌, true, List, [], ◌∷◌, Option, Some, None}
 use Rattle.gem_tables.specs.declared.firing.Firing.{Firing}
-use Rattle.tool_floor.specs.Floor.{ToolFloor}
-use Rattle.tool_floor.specs.Machines.{floor_starts, floor_fired}
+use Rattle.floor_model.specs.Floor.{ToolFloor}
+use Rattle.floor_model.specs.Machines.{floor_starts, floor_fired}
 use Rattle.gem_model.specs.State.{State}
 use Rattle.gem_model.specs.Fire.{advanced}
 

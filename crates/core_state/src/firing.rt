@@ -1,5 +1,5 @@
 //! Rows fire: those that an input lists, and those that are ready by themselves (this tool's profile, direct rows and settling).
-ghost use Rattle.std.specs.Prelude.{◌≡◌, ◌∷◌, [], ◌&&◌, not, true, OnOk, IfOk, is_some};
+ghost use Rattle.std.specs.Prelude.{◌≡◌, ◌∷◌, [], ◌&&◌, not, true, OnOk, IfOk, option_map};
 ghost use Rattle.std.specs.Option.{option_or};
 ghost use Rattle.gem_tables.specs.Table.{firing};
 ghost use Rattle.gem_states.specs.Communication.{comm_starts};
@@ -11,6 +11,7 @@ ghost use Rattle.gem_model.specs.Machines.{row_starts, creations, least};
 ghost use Rattle.gem_model.specs.Fire.{fire, fire_all, advanced, fire_listed};
 ghost use Rattle.gem_model.specs.Direct.{Are, IsListed};
 ghost use Rattle.gem_model.specs.Ready.{ready_line, ready_floor};
+ghost use Rattle.history_totals.specs.Counts.{completes};
 ghost use Rattle.core_state.specs.Firing.{fire_first, AreCreated};
 
 use crate::plant::Plant;
@@ -19,6 +20,18 @@ use gem_states::Control;
 use gem_tables::Firing;
 use std::alloc::{AllocError, Global};
 use tool_floor::MOST_CREATED;
+
+// The numbers of the row by which a control job is COMPLETED, as the definitions have them.
+const CONTROL_JOB: u8 = 15;
+
+const NONE_LEFT: u8 = 8;
+
+/// Whether a row is the one by which a control job is COMPLETED.
+fn completes(f: Firing) -> bool
+    ensures { result ≡ completes f }
+{
+    f.row.table == CONTROL_JOB && f.row.row == NONE_LEFT
+}
 
 impl Plant {
     // ---- whether a row starts
@@ -46,8 +59,8 @@ impl Plant {
         ensures { result ≡ line_starts (around self.now) row self.now.line }
     {
         match row {
-            4 | 5 => self.line.rsda() == 0,
-            14 => self.line.open_note().is_some(),
+            4 | 5 => self.line.notes().rsda() == 0,
+            14 => self.line.notes().open_note().is_some(),
             _ => false,
         }
     }
@@ -151,27 +164,27 @@ impl Plant {
 
     // ---- rows that are ready by themselves
 
-    /// Fires the least row of the load ports and the carriers that is ready by itself, with those of what it creates, and tells
-    /// whether there was one.
-    fn fire_least_of_floor(&mut self, alloc: Global) -> Result<bool, AllocError>
-        ensures fired { IfOk result (λ fired. fired ≡ is_some (ready_floor self.old)) }
+    /// Fires the least row of the floor of the tool that is ready by itself, with those of what it creates, and tells whether it
+    /// completed a control job. `None` exactly where there was none.
+    fn fire_least_of_floor(&mut self, alloc: Global) -> Result<Option<bool>, AllocError>
+        ensures fired { IfOk result (λ fired. fired ≡ option_map completes (ready_floor self.old)) }
         ensures after { OnOk result (self.new ≡ fire_first (ready_floor self.old) self.old) }
     {
         let Some(f) = self.least_of_floor() else {
-            return Ok(false);
+            return Ok(None);
         };
         self.advance(alloc, f)?;
-        Ok(true)
+        Ok(Some(completes(f)))
     }
 
-    /// Fires the row of the line of notes that is ready, or else the least of the load ports and the carriers, and tells whether
-    /// there was one.
-    fn fire_line_or_floor(&mut self, alloc: Global) -> Result<bool, AllocError>
-        ensures fired { IfOk result (λ fired. fired ≡ is_some (option_or (ready_line self.old) (ready_floor self.old))) }
+    /// Fires the row of the line of notes that is ready, or else the least of the floor of the tool, and tells whether it
+    /// completed a control job. `None` exactly where there was none.
+    fn fire_line_or_floor(&mut self, alloc: Global) -> Result<Option<bool>, AllocError>
+        ensures fired { IfOk result (λ fired. fired ≡ option_map completes (option_or (ready_line self.old) (ready_floor self.old))) }
         ensures after { OnOk result (self.new ≡ fire_first (option_or (ready_line self.old) (ready_floor self.old)) self.old) }
     {
         if self.line_row(alloc)? {
-            return Ok(true);
+            return Ok(Some(false));
         }
         let fired = self.fire_least_of_floor(alloc)?;
         Ok(fired)
@@ -191,19 +204,20 @@ impl Plant {
         matches!(self.control, Control::Attempt) && !self.can_ask()
     }
 
-    /// Fires the least row that is ready by itself, with those of the objects that it creates, and tells whether there was one
-    /// (this tool's profile, settling). `AllocError`: memory ran out.
-    pub fn fire_least(&mut self, alloc: Global) -> Result<bool, AllocError>
-        ensures fired { IfOk result (λ fired. fired ≡ is_some (least self.old)) }
+    /// Fires the least row that is ready by itself, with those of the objects that it creates, and tells whether it was row 8 of
+    /// table 15, by which a control job is COMPLETED (this tool's profile, settling). `None` exactly where no row was ready.
+    /// `AllocError`: memory ran out.
+    pub fn fire_least(&mut self, alloc: Global) -> Result<Option<bool>, AllocError>
+        ensures fired { IfOk result (λ fired. fired ≡ option_map completes (least self.old)) }
         ensures after { OnOk result (self.new ≡ fire_first (least self.old) self.old) }
     {
         if self.asks_host() {
             self.comm_row(alloc, 3)?;
-            return Ok(true);
+            return Ok(Some(false));
         }
         if self.gives_up() {
             self.control_row(alloc, 2)?;
-            return Ok(true);
+            return Ok(Some(false));
         }
         self.fire_line_or_floor(alloc)
     }

@@ -2,8 +2,8 @@
 ghost use Rattle.std.specs.Prelude.{◌≡◌, ◌≤◌, not, is_some, length};
 ghost use Rattle.std.specs.Option.{option_to_list};
 ghost use Rattle.robot_moves.specs.Modules.{is_open, is_up, unfetched};
-ghost use Rattle.tool_floor.specs.Floor.{fetched};
-ghost use Rattle.tool_floor.specs.Signals.{done_rows, closing_rows, lost_rows};
+ghost use Rattle.floor_model.specs.Floor.{fetched};
+ghost use Rattle.floor_model.specs.Signals.{done_rows, closing_rows, lost_rows};
 ghost use Rattle.gem_model.specs.Direct.{Are, IsListed};
 ghost use Rattle.gem_model.specs.Signals.{lacks_module, module_of};
 ghost use Rattle.gem_model.specs.Step.{can_come_up};

@@ -1,9 +1,10 @@
 //! The rows of the line of notes and of the spool (table 3).
-ghost use Rattle.std.specs.Prelude.{true, ◌≡◌, ◌==◌, false, is_some, None, OnOk, IfOk, Some};
+ghost use Rattle.std.specs.Prelude.{true, ◌≡◌, ◌==◌, false, is_some, length, None, OnOk, IfOk, Some};
 ghost use Rattle.gem_tables.specs.Table.{firing};
 ghost use Rattle.spool.specs.Spool.{is_inactive, rsda};
 ghost use Rattle.note_line.specs.Line.{answered, fate_of, restated, with_kinds};
 ghost use Rattle.note_line.specs.Table3.{least, head_in_kind, row_effect};
+ghost use Rattle.note_counts.specs.Counts.{answered_count, dropped_count};
 ghost use Rattle.gem_model.specs.State.{around};
 ghost use Rattle.gem_model.specs.Ready.{ready_line};
 ghost use Rattle.gem_model.specs.Effects.{asks_first};
@@ -26,7 +27,7 @@ impl Plant {
     fn send_head(&mut self, alloc: Global) -> Result<(), AllocError>
         ensures { OnOk result (self.new ≡ asks_first self.old.line.waiting self.old) }
     {
-        let Some(note) = self.line.head() else {
+        let Some(note) = self.line.notes().head() else {
             return Ok(());
         };
         let (stream, function) = message_of(note.kind);
@@ -39,7 +40,7 @@ impl Plant {
     fn send_oldest(&mut self, alloc: Global) -> Result<(), AllocError>
         ensures { OnOk result (self.new ≡ asks_first self.old.line.spool.notes self.old) }
     {
-        let Some(note) = self.line.oldest() else {
+        let Some(note) = self.line.notes().oldest() else {
             return Ok(());
         };
         let (stream, function) = message_of(note.kind);
@@ -119,7 +120,7 @@ impl Plant {
         ensures after { OnOk result (self.new ≡ fire_first (ready_line self.old) self.old) }
     {
         let around = self.around();
-        match self.line.row_for(around) {
+        match self.line.notes().row_for(around) {
             Some(1) => self.restate(alloc, 1)?,
             Some(2) => self.restate(alloc, 2)?,
             Some(3) => self.restate(alloc, 3)?,
@@ -140,7 +141,7 @@ impl Plant {
     pub fn answer_note(&mut self)
         ensures { self.new ≡ record self.old { line = answered self.old.line } }
     {
-        if self.line.open_note().is_some() {
+        if self.line.notes().open_note().is_some() {
             self.line.answer_open();
         }
     }
@@ -149,7 +150,7 @@ impl Plant {
     pub fn is_spool_inactive(&self) -> bool
         ensures { result ≡ is_inactive self.now.line.spool.load }
     {
-        self.line.load() == Load::Inactive
+        self.line.notes().load() == Load::Inactive
     }
 
     /// The host sets which kinds of note are spooled (SEMI E5, S2F43). Where a note is spooled nothing changes.
@@ -164,13 +165,34 @@ impl Plant {
     pub fn rsda(&self) -> u8
         ensures { result ≡ rsda self.now.line.spool }
     {
-        self.line.rsda()
+        self.line.notes().rsda()
     }
 
     /// What became of the note of a number; `None` exactly where the number was not given.
     pub fn fate(&self, number: u64) -> Option<Fate>
         ensures { result ≡ fate_of number self.now.line.told }
     {
-        self.line.fate(number)
+        self.line.notes().fate(number)
+    }
+
+    /// How many notes were made.
+    pub fn note_count(&self) -> u64
+        ensures { result ≡ length self.now.line.told }
+    {
+        self.line.note_count()
+    }
+
+    /// How many notes were answered. Takes time for no note.
+    pub fn answered_count(&self) -> u64
+        ensures { result ≡ answered_count self.now.line.told }
+    {
+        self.line.answered_count()
+    }
+
+    /// How many notes were dropped, for whatever cause. Takes time for no note.
+    pub fn dropped_count(&self) -> u64
+        ensures { result ≡ dropped_count self.now.line.told }
+    {
+        self.line.dropped_count()
     }
 }

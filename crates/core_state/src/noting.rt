@@ -108,7 +108,7 @@ impl Plant {
         ensures short { IfOk result (λ text. length text ≤ most_text) }
     {
         let reports = self.reports_on(alloc, ceid, object, row)?;
-        let event = GemReply::S6F11(self.line.next_number(), ceid, reports);
+        let event = GemReply::S6F11(self.line.notes().next_number(), ceid, reports);
         let text = reply_text(alloc, &event)?;
         Ok(text)
     }

@@ -11,7 +11,8 @@ use gem_ids::Moment;
 use gem_states::{Comm, Control};
 use hsms_frame::Bytes;
 use hsms_link::{LinkState, Phase, Ping};
-use note_line::{Around, NoteLine};
+use note_counts::CountedLine;
+use note_line::Around;
 use plant_parts::{first_comm, first_constants, first_control, first_kinds, first_switch};
 use std::alloc::{AllocError, Global};
 use std::collections::VecDeque;
@@ -42,13 +43,15 @@ pub struct Plant {
     pub(crate) constants: Constants,
     pub(crate) reports: Reports,
     pub(crate) alarms: Alarms,
-    pub(crate) line: NoteLine,
+    pub(crate) line: CountedLine,
     pub(crate) floor: ToolFloor,
+    // How many substrates were registered; none where memory ran out while some were.
+    pub(crate) registered: Option<u64>,
     pub(crate) waiting: VecDeque<Bytes>,
 }
 
 impl Model for Plant {
-    ghost use Rattle.std.specs.Prelude.{◌≤◌, length};
+    ghost use Rattle.std.specs.Prelude.{◌≡◌, ◌≤◌, length, IfSome};
     ghost use Rattle.gem_ids.specs.Moments.{last_moment};
     ghost use Rattle.event_reports.specs.Limits.{most_alarms};
     ghost use Rattle.gem_model.specs.State.{State};
@@ -73,7 +76,8 @@ impl Model for Plant {
       waiting = p.waiting.items;
     } };
 
-    ghost invariant = { λ p. (p.moment.0 ≤ last_moment) × (length p.alarms ≤ most_alarms) };
+    ghost invariant = { λ p. (p.moment.0 ≤ last_moment) × (length p.alarms ≤ most_alarms)
+        × IfSome p.registered (λ n. n ≡ p.floor.places.given) };
 }
 
 impl Plant {
@@ -102,7 +106,7 @@ impl Plant {
             constants: first_constants(alloc, config)?,
             reports: Reports::new(alloc, config.ports, config.chambers)?,
             alarms: Alarms::new(alloc, config.ports, config.chambers)?,
-            line: NoteLine::new(
+            line: CountedLine::new(
                 alloc,
                 config.spool_capacity,
                 first_kinds(config.spool_streams),
@@ -113,6 +117,7 @@ impl Plant {
                 config.chambers,
                 config.recipes.as_slice(),
             )?,
+            registered: Some(0),
             waiting: VecDeque::new(alloc),
         })
     }

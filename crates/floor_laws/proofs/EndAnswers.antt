@@ -12,11 +12,11 @@ use Rattle.robot_moves.specs.declared.view.Move.{Move}
 use Rattle.robot_moves.specs.Modules.{module_at, change_module}
 use Rattle.substrate.specs.Places.{substrate_named}
 use Rattle.substrate.specs.declared.registered.Registered.{Registered}
-use Rattle.tool_floor.specs.Floor.{ToolFloor, with_module}
-use Rattle.tool_floor.specs.Machines.{floor_starts, floor_fired}
-use Rattle.tool_floor.specs.Modules.{is_transfer, is_align, module_behind, move_starts, number_named}
-use Rattle.tool_floor.specs.Naming.{named_by}
-use Rattle.tool_floor.specs.Views.{planned}
+use Rattle.floor_model.specs.Floor.{ToolFloor, with_module}
+use Rattle.floor_model.specs.Machines.{floor_starts, floor_fired}
+use Rattle.floor_model.specs.Modules.{is_transfer, is_align, module_behind, move_starts, number_named}
+use Rattle.floor_model.specs.Naming.{named_by}
+use Rattle.floor_model.specs.Views.{planned}
 use Rattle.floor_moves.specs.Floor.{process, Command, Module, busy, idle, down, Floor}
 use Rattle.floor_moves.specs.Effects.{turned}
 use Rattle.floor_moves.specs.Valid.{ValidBut}

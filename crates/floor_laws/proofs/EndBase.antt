@@ -11,9 +11,9 @@ use Rattle.substrate.specs.Locations.{is_same}
 use Rattle.substrate.specs.declared.registered.Registered.{Registered}
 use Rattle.process_job.specs.Jobs.{job_numbered}
 use Rattle.tool_jobs.specs.Jobs.{Jobs}
-use Rattle.tool_floor.specs.declared.tracking.Substrate.{Substrate}
-use Rattle.tool_floor.specs.Floor.{ToolFloor, substrate_numbered, change_numbered}
-use Rattle.tool_floor.specs.Kept.{RiseTo}
+use Rattle.floor_model.specs.declared.tracked.Substrate.{Substrate}
+use Rattle.floor_model.specs.Floor.{ToolFloor, substrate_numbered, change_numbered}
+use Rattle.floor_model.specs.Floor.{RiseTo}
 use Rattle.place_laws.specs.Standing.{IsCarried, AreApart, AreRegistered}
 use Rattle.place_laws.specs.Sound.{IsOfKept, IsInItsJob, JobsSound, Base}
 use Rattle.picture_laws.proofs.Columns.{found_there, found_else}

@@ -10,9 +10,9 @@ use Rattle.robot_moves.specs.Modules.{module_at, change_module, taken}
 use Rattle.substrate.specs.Tables.{processing_number, processing_table}
 use Rattle.substrate.specs.declared.record.Processing.{Processing}
 use Rattle.substrate.specs.declared.record.Processing.TheVariants as processing
-use Rattle.tool_floor.specs.declared.tracking.Substrate.{Substrate}
-use Rattle.tool_floor.specs.Floor.{ToolFloor, fetched, substrate_numbered}
-use Rattle.tool_floor.specs.Machines.{substrate_starts, substrate_moves, with_moved, floor_starts, floor_fired}
+use Rattle.floor_model.specs.declared.tracked.Substrate.{Substrate}
+use Rattle.floor_model.specs.Floor.{ToolFloor, fetched, substrate_numbered}
+use Rattle.floor_model.specs.Machines.{substrate_starts, substrate_moves, with_moved, floor_starts, floor_fired}
 use Rattle.floor_moves.specs.Floor.{is_finished}
 use Rattle.floor_moves.specs.Agree.{Agree}
 use Rattle.floor_moves.proofs.Agreeing.{agree-keeps}

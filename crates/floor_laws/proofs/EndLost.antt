@@ -20,12 +20,12 @@ use Rattle.substrate.proofs.Apart.{apart_fewer}
 use Rattle.substrate.proofs.Sites.{own_place as same_place}
 use Rattle.substrate.proofs.Standing.{placed_fewer, all_fewer, numbered_fewer, length_fewer}
 use Rattle.substrate.proofs.Texts.{same_name, turned}
-use Rattle.tool_floor.specs.declared.tracking.Substrate.{Substrate}
-use Rattle.tool_floor.specs.Floor.{ToolFloor, substrate_numbered, number_of}
-use Rattle.tool_floor.specs.Machines.{substrate_moves, with_moved, floor_fired}
-use Rattle.tool_floor.specs.Naming.{named_by, module_names}
-use Rattle.tool_floor.specs.Signals.{can_be_lost, lost_at, lost_rows}
-use Rattle.tool_floor.specs.Substrates.{is_in_slot, removed_where}
+use Rattle.floor_model.specs.declared.tracked.Substrate.{Substrate}
+use Rattle.floor_model.specs.Floor.{ToolFloor, substrate_numbered, number_of}
+use Rattle.floor_model.specs.Machines.{substrate_moves, with_moved, floor_fired}
+use Rattle.floor_model.specs.Naming.{named_by, module_names}
+use Rattle.floor_model.specs.Signals.{can_be_lost, lost_at, lost_rows}
+use Rattle.floor_model.specs.Substrates.{is_in_slot, removed_where}
 use Rattle.floor_moves.specs.Floor.{Task, pick, place, align, process, busy, own, is_outside}
 use Rattle.floor_moves.proofs.Agreeing.{agree-keeps}
 use Rattle.floor_moves.proofs.Done.{lost-keeps}

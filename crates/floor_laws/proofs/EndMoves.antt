@@ -12,9 +12,9 @@ use Rattle.robot_moves.specs.Modules.{module_at}
 use Rattle.substrate.specs.Locations.{is_location}
 use Rattle.substrate.specs.Places.{PlaceMap, substrate_named, is_taken, moved as moved_to}
 use Rattle.substrate.specs.declared.registered.Registered.{Registered}
-use Rattle.tool_floor.specs.Floor.{ToolFloor, with_module, change_numbered}
-use Rattle.tool_floor.specs.Machines.{floor_fired}
-use Rattle.tool_floor.specs.Modules.{module_behind, open_task, transferred, aligned, aligned_numbered, aligned_by}
+use Rattle.floor_model.specs.Floor.{ToolFloor, with_module, change_numbered}
+use Rattle.floor_model.specs.Machines.{floor_fired}
+use Rattle.floor_model.specs.Modules.{module_behind, open_task, transferred, aligned, aligned_numbered, aligned_by}
 use Rattle.floor_moves.specs.Floor.{aligner, arm, pick, place, align, busy, idle}
 use Rattle.floor_moves.specs.Effects.{moved, aligned as aligned_by_numbers}
 use Rattle.floor_moves.specs.Valid.{PlaceStands, Valid}

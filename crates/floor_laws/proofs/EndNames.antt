@@ -13,8 +13,8 @@ use Rattle.substrate.specs.Places.{PlaceMap, ArePlaces, AreNumbered, has_name, s
 use Rattle.substrate.specs.declared.registered.Registered.{Registered}
 use Rattle.substrate.proofs.Sites.{same_is}
 use Rattle.substrate.proofs.Texts.{same_name}
-use Rattle.tool_floor.specs.declared.tracking.Substrate.{Substrate}
-use Rattle.tool_floor.specs.Floor.{ToolFloor, substrate_numbered, number_of}
+use Rattle.floor_model.specs.declared.tracked.Substrate.{Substrate}
+use Rattle.floor_model.specs.Floor.{ToolFloor, substrate_numbered, number_of}
 use Rattle.floor_moves.specs.Floor.{Loc}
 use Rattle.place_laws.specs.Picture.{loc_of, place_in, numbered, number_or_none}
 use Rattle.place_laws.specs.Standing.{IsCarried}

@@ -11,9 +11,9 @@ use Rattle.robot_moves.specs.Modules.{module_at}
 use Rattle.substrate.specs.Places.{PlaceMap, substrate_named}
 use Rattle.substrate.specs.declared.registered.Registered.{Registered}
 use Rattle.substrate.proofs.Texts.{same_name, own_name}
-use Rattle.tool_floor.specs.declared.tracking.Substrate.{Substrate}
-use Rattle.tool_floor.specs.Floor.{ToolFloor, substrate_numbered}
-use Rattle.tool_floor.specs.Naming.{named_by, module_names, processes}
+use Rattle.floor_model.specs.declared.tracked.Substrate.{Substrate}
+use Rattle.floor_model.specs.Floor.{ToolFloor, substrate_numbered}
+use Rattle.floor_model.specs.Naming.{named_by, module_names, processes}
 use Rattle.floor_moves.specs.Floor.{Loc, aligner, arm, chamber, Task, pick, place, align, process, named, Command, busy}
 use Rattle.floor_moves.specs.Valid.{Commands, IsProcessed, IsUnnamed}
 use Rattle.place_laws.specs.Picture.{picture, loc_of, place_in, numbered, task_of, module_of}

@@ -17,8 +17,8 @@ use Rattle.substrate.specs.declared.registered.Registered.{Registered}
 use Rattle.substrate.proofs.Apart.{apart_same}
 use Rattle.substrate.proofs.Sites.{own_place as same_place}
 use Rattle.substrate.proofs.Standing.{found_all, names_moved, length_moved, numbered_moved, within_moved, placed_moved}
-use Rattle.tool_floor.specs.Floor.{ToolFloor, with_module}
-use Rattle.tool_floor.specs.Modules.{goes}
+use Rattle.floor_model.specs.Floor.{ToolFloor, with_module}
+use Rattle.floor_model.specs.Modules.{goes}
 use Rattle.floor_moves.specs.Floor.{slot, own}
 use Rattle.floor_moves.specs.Valid.{Empty}
 use Rattle.place_laws.specs.Picture.{picture, loc_of, numbers_from}

@@ -12,14 +12,14 @@ use Rattle.substrate.specs.Tables.{processing_number, processing_table}
 use Rattle.substrate.specs.declared.record.Processing.{Processing}
 use Rattle.substrate.specs.declared.record.Processing.TheVariants as processing
 use Rattle.substrate.specs.declared.registered.Registered.{Registered}
-use Rattle.tool_floor.specs.declared.tracking.Substrate.{Substrate}
-use Rattle.tool_floor.specs.Floor.{ToolFloor, substrate_numbered}
-use Rattle.tool_floor.specs.Jobs.{job_of, is_job_so, is_stopping, is_aborting}
-use Rattle.tool_floor.specs.Machines.{substrate_starts, substrate_ready, substrate_moves, with_moved, processing_machine, floor_starts, floor_fired}
-use Rattle.tool_floor.specs.Naming.{module_names, processes}
-use Rattle.tool_floor.specs.Substrates.{is_outside, is_at_work, is_in_slot}
-use Rattle.tool_floor.specs.Wants.{substrate_wants}
-use Rattle.tool_floor.proofs.Keeping.{creation_same}
+use Rattle.floor_model.specs.declared.tracked.Substrate.{Substrate}
+use Rattle.floor_model.specs.Floor.{ToolFloor, substrate_numbered}
+use Rattle.floor_model.specs.Jobs.{job_of, is_job_so, is_stopping, is_aborting}
+use Rattle.floor_model.specs.Machines.{substrate_starts, substrate_ready, substrate_moves, with_moved, processing_machine, floor_starts, floor_fired}
+use Rattle.floor_model.specs.Naming.{module_names, processes}
+use Rattle.floor_model.specs.Substrates.{is_outside, is_at_work, is_in_slot}
+use Rattle.floor_model.specs.Wants.{substrate_wants}
+use Rattle.floor_model.proofs.Keeping.{creation_same}
 use Rattle.floor_moves.specs.Floor.{slot, is_finished, named}
 use Rattle.floor_moves.proofs.Agreeing.{agree-keeps}
 use Rattle.floor_moves.proofs.Columns.{MayWork, worked-keeps}

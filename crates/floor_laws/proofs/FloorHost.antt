@@ -16,8 +16,8 @@ use Rattle.carrier.specs.Carriers.{carrier_named}
 use Rattle.carrier.specs.Verdict.{is_carrier_name, cancel_code, carrier_caack}
 use Rattle.carrier.proofs.Apart.{found_name}
 use Rattle.shop_floor.specs.Requests.{cancelling}
-use Rattle.tool_floor.specs.Floor.{ToolFloor}
-use Rattle.tool_floor.specs.Jobs.{is_any_of_carrier, carrier_code}
+use Rattle.floor_model.specs.Floor.{ToolFloor}
+use Rattle.floor_model.specs.Jobs.{is_any_of_carrier, carrier_code}
 use Rattle.place_laws.specs.Sound.{Sound}
 use Rattle.floor_laws.specs.Rows.{is_common, listed}
 use Rattle.floor_laws.proofs.FloorInputs.{listed_either}

@@ -9,11 +9,11 @@ use Rattle.tool_events.specs.declared.answer.Task.TheVariants as task
 use Rattle.robot_moves.specs.declared.module.Module.{Module}
 use Rattle.robot_moves.specs.declared.module.Module.TheVariants.{Idle, Busy, Down}
 use Rattle.robot_moves.specs.Modules.{module_at, is_up, is_open}
-use Rattle.tool_floor.specs.Floor.{ToolFloor, substrate_numbered}
-use Rattle.tool_floor.specs.Machines.{floor_starts, floor_fired}
-use Rattle.tool_floor.specs.Modules.{is_transfer, is_align, is_process, move_starts, number_named}
-use Rattle.tool_floor.specs.Signals.{at_module, done_row, at_processed, processed_rows, is_of_aborting, done_processing, at_done, done_processed, done_at, done_rows, closing_at, closing_rows, can_be_lost, lost_at, lost_rows}
-use Rattle.tool_floor.specs.Views.{planned}
+use Rattle.floor_model.specs.Floor.{ToolFloor, substrate_numbered}
+use Rattle.floor_model.specs.Machines.{floor_starts, floor_fired}
+use Rattle.floor_model.specs.Modules.{is_transfer, is_align, is_process, move_starts, number_named}
+use Rattle.floor_model.specs.Signals.{at_module, done_row, at_processed, processed_rows, is_of_aborting, done_processing, at_done, done_processed, done_at, done_rows, closing_at, closing_rows, can_be_lost, lost_at, lost_rows}
+use Rattle.floor_model.specs.Views.{planned}
 use Rattle.floor_moves.specs.Floor.{process}
 use Rattle.place_laws.specs.Picture.{task_of}
 use Rattle.place_laws.specs.Sound.{Sound, SoundBut}

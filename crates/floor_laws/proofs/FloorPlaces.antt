@@ -14,14 +14,14 @@ use Rattle.robot_moves.specs.declared.module.Module.TheVariants.{Idle, Busy, Dow
 use Rattle.robot_moves.specs.Modules.{module_at}
 use Rattle.shop_floor.specs.Machines as shop
 use Rattle.substrate.specs.Places.{PlaceMap}
-use Rattle.tool_floor.specs.declared.tracking.Substrate.{Substrate}
-use Rattle.tool_floor.specs.Floor.{ToolFloor, substrate_numbered}
-use Rattle.tool_floor.specs.Machines.{floor_starts, floor_fired, floor_least}
-use Rattle.tool_floor.specs.Modules.{number_named}
-use Rattle.tool_floor.specs.Signals.{at_module, done_row, at_processed, processed_rows, is_of_aborting, done_processing, at_done, done_processed, done_at, done_rows, closing_at, closing_rows, can_be_lost, lost_at, lost_rows}
-use Rattle.tool_floor.specs.Substrates.{removed_where}
-use Rattle.tool_floor.specs.Views.{planned}
-use Rattle.tool_floor.proofs.Tables.{least_floor}
+use Rattle.floor_model.specs.declared.tracked.Substrate.{Substrate}
+use Rattle.floor_model.specs.Floor.{ToolFloor, substrate_numbered}
+use Rattle.floor_model.specs.Machines.{floor_starts, floor_fired, floor_least}
+use Rattle.floor_model.specs.Modules.{number_named}
+use Rattle.floor_model.specs.Signals.{at_module, done_row, at_processed, processed_rows, is_of_aborting, done_processing, at_done, done_processed, done_at, done_rows, closing_at, closing_rows, can_be_lost, lost_at, lost_rows}
+use Rattle.floor_model.specs.Substrates.{removed_where}
+use Rattle.floor_model.specs.Views.{planned}
+use Rattle.floor_model.proofs.Tables.{least_floor}
 use Rattle.floor_moves.specs.Floor.{arm}
 use Rattle.floor_moves.specs.OnePlace.{OnePlace}
 use Rattle.floor_moves.proofs.Promised.{one_place, one_place_between}

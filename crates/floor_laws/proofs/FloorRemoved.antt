@@ -5,8 +5,8 @@ use Rattle.carrier.specs.Record.{is_done, is_map_verified}
 use Rattle.carrier.specs.Carriers.{has_name}
 use Rattle.shop_floor.specs.Machines as shop
 use Rattle.shop_floor.specs.Valid.{ReadWherePresent}
-use Rattle.tool_floor.specs.Floor.{ToolFloor}
-use Rattle.tool_floor.specs.Machines.{floor_starts, floor_fired}
+use Rattle.floor_model.specs.Floor.{ToolFloor}
+use Rattle.floor_model.specs.Machines.{floor_starts, floor_fired}
 use Rattle.floor_moves.specs.Carriers.{HasEnded}
 use Rattle.place_laws.specs.Picture.{picture}
 use Rattle.place_laws.specs.Sound.{Sound}

@@ -20,13 +20,13 @@ use Rattle.robot_moves.specs.declared.view.Move.{Move}
 use Rattle.robot_moves.specs.Tables.{move_table, state_number}
 use Rattle.robot_moves.specs.Modules.{module_at, state_of}
 use Rattle.tool_events.specs.declared.recipes.Recipe.{Recipe}
-use Rattle.tool_floor.specs.Floor.{ToolFloor, opening}
-use Rattle.tool_floor.specs.Views.{planned}
-use Rattle.tool_floor.specs.Modules.{move_wants, move_starts, move_ready}
-use Rattle.tool_floor.specs.Substrates.{reaches_verified}
-use Rattle.tool_floor.specs.Wants.{accessing_wants}
-use Rattle.tool_floor.specs.Machines.{accessing_ready, floor_machines, floor_starts, floor_fired, floor_least}
-use Rattle.tool_floor.proofs.Keeping.{least_starts}
+use Rattle.floor_model.specs.Floor.{ToolFloor, opening}
+use Rattle.floor_model.specs.Views.{planned}
+use Rattle.floor_model.specs.Modules.{move_wants, move_starts, move_ready}
+use Rattle.floor_model.specs.Substrates.{reaches_verified}
+use Rattle.floor_model.specs.Wants.{accessing_wants}
+use Rattle.floor_model.specs.Machines.{accessing_ready, floor_machines, floor_starts, floor_fired, floor_least}
+use Rattle.floor_model.proofs.Keeping.{least_starts}
 use Rattle.place_laws.specs.Sound.{Base, Sound}
 use Rattle.place_laws.proofs.PortTransfers.{opening-at-ports}
 use Rattle.place_laws.proofs.UnloadPorts.{opening-unloading}

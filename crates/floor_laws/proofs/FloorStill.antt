@@ -12,12 +12,12 @@ use Rattle.robot_moves.specs.declared.view.Move.{Move}
 use Rattle.robot_moves.specs.Tables.{move_table, state_number}
 use Rattle.robot_moves.specs.Modules.{module_at, state_of}
 use Rattle.substrate.specs.Tables.{processing_number, processing_table}
-use Rattle.tool_floor.specs.declared.tracking.Substrate.{Substrate}
-use Rattle.tool_floor.specs.Floor.{ToolFloor, substrate_numbered}
-use Rattle.tool_floor.specs.Views.{planned}
-use Rattle.tool_floor.specs.Modules.{move_wants, move_ready}
-use Rattle.tool_floor.specs.Wants.{substrate_wants}
-use Rattle.tool_floor.specs.Machines.{substrate_ready, floor_machines, floor_least}
+use Rattle.floor_model.specs.declared.tracked.Substrate.{Substrate}
+use Rattle.floor_model.specs.Floor.{ToolFloor, substrate_numbered}
+use Rattle.floor_model.specs.Views.{planned}
+use Rattle.floor_model.specs.Modules.{move_wants, move_ready}
+use Rattle.floor_model.specs.Wants.{substrate_wants}
+use Rattle.floor_model.specs.Machines.{substrate_ready, floor_machines, floor_least}
 use Rattle.floor_laws.specs.Rows.{is_common}
 use Rattle.floor_laws.proofs.GrowRows.{moves_nothing}
 

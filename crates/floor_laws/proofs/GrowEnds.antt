@@ -28,7 +28,7 @@ use Rattle.shop_floor.specs.Valid.{IsFloor, port_of}
 use Rattle.shop_floor.specs.Machines as shop
 use Rattle.shop_floor.proofs.Apart.{all_both, all_follows}
 use Rattle.shop_floor.proofs.Cases.{starts_at_port}
-use Rattle.tool_floor.specs.Floor.{ToolFloor}
+use Rattle.floor_model.specs.Floor.{ToolFloor}
 use Rattle.floor_moves.specs.Carriers.{HasEnded}
 use Rattle.place_laws.specs.Picture.{of_one, picture}
 use Rattle.place_laws.specs.Ports.{unloads, IsFinishedThere, IsReadById, Unloading}

@@ -5,12 +5,12 @@ use Rattle.gem_tables.specs.declared.firing.Firing.{Firing}
 use Rattle.substrate.specs.Places.{PlaceMap, substrate_named, has_name, removed}
 use Rattle.substrate.specs.declared.registered.Registered.{Registered}
 use Rattle.substrate.proofs.Apart.{found_name}
-use Rattle.tool_floor.specs.declared.tracking.Substrate.{Substrate}
-use Rattle.tool_floor.specs.Floor.{ToolFloor, substrate_numbered}
-use Rattle.tool_floor.specs.Machines.{floor_fired}
-use Rattle.tool_floor.specs.Modules.{number_named}
-use Rattle.tool_floor.specs.Signals.{can_be_lost, lost_at, lost_rows}
-use Rattle.tool_floor.specs.Substrates.{removed_where}
+use Rattle.floor_model.specs.declared.tracked.Substrate.{Substrate}
+use Rattle.floor_model.specs.Floor.{ToolFloor, substrate_numbered}
+use Rattle.floor_model.specs.Machines.{floor_fired}
+use Rattle.floor_model.specs.Modules.{number_named}
+use Rattle.floor_model.specs.Signals.{can_be_lost, lost_at, lost_rows}
+use Rattle.floor_model.specs.Substrates.{removed_where}
 use Rattle.place_laws.specs.Picture.{place_in}
 use Rattle.place_laws.specs.Sound.{IsOfKept, Base}
 use Rattle.floor_laws.proofs.GrowFound.{found_so}

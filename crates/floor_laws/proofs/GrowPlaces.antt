@@ -9,8 +9,8 @@ use Rattle.carrier.specs.declared.carrier.Carrier.{Carrier}
 use Rattle.substrate.specs.Places.{PlaceMap, AreNumbered, ArePlaces, registered}
 use Rattle.substrate.specs.declared.registered.Registered.{Registered}
 use Rattle.substrate.proofs.Standing.{numbered_more}
-use Rattle.tool_floor.specs.Floor.{ToolFloor}
-use Rattle.tool_floor.specs.Substrates.{can_register, first_substrate, registers_at, registers_slot, registers_slots, registers_at_port, registers_found}
+use Rattle.floor_model.specs.Floor.{ToolFloor}
+use Rattle.floor_model.specs.Substrates.{can_register, first_substrate, registers_at, registers_slot, registers_slots, registers_at_port, registers_found}
 use Rattle.floor_moves.specs.Floor.{Loc, slot}
 use Rattle.place_laws.specs.Picture.{loc_of, place_in}
 use Rattle.place_laws.proofs.Appended.{not_last}

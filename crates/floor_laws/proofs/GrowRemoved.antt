@@ -12,8 +12,8 @@ use Rattle.shop_floor.specs.Machines as shop
 use Rattle.shop_floor.specs.Machines.{port_starts}
 use Rattle.shop_floor.proofs.Belonging.{owner_changed, ports_length}
 use Rattle.shop_floor.proofs.Keeps.{row-keeps as shop_keeps}
-use Rattle.tool_floor.specs.Floor.{ToolFloor}
-use Rattle.tool_floor.specs.Machines.{floor_starts, floor_fired}
+use Rattle.floor_model.specs.Floor.{ToolFloor}
+use Rattle.floor_model.specs.Machines.{floor_starts, floor_fired}
 use Rattle.place_laws.specs.Sound.{Base, Sound}
 use Rattle.place_laws.proofs.QuietPorts.{quiet_port}
 use Rattle.floor_laws.proofs.GrowPlaces.{Grown, grown_same, grown_then}

@@ -18,13 +18,13 @@ use Rattle.shop_floor.specs.Owning.{owner_number}
 use Rattle.shop_floor.specs.Machines as shop
 use Rattle.substrate.specs.Tables.{SubstrateRow, processing_table}
 use Rattle.substrate.specs.declared.record.Processing.{Processing}
-use Rattle.tool_floor.specs.declared.tracking.Substrate.{Substrate}
-use Rattle.tool_floor.specs.Floor.{ToolFloor, with_shop, substrate_numbered}
-use Rattle.tool_floor.specs.Jobs.{job_does, found_job_does, frees, stops_carriers, gets_members}
-use Rattle.tool_floor.specs.Modules.{issued, open_task, aligned_by, move_does, found_move}
-use Rattle.tool_floor.specs.Machines.{floor_machines, floor_starts, floor_fired}
-use Rattle.tool_floor.specs.Substrates.{reaches_verified, registers_found, without_carrier, substrate_does, found_does}
-use Rattle.tool_floor.specs.Views.{planned}
+use Rattle.floor_model.specs.declared.tracked.Substrate.{Substrate}
+use Rattle.floor_model.specs.Floor.{ToolFloor, with_shop, substrate_numbered}
+use Rattle.floor_model.specs.Jobs.{job_does, found_job_does, frees, stops_carriers, gets_members}
+use Rattle.floor_model.specs.Modules.{issued, open_task, aligned_by, move_does, found_move}
+use Rattle.floor_model.specs.Machines.{floor_machines, floor_starts, floor_fired}
+use Rattle.floor_model.specs.Substrates.{reaches_verified, registers_found, without_carrier, substrate_does, found_does}
+use Rattle.floor_model.specs.Views.{planned}
 use Rattle.place_laws.specs.Sound.{Base}
 use Rattle.floor_laws.proofs.GrowPlaces.{Grown, grown_same, as_places, found_grown}
 

@@ -19,10 +19,10 @@ use Rattle.shop_floor.proofs.Scans.{numbered_at}
 use Rattle.substrate.specs.Places.{PlaceMap, has_name as has_sub, removed}
 use Rattle.substrate.specs.declared.registered.Registered.{Registered}
 use Rattle.substrate.proofs.Apart.{has_it}
-use Rattle.tool_floor.specs.declared.tracking.Substrate.{Substrate}
-use Rattle.tool_floor.specs.Floor.{ToolFloor, with_shop, substrate_numbered}
-use Rattle.tool_floor.specs.Machines.{floor_fired}
-use Rattle.tool_floor.specs.Substrates.{is_of, emptied, removed_of, without_carrier}
+use Rattle.floor_model.specs.declared.tracked.Substrate.{Substrate}
+use Rattle.floor_model.specs.Floor.{ToolFloor, with_shop, substrate_numbered}
+use Rattle.floor_model.specs.Machines.{floor_fired}
+use Rattle.floor_model.specs.Substrates.{is_of, emptied, removed_of, without_carrier}
 use Rattle.floor_moves.specs.Floor.{Loc, slot, aligner, arm, chamber, own, is_outside}
 use Rattle.floor_moves.specs.Carriers.{HasEnded}
 use Rattle.floor_moves.specs.Valid.{Valid}

@@ -22,9 +22,9 @@ use Rattle.substrate.specs.Places.{PlaceMap, substrate_named, stands_at, moved}
 use Rattle.substrate.specs.declared.registered.Registered.{Registered}
 use Rattle.substrate.proofs.Sites.{own_place as at_itself}
 use Rattle.substrate.proofs.Standing.{found_all}
-use Rattle.tool_floor.specs.Floor.{ToolFloor}
-use Rattle.tool_floor.specs.Machines.{floor_fired}
-use Rattle.tool_floor.specs.Modules.{open_task, goes, transferred, number_named}
+use Rattle.floor_model.specs.Floor.{ToolFloor}
+use Rattle.floor_model.specs.Machines.{floor_fired}
+use Rattle.floor_model.specs.Modules.{open_task, goes, transferred, number_named}
 use Rattle.floor_moves.specs.Floor.{Loc, arm, Command as ByNumber, busy}
 use Rattle.floor_moves.specs.Valid.{Empty, PickStands, PlaceStands}
 use Rattle.place_laws.specs.Picture.{loc_of, place_in, numbered, number_or_none, task_of, module_of, numbers_from, picture}

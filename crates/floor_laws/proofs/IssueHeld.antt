@@ -6,8 +6,8 @@ use Rattle.substrate.specs.Places.{has_name, substrate_named, are_named_apart, A
 use Rattle.substrate.specs.declared.registered.Registered.{Registered}
 use Rattle.substrate.proofs.Texts.{same_name, own_name}
 use Rattle.substrate.proofs.Apart.{first_apart, rest_apart, unknown_none}
-use Rattle.tool_floor.specs.declared.tracking.Substrate.{Substrate}
-use Rattle.tool_floor.specs.Floor.{ToolFloor, substrate_numbered}
+use Rattle.floor_model.specs.declared.tracked.Substrate.{Substrate}
+use Rattle.floor_model.specs.Floor.{ToolFloor, substrate_numbered}
 use Rattle.place_laws.specs.Sound.{IsOfKept, Base}
 
 -- ---- lists

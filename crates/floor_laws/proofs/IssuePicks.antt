@@ -12,8 +12,8 @@ use Rattle.robot_moves.specs.declared.view.PlaceView.{PlaceView}
 use Rattle.robot_moves.proofs.Best.{best_is}
 use Rattle.substrate.specs.Locations.{is_same}
 use Rattle.substrate.proofs.Truth.{not_true}
-use Rattle.tool_floor.specs.Floor.{ToolFloor}
-use Rattle.tool_floor.specs.Views.{views}
+use Rattle.floor_model.specs.Floor.{ToolFloor}
+use Rattle.floor_model.specs.Views.{views}
 use Rattle.floor_moves.specs.Floor.{Loc, slot, aligner, arm, chamber, pick, Command, idle, busy, is_outside, is_finished, chamber_module}
 use Rattle.floor_moves.specs.Valid.{Empty, PickStands, IsUnnamed, Valid}
 use Rattle.place_laws.specs.Picture.{picture, loc_of}

@@ -10,8 +10,8 @@ use Rattle.robot_moves.specs.Moves.{holder, free_target, best_pick, move_by, pla
 use Rattle.robot_moves.specs.declared.view.PlaceView.{PlaceView}
 use Rattle.robot_moves.specs.declared.view.Move.{Move}
 use Rattle.substrate.proofs.Truth.{not_true}
-use Rattle.tool_floor.specs.Floor.{ToolFloor}
-use Rattle.tool_floor.specs.Views.{views, planned}
+use Rattle.floor_model.specs.Floor.{ToolFloor}
+use Rattle.floor_model.specs.Views.{views, planned}
 use Rattle.floor_moves.specs.Floor.{pick, place, align, process}
 use Rattle.floor_moves.specs.Valid.{Valid}
 use Rattle.place_laws.specs.Picture.{picture, loc_of, task_of}

@@ -6,8 +6,8 @@ use Rattle.gem_ids.specs.declared.numbers.LocId.TheVariants.{Arm}
 use Rattle.robot_moves.specs.Modules.{module_at, is_idle}
 use Rattle.robot_moves.specs.Moves.{is_free, free_target}
 use Rattle.robot_moves.specs.declared.view.PlaceView.{PlaceView}
-use Rattle.tool_floor.specs.Floor.{ToolFloor}
-use Rattle.tool_floor.specs.Views.{views}
+use Rattle.floor_model.specs.Floor.{ToolFloor}
+use Rattle.floor_model.specs.Views.{views}
 use Rattle.floor_moves.specs.Floor.{Loc, slot, aligner, arm, chamber, Task, pick, place, align, process, named, Command, Floor, idle, busy, is_outside}
 use Rattle.floor_moves.specs.Valid.{PickStands, PlaceStands, AlignStands, ProcessStands, IsUnnamed, Valid}
 use Rattle.floor_moves.proofs.Issuing.{MayIssue}

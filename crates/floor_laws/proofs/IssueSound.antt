@@ -5,11 +5,11 @@ use Rattle.robot_moves.specs.declared.module.Module.{Module}
 use Rattle.robot_moves.specs.Modules.{module_at, change_module, given}
 use Rattle.robot_moves.specs.declared.view.Move.{Move}
 use Rattle.robot_moves.proofs.Giving.{move_is}
-use Rattle.tool_floor.specs.Floor.{ToolFloor}
-use Rattle.tool_floor.specs.Views.{views, planned}
-use Rattle.tool_floor.specs.Modules.{command, issued as given_to}
-use Rattle.tool_floor.specs.Machines.{floor_starts, floor_fired}
-use Rattle.tool_floor.proofs.Moves.{is_idle_module, gives}
+use Rattle.floor_model.specs.Floor.{ToolFloor}
+use Rattle.floor_model.specs.Views.{views, planned}
+use Rattle.floor_model.specs.Modules.{command, issued as given_to}
+use Rattle.floor_model.specs.Machines.{floor_starts, floor_fired}
+use Rattle.floor_model.proofs.Moves.{is_idle_module, gives}
 use Rattle.floor_moves.proofs.Agreeing.{agree-keeps}
 use Rattle.place_laws.specs.Picture.{picture, task_of}
 use Rattle.place_laws.specs.Sound.{Sound}

@@ -11,9 +11,9 @@ use Rattle.robot_moves.specs.Moves.{first_of, is_empty, is_free, has_chamber, ch
 use Rattle.robot_moves.specs.declared.module.Module.{Module}
 use Rattle.robot_moves.specs.declared.module.Module.TheVariants.{Idle}
 use Rattle.robot_moves.specs.declared.view.PlaceView.{PlaceView}
-use Rattle.tool_floor.specs.Floor.{ToolFloor}
-use Rattle.tool_floor.specs.Views.{views}
-use Rattle.tool_floor.proofs.Moves.{is_idle_module}
+use Rattle.floor_model.specs.Floor.{ToolFloor}
+use Rattle.floor_model.specs.Views.{views}
+use Rattle.floor_model.proofs.Moves.{is_idle_module}
 use Rattle.floor_moves.specs.Floor.{aligner, chamber, idle, modules, is_finished, chamber_module as its_module}
 use Rattle.floor_moves.specs.Valid.{Empty, HasRoom}
 use Rattle.place_laws.specs.Picture.{picture, loc_of, module_of, numbers_from}

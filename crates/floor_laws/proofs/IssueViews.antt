@@ -22,10 +22,10 @@ use Rattle.substrate.proofs.Truth.{not_true}
 use Rattle.tool_events.specs.declared.recipes.Recipe.{Recipe}
 use Rattle.process_job.specs.Jobs.{recipe_named}
 use Rattle.process_job.specs.declared.job.ProcessJob.{ProcessJob}
-use Rattle.tool_floor.specs.declared.tracking.Substrate.{Substrate}
-use Rattle.tool_floor.specs.Floor.{ToolFloor, substrate_numbered, number_of}
-use Rattle.tool_floor.specs.Jobs.{job_of, is_job_so, is_processing}
-use Rattle.tool_floor.specs.Views.{chambers_of, recipe_of, view_of, view_in, views_of, views}
+use Rattle.floor_model.specs.declared.tracked.Substrate.{Substrate}
+use Rattle.floor_model.specs.Floor.{ToolFloor, substrate_numbered, number_of}
+use Rattle.floor_model.specs.Jobs.{job_of, is_job_so, is_processing}
+use Rattle.floor_model.specs.Views.{chambers_of, recipe_of, view_of, view_in, views_of, views}
 use Rattle.floor_moves.specs.Floor.{own, is_finished as is_finished_state}
 use Rattle.floor_moves.specs.Valid.{Empty}
 use Rattle.place_laws.specs.Picture.{picture, loc_of, numbered, chambers_in, of_one, of_job}

@@ -4,7 +4,7 @@ use Rattle.gem_ids.specs.declared.numbers.LocId.{LocId}
 use Rattle.gem_ids.specs.declared.numbers.LocId.TheVariants.{Aligner, Chamber}
 use Rattle.robot_moves.specs.Modules.{module_at, is_idle, chamber_module as chamber_number}
 use Rattle.robot_moves.specs.declared.view.PlaceView.{PlaceView}
-use Rattle.tool_floor.specs.Floor.{ToolFloor}
+use Rattle.floor_model.specs.Floor.{ToolFloor}
 use Rattle.floor_moves.specs.Floor.{Loc, aligner, arm, chamber, align, process, Command, idle, busy, is_outside, is_finished, chamber_module}
 use Rattle.floor_moves.specs.Valid.{AlignStands, ProcessStands, PickStands, PlaceStands, Valid}
 use Rattle.place_laws.specs.Picture.{picture, loc_of}

@@ -12,10 +12,10 @@ use Rattle.shop_floor.proofs.Apart.{all_follows, all_changed}
 use Rattle.substrate.specs.Locations.{is_same}
 use Rattle.substrate.specs.declared.registered.Registered.{Registered}
 use Rattle.process_job.specs.declared.job.Material.{Material}
-use Rattle.tool_floor.specs.declared.tracking.Substrate.{Substrate}
-use Rattle.tool_floor.specs.Floor.{substrate_numbered, number_of}
-use Rattle.tool_floor.specs.Kept.{RiseTo}
-use Rattle.tool_floor.specs.Jobs.{all_marked}
+use Rattle.floor_model.specs.declared.tracked.Substrate.{Substrate}
+use Rattle.floor_model.specs.Floor.{substrate_numbered, number_of}
+use Rattle.floor_model.specs.Floor.{RiseTo}
+use Rattle.floor_model.specs.Jobs.{all_marked}
 use Rattle.place_laws.specs.Picture.{of_one}
 use Rattle.place_laws.specs.Ports.{IsAtPort, IsNamedHere, AtPorts}
 use Rattle.place_laws.specs.Standing.{IsOf, IsCarried, IsElsewhere, AreApart, is_that_of, AreRegistered}

@@ -6,10 +6,10 @@ use Rattle.process_job.specs.declared.job.JobSpec.{JobSpec}
 use Rattle.process_job.specs.declared.job.ProcessJob.{ProcessJob}
 use Rattle.control_job.specs.Jobs.{JobStore}
 use Rattle.tool_jobs.specs.Jobs.{Jobs}
-use Rattle.tool_floor.specs.declared.tracking.Substrate.{Substrate}
-use Rattle.tool_floor.specs.Floor.{ToolFloor, with_jobs, substrate_numbered, number_of}
-use Rattle.tool_floor.specs.Jobs.{job_of}
-use Rattle.tool_floor.specs.Machines.{floor_fired}
+use Rattle.floor_model.specs.declared.tracked.Substrate.{Substrate}
+use Rattle.floor_model.specs.Floor.{ToolFloor, with_jobs, substrate_numbered, number_of}
+use Rattle.floor_model.specs.Jobs.{job_of}
+use Rattle.floor_model.specs.Machines.{floor_fired}
 use Rattle.tool_jobs.specs.Rows.{control_fired}
 use Rattle.shop_floor.proofs.Apart.{all_both, all_follows}
 use Rattle.place_laws.specs.Sound.{IsInItsJob, JobsSound, Sound}

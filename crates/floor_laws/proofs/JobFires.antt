@@ -8,10 +8,10 @@ use Rattle.substrate.specs.Record.{is_finished}
 use Rattle.process_job.specs.Jobs.{fires_row, fired}
 use Rattle.process_job.specs.declared.job.ProcessJob.{ProcessJob}
 use Rattle.tool_jobs.specs.Jobs.{Jobs}
-use Rattle.tool_floor.specs.declared.tracking.Substrate.{Substrate}
-use Rattle.tool_floor.specs.Floor.{ToolFloor, with_jobs, substrate_numbered}
-use Rattle.tool_floor.specs.Substrates.{is_in_slot, is_removed}
-use Rattle.tool_floor.specs.Jobs.{job_of, is_member, is_done_with, is_settled}
+use Rattle.floor_model.specs.declared.tracked.Substrate.{Substrate}
+use Rattle.floor_model.specs.Floor.{ToolFloor, with_jobs, substrate_numbered}
+use Rattle.floor_model.specs.Substrates.{is_in_slot, is_removed}
+use Rattle.floor_model.specs.Jobs.{job_of, is_member, is_done_with, is_settled}
 use Rattle.floor_moves.specs.Floor.{is_done}
 use Rattle.floor_moves.specs.Valid.{Valid}
 use Rattle.place_laws.specs.Picture.{picture, of_one, is_complete}

@@ -19,9 +19,9 @@ use Rattle.process_job.specs.Jobs.{job_numbered, change_numbered, fires_row}
 use Rattle.process_job.specs.declared.job.ProcessJob.{ProcessJob}
 use Rattle.process_job.specs.declared.record.JobState.TheVariants.{Queued, SettingUp}
 use Rattle.substrate.specs.Record.{is_at_source, is_needing}
-use Rattle.tool_floor.specs.declared.tracking.Substrate.{Substrate}
-use Rattle.tool_floor.specs.Floor.{ToolFloor, substrate_numbered, number_of}
-use Rattle.tool_floor.specs.Jobs.{is_carrier_of, is_slot_named, names_slot_of, can_join, joined, is_in_use, is_carrier_here, is_material_here, is_here, job_of, names_carrier}
+use Rattle.floor_model.specs.declared.tracked.Substrate.{Substrate}
+use Rattle.floor_model.specs.Floor.{ToolFloor, substrate_numbered, number_of}
+use Rattle.floor_model.specs.Jobs.{is_carrier_of, is_slot_named, names_slot_of, can_join, joined, is_in_use, is_carrier_here, is_material_here, is_here, job_of, names_carrier}
 use Rattle.floor_moves.specs.Floor.{is_done}
 use Rattle.place_laws.specs.Picture.{picture, of_one, is_complete}
 use Rattle.place_laws.specs.Standing.{IsCarried}

@@ -12,9 +12,9 @@ use Rattle.robot_moves.specs.Modules.{module_at}
 use Rattle.shop_floor.proofs.Apart.{found_passes}
 use Rattle.substrate.specs.Places.{has_name, substrate_named}
 use Rattle.substrate.specs.declared.registered.Registered.{Registered}
-use Rattle.tool_floor.specs.declared.tracking.Substrate.{Substrate}
-use Rattle.tool_floor.specs.Floor.{ToolFloor, substrate_numbered}
-use Rattle.tool_floor.specs.Naming.{named_by, module_names}
+use Rattle.floor_model.specs.declared.tracked.Substrate.{Substrate}
+use Rattle.floor_model.specs.Floor.{ToolFloor, substrate_numbered}
+use Rattle.floor_model.specs.Naming.{named_by, module_names}
 use Rattle.floor_moves.specs.Floor.{Command, busy, named}
 use Rattle.floor_moves.specs.Valid.{Members}
 use Rattle.place_laws.specs.Picture.{picture, numbered, number_or_none, task_of, module_of}

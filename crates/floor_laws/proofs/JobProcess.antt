@@ -12,10 +12,10 @@ use Rattle.process_job.specs.declared.record.JobState.TheVariants.{Queued}
 use Rattle.tool_jobs.specs.Jobs.{owner}
 use Rattle.tool_jobs.specs.Wants.{process_wants, is_first_left}
 use Rattle.tool_jobs.specs.Rows.{process_starts, found_does, process_fired}
-use Rattle.tool_floor.specs.declared.tracking.Substrate.{Substrate}
-use Rattle.tool_floor.specs.Floor.{ToolFloor, with_jobs, substrate_numbered, number_of}
-use Rattle.tool_floor.specs.Jobs.{with_members, without_members, marks, is_here, is_settled, sight, found_sight, found_job_does}
-use Rattle.tool_floor.specs.Machines.{floor_starts, floor_fired}
+use Rattle.floor_model.specs.declared.tracked.Substrate.{Substrate}
+use Rattle.floor_model.specs.Floor.{ToolFloor, with_jobs, substrate_numbered, number_of}
+use Rattle.floor_model.specs.Jobs.{with_members, without_members, marks, is_here, is_settled, sight, found_sight, found_job_does}
+use Rattle.floor_model.specs.Machines.{floor_starts, floor_fired}
 use Rattle.floor_moves.specs.Floor.{is_done}
 use Rattle.place_laws.specs.Picture.{picture, is_complete}
 use Rattle.place_laws.specs.Sound.{is_queued, IsOfJob, IsInItsJob, Sound}

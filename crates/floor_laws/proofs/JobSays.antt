@@ -11,10 +11,10 @@ use Rattle.process_job.specs.Jobs.{recipe_named}
 use Rattle.process_job.specs.declared.job.Material.{Material}
 use Rattle.process_job.specs.declared.job.ProcessJob.{ProcessJob}
 use Rattle.tool_jobs.specs.Jobs.{Jobs}
-use Rattle.tool_floor.specs.declared.tracking.Substrate.{Substrate}
-use Rattle.tool_floor.specs.Floor.{ToolFloor, substrate_numbered, number_of}
-use Rattle.tool_floor.specs.Jobs.{all_marked, job_of, names_carrier, is_any_of_carrier, is_processing}
-use Rattle.tool_floor.proofs.Marks.{marked_valid}
+use Rattle.floor_model.specs.declared.tracked.Substrate.{Substrate}
+use Rattle.floor_model.specs.Floor.{ToolFloor, substrate_numbered, number_of}
+use Rattle.floor_model.specs.Jobs.{all_marked, job_of, names_carrier, is_any_of_carrier, is_processing}
+use Rattle.floor_model.proofs.Marks.{marked_valid}
 use Rattle.floor_moves.specs.Floor as law
 use Rattle.floor_moves.specs.Floor.{arm, Task, pick, place, align, process, named, Command, busy, JobView, is_done}
 use Rattle.floor_moves.specs.Agree.{Agree}

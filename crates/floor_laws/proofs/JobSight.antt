@@ -17,9 +17,9 @@ use Rattle.shop_floor.proofs.Apart.{all_follows, IsOnly, found_only, has_its_nam
 use Rattle.substrate.specs.Locations.{is_same, is_work_place}
 use Rattle.substrate.specs.Places.{has_name, substrate_named, is_there}
 use Rattle.substrate.specs.declared.registered.Registered.{Registered}
-use Rattle.tool_floor.specs.declared.tracking.Substrate.{Substrate}
-use Rattle.tool_floor.specs.Floor.{ToolFloor, substrate_numbered, number_of}
-use Rattle.tool_floor.specs.Substrates.{is_at_work, is_outside, is_in_slot, is_removed}
+use Rattle.floor_model.specs.declared.tracked.Substrate.{Substrate}
+use Rattle.floor_model.specs.Floor.{ToolFloor, substrate_numbered, number_of}
+use Rattle.floor_model.specs.Substrates.{is_at_work, is_outside, is_in_slot, is_removed}
 use Rattle.floor_moves.specs.Floor as law
 use Rattle.floor_moves.specs.Floor.{Loc, slot, Command, busy, idle, down, named, own}
 use Rattle.place_laws.specs.Picture.{picture, loc_of}

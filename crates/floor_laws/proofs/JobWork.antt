@@ -12,10 +12,10 @@ use Rattle.substrate.specs.Tables.{processing_number}
 use Rattle.substrate.specs.Record.{is_finished}
 use Rattle.substrate.specs.declared.record.Processing.{Processing}
 use Rattle.substrate.specs.declared.record.Processing.TheVariants as processing
-use Rattle.tool_floor.specs.declared.tracking.Substrate.{Substrate}
-use Rattle.tool_floor.specs.Floor.{ToolFloor, substrate_numbered}
-use Rattle.tool_floor.specs.Naming.{processes, task_processes}
-use Rattle.tool_floor.specs.Substrates.{is_in_slot, is_removed}
+use Rattle.floor_model.specs.declared.tracked.Substrate.{Substrate}
+use Rattle.floor_model.specs.Floor.{ToolFloor, substrate_numbered}
+use Rattle.floor_model.specs.Naming.{processes, task_processes}
+use Rattle.floor_model.specs.Substrates.{is_in_slot, is_removed}
 use Rattle.floor_moves.specs.Floor as law
 use Rattle.floor_moves.specs.Floor.{Command, Task, busy, process, named, is_done}
 use Rattle.floor_moves.specs.Valid.{Members, IsProcessed}

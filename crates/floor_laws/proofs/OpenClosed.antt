@@ -9,9 +9,9 @@ use Rattle.tool_events.specs.declared.answer.Task.TheVariants as task
 use Rattle.robot_moves.specs.declared.module.Module.{Module}
 use Rattle.robot_moves.specs.declared.module.Module.TheVariants.{Idle, Busy, Down}
 use Rattle.robot_moves.specs.Modules.{module_at, change_module}
-use Rattle.tool_floor.specs.Floor.{ToolFloor}
-use Rattle.tool_floor.specs.Machines.{floor_fired}
-use Rattle.tool_floor.specs.Modules.{module_behind, open_task, aligned_by}
+use Rattle.floor_model.specs.Floor.{ToolFloor}
+use Rattle.floor_model.specs.Machines.{floor_fired}
+use Rattle.floor_model.specs.Modules.{module_behind, open_task, aligned_by}
 use Rattle.floor_moves.specs.Floor.{Command as ByNumber, busy}
 use Rattle.place_laws.specs.Picture.{task_of, module_of, picture}
 use Rattle.place_laws.specs.Sound.{Sound}

@@ -5,7 +5,7 @@ use Rattle.tool_events.specs.declared.answer.Command.{Command}
 use Rattle.robot_moves.specs.declared.module.Module.{Module}
 use Rattle.robot_moves.specs.declared.module.Module.TheVariants.{Idle, Busy, Down}
 use Rattle.robot_moves.specs.Modules.{module_at, change_module, taken}
-use Rattle.tool_floor.specs.Floor.{ToolFloor, fetched}
+use Rattle.floor_model.specs.Floor.{ToolFloor, fetched}
 use Rattle.place_laws.specs.Picture.{module_of}
 use Rattle.place_laws.specs.Sound.{Sound}
 use Rattle.picture_laws.proofs.Issuing.{changed_there, changed_else}

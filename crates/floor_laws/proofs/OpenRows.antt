@@ -28,13 +28,13 @@ use Rattle.substrate.specs.Tables as substrates
 use Rattle.substrate.specs.Tables.{SubstrateRow, SubstrateEffect}
 use Rattle.substrate.specs.Places.{registered}
 use Rattle.substrate.specs.declared.record.Processing.{Processing}
-use Rattle.tool_floor.specs.declared.tracking.Substrate.{Substrate}
-use Rattle.tool_floor.specs.Floor.{ToolFloor, with_module}
-use Rattle.tool_floor.specs.Jobs.{job_does, found_job_does, frees, stops_carriers, gets_members}
-use Rattle.tool_floor.specs.Modules.{in_state, module_behind, command, issued, open_task, aligned_by, move_does, found_move}
-use Rattle.tool_floor.specs.Machines.{floor_machines, floor_starts, floor_fired, taken_along, registered_by, moved_by}
-use Rattle.tool_floor.specs.Substrates.{can_register, first_substrate, registers_at, registers_slot, registers_slots, registers_at_port, registers_found, reaches_verified, without_carrier, substrate_does, found_does}
-use Rattle.tool_floor.specs.Views.{planned}
+use Rattle.floor_model.specs.declared.tracked.Substrate.{Substrate}
+use Rattle.floor_model.specs.Floor.{ToolFloor, with_module}
+use Rattle.floor_model.specs.Jobs.{job_does, found_job_does, frees, stops_carriers, gets_members}
+use Rattle.floor_model.specs.Modules.{in_state, module_behind, command, issued, open_task, aligned_by, move_does, found_move}
+use Rattle.floor_model.specs.Machines.{floor_machines, floor_starts, floor_fired, taken_along, registered_by, moved_by}
+use Rattle.floor_model.specs.Substrates.{can_register, first_substrate, registers_at, registers_slot, registers_slots, registers_at_port, registers_found, reaches_verified, without_carrier, substrate_does, found_does}
+use Rattle.floor_model.specs.Views.{planned}
 use Rattle.floor_laws.proofs.OpenCommands.{Opens, opens_same, opens_then, change_opens}
 
 -- the modules and the last number of a command are those of before

@@ -14,9 +14,9 @@ use Rattle.shop_floor.specs.Floor.{Floor}
 use Rattle.shop_floor.specs.Valid.{IsFloor}
 use Rattle.substrate.specs.Places.{registered}
 use Rattle.substrate.proofs.Sites.{own_place}
-use Rattle.tool_floor.specs.declared.tracking.Substrate.{Substrate}
-use Rattle.tool_floor.specs.Floor.{ToolFloor}
-use Rattle.tool_floor.specs.Substrates.{can_register, first_substrate, registers_at, registers_slot, registers_slots}
+use Rattle.floor_model.specs.declared.tracked.Substrate.{Substrate}
+use Rattle.floor_model.specs.Floor.{ToolFloor}
+use Rattle.floor_model.specs.Substrates.{can_register, first_substrate, registers_at, registers_slot, registers_slots}
 use Rattle.place_laws.specs.Standing.{is_that_of}
 use Rattle.floor_laws.proofs.RegMore.{any_more, any_last, own_number}
 use Rattle.floor_laws.proofs.RegSlots.{Filling, higher, can, filled_one}

@@ -16,9 +16,9 @@ use Rattle.shop_floor.proofs.Present.{has_number, numbered_contained}
 use Rattle.substrate.specs.Places.{AreNumbered, has_name, substrate_named, is_known, are_named_apart}
 use Rattle.substrate.specs.declared.registered.Registered.{Registered}
 use Rattle.substrate.proofs.Apart.{has_it, first_apart, rest_apart, found_name}
-use Rattle.tool_floor.specs.declared.tracking.Substrate.{Substrate}
-use Rattle.tool_floor.specs.Floor.{ToolFloor, substrate_numbered, number_of}
-use Rattle.tool_floor.specs.Kept.{RiseTo}
+use Rattle.floor_model.specs.declared.tracked.Substrate.{Substrate}
+use Rattle.floor_model.specs.Floor.{ToolFloor, substrate_numbered, number_of}
+use Rattle.floor_model.specs.Floor.{RiseTo}
 use Rattle.floor_moves.specs.Floor.{Loc}
 use Rattle.floor_moves.specs.Carriers.{AreWithin}
 use Rattle.floor_moves.specs.Valid.{Valid}

@@ -8,9 +8,9 @@ use Rattle.process_job.specs.declared.job.ProcessJob.{ProcessJob}
 use Rattle.shop_floor.proofs.Apart.{all_pushed}
 use Rattle.substrate.specs.Places.{AreNumbered}
 use Rattle.substrate.specs.declared.registered.Registered.{Registered}
-use Rattle.tool_floor.specs.declared.tracking.Substrate.{Substrate}
-use Rattle.tool_floor.specs.Floor.{substrate_numbered, number_of}
-use Rattle.tool_floor.specs.Kept.{RiseTo}
+use Rattle.floor_model.specs.declared.tracked.Substrate.{Substrate}
+use Rattle.floor_model.specs.Floor.{substrate_numbered, number_of}
+use Rattle.floor_model.specs.Floor.{RiseTo}
 use Rattle.place_laws.specs.Standing.{AreApart}
 
 -- ---- one more

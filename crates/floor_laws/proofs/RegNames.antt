@@ -9,8 +9,8 @@ use Rattle.robot_moves.specs.declared.module.Module.TheVariants.{Idle, Busy, Dow
 use Rattle.robot_moves.specs.Modules.{module_at}
 use Rattle.substrate.specs.Places.{PlaceMap, substrate_named}
 use Rattle.substrate.specs.declared.registered.Registered.{Registered}
-use Rattle.tool_floor.specs.Floor.{ToolFloor, number_of}
-use Rattle.tool_floor.specs.Kept.{RiseTo}
+use Rattle.floor_model.specs.Floor.{ToolFloor, number_of}
+use Rattle.floor_model.specs.Floor.{RiseTo}
 use Rattle.floor_moves.specs.Floor.{Task, pick, place, align, process, named, busy}
 use Rattle.floor_moves.specs.Valid.{Members}
 use Rattle.place_laws.specs.Picture.{picture, loc_of, numbered, number_or_none, task_of, module_of}

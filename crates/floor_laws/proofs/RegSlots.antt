@@ -23,10 +23,10 @@ use Rattle.substrate.specs.declared.registered.Registered.{Registered}
 use Rattle.substrate.proofs.Apart.{known_found, apart_more as named_more, has_it}
 use Rattle.substrate.proofs.Sites.{same_is}
 use Rattle.substrate.proofs.Standing.{at_none, placed_more, all_more, numbered_more, length_more}
-use Rattle.tool_floor.specs.declared.tracking.Substrate.{Substrate}
-use Rattle.tool_floor.specs.Floor.{ToolFloor, with_shop, number_of}
-use Rattle.tool_floor.specs.Kept.{RiseTo}
-use Rattle.tool_floor.specs.Substrates.{can_register, first_substrate}
+use Rattle.floor_model.specs.declared.tracked.Substrate.{Substrate}
+use Rattle.floor_model.specs.Floor.{ToolFloor, with_shop, number_of}
+use Rattle.floor_model.specs.Floor.{RiseTo}
+use Rattle.floor_model.specs.Substrates.{can_register, first_substrate}
 use Rattle.floor_moves.specs.Floor.{slot as slot_at}
 use Rattle.floor_moves.specs.Carriers.{MayRegister, registered as registered_by_numbers}
 use Rattle.floor_moves.specs.Valid.{Valid}

@@ -26,11 +26,11 @@ use Rattle.shop_floor.proofs.Keeps.{row-keeps as shop_keeps}
 use Rattle.shop_floor.proofs.Numbers.{all_at_number}
 use Rattle.shop_floor.proofs.Present.{has_number, numbered_contained}
 use Rattle.tool_jobs.specs.Jobs.{Jobs}
-use Rattle.tool_floor.specs.declared.tracking.Substrate.{Substrate}
-use Rattle.tool_floor.specs.Floor.{ToolFloor, with_shop}
-use Rattle.tool_floor.specs.Jobs.{names_carrier}
-use Rattle.tool_floor.specs.Machines.{floor_starts, floor_fired}
-use Rattle.tool_floor.specs.Substrates.{reaches_verified, registers_at_port, registers_found, registers_slots}
+use Rattle.floor_model.specs.declared.tracked.Substrate.{Substrate}
+use Rattle.floor_model.specs.Floor.{ToolFloor, with_shop}
+use Rattle.floor_model.specs.Jobs.{names_carrier}
+use Rattle.floor_model.specs.Machines.{floor_starts, floor_fired}
+use Rattle.floor_model.specs.Substrates.{reaches_verified, registers_at_port, registers_found, registers_slots}
 use Rattle.floor_moves.specs.Carriers.{verified}
 use Rattle.floor_moves.specs.Valid.{Valid}
 use Rattle.floor_moves.proofs.Agreeing.{agree-keeps}

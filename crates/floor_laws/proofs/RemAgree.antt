@@ -17,10 +17,10 @@ use Rattle.shop_floor.proofs.Apart.{all_follows, found_one, found_only, found_pa
 use Rattle.substrate.specs.Tables.{processing_number}
 use Rattle.substrate.specs.Places.{has_name as has_sub, substrate_named}
 use Rattle.substrate.specs.declared.registered.Registered.{Registered}
-use Rattle.tool_floor.specs.declared.tracking.Substrate.{Substrate}
-use Rattle.tool_floor.specs.Floor.{ToolFloor, with_shop, substrate_numbered, number_of}
-use Rattle.tool_floor.specs.Jobs.{job_of, is_any_of_carrier, is_processing, is_stopping, is_aborting}
-use Rattle.tool_floor.specs.Substrates.{is_of, removed_of, without_carrier}
+use Rattle.floor_model.specs.declared.tracked.Substrate.{Substrate}
+use Rattle.floor_model.specs.Floor.{ToolFloor, with_shop, substrate_numbered, number_of}
+use Rattle.floor_model.specs.Jobs.{job_of, is_any_of_carrier, is_processing, is_stopping, is_aborting}
+use Rattle.floor_model.specs.Substrates.{is_of, removed_of, without_carrier}
 use Rattle.floor_moves.specs.Floor.{Loc}
 use Rattle.floor_moves.specs.Carriers.{forgotten, HasEnded}
 use Rattle.floor_moves.specs.Agree.{Agree}

@@ -10,10 +10,10 @@ use Rattle.shop_floor.specs.Floor.{floor_of}
 use Rattle.shop_floor.specs.Valid.{IsFloor}
 use Rattle.shop_floor.proofs.Apart.{all_both, all_filtered}
 use Rattle.substrate.specs.declared.registered.Registered.{Registered}
-use Rattle.tool_floor.specs.declared.tracking.Substrate.{Substrate}
-use Rattle.tool_floor.specs.Floor.{ToolFloor, with_shop}
-use Rattle.tool_floor.specs.Kept.{RiseTo}
-use Rattle.tool_floor.specs.Substrates.{without_carrier}
+use Rattle.floor_model.specs.declared.tracked.Substrate.{Substrate}
+use Rattle.floor_model.specs.Floor.{ToolFloor, with_shop}
+use Rattle.floor_model.specs.Floor.{RiseTo}
+use Rattle.floor_model.specs.Substrates.{without_carrier}
 use Rattle.floor_moves.specs.Carriers.{forgotten, HasEnded}
 use Rattle.floor_moves.specs.Valid.{Valid}
 use Rattle.floor_moves.proofs.Agreeing.{agree-keeps}

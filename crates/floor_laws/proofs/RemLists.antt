@@ -10,8 +10,8 @@ use Rattle.shop_floor.specs.Valid.{RiseFrom}
 use Rattle.shop_floor.proofs.Apart.{all_both, all_follows, all_filtered}
 use Rattle.substrate.specs.Places.{AreNumbered}
 use Rattle.substrate.specs.declared.registered.Registered.{Registered}
-use Rattle.tool_floor.specs.declared.tracking.Substrate.{Substrate}
-use Rattle.tool_floor.specs.Kept.{RiseTo}
+use Rattle.floor_model.specs.declared.tracked.Substrate.{Substrate}
+use Rattle.floor_model.specs.Floor.{RiseTo}
 use Rattle.floor_moves.specs.Valid.{IsDistinct}
 use Rattle.place_laws.specs.Standing.{AreApart}
 

@@ -6,8 +6,8 @@ use Rattle.substrate.specs.Places.{PlaceMap, ArePlaces, has_name as has_sub, rem
 use Rattle.substrate.specs.declared.registered.Registered.{Registered}
 use Rattle.substrate.proofs.Apart.{apart_fewer as named_fewer}
 use Rattle.substrate.proofs.Standing.{placed_fewer, all_fewer, length_fewer, numbered_fewer}
-use Rattle.tool_floor.specs.declared.tracking.Substrate.{Substrate}
-use Rattle.tool_floor.specs.Substrates.{is_of, emptied, removed_of}
+use Rattle.floor_model.specs.declared.tracked.Substrate.{Substrate}
+use Rattle.floor_model.specs.Substrates.{is_of, emptied, removed_of}
 
 -- two tests with one outcome leave the same
 filter_same : {A : Type 0} (q r : A → Bool) (xs : List A) → AllByRecursion (λ (x : A). q x ≡ r x) xs → filter q xs ≡ filter r xs

@@ -17,9 +17,9 @@ use Rattle.shop_floor.specs.Valid.{IsFloor}
 use Rattle.shop_floor.proofs.Apart.{all_follows, none_passes, unknown_all}
 use Rattle.shop_floor.proofs.Belonging.{get_updated, ports_length}
 use Rattle.shop_floor.proofs.Keeps.{row-keeps as shop_keeps}
-use Rattle.tool_floor.specs.Floor.{ToolFloor, with_shop}
-use Rattle.tool_floor.specs.Machines.{floor_starts, floor_fired}
-use Rattle.tool_floor.specs.Substrates.{without_carrier}
+use Rattle.floor_model.specs.Floor.{ToolFloor, with_shop}
+use Rattle.floor_model.specs.Machines.{floor_starts, floor_fired}
+use Rattle.floor_model.specs.Substrates.{without_carrier}
 use Rattle.floor_moves.specs.Carriers.{HasEnded}
 use Rattle.floor_moves.specs.Valid.{Valid}
 use Rattle.place_laws.specs.Picture.{picture}

@@ -21,8 +21,8 @@ use Rattle.shop_floor.specs.Rows.{bound_to, is_directed, owner, forgets, arrived
 use Rattle.shop_floor.specs.Machines.{floor_starts, floor_fired}
 use Rattle.shop_floor.proofs.Cases.{starts_at_port}
 use Rattle.shop_floor.proofs.Keeps.{with_arrival}
-use Rattle.tool_floor.specs.declared.tracking.Substrate.{Substrate}
-use Rattle.tool_floor.specs.Floor.{ToolFloor}
+use Rattle.floor_model.specs.declared.tracked.Substrate.{Substrate}
+use Rattle.floor_model.specs.Floor.{ToolFloor}
 use Rattle.floor_moves.specs.Valid.{Valid}
 use Rattle.place_laws.specs.Picture.{picture, of_one}
 use Rattle.place_laws.specs.Ports.{AtPorts}

@@ -12,9 +12,9 @@ use Rattle.shop_floor.specs.Valid.{IsFloor}
 use Rattle.shop_floor.proofs.Present.{one_number}
 use Rattle.substrate.specs.declared.record.LocationRecord.{LocationRecord}
 use Rattle.tool_jobs.specs.Jobs.{Jobs}
-use Rattle.tool_floor.specs.declared.tracking.Substrate.{Substrate}
-use Rattle.tool_floor.specs.Floor.{ToolFloor, with_shop}
-use Rattle.tool_floor.specs.Jobs.{names_carrier, is_any_of_carrier}
+use Rattle.floor_model.specs.declared.tracked.Substrate.{Substrate}
+use Rattle.floor_model.specs.Floor.{ToolFloor, with_shop}
+use Rattle.floor_model.specs.Jobs.{names_carrier, is_any_of_carrier}
 use Rattle.floor_moves.specs.Valid.{Carriers, Members, Valid}
 use Rattle.place_laws.specs.Picture.{picture, of_one, where_present}
 use Rattle.place_laws.specs.Ports.{AtPorts, Unloading}

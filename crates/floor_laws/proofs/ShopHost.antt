@@ -25,9 +25,9 @@ use Rattle.shop_floor.proofs.Apart.{IsOnly, all_follows, found_only, found_passe
 use Rattle.shop_floor.proofs.Asked.{written-keeps}
 use Rattle.shop_floor.proofs.Belonging.{ports_length, get_updated}
 use Rattle.shop_floor.proofs.Keeps.{row-keeps as shop_keeps, came-keeps}
-use Rattle.tool_floor.specs.declared.tracking.Substrate.{Substrate}
-use Rattle.tool_floor.specs.Floor.{ToolFloor, with_shop}
-use Rattle.tool_floor.specs.Machines.{floor_starts, floor_fired}
+use Rattle.floor_model.specs.declared.tracked.Substrate.{Substrate}
+use Rattle.floor_model.specs.Floor.{ToolFloor, with_shop}
+use Rattle.floor_model.specs.Machines.{floor_starts, floor_fired}
 use Rattle.place_laws.specs.Sound.{Sound}
 use Rattle.place_laws.proofs.Stays.{stay_same, NonePresent}
 use Rattle.place_laws.proofs.Leaving.{Leaves, leaves_then, port_leaves, forgotten_leaves}

@@ -15,12 +15,12 @@ use Rattle.carrier.specs.Carriers.{carrier_numbered, change_numbered}
 use Rattle.shop_floor.specs.Floor.{with_carrier}
 use Rattle.shop_floor.specs.Machines as shop
 use Rattle.shop_floor.proofs.Keeps.{row-keeps as shop_keeps, accessing-keeps}
-use Rattle.tool_floor.specs.declared.tracking.Substrate.{Substrate}
-use Rattle.tool_floor.specs.Floor.{ToolFloor, with_shop}
-use Rattle.tool_floor.specs.Jobs.{is_any_of_carrier}
-use Rattle.tool_floor.specs.Machines.{floor_machines, floor_starts, floor_fired, taken_along, accessing_starts}
-use Rattle.tool_floor.specs.Wants.{accessing_wants, is_quiet, are_back}
-use Rattle.tool_floor.specs.Substrates.{reaches_verified, without_carrier, registers_found}
+use Rattle.floor_model.specs.declared.tracked.Substrate.{Substrate}
+use Rattle.floor_model.specs.Floor.{ToolFloor, with_shop}
+use Rattle.floor_model.specs.Jobs.{is_any_of_carrier}
+use Rattle.floor_model.specs.Machines.{floor_machines, floor_starts, floor_fired, taken_along, accessing_starts}
+use Rattle.floor_model.specs.Wants.{accessing_wants, is_quiet, are_back}
+use Rattle.floor_model.specs.Substrates.{reaches_verified, without_carrier, registers_found}
 use Rattle.shop_floor.specs.Owning.{owner_number}
 use Rattle.floor_moves.specs.Valid.{Valid}
 use Rattle.place_laws.specs.Picture.{picture, of_one}

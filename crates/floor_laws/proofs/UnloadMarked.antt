@@ -2,7 +2,7 @@
 use Rattle.std.proofs.Common.{List, [], ◌∷◌}
 use Rattle.process_job.specs.declared.job.Material.{Material}
 use Rattle.shop_floor.specs.Floor.{Floor, with_marked}
-use Rattle.tool_floor.specs.Jobs.{all_marked}
+use Rattle.floor_model.specs.Jobs.{all_marked}
 use Rattle.place_laws.specs.Ports.{Unloading}
 use Rattle.place_laws.proofs.UnloadRows.{marked-unloading}
 

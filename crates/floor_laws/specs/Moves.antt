@@ -3,8 +3,8 @@ use Rattle.std.specs.Prelude.{◌≡◌, ◌⊎◌, ℕ, List, Some, None}
 use Rattle.gem_ids.specs.declared.numbers.LocId.{LocId}
 use Rattle.tool_events.specs.declared.answer.Command.{Command}
 use Rattle.tool_events.specs.declared.answer.Task.TheVariants as task
-use Rattle.tool_floor.specs.Floor.{ToolFloor}
-use Rattle.tool_floor.specs.Modules.{number_named}
+use Rattle.floor_model.specs.Floor.{ToolFloor}
+use Rattle.floor_model.specs.Modules.{number_named}
 use Rattle.floor_moves.specs.Floor.{arm}
 use Rattle.place_laws.specs.Picture.{loc_of, place_in}
 

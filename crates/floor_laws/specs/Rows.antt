@@ -3,8 +3,8 @@
 use Rattle.std.specs.Prelude.{ℕ, ◌==◌, Bool, not, ◌&&◌, ◌||◌, if◌then◌else◌, List, [], ◌∷◌}
 use Rattle.gem_tables.specs.Table.{is_one_of}
 use Rattle.gem_tables.specs.declared.firing.Firing.{Firing}
-use Rattle.tool_floor.specs.Floor.{ToolFloor}
-use Rattle.tool_floor.specs.Machines.{floor_starts, floor_fired}
+use Rattle.floor_model.specs.Floor.{ToolFloor}
+use Rattle.floor_model.specs.Machines.{floor_starts, floor_fired}
 
 -- a row of table 10, 13 or 16 does: none but CancelCarrier; those of a registration, of a Process that is open, and of a process job that
 -- ends; and those that issue commands, and `up`

@@ -14,7 +14,7 @@ use Rattle.gem_model.specs.Due.{all_done, dues_with, expired, timeouts, is_due}
 use Rattle.gem_model.specs.Settle.{settled}
 use Rattle.tool_events.specs.declared.answer.Command.{Command}
 use Rattle.robot_moves.specs.Modules.{unfetched}
-use Rattle.tool_floor.specs.Floor.{module_numbers}
+use Rattle.floor_model.specs.Floor.{module_numbers}
 use Rattle.gem_model.specs.Step.{Outcome, acts, after, answered, command_out, operated, quits, settles, step, step_from, switched, ticked}
 use Rattle.gem_model.specs.Feed.{Given, nothing, entered, taken_all, fetched_one, fetched_by, input}
 use Rattle.gem_model.specs.Signals.{signalled, module_of}

@@ -9,7 +9,7 @@ use Rattle.event_reports.specs.declared.alarms.AlarmLine.{AlarmLine}
 use Rattle.data_variables.specs.declared.val.Val.{Val}
 use Rattle.load_port.specs.Caack.{is_done_code}
 use Rattle.carrier.specs.declared.action.CarrierAction.{CarrierAction}
-use Rattle.tool_floor.specs.Jobs.{carrier_code}
+use Rattle.floor_model.specs.Jobs.{carrier_code}
 use Rattle.shop_floor.specs.Requests.{carrier_written}
 use Rattle.note_line.specs.Line.{with_kinds, answered as answered_line}
 use Rattle.note_line.specs.declared.around.SpooledKinds.{SpooledKinds}
@@ -18,8 +18,8 @@ use Rattle.transactions.specs.declared.transaction.Open.{Open}
 use Rattle.transactions.specs.declared.transaction.What.{What}
 use Rattle.transactions.specs.declared.transaction.What.TheVariants as what
 use Rattle.transactions.specs.Table.{Table}
-use Rattle.tool_floor.specs.Machines.{is_creation}
-use Rattle.tool_floor.specs.Floor.{with_shop, fetched}
+use Rattle.floor_model.specs.Machines.{is_creation}
+use Rattle.floor_model.specs.Floor.{with_shop, fetched}
 use Rattle.process_job.specs.Creating.{create_fault}
 use Rattle.process_job.specs.declared.job.JobSpec.{JobSpec}
 use Rattle.control_job.specs.Jobs.{JobStore}

@@ -16,10 +16,10 @@ use Rattle.control_job.specs.Jobs.{JobStore}
 use Rattle.shop_floor.specs.Requests.{came, carrier_written}
 use Rattle.shop_floor.specs.Floor.{arrival_of}
 use Rattle.tool_jobs.specs.Creating.{with_process}
-use Rattle.tool_floor.specs.Floor.{ToolFloor, with_shop, with_jobs, fetched}
-use Rattle.tool_floor.specs.Jobs.{carrier_code}
-use Rattle.tool_floor.specs.Machines.{floor_starts, floor_fired, is_creation}
-use Rattle.tool_floor.proofs.Keeping.{creation_same, least_starts}
+use Rattle.floor_model.specs.Floor.{ToolFloor, with_shop, with_jobs, fetched}
+use Rattle.floor_model.specs.Jobs.{carrier_code}
+use Rattle.floor_model.specs.Machines.{floor_starts, floor_fired, is_creation}
+use Rattle.floor_model.proofs.Keeping.{creation_same, least_starts}
 use Rattle.tool_events.specs.declared.entry.Entry.{Entry}
 use Rattle.gem_model.specs.State.{State, around}
 use Rattle.gem_model.specs.Fire.{fire}

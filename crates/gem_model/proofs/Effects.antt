@@ -14,7 +14,7 @@ use Rattle.gem_states.specs.Control as control
 use Rattle.transactions.specs.declared.transaction.What.TheVariants as what
 use Rattle.gem_tables.specs.Machine.{first_ready, least_in}
 use Rattle.note_line.specs.Table3 as table3
-use Rattle.tool_floor.specs.Machines.{floor_machines}
+use Rattle.floor_model.specs.Machines.{floor_machines}
 use Rattle.gem_model.specs.State.{State, none_asked, can_ask, is_selected, around}
 use Rattle.gem_model.specs.Sending.{asks, identity_text}
 use Rattle.gem_model.proofs.OnFloor.{one_object, least_there}

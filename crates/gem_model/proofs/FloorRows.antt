@@ -4,7 +4,7 @@ use Rattle.gem_tables.specs.Table.{firing, is_one_of}
 use Rattle.gem_tables.specs.declared.firing.Firing.{Firing}
 use Rattle.gem_rows.specs.Events.{ceid_of}
 use Rattle.shop_floor.specs.Floor.{Floor}
-use Rattle.tool_floor.specs.Floor.{ToolFloor}
+use Rattle.floor_model.specs.Floor.{ToolFloor}
 use Rattle.shop_floor.specs.Requests.{at_port, at_ports, creation_of, unbinding, proceeding, cancelling, port_number_of, word_rows, carrier_rows, port_rows, mode_row, or_all, removal}
 use Rattle.carrier.specs.declared.carrier.Carrier.{Carrier}
 use Rattle.carrier.specs.declared.action.CarrierAction.{CarrierAction}
@@ -42,15 +42,15 @@ use Rattle.gem_model.specs.Machines.{creations, fire_floor, object_name, row_sta
 use Rattle.gem_model.specs.Noting.{line_behind}
 use Rattle.gem_model.specs.Fire.{fire, fire_all, advanced}
 use Rattle.gem_model.specs.Direct.{Are}
-use Rattle.tool_floor.specs.Floor.{substrate_numbered}
-use Rattle.tool_floor.specs.Modules.{number_named}
+use Rattle.floor_model.specs.Floor.{substrate_numbered}
+use Rattle.floor_model.specs.Modules.{number_named}
 use Rattle.robot_moves.specs.Modules.{module_at}
 use Rattle.tool_events.specs.declared.answer.Task.{Task}
 use Rattle.tool_events.specs.declared.answer.Task.TheVariants as task
-use Rattle.tool_floor.specs.Signals.{at_module, at_processed, processed_rows, done_processing, at_done, done_processed, done_at, done_rows, done_row, closing_at, closing_rows, can_be_lost, lost_at, lost_rows}
-use Rattle.tool_floor.specs.Machines.{floor_starts, creation_rows, is_creation, floor_least, object_name as floor_object}
-use Rattle.tool_floor.proofs.Keeping as keeping
-use Rattle.tool_floor.proofs.Keeping.{AreCreations, creation_not, creation_last, not_table_1, not_table_2, not_table_3}
+use Rattle.floor_model.specs.Signals.{at_module, at_processed, processed_rows, done_processing, at_done, done_processed, done_at, done_rows, done_row, closing_at, closing_rows, can_be_lost, lost_at, lost_rows}
+use Rattle.floor_model.specs.Machines.{floor_starts, creation_rows, is_creation, floor_least, object_name as floor_object}
+use Rattle.floor_model.proofs.Keeping as keeping
+use Rattle.floor_model.proofs.Keeping.{AreCreations, creation_not, creation_last, not_table_1, not_table_2, not_table_3}
 use Rattle.robot_moves.specs.declared.module.Module.{Module}
 use Rattle.robot_moves.specs.declared.module.Module.TheVariants.{Idle, Busy, Down}
 use Rattle.gem_model.proofs.OnFloor.{starts_as, effect_as, creations_as, object_as}

@@ -7,9 +7,9 @@ use Rattle.shop_floor.specs.Valid.{IsFloor}
 use Rattle.shop_floor.proofs.Asked.{written-keeps}
 use Rattle.shop_floor.proofs.Keeps.{opening-valid, came-keeps}
 use Rattle.shop_floor.proofs.Room.{few-carriers}
-use Rattle.tool_floor.specs.Floor.{ToolFloor}
-use Rattle.tool_floor.proofs.Asked.{done_by_jobs}
-use Rattle.tool_floor.proofs.Keeping.{row-keeps}
+use Rattle.floor_model.specs.Floor.{ToolFloor}
+use Rattle.floor_model.proofs.Asked.{done_by_jobs}
+use Rattle.floor_model.proofs.Keeping.{row-keeps}
 use Rattle.tool_events.specs.declared.config.Config.{Config}
 use Rattle.tool_events.specs.declared.entry.Entry.{Entry}
 use Rattle.tool_events.specs.declared.event.Event.{Event}

@@ -26,7 +26,7 @@ use Rattle.gem_model.proofs.Effects.{asks_host, gives_up, least_is}
 use Rattle.gem_model.specs.Step.{Outcome, step, step_from}
 use Rattle.gem_model.proofs.OnFloor.{effect_as, starts_as}
 use Rattle.gem_model.proofs.Tests.{went, either_way, or_went, none_some}
-use Rattle.tool_floor.specs.Machines.{floor_starts, is_creation}
+use Rattle.floor_model.specs.Machines.{floor_starts, is_creation}
 use Rattle.gem_model.proofs.FloorRows.{LeftAlone, alone_fire, ready_is, creation_is}
 use Rattle.gem_model.proofs.Each.{Each, each_kept}
 use Rattle.gem_model.proofs.Walk.{Any, kept_step_from}

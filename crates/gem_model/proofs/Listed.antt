@@ -53,8 +53,8 @@ use Rattle.load_port.specs.Caack.{is_done_code}
 use Rattle.msgs_300.specs.declared.reply.ShopReply.{ShopReply}
 use Rattle.shop_floor.specs.Requests.{at_port, at_ports, mode_row, or_all, port_rows}
 use Rattle.shop_floor.specs.Floor.{Floor}
-use Rattle.tool_floor.specs.Machines.{is_creation}
-use Rattle.tool_floor.specs.Signals.{at_module}
+use Rattle.floor_model.specs.Machines.{is_creation}
+use Rattle.floor_model.specs.Signals.{at_module}
 
 pub are_both : (Is : Firing → Type 0) (fs gs : List Firing) → Are Is fs → Are Is gs → Are Is (fs ++ gs)
 are_both Is [] gs first next = next

@@ -55,7 +55,7 @@ use Rattle.gem_model.proofs.OnFloor.{effect_as}
 use Rattle.gem_model.proofs.Tests.{went, either_way, or_went, none_some}
 use Rattle.gem_model.proofs.LineRows.{line_went, opened_by, oldest_opened, head_opened}
 use Rattle.gem_model.specs.Noting.{line_behind}
-use Rattle.tool_floor.specs.Machines.{is_creation}
+use Rattle.floor_model.specs.Machines.{is_creation}
 use Rattle.gem_model.proofs.FloorRows.{advanced_keeps, LeftAlone, alone_effect, alone_fire, ready_is, creation_is}
 use Rattle.gem_model.proofs.Lined.{line_comm, line_control}
 use Rattle.gem_model.proofs.Room.{Few, same_open, same_alarm, same_kinds, no_talk, cannot_note, few-room, few_kept}

@@ -7,8 +7,8 @@ use Rattle.gem_tables.specs.declared.firing.Firing.{Firing}
 use Rattle.gem_states.specs.Communication.{comm_starts}
 use Rattle.gem_states.specs.Control.{control_starts}
 use Rattle.note_line.specs.Table3.{line_starts}
-use Rattle.tool_floor.specs.Floor.{ToolFloor}
-use Rattle.tool_floor.specs.Machines.{floor_machines, floor_starts, creation_rows, object_name as floor_object}
+use Rattle.floor_model.specs.Floor.{ToolFloor}
+use Rattle.floor_model.specs.Machines.{floor_machines, floor_starts, creation_rows, object_name as floor_object}
 use Rattle.gem_model.specs.State.{State, around}
 use Rattle.gem_model.specs.Effects.{fire_comm, fire_control, fire_line}
 use Rattle.gem_model.specs.Machines.{on_floor, row_starts, takes_effect, creations, object_name, fire_floor}

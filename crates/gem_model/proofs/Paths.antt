@@ -4,8 +4,8 @@ use Rattle.std.specs.Option.{option_or}
 use Rattle.std.proofs.lemmas.Bool.{true≢false}
 use Rattle.gem_tables.specs.Table.{firing}
 use Rattle.gem_tables.specs.declared.firing.Firing.{Firing}
-use Rattle.tool_floor.specs.Machines.{floor_least, is_creation}
-use Rattle.tool_floor.proofs.Keeping.{AreCreations}
+use Rattle.floor_model.specs.Machines.{floor_least, is_creation}
+use Rattle.floor_model.proofs.Keeping.{AreCreations}
 use Rattle.gem_model.specs.State.{State}
 use Rattle.gem_model.specs.Fire.{fire, fire_all}
 use Rattle.gem_model.specs.Machines.{least, creations}

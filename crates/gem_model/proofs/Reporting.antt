@@ -36,8 +36,8 @@ use Rattle.gem_model.specs.Shop.{carrier_action, carrier_caack}
 use Rattle.gem_model.specs.Signals.{lacks_port, port_row_starts, port_alarm, with_arrival, placed, removed, lacks_module, module_of, module_alarm, answer_alarm, module_done, module_failed, module_down, signalled, is_ready_to_unload}
 use Rattle.tool_events.specs.declared.answer.Command.{Command}
 use Rattle.robot_moves.specs.Modules.{is_open, unfetched, is_up as is_up_module}
-use Rattle.tool_floor.specs.Floor.{with_shop}
-use Rattle.tool_floor.specs.Signals.{done_rows, closing_rows}
+use Rattle.floor_model.specs.Floor.{with_shop}
+use Rattle.floor_model.specs.Signals.{done_rows, closing_rows}
 use Rattle.spool.specs.declared.note.Kind.{Kind}
 use Rattle.spool.specs.declared.note.Kind.TheVariants.{Event, Alarm}
 use Rattle.spool.specs.declared.note.Note.{Note}

@@ -5,8 +5,8 @@ use Rattle.gem_tables.specs.declared.firing.Firing.{Firing}
 use Rattle.tool_events.specs.declared.config.Config.{Config}
 use Rattle.tool_events.specs.declared.event.Event.{Event}
 use Rattle.tool_events.specs.declared.answer.Answer.TheVariants as answer
-use Rattle.tool_floor.specs.Machines.{floor_least}
-use Rattle.tool_floor.proofs.Keeping.{opening_quiet}
+use Rattle.floor_model.specs.Machines.{floor_least}
+use Rattle.floor_model.proofs.Keeping.{opening_quiet}
 use Rattle.gem_model.specs.State.{State, opening, raised}
 use Rattle.gem_model.specs.Machines.{least, creations}
 use Rattle.gem_model.specs.Ready.{ready_line, ready_floor}

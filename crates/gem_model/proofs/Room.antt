@@ -37,7 +37,7 @@ use Rattle.transactions.specs.declared.transaction.What.TheVariants as what
 use Rattle.transactions.specs.Table.{Table, is_full, taken_out}
 use Rattle.transactions.specs.SystemBytes.{drawn, with_started}
 use Rattle.transactions.specs.Endings.{same_kind, first_of}
-use Rattle.tool_floor.specs.Machines.{is_creation}
+use Rattle.floor_model.specs.Machines.{is_creation}
 use Rattle.gem_model.specs.State.{State, t3, is_selected, is_communicating, is_online, around, can_ask, without_session, with_frame}
 use Rattle.gem_model.specs.Sending.{asks, identity_text, data_frame}
 use Rattle.gem_model.specs.Fire.{fire, advanced, fires, fire_listed, of_control}

@@ -10,7 +10,7 @@ use Rattle.transactions.specs.declared.transaction.Open.{Open}
 use Rattle.gem_tables.specs.Table.{row_of}
 use Rattle.gem_states.specs.Communication.{communication_table}
 use Rattle.gem_states.specs.Control.{control_table}
-use Rattle.tool_floor.specs.Machines.{is_creation}
+use Rattle.floor_model.specs.Machines.{is_creation}
 use Rattle.gem_model.proofs.Effects.{comm_effect_case, control_effect_case}
 use Rattle.gem_model.proofs.FloorRows.{advanced_keeps}
 use Rattle.gem_tables.specs.declared.firing.Firing.{Firing}

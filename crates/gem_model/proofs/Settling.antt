@@ -23,10 +23,10 @@ use Rattle.gem_model.specs.State.{State, is_online, around}
 use Rattle.gem_model.specs.Values.{Occasion, value_of}
 use Rattle.gem_model.specs.Machines.{object_name, fire_floor, takes_effect, creations, least}
 use Rattle.gem_model.specs.Noting.{line_with_event, line_behind, is_event_reported, event_text}
-use Rattle.tool_floor.specs.Machines.{floor_least, floor_fired, creation_rows, is_creation}
-use Rattle.tool_floor.specs.Left.{floor_left}
-use Rattle.tool_floor.proofs.Falls.{least_falls as floor_falls}
-use Rattle.tool_floor.proofs.Keeping.{AreCreations, creation_same}
+use Rattle.floor_model.specs.Machines.{floor_least, floor_fired, creation_rows, is_creation}
+use Rattle.floor_model.specs.Left.{floor_left}
+use Rattle.floor_model.proofs.Falls.{least_falls as floor_falls}
+use Rattle.floor_model.proofs.Keeping.{AreCreations, creation_same}
 use Rattle.gem_model.specs.Fire.{fire, fire_all, advanced}
 use Rattle.gem_model.specs.Effects.{asks_first, line_effect}
 use Rattle.gem_model.specs.Ready.{ready_line, ready_floor}

@@ -36,7 +36,7 @@ use Rattle.gem_model.proofs.Links.{link_after-keeps, due-down}
 use Rattle.gem_model.proofs.Tests.{went, none_some}
 use Rattle.tool_events.specs.declared.answer.Command.{Command}
 use Rattle.robot_moves.specs.Modules.{unfetched}
-use Rattle.tool_floor.specs.Floor.{fetched}
+use Rattle.floor_model.specs.Floor.{fetched}
 use Rattle.gem_model.specs.Signals.{signalled, module_of, is_ready_to_unload}
 use Rattle.gem_model.proofs.Same.{Same, same_at, same_then, same_listed, same_settled, same_data, same_timeout, same_switched, same_signal}
 

@@ -37,7 +37,7 @@ use Rattle.gem_model.specs.Step.{Outcome, step, step_from, acts, settles}
 use Rattle.gem_model.specs.OpenNotes.{NotBelow, NeverBack, IsOther, open_behind}
 use Rattle.gem_model.specs.Run.{Run}
 use Rattle.gem_model.specs.Valid.{Valid}
-use Rattle.tool_floor.proofs.Keeping.{opening_quiet}
+use Rattle.floor_model.proofs.Keeping.{opening_quiet}
 use Rattle.gem_model.proofs.Tests.{went, none_some}
 use Rattle.gem_model.proofs.Settling.{settles_so}
 use Rattle.gem_model.proofs.Runs.{after-step}

@@ -46,7 +46,7 @@ use Rattle.carrier.specs.Verdict.{is_unknown}
 use Rattle.load_port.specs.declared.action.PortAction.TheVariants as ask
 use Rattle.load_port.specs.Caack.{caack_number}
 use Rattle.msgs_300.specs.declared.reply.ShopReply.TheVariants as reply
-use Rattle.tool_floor.specs.Jobs.{carrier_code}
+use Rattle.floor_model.specs.Jobs.{carrier_code}
 use Rattle.shop_floor.specs.Requests.{carrier_written, carrier_rows, at_port, removal}
 use Rattle.tool_events.specs.declared.event.Event.{Event}
 use Rattle.tool_events.specs.declared.event.Event.TheVariants as event
@@ -71,9 +71,9 @@ use Rattle.gem_model.specs.Shop.{is_local, carrier_caack, carrier_action, port_w
 use Rattle.gem_model.specs.Signals.{lacks_port, port_row_starts, port_alarm, with_arrival, placed, removed, lacks_module, module_of, module_alarm, answer_alarm, module_done, module_failed, module_down, signalled, is_ready_to_unload}
 use Rattle.tool_events.specs.declared.answer.Command.{Command}
 use Rattle.robot_moves.specs.Modules.{is_open, unfetched, is_up as is_up_module}
-use Rattle.tool_floor.specs.Floor.{with_shop, fetched}
-use Rattle.tool_floor.specs.Machines.{is_creation}
-use Rattle.tool_floor.specs.Signals.{done_rows, closing_rows, lost_rows}
+use Rattle.floor_model.specs.Floor.{with_shop, fetched}
+use Rattle.floor_model.specs.Machines.{is_creation}
+use Rattle.floor_model.specs.Signals.{done_rows, closing_rows, lost_rows}
 use Rattle.gem_model.specs.Direct.{operator_rows, timeout_rows}
 use Rattle.gem_model.specs.Verdict.{Verdict, Discarded, Stream9, Aborted, Answers, Taken, verdict, header_of, item_of, wants_reply, stream_of, function_of}
 use Rattle.gem_model.specs.Act.{replied, taken, taken_as, closed_by, data_act, session_ended}

@@ -16,7 +16,7 @@ use Rattle.transactions.specs.declared.transaction.What.{What}
 use Rattle.transactions.specs.declared.transaction.What.TheVariants as what
 use Rattle.transactions.specs.Endings.{first_of}
 use Rattle.shop_floor.specs.Requests.{at_port}
-use Rattle.tool_floor.specs.Signals.{at_module, lost_rows}
+use Rattle.floor_model.specs.Signals.{at_module, lost_rows}
 use Rattle.control_job.specs.Commands.{command_answer}
 use Rattle.job_requests.specs.Requests.{command_rows, control_command_rows}
 use Rattle.gem_model.specs.State.{State}

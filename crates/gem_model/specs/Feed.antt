@@ -1,5 +1,5 @@
 -- The history that a text of lines makes (this tool's profile, what an input line does).
-use Rattle.std.specs.Prelude.{ℕ, ◌+◌, Bool, ◌&&◌, is_some, if◌then◌else◌, List, [], ◌∷◌, ◌++◌, length, drop, map, Result, Ok, Err, true, false}
+use Rattle.std.specs.Prelude.{ℕ, ◌+◌, Bool, ◌&&◌, is_some, if◌then◌else◌, List, [], ◌∷◌, ◌++◌, length, drop, map, Result, Ok, Err}
 use Rattle.hsms_frame.specs.declared.frame.Arrival.{Arrival}
 use Rattle.hsms_frame.specs.Cut.{arrivals_of, behind_of, is_short}
 use Rattle.tool_events.specs.declared.event.Event.{Event}
@@ -9,17 +9,13 @@ use Rattle.tool_events.specs.declared.event.SessionCause.TheVariants.{PeerEnd, S
 use Rattle.tool_events.specs.declared.config.Config.{Config}
 use Rattle.gem_model.specs.State.{State, opening, is_up, is_session_up}
 use Rattle.gem_model.specs.Step.{step, after}
-use Rattle.tool_floor.specs.Floor.{module_numbers}
+use Rattle.floor_model.specs.Floor.{module_numbers}
 use Rattle.gem_model.specs.Run.{after_all}
-use Rattle.gem_model.specs.Lines.{lines_of}
+use Rattle.tool_events.specs.Sizes.{text_bytes}
+use Rattle.line_grammar.specs.Texts.{lines_of, is_quit}
 use Rattle.line_grammar.specs.declared.line.Line.{Line}
 use Rattle.line_grammar.specs.declared.line.Line.TheVariants as line
 use Rattle.line_grammar.specs.Reading.{feed_line_of}
-use Rattle.tool_events.specs.declared.event.OperCmd.TheVariants as oper
-
--- the longest text of a message, in bytes (this tool's profile, limits)
-abbrev pub text_bytes : ℕ
-text_bytes = 262144
 
 -- an entry of the one seat, 0
 abbrev pub entry_of : ℕ → Event → Entry
@@ -138,11 +134,6 @@ pub record Told : Type 0 where
 -- these entries first, and then what is told
 abbrev pub told_behind : List Entry → Told → Told
 told_behind entries told = record told { entries = entries ++ told.entries }
-
--- the line ends the run: `O quit`
-abbrev pub is_quit : Line → Bool
-is_quit (line.Oper oper.Quit) = true
-is_quit _ = false
 
 -- What a line tells, by what it says, and what follows it tells in the reading after it. A text stops before a line
 -- outside the grammar, and behind `O quit` (this tool's profile, input lines).

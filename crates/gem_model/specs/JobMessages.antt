@@ -12,7 +12,7 @@ use Rattle.process_job.specs.declared.job.ProcessJob.{ProcessJob}
 use Rattle.control_job.specs.Commands.{command_answer}
 use Rattle.tool_jobs.specs.Jobs.{Jobs}
 use Rattle.tool_jobs.specs.Creating.{with_process, with_control}
-use Rattle.tool_floor.specs.Floor.{with_jobs}
+use Rattle.floor_model.specs.Floor.{with_jobs}
 use Rattle.msgs_300.specs.declared.material.CarrierSlots.{CarrierSlots}
 use Rattle.msgs_300.specs.declared.reply.ErrorPart.{ErrorPart}
 use Rattle.msgs_300.specs.declared.reply.JobAcknowledge.{JobAcknowledge}

@@ -1,4 +1,3 @@
-pub mod Front
 pub mod State
 pub mod Sending
 pub mod Values
@@ -28,7 +27,6 @@ pub mod OpenNotes
 pub mod Reported
 pub mod Sessions
 pub mod Sizes
-pub mod Lines
 pub mod Feed
 pub mod SessionBytes
 pub mod Printed

@@ -8,8 +8,8 @@ use Rattle.gem_states.specs.Communication.{communication_table, comm_number, com
 use Rattle.gem_states.specs.Control.{control_table, control_number, control_starts}
 use Rattle.note_line.specs.Table3.{line_starts}
 use Rattle.note_line.specs.Table3 as line
-use Rattle.tool_floor.specs.Floor.{ToolFloor}
-use Rattle.tool_floor.specs.Machines.{floor_machines, floor_fired}
+use Rattle.floor_model.specs.Floor.{ToolFloor}
+use Rattle.floor_model.specs.Machines.{floor_machines, floor_fired}
 use Rattle.gem_model.specs.State.{State, around}
 use Rattle.gem_model.specs.Effects.{fire_comm, fire_control, fire_line}
 use Rattle.gem_model.specs.Wants.{comm_finds, control_finds}

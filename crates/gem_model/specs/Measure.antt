@@ -3,7 +3,7 @@ use Rattle.std.specs.Prelude.{ℕ, ◌+◌, ◌*◌, Bool, true, false, if◌the
 use Rattle.gem_states.specs.declared.communication.Comm.{Comm}
 use Rattle.gem_states.specs.declared.communication.Comm.TheVariants as comm
 use Rattle.note_line.specs.Left.{left as left_line}
-use Rattle.tool_floor.specs.Left.{floor_left}
+use Rattle.floor_model.specs.Left.{floor_left}
 use Rattle.gem_model.specs.State.{State}
 use Rattle.gem_model.specs.Wants.{is_attempt}
 

@@ -34,7 +34,7 @@ use Rattle.load_port.specs.declared.action.PortAction.{PortAction}
 use Rattle.load_port.specs.declared.action.PortAction.TheVariants as port
 use Rattle.carrier.specs.declared.action.CarrierAction.{CarrierAction}
 use Rattle.shop_floor.specs.Requests.{carrier_written, carrier_rows, port_rows}
-use Rattle.tool_floor.specs.Floor.{with_shop}
+use Rattle.floor_model.specs.Floor.{with_shop}
 use Rattle.spool.specs.Spool.{rsda}
 use Rattle.gem_model.specs.State.{State, clock_now}
 use Rattle.gem_model.specs.Values.{no_firing, status_value, constant_value, value_of, svids}

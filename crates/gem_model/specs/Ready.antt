@@ -3,7 +3,7 @@ use Rattle.std.specs.Prelude.{Option, option_map}
 use Rattle.gem_tables.specs.Table.{firing}
 use Rattle.gem_tables.specs.declared.firing.Firing.{Firing}
 use Rattle.note_line.specs.Table3 as line
-use Rattle.tool_floor.specs.Machines.{floor_least}
+use Rattle.floor_model.specs.Machines.{floor_least}
 use Rattle.gem_model.specs.State.{State, around}
 
 -- table 3: the rows of the line of notes, by what lies around it

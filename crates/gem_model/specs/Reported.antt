@@ -18,7 +18,7 @@ use Rattle.shop_floor.specs.Requests.{at_port, removal}
 use Rattle.tool_events.specs.declared.event.Signal.{Signal}
 use Rattle.tool_events.specs.declared.event.Signal.TheVariants as equipment
 use Rattle.robot_moves.specs.Modules.{is_open, is_up as is_up_module}
-use Rattle.tool_floor.specs.Signals.{done_rows, closing_rows}
+use Rattle.floor_model.specs.Signals.{done_rows, closing_rows}
 use Rattle.gem_model.specs.Signals.{lacks_port, port_row_starts, port_alarm, with_arrival, lacks_module, module_of, module_alarm, answer_alarm}
 use Rattle.spool.specs.declared.note.Kind.{Kind}
 use Rattle.spool.specs.declared.note.Kind.TheVariants.{Event, Alarm}

@@ -5,8 +5,8 @@ use Rattle.line_grammar.specs.declared.line.Line.TheVariants as line
 use Rattle.line_grammar.specs.Reading.{feed_line_of}
 use Rattle.tool_events.specs.declared.config.Config.{Config}
 use Rattle.gem_model.specs.State.{is_session_up}
-use Rattle.gem_model.specs.Lines.{lines_of}
-use Rattle.gem_model.specs.Feed.{Reading, first_reading, reading_after, is_quit}
+use Rattle.line_grammar.specs.Texts.{lines_of, is_quit}
+use Rattle.gem_model.specs.Feed.{Reading, first_reading, reading_after}
 
 -- the bytes that a line gives to this session: those of the host, where it is the session that is up (this tool's
 -- profile, sessions)

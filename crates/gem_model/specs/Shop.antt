@@ -15,7 +15,7 @@ use Rattle.carrier.specs.declared.action.CarrierWord.{CarrierWord}
 use Rattle.carrier.specs.declared.action.CarrierWord.TheVariants as word
 use Rattle.carrier.specs.Verdict.{is_unknown}
 use Rattle.shop_floor.specs.Requests.{port_code}
-use Rattle.tool_floor.specs.Jobs.{carrier_code}
+use Rattle.floor_model.specs.Jobs.{carrier_code}
 use Rattle.gem_model.specs.State.{State}
 
 -- ---- the actions

@@ -6,8 +6,8 @@ use Rattle.shop_floor.specs.Floor.{arrival_of, is_unloadable_port}
 use Rattle.shop_floor.specs.Requests.{came, at_port, removal}
 use Rattle.robot_moves.specs.declared.module.Module.{Module}
 use Rattle.robot_moves.specs.Modules.{module_at, is_open, is_up}
-use Rattle.tool_floor.specs.Floor.{with_shop}
-use Rattle.tool_floor.specs.Signals.{is_no_module, done_rows, closing_rows}
+use Rattle.floor_model.specs.Floor.{with_shop}
+use Rattle.floor_model.specs.Signals.{is_no_module, done_rows, closing_rows}
 use Rattle.tool_events.specs.declared.event.Signal.{Signal}
 use Rattle.tool_events.specs.declared.event.Signal.TheVariants as signal
 use Rattle.gem_model.specs.State.{State}

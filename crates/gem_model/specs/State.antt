@@ -25,7 +25,7 @@ use Rattle.tool_events.specs.declared.config.ControlStart.{ControlStart}
 use Rattle.tool_events.specs.declared.config.ControlStart.TheVariants as begin
 use Rattle.tool_events.specs.declared.config.SpoolStreams.{SpoolStreams}
 use Rattle.transactions.specs.Table.{Table, none_open}
-use Rattle.tool_floor.specs.Floor as floors
+use Rattle.floor_model.specs.Floor as floors
 
 -- the clock that the host sees: what it showed, and the moment at which it did (this tool's profile, time)
 pub record Clock : Type 0 where

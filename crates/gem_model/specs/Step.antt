@@ -30,7 +30,7 @@ use Rattle.gem_model.specs.Noting.{clears_alarm}
 use Rattle.gem_model.specs.Direct.{operator_rows}
 use Rattle.tool_events.specs.declared.answer.Command.{Command}
 use Rattle.robot_moves.specs.Modules.{is_down, unfetched}
-use Rattle.tool_floor.specs.Floor.{fetched}
+use Rattle.floor_model.specs.Floor.{fetched}
 use Rattle.gem_model.specs.Signals.{lacks_port, module_of, module_alarm, signalled, is_ready_to_unload}
 use Rattle.gem_model.specs.Verdict.{header_of}
 use Rattle.gem_model.specs.Act.{data_done, session_ended}

@@ -10,14 +10,14 @@ use Rattle.carrier.specs.Carriers.{is_known, carrier_named}
 use Rattle.shop_floor.specs.Floor.{Floor}
 use Rattle.shop_floor.specs.Rows.{owner}
 use Rattle.shop_floor.specs.Requests.{creation_of, proceeding}
-use Rattle.tool_floor.specs.Floor.{ToolFloor}
-use Rattle.tool_floor.specs.Machines.{floor_fired}
+use Rattle.floor_model.specs.Floor.{ToolFloor}
+use Rattle.floor_model.specs.Machines.{floor_fired}
 use Rattle.place_laws.proofs.Stays.{NonePresent}
 use Rattle.floor_laws.specs.Rows.{is_common}
 use Rattle.carrier.specs.Verdict.{is_carrier_name, cancel_code, carrier_caack}
 use Rattle.load_port.specs.Caack.{is_done_code}
 use Rattle.load_port.specs.declared.action.PortView.{PortView}
-use Rattle.tool_floor.specs.Jobs.{carrier_code, is_any_of_carrier}
+use Rattle.floor_model.specs.Jobs.{carrier_code, is_any_of_carrier}
 use Rattle.load_port.specs.declared.caack.Caack.{Caack}
 use Rattle.load_port.specs.declared.caack.Caack.TheVariants as caack
 use Rattle.carrier.specs.declared.action.CarrierAction.{CarrierAction}

@@ -20,13 +20,13 @@ use Rattle.shop_floor.specs.Rows.{owner}
 use Rattle.shop_floor.specs.Requests.{came, at_port, removal, carrier_code as code_alone, carrier_written, word_written, creation_of, unbinding, proceeding, cancelling, port_number_of, word_rows}
 use Rattle.shop_floor.proofs.Belonging.{owner_changed}
 use Rattle.robot_moves.specs.Modules.{is_open, is_up}
-use Rattle.tool_floor.specs.Floor.{ToolFloor, with_shop, with_jobs, fetched, substrate_numbered}
-use Rattle.tool_floor.specs.Jobs.{carrier_code, is_any_of_carrier}
-use Rattle.tool_floor.specs.Modules.{number_named}
-use Rattle.tool_floor.proofs.Asked.{done_by_jobs}
-use Rattle.tool_floor.specs.Machines.{floor_starts, floor_fired, floor_least, creation_rows, is_creation}
-use Rattle.tool_floor.specs.Signals.{done_row, at_processed, processed_rows, done_processing, at_done, done_processed, done_at, done_rows, closing_at, closing_rows, can_be_lost, lost_at, lost_rows}
-use Rattle.tool_floor.proofs.Keeping.{creation_same}
+use Rattle.floor_model.specs.Floor.{ToolFloor, with_shop, with_jobs, fetched, substrate_numbered}
+use Rattle.floor_model.specs.Jobs.{carrier_code, is_any_of_carrier}
+use Rattle.floor_model.specs.Modules.{number_named}
+use Rattle.floor_model.proofs.Asked.{done_by_jobs}
+use Rattle.floor_model.specs.Machines.{floor_starts, floor_fired, floor_least, creation_rows, is_creation}
+use Rattle.floor_model.specs.Signals.{done_row, at_processed, processed_rows, done_processing, at_done, done_processed, done_at, done_rows, closing_at, closing_rows, can_be_lost, lost_at, lost_rows}
+use Rattle.floor_model.proofs.Keeping.{creation_same}
 use Rattle.tool_events.specs.declared.event.Event.{Event}
 use Rattle.tool_events.specs.declared.event.Event.TheVariants as event
 use Rattle.tool_events.specs.declared.event.Signal.TheVariants as signal

@@ -10,9 +10,9 @@ use Rattle.robot_moves.specs.declared.module.Module.{Module}
 use Rattle.robot_moves.specs.declared.module.Module.TheVariants.{Idle, Busy, Down}
 use Rattle.robot_moves.specs.Modules.{module_at, is_open, is_up}
 use Rattle.substrate.specs.Places.{ArePlaces, PlaceMap}
-use Rattle.tool_floor.specs.Floor.{ToolFloor}
-use Rattle.tool_floor.specs.Modules.{number_named}
-use Rattle.tool_floor.specs.Signals.{done_rows, closing_rows, lost_rows}
+use Rattle.floor_model.specs.Floor.{ToolFloor}
+use Rattle.floor_model.specs.Modules.{number_named}
+use Rattle.floor_model.specs.Signals.{done_rows, closing_rows, lost_rows}
 use Rattle.tool_events.specs.declared.answer.Command.{Command}
 use Rattle.tool_events.specs.declared.answer.Task.TheVariants as task
 use Rattle.tool_events.specs.declared.config.Config.{Config}
@@ -44,7 +44,7 @@ use Rattle.floor_laws.proofs.GrowRows.{row_grows}
 use Rattle.floor_laws.proofs.GrowRemoved.{removal_grows}
 use Rattle.floor_laws.proofs.OpenCommands.{Opens, IsShut, opens_same, opens_then, shut_stays, open_given, fetched_opens}
 use Rattle.floor_laws.proofs.OpenRows.{row_opens}
-use Rattle.tool_floor.proofs.Keeping.{least_starts}
+use Rattle.floor_model.proofs.Keeping.{least_starts}
 use Rattle.gem_model.specs.State.{State, opening, raised}
 use Rattle.gem_model.specs.Noting.{sets_alarm}
 use Rattle.gem_model.specs.Fire.{fire_listed}
@@ -54,7 +54,7 @@ use Rattle.gem_model.specs.Step.{Outcome, answered, acts, settles, step_from}
 use Rattle.gem_model.specs.Run.{Run, entry_step, entry_after}
 use Rattle.history_laws.specs.Moved.{place_of, HasOpen, Moves, stays, is_registered, goes_with_carrier, is_lost, by_pick, by_place, EachMoves, if_open, open_number, ended_by, NeverEnds, EndsOnce}
 use Rattle.gem_model.proofs.Tests.{either_way, none_some}
-use Rattle.tool_floor.specs.Machines.{floor_least, floor_fired}
+use Rattle.floor_model.specs.Machines.{floor_least, floor_fired}
 use Rattle.history_laws.proofs.CommonRows.{input_common}
 use Rattle.history_laws.proofs.FloorFacts.{FloorChanges, FloorFact, fact_kept, listed_is, done_quiet, closing_quiet}
 use Rattle.gem_model.proofs.Walk.{kept_step, kept_settled, kept_signalled}

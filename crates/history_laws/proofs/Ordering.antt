@@ -3,7 +3,7 @@ use Rattle.std.proofs.Common.{◌≤◌}
 use Rattle.load_port.specs.Ports.{most_ports}
 use Rattle.control_job.specs.Jobs.{JobStore}
 use Rattle.tool_events.specs.declared.config.Config.{Config}
-use Rattle.tool_floor.specs.Floor.{ToolFloor, with_jobs}
+use Rattle.floor_model.specs.Floor.{ToolFloor, with_jobs}
 use Rattle.floor_laws.proofs.FloorPlaces.{shop_rests}
 use Rattle.lot_laws.specs.Lot.{InOrder}
 use Rattle.lot_laws.proofs.Orderly.{done-in_order, failed-in_order, down-in_order, lost-in_order, removal-in_order, removal_left-in_order, opening-in_order, least-in_order, row-in_order, created-in_order, added-in_order, headed-in_order, fetched-in_order, cancelled-in_order, written-in_order, unbinding-in_order, placing-in_order}

@@ -17,13 +17,13 @@ use Rattle.control_job.proofs.Keeping.{leaves_number, fires_number}
 use Rattle.tool_jobs.specs.Jobs.{Jobs}
 use Rattle.tool_jobs.specs.Rows.{left_by as job_left_by, process_does, found_does as jobs_behind, process_fired}
 use Rattle.tool_jobs.proofs.Rows.{stays_completed}
-use Rattle.tool_floor.specs.declared.tracking.Substrate.{Substrate}
-use Rattle.tool_floor.specs.Floor.{ToolFloor, substrate_numbered}
-use Rattle.tool_floor.specs.Modules.{issued, open_task, aligned_by, move_does, found_move}
-use Rattle.tool_floor.specs.Machines.{taken_along, floor_machines, floor_fired}
-use Rattle.tool_floor.specs.Substrates.{without_carrier, substrate_does, found_does}
-use Rattle.tool_floor.specs.Views.{planned}
-use Rattle.tool_floor.proofs.Registrations.{row_registered}
+use Rattle.floor_model.specs.declared.tracked.Substrate.{Substrate}
+use Rattle.floor_model.specs.Floor.{ToolFloor, substrate_numbered}
+use Rattle.floor_model.specs.Modules.{issued, open_task, aligned_by, move_does, found_move}
+use Rattle.floor_model.specs.Machines.{taken_along, floor_machines, floor_fired}
+use Rattle.floor_model.specs.Substrates.{without_carrier, substrate_does, found_does}
+use Rattle.floor_model.specs.Views.{planned}
+use Rattle.floor_model.proofs.Registrations.{row_registered}
 use Rattle.robot_moves.specs.Tables as want
 use Rattle.robot_moves.specs.Tables.{MoveRow, MoveEffect, move_table}
 use Rattle.robot_moves.specs.Modules.{module_at}

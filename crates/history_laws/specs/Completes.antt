@@ -11,7 +11,7 @@ use Rattle.control_job.specs.Jobs.{job_numbered as control_numbered, is_open}
 use Rattle.control_job.specs.declared.job.ControlJob.{ControlJob}
 use Rattle.place_laws.specs.Picture.{picture}
 use Rattle.owed_laws.specs.Owed.{number_of}
-use Rattle.tool_floor.specs.Machines.{floor_starts, floor_fired}
+use Rattle.floor_model.specs.Machines.{floor_starts, floor_fired}
 use Rattle.queue_laws.specs.Steers.{AreAutomatic}
 use Rattle.lot_laws.specs.Lot.{counted_of, IsMaterialHere, IsCalmBetween}
 use Rattle.gem_model.specs.State.{State, raised}

@@ -14,7 +14,7 @@ use Rattle.tool_events.specs.declared.event.Signal.TheVariants as signal
 use Rattle.robot_moves.specs.declared.module.Module.{Module}
 use Rattle.robot_moves.specs.declared.module.Module.TheVariants.{Idle, Busy, Down}
 use Rattle.robot_moves.specs.Modules.{is_open}
-use Rattle.tool_floor.specs.Modules.{number_named}
+use Rattle.floor_model.specs.Modules.{number_named}
 use Rattle.floor_moves.specs.Floor.{Loc, slot, arm}
 use Rattle.place_laws.specs.Picture.{loc_of, place_in}
 use Rattle.gem_model.specs.State.{State}

@@ -1,7 +1,7 @@
 -- What was read of a configuration, from its text.
 use Rattle.std.proofs.Common.{◌≡◌, ℕ, ◌+◌, ◌<◌, ◌≤◌, List, length, Err, arith}
 use Rattle.outside.specs.Counts.{Rose}
-use Rattle.outside.specs.Told.{Taken}
+use Rattle.outside.specs.Told.{Taken, Whole}
 use Rattle.tool_events.specs.declared.config.Config.{Config}
 use Rattle.configuration.specs.declared.fault.ConfigFault.{ConfigFault}
 use Rattle.configuration.specs.declared.fault.ConfigFault.TheVariants as fault
@@ -10,7 +10,6 @@ use Rattle.line_feeding.specs.declared.ended.Cause.{Cause}
 use Rattle.line_feeding.specs.declared.ended.Cause.TheVariants as cause
 use Rattle.line_feeding.specs.CauseOf.{cause_for, Unsaid, Refuses}
 use Rattle.line_feeding.specs.Fed.{SourceView, IsRead, IsRefused}
-use Rattle.line_feeding.specs.Input.{Whole}
 
 -- the text says no configuration, for the cause that is told
 pub unsaid : (text : List ℕ) (broken : ConfigFault) → Reads text (Err broken) → Unsaid text (cause_for broken)
@@ -45,3 +44,4 @@ refuses config config' text (cause.Words place) taken whole most unsaid = absurd
 refuses config config' text cause.WriteFault taken whole most unsaid = absurd unsaid
 refuses config config' text (cause.Full entries bytes number) taken whole most unsaid = absurd unsaid
 refuses config config' text (cause.Line number place) taken whole most unsaid = absurd unsaid
+refuses config config' text cause.Door taken whole most unsaid = absurd unsaid

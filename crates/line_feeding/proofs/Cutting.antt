@@ -4,7 +4,7 @@ use Rattle.std.proofs.Math.Seq.{drop-append_seam}
 use Rattle.hsms_frame.specs.declared.frame.Arrival.{Arrival}
 use Rattle.hsms_frame.specs.Cut.{Kept, IsCutOf, arrivals_of, behind_of, is_short, short_length}
 use Rattle.hsms_frame.proofs.Callers.{IsCutOf-arrivals, IsCutOf-short}
-use Rattle.gem_model.specs.Feed.{text_bytes}
+use Rattle.tool_events.specs.Sizes.{text_bytes}
 use Rattle.line_feeding.specs.Cuts.{Cuts}
 
 no_length : (b : Bool) (n : ℕ) → (if b then Some n else None) ≡ None → b ≡ false

@@ -4,7 +4,7 @@ use Rattle.std.proofs.lemmas.List.{append-nil}
 use Rattle.outside.specs.Counts.{Failed}
 use Rattle.outside.specs.Told.{Written, WrittenFront}
 use Rattle.tool_events.specs.declared.entry.Entry.{Entry}
-use Rattle.gem_model.specs.Front.{IsFront}
+use Rattle.line_grammar.specs.Texts.{IsFront}
 use Rattle.gem_model.specs.State.{opening}
 use Rattle.gem_model.specs.Step.{Outcome}
 use Rattle.gem_model.specs.Run.{Run, entry_step, entry_after}

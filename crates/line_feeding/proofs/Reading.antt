@@ -1,8 +1,7 @@
 -- What is read, one piece after another.
 use Rattle.std.proofs.Common.{◌≡◌, ℕ, List, [], ◌++◌, Option, Some, None, refl, sym, ◌∙◌, ap, append_assoc, length, length-append, arith}
 use Rattle.std.proofs.lemmas.List.{append-nil, nil_from_length}
-use Rattle.outside.specs.Told.{Taken, NothingLeft}
-use Rattle.line_feeding.specs.Input.{Whole}
+use Rattle.outside.specs.Told.{Taken, NothingLeft, Whole}
 
 pub Taken-nothing : (left : Option (List ℕ)) → Taken left left []
 Taken-nothing None = tt

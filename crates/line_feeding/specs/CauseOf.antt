@@ -39,6 +39,7 @@ Unsaid text (cause.Words place) = ⊥
 Unsaid text cause.WriteFault = ⊥
 Unsaid text (cause.Full entries bytes input) = ⊥
 Unsaid text (cause.Line number place) = ⊥
+Unsaid text cause.Door = ⊥
 
 -- why no configuration was taken
 abbrev pub Refuses : Cause → SourceView → SourceView → Type 0
@@ -50,3 +51,4 @@ Refuses (cause.Words place) config config' = ⊥
 Refuses cause.WriteFault config config' = ⊥
 Refuses (cause.Full entries bytes input) config config' = ⊥
 Refuses (cause.Line number place) config config' = ⊥
+Refuses cause.Door config config' = ⊥

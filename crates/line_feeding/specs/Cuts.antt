@@ -2,7 +2,7 @@
 use Rattle.std.specs.Prelude.{◌≡◌, ℕ, Bool, List, ◌++◌, length, drop}
 use Rattle.hsms_frame.specs.declared.frame.Arrival.{Arrival}
 use Rattle.hsms_frame.specs.Cut.{Kept, IsCutOf, arrivals_of, behind_of, is_short}
-use Rattle.gem_model.specs.Feed.{text_bytes}
+use Rattle.tool_events.specs.Sizes.{text_bytes}
 
 -- what bytes of the session that is up make whole: the arrivals, whether a length below 10 follows them, and the cut
 pub record Cuts (bytes : List ℕ) (old new : Kept) (arrivals : List Arrival) (short : Bool) (stream : List ℕ) : Type 0 where

@@ -1,7 +1,7 @@
 -- What a run of feed did, by how it ended.
 use Rattle.std.specs.Prelude.{◌≡◌, ◌⊎◌, ℕ, ◌+◌, ◌≤◌, List, [], length, Option}
 use Rattle.outside.specs.Counts.{Rose}
-use Rattle.outside.specs.Told.{Taken, Written, WrittenFront}
+use Rattle.outside.specs.Told.{Taken, Written, WrittenFront, Whole}
 use Rattle.tool_events.specs.declared.entry.Entry.{Entry}
 use Rattle.tool_events.specs.declared.config.Config.{Config}
 use Rattle.configuration.specs.declared.fault.ConfigFault.TheVariants as fault
@@ -10,15 +10,14 @@ use Rattle.gem_model.specs.State.{opening}
 use Rattle.gem_model.specs.Sizes.{bytes_of}
 use Rattle.gem_model.specs.Run.{after_all}
 use Rattle.history_laws.specs.Recorded.{Recorded}
-use Rattle.gem_model.specs.Lines.{whole_lines}
+use Rattle.line_grammar.specs.Texts.{whole_lines, NumberEnded}
 use Rattle.gem_model.specs.Feed.{AllRead, OutsideGrammar, QuitAt, feed_entries}
 use Rattle.gem_model.specs.Printed.{printed}
 use Rattle.line_feeding.specs.declared.ended.Cause.{Cause}
 use Rattle.line_feeding.specs.declared.ended.Cause.TheVariants as cause
 use Rattle.line_feeding.specs.declared.ended.SessionNote.{SessionNote}
 use Rattle.line_feeding.specs.Limits.{IsFullAt, MeetsBound}
-use Rattle.line_feeding.specs.Input.{Whole}
-use Rattle.line_feeding.specs.Stopping.{NumberEnded, GivenBy}
+use Rattle.line_feeding.specs.Stopping.{GivenBy}
 use Rattle.line_feeding.specs.Noted.{NotedBy}
 
 -- what a source tells: the bytes that it has left, where it tells them, how often it failed, and how often it ended
@@ -33,7 +32,7 @@ looked left faults ends source = record { left = left source; faults = faults so
 -- The history is what the text gave that was read: all of it, where no more follows; up to the line that ended the run,
 -- which has ended; of its whole lines, where the reading broke off; up to a
 -- line that stopped it, which has ended; up to an entry that doesn't fit the limits; or, after want of memory or a write
--- fault, a front of what lines give that have ended. Over says of the text that no more follows.
+-- fault, a front of what lines give that have ended. No run of feed ends at a door. Over says of the text that no more follows.
 abbrev pub FedBy : Config → Cause → Type 0 → List ℕ → List Entry → Type 0
 FedBy c cause.Done Over text history =
     ((feed_entries c text ≡ record { entries = history; stop = AllRead }) × Over)
@@ -49,6 +48,7 @@ FedBy c cause.WriteFault Over text history = GivenBy Over c text history
 FedBy c cause.NoMemory Over text history = GivenBy Over c text history
 FedBy c (cause.Words place) Over text history = (text ≡ []) × (history ≡ [])
 FedBy c (cause.Config rule key) Over text history = (text ≡ []) × (history ≡ [])
+FedBy c cause.Door Over text history = ⊥
 
 -- the input was read to its end: what was taken off it is all that it had
 abbrev pub ReadToEnd : SourceView → SourceView → Type 0
@@ -61,7 +61,8 @@ Fed c cause input input' history notes =
     (text : List ℕ) × Taken input.left input'.left text × FedBy c cause (ReadToEnd input input') text history
     × NotedBy c cause (ReadToEnd input input') text history notes
 
--- behind what was held the lines of the history are out, all of them, or, after want of memory or a write fault, a front
+-- Behind what was held the lines of the history are out, all of them, or, after want of memory or a write fault, a front. No run
+-- of feed ends at a door.
 abbrev pub Shown : Config → Cause → Option (List ℕ) → Option (List ℕ) → List Entry → Type 0
 Shown c cause.WriteFault held held' history = WrittenFront held held' (printed (opening c) history)
 Shown c cause.NoMemory held held' history = WrittenFront held held' (printed (opening c) history)
@@ -71,6 +72,7 @@ Shown c (cause.Full entries bytes input) held held' history = Written held held'
 Shown c (cause.Line number place) held held' history = Written held held' (printed (opening c) history)
 Shown c (cause.Words place) held held' history = Written held held' (printed (opening c) history)
 Shown c (cause.Config rule key) held held' history = Written held held' (printed (opening c) history)
+Shown c cause.Door held held' history = ⊥
 
 -- the configuration was read to its end, and says this (this tool's profile, configuration)
 pub record IsRead (config config' : SourceView) (c : Config) : Type 0 where
@@ -90,7 +92,7 @@ pub record IsRefused (config config' : SourceView) (rule : ℕ) (key : List ℕ)
   pub most : length text ≤ configuration_bytes + 1
 
 -- What was read of the configuration: nothing where the words are refused; a text that is none; or this one, to its end. Where
--- a read failed or memory ran out before that, the history is empty.
+-- a read failed or memory ran out before that, the history is empty. No run of feed ends at a door.
 abbrev pub Configured : Config → Cause → SourceView → SourceView → List Entry → Type 0
 Configured c (cause.Words place) config config' history = config' ≡ config
 Configured c (cause.Config rule key) config config' history = IsRefused config config' rule key
@@ -100,6 +102,7 @@ Configured c cause.WriteFault config config' history = IsRead config config' c
 Configured c cause.Done config config' history = IsRead config config' c
 Configured c (cause.Full entries bytes input) config config' history = IsRead config config' c
 Configured c (cause.Line number place) config config' history = IsRead config config' c
+Configured c cause.Door config config' history = ⊥
 
 -- what a run did under a configuration
 pub record RanUnder (c : Config) (why : Cause) (input input' : SourceView) (held held' : Option (List ℕ)) (history : List Entry) (notes : List SessionNote) : Type 0 where

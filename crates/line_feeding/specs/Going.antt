@@ -2,7 +2,7 @@
 use Rattle.std.specs.Prelude.{◌≡◌, ◌≢◌, ℕ, ◌<◌, ◌≤◌, List, ◌++◌, length, Option, Result, Ok, Err, IsErrOf}
 use Rattle.outside.specs.Counts.{Failed}
 use Rattle.outside.specs.Told.{Written, WrittenFront}
-use Rattle.gem_model.specs.Front.{IsFront}
+use Rattle.line_grammar.specs.Texts.{IsFront}
 use Rattle.gem_model.specs.State.{opening}
 use Rattle.gem_model.specs.Feed.{Given}
 use Rattle.gem_model.specs.Printed.{printed}

@@ -3,7 +3,7 @@ use Rattle.std.specs.Prelude.{◌≡◌, ℕ, true, List, ◌∷◌, ◌++◌, l
 use Rattle.tool_events.specs.declared.config.Config.{Config}
 use Rattle.tool_events.specs.declared.entry.Entry.{Entry}
 use Rattle.gem_model.specs.Sizes.{is_full}
-use Rattle.gem_model.specs.Lines.{whole_lines}
+use Rattle.line_grammar.specs.Texts.{whole_lines}
 use Rattle.gem_model.specs.Feed.{AllRead, feed_entries}
 
 -- the greatest input, in bytes (this tool's profile, limits)

@@ -2,7 +2,7 @@
 use Rattle.std.specs.Prelude.{◌≡◌, ◌⊎◌, ℕ, List, []}
 use Rattle.tool_events.specs.declared.config.Config.{Config}
 use Rattle.tool_events.specs.declared.entry.Entry.{Entry}
-use Rattle.gem_model.specs.Lines.{whole_lines}
+use Rattle.line_grammar.specs.Texts.{whole_lines}
 use Rattle.gem_model.specs.SessionBytes.{session_in}
 use Rattle.line_feeding.specs.declared.ended.Cause.{Cause}
 use Rattle.line_feeding.specs.declared.ended.Cause.TheVariants as cause
@@ -17,7 +17,7 @@ NotesOf c history notes taken = AreNotes c history (session_in c taken) notes
 
 -- The notes count all lines of the text; its whole lines, where the reading broke off; up to the line of the entry that
 -- does not fit the limits, or whose lines could not be written; and after want of memory there are none, or they count
--- up to the line in which it came. Over says of the text that no more follows.
+-- up to the line in which it came. No run of feed ends at a door. Over says of the text that no more follows.
 abbrev pub NotedBy : Config → Cause → Type 0 → List ℕ → List Entry → List SessionNote → Type 0
 NotedBy c cause.Done Over text history notes = NotesOf c history notes text
 NotedBy c cause.ReadFault Over text history notes = NotesOf c history notes (whole_lines text)
@@ -31,3 +31,4 @@ NotedBy c cause.NoMemory Over text history notes =
     (notes ≡ []) ⊎ ((taken : List ℕ) × StoppedIn Over c text history taken × NotesOf c history notes taken)
 NotedBy c (cause.Words place) Over text history notes = notes ≡ []
 NotedBy c (cause.Config rule key) Over text history notes = notes ≡ []
+NotedBy c cause.Door Over text history notes = ⊥

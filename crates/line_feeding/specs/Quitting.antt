@@ -1,7 +1,7 @@
 -- What the reader is told of the line that ends the run.
 use Rattle.std.specs.Prelude.{if◌then◌else◌, Result, Ok, Err}
 use Rattle.line_grammar.specs.declared.line.Line.{Line}
-use Rattle.gem_model.specs.Feed.{is_quit}
+use Rattle.line_grammar.specs.Texts.{is_quit}
 use Rattle.line_feeding.specs.declared.halt.Halt.{Halt}
 use Rattle.line_feeding.specs.declared.halt.Halt.TheVariants as halt
 

@@ -13,3 +13,4 @@ status_of cause.WriteFault = 4
 status_of (cause.Full entries bytes input) = 5
 status_of (cause.Line number place) = 6
 status_of cause.NoMemory = 7
+status_of cause.Door = 8

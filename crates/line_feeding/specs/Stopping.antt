@@ -2,35 +2,11 @@
 use Rattle.std.specs.Prelude.{◌≡◌, ◌⊎◌, ℕ, ◌<◌, ⊤, List, ◌∷◌, ◌++◌, length}
 use Rattle.tool_events.specs.declared.config.Config.{Config}
 use Rattle.tool_events.specs.declared.entry.Entry.{Entry}
-use Rattle.gem_model.specs.Front.{IsFront}
-use Rattle.gem_model.specs.Lines.{lines_of, whole_lines}
-use Rattle.line_grammar.specs.Reading.{line_bytes}
+use Rattle.line_grammar.specs.Texts.{IsFront, whole_lines, LineEnded, NumberEnded, EndedLines}
 use Rattle.gem_model.specs.Feed.{feed_entries}
 use Rattle.line_feeding.specs.declared.halt.Halt.{Halt}
 use Rattle.line_feeding.specs.declared.halt.Halt.TheVariants as halt
 use Rattle.line_feeding.specs.Reads.{HaveRead}
-
--- the last line of this front of the text is too long already, whatever follows it
-pub record IsLong (text taken : List ℕ) : Type 0 where
-  pub front : IsFront taken text
-  pub line : List ℕ
-  pub is : taken ≡ whole_lines taken ++ line
-  pub long : line_bytes < length line
-
--- The last line of this front of the text has ended: its line feed follows; or it is too long already; or the front is the
--- text, and no more follows.
-abbrev pub LineEnded : Type 0 → List ℕ → List ℕ → Type 0
-LineEnded Over text taken =
-    ((behind : List ℕ) × (text ≡ taken ++ 10 ∷ behind)) ⊎ (IsLong text taken ⊎ ((taken ≡ text) × Over))
-
--- the line of this number, counted from 1, has ended
-abbrev pub NumberEnded : Type 0 → List ℕ → ℕ → Type 0
-NumberEnded Over text number = (taken : List ℕ) × LineEnded Over text taken × (length (lines_of taken) ≡ number)
-
--- no line is taken in part: this front of the text is whole lines, or its last line has ended
-pub record EndedLines (Over : Type 0) (text taken : List ℕ) : Type 0 where
-  pub front : IsFront taken text
-  pub ends : (taken ≡ whole_lines taken) ⊎ LineEnded Over text taken
 
 -- the history is a front of what lines give that have ended
 abbrev pub GivenBy : Type 0 → Config → List ℕ → List Entry → Type 0

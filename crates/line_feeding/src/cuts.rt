@@ -1,7 +1,8 @@
 //! What the bytes of a session make whole, and which line ends the run.
 ghost use Rattle.std.specs.Prelude.{◌≡◌, List, [], ℕ, IfOk};
 ghost use Rattle.line_grammar.specs.declared.line.Line.TheVariants as line;
-ghost use Rattle.gem_model.specs.Feed.{is_quit, text_bytes};
+ghost use Rattle.tool_events.specs.Sizes.{text_bytes};
+ghost use Rattle.line_grammar.specs.Texts.{is_quit};
 ghost use Rattle.hsms_frame.specs.Cut.{IsCutOf, arrivals_of};
 ghost use Rattle.line_feeding.specs.Cuts.{Cuts};
 ghost use Rattle.line_feeding.specs.Quitting.{quit_behind};

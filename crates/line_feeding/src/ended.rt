@@ -24,6 +24,8 @@ pub enum Cause {
     Line(u64, u64),
     /// Status 7: there was no memory.
     NoMemory,
+    /// Status 8: the door failed, or closed before the run ended.
+    Door,
 }
 
 impl Cause {
@@ -44,6 +46,7 @@ impl Cause {
             Cause::Full(_, _, _) => 5,
             Cause::Line(_, _) => 6,
             Cause::NoMemory => 7,
+            Cause::Door => 8,
         }
     }
 
@@ -68,6 +71,7 @@ impl Cause {
             )?,
             Cause::Line(number, place) => format!(in alloc; "line {number} at {place}")?,
             Cause::NoMemory => format!(in alloc; "no memory")?,
+            Cause::Door => format!(in alloc; "door fault")?,
         };
         Ok(Some(text))
     }

@@ -20,4 +20,4 @@ pub use ended::{Cause, Ended, Notes, Panels, SessionNote};
 pub use halt::{Halt, InputEnd, InputRead};
 pub use print::{fetches, outcome_text};
 pub use read::{TextFault, read_text};
-pub use words::check_words;
+pub use words::{check_serve_words, check_words};

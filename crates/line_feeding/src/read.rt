@@ -1,8 +1,7 @@
 //! Reading from sources.
 ghost use Rattle.std.specs.Prelude.{◌≡◌, ◌≢◌, ◌<◌, ◌≤◌, length, Err, IfOk, IsErrOf};
 ghost use Rattle.outside.specs.Counts.{Rose};
-ghost use Rattle.outside.specs.Told.{Taken};
-ghost use Rattle.line_feeding.specs.Input.{Whole};
+ghost use Rattle.outside.specs.Told.{Taken, Whole};
 
 use outside::{Source, front, read_front};
 use std::alloc::Global;

@@ -6,3 +6,4 @@ pub mod Unique
 pub mod Public
 pub mod Watch
 pub mod OnLiterals
+pub mod Texts

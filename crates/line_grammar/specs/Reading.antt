@@ -6,7 +6,7 @@ use Rattle.std.specs.List.{position}
 use Rattle.std.specs.Char.{is_ascii_digit}
 use Rattle.line_grammar.specs.Words.{Word, number, run, hex, Value, least, most, has, hex_digit}
 use Rattle.line_grammar.specs.Grammar.{literal, word, Grammar, gives, anything, last, part, either}
-use Rattle.line_grammar.specs.Lines.{feed_lines}
+use Rattle.line_grammar.specs.Lines.{feed_lines, script_lines}
 use Rattle.line_grammar.specs.declared.kind.WordKind.{WordKind}
 use Rattle.line_grammar.specs.declared.line.Line.{Line}
 use Rattle.line_grammar.specs.declared.line.LineFault.{LineFault}
@@ -132,3 +132,8 @@ line_bytes = 600000
 -- the limit, whatever it holds (this tool's profile, input lines and refused lines)
 unfoldable pub feed_line_of : List ℕ → Result Line ℕ
 feed_line_of line = if nat_lt line_bytes (length line) then Err line_bytes else read feed_lines (length line) line
+
+-- what a line says in a script, or the place at which it leaves the lines that a script has; a line that is too long leaves at
+-- the limit, whatever it holds (this tool's profile, scripts and refused lines)
+unfoldable pub script_line_of : List ℕ → Result Line ℕ
+script_line_of line = if nat_lt line_bytes (length line) then Err line_bytes else read script_lines (length line) line

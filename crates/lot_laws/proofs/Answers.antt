@@ -20,12 +20,12 @@ use Rattle.substrate.specs.declared.record.Processing.TheVariants as processing
 use Rattle.substrate.specs.declared.registered.Registered.{Registered}
 use Rattle.process_job.specs.Jobs.{job_numbered}
 use Rattle.process_job.specs.declared.job.ProcessJob.{ProcessJob}
-use Rattle.tool_floor.specs.declared.tracking.Substrate.{Substrate}
-use Rattle.tool_floor.specs.Floor.{ToolFloor, substrate_numbered, with_module, change_numbered}
-use Rattle.tool_floor.specs.Jobs.{can_join}
-use Rattle.tool_floor.specs.Modules.{module_behind, open_task, transferred, aligned, aligned_numbered, aligned_by}
-use Rattle.tool_floor.specs.Signals.{done_row}
-use Rattle.tool_floor.specs.Machines.{substrate_starts, with_moved, floor_starts, floor_fired}
+use Rattle.floor_model.specs.declared.tracked.Substrate.{Substrate}
+use Rattle.floor_model.specs.Floor.{ToolFloor, substrate_numbered, with_module, change_numbered}
+use Rattle.floor_model.specs.Jobs.{can_join}
+use Rattle.floor_model.specs.Modules.{module_behind, open_task, transferred, aligned, aligned_numbered, aligned_by}
+use Rattle.floor_model.specs.Signals.{done_row}
+use Rattle.floor_model.specs.Machines.{substrate_starts, with_moved, floor_starts, floor_fired}
 use Rattle.floor_moves.specs.Floor as law
 use Rattle.floor_moves.specs.Floor.{Loc, Command, arm, aligner, pick, place, align, busy, idle, is_done}
 use Rattle.floor_moves.specs.Effects.{moved, aligned as aligned_by_numbers, turned, worked}

@@ -11,7 +11,7 @@ use Rattle.control_job.specs.Jobs.{job_numbered as control_numbered}
 use Rattle.control_job.specs.Tables.{states_number}
 use Rattle.control_job.specs.declared.job.ControlJob.{ControlJob}
 use Rattle.tool_jobs.specs.Jobs.{Jobs}
-use Rattle.tool_floor.specs.Floor.{ToolFloor}
+use Rattle.floor_model.specs.Floor.{ToolFloor}
 use Rattle.queue_laws.specs.Started.{is_left_in}
 use Rattle.queue_laws.specs.Steers.{Steers, is_executing, goes_on}
 use Rattle.lot_laws.specs.Lot.{Executes, is_under_way, breaks_off, AtWork}

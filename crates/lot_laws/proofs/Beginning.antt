@@ -16,10 +16,10 @@ use Rattle.control_job.specs.Jobs.{job_numbered as control_numbered}
 use Rattle.control_job.specs.declared.job.ControlJob.{ControlJob}
 use Rattle.tool_jobs.specs.Rows.{control_starts, control_fired}
 use Rattle.tool_jobs.specs.Together.{AreTogether}
-use Rattle.tool_floor.specs.declared.tracking.Substrate.{Substrate}
-use Rattle.tool_floor.specs.Floor.{ToolFloor, with_jobs, substrate_numbered, number_of}
-use Rattle.tool_floor.specs.Jobs.{job_of, is_stopping, is_aborting, is_first_here, can_join}
-use Rattle.tool_floor.specs.Machines.{floor_fired}
+use Rattle.floor_model.specs.declared.tracked.Substrate.{Substrate}
+use Rattle.floor_model.specs.Floor.{ToolFloor, with_jobs, substrate_numbered, number_of}
+use Rattle.floor_model.specs.Jobs.{job_of, is_stopping, is_aborting, is_first_here, can_join}
+use Rattle.floor_model.specs.Machines.{floor_fired}
 use Rattle.place_laws.specs.Picture.{picture, of_one}
 use Rattle.place_laws.specs.Sound.{Sound}
 use Rattle.place_laws.proofs.Holding.{found_among, rising_given}

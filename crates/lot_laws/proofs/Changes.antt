@@ -14,10 +14,10 @@ use Rattle.shop_floor.specs.Floor.{arrival_of, with_carrier}
 use Rattle.shop_floor.specs.Rows.{owner}
 use Rattle.shop_floor.specs.Requests.{came, carrier_code, carrier_written}
 use Rattle.shop_floor.specs.Machines as shop
-use Rattle.tool_floor.specs.Floor.{ToolFloor, with_shop, fetched}
-use Rattle.tool_floor.specs.Jobs.{is_any_of_carrier}
-use Rattle.tool_floor.specs.Substrates.{reaches_verified}
-use Rattle.tool_floor.specs.Machines.{floor_machines, floor_starts, floor_fired}
+use Rattle.floor_model.specs.Floor.{ToolFloor, with_shop, fetched}
+use Rattle.floor_model.specs.Jobs.{is_any_of_carrier}
+use Rattle.floor_model.specs.Substrates.{reaches_verified}
+use Rattle.floor_model.specs.Machines.{floor_machines, floor_starts, floor_fired}
 use Rattle.place_laws.specs.Sound.{Sound}
 use Rattle.place_laws.proofs.Stays.{NonePresent}
 use Rattle.floor_laws.specs.Rows.{is_common}

@@ -30,12 +30,12 @@ use Rattle.tool_jobs.specs.Jobs.{owner}
 use Rattle.tool_jobs.specs.Wants.{process_wants, is_none_left, is_ending, is_first, is_first_left}
 use Rattle.tool_jobs.specs.Rows.{control_starts, control_ready, process_ready}
 use Rattle.tool_jobs.specs.Together.{AreTogether}
-use Rattle.tool_floor.specs.declared.tracking.Substrate.{Substrate}
-use Rattle.tool_floor.specs.Floor.{ToolFloor, substrate_numbered, number_of}
-use Rattle.tool_floor.specs.Kept.{RiseTo}
-use Rattle.tool_floor.specs.Substrates.{is_in_slot, is_removed}
-use Rattle.tool_floor.specs.Jobs.{is_member, is_done_with, is_settled, is_here, sight, found_sight, is_first_here}
-use Rattle.tool_floor.specs.Machines.{floor_machines, floor_fired, floor_least, process_numbers}
+use Rattle.floor_model.specs.declared.tracked.Substrate.{Substrate}
+use Rattle.floor_model.specs.Floor.{ToolFloor, substrate_numbered, number_of}
+use Rattle.floor_model.specs.Floor.{RiseTo}
+use Rattle.floor_model.specs.Substrates.{is_in_slot, is_removed}
+use Rattle.floor_model.specs.Jobs.{is_member, is_done_with, is_settled, is_here, sight, found_sight, is_first_here}
+use Rattle.floor_model.specs.Machines.{floor_machines, floor_fired, floor_least, process_numbers}
 use Rattle.floor_moves.specs.Floor as law
 use Rattle.floor_moves.specs.Floor.{Loc, is_done}
 use Rattle.place_laws.specs.Picture.{picture}

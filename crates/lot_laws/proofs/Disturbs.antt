@@ -39,11 +39,11 @@ use Rattle.tool_jobs.specs.Rows.{left_by, ended}
 use Rattle.tool_jobs.specs.Together.{AreTogether}
 use Rattle.tool_jobs.specs.Creating.{with_process, with_control, control_fault}
 use Rattle.tool_jobs.proofs.Rows.{after_meets}
-use Rattle.tool_floor.specs.declared.tracking.Substrate.{Substrate}
-use Rattle.tool_floor.specs.Floor.{ToolFloor, with_shop, with_jobs, fetched, substrate_numbered}
-use Rattle.tool_floor.specs.Jobs.{freed, without_members}
-use Rattle.tool_floor.specs.Substrates.{reaches_verified, without_carrier, can_register, first_substrate, registers_at, registers_slot, registers_slots, registers_at_port, registers_found}
-use Rattle.tool_floor.specs.Machines.{floor_machines, floor_starts, floor_fired, registered_by}
+use Rattle.floor_model.specs.declared.tracked.Substrate.{Substrate}
+use Rattle.floor_model.specs.Floor.{ToolFloor, with_shop, with_jobs, fetched, substrate_numbered}
+use Rattle.floor_model.specs.Jobs.{freed, without_members}
+use Rattle.floor_model.specs.Substrates.{reaches_verified, without_carrier, can_register, first_substrate, registers_at, registers_slot, registers_slots, registers_at_port, registers_found}
+use Rattle.floor_model.specs.Machines.{floor_machines, floor_starts, floor_fired, registered_by}
 use Rattle.place_laws.specs.Picture.{picture, of_one}
 use Rattle.place_laws.specs.Sound.{Sound}
 use Rattle.floor_laws.proofs.JobSight.{none_some, some_same}

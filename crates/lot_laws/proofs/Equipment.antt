@@ -15,13 +15,13 @@ use Rattle.substrate.specs.Tables as want
 use Rattle.substrate.specs.Tables.{SubstrateWant, processing_number, processing_table}
 use Rattle.substrate.specs.declared.record.Processing.{Processing}
 use Rattle.substrate.specs.declared.record.Processing.TheVariants as processing
-use Rattle.tool_floor.specs.declared.tracking.Substrate.{Substrate}
-use Rattle.tool_floor.specs.Floor.{ToolFloor, substrate_numbered, number_of}
-use Rattle.tool_floor.specs.Modules.{number_named}
-use Rattle.tool_floor.specs.Naming.{processes}
-use Rattle.tool_floor.specs.Signals.{at_module, done_row, at_done, done_processed, done_processing, is_of_aborting, done_at, done_rows}
-use Rattle.tool_floor.specs.Wants.{substrate_wants}
-use Rattle.tool_floor.specs.Machines.{substrate_starts, substrate_ready, floor_machines, floor_starts, floor_fired, floor_least}
+use Rattle.floor_model.specs.declared.tracked.Substrate.{Substrate}
+use Rattle.floor_model.specs.Floor.{ToolFloor, substrate_numbered, number_of}
+use Rattle.floor_model.specs.Modules.{number_named}
+use Rattle.floor_model.specs.Naming.{processes}
+use Rattle.floor_model.specs.Signals.{at_module, done_row, at_done, done_processed, done_processing, is_of_aborting, done_at, done_rows}
+use Rattle.floor_model.specs.Wants.{substrate_wants}
+use Rattle.floor_model.specs.Machines.{substrate_starts, substrate_ready, floor_machines, floor_starts, floor_fired, floor_least}
 use Rattle.floor_moves.specs.Floor as law
 use Rattle.floor_moves.specs.Floor.{process, named}
 use Rattle.place_laws.specs.Picture.{picture, of_one, number_or_none, task_of}

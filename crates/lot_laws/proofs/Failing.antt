@@ -21,14 +21,14 @@ use Rattle.substrate.specs.declared.record.Processing.{Processing}
 use Rattle.substrate.specs.declared.record.Processing.TheVariants as processing
 use Rattle.substrate.specs.declared.registered.Registered.{Registered}
 use Rattle.tool_jobs.specs.Jobs.{Jobs}
-use Rattle.tool_floor.specs.declared.tracking.Substrate.{Substrate}
-use Rattle.tool_floor.specs.Floor.{ToolFloor, with_module, fetched, substrate_numbered}
-use Rattle.tool_floor.specs.Modules.{module_behind, in_state, found_move, move_does, number_named}
-use Rattle.tool_floor.specs.Naming.{module_names}
-use Rattle.tool_floor.specs.Signals.{at_module, at_processed, processed_rows, closing_at, closing_rows, can_be_lost, lost_at, lost_rows}
-use Rattle.tool_floor.specs.Substrates.{is_in_slot}
-use Rattle.tool_floor.specs.Views.{planned}
-use Rattle.tool_floor.specs.Machines.{substrate_starts, substrate_moves, floor_starts, floor_fired, floor_least}
+use Rattle.floor_model.specs.declared.tracked.Substrate.{Substrate}
+use Rattle.floor_model.specs.Floor.{ToolFloor, with_module, fetched, substrate_numbered}
+use Rattle.floor_model.specs.Modules.{module_behind, in_state, found_move, move_does, number_named}
+use Rattle.floor_model.specs.Naming.{module_names}
+use Rattle.floor_model.specs.Signals.{at_module, at_processed, processed_rows, closing_at, closing_rows, can_be_lost, lost_at, lost_rows}
+use Rattle.floor_model.specs.Substrates.{is_in_slot}
+use Rattle.floor_model.specs.Views.{planned}
+use Rattle.floor_model.specs.Machines.{substrate_starts, substrate_moves, floor_starts, floor_fired, floor_least}
 use Rattle.floor_moves.specs.Floor as law
 use Rattle.floor_moves.specs.Floor.{Loc, Command, busy, is_outside}
 use Rattle.place_laws.specs.Picture.{picture, loc_of, module_of, of_one}

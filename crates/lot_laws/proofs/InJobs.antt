@@ -10,10 +10,10 @@ use Rattle.process_job.specs.Jobs.{job_numbered, change_numbered as jobs_changed
 use Rattle.process_job.specs.declared.job.ProcessJob.{ProcessJob}
 use Rattle.tool_jobs.specs.Jobs.{Jobs}
 use Rattle.tool_jobs.specs.Rows.{ended, process_does, found_does}
-use Rattle.tool_floor.specs.declared.tracking.Substrate.{Substrate}
-use Rattle.tool_floor.specs.Floor.{ToolFloor, opening, with_jobs, substrate_numbered, change_numbered}
-use Rattle.tool_floor.specs.Jobs.{job_of, joined, freed, can_join, job_does, found_job_does}
-use Rattle.tool_floor.specs.Machines.{floor_fired}
+use Rattle.floor_model.specs.declared.tracked.Substrate.{Substrate}
+use Rattle.floor_model.specs.Floor.{ToolFloor, opening, with_jobs, substrate_numbered, change_numbered}
+use Rattle.floor_model.specs.Jobs.{job_of, joined, freed, can_join, job_does, found_job_does}
+use Rattle.floor_model.specs.Machines.{floor_fired}
 use Rattle.place_laws.specs.Sound.{Sound}
 use Rattle.floor_laws.proofs.JobSight.{none_some, some_same}
 use Rattle.floor_laws.proofs.JobLists.{job_number_is, fired_there, fired_else, fired_on, without_else}

@@ -9,12 +9,12 @@ use Rattle.robot_moves.specs.Moves.{holder, free_target, best_pick, move_by, pla
 use Rattle.robot_moves.specs.declared.view.PlaceView.{PlaceView}
 use Rattle.robot_moves.specs.declared.view.Move.{Move}
 use Rattle.robot_moves.proofs.Giving.{move_is}
-use Rattle.tool_floor.specs.declared.tracking.Substrate.{Substrate}
-use Rattle.tool_floor.specs.Floor.{ToolFloor}
-use Rattle.tool_floor.specs.Views.{views, planned}
-use Rattle.tool_floor.specs.Modules.{issued as given_to}
-use Rattle.tool_floor.specs.Machines.{floor_fired}
-use Rattle.tool_floor.proofs.Moves.{is_idle_module, gives}
+use Rattle.floor_model.specs.declared.tracked.Substrate.{Substrate}
+use Rattle.floor_model.specs.Floor.{ToolFloor}
+use Rattle.floor_model.specs.Views.{views, planned}
+use Rattle.floor_model.specs.Modules.{issued as given_to}
+use Rattle.floor_model.specs.Machines.{floor_fired}
+use Rattle.floor_model.proofs.Moves.{is_idle_module, gives}
 use Rattle.floor_moves.specs.Floor as law
 use Rattle.floor_moves.specs.Floor.{is_done}
 use Rattle.floor_moves.specs.Effects.{issued}

@@ -23,15 +23,15 @@ use Rattle.control_job.specs.declared.job.ControlJob.{ControlJob}
 use Rattle.tool_jobs.specs.Rows.{process_ready, control_ready}
 use Rattle.tool_jobs.specs.Together.{AreTogether}
 use Rattle.tool_jobs.proofs.Falls.{process_ready_starts}
-use Rattle.tool_floor.specs.declared.tracking.Substrate.{Substrate}
-use Rattle.tool_floor.specs.Floor.{ToolFloor, substrate_numbered}
-use Rattle.tool_floor.specs.Jobs.{sight, found_sight, is_first_here}
-use Rattle.tool_floor.specs.Views.{planned}
-use Rattle.tool_floor.specs.Modules.{move_wants, move_ready}
-use Rattle.tool_floor.specs.Substrates.{is_outside, reaches_verified}
-use Rattle.tool_floor.specs.Wants.{accessing_wants, substrate_wants}
-use Rattle.tool_floor.specs.Machines.{accessing_ready, substrate_ready, floor_machines, floor_starts, floor_fired, floor_least}
-use Rattle.tool_floor.proofs.Keeping.{least_starts}
+use Rattle.floor_model.specs.declared.tracked.Substrate.{Substrate}
+use Rattle.floor_model.specs.Floor.{ToolFloor, substrate_numbered}
+use Rattle.floor_model.specs.Jobs.{sight, found_sight, is_first_here}
+use Rattle.floor_model.specs.Views.{planned}
+use Rattle.floor_model.specs.Modules.{move_wants, move_ready}
+use Rattle.floor_model.specs.Substrates.{is_outside, reaches_verified}
+use Rattle.floor_model.specs.Wants.{accessing_wants, substrate_wants}
+use Rattle.floor_model.specs.Machines.{accessing_ready, substrate_ready, floor_machines, floor_starts, floor_fired, floor_least}
+use Rattle.floor_model.proofs.Keeping.{least_starts}
 use Rattle.place_laws.specs.Picture.{picture}
 use Rattle.place_laws.specs.Sound.{Sound}
 use Rattle.floor_laws.proofs.ShopTables.{is_shop_row}

@@ -17,8 +17,8 @@ use Rattle.shop_floor.proofs.Apart.{IsOnly, found_only, found_passes, has_its_na
 use Rattle.process_job.specs.Jobs.{job_numbered, AreNumbered}
 use Rattle.process_job.specs.declared.job.Material.{Material}
 use Rattle.process_job.specs.declared.job.ProcessJob.{ProcessJob}
-use Rattle.tool_floor.specs.declared.tracking.Substrate.{Substrate}
-use Rattle.tool_floor.specs.Jobs.{is_carrier_of, is_slot_named, names_slot_of, is_in_use, is_carrier_here, is_material_here, is_here, names_carrier}
+use Rattle.floor_model.specs.declared.tracked.Substrate.{Substrate}
+use Rattle.floor_model.specs.Jobs.{is_carrier_of, is_slot_named, names_slot_of, is_in_use, is_carrier_here, is_material_here, is_here, names_carrier}
 use Rattle.floor_laws.proofs.JobSight.{none_some, some_same, each_found}
 use Rattle.floor_laws.proofs.JobJoins.{both_pass}
 use Rattle.lot_laws.specs.Lot.{is_in_named_slot}

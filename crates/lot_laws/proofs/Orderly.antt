@@ -47,17 +47,17 @@ use Rattle.tool_jobs.specs.Wants.{is_that}
 use Rattle.tool_jobs.specs.Creating.{with_process, with_control, control_fault}
 use Rattle.tool_jobs.specs.Together.{AreTogether}
 use Rattle.tool_jobs.proofs.Together.{together_none, together_fired, together_ended, together_row, together_created, together_added, together_headed}
-use Rattle.tool_floor.specs.declared.tracking.Substrate.{Substrate}
-use Rattle.tool_floor.specs.Floor.{ToolFloor, opening, with_shop, with_jobs, fetched, substrate_numbered, change_numbered, number_of}
-use Rattle.tool_floor.specs.Jobs.{found_sight, is_first_here, joined, freed, job_does, found_job_does, is_any_of_carrier}
-use Rattle.tool_floor.specs.Modules.{move_wants, move_ready, move_does, found_move, issued, open_task, aligned, aligned_numbered, aligned_by, number_named}
-use Rattle.tool_floor.specs.Signals.{at_module, done_row, at_processed, processed_rows, done_processing, at_done, done_processed, done_at, done_rows, closing_at, closing_rows, can_be_lost, lost_at, lost_rows, is_of_aborting}
-use Rattle.tool_floor.specs.Substrates.{is_of, reaches_verified, registers_found, removed_of, without_carrier, removed_where, substrate_does}
-use Rattle.tool_floor.specs.Substrates as substrates
-use Rattle.tool_floor.specs.Views.{planned}
-use Rattle.tool_floor.specs.Wants.{substrate_wants}
-use Rattle.tool_floor.specs.Machines.{substrate_ready, substrate_moves, with_moved, floor_machines, floor_starts, floor_fired, floor_least}
-use Rattle.tool_floor.proofs.Keeping.{least_starts}
+use Rattle.floor_model.specs.declared.tracked.Substrate.{Substrate}
+use Rattle.floor_model.specs.Floor.{ToolFloor, opening, with_shop, with_jobs, fetched, substrate_numbered, change_numbered, number_of}
+use Rattle.floor_model.specs.Jobs.{found_sight, is_first_here, joined, freed, job_does, found_job_does, is_any_of_carrier}
+use Rattle.floor_model.specs.Modules.{move_wants, move_ready, move_does, found_move, issued, open_task, aligned, aligned_numbered, aligned_by, number_named}
+use Rattle.floor_model.specs.Signals.{at_module, done_row, at_processed, processed_rows, done_processing, at_done, done_processed, done_at, done_rows, closing_at, closing_rows, can_be_lost, lost_at, lost_rows, is_of_aborting}
+use Rattle.floor_model.specs.Substrates.{is_of, reaches_verified, registers_found, removed_of, without_carrier, removed_where, substrate_does}
+use Rattle.floor_model.specs.Substrates as substrates
+use Rattle.floor_model.specs.Views.{planned}
+use Rattle.floor_model.specs.Wants.{substrate_wants}
+use Rattle.floor_model.specs.Machines.{substrate_ready, substrate_moves, with_moved, floor_machines, floor_starts, floor_fired, floor_least}
+use Rattle.floor_model.proofs.Keeping.{least_starts}
 use Rattle.floor_moves.specs.Floor.{Loc, slot, arm, aligner, is_finished, place, align}
 use Rattle.floor_moves.specs.Valid.{IsDistinct, PlaceStands}
 use Rattle.place_laws.specs.Picture.{picture, loc_of, place_in, numbered, number_or_none, task_of, of_one}

@@ -16,10 +16,10 @@ use Rattle.tool_jobs.specs.Jobs.{Jobs}
 use Rattle.tool_jobs.specs.Rows.{ended, process_starts, process_fired}
 use Rattle.tool_jobs.specs.Together.{AreTogether}
 use Rattle.tool_jobs.proofs.Ending.{fired_ends}
-use Rattle.tool_floor.specs.declared.tracking.Substrate.{Substrate}
-use Rattle.tool_floor.specs.Floor.{ToolFloor, with_jobs, substrate_numbered}
-use Rattle.tool_floor.specs.Jobs.{job_of, joined, freed, with_members, without_members, can_join, sight, found_sight, gets_members, frees}
-use Rattle.tool_floor.specs.Machines.{floor_starts, floor_fired}
+use Rattle.floor_model.specs.declared.tracked.Substrate.{Substrate}
+use Rattle.floor_model.specs.Floor.{ToolFloor, with_jobs, substrate_numbered}
+use Rattle.floor_model.specs.Jobs.{job_of, joined, freed, with_members, without_members, can_join, sight, found_sight, gets_members, frees}
+use Rattle.floor_model.specs.Machines.{floor_starts, floor_fired}
 use Rattle.floor_moves.specs.Floor as law
 use Rattle.floor_moves.specs.Floor.{is_done}
 use Rattle.place_laws.specs.Picture.{picture, is_complete}

@@ -31,11 +31,11 @@ use Rattle.substrate.specs.declared.registered.Registered.{Registered}
 use Rattle.process_job.specs.Jobs.{job_numbered}
 use Rattle.tool_jobs.specs.Jobs.{Jobs}
 use Rattle.process_job.specs.declared.job.ProcessJob.{ProcessJob}
-use Rattle.tool_floor.specs.declared.tracking.Substrate.{Substrate}
-use Rattle.tool_floor.specs.Floor.{ToolFloor, with_shop, substrate_numbered, number_of}
-use Rattle.tool_floor.specs.Jobs.{is_material_here, is_carrier_here, is_in_use, is_of_carrier, names_carrier, can_join}
-use Rattle.tool_floor.specs.Machines.{floor_fired}
-use Rattle.tool_floor.specs.Substrates.{can_register, first_substrate, registers_at, registers_slot, registers_slots, registers_at_port, registers_found, reaches_verified}
+use Rattle.floor_model.specs.declared.tracked.Substrate.{Substrate}
+use Rattle.floor_model.specs.Floor.{ToolFloor, with_shop, substrate_numbered, number_of}
+use Rattle.floor_model.specs.Jobs.{is_material_here, is_carrier_here, is_in_use, is_of_carrier, names_carrier, can_join}
+use Rattle.floor_model.specs.Machines.{floor_fired}
+use Rattle.floor_model.specs.Substrates.{can_register, first_substrate, registers_at, registers_slot, registers_slots, registers_at_port, registers_found, reaches_verified}
 use Rattle.floor_moves.specs.Floor as law
 use Rattle.floor_moves.specs.Floor.{Loc, is_done}
 use Rattle.floor_moves.specs.Agree.{Agree}

@@ -27,11 +27,11 @@ use Rattle.process_job.specs.declared.job.Material.{Material}
 use Rattle.process_job.specs.declared.job.ProcessJob.{ProcessJob}
 use Rattle.substrate.specs.Record.{is_at_source, is_needing}
 use Rattle.tool_jobs.specs.Jobs.{Jobs}
-use Rattle.tool_floor.specs.declared.tracking.Substrate.{Substrate}
-use Rattle.tool_floor.specs.Floor.{ToolFloor, with_shop, substrate_numbered, number_of}
-use Rattle.tool_floor.specs.Jobs.{is_carrier_of, is_slot_named, names_slot_of, can_join, is_in_use, is_carrier_here, is_material_here}
-use Rattle.tool_floor.specs.Machines.{floor_starts, floor_fired}
-use Rattle.tool_floor.specs.Substrates.{is_of, without_carrier}
+use Rattle.floor_model.specs.declared.tracked.Substrate.{Substrate}
+use Rattle.floor_model.specs.Floor.{ToolFloor, with_shop, substrate_numbered, number_of}
+use Rattle.floor_model.specs.Jobs.{is_carrier_of, is_slot_named, names_slot_of, can_join, is_in_use, is_carrier_here, is_material_here}
+use Rattle.floor_model.specs.Machines.{floor_starts, floor_fired}
+use Rattle.floor_model.specs.Substrates.{is_of, without_carrier}
 use Rattle.floor_moves.specs.Floor as law
 use Rattle.floor_moves.specs.Floor.{Loc, is_done as is_done_by_numbers}
 use Rattle.floor_moves.specs.Agree.{Agree}

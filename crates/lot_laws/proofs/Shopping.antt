@@ -24,10 +24,10 @@ use Rattle.shop_floor.proofs.Apart.{IsOnly, all_follows, found_only, found_passe
 use Rattle.shop_floor.proofs.Asked.{written-keeps}
 use Rattle.shop_floor.proofs.Keeps.{row-keeps as shop_keeps, came-keeps, accessing-keeps}
 use Rattle.tool_jobs.specs.Jobs.{Jobs}
-use Rattle.tool_floor.specs.Floor.{ToolFloor, with_shop}
-use Rattle.tool_floor.specs.Jobs.{is_any_of_carrier}
-use Rattle.tool_floor.specs.Substrates.{reaches_verified}
-use Rattle.tool_floor.specs.Machines.{floor_starts, floor_fired}
+use Rattle.floor_model.specs.Floor.{ToolFloor, with_shop}
+use Rattle.floor_model.specs.Jobs.{is_any_of_carrier}
+use Rattle.floor_model.specs.Substrates.{reaches_verified}
+use Rattle.floor_model.specs.Machines.{floor_starts, floor_fired}
 use Rattle.place_laws.specs.Sound.{Sound}
 use Rattle.place_laws.proofs.Stays.{NonePresent}
 use Rattle.place_laws.proofs.Leaving.{Leaves, leaves_then, port_leaves}

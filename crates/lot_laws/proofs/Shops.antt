@@ -26,12 +26,12 @@ use Rattle.process_job.specs.Jobs.{job_numbered}
 use Rattle.tool_jobs.specs.Jobs.{Jobs}
 use Rattle.process_job.specs.declared.job.Material.{Material}
 use Rattle.process_job.specs.declared.job.ProcessJob.{ProcessJob}
-use Rattle.tool_floor.specs.declared.tracking.Substrate.{Substrate}
-use Rattle.tool_floor.specs.Floor.{ToolFloor, with_shop, substrate_numbered}
-use Rattle.tool_floor.specs.Jobs.{is_carrier_of, is_slot_named, names_slot_of, can_join, is_in_use, is_carrier_here, is_material_here, is_here, names_carrier, is_any_of_carrier}
-use Rattle.tool_floor.specs.Machines.{floor_machines, floor_starts, floor_fired, taken_along, accessing_starts}
-use Rattle.tool_floor.specs.Wants.{accessing_wants, is_quiet, are_back}
-use Rattle.tool_floor.specs.Substrates.{reaches_verified, without_carrier, registers_found}
+use Rattle.floor_model.specs.declared.tracked.Substrate.{Substrate}
+use Rattle.floor_model.specs.Floor.{ToolFloor, with_shop, substrate_numbered}
+use Rattle.floor_model.specs.Jobs.{is_carrier_of, is_slot_named, names_slot_of, can_join, is_in_use, is_carrier_here, is_material_here, is_here, names_carrier, is_any_of_carrier}
+use Rattle.floor_model.specs.Machines.{floor_machines, floor_starts, floor_fired, taken_along, accessing_starts}
+use Rattle.floor_model.specs.Wants.{accessing_wants, is_quiet, are_back}
+use Rattle.floor_model.specs.Substrates.{reaches_verified, without_carrier, registers_found}
 use Rattle.shop_floor.specs.Owning.{owner_number}
 use Rattle.floor_moves.specs.Floor.{is_done}
 use Rattle.place_laws.specs.Picture.{picture, of_one}

@@ -11,9 +11,9 @@ use Rattle.process_job.specs.declared.record.JobState.{JobState}
 use Rattle.process_job.specs.declared.record.JobState.TheVariants as state
 use Rattle.process_job.specs.declared.job.ProcessJob.{ProcessJob}
 use Rattle.tool_jobs.specs.Jobs.{Jobs}
-use Rattle.tool_floor.specs.declared.tracking.Substrate.{Substrate}
-use Rattle.tool_floor.specs.Floor.{ToolFloor, substrate_numbered, number_of}
-use Rattle.tool_floor.specs.Jobs.{job_of, names_carrier, is_any_of_carrier, is_stopping, is_aborting, can_join}
+use Rattle.floor_model.specs.declared.tracked.Substrate.{Substrate}
+use Rattle.floor_model.specs.Floor.{ToolFloor, substrate_numbered, number_of}
+use Rattle.floor_model.specs.Jobs.{job_of, names_carrier, is_any_of_carrier, is_stopping, is_aborting, can_join}
 use Rattle.floor_moves.specs.Floor as law
 use Rattle.floor_moves.specs.Floor.{is_done}
 use Rattle.place_laws.specs.Picture.{picture, of_one}

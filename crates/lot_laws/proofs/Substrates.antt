@@ -11,11 +11,11 @@ use Rattle.substrate.specs.declared.record.Transport.TheVariants as transport
 use Rattle.process_job.specs.Jobs.{job_numbered}
 use Rattle.process_job.specs.declared.job.ProcessJob.{ProcessJob}
 use Rattle.tool_jobs.proofs.Rows.{after_meets}
-use Rattle.tool_floor.specs.declared.tracking.Substrate.{Substrate}
-use Rattle.tool_floor.specs.Floor.{ToolFloor, substrate_numbered, number_of, change_numbered}
-use Rattle.tool_floor.specs.Jobs.{job_of, can_join}
-use Rattle.tool_floor.specs.Substrates.{is_outside}
-use Rattle.tool_floor.specs.Machines.{substrate_moves, with_moved}
+use Rattle.floor_model.specs.declared.tracked.Substrate.{Substrate}
+use Rattle.floor_model.specs.Floor.{ToolFloor, substrate_numbered, number_of, change_numbered}
+use Rattle.floor_model.specs.Jobs.{job_of, can_join}
+use Rattle.floor_model.specs.Substrates.{is_outside}
+use Rattle.floor_model.specs.Machines.{substrate_moves, with_moved}
 use Rattle.floor_moves.specs.Floor as law
 use Rattle.floor_moves.specs.Floor.{is_done}
 use Rattle.floor_moves.specs.Agree.{Agree}

@@ -26,9 +26,9 @@ use Rattle.tool_jobs.specs.Rows.{ended, process_starts, control_starts, control_
 use Rattle.tool_jobs.specs.Together.{AreTogether}
 use Rattle.tool_jobs.specs.Creating.{with_process, with_control, control_fault}
 use Rattle.tool_jobs.proofs.Rows.{stays_passive, after_meets}
-use Rattle.tool_floor.specs.Floor.{ToolFloor, with_jobs}
-use Rattle.tool_floor.specs.Jobs.{freed, sight, found_sight, is_first_here}
-use Rattle.tool_floor.specs.Machines.{floor_machines, floor_starts, floor_fired}
+use Rattle.floor_model.specs.Floor.{ToolFloor, with_jobs}
+use Rattle.floor_model.specs.Jobs.{freed, sight, found_sight, is_first_here}
+use Rattle.floor_model.specs.Machines.{floor_machines, floor_starts, floor_fired}
 use Rattle.place_laws.specs.Picture.{picture}
 use Rattle.place_laws.specs.Sound.{Sound}
 use Rattle.floor_laws.proofs.JobSight.{some_same}

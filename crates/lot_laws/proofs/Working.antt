@@ -9,13 +9,13 @@ use Rattle.substrate.specs.declared.record.Processing.{Processing}
 use Rattle.substrate.specs.declared.record.Processing.TheVariants as processing
 use Rattle.process_job.specs.declared.record.JobState.{JobState}
 use Rattle.process_job.specs.declared.job.ProcessJob.{ProcessJob}
-use Rattle.tool_floor.specs.declared.tracking.Substrate.{Substrate}
-use Rattle.tool_floor.specs.Floor.{ToolFloor, substrate_numbered}
-use Rattle.tool_floor.specs.Jobs.{job_of, is_job_so, is_stopping, is_aborting}
-use Rattle.tool_floor.specs.Substrates.{is_outside, is_in_slot}
-use Rattle.tool_floor.specs.Naming.{module_names, processes}
-use Rattle.tool_floor.specs.Wants.{substrate_wants}
-use Rattle.tool_floor.specs.Machines.{substrate_ready, with_moved, processing_machine, floor_fired}
+use Rattle.floor_model.specs.declared.tracked.Substrate.{Substrate}
+use Rattle.floor_model.specs.Floor.{ToolFloor, substrate_numbered}
+use Rattle.floor_model.specs.Jobs.{job_of, is_job_so, is_stopping, is_aborting}
+use Rattle.floor_model.specs.Substrates.{is_outside, is_in_slot}
+use Rattle.floor_model.specs.Naming.{module_names, processes}
+use Rattle.floor_model.specs.Wants.{substrate_wants}
+use Rattle.floor_model.specs.Machines.{substrate_ready, with_moved, processing_machine, floor_fired}
 use Rattle.floor_moves.specs.Floor as law
 use Rattle.floor_moves.specs.Floor.{named}
 use Rattle.floor_moves.specs.Effects.{worked}

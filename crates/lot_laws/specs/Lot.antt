@@ -16,11 +16,11 @@ use Rattle.control_job.specs.declared.job.ControlJob.{ControlJob}
 use Rattle.tool_jobs.specs.Jobs.{Jobs}
 use Rattle.tool_jobs.specs.Wants.{is_ending, ends_so}
 use Rattle.tool_jobs.specs.Together.{AreTogether}
-use Rattle.tool_floor.specs.declared.tracking.Substrate.{Substrate}
-use Rattle.tool_floor.specs.Floor.{ToolFloor, substrate_numbered}
-use Rattle.tool_floor.specs.Jobs.{names_slot_of, can_join, is_here, job_of, is_stopping, is_aborting}
-use Rattle.tool_floor.specs.Substrates.{reaches_verified}
-use Rattle.tool_floor.specs.Machines.{floor_fired}
+use Rattle.floor_model.specs.declared.tracked.Substrate.{Substrate}
+use Rattle.floor_model.specs.Floor.{ToolFloor, substrate_numbered}
+use Rattle.floor_model.specs.Jobs.{names_slot_of, can_join, is_here, job_of, is_stopping, is_aborting}
+use Rattle.floor_model.specs.Substrates.{reaches_verified}
+use Rattle.floor_model.specs.Machines.{floor_fired}
 use Rattle.floor_moves.specs.Floor.{is_done}
 use Rattle.place_laws.specs.Picture.{picture, of_substrate}
 use Rattle.place_laws.specs.Sound.{Sound}

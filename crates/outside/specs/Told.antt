@@ -14,6 +14,10 @@ Taken (Some old) new bytes = (rest : List ℕ) × (old ≡ bytes ++ rest) × (ne
 abbrev pub NothingLeft : Option (List ℕ) → Type 0
 NothingLeft left = MatchOption left ⊤ (λ bytes. bytes ≡ [])
 
+-- where the source tells, this is all that it had left
+abbrev pub Whole : Option (List ℕ) → List ℕ → Type 0
+Whole left text = MatchOption left ⊤ (λ bytes. bytes ≡ text)
+
 -- these bytes were put behind what was held
 abbrev pub Written : Option (List ℕ) → Option (List ℕ) → List ℕ → Type 0
 Written None new bytes = ⊤

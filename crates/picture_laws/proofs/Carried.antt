@@ -7,8 +7,8 @@ use Rattle.robot_moves.specs.Modules.{module_at, change_module}
 use Rattle.substrate.specs.Tables.{processing_number}
 use Rattle.substrate.specs.Places.{ArePlaces, substrate_named, moved}
 use Rattle.substrate.specs.declared.registered.Registered.{Registered}
-use Rattle.tool_floor.specs.declared.tracking.Substrate.{Substrate}
-use Rattle.tool_floor.specs.Floor.{ToolFloor, with_module}
+use Rattle.floor_model.specs.declared.tracked.Substrate.{Substrate}
+use Rattle.floor_model.specs.Floor.{ToolFloor, with_module}
 use Rattle.floor_moves.specs.Floor.{idle}
 use Rattle.floor_moves.specs.Effects.{moved as moved_by_numbers}
 use Rattle.floor_moves.specs.Agree.{Agree}

@@ -4,9 +4,9 @@ use Rattle.std.proofs.lemmas.Bool.Decides.{Decides-eqb}
 use Rattle.robot_moves.specs.declared.module.Module.{Module}
 use Rattle.robot_moves.specs.Modules.{module_at, change_module}
 use Rattle.substrate.specs.Tables.{processing_number}
-use Rattle.tool_floor.specs.declared.tracking.Substrate.{Substrate}
-use Rattle.tool_floor.specs.Floor.{ToolFloor, with_module, substrate_numbered, change_numbered, number_of}
-use Rattle.tool_floor.specs.Modules.{aligned}
+use Rattle.floor_model.specs.declared.tracked.Substrate.{Substrate}
+use Rattle.floor_model.specs.Floor.{ToolFloor, with_module, substrate_numbered, change_numbered, number_of}
+use Rattle.floor_model.specs.Modules.{aligned}
 use Rattle.gem_tables.specs.Table.{is_one_of}
 use Rattle.floor_moves.specs.Floor.{Module as ByNumber, set}
 use Rattle.floor_moves.specs.Effects.{turned}

@@ -10,8 +10,8 @@ use Rattle.carrier.specs.Carriers.{carrier_named, carrier_numbered, change_numbe
 use Rattle.shop_floor.specs.Floor.{floor_of, number_of as carrier_number}
 use Rattle.shop_floor.specs.Valid.{IsFloor}
 use Rattle.substrate.specs.Tables.{processing_number}
-use Rattle.tool_floor.specs.declared.tracking.Substrate.{Substrate}
-use Rattle.tool_floor.specs.Floor.{ToolFloor, with_shop, substrate_numbered, number_of}
+use Rattle.floor_model.specs.declared.tracked.Substrate.{Substrate}
+use Rattle.floor_model.specs.Floor.{ToolFloor, with_shop, substrate_numbered, number_of}
 use Rattle.floor_moves.specs.Carriers.{created, arrived, verified}
 use Rattle.floor_moves.specs.Effects.{accessed}
 use Rattle.floor_moves.specs.Agree.{Agree}

@@ -7,9 +7,9 @@ use Rattle.robot_moves.specs.declared.module.Module.TheVariants.{Idle}
 use Rattle.robot_moves.specs.declared.view.Move.{Move}
 use Rattle.robot_moves.specs.Modules.{module_at, change_module, given}
 use Rattle.substrate.specs.Tables.{processing_number}
-use Rattle.tool_floor.specs.declared.tracking.Substrate.{Substrate}
-use Rattle.tool_floor.specs.Floor.{ToolFloor}
-use Rattle.tool_floor.specs.Modules.{command, issued as given_to}
+use Rattle.floor_model.specs.declared.tracked.Substrate.{Substrate}
+use Rattle.floor_model.specs.Floor.{ToolFloor}
+use Rattle.floor_model.specs.Modules.{command, issued as given_to}
 use Rattle.floor_moves.specs.Floor.{busy}
 use Rattle.floor_moves.specs.Effects.{issued}
 use Rattle.floor_moves.specs.Agree.{Agree}

@@ -5,9 +5,9 @@ use Rattle.carrier.specs.Carriers.{carrier_numbered}
 use Rattle.process_job.specs.Jobs.{job_numbered, recipe_named}
 use Rattle.process_job.specs.declared.job.ProcessJob.{ProcessJob}
 use Rattle.tool_jobs.specs.Jobs.{Jobs}
-use Rattle.tool_floor.specs.declared.tracking.Substrate.{Substrate}
-use Rattle.tool_floor.specs.Floor.{substrate_numbered}
-use Rattle.tool_floor.specs.Jobs.{is_any_of_carrier, is_processing, is_stopping, is_aborting}
+use Rattle.floor_model.specs.declared.tracked.Substrate.{Substrate}
+use Rattle.floor_model.specs.Floor.{substrate_numbered}
+use Rattle.floor_model.specs.Jobs.{is_any_of_carrier, is_processing, is_stopping, is_aborting}
 use Rattle.floor_moves.specs.Floor.{JobView}
 use Rattle.floor_moves.specs.Agree.{SayAlike}
 use Rattle.place_laws.specs.Picture.{of_one, of_job, is_complete, chambers_in, job_view}

@@ -7,10 +7,10 @@ use Rattle.substrate.specs.Places.{ArePlaces, substrate_named, removed}
 use Rattle.substrate.specs.declared.record.Processing.{Processing}
 use Rattle.substrate.specs.declared.record.Processing.TheVariants as processing
 use Rattle.substrate.specs.declared.registered.Registered.{Registered}
-use Rattle.tool_floor.specs.declared.tracking.Substrate.{Substrate}
-use Rattle.tool_floor.specs.Floor.{ToolFloor, substrate_numbered}
-use Rattle.tool_floor.specs.Machines.{with_moved, floor_fired}
-use Rattle.tool_floor.specs.Substrates.{removed_where}
+use Rattle.floor_model.specs.declared.tracked.Substrate.{Substrate}
+use Rattle.floor_model.specs.Floor.{ToolFloor, substrate_numbered}
+use Rattle.floor_model.specs.Machines.{with_moved, floor_fired}
+use Rattle.floor_model.specs.Substrates.{removed_where}
 use Rattle.floor_moves.specs.Effects.{lost}
 use Rattle.floor_moves.specs.Agree.{Agree}
 use Rattle.place_laws.specs.Picture.{picture, module_of, of_one}

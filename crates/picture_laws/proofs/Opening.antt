@@ -4,7 +4,7 @@ use Rattle.robot_moves.specs.declared.module.Module.TheVariants.{Idle}
 use Rattle.robot_moves.specs.Modules.{module_at, first_modules}
 use Rattle.substrate.specs.Places.{no_places}
 use Rattle.tool_events.specs.declared.recipes.Recipe.{Recipe}
-use Rattle.tool_floor.specs.Floor.{opening}
+use Rattle.floor_model.specs.Floor.{opening}
 use Rattle.floor_moves.specs.Floor.{idle, opening as opening_by_numbers}
 use Rattle.floor_moves.specs.Agree.{Agree}
 use Rattle.floor_moves.specs.Valid.{Valid}

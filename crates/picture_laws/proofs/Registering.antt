@@ -9,15 +9,15 @@ use Rattle.robot_moves.specs.Modules.{module_at}
 use Rattle.substrate.specs.Tables.{processing_number}
 use Rattle.substrate.specs.Places.{registered as registered_there}
 use Rattle.substrate.specs.declared.registered.Registered.{Registered}
-use Rattle.tool_floor.specs.declared.tracking.Substrate.{Substrate}
-use Rattle.tool_floor.specs.Floor.{ToolFloor, substrate_numbered, number_of}
-use Rattle.tool_floor.specs.Substrates.{first_substrate}
+use Rattle.floor_model.specs.declared.tracked.Substrate.{Substrate}
+use Rattle.floor_model.specs.Floor.{ToolFloor, substrate_numbered, number_of}
+use Rattle.floor_model.specs.Substrates.{first_substrate}
 use Rattle.floor_moves.specs.Floor.{Loc}
 use Rattle.floor_moves.specs.Carriers.{registered}
 use Rattle.floor_moves.specs.Agree.{Agree}
 use Rattle.process_job.specs.Jobs.{job_numbered, recipe_named}
 use Rattle.process_job.specs.declared.job.ProcessJob.{ProcessJob}
-use Rattle.tool_floor.specs.Jobs.{is_processing, is_stopping, is_aborting}
+use Rattle.floor_model.specs.Jobs.{is_processing, is_stopping, is_aborting}
 use Rattle.place_laws.specs.Picture.{picture, loc_of, place_in, module_of, of_one, of_job, is_complete, chambers_in}
 use Rattle.picture_laws.proofs.Columns.{unknown_none}
 use Rattle.place_laws.proofs.Appended.{numbers_on, says_on, none_of_front}

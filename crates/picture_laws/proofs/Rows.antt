@@ -3,9 +3,9 @@ use Rattle.std.proofs.Common.{◌≡◌, ℕ, ◌==◌, Bool, true, false, if◌
 use Rattle.std.proofs.lemmas.Bool.Decides.{Decides-eqb}
 use Rattle.gem_tables.specs.Table.{after, is_one_of}
 use Rattle.substrate.specs.Tables.{processing_number, processing_table}
-use Rattle.tool_floor.specs.declared.tracking.Substrate.{Substrate}
-use Rattle.tool_floor.specs.Floor.{ToolFloor, substrate_numbered, number_of}
-use Rattle.tool_floor.specs.Machines.{substrate_moves, with_moved}
+use Rattle.floor_model.specs.declared.tracked.Substrate.{Substrate}
+use Rattle.floor_model.specs.Floor.{ToolFloor, substrate_numbered, number_of}
+use Rattle.floor_model.specs.Machines.{substrate_moves, with_moved}
 use Rattle.floor_moves.specs.Effects.{worked}
 use Rattle.floor_moves.specs.Agree.{Agree}
 use Rattle.floor_moves.specs.Valid.{Valid}

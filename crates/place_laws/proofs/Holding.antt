@@ -15,9 +15,9 @@ use Rattle.substrate.specs.Tables.{processing_number}
 use Rattle.substrate.specs.Record.{is_in_process}
 use Rattle.substrate.specs.declared.record.Processing.{Processing}
 use Rattle.substrate.specs.declared.record.Processing.TheVariants as processing
-use Rattle.tool_floor.specs.declared.tracking.Substrate.{Substrate}
-use Rattle.tool_floor.specs.Floor.{ToolFloor, substrate_numbered, number_of}
-use Rattle.tool_floor.specs.Kept.{RiseTo}
+use Rattle.floor_model.specs.declared.tracked.Substrate.{Substrate}
+use Rattle.floor_model.specs.Floor.{ToolFloor, substrate_numbered, number_of}
+use Rattle.floor_model.specs.Floor.{RiseTo}
 use Rattle.floor_moves.specs.Floor.{slot, own}
 use Rattle.floor_moves.specs.Valid.{IsDistinct}
 use Rattle.place_laws.specs.Picture.{picture, loc_of, port_in, slot_in, port_number, where_present, of_one}

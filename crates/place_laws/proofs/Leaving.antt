@@ -24,8 +24,8 @@ use Rattle.shop_floor.proofs.Apart.{all_both, all_follows, all_filtered, all_cha
 use Rattle.shop_floor.proofs.Belonging.{ports_length}
 use Rattle.shop_floor.proofs.Keeps.{with_arrival, all_true}
 use Rattle.shop_floor.proofs.Numbers.{all_numbered}
-use Rattle.tool_floor.specs.declared.tracking.Substrate.{Substrate}
-use Rattle.tool_floor.specs.Substrates.{reaches_verified}
+use Rattle.floor_model.specs.declared.tracked.Substrate.{Substrate}
+use Rattle.floor_model.specs.Substrates.{reaches_verified}
 use Rattle.place_laws.specs.Ports.{AtPorts}
 use Rattle.place_laws.specs.Standing.{AreRegistered}
 use Rattle.place_laws.proofs.Stays.{GoesOn, Stay, stay_same, stay_then, stay_numbered, stay_named, stay_without, stay_found, NonePresent, none_present, LeavesSlots, leaves-registered, not-verified}

@@ -16,8 +16,8 @@ use Rattle.shop_floor.specs.Machines.{floor_starts, floor_fired}
 use Rattle.shop_floor.specs.Valid.{IsFloor}
 use Rattle.shop_floor.proofs.Cases.{starts_at_port}
 use Rattle.shop_floor.proofs.Keeps.{own_some}
-use Rattle.tool_floor.specs.declared.tracking.Substrate.{Substrate}
-use Rattle.tool_floor.specs.Substrates.{reaches_verified}
+use Rattle.floor_model.specs.declared.tracked.Substrate.{Substrate}
+use Rattle.floor_model.specs.Substrates.{reaches_verified}
 use Rattle.place_laws.specs.Ports.{AtPorts}
 use Rattle.place_laws.proofs.Leaving.{Leaves, port_leaves, carrier_leaves, id_goes, access_goes, map_goes, bound_leaves, arrives_leaves, replaces_leaves, then_fires}
 

@@ -8,7 +8,7 @@ use Rattle.carrier.specs.declared.carrier.Carrier.{Carrier}
 use Rattle.carrier.specs.Record.{is_map_verified}
 use Rattle.carrier.specs.Carriers.{has_name, carrier_numbered, change_numbered, change_named, without, with_created, found_or_created, is_known}
 use Rattle.shop_floor.specs.Floor.{is_present}
-use Rattle.tool_floor.specs.declared.tracking.Substrate.{Substrate}
+use Rattle.floor_model.specs.declared.tracked.Substrate.{Substrate}
 use Rattle.place_laws.specs.Standing.{IsCarried, is_that_of, AreRegistered, code_of}
 
 -- a carrier that is present with map VERIFIED goes on to be so, with its name and at its port

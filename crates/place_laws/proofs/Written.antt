@@ -18,7 +18,7 @@ use Rattle.shop_floor.specs.Requests.{carrier_code, carrier_written, created as 
 use Rattle.shop_floor.specs.Valid.{port_of, Belongs, IsFloor}
 use Rattle.shop_floor.proofs.Apart.{IsOnly, all_follows, all_pushed, all_changed, found_only, found_passes, named_so, has_its_name}
 use Rattle.shop_floor.proofs.Keeps.{all_true}
-use Rattle.tool_floor.specs.declared.tracking.Substrate.{Substrate}
+use Rattle.floor_model.specs.declared.tracked.Substrate.{Substrate}
 use Rattle.place_laws.specs.Standing.{AreRegistered}
 use Rattle.place_laws.proofs.Stays.{stay_more, stay_named, NonePresent, leaves-registered, not-verified, at_found}
 use Rattle.place_laws.proofs.Leaving.{Leaves, leaves_same, found_changes, forgotten_leaves}

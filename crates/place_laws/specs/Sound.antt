@@ -14,10 +14,10 @@ use Rattle.process_job.specs.declared.job.ProcessJob.{ProcessJob}
 use Rattle.process_job.specs.declared.record.JobState.{JobState}
 use Rattle.process_job.specs.declared.record.JobState.TheVariants.{Queued}
 use Rattle.tool_jobs.specs.Jobs.{Jobs}
-use Rattle.tool_floor.specs.declared.tracking.Substrate.{Substrate}
-use Rattle.tool_floor.specs.Floor.{ToolFloor, substrate_numbered}
-use Rattle.tool_floor.specs.Kept.{RiseTo}
-use Rattle.tool_floor.specs.Jobs.{job_of, names_carrier}
+use Rattle.floor_model.specs.declared.tracked.Substrate.{Substrate}
+use Rattle.floor_model.specs.Floor.{ToolFloor, substrate_numbered}
+use Rattle.floor_model.specs.Floor.{RiseTo}
+use Rattle.floor_model.specs.Jobs.{job_of, names_carrier}
 use Rattle.floor_moves.specs.Valid.{Valid, ValidBut}
 use Rattle.place_laws.specs.Picture.{picture}
 use Rattle.place_laws.specs.Ports.{AtPorts, Unloading}

@@ -11,7 +11,7 @@ use Rattle.carrier.specs.declared.carrier.Carrier.{Carrier}
 use Rattle.carrier.specs.Record.{is_map_verified}
 use Rattle.carrier.specs.Carriers.{carrier_numbered}
 use Rattle.substrate.specs.Locations.{is_same}
-use Rattle.tool_floor.specs.declared.tracking.Substrate.{Substrate}
+use Rattle.floor_model.specs.declared.tracked.Substrate.{Substrate}
 
 -- ---- a substrate and its carrier
 

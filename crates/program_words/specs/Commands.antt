@@ -23,12 +23,14 @@ most_carriers = 10000
 -- the words behind the seed spell the command: `CARRIERS CONFIG`
 abbrev pub SpellsBehindSeed : ℕ → List (List ℕ) → Words → Type 0
 SpellsBehindSeed seed words (command.Feed config) = ⊥
+SpellsBehindSeed seed words (command.Serve config) = ⊥
 SpellsBehindSeed seed words (command.Batch s carriers config) =
     (s ≡ seed) × ((c : List ℕ) × (words ≡ c ∷ (config ∷ [])) × (number_in 1 most_carriers c ≡ Some carriers) × IsTrue (is_file_word config))
 
--- the words spell the command: `feed CONFIG`, or `batch SEED CARRIERS CONFIG`
+-- the words spell the command: `feed CONFIG`, `serve CONFIG`, or `batch SEED CARRIERS CONFIG`
 abbrev pub Spells : List (List ℕ) → Words → Type 0
 Spells words (command.Feed config) = (words ≡ codes "feed" ∷ (config ∷ [])) × IsTrue (is_file_word config)
+Spells words (command.Serve config) = (words ≡ codes "serve" ∷ (config ∷ [])) × IsTrue (is_file_word config)
 Spells words (command.Batch seed carriers config) =
     (s : List ℕ) × (c : List ℕ) × (words ≡ codes "batch" ∷ (s ∷ (c ∷ (config ∷ [])))) × (number_in 0 most_seed s ≡ Some seed)
     × (number_in 1 most_carriers c ≡ Some carriers) × IsTrue (is_file_word config)
@@ -40,6 +42,10 @@ Places = List (List ℕ → Bool)
 -- `feed CONFIG`
 abbrev pub feed_places : Places
 feed_places = (λ word. bytes_eq word (codes "feed")) ∷ (is_file_word ∷ [])
+
+-- `serve CONFIG`
+abbrev pub serve_places : Places
+serve_places = (λ word. bytes_eq word (codes "serve")) ∷ (is_file_word ∷ [])
 
 -- a number of at least and at most so much
 abbrev pub takes_number : ℕ → ℕ → List ℕ → Bool
@@ -73,7 +79,7 @@ later (Some p) (Some q) = Some (max p q)
 -- The first word, counted from 0, that fits no command, where the words spell none: some command takes the words before it, and
 -- none goes on with it. A word that is missing counts as the one that doesn't fit.
 abbrev pub misfit : List (List ℕ) → Option ℕ
-misfit words = later (misfit_of 0 feed_places words) (misfit_of 0 batch_places words)
+misfit words = later (later (misfit_of 0 feed_places words) (misfit_of 0 batch_places words)) (misfit_of 0 serve_places words)
 
 -- the place that a fault tells
 abbrev pub place_of : WordsFault → ℕ

@@ -54,6 +54,7 @@ Standard error tells why the program ends. Its status is:
   5  full E B I              the history is full: entries, bytes, bytes of input
   6  line N at P             line N of the input is none from byte P on
   7  no memory
+  8  door fault              the door failed, or closed before the run ended
 
 docs/profile has all of it: words.md, configuration.md, lines.md.";
 
@@ -61,6 +62,9 @@ docs/profile has all of it: words.md, configuration.md, lines.md.";
 fn program<'a>(alloc: Global) -> Result<Command<'a>, AllocError> {
     let feed = Command::new(alloc, "feed").about(
         "Reads lines from standard input and prints lines: feed CONFIG",
+    );
+    let serve = Command::new(alloc, "serve").about(
+        "Listens on 127.0.0.1 and reads a script from standard input: serve CONFIG",
     );
     let batch = Command::new(alloc, "batch").about(
         "Processes carriers, reads no input and prints a summary: batch SEED CARRIERS CONFIG",
@@ -75,15 +79,16 @@ fn program<'a>(alloc: Global) -> Result<Command<'a>, AllocError> {
         .help("Prints the name and the version");
     Command::new(alloc, "gem300_tool")
         .version("1.0.00")
-        .about("A GEM300 equipment controller, after SEMI E5, E30, E37 and E87")
+        .about("A GEM300 equipment controller, after SEMI E5, E30, E37, E87, E90, E40 and E94")
         .override_usage(
-            "gem300_tool feed CONFIG\n       gem300_tool batch SEED CARRIERS CONFIG\n       gem300_tool --help | --version",
+            "gem300_tool feed CONFIG\n       gem300_tool serve CONFIG\n       gem300_tool batch SEED CARRIERS CONFIG\n       gem300_tool --help | --version",
         )
         .after_help(MORE)
         .disable_help_flag(true)
         .disable_version_flag(true)
         .disable_help_subcommand(true)
         .subcommand(feed)?
+        .subcommand(serve)?
         .subcommand(batch)?
         .arg(help)?
         .arg(version)

@@ -1,8 +1,9 @@
 //! The commands.
 ghost use Rattle.std.specs.Prelude.{◌≡◌, ◌≤◌, ◌↔◌, Ok, Some, None, IfOk, IfErr, IfSome, IsOk, IsTrue, [], ◌∷◌, ◌<◌, codes};
 ghost use Rattle.program_words.specs.declared.words.Words.{Words};
+ghost use Rattle.std.specs.Str.{bytes_eq};
 ghost use Rattle.program_words.specs.Numbers.{number_in};
-ghost use Rattle.program_words.specs.Commands.{is_file_word, misfit_of, feed_places, batch_places, misfit, Spells, SpellsBehindSeed, places_behind_seed, places_behind_batch, place_of};
+ghost use Rattle.program_words.specs.Commands.{is_file_word, misfit_of, feed_places, serve_places, batch_places, misfit, Spells, SpellsBehindSeed, places_behind_seed, places_behind_batch, place_of};
 
 use crate::number::number_in;
 use gem_ids::Text80;
@@ -18,6 +19,9 @@ const MOST_CARRIERS: u64 = 10_000;
 pub enum Words {
     /// `feed CONFIG`: reads lines from standard input, under the configuration in this file.
     Feed(Text80),
+    /// `serve CONFIG`: listens on 127.0.0.1 at the configured port under the configuration in this file, and reads a script from
+    /// standard input.
+    Serve(Text80),
     /// `batch SEED CARRIERS CONFIG`: processes so many carriers, 1 to 10,000, under the configuration in this file. The order in
     /// which its modules answer comes of the seed.
     Batch(u64, u32, Text80),
@@ -67,19 +71,38 @@ fn last_file(words: &[Text80], place: u64) -> Result<Text80, u64>
     }
 }
 
+// The file behind this name, where the words are both, or the place of the first that doesn't fit.
+fn file_behind(name: &[u8], words: &[Text80]) -> Result<Text80, u64>
+    ensures ok { IfOk result (λ config. (words.now ≡ name.now ∷ (config ∷ [])) × IsTrue (is_file_word config)) }
+    ensures place { IfErr result (λ place. misfit_of 0 ((λ word. bytes_eq word name.now) ∷ (is_file_word ∷ [])) words.now ≡ Some place) }
+{
+    let Some((word, words)) = split_word(words) else {
+        return Err(0);
+    };
+    if word.as_bytes() != name {
+        return Err(0);
+    }
+    last_file(words, 1)
+}
+
 // The command `feed CONFIG`, or the place of the first word that doesn't fit it.
 fn feed_of(words: &[Text80]) -> Result<Words, u64>
     ensures ok { IfOk result (λ w. Spells words.now w) }
     ensures place { IfErr result (λ place. misfit_of 0 feed_places words.now ≡ Some place) }
 {
-    let Some((name, words)) = split_word(words) else {
-        return Err(0);
-    };
-    if name.as_bytes() != b"feed".as_slice() {
-        return Err(0);
-    }
-    match last_file(words, 1) {
+    match file_behind(b"feed".as_slice(), words) {
         Ok(config) => Ok(Words::Feed(config)),
+        Err(place) => Err(place),
+    }
+}
+
+// The command `serve CONFIG`, or the place of the first word that doesn't fit it.
+fn serve_of(words: &[Text80]) -> Result<Words, u64>
+    ensures ok { IfOk result (λ w. Spells words.now w) }
+    ensures place { IfErr result (λ place. misfit_of 0 serve_places words.now ≡ Some place) }
+{
+    match file_behind(b"serve".as_slice(), words) {
+        Ok(config) => Ok(Words::Serve(config)),
         Err(place) => Err(place),
     }
 }
@@ -129,9 +152,9 @@ fn batch_of(words: &[Text80]) -> Result<Words, u64>
     batch_behind_name(words)
 }
 
-/// The command that the words spell (this tool's profile, the program's words): `feed CONFIG`, or `batch SEED CARRIERS CONFIG` with
-/// numbers in decimal digits without leading zeros. A file is a word that isn't empty and doesn't begin with a minus. `Place`
-/// comes exactly where the words spell none. Takes no memory.
+/// The command that the words spell (this tool's profile, the program's words): `feed CONFIG`, `serve CONFIG`, or
+/// `batch SEED CARRIERS CONFIG` with numbers in decimal digits without leading zeros. A file is a word that isn't empty and doesn't
+/// begin with a minus. `Place` comes exactly where the words spell none. Takes no memory.
 pub fn command_of(words: &[Text80]) -> Result<Words, WordsFault>
     ensures command { IfOk result (λ w. Spells words.now w) }
     ensures place { IfErr result (λ e. misfit words.now ≡ Some (place_of e)) }
@@ -142,8 +165,12 @@ pub fn command_of(words: &[Text80]) -> Result<Words, WordsFault>
         Ok(command) => return Ok(command),
         Err(place) => place,
     };
-    match batch_of(words) {
+    let batch = match batch_of(words) {
+        Ok(command) => return Ok(command),
+        Err(place) => place,
+    };
+    match serve_of(words) {
         Ok(command) => Ok(command),
-        Err(place) => Err(WordsFault::Place(feed.max(place))),
+        Err(place) => Err(WordsFault::Place(feed.max(batch).max(place))),
     }
 }

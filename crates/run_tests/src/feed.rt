@@ -526,6 +526,7 @@ fn each_cause_has_its_text(rt: HostRuntime) -> Result<(), Fail> {
         (Cause::Full(40, 0, 500), "full 40 0 500"),
         (Cause::Line(3, 5), "line 3 at 5"),
         (Cause::NoMemory, "no memory"),
+        (Cause::Door, "door fault"),
     ] {
         let told = cause.text(alloc)?.ok_or("a text")?;
         assert_eq!(rt; told.as_str(), text);

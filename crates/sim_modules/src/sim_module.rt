@@ -1,6 +1,6 @@
 //! A simulated module.
 
-ghost use Rattle.std.specs.Prelude.{◌≡◌, IfOk};
+ghost use Rattle.std.specs.Prelude.{◌≡◌, [], IfOk};
 ghost use Rattle.sim_modules.specs.Acting.{begun, fails_next, answered, one_more};
 
 use gem_ids::ModuleId;
@@ -37,6 +37,17 @@ impl SimModule {
             fails,
             acts: 0,
         })
+    }
+
+    /// A module of this number that did nothing yet and fails at no act. Takes no memory.
+    pub fn without_failures(alloc: Global, m: ModuleId) -> SimModule
+        ensures { result ≡ begun m [] }
+    {
+        SimModule {
+            number: m,
+            fails: Vec::new(alloc),
+            acts: 0,
+        }
     }
 
     /// Its number.

@@ -13,4 +13,5 @@
 mod react;
 mod tool;
 
+pub use history_totals::Totals;
 pub use tool::Core;

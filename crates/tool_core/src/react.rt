@@ -8,6 +8,8 @@ ghost use Rattle.gem_model.specs.Verdict.{header_of};
 ghost use Rattle.gem_model.specs.Step.{acts, step, step_from, hosted, linked};
 ghost use Rattle.host_requests.specs.Short.{IsShort};
 ghost use Rattle.core_shop.specs.Reactions.{Acts, IsLinkEvent, outcome_of};
+ghost use Rattle.gem_model.specs.Sizes.{counted};
+ghost use Rattle.history_totals.specs.Counts.{completed_from, completed_by};
 ghost use Rattle.tool_core.specs.Steps.{done, StepsFrom, Steps};
 
 use core_host::header_of;
@@ -135,51 +137,56 @@ fn act(
     Ok(true)
 }
 
-/// What an event does, where the moment was raised from this one: it acts, and then the tool settles. False: it has to
-/// wait.
+/// What an event does, where the moment was raised from this one: it acts, and then the tool settles, and it is told how many
+/// control jobs were completed. False: it has to wait.
 fn step(
     plant: &mut Plant,
     alloc: Global,
     before: Moment,
     event: &Event,
     reaction: &mut Reaction,
+    completed: &mut u64,
 ) -> Result<bool, AllocError>
     requires room { plant.old.link.session + 1 < 2 ^ 64 }
     requires short { event_bytes event.now ≤ 2 ^ 29 }
     requires fresh { reaction.old ≡ done }
     ensures steps { IfOk result (λ goes. goes ≡ true → StepsFrom before.0 plant.old event.now reaction.new plant.new) }
+    ensures completed { IfOk result (λ goes. goes ≡ true → completed.new ≡ counted (completed_from before.0 plant.old event.now)) }
     ensures waits { IfOk result (λ goes. goes ≡ false → step_from before.0 plant.old event.now ≡ None) }
 {
     if plant.is_quitting() {
         reaction.answer = Answer::Ended;
+        *completed = 0;
         return Ok(true);
     }
     if !act(plant, alloc, before, event, reaction)? {
         return Ok(false);
     }
-    core_shop::follow(plant, alloc)?;
+    *completed = core_shop::follow(plant, alloc)?;
     Ok(true)
 }
 
-/// What an event does that is posted at a moment. It is told in the reaction, which says before that the event was done.
-/// False: the event has to wait. After want of memory, and where it has to wait, nothing is said of the plant. The text of an
-/// event has at most 536,870,912 bytes.
+/// What an event does that is posted at a moment. It is told in the reaction, which says before that the event was done, and so
+/// is how many control jobs it completed. False: the event has to wait. After want of memory, and where it has to wait, nothing is
+/// said of the plant. The text of an event has at most 536,870,912 bytes.
 pub fn react(
     plant: &mut Plant,
     alloc: Global,
     at: Moment,
     event: &Event,
     reaction: &mut Reaction,
+    completed: &mut u64,
 ) -> Result<bool, AllocError>
     requires room { plant.old.link.session + 1 < 2 ^ 64 }
     requires short { event_bytes event.now ≤ 2 ^ 29 }
     requires fresh { reaction.old ≡ done }
     ensures steps { IfOk result (λ goes. goes ≡ true → Steps plant.old at.0 event.now reaction.new plant.new) }
+    ensures completed { IfOk result (λ goes. goes ≡ true → completed.new ≡ counted (completed_by plant.old at.0 event.now)) }
     ensures waits { IfOk result (λ goes. goes ≡ false → step plant.old at.0 event.now ≡ None) }
 {
     let before = plant.moment();
     plant.raise(at);
-    step(plant, alloc, before, event, reaction)
+    step(plant, alloc, before, event, reaction, completed)
 }
 
 /// Whether an event has to wait at this moment: a take that finds no frame, a fetch that finds no command, a look at the clock

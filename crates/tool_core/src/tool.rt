@@ -14,6 +14,8 @@ ghost use Rattle.history_laws.specs.Recorded.{Recorded};
 ghost use Rattle.gem_model.specs.Sessions.{session_count, session_end, session_out, frame_taken};
 ghost use Rattle.gem_model.specs.Sizes.{bytes_of, counted, is_full};
 ghost use Rattle.core_view.specs.Counts.{count_of, taker};
+ghost use Rattle.history_totals.specs.Counts.{done_by};
+ghost use Rattle.history_totals.specs.Totals.{totals_at, totals_of};
 
 use crate::react::{must_wait, react};
 use core_shop::Reaction;
@@ -21,12 +23,13 @@ use core_state::Plant;
 use core_view::{Entries, SessionCounts};
 use event_reports::{NoMemory, Values};
 use gem_ids::{Moment, Text80};
+use history_totals::Totals;
 use hsms_frame::Arrival;
 use note_line::Fate;
 use secs_items::Item;
 use std::alloc::{AllocError, Global};
 use std::marker::Model;
-use tool_events::{Answer, Config, Entry, Event, PostFault, SessionCause, SessionEnd};
+use tool_events::{Answer, Config, Entry, Event, PostFault, SessionCause, SessionEnd, Signal};
 
 /// How much text an event holds, in bytes: that of a frame of the host. One that is too long holds none.
 fn event_bytes(event: &Event) -> u64
@@ -84,6 +87,38 @@ fn add_taken(counts: &mut SessionCounts, event: &Event, answer: &Answer)
     }
 }
 
+/// How many commands an event ends by Done, 0 or 1.
+fn done_by(plant: &Plant, event: &Event) -> u64
+    ensures { result ≡ done_by plant.now event.now }
+{
+    match event {
+        Event::Signal(Signal::Done(m, n)) => {
+            if plant.is_quitting() {
+                return 0;
+            }
+            if plant.is_open(*m, *n) { 1 } else { 0 }
+        }
+        _ => 0,
+    }
+}
+
+/// The counts behind an event that ended so many commands by Done and completed so many control jobs, by those before it and by
+/// what the plant tells behind it. `None`: the plant can't tell them, which comes only after want of memory.
+fn totals_behind(before: &Totals, plant: &Plant, done: u64, completed: u64) -> Option<Totals>
+    ensures { IfSome result (λ totals. totals ≡ totals_at plant.now (before.now.done + done) (before.now.completed + completed)) }
+{
+    let substrates = plant.registrations()?;
+    Some(Totals {
+        sessions: plant.session_count(),
+        notes: plant.note_count(),
+        answered: plant.answered_count(),
+        dropped: plant.dropped_count(),
+        done: before.done.saturating_add(done),
+        completed: before.completed.saturating_add(completed),
+        substrates,
+    })
+}
+
 /// The tool, with its history. Contracts see its configuration, the state that its history leads to, the history, and
 /// whether it can go on. The state is that of the plant while the core is whole.
 #[derive(Drop)]
@@ -95,6 +130,7 @@ pub struct Core {
     written: SessionCounts,
     bytes: u64,
     sessions: u64,
+    totals: Totals,
     is_up: bool,
     is_whole: bool,
 }
@@ -108,7 +144,7 @@ impl Model for Core {
 
     ghost view = { λ c. record { config = c.config; state = state_of c.config c.entries.items; history = c.entries.items; is_whole = c.is_whole } };
 
-    ghost invariant = { λ c. Replays c.config c.plant c.entries.items c.ends.items c.written c.bytes c.sessions c.is_up c.is_whole };
+    ghost invariant = { λ c. Replays c.config c.plant c.entries.items c.ends.items c.written c.bytes c.sessions c.totals c.is_up c.is_whole };
 }
 
 impl Values for Core {
@@ -139,6 +175,15 @@ impl Core {
             written: SessionCounts::none(alloc),
             bytes: 0,
             sessions: 0,
+            totals: Totals {
+                sessions: 0,
+                notes: 0,
+                answered: 0,
+                dropped: 0,
+                done: 0,
+                completed: 0,
+                substrates: 0,
+            },
             is_up: false,
             is_whole: true,
         })
@@ -231,6 +276,13 @@ impl Core {
         self.written.of(session)
     }
 
+    /// What is counted over the history. Takes no memory, and the core needn't be whole.
+    pub fn totals(&self) -> Totals
+        ensures { result ≡ totals_of self.now.config self.now.history }
+    {
+        self.totals
+    }
+
     /// How much text the history holds, in bytes.
     pub fn bytes(&self) -> u64
         ensures { result ≡ bytes_of self.now.history }
@@ -295,15 +347,29 @@ impl Core {
         // What an event that finds no memory leaves of the plant counts for nothing.
         self.is_whole = false;
         let mut reaction = Reaction::answered(Answer::Done);
-        let Ok(goes) = react(&mut self.plant, alloc, at, &event, &mut reaction) else {
+        let done = done_by(&self.plant, &event);
+        let mut completed = 0;
+        let Ok(goes) = react(
+            &mut self.plant,
+            alloc,
+            at,
+            &event,
+            &mut reaction,
+            &mut completed,
+        ) else {
             return Err(PostFault::NoMemory);
         };
         if !goes {
             return Err(PostFault::Again);
         }
+        // The plant found memory, and tells its counts.
+        let Some(totals) = totals_behind(&self.totals, &self.plant, done, completed) else {
+            return Err(PostFault::NoMemory);
+        };
         add_taken(&mut self.written, &event, &reaction.answer);
         self.bytes += event_bytes(&event);
         self.sessions = self.plant.session_count();
+        self.totals = totals;
         self.is_up = self.plant.is_up();
         self.entries.push_reserved(Entry { seat, at, event });
         add_end(&mut self.ends, reaction.ended);

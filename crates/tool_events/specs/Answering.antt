@@ -2,16 +2,19 @@
 use Rattle.std.specs.Prelude.{Bool, true, false}
 use Rattle.tool_events.specs.declared.event.Event.{Event}
 use Rattle.tool_events.specs.declared.event.Event.TheVariants as event
+use Rattle.tool_events.specs.declared.event.OperCmd.TheVariants as oper
 use Rattle.tool_events.specs.declared.answer.Answer.{Answer}
 use Rattle.tool_events.specs.declared.answer.Answer.TheVariants as answer
 
--- the answers that an event may have: each may have Ended, and one more where a line says so (this tool's profile, events and answers)
+-- The answers that an event may have: each may have Ended, and one more where a line says so. That the run ends is always accepted
+-- (this tool's profile, events and answers, and operator words).
 abbrev pub may_be_answered : Event → Answer → Bool
 may_be_answered _ answer.Ended = true
 may_be_answered event.LinkUp (answer.Session session) = true
 may_be_answered (event.LinkDown session cause) answer.Done = true
 may_be_answered (event.Host session arrival) answer.Done = true
 may_be_answered (event.Take session) (answer.Frame bytes) = true
+may_be_answered (event.Oper oper.Quit) (answer.Oper accepted) = accepted
 may_be_answered (event.Oper command) (answer.Oper accepted) = true
 may_be_answered (event.Signal signal) answer.Done = true
 may_be_answered (event.Fetch module_id) (answer.Command command) = true

@@ -1,4 +1,4 @@
--- How much text an event holds.
+-- How much text an event holds, and may hold.
 use Rattle.std.specs.Prelude.{ℕ, length}
 use Rattle.hsms_frame.specs.declared.frame.Arrival.{Arrival}
 use Rattle.hsms_frame.specs.declared.frame.Arrival.TheVariants as arrival
@@ -14,3 +14,7 @@ arrival_bytes (arrival.TooLong header field) = 0
 abbrev pub event_bytes : Event → ℕ
 event_bytes (event.Host session arrival) = arrival_bytes arrival
 event_bytes _ = 0
+
+-- the longest text of a message, in bytes (this tool's profile, limits)
+abbrev pub text_bytes : ℕ
+text_bytes = 262144

@@ -23,7 +23,7 @@ pub trait Desk {
     ghost full_bytes: { Self → ℕ };
 
     /// Posts an event at a moment. `LinkUp` is answered with the session's number, `Take` with a frame, `Oper` with
-    /// whether it was accepted, `Fetch` with a command, and `Listen` with nothing but `Ended`; the others with `Done`.
+    /// whether it was accepted, which `Quit` always is, `Fetch` with a command, and `Listen` with nothing but `Ended`; the others with `Done`.
     /// Each may be answered `Ended` in place of that. `Again`: it has to wait, as only `Take`, `Fetch`, `Tick`, `Listen`
     /// and `Watch` do. `Full`: the history takes no more. Then, and after want of memory, nothing was recorded.
     fn post(&mut self, at: Moment, event: Event) -> Result<Answer, PostFault>

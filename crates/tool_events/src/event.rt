@@ -95,6 +95,9 @@ pub enum OperCmd {
     Quit,
 }
 
+/// The longest text of a message, in bytes (this tool's profile, limits).
+pub const TEXT_BYTES: u32 = 262_144;
+
 /// What happens to the tool.
 #[derive(Debug, Drop)]
 pub enum Event {

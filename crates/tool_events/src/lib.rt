@@ -17,6 +17,6 @@ pub use answer::{Answer, Command, PostFault, Task};
 pub use config::{CommStart, Config, ControlStart, SpoolStreams};
 pub use desk::Desk;
 pub use entry::{Entry, Post};
-pub use event::{Event, JobWord, OperCmd, SessionCause, SessionEnd, Signal};
+pub use event::{Event, JobWord, OperCmd, SessionCause, SessionEnd, Signal, TEXT_BYTES};
 pub use mem_desk::MemDesk;
 pub use recipes::{Recipe, RecipeChambers, Recipes};

@@ -10,7 +10,7 @@ ghost use Rattle.tool_events.specs.Sizes.{event_bytes};
 use crate::answer::{Answer, PostFault};
 use crate::desk::Desk;
 use crate::entry::Post;
-use crate::event::Event;
+use crate::event::{Event, OperCmd};
 use gem_ids::Moment;
 use hsms_frame::{Arrival, Bytes};
 use std::alloc::{AllocError, Global};
@@ -165,6 +165,7 @@ fn answers(event: &Event, answer: &Answer) -> bool
     ensures { result ≡ may_be_answered event.now answer.now }
 {
     match (event, answer) {
+        (Event::Oper(OperCmd::Quit), Answer::Oper(accepted)) => *accepted,
         (_, Answer::Ended)
         | (Event::LinkUp, Answer::Session(_))
         | (Event::LinkDown { .. }, Answer::Done)

@@ -6,13 +6,13 @@ ghost use Rattle.gem_tables.specs.Table.{row_of, wants_found};
 ghost use Rattle.carrier.specs.Tables.{accessing_table};
 ghost use Rattle.substrate.specs.Record.{is_needing};
 ghost use Rattle.substrate.specs.Tables.{occupancy_table, transport_table, processing_table};
-ghost use Rattle.tool_floor.specs.Naming.{task_processes, processes};
-ghost use Rattle.tool_floor.specs.Substrates.{is_outside, is_in_slot, is_removed, is_of};
-ghost use Rattle.tool_floor.specs.Wants.{has_outside, is_back, are_back, is_quiet, accessing_wants, location_wants, is_skipped, substrate_wants};
+ghost use Rattle.floor_model.specs.Naming.{task_processes, processes};
+ghost use Rattle.floor_model.specs.Substrates.{is_outside, is_in_slot, is_removed, is_of};
+ghost use Rattle.floor_model.specs.Wants.{has_outside, is_back, are_back, is_quiet, accessing_wants, location_wants, is_skipped, substrate_wants};
 
 use crate::floor::ToolFloor;
-use crate::tracking::Substrate;
 use carrier::Carrier;
+use floor_model::Substrate;
 use gem_ids::SubstrateId;
 use gem_tables::RowId;
 use robot_moves::Module;

@@ -10,20 +10,20 @@ ghost use Rattle.shop_floor.specs.Machines.{floor_least as shop_least};
 ghost use Rattle.shop_floor.specs.Valid.{IsFloor};
 ghost use Rattle.shop_floor.specs.Requests.{carrier_written, came};
 ghost use Rattle.substrate.specs.Places.{found_location, is_any_at_work, substrate_at};
-ghost use Rattle.tool_floor.specs.Floor.{opening, with_shop, fetched, change_location, substrate_numbered, name_of_place, substrate_name};
-ghost use Rattle.tool_floor.specs.Substrates.{without_carrier, removed_where};
-ghost use Rattle.tool_floor.specs.Kept.{RiseTo};
-ghost use Rattle.tool_floor.specs.Machines.{registered_by, floor_starts, floor_fired, floor_least, creation_rows, object_name};
-ghost use Rattle.tool_floor.specs.Jobs.{carrier_code};
-ghost use Rattle.tool_floor.specs.Signals.{is_no_module};
+ghost use Rattle.floor_model.specs.Floor.{opening, with_shop, fetched, change_location, substrate_numbered, name_of_place, substrate_name, RiseTo};
+ghost use Rattle.floor_model.specs.Substrates.{without_carrier, removed_where};
+ghost use Rattle.floor_model.specs.Machines.{registered_by, floor_starts, floor_fired, floor_least, creation_rows, object_name};
+ghost use Rattle.floor_model.specs.Jobs.{carrier_code};
+ghost use Rattle.floor_model.specs.Signals.{is_no_module};
 
 use crate::jobs::{CONTROL_JOB, PROCESS_JOB};
 use crate::naming::place_name;
 use crate::readiness::{ACCESSING, LOCATION, PROCESSING, TRANSPORT};
 use crate::rows::MOVES;
-use crate::tracking::{Substrate, Substrates};
+use crate::tracking::Substrates;
 use arrayvec::ArrayVec;
 use carrier::{Carrier, CarrierAction};
+use floor_model::Substrate;
 use gem_ids::{CmdNo, LocId, ModuleId, PortNo, SubstrateId, Text80};
 use gem_tables::Firing;
 use load_port::{Arrival, Caack};
@@ -54,7 +54,7 @@ pub struct ToolFloor {
 }
 
 impl Model for ToolFloor {
-    ghost use Rattle.tool_floor.specs.Floor.{ToolFloor};
+    ghost use Rattle.floor_model.specs.Floor.{ToolFloor};
     ghost use Rattle.tool_floor.specs.Kept.{kept_floor, IsKept};
 
     ghost Value = { ToolFloor };
@@ -483,7 +483,7 @@ impl ToolFloor {
 
     /// What an action on a carrier writes that can be done (SEMI E87, S3F17), as `ShopFloor::write` says. `AllocError`: there is
     /// no memory for a carrier, or the last number was given; nothing has changed.
-    #[tactic(auto, using(crate::proofs::Asked::done_by_jobs))]
+    #[tactic(auto, using(floor_model::proofs::Asked::done_by_jobs))]
     pub fn write(&mut self, a: &CarrierAction) -> Result<(), AllocError>
         requires { is_done_code (carrier_code a.now self.old) ≡ true }
         ensures ok { IfOk result (λ _. self.new ≡ with_shop (carrier_written a.now self.old.shop) self.old) }

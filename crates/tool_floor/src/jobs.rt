@@ -14,14 +14,14 @@ ghost use Rattle.tool_jobs.specs.Creating.{with_process, with_control, control_f
 ghost use Rattle.tool_jobs.specs.declared.fault.ControlFault.{ControlFault};
 ghost use Rattle.tool_jobs.specs.declared.fault.ControlFault.TheVariants as control_faults;
 ghost use Rattle.tool_jobs.specs.Rows.{process_ready, control_ready};
-ghost use Rattle.tool_floor.specs.Floor.{with_jobs};
-ghost use Rattle.tool_floor.specs.Jobs.{is_done_with, is_settled, is_at_rest, is_still, sight, found_sight, is_first_here, gets_members, frees, stops_carriers, process_behind, is_any_of_carrier, is_job_so, is_processing, is_stopping, is_aborting, is_ending, job_of};
-ghost use Rattle.tool_floor.specs.Machines.{process_numbers, floor_machines, floor_starts, floor_fired};
+ghost use Rattle.floor_model.specs.Floor.{with_jobs};
+ghost use Rattle.floor_model.specs.Jobs.{is_done_with, is_settled, is_at_rest, is_still, sight, found_sight, is_first_here, gets_members, frees, stops_carriers, process_behind, is_any_of_carrier, is_job_so, is_processing, is_stopping, is_aborting, is_ending, job_of};
+ghost use Rattle.floor_model.specs.Machines.{process_numbers, floor_machines, floor_starts, floor_fired};
 
 use crate::floor::ToolFloor;
 use crate::members::{is_here, mark, names_carrier};
-use crate::tracking::Substrate;
 use control_job::ControlJob;
+use floor_model::Substrate;
 use gem_ids::{JobId, Text80};
 use gem_tables::Firing;
 use process_job::{JobFault, JobSpec, JobState, ProcessJob};

@@ -2,14 +2,13 @@
 //! E90; tables 11 to 13), its process jobs and control jobs (after SEMI E40 and SEMI E94; tables 14 and 15), and its modules with
 //! their commands (table 16): the rows that are ready by themselves, what each does, and what the host and the equipment do to them.
 //!
-//! It makes no notes and sends nothing: its caller fires the rows that it tells, and tells of them. Begin with
+//! It is kept as `floor_model` defines it. It makes no notes and sends nothing: its caller fires the rows that it tells, and tells of them. Begin with
 //! `ToolFloor::new`, then `ToolFloor::least` and `ToolFloor::fire`.
 #![tactic(auto)]
 
 mod asking;
 mod floor;
 mod jobs;
-pub mod laws;
 mod members;
 mod moving;
 mod naming;
@@ -23,4 +22,3 @@ mod tracking;
 mod whereabouts;
 
 pub use floor::{MOST_CREATED, ToolFloor};
-pub use tracking::Substrate;

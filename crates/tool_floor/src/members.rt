@@ -3,10 +3,10 @@
 ghost use Rattle.std.specs.Prelude.{◌≡◌, ◌&&◌, [], [], is_some};
 ghost use Rattle.std.specs.List.{list_any, list_all};
 ghost use Rattle.gem_tables.specs.Table.{is_one_of};
-ghost use Rattle.tool_floor.specs.Jobs.{is_carrier_of, is_slot_named, names_slot_of, can_join, all_marked, is_in_use, is_carrier_here, is_material_here, is_here, is_of_carrier, names_carrier};
+ghost use Rattle.floor_model.specs.Jobs.{is_carrier_of, is_slot_named, names_slot_of, can_join, all_marked, is_in_use, is_carrier_here, is_material_here, is_here, is_of_carrier, names_carrier};
 
-use crate::tracking::Substrate;
 use carrier::{Accessing, Carrier};
+use floor_model::Substrate;
 use gem_ids::{LocId, Text80};
 use process_job::{Material, ProcessJob};
 use shop_floor::ShopFloor;

@@ -3,9 +3,9 @@
 ghost use Rattle.std.specs.Prelude.{◌≡◌, ◌∷◌, [], true, false, Some, IfOk, IfErr};
 ghost use Rattle.gem_tables.specs.Table.{is_one_of};
 ghost use Rattle.robot_moves.specs.Modules.{module_at};
-ghost use Rattle.tool_floor.specs.Views.{planned};
-ghost use Rattle.tool_floor.specs.Modules.{issued, open_task, goes, transferred, number_named, aligned_numbered, aligned_by};
-ghost use Rattle.tool_floor.specs.Machines.{moved_by, floor_starts, floor_fired};
+ghost use Rattle.floor_model.specs.Views.{planned};
+ghost use Rattle.floor_model.specs.Modules.{issued, open_task, goes, transferred, number_named, aligned_numbered, aligned_by};
+ghost use Rattle.floor_model.specs.Machines.{moved_by, floor_starts, floor_fired};
 
 use crate::floor::ToolFloor;
 use crate::rows;

@@ -1,7 +1,7 @@
 //! The names of places (this tool's profile, object names).
 
 ghost use Rattle.std.specs.Prelude.{◌≡◌};
-ghost use Rattle.tool_floor.specs.Floor.{place_name};
+ghost use Rattle.floor_model.specs.Floor.{place_name};
 
 use gem_ids::{LocId, Text80};
 

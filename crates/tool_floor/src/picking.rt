@@ -5,12 +5,12 @@
 ghost use Rattle.std.specs.Prelude.{◌≡◌};
 ghost use Rattle.gem_ids.specs.declared.numbers.LocId.TheVariants.{Aligner};
 ghost use Rattle.robot_moves.specs.Moves.{is_free, stage_pick};
-ghost use Rattle.tool_floor.specs.Views.{views};
-ghost use Rattle.tool_floor.specs.Picks.{told_there, told_in_slot, where_useful, pick_at, better_of, may_be_picked, slot_pick};
+ghost use Rattle.floor_model.specs.Views.{views};
+ghost use Rattle.floor_model.specs.Picks.{told_there, told_in_slot, where_useful, pick_at, better_of, may_be_picked, slot_pick};
 
 use crate::floor::ToolFloor;
 use crate::planning::{is_processing, view_of};
-use crate::tracking::Substrate;
+use floor_model::Substrate;
 use gem_ids::{LocId, ModuleId};
 use robot_moves::{Modules, Picks, PlaceView, Whereabouts, better, is_free, is_useful};
 use substrate::{Registered, is_work_place};

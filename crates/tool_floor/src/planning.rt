@@ -4,14 +4,14 @@ ghost use Rattle.std.specs.Prelude.{◌≡◌, ◌≤◌, [], true, false, lengt
 ghost use Rattle.gem_tables.specs.Machine.{first_ready};
 ghost use Rattle.robot_moves.specs.Modules.{module_at};
 ghost use Rattle.robot_moves.specs.Moves.{next_move};
-ghost use Rattle.tool_floor.specs.Floor.{module_numbers};
-ghost use Rattle.tool_floor.specs.Jobs.{job_of, is_job_so, is_processing};
-ghost use Rattle.tool_floor.specs.Views.{chamber_bits, chambers_of, recipe_of, view_of, views, planned};
-ghost use Rattle.tool_floor.specs.Modules.{is_by, move_ready, move_starts};
+ghost use Rattle.floor_model.specs.Floor.{module_numbers};
+ghost use Rattle.floor_model.specs.Jobs.{job_of, is_job_so, is_processing};
+ghost use Rattle.floor_model.specs.Views.{chamber_bits, chambers_of, recipe_of, view_of, views, planned};
+ghost use Rattle.floor_model.specs.Modules.{is_by, move_ready, move_starts};
 
 use crate::floor::ToolFloor;
 use crate::rows::{self, MOVES};
-use crate::tracking::Substrate;
+use floor_model::Substrate;
 use gem_ids::{ModuleId, Text80};
 use gem_tables::Firing;
 use process_job::{JobState, ProcessJob};

@@ -7,13 +7,13 @@ ghost use Rattle.carrier.specs.Tables.{access_number, accessing_table};
 ghost use Rattle.carrier.specs.Carriers.{carrier_numbered};
 ghost use Rattle.substrate.specs.Tables.{occupancy_number, occupancy_table, transport_number, transport_table, processing_number, processing_table};
 ghost use Rattle.shop_floor.specs.Floor.{number_of as carrier_number};
-ghost use Rattle.tool_floor.specs.Floor.{ToolFloor, location_at, location_numbers, substrate_numbered, number_of};
-ghost use Rattle.tool_floor.specs.Wants.{accessing_wants, location_wants, substrate_wants, ending_row};
-ghost use Rattle.tool_floor.specs.Machines.{floor_machines, floor_starts, location_ready};
+ghost use Rattle.floor_model.specs.Floor.{ToolFloor, location_at, location_numbers, substrate_numbered, number_of};
+ghost use Rattle.floor_model.specs.Wants.{accessing_wants, location_wants, substrate_wants, ending_row};
+ghost use Rattle.floor_model.specs.Machines.{floor_machines, floor_starts, location_ready};
 
 use crate::floor::ToolFloor;
-use crate::tracking::Substrate;
 use carrier::{Accessing, Carrier};
+use floor_model::Substrate;
 use gem_tables::Firing;
 use substrate::{LocationRecord, Occupancy, Processing, Transport};
 

@@ -2,13 +2,13 @@
 
 ghost use Rattle.std.specs.Prelude.{◌≡◌, ◌+◌, ◌≤◌, [], true, false, drop, length, slice_get, IfOk, Some};
 ghost use Rattle.gem_ids.specs.Names.{name_in_slot};
-ghost use Rattle.tool_floor.specs.Substrates.{registers_at, registers_slot, registers_slots, registers_at_port, registration_rows, emptied, removed_of, without_carrier};
+ghost use Rattle.floor_model.specs.Substrates.{registers_at, registers_slot, registers_slots, registers_at_port, registration_rows, emptied, removed_of, without_carrier};
 
 use crate::floor::{MOST_CREATED, ToolFloor};
 use crate::readiness::{PROCESSING, TRANSPORT};
-use crate::tracking::Substrate;
 use arrayvec::ArrayVec;
 use carrier::Carrier;
+use floor_model::Substrate;
 use gem_ids::{LocId, PortNo, SlotNo, SubstrateId, substrate_id};
 use gem_tables::Firing;
 use std::alloc::AllocError;

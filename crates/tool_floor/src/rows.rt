@@ -2,8 +2,8 @@
 
 ghost use Rattle.std.specs.Prelude.{◌≡◌, ◌∷◌, [], false, Option, Some};
 ghost use Rattle.robot_moves.specs.Modules.{module_at, change_module};
-ghost use Rattle.tool_floor.specs.Modules.{is_transfer, is_align, is_process, move_starts, module_behind};
-ghost use Rattle.tool_floor.specs.Signals.{done_row, open_number};
+ghost use Rattle.floor_model.specs.Modules.{is_transfer, is_align, is_process, move_starts, module_behind};
+ghost use Rattle.floor_model.specs.Signals.{done_row, open_number};
 ghost use Rattle.gem_tables.specs.Table.{is_one_of};
 ghost use Rattle.robot_moves.specs.declared.view.Move.{Move};
 

@@ -5,14 +5,14 @@ ghost use Rattle.std.specs.Prelude.{◌≡◌, ◌≤◌, ◌∷◌, ◌++◌, [
 ghost use Rattle.std.specs.Option.{option_to_list};
 ghost use Rattle.std.specs.List.{list_any};
 ghost use Rattle.robot_moves.specs.Modules.{module_at};
-ghost use Rattle.tool_floor.specs.Naming.{named_by, module_names};
-ghost use Rattle.tool_floor.specs.Signals.{at_module, at_processed, processed_rows, done_at, done_rows, closing_at, closing_rows, done_processing, at_done, done_processed, can_be_lost, lost_at, lost_rows};
+ghost use Rattle.floor_model.specs.Naming.{named_by, module_names};
+ghost use Rattle.floor_model.specs.Signals.{at_module, at_processed, processed_rows, done_at, done_rows, closing_at, closing_rows, done_processing, at_done, done_processed, can_be_lost, lost_at, lost_rows};
 
 use crate::floor::ToolFloor;
 use crate::readiness::PROCESSING;
 use crate::rows::{MOVES, done_row};
-use crate::tracking::Substrate;
 use arrayvec::ArrayVec;
+use floor_model::Substrate;
 use gem_ids::{ModuleId, SubstrateId};
 use gem_tables::Firing;
 use robot_moves::Module;

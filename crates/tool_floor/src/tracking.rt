@@ -5,33 +5,20 @@ ghost use Rattle.std.specs.List.{list_any};
 ghost use Rattle.std.specs.Str.{bytes_eq};
 ghost use Rattle.substrate.specs.Tables.{transport_number};
 ghost use Rattle.substrate.specs.Record.{is_needing};
-ghost use Rattle.tool_floor.specs.Floor.{substrate_numbered, change_numbered};
-ghost use Rattle.tool_floor.specs.Machines.{substrate_moves};
-ghost use Rattle.tool_floor.specs.Substrates.{is_of};
-ghost use Rattle.tool_floor.specs.Modules.{aligned};
-ghost use Rattle.tool_floor.specs.Jobs.{joined, freed};
+ghost use Rattle.floor_model.specs.Floor.{substrate_numbered, change_numbered};
+ghost use Rattle.floor_model.specs.Machines.{substrate_moves};
+ghost use Rattle.floor_model.specs.Substrates.{is_of};
+ghost use Rattle.floor_model.specs.Modules.{aligned};
+ghost use Rattle.floor_model.specs.Jobs.{joined, freed};
 
 use crate::members::can_join;
-use gem_ids::{LocId, SubstrateId};
+use floor_model::Substrate;
+use gem_ids::SubstrateId;
 use process_job::ProcessJob;
 use shop_floor::ShopFloor;
 use std::alloc::{AllocError, Global};
 use std::marker::Model;
-use substrate::{MOST_SUBSTRATES, SubstrateRecord};
-
-/// A substrate of a carrier that is here: its number of registration, which is its own for good; its name; the number of creation of
-/// its carrier; its slot; its states (SEMI E90); whether it is aligned; and the number of creation of the process job that it is a member
-/// of, 0 where it is in none.
-#[derive(Clone, Copy, Debug, PartialEq, Eq)]
-pub struct Substrate {
-    pub number: u64,
-    pub sub: SubstrateId,
-    pub carrier: u64,
-    pub slot: LocId,
-    pub states: SubstrateRecord,
-    pub aligned: bool,
-    pub job: u64,
-}
+use substrate::MOST_SUBSTRATES;
 
 // The substrates of the carriers that are here, in the order of their registration, which contracts see as the list of them.
 #[derive(Drop)]
@@ -41,7 +28,7 @@ pub(crate) struct Substrates {
 
 impl Model for Substrates {
     ghost use Rattle.std.specs.Prelude.{List};
-    ghost use Rattle.tool_floor.specs.declared.tracking.Substrate.{Substrate};
+    ghost use Rattle.floor_model.specs.declared.tracked.Substrate.{Substrate};
 
     ghost Value = { List Substrate };
 
@@ -157,23 +144,21 @@ impl Substrates {
     }
 }
 
-impl Substrate {
-    // It becomes a member of a process job, where it can.
-    fn join(&mut self, job: &ProcessJob, shop: &ShopFloor)
-        ensures { self.new ≡ joined job.now shop.now self.old }
-    {
-        if can_join(job, shop, self) {
-            self.job = job.number;
-        }
+// One becomes a member of a process job, where it can.
+fn join(job: &ProcessJob, shop: &ShopFloor, substrate: &mut Substrate)
+    ensures { substrate.new ≡ joined job.now shop.now substrate.old }
+{
+    if can_join(job, shop, substrate) {
+        substrate.job = job.number;
     }
+}
 
-    // It is in no job, where it was a member of the process job of a number.
-    fn free(&mut self, number: u64)
-        ensures { self.new ≡ freed number self.old }
-    {
-        if self.job == number {
-            self.job = 0;
-        }
+// One is in no job, where it was a member of the process job of a number.
+fn free(number: u64, substrate: &mut Substrate)
+    ensures { substrate.new ≡ freed number substrate.old }
+{
+    if substrate.job == number {
+        substrate.job = 0;
     }
 }
 
@@ -182,7 +167,7 @@ fn join_all(job: &ProcessJob, shop: &ShopFloor, list: &mut [Substrate])
     ensures { list.new ≡ map (joined job.now shop.now) list.old }
 {
     for substrate in list {
-        substrate.join(job, shop);
+        join(job, shop, substrate);
     }
 }
 
@@ -191,6 +176,6 @@ fn free_all(number: u64, list: &mut [Substrate])
     ensures { list.new ≡ map (freed number) list.old }
 {
     for substrate in list {
-        substrate.free(number);
+        free(number, substrate);
     }
 }

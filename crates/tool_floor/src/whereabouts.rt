@@ -3,17 +3,17 @@
 
 ghost use Rattle.std.specs.Prelude.{◌≡◌, find};
 ghost use Rattle.substrate.specs.Places.{ArePlaces, stands_at};
-ghost use Rattle.tool_floor.specs.Picks.{kept_as, told_of};
+ghost use Rattle.floor_model.specs.Picks.{kept_as, told_of};
 
 use crate::floor::ToolFloor;
 use crate::planning::view_of;
-use crate::tracking::Substrate;
+use floor_model::Substrate;
 use gem_ids::LocId;
 use robot_moves::{PlaceView, Whereabouts};
 use substrate::Registered;
 
 impl Whereabouts for ToolFloor {
-    ghost use Rattle.tool_floor.specs.Views.{views};
+    ghost use Rattle.floor_model.specs.Views.{views};
 
     ghost told = { views };
 

@@ -2,8 +2,7 @@
 use Rattle.std.proofs.Common.{◌≡◌, ◌<◌, ◌≤◌, ℕ, List, length, refl, sym, subst, Result, Err}
 use Rattle.std.proofs.lemmas.Bool.{lt-ltb, le-ltb}
 use Rattle.line_grammar.specs.Lines.{script_lines}
-use Rattle.line_grammar.specs.Reading.{read, Gives, line_bytes}
-use Rattle.tool_texts.specs.Scripts.{script_line_of}
+use Rattle.line_grammar.specs.Reading.{read, Gives, line_bytes, script_line_of}
 use Rattle.line_grammar.specs.declared.line.Line.{Line}
 use Rattle.line_grammar.specs.declared.line.LineFault.{LineFault}
 

@@ -1,8 +1,7 @@
 ghost use Rattle.std.specs.Prelude.{◌≢◌, ◌≡◌, ℕ, ◌-◌, ◌<◌, ◌≤◌, length, codes, Ok, Err};
 ghost use Rattle.line_grammar.specs.Grammar.{Reads, gives, says, ◌or◌};
 ghost use Rattle.line_grammar.specs.Lines.{skipped_line, comment_line, moment_line, operator_line, signal_line, watch_line, common_lines, hex_line, link_lines, feed_lines, script_lines, all_lines, operator_words};
-ghost use Rattle.line_grammar.specs.Reading.{read, either_of, Gives, feed_line_of};
-ghost use Rattle.tool_texts.specs.Scripts.{script_line_of};
+ghost use Rattle.line_grammar.specs.Reading.{read, either_of, Gives, feed_line_of, script_line_of};
 
 use crate::cursor::Cursor;
 use crate::operator::{either, operator, says};

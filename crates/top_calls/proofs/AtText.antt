@@ -2,15 +2,15 @@
 use Rattle.std.proofs.Common.{◌≡◌, ◌≢◌, ℕ, ◌+◌, Bool, true, false, if◌then◌else◌, List, [], ◌∷◌, ◌++◌, Result, Ok, refl, sym, ◌∙◌, ap, append_assoc, arith}
 use Rattle.std.proofs.lemmas.List.{append-nil}
 use Rattle.tool_events.specs.declared.entry.Entry.{Entry}
-use Rattle.gem_model.specs.Lines.{lines_of}
+use Rattle.line_grammar.specs.Texts.{lines_of, is_quit}
 use Rattle.line_grammar.specs.declared.line.Line.{Line}
 use Rattle.line_grammar.specs.declared.line.Line.TheVariants as line
 use Rattle.line_grammar.specs.Reading.{end_at, literal_at, before_space, from_space, digits_at, number_at, run_at, pairs_at, hex_at, feed_line_of}
 use Rattle.line_grammar.specs.Lines.{feed_lines as grammar}
 use Rattle.line_grammar.specs.Lines.{service_words, access_words, job_word, job_words, control_job_words, up_words, clear_words, lost_words, operator_words, placed_line, removed_line, done_line, failed_line, down_line, skipped_line, comment_line, moment_line, hex_line, operator_line, signal_line, watch_line, common_lines, link_lines}
-use Rattle.gem_model.specs.Feed.{Reading, line_given, Told, QuitAt, AllRead, reading_after, is_quit, line_told, told_behind, feed_lines, feed_entries}
+use Rattle.gem_model.specs.Feed.{Reading, line_given, Told, QuitAt, AllRead, reading_after, line_told, told_behind, feed_lines, feed_entries}
 use Rattle.gem_model.specs.SessionBytes.{line_bytes_in, line_and_more, lines_bytes_in, session_in}
-use Rattle.gem_model.proofs.Texts.{lines-last}
+use Rattle.line_grammar.proofs.Texts.{lines-last}
 use Rattle.top_calls.specs.declared.reader.Reader.{Reader}
 use Rattle.top_calls.specs.Standing.{IsOneLine, Stands}
 

@@ -109,6 +109,7 @@ Fed-refused c (cause.Words place) config config' input h = absurd h
 Fed-refused c cause.WriteFault config config' input h = absurd h
 Fed-refused c (cause.Full entries bytes number) config config' input h = absurd h
 Fed-refused c (cause.Line number place) config config' input h = absurd h
+Fed-refused c cause.Door config config' input h = absurd h
 
 pub Shown-refused : (c : Config) (why : Cause) (config config' : SourceView) (held : Option (List ℕ)) → Refuses why config config' → Shown c why held held []
 Shown-refused c (cause.Config rule key) config config' held h = Written-nothing held
@@ -119,3 +120,4 @@ Shown-refused c (cause.Words place) config config' held h = absurd h
 Shown-refused c cause.WriteFault config config' held h = absurd h
 Shown-refused c (cause.Full entries bytes number) config config' held h = absurd h
 Shown-refused c (cause.Line number place) config config' held h = absurd h
+Shown-refused c cause.Door config config' held h = absurd h

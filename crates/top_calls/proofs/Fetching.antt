@@ -1,7 +1,7 @@
 -- The modules that are left to fetch.
 use Rattle.std.proofs.Common.{◌≡◌, ℕ, zero, suc, ◌+◌, ◌<◌, ◌≤◌, List, [], ◌∷◌, Err, drop, length, refl, ◌∙◌, ap, add-one, arith}
 use Rattle.robot_moves.specs.declared.module.Module.{Module}
-use Rattle.tool_floor.specs.Floor.{module_numbers}
+use Rattle.floor_model.specs.Floor.{module_numbers}
 use Rattle.gem_model.specs.Feed.{fetched_one, fetched_by}
 use Rattle.core_view.specs.CoreView.{CoreView}
 use Rattle.line_feeding.specs.declared.halt.Halt.{Halt}

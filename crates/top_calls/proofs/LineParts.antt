@@ -13,7 +13,9 @@ use Rattle.gem_model.specs.State.{State, is_up}
 use Rattle.gem_model.specs.Step.{Outcome, step}
 use Rattle.line_grammar.specs.declared.line.Line.{Line}
 use Rattle.line_grammar.specs.declared.line.Line.TheVariants as line
-use Rattle.gem_model.specs.Feed.{Given, Reading, input, messages, nothing, bytes_given, line_given, reading_after, text_bytes, is_quit}
+use Rattle.gem_model.specs.Feed.{Given, Reading, input, messages, nothing, bytes_given, line_given, reading_after}
+use Rattle.tool_events.specs.Sizes.{text_bytes}
+use Rattle.line_grammar.specs.Texts.{is_quit}
 use Rattle.core_view.specs.CoreView.{CoreView}
 use Rattle.line_feeding.specs.declared.halt.Halt.{Halt}
 use Rattle.line_feeding.specs.declared.halt.Halt.TheVariants as halt

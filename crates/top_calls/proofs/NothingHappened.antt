@@ -70,6 +70,7 @@ configured-refused (cause.Words place) config config' h = absurd h
 configured-refused cause.WriteFault config config' h = absurd h
 configured-refused (cause.Full entries bytes number) config config' h = absurd h
 configured-refused (cause.Line number place) config config' h = absurd h
+configured-refused cause.Door config config' h = absurd h
 
 -- a run that took no configuration
 pub ran_refused : (why : Cause) (config config' input : SourceView) (held : Option (List ℕ)) → Refuses why config config' → (c : Config) × Configured c why config config' [] × RanUnder c why input input held held [] []
@@ -80,12 +81,13 @@ pub ran_unfit : (place : ℕ) (config input : SourceView) (held : Option (List �
 ran_unfit place config input held = (worked_config, refl, ran-nothing (cause.Words place) input held ([], Taken-nothing input.left, (refl, refl), refl) (Written-nothing held))
 
 -- what was read of a configuration that was taken, by how the run under it ended
-pub configured-read : (c : Config) (why : Cause) (config config' : SourceView) (history : List Entry) → IsRead config config' c → ((place : ℕ) → why ≢ cause.Words place) → ((rule : ℕ) (key : List ℕ) → why ≢ cause.Config rule key) → Configured c why config config' history
-configured-read c cause.Done config config' history read words rules = read
-configured-read c cause.ReadFault config config' history read words rules = inl read
-configured-read c cause.WriteFault config config' history read words rules = read
-configured-read c cause.NoMemory config config' history read words rules = inl read
-configured-read c (cause.Full entries bytes number) config config' history read words rules = read
-configured-read c (cause.Line number place) config config' history read words rules = read
-configured-read c (cause.Words place) config config' history read words rules = absurd (words place refl)
-configured-read c (cause.Config rule key) config config' history read words rules = absurd (rules rule key refl)
+pub configured-read : (c : Config) (why : Cause) (config config' : SourceView) (history : List Entry) → IsRead config config' c → ((place : ℕ) → why ≢ cause.Words place) → ((rule : ℕ) (key : List ℕ) → why ≢ cause.Config rule key) → why ≢ cause.Door → Configured c why config config' history
+configured-read c cause.Done config config' history read words rules door = read
+configured-read c cause.ReadFault config config' history read words rules door = inl read
+configured-read c cause.WriteFault config config' history read words rules door = read
+configured-read c cause.NoMemory config config' history read words rules door = inl read
+configured-read c (cause.Full entries bytes number) config config' history read words rules door = read
+configured-read c (cause.Line number place) config config' history read words rules door = read
+configured-read c (cause.Words place) config config' history read words rules door = absurd (words place refl)
+configured-read c (cause.Config rule key) config config' history read words rules door = absurd (rules rule key refl)
+configured-read c cause.Door config config' history read words rules door = absurd (door refl)

@@ -5,15 +5,14 @@ use Rattle.std.proofs.lemmas.List.{append-nil}
 use Rattle.std.proofs.lemmas.Bool.Decides.{nat_tests}
 use Rattle.tool_events.specs.declared.entry.Entry.{Entry}
 use Rattle.tool_events.specs.declared.config.Config.{Config}
-use Rattle.gem_model.specs.Front.{IsFront}
-use Rattle.gem_model.specs.Lines.{lines_of, whole_lines}
+use Rattle.line_grammar.specs.Texts.{IsFront, IsLong, lines_of, whole_lines, is_quit}
 use Rattle.line_grammar.specs.declared.line.Line.{Line}
 use Rattle.line_grammar.specs.Reading.{feed_line_of, line_bytes}
 use Rattle.line_grammar.proofs.Public.{long_line as too-long}
-use Rattle.gem_model.specs.Feed.{Given, Reading, Told, AllRead, OutsideGrammar, QuitAt, is_quit, line_given, line_told, told_behind, feed_lines, feed_entries, reading_after, first_reading}
+use Rattle.gem_model.specs.Feed.{Given, Reading, Told, AllRead, OutsideGrammar, QuitAt, line_given, line_told, told_behind, feed_lines, feed_entries, reading_after, first_reading}
 use Rattle.gem_model.specs.Sizes.{counted}
 use Rattle.gem_model.specs.SessionBytes.{line_and_more, line_bytes_in, lines_bytes_in, session_in}
-use Rattle.gem_model.proofs.Texts.{lines-line, whole-feed, whole-none, first-long}
+use Rattle.line_grammar.proofs.Texts.{lines-line, whole-feed, whole-none, first-long}
 use Rattle.core_view.specs.Counts.{count_of}
 use Rattle.core_view.specs.CoreView.{CoreView}
 use Rattle.line_feeding.specs.declared.halt.Halt.{Halt}
@@ -25,7 +24,7 @@ use Rattle.line_feeding.specs.Going.{SinkView, WentOn, Shows, ShowsAtEnd, Goes}
 use Rattle.line_feeding.specs.Reads.{AreCounts, HaveRead}
 use Rattle.top_calls.specs.Reading.{IsReading, TakesLine, TreatsLine}
 use Rattle.line_feeding.specs.Quitting.{quit_behind}
-use Rattle.line_feeding.specs.Stopping.{IsLong, GivenBy, CountsTo}
+use Rattle.line_feeding.specs.Stopping.{GivenBy, CountsTo}
 use Rattle.top_calls.specs.Standing.{IsOneLine, Stands, StoppedAs, StopsAt, AllTaken, Prints, StandsOrStopped, Takes, AllOrStopped}
 use Rattle.line_feeding.proofs.Going.{IsFront-append, Failed-wider, stay_then}
 use Rattle.outside.proofs.Writing.{WrittenFront-all}

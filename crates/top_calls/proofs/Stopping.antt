@@ -3,12 +3,11 @@ use Rattle.std.proofs.Common.{◌≡◌, ◌≢◌, ◌⊎◌, inl, inr, ℕ, �
 use Rattle.std.proofs.lemmas.List.{append-nil}
 use Rattle.tool_events.specs.declared.config.Config.{Config}
 use Rattle.tool_events.specs.declared.entry.Entry.{Entry}
-use Rattle.gem_model.specs.Front.{IsFront}
-use Rattle.gem_model.specs.Lines.{lines_of, whole_lines}
+use Rattle.line_grammar.specs.Texts.{IsFront, lines_of, whole_lines, LineEnded, EndedLines, is_quit}
 use Rattle.line_grammar.specs.declared.line.Line.{Line}
 use Rattle.line_grammar.specs.declared.line.Line.TheVariants.{Skip}
 use Rattle.line_grammar.specs.Reading.{feed_line_of}
-use Rattle.gem_model.specs.Feed.{Given, line_given, reading_after, feed_entries, is_quit}
+use Rattle.gem_model.specs.Feed.{Given, line_given, reading_after, feed_entries}
 use Rattle.gem_model.specs.Sizes.{counted}
 use Rattle.gem_model.specs.SessionBytes.{line_and_more, line_bytes_in, lines_bytes_in, session_in}
 use Rattle.core_view.specs.Counts.{count_of}
@@ -21,7 +20,7 @@ use Rattle.line_feeding.specs.Going.{SinkView, WentOn}
 use Rattle.line_feeding.specs.Reads.{HaveRead, AddsLine}
 use Rattle.top_calls.specs.Reading.{TakesLine, TreatsLine}
 use Rattle.line_feeding.specs.Quitting.{quit_behind}
-use Rattle.line_feeding.specs.Stopping.{LineEnded, EndedLines, GivenBy, StoppedIn, TakenTo, CountsTo, AtLine}
+use Rattle.line_feeding.specs.Stopping.{GivenBy, StoppedIn, TakenTo, CountsTo, AtLine}
 use Rattle.top_calls.specs.Standing.{Stands, StopsAt}
 use Rattle.line_feeding.proofs.Going.{IsFront-same, IsFront-then}
 use Rattle.top_calls.proofs.AtText.{last_line, whole_told, text_entries, text_bytes_in, empty_line, said_so}

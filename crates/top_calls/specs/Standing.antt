@@ -3,8 +3,7 @@ use Rattle.std.specs.Prelude.{◌≡◌, ◌≢◌, ℕ, ◌+◌, ◌≤◌, ⊤
 use Rattle.std.specs.List.{list_any}
 use Rattle.tool_events.specs.declared.entry.Entry.{Entry}
 use Rattle.tool_events.specs.declared.config.Config.{Config}
-use Rattle.gem_model.specs.Front.{IsFront}
-use Rattle.gem_model.specs.Lines.{lines_of, whole_lines}
+use Rattle.line_grammar.specs.Texts.{IsFront, lines_of, whole_lines}
 use Rattle.gem_model.specs.SessionBytes.{lines_bytes_in, session_in}
 use Rattle.gem_model.specs.Feed.{Reading, Told, AllRead, OutsideGrammar, QuitAt, feed_lines, feed_entries, told_behind}
 use Rattle.core_view.specs.CoreView.{CoreView}

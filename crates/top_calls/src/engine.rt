@@ -1,6 +1,6 @@
 //! One input after another: events are posted to the core, and the lines of their answers are written.
 ghost use Rattle.std.specs.Prelude.{◌≡◌, ◌≢◌, [], Some, None, true, OnOk, option_map, option_and_then};
-ghost use Rattle.tool_floor.specs.Floor.{module_numbers};
+ghost use Rattle.floor_model.specs.Floor.{module_numbers};
 ghost use Rattle.gem_model.specs.State.{opening, is_session_up};
 ghost use Rattle.gem_model.specs.Sessions.{session_end};
 ghost use Rattle.gem_model.specs.Step.{step};

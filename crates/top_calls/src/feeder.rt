@@ -18,11 +18,8 @@ use line_feeding::{Halt, cut_bytes, ends_run, quit_behind};
 use outside::Sink;
 use std::alloc::{AllocError, Global};
 use tool_core::Core;
-use tool_events::{Config, Event, OperCmd, SessionCause, Signal};
+use tool_events::{Config, Event, OperCmd, SessionCause, Signal, TEXT_BYTES};
 use tool_texts::{Line, LineFault, read_feed_line};
-
-/// The longest text of a message, in bytes.
-const TEXT_BYTES: u32 = 262_144;
 
 /// The core, the cutter of the session that is up, and the bytes that came in each session.
 #[derive(Drop)]

@@ -75,6 +75,7 @@ pub fn feed_config<S: Source, K: Sink>(
         → (K.faults out.new ≡ K.faults out.old) × (K.refusals out.new ≡ K.refusals out.old) }
     ensures words { (place : ℕ) → result.cause ≢ cause.Words place }
     ensures config { (rule : ℕ) (key : List ℕ) → result.cause ≢ cause.Config rule key }
+    ensures door { result.cause ≢ cause.Door }
 
     // Until they are built.
     ensures no_panels { result.panels ≡ [] }
@@ -112,6 +113,7 @@ pub fn feed<C: Source, S: Source, K: Sink>(
     // When each cause comes.
     ensures status { result.status ≡ status_of result.cause }
     ensures words { (place : ℕ) → (result.cause ≡ cause.Words place) ↔ (refused_at words.now ≡ Some place) }
+    ensures door { result.cause ≢ cause.Door }
     ensures read_fault { result.cause ≡ cause.ReadFault
         → Rose (C.faults config.old) (C.faults config.new) ⊎ Rose (S.faults input.old) (S.faults input.new) }
     ensures write_fault { result.cause ≡ cause.WriteFault

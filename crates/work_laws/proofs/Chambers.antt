@@ -8,9 +8,9 @@ use Rattle.tool_events.specs.declared.recipes.Recipe.{Recipe}
 use Rattle.process_job.specs.Creating.{is_recipe}
 use Rattle.process_job.specs.Jobs.{has_number, recipe_named}
 use Rattle.process_job.specs.declared.job.ProcessJob.{ProcessJob}
-use Rattle.tool_floor.specs.declared.tracking.Substrate.{Substrate}
-use Rattle.tool_floor.specs.Floor.{ToolFloor, substrate_numbered}
-use Rattle.tool_floor.specs.Jobs.{job_of}
+use Rattle.floor_model.specs.declared.tracked.Substrate.{Substrate}
+use Rattle.floor_model.specs.Floor.{ToolFloor, substrate_numbered}
+use Rattle.floor_model.specs.Jobs.{job_of}
 use Rattle.floor_moves.specs.Valid.{HaveChambers}
 use Rattle.place_laws.specs.Picture.{picture, numbers_from, chambers_in, of_one, of_job}
 use Rattle.floor_laws.proofs.IssueTargets.{among_numbers}

@@ -1,6 +1,6 @@
 -- A floor by numbers on which tables 10 and 12 have nothing to do.
 use Rattle.std.proofs.Common.{true, refl, arith}
-use Rattle.tool_floor.specs.Floor.{ToolFloor}
+use Rattle.floor_model.specs.Floor.{ToolFloor}
 use Rattle.floor_moves.specs.Floor.{Floor}
 use Rattle.floor_moves.specs.Valid.{Valid}
 use Rattle.place_laws.specs.Picture.{picture}

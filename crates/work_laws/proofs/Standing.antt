@@ -14,8 +14,8 @@ use Rattle.robot_moves.specs.declared.module.Module.TheVariants.{Idle, Busy, Dow
 use Rattle.robot_moves.specs.declared.view.PlaceView.{PlaceView}
 use Rattle.substrate.specs.Locations.{is_same}
 use Rattle.substrate.specs.declared.registered.Registered.{Registered}
-use Rattle.tool_floor.specs.Floor.{ToolFloor}
-use Rattle.tool_floor.specs.Views.{views}
+use Rattle.floor_model.specs.Floor.{ToolFloor}
+use Rattle.floor_model.specs.Views.{views}
 use Rattle.floor_moves.specs.Floor as law
 use Rattle.floor_moves.specs.Floor.{Loc, slot, aligner, arm, chamber, own}
 use Rattle.floor_moves.specs.Ready as ready

@@ -41,13 +41,13 @@ use Rattle.substrate.specs.Tables.{SubstrateRow, SubstrateEffect, processing_tab
 use Rattle.substrate.specs.declared.record.Processing.{Processing}
 use Rattle.tool_jobs.specs.Jobs.{Jobs}
 use Rattle.tool_jobs.specs.Rows.{process_does, found_does as jobs_behind, process_fired, control_fired}
-use Rattle.tool_floor.specs.declared.tracking.Substrate.{Substrate}
-use Rattle.tool_floor.specs.Floor.{ToolFloor, opening, with_shop, with_jobs, with_module, fetched, substrate_numbered}
-use Rattle.tool_floor.specs.Jobs.{job_does, found_job_does}
-use Rattle.tool_floor.specs.Machines.{taken_along, registered_by, with_moved, floor_machines, floor_fired}
-use Rattle.tool_floor.specs.Modules.{command, issued, goes, transferred, open_task, aligned_by, module_behind, move_does, found_move}
-use Rattle.tool_floor.specs.Substrates.{can_register, first_substrate, registers_at, registers_slot, registers_slots, registers_at_port, registers_found, reaches_verified, without_carrier, substrate_does, found_does}
-use Rattle.tool_floor.specs.Views.{planned}
+use Rattle.floor_model.specs.declared.tracked.Substrate.{Substrate}
+use Rattle.floor_model.specs.Floor.{ToolFloor, opening, with_shop, with_jobs, with_module, fetched, substrate_numbered}
+use Rattle.floor_model.specs.Jobs.{job_does, found_job_does}
+use Rattle.floor_model.specs.Machines.{taken_along, registered_by, with_moved, floor_machines, floor_fired}
+use Rattle.floor_model.specs.Modules.{command, issued, goes, transferred, open_task, aligned_by, module_behind, move_does, found_move}
+use Rattle.floor_model.specs.Substrates.{can_register, first_substrate, registers_at, registers_slot, registers_slots, registers_at_port, registers_found, reaches_verified, without_carrier, substrate_does, found_does}
+use Rattle.floor_model.specs.Views.{planned}
 use Rattle.floor_laws.proofs.IssueSound.{changed_many}
 use Rattle.floor_laws.proofs.RemPlaces.{removed_chambers}
 use Rattle.tool_events.specs.Configs.{are_usable}

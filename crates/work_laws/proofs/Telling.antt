@@ -13,10 +13,10 @@ use Rattle.substrate.specs.declared.registered.Registered.{Registered}
 use Rattle.tool_events.specs.declared.recipes.Recipe.{Recipe}
 use Rattle.process_job.specs.Jobs.{recipe_named}
 use Rattle.process_job.specs.declared.job.ProcessJob.{ProcessJob}
-use Rattle.tool_floor.specs.declared.tracking.Substrate.{Substrate}
-use Rattle.tool_floor.specs.Floor.{ToolFloor, substrate_numbered}
-use Rattle.tool_floor.specs.Jobs.{job_of}
-use Rattle.tool_floor.specs.Views.{chambers_of, recipe_of, view_of, view_in, views_of, views}
+use Rattle.floor_model.specs.declared.tracked.Substrate.{Substrate}
+use Rattle.floor_model.specs.Floor.{ToolFloor, substrate_numbered}
+use Rattle.floor_model.specs.Jobs.{job_of}
+use Rattle.floor_model.specs.Views.{chambers_of, recipe_of, view_of, view_in, views_of, views}
 use Rattle.place_laws.specs.Picture.{picture, numbered, number_or_none, chambers_in, of_one, of_job}
 use Rattle.place_laws.specs.Sound.{Base}
 use Rattle.floor_laws.proofs.IssueHeld.{IsHeld, HasKept, all_held}

@@ -16,14 +16,14 @@ use Rattle.robot_moves.specs.Moves.{next_move}
 use Rattle.robot_moves.specs.declared.module.Module.{Module as ToolModule}
 use Rattle.robot_moves.specs.declared.module.Module.TheVariants.{Idle, Busy, Down}
 use Rattle.substrate.specs.Record.{is_finished}
-use Rattle.tool_floor.specs.declared.tracking.Substrate.{Substrate}
-use Rattle.tool_floor.specs.Floor.{ToolFloor, substrate_numbered, number_of}
-use Rattle.tool_floor.specs.Kept.{RiseTo}
-use Rattle.tool_floor.specs.Jobs.{is_member, is_done_with, is_settled, job_of, is_processing, is_stopping, is_aborting, is_ending}
-use Rattle.tool_floor.specs.Machines.{floor_machines, floor_least, substrate_ready}
-use Rattle.tool_floor.specs.Substrates.{is_outside, is_in_slot, is_removed}
-use Rattle.tool_floor.specs.Views.{views}
-use Rattle.tool_floor.proofs.Moves.{firing_of, first_move_is}
+use Rattle.floor_model.specs.declared.tracked.Substrate.{Substrate}
+use Rattle.floor_model.specs.Floor.{ToolFloor, substrate_numbered, number_of}
+use Rattle.floor_model.specs.Floor.{RiseTo}
+use Rattle.floor_model.specs.Jobs.{is_member, is_done_with, is_settled, job_of, is_processing, is_stopping, is_aborting, is_ending}
+use Rattle.floor_model.specs.Machines.{floor_machines, floor_least, substrate_ready}
+use Rattle.floor_model.specs.Substrates.{is_outside, is_in_slot, is_removed}
+use Rattle.floor_model.specs.Views.{views}
+use Rattle.floor_model.proofs.Moves.{firing_of, first_move_is}
 use Rattle.substrate.specs.Tables.{processing_number, processing_table}
 use Rattle.floor_moves.specs.Floor as law
 use Rattle.floor_moves.specs.Floor.{Floor, Loc, slot, aligner, arm, chamber, Command, busy, down, modules, own}

@@ -6,7 +6,7 @@ use Rattle.tool_events.specs.Configs.{are_usable}
 use Rattle.tool_events.specs.declared.recipes.Recipe.{Recipe}
 use Rattle.process_job.specs.Creating.{is_recipe}
 use Rattle.process_job.specs.declared.job.ProcessJob.{ProcessJob}
-use Rattle.tool_floor.specs.Floor.{ToolFloor}
+use Rattle.floor_model.specs.Floor.{ToolFloor}
 
 -- the recipe of a process job is one of these
 abbrev pub HasRecipe : List Recipe → ProcessJob → Type 0

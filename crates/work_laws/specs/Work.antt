@@ -8,10 +8,10 @@ use Rattle.process_job.specs.declared.record.JobState.TheVariants.{Pausing}
 use Rattle.robot_moves.specs.declared.module.Module.{Module}
 use Rattle.robot_moves.specs.declared.module.Module.TheVariants.{Busy, Down}
 use Rattle.substrate.specs.Places.{PlaceMap}
-use Rattle.tool_floor.specs.declared.tracking.Substrate.{Substrate}
-use Rattle.tool_floor.specs.Floor.{ToolFloor}
-use Rattle.tool_floor.specs.Substrates.{is_outside}
-use Rattle.tool_floor.specs.Jobs.{is_member, is_settled, is_processing, is_ending}
+use Rattle.floor_model.specs.declared.tracked.Substrate.{Substrate}
+use Rattle.floor_model.specs.Floor.{ToolFloor}
+use Rattle.floor_model.specs.Substrates.{is_outside}
+use Rattle.floor_model.specs.Jobs.{is_member, is_settled, is_processing, is_ending}
 
 -- ---- process jobs
 

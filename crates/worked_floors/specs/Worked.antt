@@ -35,11 +35,11 @@ use Rattle.robot_moves.specs.Modules.{first_modules}
 use Rattle.robot_moves.specs.declared.module.Module.TheVariants.{Busy, Down}
 use Rattle.tool_events.specs.declared.recipes.Recipe.{Recipe}
 use Rattle.tool_jobs.specs.Jobs.{no_jobs}
-use Rattle.tool_floor.specs.declared.tracking.Substrate.{Substrate}
-use Rattle.tool_floor.specs.Floor.{ToolFloor, with_module, fetched, change_location, change_numbered}
-use Rattle.tool_floor.specs.Machines.{floor_starts, floor_fired, floor_least, creation_rows}
-use Rattle.tool_floor.specs.Modules.{command, aligned}
-use Rattle.tool_floor.specs.Signals.{at_module, done_rows, closing_rows, lost_rows}
+use Rattle.floor_model.specs.declared.tracked.Substrate.{Substrate}
+use Rattle.floor_model.specs.Floor.{ToolFloor, with_module, fetched, change_location, change_numbered}
+use Rattle.floor_model.specs.Machines.{floor_starts, floor_fired, floor_least, creation_rows}
+use Rattle.floor_model.specs.Modules.{command, aligned}
+use Rattle.floor_model.specs.Signals.{at_module, done_rows, closing_rows, lost_rows}
 
 -- ---- what the floors are made of
 

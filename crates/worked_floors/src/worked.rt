@@ -8,9 +8,9 @@ ghost use Rattle.substrate.specs.declared.record.Processing.TheVariants.{InProce
 ghost use Rattle.robot_moves.specs.Modules.{module_at};
 ghost use Rattle.robot_moves.specs.Moves.{move_by};
 ghost use Rattle.robot_moves.specs.declared.module.Module.TheVariants.{Idle};
-ghost use Rattle.tool_floor.specs.Machines.{floor_starts, floor_fired, floor_least, object_name};
-ghost use Rattle.tool_floor.specs.Views.{planned};
-ghost use Rattle.tool_floor.specs.Signals.{done_rows, lost_rows, open_number};
+ghost use Rattle.floor_model.specs.Machines.{floor_starts, floor_fired, floor_least, object_name};
+ghost use Rattle.floor_model.specs.Views.{planned};
+ghost use Rattle.floor_model.specs.Signals.{done_rows, lost_rows, open_number};
 ghost use Rattle.worked_floors.specs.Worked.{wafer, own_slot, processing_is, commands_are, is_given, is_down, waiting, in_slot, picking, out_at, placing, aligning, aligned_at, taking, filling, beginning, working, finished_at, returning, back, lost_at, emptied, second_wafer, has_two_slots, second_in_slot, second_aligned_at, second_finished_at, starting, settling, settled, firings, behind, done, failed, went_down, brought_up, said_lost, proceeded, taken_away, all_done, behind_dones};
 
 /// Where the host proceeds with the map, its substrate is registered in its slot, AT SOURCE and NEEDS PROCESSING, and the slot is

@@ -11,8 +11,8 @@ use Rattle.control_job.specs.declared.record.ControlState.{ControlState}
 use Rattle.control_job.specs.declared.record.ControlState.TheVariants as control
 use Rattle.control_job.specs.declared.record.Ending.TheVariants.{No}
 use Rattle.substrate.specs.declared.record.Processing.{Processing}
-use Rattle.tool_floor.specs.declared.tracking.Substrate.{Substrate}
-use Rattle.tool_floor.specs.Floor.{ToolFloor, change_numbered}
+use Rattle.floor_model.specs.declared.tracked.Substrate.{Substrate}
+use Rattle.floor_model.specs.Floor.{ToolFloor, change_numbered}
 use Rattle.worked_floors.specs.Worked.{recipes, in_slot}
 
 -- ---- the jobs

@@ -1,7 +1,7 @@
 use Rattle.std.proofs.Common.{sym, ◌∙◌}
 use Rattle.tool_events.specs.declared.event.Event.TheVariants as event
 use Rattle.line_grammar.specs.declared.line.Line.TheVariants as line
-use Rattle.gem_model.specs.Feed.{is_quit}
+use Rattle.line_grammar.specs.Texts.{is_quit}
 use Rattle.actors.specs.Operating.{desk_told}
 use Rattle.actors.proofs.Operating.{PostsAll-quit, PostsAll-on, PostsAll-err}
 use Rattle.actors.proofs.operator.post_command.Goals as goal

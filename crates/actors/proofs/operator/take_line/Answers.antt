@@ -2,7 +2,7 @@ use Rattle.std.proofs.Common.{◌≡◌, Ok, ap, ◌∙◌}
 use Rattle.tool_events.specs.declared.event.Event.TheVariants as event
 use Rattle.line_grammar.specs.declared.line.Line.{Line}
 use Rattle.line_grammar.specs.declared.line.Line.TheVariants as line
-use Rattle.tool_texts.specs.Scripts.{script_line_of}
+use Rattle.line_grammar.specs.Reading.{script_line_of}
 use Rattle.actors.specs.Operating.{desk_told}
 use Rattle.actors.proofs.Operating.{PostsAll-one, PostsAll-nothing}
 use Rattle.actors.proofs.ScriptStanding.{TakesLine-said}

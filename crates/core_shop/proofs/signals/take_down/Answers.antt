@@ -1,6 +1,6 @@
 use Rattle.std.proofs.Common.{◌≡◌, ℕ, ◌∙◌, List, OnOk, ap, subst}
 use Rattle.gem_tables.specs.declared.firing.Firing.{Firing}
-use Rattle.tool_floor.specs.Signals.{closing_rows}
+use Rattle.floor_model.specs.Signals.{closing_rows}
 use Rattle.gem_model.specs.State.{State}
 use Rattle.gem_model.specs.Fire.{fire_listed}
 use Rattle.gem_model.specs.Noting.{sets_alarm}

@@ -1,6 +1,6 @@
 use Rattle.std.proofs.Common.{◌≡◌, drop}
 use Rattle.std.specs.List.{list_all}
-use Rattle.tool_floor.specs.Jobs.{is_material_here}
+use Rattle.floor_model.specs.Jobs.{is_material_here}
 use Rattle.tool_floor.proofs.members.are_here.Given as goal
 
 abbrev pub invariant-loop-material : goal.invariant-loop-material

@@ -1,6 +1,6 @@
 use Rattle.std.proofs.Common.{◌≡◌, drop}
 use Rattle.std.specs.List.{list_any}
-use Rattle.tool_floor.specs.Jobs.{is_carrier_of}
+use Rattle.floor_model.specs.Jobs.{is_carrier_of}
 use Rattle.tool_floor.proofs.members.is_any_carrier_of.Given as goal
 
 abbrev pub invariant-loop-place : goal.invariant-loop-place

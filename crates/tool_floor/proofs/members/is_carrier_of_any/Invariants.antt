@@ -1,6 +1,6 @@
 use Rattle.std.proofs.Common.{◌≡◌, drop}
 use Rattle.std.specs.List.{list_any}
-use Rattle.tool_floor.specs.Jobs.{is_of_carrier}
+use Rattle.floor_model.specs.Jobs.{is_of_carrier}
 use Rattle.tool_floor.proofs.members.is_carrier_of_any.Given as goal
 
 abbrev pub invariant-loop-material : goal.invariant-loop-material

@@ -1,5 +1,5 @@
 use Rattle.std.proofs.Common.{◌≡◌, drop}
-use Rattle.tool_floor.specs.Jobs.{all_marked}
+use Rattle.floor_model.specs.Jobs.{all_marked}
 use Rattle.tool_floor.proofs.members.mark.Given as goal
 
 abbrev pub invariant-loop-material : goal.invariant-loop-material

@@ -1,7 +1,7 @@
 use Rattle.std.proofs.Common.{ℕ, ◌∙◌, ap}
 use Rattle.robot_moves.specs.Modules.{change_module, closed}
 use Rattle.robot_moves.specs.declared.module.Module.TheVariants.{Idle, Down}
-use Rattle.tool_floor.proofs.Behind.{done_behind, ends_5, ends_6, ends_7, failed_behind, is_other, stays_behind}
+use Rattle.floor_model.proofs.Behind.{done_behind, ends_5, ends_6, ends_7, failed_behind, is_other, stays_behind}
 use Rattle.tool_floor.proofs.rows.fire.Goals.{then-row-eq5-via-then-row-eq5, then-row-eq5-via-else-row-eq5+then-row-eq6, then-row-eq5-via-else-row-eq5+else-row-eq6+then-row-eq7}
 use Rattle.tool_floor.proofs.rows.fire.Goals as goal
 

@@ -1,5 +1,5 @@
 use Rattle.std.proofs.Common.{◌≡◌, ◌++◌, map, take, drop}
-use Rattle.tool_floor.specs.Jobs.{freed}
+use Rattle.floor_model.specs.Jobs.{freed}
 use Rattle.tool_floor.proofs.tracking.free_all.Given as goal
 
 abbrev pub invariant-loop-substrate : goal.invariant-loop-substrate

@@ -1,6 +1,6 @@
 use Rattle.std.proofs.Common.{◌≡◌, true, Result, drop}
 use Rattle.core_view.specs.CoreView.{CoreView}
-use Rattle.tool_floor.specs.Floor.{module_numbers}
+use Rattle.floor_model.specs.Floor.{module_numbers}
 use Rattle.gem_model.specs.Feed.{fetched_by}
 use Rattle.line_feeding.specs.declared.halt.Halt.{Halt}
 use Rattle.line_feeding.specs.Going.{Goes, SinkView, seen}

@@ -1,5 +1,5 @@
 use Rattle.std.proofs.Common.{subst, sym}
-use Rattle.tool_floor.specs.Signals.{closing_rows}
+use Rattle.floor_model.specs.Signals.{closing_rows}
 use Rattle.gem_model.specs.Direct.{Are, IsListed}
 use Rattle.gem_model.proofs.FloorRows.{closing_are}
 use Rattle.core_state.proofs.ModuleRows.{listed_floor}

@@ -1,6 +1,6 @@
 use Rattle.std.proofs.Common.{◌≡◌, ◌∷◌, ◌+◌, ◌∙◌, List, drop, get_or, refl, sym, ap, subst}
 use Rattle.gem_tables.specs.declared.firing.Firing.{Firing}
-use Rattle.tool_floor.specs.Floor.{ToolFloor}
+use Rattle.floor_model.specs.Floor.{ToolFloor}
 use Rattle.gem_model.specs.State.{State}
 use Rattle.gem_model.specs.Fire.{fire_all}
 use Rattle.core_state.specs.Firing.{AreCreated}

@@ -1,12 +1,13 @@
-use Rattle.std.proofs.Common.{◌≡◌, ◌&&◌, not, false, IfOk, OnOk, is_some, Option, Bool, sym, ◌∙◌, subst}
+use Rattle.std.proofs.Common.{◌≡◌, ◌&&◌, not, false, IfOk, OnOk, option_map, Option, Bool, sym, ◌∙◌, subst}
 use Rattle.gem_tables.specs.declared.firing.Firing.{Firing}
+use Rattle.history_totals.specs.Counts.{completes}
 use Rattle.core_state.specs.Firing.{fire_first}
 use Rattle.core_state.proofs.Floors.{least_rest}
 use Rattle.core_state.proofs.plant.Plant.fire_least.Goals as goal
 
 pub returns-clause-fired : goal.returns-clause-fired
 returns-clause-fired c =
-    subst (λ (f : Option Firing). IfOk c.fire_line_or_floor.result (λ (fired : Bool). fired ≡ is_some f))
+    subst (λ (f : Option Firing). IfOk c.fire_line_or_floor.result (λ (fired : Option Bool). fired ≡ option_map completes f))
     (sym (least_rest c.args.self.now (sym c.asks_host.ensures ∙ c.if-asks_host.false) (sym c.gives_up.ensures ∙ c.if-gives_up.false))) c.fire_line_or_floor.ensures.fired
 
 pub returns-clause-after : goal.returns-clause-after

@@ -1,5 +1,5 @@
 use Rattle.std.proofs.Common.{subst, sym}
-use Rattle.tool_floor.specs.Signals.{lost_rows}
+use Rattle.floor_model.specs.Signals.{lost_rows}
 use Rattle.gem_model.specs.Direct.{Are, IsListed}
 use Rattle.gem_model.proofs.FloorRows.{lost_are}
 use Rattle.core_state.proofs.ModuleRows.{listed_floor}

@@ -1,5 +1,6 @@
 use Rattle.std.proofs.Common.{◌≡◌, ℕ, List, OnOk, Some, None, slice_get, sym, ap, subst, ◌∙◌}
 use Rattle.transactions.specs.declared.transaction.What.TheVariants as what
+use Rattle.note_line.specs.Line.{Line}
 use Rattle.gem_model.specs.State.{State}
 use Rattle.gem_model.specs.Sending.{asks}
 use Rattle.gem_model.specs.Effects.{stream_of_kind, function_of_kind, asks_first}
@@ -9,7 +10,7 @@ use Rattle.core_state.proofs.plant.Plant.send_oldest.Goals as goal
 pub returns : goal.returns
 returns c =
     let now : State = c.args.self.now in
-    let found = subst (λ (g : State). slice_get g.line.spool.notes 0 ≡ Some c.in-Some.note.now) c.self.view_is (sym c.in-Some.ensures.note) in
+    let found = subst (λ (g : State). slice_get g.line.spool.notes 0 ≡ Some c.in-Some.note.now) c.self.view_is (ap (λ (l : Line). slice_get l.spool.notes 0) (sym c.notes.ensures) ∙ sym c.in-Some.ensures.note) in
     let same =
     ap (λ (numbers : ℕ × ℕ). asks numbers.0 numbers.1 (what.Note c.in-Some.note.now.number) c.in_ok-kept.kept now) c.message_of-stream.ensures
     ∙ ap (λ (text : List ℕ). asks (stream_of_kind c.in-Some.note.now.kind) (function_of_kind c.in-Some.note.now.kind) (what.Note c.in-Some.note.now.number) text now) c.in_ok-kept.ensures
@@ -19,4 +20,4 @@ returns c =
 pub returns-in_default : goal.returns-in_default
 returns-in_default c =
     let now : State = c.args.self.now in
-    none_asks now.line.spool.notes now (subst (λ (g : State). None ≡ slice_get g.line.spool.notes 0) c.self.view_is c.in_default.ensures.note)
+    none_asks now.line.spool.notes now (subst (λ (g : State). None ≡ slice_get g.line.spool.notes 0) c.self.view_is (c.in_default.ensures.note ∙ ap (λ (l : Line). slice_get l.spool.notes 0) c.notes.ensures))

@@ -2,8 +2,11 @@ use Rattle.std.proofs.Common.{◌≡◌, true, Some, refl, ap, subst, sym, ◌�
 use Rattle.tool_events.specs.declared.entry.Entry.{Entry}
 use Rattle.gem_model.specs.State.{State, is_up}
 use Rattle.gem_model.specs.Step.{Outcome, step}
+use Rattle.gem_model.specs.Sizes.{counted}
+use Rattle.history_totals.specs.Counts.{done_by, completed_by}
 use Rattle.tool_core.specs.CoreInside.{state_of}
 use Rattle.core_view.specs.CoreView.{CoreView}
+use Rattle.history_totals.proofs.Summing.{totals-snoc}
 use Rattle.tool_core.proofs.Replaying.{GoesOn, goes-snoc, state-snoc}
 use Rattle.tool_core.proofs.tool.Core.record.Goals as goal
 
@@ -18,6 +21,9 @@ invariant_of-self-3 c =
     let before : GoesOn k.config k.entries.items k.ends.items k.written k.bytes = record { config = i.config; run = i.run; sessions = rw i.sessions_are at i.sessions; ended = i.ended; written = i.written; bytes_are = i.bytes_are; entries_fit = i.entries_fit; bytes_fit = i.bytes_fit } in
     let entry : Entry = record { seat = c.args.seat; at = c.args.at; event = c.args.event } in
     let after = state-snoc k.config k.entries.items entry o i.run here in
+    let dones = c.done_by-done.ensures ∙ ap (λ (g : State). done_by g c.args.event) (i.plant_is whole) in
+    let completions = c.in-Ok-react.ensures.completed c.if-not-goes.false ∙ ap (λ (g : State). counted (completed_by g c.args.at.0 c.args.event)) (i.plant_is whole) in
+    let totals = totals-snoc k.config k.entries.items (state_of k.config k.entries.items) entry o k.totals c.done_by-done.result c.react.new.completed i.run here i.totals_are dones completions in
     let goes = goes-snoc k.config k.entries.items k.ends.items k.written c.add_taken.new.counts k.bytes entry o before (rw (← c.self.view_is) at c.requires.room) here (λ n count is. c.add_taken.ensures n count (c.in-Ok-make_room.ensures.counts n ∙ is)) in
     rw (c.push_reserved.ensures.items, c.in-Ok.ensures.items, c.add_end.ensures, c.in-Ok-reserve.ensures.items, c.event_bytes.ensures.value, c.session_count-self-inside.ensures, c.is_up-self-inside.ensures) (record {
       config = goes.config;
@@ -29,6 +35,7 @@ invariant_of-self-3 c =
       ended = goes.ended;
       written = goes.written;
       bytes_are = goes.bytes_are;
+      totals_are = c.in-Some.ensures ∙ totals;
       entries_fit = goes.entries_fit;
       bytes_fit = goes.bytes_fit;
     })

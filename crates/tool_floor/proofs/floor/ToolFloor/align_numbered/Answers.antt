@@ -1,7 +1,7 @@
 use Rattle.std.proofs.Common.{subst, sym, refl}
-use Rattle.tool_floor.specs.Kept.{RiseTo}
-use Rattle.tool_floor.specs.Modules.{aligned}
-use Rattle.tool_floor.proofs.Scans.{rise_changed}
+use Rattle.floor_model.specs.Floor.{RiseTo}
+use Rattle.floor_model.specs.Modules.{aligned}
+use Rattle.floor_model.proofs.Scans.{rise_changed}
 use Rattle.tool_floor.proofs.floor.ToolFloor.align_numbered.Goals as goal
 
 pub invariant_of-self : goal.invariant_of-self

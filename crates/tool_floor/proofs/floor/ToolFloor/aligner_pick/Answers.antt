@@ -1,5 +1,5 @@
 use Rattle.std.proofs.Common.{◌∙◌}
-use Rattle.tool_floor.proofs.PlacePicks.{aligner_is}
+use Rattle.floor_model.proofs.PlacePicks.{aligner_is}
 use Rattle.tool_floor.proofs.floor.ToolFloor.aligner_pick.Goals as goal
 
 pub returns : goal.returns

@@ -1,6 +1,6 @@
 use Rattle.std.proofs.Common.{◌∙◌, sym}
-use Rattle.tool_floor.proofs.Scans.{shown, all_here, all_next, all_past}
-use Rattle.tool_floor.specs.Wants.{is_back}
+use Rattle.floor_model.proofs.Scans.{shown, all_here, all_next, all_past}
+use Rattle.floor_model.specs.Wants.{is_back}
 use Rattle.tool_floor.proofs.floor.ToolFloor.are_back.Goals.{in-Some+else-not-is_back, in_default}
 use Rattle.tool_floor.proofs.floor.ToolFloor.are_back.Goals as goal
 

@@ -1,6 +1,6 @@
 use Rattle.std.proofs.Common.{◌≡◌, drop}
 use Rattle.std.specs.List.{list_all}
-use Rattle.tool_floor.specs.Wants.{is_back}
+use Rattle.floor_model.specs.Wants.{is_back}
 use Rattle.tool_floor.proofs.floor.ToolFloor.are_back.Given as goal
 
 abbrev pub invariant-loop-place : goal.invariant-loop-place

@@ -3,9 +3,9 @@ use Rattle.gem_ids.specs.declared.numbers.LocId.TheVariants.{Chamber}
 use Rattle.robot_moves.specs.Moves.{least_numbered}
 use Rattle.robot_moves.specs.declared.view.PlaceView.{PlaceView}
 use Rattle.robot_moves.proofs.StagePicks.{joined}
-use Rattle.tool_floor.specs.Views.{views}
-use Rattle.tool_floor.specs.Picks.{pick_at, chamber_pick, better_of}
-use Rattle.tool_floor.proofs.PlacePicks.{given_by, joined_given, joined_end, chambers_are}
+use Rattle.floor_model.specs.Views.{views}
+use Rattle.floor_model.specs.Picks.{pick_at, chamber_pick, better_of}
+use Rattle.floor_model.proofs.PlacePicks.{given_by, joined_given, joined_end, chambers_are}
 use Rattle.tool_floor.proofs.floor.ToolFloor.chamber_pick.Goals as goal
 
 pub loop-index-init : goal.loop-index-init

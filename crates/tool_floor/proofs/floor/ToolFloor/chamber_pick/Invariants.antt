@@ -1,9 +1,9 @@
 use Rattle.std.proofs.Common.{◌≡◌, ◌+◌, ◌-◌, ◌≤◌, length}
 use Rattle.robot_moves.specs.Moves.{least_numbered, stage_pick}
 use Rattle.robot_moves.proofs.StagePicks.{joined}
-use Rattle.tool_floor.specs.Views.{views}
-use Rattle.tool_floor.specs.Picks.{chamber_pick}
-use Rattle.tool_floor.proofs.PlacePicks.{given_by}
+use Rattle.floor_model.specs.Views.{views}
+use Rattle.floor_model.specs.Picks.{chamber_pick}
+use Rattle.floor_model.proofs.PlacePicks.{given_by}
 use Rattle.tool_floor.proofs.floor.ToolFloor.chamber_pick.Given as goal
 
 abbrev pub invariant-loop-index : goal.invariant-loop-index

@@ -1,9 +1,9 @@
 use Rattle.std.proofs.Common.{◌≡◌, ◌+◌, List, drop, slice_get, sym, ap, ◌∙◌}
 use Rattle.substrate.specs.Places.{PlaceMap}
-use Rattle.tool_floor.specs.Floor.{ToolFloor}
-use Rattle.tool_floor.specs.Substrates.{emptied, removed_of}
-use Rattle.tool_floor.specs.declared.tracking.Substrate.{Substrate}
-use Rattle.tool_floor.proofs.Registrations.{removed_next}
+use Rattle.floor_model.specs.Floor.{ToolFloor}
+use Rattle.floor_model.specs.Substrates.{emptied, removed_of}
+use Rattle.floor_model.specs.declared.tracked.Substrate.{Substrate}
+use Rattle.floor_model.proofs.Registrations.{removed_next}
 use Rattle.tool_floor.proofs.floor.ToolFloor.empty_slots.Goals as goal
 
 pub loop-place-preserved : goal.loop-place-preserved

@@ -1,5 +1,5 @@
 use Rattle.std.proofs.Common.{◌≡◌, drop}
-use Rattle.tool_floor.specs.Substrates.{removed_of}
+use Rattle.floor_model.specs.Substrates.{removed_of}
 use Rattle.tool_floor.proofs.floor.ToolFloor.empty_slots.Given as goal
 
 abbrev pub invariant-loop-place : goal.invariant-loop-place

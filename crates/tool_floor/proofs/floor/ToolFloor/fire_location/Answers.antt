@@ -1,9 +1,9 @@
 use Rattle.std.proofs.Common.{sym, ◌∙◌, ap, List}
 use Rattle.substrate.specs.Record.{location_fired}
 use Rattle.substrate.specs.declared.record.LocationRecord.{LocationRecord}
-use Rattle.tool_floor.specs.Floor.{change_location}
-use Rattle.tool_floor.proofs.Tables.{fired_location}
-use Rattle.tool_floor.proofs.Scans.{location_found, location_missing}
+use Rattle.floor_model.specs.Floor.{change_location}
+use Rattle.floor_model.proofs.Tables.{fired_location}
+use Rattle.floor_model.proofs.Scans.{location_found, location_missing}
 use Rattle.tool_floor.proofs.floor.ToolFloor.fire_location.Goals as goal
 
 pub returns-in-Some : goal.returns-in-Some

@@ -1,13 +1,13 @@
 use Rattle.std.proofs.Common.{◌≡◌, ◌+◌, ◌≤◌, ℕ, List, true, drop, length, refl, sym, ap, subst, ◌∙◌, arith}
 use Rattle.shop_floor.specs.Floor.{Floor}
 use Rattle.shop_floor.specs.Machines.{floor_starts as shop_starts, floor_fired as shop_fired}
-use Rattle.tool_floor.specs.Floor.{ToolFloor, with_shop}
+use Rattle.floor_model.specs.Floor.{ToolFloor, with_shop}
 use Rattle.tool_floor.specs.Kept.{kept_floor}
-use Rattle.tool_floor.specs.Substrates.{registration_rows}
-use Rattle.tool_floor.specs.Machines.{registered_by}
-use Rattle.tool_floor.specs.declared.tracking.Substrate.{Substrate}
-use Rattle.tool_floor.proofs.Tables.{starts_map, fired_map, created_map}
-use Rattle.tool_floor.proofs.Registrations.{Registers, row_registered, append_length}
+use Rattle.floor_model.specs.Substrates.{registration_rows}
+use Rattle.floor_model.specs.Machines.{registered_by}
+use Rattle.floor_model.specs.declared.tracked.Substrate.{Substrate}
+use Rattle.floor_model.proofs.Tables.{starts_map, fired_map, created_map}
+use Rattle.floor_model.proofs.Registrations.{Registers, row_registered, append_length}
 use Rattle.tool_floor.proofs.floor.ToolFloor.fire_map.Goals as goal
 
 pub fire-requires : goal.fire-requires

@@ -1,6 +1,6 @@
 use Rattle.std.proofs.Common.{◌∙◌, sym}
-use Rattle.tool_floor.proofs.Tables.{fired_move}
-use Rattle.tool_floor.proofs.Moves.{gives, few_row}
+use Rattle.floor_model.proofs.Tables.{fired_move}
+use Rattle.floor_model.proofs.Moves.{gives, few_row}
 use Rattle.tool_floor.proofs.floor.ToolFloor.fire_move.Goals as goal
 
 pub returns-in_ok-issue-clause-ok : goal.returns-in_ok-issue-clause-ok

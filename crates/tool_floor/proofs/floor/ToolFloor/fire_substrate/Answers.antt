@@ -1,7 +1,7 @@
 use Rattle.std.proofs.Common.{subst, sym, refl}
-use Rattle.tool_floor.specs.Kept.{RiseTo}
-use Rattle.tool_floor.specs.Machines.{substrate_moves}
-use Rattle.tool_floor.proofs.Scans.{rise_changed}
+use Rattle.floor_model.specs.Floor.{RiseTo}
+use Rattle.floor_model.specs.Machines.{substrate_moves}
+use Rattle.floor_model.proofs.Scans.{rise_changed}
 use Rattle.tool_floor.proofs.floor.ToolFloor.fire_substrate.Goals as goal
 
 pub invariant_of-self : goal.invariant_of-self

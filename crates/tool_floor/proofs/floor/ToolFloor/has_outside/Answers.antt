@@ -1,11 +1,11 @@
 use Rattle.std.proofs.Common.{◌&&◌, ◌∙◌, sym, ap}
 use Rattle.carrier.proofs.Scans.{any_here, any_next, any_past}
-use Rattle.tool_floor.specs.declared.tracking.Substrate.{Substrate}
-use Rattle.tool_floor.specs.Substrates.{is_of, is_outside}
-use Rattle.tool_floor.specs.Wants.{has_outside}
-use Rattle.tool_floor.specs.Floor.{ToolFloor}
-use Rattle.tool_floor.proofs.Working.{has_none_outside}
-use Rattle.tool_floor.proofs.Scans.{shown}
+use Rattle.floor_model.specs.declared.tracked.Substrate.{Substrate}
+use Rattle.floor_model.specs.Substrates.{is_of, is_outside}
+use Rattle.floor_model.specs.Wants.{has_outside}
+use Rattle.floor_model.specs.Floor.{ToolFloor}
+use Rattle.floor_model.proofs.Working.{has_none_outside}
+use Rattle.floor_model.proofs.Scans.{shown}
 use Rattle.tool_floor.proofs.floor.ToolFloor.has_outside.Goals.{in-Some+else-is_outside_of, in_default}
 use Rattle.tool_floor.proofs.floor.ToolFloor.has_outside.Goals as goal
 

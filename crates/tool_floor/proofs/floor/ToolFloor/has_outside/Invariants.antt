@@ -1,6 +1,6 @@
 use Rattle.std.proofs.Common.{◌≡◌, ◌&&◌, drop}
 use Rattle.std.specs.List.{list_any}
-use Rattle.tool_floor.specs.Substrates.{is_of, is_outside}
+use Rattle.floor_model.specs.Substrates.{is_of, is_outside}
 use Rattle.tool_floor.proofs.floor.ToolFloor.has_outside.Given as goal
 
 abbrev pub invariant-loop-place : goal.invariant-loop-place

@@ -2,7 +2,7 @@ use Rattle.std.proofs.Common.{◌∙◌, sym}
 use Rattle.std.specs.List.{list_any}
 use Rattle.carrier.proofs.Scans.{any_here, any_next, any_past}
 use Rattle.robot_moves.specs.declared.module.Module.{Module}
-use Rattle.tool_floor.proofs.Resting.{is_due}
+use Rattle.floor_model.proofs.Resting.{is_due}
 use Rattle.tool_floor.proofs.floor.ToolFloor.is_any_due.Goals.{in-Some+else-is_module_due, in_default}
 use Rattle.tool_floor.proofs.floor.ToolFloor.is_any_due.Goals as goal
 

@@ -1,6 +1,6 @@
 use Rattle.std.proofs.Common.{◌≡◌, drop}
 use Rattle.std.specs.List.{list_any}
-use Rattle.tool_floor.proofs.Resting.{is_due}
+use Rattle.floor_model.proofs.Resting.{is_due}
 use Rattle.tool_floor.proofs.floor.ToolFloor.is_any_due.Given as goal
 
 abbrev pub invariant-loop-place : goal.invariant-loop-place

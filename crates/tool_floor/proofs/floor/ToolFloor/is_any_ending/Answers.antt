@@ -1,7 +1,7 @@
 use Rattle.std.proofs.Common.{◌∙◌, sym}
 use Rattle.carrier.proofs.Scans.{any_here, any_next, any_past}
-use Rattle.tool_floor.proofs.Scans.{shown}
-use Rattle.tool_floor.specs.Jobs.{is_ending}
+use Rattle.floor_model.proofs.Scans.{shown}
+use Rattle.floor_model.specs.Jobs.{is_ending}
 use Rattle.tool_floor.proofs.floor.ToolFloor.is_any_ending.Goals.{in-Some+else-is_ending, in_default}
 use Rattle.tool_floor.proofs.floor.ToolFloor.is_any_ending.Goals as goal
 

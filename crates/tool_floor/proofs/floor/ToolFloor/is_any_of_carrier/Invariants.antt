@@ -1,6 +1,6 @@
 use Rattle.std.proofs.Common.{◌≡◌, drop}
 use Rattle.std.specs.List.{list_any}
-use Rattle.tool_floor.specs.Jobs.{names_carrier}
+use Rattle.floor_model.specs.Jobs.{names_carrier}
 use Rattle.tool_floor.proofs.floor.ToolFloor.is_any_of_carrier.Given as goal
 
 abbrev pub invariant-loop-place : goal.invariant-loop-place

@@ -1,8 +1,8 @@
 use Rattle.std.proofs.Common.{◌∙◌, sym}
 use Rattle.carrier.proofs.Scans.{any_here, any_next, any_past}
-use Rattle.tool_floor.proofs.Scans.{shown}
+use Rattle.floor_model.proofs.Scans.{shown}
 use Rattle.process_job.specs.declared.job.ProcessJob.{ProcessJob}
-use Rattle.tool_floor.specs.Jobs.{is_processing}
+use Rattle.floor_model.specs.Jobs.{is_processing}
 use Rattle.tool_floor.proofs.floor.ToolFloor.is_any_processing.Goals.{in-Some+else-is_processing, in_default}
 use Rattle.tool_floor.proofs.floor.ToolFloor.is_any_processing.Goals as goal
 

@@ -1,7 +1,7 @@
 use Rattle.std.proofs.Common.{◌≡◌, drop}
 use Rattle.std.specs.List.{list_any}
 use Rattle.process_job.specs.declared.job.ProcessJob.{ProcessJob}
-use Rattle.tool_floor.specs.Jobs.{is_processing}
+use Rattle.floor_model.specs.Jobs.{is_processing}
 use Rattle.tool_floor.proofs.floor.ToolFloor.is_any_processing.Given as goal
 
 abbrev pub invariant-loop-place : goal.invariant-loop-place

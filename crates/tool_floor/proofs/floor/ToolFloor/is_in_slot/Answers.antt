@@ -1,7 +1,7 @@
 use Rattle.std.proofs.Common.{ℕ, List, bytes_eq, sym, ap, ◌∙◌}
-use Rattle.tool_floor.specs.Floor.{ToolFloor}
-use Rattle.tool_floor.specs.Substrates.{is_in_slot}
-use Rattle.tool_floor.proofs.Slots.{is_called, in_slot_is}
+use Rattle.floor_model.specs.Floor.{ToolFloor}
+use Rattle.floor_model.specs.Substrates.{is_in_slot}
+use Rattle.floor_model.proofs.Slots.{is_called, in_slot_is}
 use Rattle.tool_floor.proofs.floor.ToolFloor.is_in_slot.Goals as goal
 
 pub returns-in-Some : goal.returns-in-Some

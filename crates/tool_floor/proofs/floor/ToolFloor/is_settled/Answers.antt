@@ -1,6 +1,6 @@
 use Rattle.std.proofs.Common.{◌∙◌, sym}
-use Rattle.tool_floor.proofs.Scans.{shown, all_here, all_next, all_past}
-use Rattle.tool_floor.specs.Jobs.{is_done_with}
+use Rattle.floor_model.proofs.Scans.{shown, all_here, all_next, all_past}
+use Rattle.floor_model.specs.Jobs.{is_done_with}
 use Rattle.tool_floor.proofs.floor.ToolFloor.is_settled.Goals.{in-Some+else-not-is_done_with, in_default}
 use Rattle.tool_floor.proofs.floor.ToolFloor.is_settled.Goals as goal
 

@@ -1,6 +1,6 @@
 use Rattle.std.proofs.Common.{◌≡◌, drop}
 use Rattle.std.specs.List.{list_all}
-use Rattle.tool_floor.specs.Jobs.{is_done_with}
+use Rattle.floor_model.specs.Jobs.{is_done_with}
 use Rattle.tool_floor.proofs.floor.ToolFloor.is_settled.Given as goal
 
 abbrev pub invariant-loop-place : goal.invariant-loop-place

@@ -1,6 +1,6 @@
 use Rattle.std.proofs.Common.{◌∙◌, sym}
-use Rattle.tool_floor.proofs.Scans.{shown, all_here, all_next, all_past}
-use Rattle.tool_floor.specs.Jobs.{is_at_rest}
+use Rattle.floor_model.proofs.Scans.{shown, all_here, all_next, all_past}
+use Rattle.floor_model.specs.Jobs.{is_at_rest}
 use Rattle.tool_floor.proofs.floor.ToolFloor.is_still.Goals.{in-Some+else-not-is_at_rest, in_default}
 use Rattle.tool_floor.proofs.floor.ToolFloor.is_still.Goals as goal
 

@@ -1,6 +1,6 @@
 use Rattle.std.proofs.Common.{◌≡◌, drop}
 use Rattle.std.specs.List.{list_all}
-use Rattle.tool_floor.specs.Jobs.{is_at_rest}
+use Rattle.floor_model.specs.Jobs.{is_at_rest}
 use Rattle.tool_floor.proofs.floor.ToolFloor.is_still.Given as goal
 
 abbrev pub invariant-loop-place : goal.invariant-loop-place

@@ -1,5 +1,5 @@
 use Rattle.std.proofs.Common.{sym}
-use Rattle.tool_floor.proofs.Resting.{no_task_due}
+use Rattle.floor_model.proofs.Resting.{no_task_due}
 use Rattle.tool_floor.proofs.floor.ToolFloor.is_task_due.Goals as goal
 
 pub returns-in_default : goal.returns-in_default

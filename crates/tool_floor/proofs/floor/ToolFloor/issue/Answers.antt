@@ -1,9 +1,9 @@
 use Rattle.std.proofs.Common.{◌≡◌, ◌+◌, List, Option, Some, sym, ap, ◌∙◌}
 use Rattle.robot_moves.specs.declared.module.Module.{Module}
 use Rattle.robot_moves.specs.declared.view.Move.{Move}
-use Rattle.tool_floor.specs.Floor.{ToolFloor}
+use Rattle.floor_model.specs.Floor.{ToolFloor}
 use Rattle.tool_floor.specs.Kept.{kept_floor}
-use Rattle.tool_floor.specs.Modules.{issued}
+use Rattle.floor_model.specs.Modules.{issued}
 use Rattle.tool_floor.proofs.floor.ToolFloor.issue.Goals as goal
 
 pub returns-else-self-clause-ok : goal.returns-else-self-clause-ok

@@ -1,5 +1,5 @@
 use Rattle.std.proofs.Common.{sym, ◌∙◌}
-use Rattle.tool_floor.proofs.Tables.{least_first, least_second, least_third, least_fourth, least_fifth, least_sixth, least_seventh, least_last}
+use Rattle.floor_model.proofs.Tables.{least_first, least_second, least_third, least_fourth, least_fifth, least_sixth, least_seventh, least_last}
 use Rattle.tool_floor.proofs.floor.ToolFloor.least.Goals as goal
 
 pub returns-in-Some : goal.returns-in-Some

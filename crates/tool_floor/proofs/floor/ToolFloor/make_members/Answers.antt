@@ -1,9 +1,9 @@
 use Rattle.std.proofs.Common.{List, sym, subst}
-use Rattle.tool_floor.specs.declared.tracking.Substrate.{Substrate}
-use Rattle.tool_floor.specs.Kept.{RiseTo}
-use Rattle.tool_floor.specs.Jobs.{joined}
-use Rattle.tool_floor.proofs.Scans.{rise_mapped}
-use Rattle.tool_floor.proofs.Marks.{joined_number}
+use Rattle.floor_model.specs.declared.tracked.Substrate.{Substrate}
+use Rattle.floor_model.specs.Floor.{RiseTo}
+use Rattle.floor_model.specs.Jobs.{joined}
+use Rattle.floor_model.proofs.Scans.{rise_mapped}
+use Rattle.floor_model.proofs.Marks.{joined_number}
 use Rattle.tool_floor.proofs.floor.ToolFloor.make_members.Goals as goal
 
 pub invariant_of-self : goal.invariant_of-self

@@ -1,5 +1,5 @@
 use Rattle.std.proofs.Common.{sym, ◌∙◌}
-use Rattle.tool_floor.proofs.Showing.{none_planned}
+use Rattle.floor_model.proofs.Showing.{none_planned}
 use Rattle.tool_floor.proofs.floor.ToolFloor.planned.Goals as goal
 
 pub returns-then-not-is_any_processing : goal.returns-then-not-is_any_processing

@@ -1,7 +1,7 @@
 use Rattle.std.proofs.Common.{◌≡◌, ◌≤◌, ◌<◌, ◌∙◌, ap, sym, subst, length, List, arith}
 use Rattle.substrate.specs.declared.record.LocationRecord.{LocationRecord}
-use Rattle.tool_floor.specs.Floor.{ToolFloor, change_location}
-use Rattle.tool_floor.proofs.Scans.{location_set, location_past}
+use Rattle.floor_model.specs.Floor.{ToolFloor, change_location}
+use Rattle.floor_model.proofs.Scans.{location_set, location_past}
 use Rattle.tool_floor.proofs.floor.ToolFloor.put_location.Goals as goal
 
 pub returns-then-number-len : goal.returns-then-number-len

@@ -3,8 +3,8 @@ use Rattle.gem_tables.specs.Machine.{ready_in}
 use Rattle.gem_tables.specs.declared.firing.Firing.{Firing}
 use Rattle.shop_floor.specs.Floor.{number_of}
 use Rattle.shop_floor.proofs.Scans.{ready_here, ready_next, ready_past, carrier_number, no_carrier, numbered_at}
-use Rattle.tool_floor.specs.Floor.{ToolFloor}
-use Rattle.tool_floor.specs.Machines.{floor_machines}
+use Rattle.floor_model.specs.Floor.{ToolFloor}
+use Rattle.floor_model.specs.Machines.{floor_machines}
 use Rattle.tool_floor.proofs.floor.ToolFloor.ready_accessing.Goals.{in-Some+in_default-accessing_row, in_default}
 use Rattle.tool_floor.proofs.floor.ToolFloor.ready_accessing.Goals as goal
 

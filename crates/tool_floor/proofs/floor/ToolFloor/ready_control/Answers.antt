@@ -2,11 +2,11 @@ use Rattle.std.proofs.Common.{ℕ, Option, Some, ◌∙◌, sym, ap}
 use Rattle.gem_tables.specs.Machine.{ready_in}
 use Rattle.gem_tables.specs.declared.firing.Firing.{Firing}
 use Rattle.shop_floor.proofs.Scans.{ready_here, ready_next, ready_past}
-use Rattle.tool_floor.specs.Floor.{ToolFloor}
+use Rattle.floor_model.specs.Floor.{ToolFloor}
 use Rattle.control_job.specs.Jobs.{numbers_of as control_numbers}
-use Rattle.tool_floor.specs.Machines.{floor_machines}
-use Rattle.tool_floor.proofs.Scans.{shown}
-use Rattle.tool_floor.proofs.JobScans.{control_number, no_control, control_found}
+use Rattle.floor_model.specs.Machines.{floor_machines}
+use Rattle.floor_model.proofs.Scans.{shown}
+use Rattle.floor_model.proofs.JobScans.{control_number, no_control, control_found}
 use Rattle.tool_floor.proofs.floor.ToolFloor.ready_control.Goals.{in-Some+in_default-control_row, in_default}
 use Rattle.tool_floor.proofs.floor.ToolFloor.ready_control.Goals as goal
 

@@ -1,9 +1,9 @@
 use Rattle.std.proofs.Common.{◌+◌, ◌<◌, ◌≤◌, ℕ, Option, Some, length, ◌∙◌, sym, ap, arith}
 use Rattle.gem_tables.specs.declared.firing.Firing.{Firing}
 use Rattle.shop_floor.proofs.Scans.{ready_here, ready_next, ready_end}
-use Rattle.tool_floor.specs.Floor.{ToolFloor, location_at, location_numbers}
-use Rattle.tool_floor.specs.Machines.{location_ready}
-use Rattle.tool_floor.proofs.Scans.{number_at, numbers_length}
+use Rattle.floor_model.specs.Floor.{ToolFloor, location_at, location_numbers}
+use Rattle.floor_model.specs.Machines.{location_ready}
+use Rattle.floor_model.proofs.Scans.{number_at, numbers_length}
 use Rattle.tool_floor.proofs.floor.ToolFloor.ready_location.Goals as goal
 
 abbrev at : ToolFloor → ℕ → Option ℕ

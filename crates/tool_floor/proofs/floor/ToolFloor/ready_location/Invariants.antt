@@ -1,7 +1,7 @@
 use Rattle.std.proofs.Common.{◌≡◌, drop}
 use Rattle.gem_tables.specs.Machine.{first_ready}
-use Rattle.tool_floor.specs.Floor.{location_at, location_numbers}
-use Rattle.tool_floor.specs.Machines.{location_ready}
+use Rattle.floor_model.specs.Floor.{location_at, location_numbers}
+use Rattle.floor_model.specs.Machines.{location_ready}
 use Rattle.tool_floor.proofs.floor.ToolFloor.ready_location.Given as goal
 
 abbrev pub invariant-loop-place : goal.invariant-loop-place

@@ -1,9 +1,9 @@
 use Rattle.std.proofs.Common.{ℕ, Option, Some, option_map, sym, ap, ◌∙◌}
 use Rattle.gem_tables.specs.Table.{firing}
 use Rattle.gem_tables.specs.declared.firing.Firing.{Firing}
-use Rattle.tool_floor.specs.Views.{views}
-use Rattle.tool_floor.proofs.Moves.{first_move_is, firing_of, none_to_move}
-use Rattle.tool_floor.proofs.Showing.{none_planned}
+use Rattle.floor_model.specs.Views.{views}
+use Rattle.floor_model.proofs.Moves.{first_move_is, firing_of, none_to_move}
+use Rattle.floor_model.proofs.Showing.{none_planned}
 use Rattle.tool_floor.proofs.floor.ToolFloor.ready_move.Goals as goal
 
 pub returns-then-not-is_any_processing : goal.returns-then-not-is_any_processing

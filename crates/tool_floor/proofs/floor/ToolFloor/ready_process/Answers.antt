@@ -2,10 +2,10 @@ use Rattle.std.proofs.Common.{ℕ, Option, Some, ◌∙◌, sym, ap}
 use Rattle.gem_tables.specs.Machine.{ready_in}
 use Rattle.gem_tables.specs.declared.firing.Firing.{Firing}
 use Rattle.shop_floor.proofs.Scans.{ready_here, ready_next, ready_past}
-use Rattle.tool_floor.specs.Floor.{ToolFloor}
-use Rattle.tool_floor.specs.Machines.{process_numbers, floor_machines}
-use Rattle.tool_floor.proofs.Scans.{shown}
-use Rattle.tool_floor.proofs.JobScans.{process_number, no_process, process_found}
+use Rattle.floor_model.specs.Floor.{ToolFloor}
+use Rattle.floor_model.specs.Machines.{process_numbers, floor_machines}
+use Rattle.floor_model.proofs.Scans.{shown}
+use Rattle.floor_model.proofs.JobScans.{process_number, no_process, process_found}
 use Rattle.tool_floor.proofs.floor.ToolFloor.ready_process.Goals.{in-Some+in_default-process_row, in_default}
 use Rattle.tool_floor.proofs.floor.ToolFloor.ready_process.Goals as goal
 

@@ -1,6 +1,6 @@
 use Rattle.std.proofs.Common.{◌≡◌, drop}
 use Rattle.gem_tables.specs.Machine.{first_ready, ready_in}
-use Rattle.tool_floor.specs.Machines.{process_numbers, floor_machines}
+use Rattle.floor_model.specs.Machines.{process_numbers, floor_machines}
 use Rattle.tool_floor.proofs.floor.ToolFloor.ready_process.Given as goal
 
 abbrev pub invariant-loop-place : goal.invariant-loop-place

@@ -1,5 +1,5 @@
 use Rattle.std.proofs.Common.{sym, ◌∙◌}
-use Rattle.tool_floor.proofs.Resting.{no_processing}
+use Rattle.floor_model.proofs.Resting.{no_processing}
 use Rattle.tool_floor.proofs.floor.ToolFloor.ready_processing.Goals as goal
 
 pub returns-then-not-is_any_ending : goal.returns-then-not-is_any_ending

@@ -2,9 +2,9 @@ use Rattle.std.proofs.Common.{ℕ, Option, Some, map, ◌∙◌, sym, ap}
 use Rattle.gem_tables.specs.Machine.{ready_in}
 use Rattle.gem_tables.specs.declared.firing.Firing.{Firing}
 use Rattle.shop_floor.proofs.Scans.{ready_here, ready_next, ready_past}
-use Rattle.tool_floor.specs.Floor.{ToolFloor, number_of}
-use Rattle.tool_floor.specs.Machines.{floor_machines}
-use Rattle.tool_floor.proofs.Scans.{shown, substrate_number, no_substrate, numbered_at}
+use Rattle.floor_model.specs.Floor.{ToolFloor, number_of}
+use Rattle.floor_model.specs.Machines.{floor_machines}
+use Rattle.floor_model.proofs.Scans.{shown, substrate_number, no_substrate, numbered_at}
 use Rattle.tool_floor.proofs.floor.ToolFloor.ready_substrate.Goals.{in-Some+in_default-substrate_row, in_default}
 use Rattle.tool_floor.proofs.floor.ToolFloor.ready_substrate.Goals as goal
 

@@ -1,7 +1,7 @@
 use Rattle.std.proofs.Common.{◌≡◌, drop, map}
 use Rattle.gem_tables.specs.Machine.{first_ready, ready_in}
-use Rattle.tool_floor.specs.Floor.{number_of}
-use Rattle.tool_floor.specs.Machines.{floor_machines}
+use Rattle.floor_model.specs.Floor.{number_of}
+use Rattle.floor_model.specs.Machines.{floor_machines}
 use Rattle.tool_floor.proofs.floor.ToolFloor.ready_substrate.Given as goal
 
 abbrev pub invariant-loop-place : goal.invariant-loop-place

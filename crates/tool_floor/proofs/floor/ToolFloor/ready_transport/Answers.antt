@@ -1,9 +1,9 @@
 use Rattle.std.proofs.Common.{sym, ap, map, ◌∙◌}
 use Rattle.gem_tables.specs.Machine.{first_ready, ready_in}
-use Rattle.tool_floor.specs.Floor.{ToolFloor, number_of}
+use Rattle.floor_model.specs.Floor.{ToolFloor, number_of}
 use Rattle.tool_floor.specs.Kept.{kept_floor}
-use Rattle.tool_floor.specs.Machines.{floor_machines}
-use Rattle.tool_floor.proofs.Resting.{no_transport}
+use Rattle.floor_model.specs.Machines.{floor_machines}
+use Rattle.floor_model.proofs.Resting.{no_transport}
 use Rattle.tool_floor.proofs.floor.ToolFloor.ready_transport.Goals as goal
 
 pub returns-then-not-is_any_at_work-2 : goal.returns-then-not-is_any_at_work-2

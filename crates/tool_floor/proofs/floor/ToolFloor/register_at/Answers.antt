@@ -1,8 +1,8 @@
 use Rattle.std.proofs.Common.{◌≡◌, ◌+◌, false, List, [], ◌∷◌, ◌++◌, subst, sym, ap, ◌∙◌, arith}
 use Rattle.substrate.specs.Places.{PlaceMap}
-use Rattle.tool_floor.specs.Kept.{RiseTo}
-use Rattle.tool_floor.specs.declared.tracking.Substrate.{Substrate}
-use Rattle.tool_floor.proofs.Scans.{rise_more, rise_given, either_answer}
+use Rattle.floor_model.specs.Floor.{RiseTo}
+use Rattle.floor_model.specs.declared.tracked.Substrate.{Substrate}
+use Rattle.floor_model.proofs.Scans.{rise_more, rise_given, either_answer}
 use Rattle.tool_floor.proofs.floor.ToolFloor.register_at.Goals as goal
 
 pub invariant_of-self : goal.invariant_of-self

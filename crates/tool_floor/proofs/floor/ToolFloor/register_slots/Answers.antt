@@ -1,7 +1,7 @@
 use Rattle.std.proofs.Common.{◌≡◌, ◌+◌, ◌-◌, ℕ, suc, List, drop, sym, ap, ◌∙◌, arith}
-use Rattle.tool_floor.specs.Floor.{ToolFloor}
-use Rattle.tool_floor.specs.Substrates.{registers_slots}
-use Rattle.tool_floor.proofs.Registrations.{slots_next, slots_past}
+use Rattle.floor_model.specs.Floor.{ToolFloor}
+use Rattle.floor_model.specs.Substrates.{registers_slots}
+use Rattle.floor_model.proofs.Registrations.{slots_next, slots_past}
 use Rattle.tool_floor.proofs.floor.ToolFloor.register_slots.Goals.{in-Some+in_ok-register_slot, in_default}
 use Rattle.tool_floor.proofs.floor.ToolFloor.register_slots.Goals as goal
 

@@ -1,5 +1,5 @@
 use Rattle.std.proofs.Common.{◌≡◌, ◌+◌, ◌-◌, drop}
-use Rattle.tool_floor.specs.Substrates.{registers_slots}
+use Rattle.floor_model.specs.Substrates.{registers_slots}
 use Rattle.tool_floor.proofs.floor.ToolFloor.register_slots.Given as goal
 
 abbrev pub invariant-loop-place : goal.invariant-loop-place

@@ -1,7 +1,7 @@
 use Rattle.std.proofs.Common.{find, sym, ap, ◌∙◌}
 use Rattle.substrate.specs.Places.{stands_at}
-use Rattle.tool_floor.specs.Floor.{ToolFloor}
-use Rattle.tool_floor.proofs.Slots.{named_there, none_there}
+use Rattle.floor_model.specs.Floor.{ToolFloor}
+use Rattle.floor_model.proofs.Slots.{named_there, none_there}
 use Rattle.tool_floor.proofs.floor.ToolFloor.registered_in.Goals as goal
 
 pub returns-in-Some-clause-value : goal.returns-in-Some-clause-value

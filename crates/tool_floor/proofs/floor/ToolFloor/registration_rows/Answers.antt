@@ -2,9 +2,9 @@ use Rattle.std.proofs.Common.{◌+◌, List, [], ◌∷◌, ◌++◌, drop, leng
 use Rattle.arrayvec.specs.ArrayVec.{ArrayVec}
 use Rattle.gem_tables.specs.Table.{firing}
 use Rattle.gem_tables.specs.declared.firing.Firing.{Firing}
-use Rattle.tool_floor.specs.Substrates.{registration_rows}
-use Rattle.tool_floor.proofs.Registrations.{rows_next, rows_past}
-use Rattle.tool_floor.proofs.Scans.{shown}
+use Rattle.floor_model.specs.Substrates.{registration_rows}
+use Rattle.floor_model.proofs.Registrations.{rows_next, rows_past}
+use Rattle.floor_model.proofs.Scans.{shown}
 use Rattle.tool_floor.proofs.floor.ToolFloor.registration_rows.Goals.{in-Some, in_default}
 use Rattle.tool_floor.proofs.floor.ToolFloor.registration_rows.Goals as goal
 

@@ -1,5 +1,5 @@
 use Rattle.std.proofs.Common.{◌≡◌, ◌+◌, ◌*◌, ◌≤◌, ◌++◌, length, drop}
-use Rattle.tool_floor.specs.Substrates.{registration_rows}
+use Rattle.floor_model.specs.Substrates.{registration_rows}
 use Rattle.tool_floor.proofs.floor.ToolFloor.registration_rows.Given as goal
 
 abbrev pub invariant-loop-place : goal.invariant-loop-place

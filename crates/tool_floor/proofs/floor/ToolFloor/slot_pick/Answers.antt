@@ -1,8 +1,8 @@
 use Rattle.std.proofs.Common.{◌≤◌, length, sym, ◌∙◌, arith}
-use Rattle.tool_floor.specs.declared.tracking.Substrate.{Substrate}
-use Rattle.tool_floor.specs.Picks.{slot_pick}
-use Rattle.tool_floor.proofs.Scans.{shown}
-use Rattle.tool_floor.proofs.SlotPicks.{given_here, given_next, given_past, given_end, slots_are}
+use Rattle.floor_model.specs.declared.tracked.Substrate.{Substrate}
+use Rattle.floor_model.specs.Picks.{slot_pick}
+use Rattle.floor_model.proofs.Scans.{shown}
+use Rattle.floor_model.proofs.SlotPicks.{given_here, given_next, given_past, given_end, slots_are}
 use Rattle.tool_floor.proofs.floor.ToolFloor.slot_pick.Goals.{in-Some+in_default-slot_pick_of, in_default}
 use Rattle.tool_floor.proofs.floor.ToolFloor.slot_pick.Goals as goal
 

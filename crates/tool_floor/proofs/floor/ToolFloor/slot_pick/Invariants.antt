@@ -1,8 +1,8 @@
 use Rattle.std.proofs.Common.{◌≡◌, drop}
 use Rattle.robot_moves.specs.Moves.{stage_pick}
-use Rattle.tool_floor.specs.Views.{views}
-use Rattle.tool_floor.specs.Picks.{slot_pick}
-use Rattle.tool_floor.proofs.SlotPicks.{first_given}
+use Rattle.floor_model.specs.Views.{views}
+use Rattle.floor_model.specs.Picks.{slot_pick}
+use Rattle.floor_model.proofs.SlotPicks.{first_given}
 use Rattle.tool_floor.proofs.floor.ToolFloor.slot_pick.Given as goal
 
 abbrev pub invariant-loop-place : goal.invariant-loop-place

@@ -1,7 +1,7 @@
 use Rattle.std.proofs.Common.{sym, ap, ◌∙◌}
-use Rattle.tool_floor.specs.Floor.{ToolFloor}
-use Rattle.tool_floor.specs.Picks.{may_be_picked}
-use Rattle.tool_floor.proofs.SlotPicks.{not_picked, picked_where}
+use Rattle.floor_model.specs.Floor.{ToolFloor}
+use Rattle.floor_model.specs.Picks.{may_be_picked}
+use Rattle.floor_model.proofs.SlotPicks.{not_picked, picked_where}
 use Rattle.tool_floor.proofs.floor.ToolFloor.slot_pick_of.Goals as goal
 
 pub returns-then-may_be_picked : goal.returns-then-may_be_picked

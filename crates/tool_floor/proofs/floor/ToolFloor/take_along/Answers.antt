@@ -1,8 +1,8 @@
 use Rattle.std.proofs.Common.{not, subst, sym, ap, List}
-use Rattle.tool_floor.specs.Kept.{RiseTo}
-use Rattle.tool_floor.specs.Substrates.{is_of}
-use Rattle.tool_floor.specs.declared.tracking.Substrate.{Substrate}
-use Rattle.tool_floor.proofs.Scans.{rise_kept}
+use Rattle.floor_model.specs.Floor.{RiseTo}
+use Rattle.floor_model.specs.Substrates.{is_of}
+use Rattle.floor_model.specs.declared.tracked.Substrate.{Substrate}
+use Rattle.floor_model.proofs.Scans.{rise_kept}
 use Rattle.tool_floor.proofs.floor.ToolFloor.take_along.Goals as goal
 
 pub invariant_of-self : goal.invariant_of-self

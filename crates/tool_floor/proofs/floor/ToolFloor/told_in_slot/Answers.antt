@@ -1,8 +1,8 @@
 use Rattle.std.proofs.Common.{Option, find, ap, ◌∙◌}
 use Rattle.substrate.specs.Places.{stands_at}
 use Rattle.substrate.specs.declared.registered.Registered.{Registered}
-use Rattle.tool_floor.specs.Floor.{ToolFloor}
-use Rattle.tool_floor.specs.Picks.{told_there}
+use Rattle.floor_model.specs.Floor.{ToolFloor}
+use Rattle.floor_model.specs.Picks.{told_there}
 use Rattle.tool_floor.proofs.floor.ToolFloor.told_in_slot.Goals as goal
 
 pub returns : goal.returns

@@ -1,6 +1,6 @@
 use Rattle.std.proofs.Common.{sym, ◌∙◌}
 use Rattle.robot_moves.proofs.StagePicks.{first_pick, second_pick, third_pick}
-use Rattle.tool_floor.specs.Views.{views}
+use Rattle.floor_model.specs.Views.{views}
 use Rattle.tool_floor.proofs.picking.ToolFloorPicks.best_pick.Goals as goal
 
 pub returns-in-Some : goal.returns-in-Some

@@ -1,9 +1,9 @@
 use Rattle.std.proofs.Common.{◌≡◌, ◌==◌, ◌≤◌, ◌<◌, Bool, true, false, List, length, set, Some, slice_get, refl, sym, ap, subst, ◌∙◌, arith}
 use Rattle.std.proofs.lemmas.Bool.Decides.{nat_tests}
-use Rattle.tool_floor.specs.declared.tracking.Substrate.{Substrate}
-use Rattle.tool_floor.specs.Floor.{change_numbered}
-use Rattle.tool_floor.specs.Modules.{aligned}
-use Rattle.tool_floor.proofs.Scans.{got_at, changed_here, changed_next, changed_end}
+use Rattle.floor_model.specs.declared.tracked.Substrate.{Substrate}
+use Rattle.floor_model.specs.Floor.{change_numbered}
+use Rattle.floor_model.specs.Modules.{aligned}
+use Rattle.floor_model.proofs.Scans.{got_at, changed_here, changed_next, changed_end}
 use Rattle.tool_floor.proofs.tracking.Substrates.align.Goals as goal
 
 pub returns-then-substrate-number : goal.returns-then-substrate-number

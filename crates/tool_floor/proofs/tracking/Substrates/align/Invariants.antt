@@ -1,6 +1,6 @@
 use Rattle.std.proofs.Common.{◌≡◌, drop, take, ◌++◌}
-use Rattle.tool_floor.specs.Floor.{change_numbered}
-use Rattle.tool_floor.specs.Modules.{aligned}
+use Rattle.floor_model.specs.Floor.{change_numbered}
+use Rattle.floor_model.specs.Modules.{aligned}
 use Rattle.tool_floor.proofs.tracking.Substrates.align.Given as goal
 
 abbrev pub invariant-loop-place : goal.invariant-loop-place

@@ -1,6 +1,6 @@
 use Rattle.std.proofs.Common.{◌≡◌, drop, take, ◌++◌}
-use Rattle.tool_floor.specs.Floor.{change_numbered}
-use Rattle.tool_floor.specs.Machines.{substrate_moves}
+use Rattle.floor_model.specs.Floor.{change_numbered}
+use Rattle.floor_model.specs.Machines.{substrate_moves}
 use Rattle.tool_floor.proofs.tracking.Substrates.fire.Given as goal
 
 abbrev pub invariant-loop-place : goal.invariant-loop-place

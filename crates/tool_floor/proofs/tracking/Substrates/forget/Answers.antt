@@ -1,8 +1,8 @@
 use Rattle.std.proofs.Common.{rules, Bool, not, ◌∙◌, ap}
 use Rattle.std.specs.List.{filter}
 use Rattle.std.proofs.lemmas.Fn.{filter_same}
-use Rattle.tool_floor.specs.declared.tracking.Substrate.{Substrate}
-use Rattle.tool_floor.specs.Substrates.{is_of}
+use Rattle.floor_model.specs.declared.tracked.Substrate.{Substrate}
+use Rattle.floor_model.specs.Substrates.{is_of}
 use Rattle.tool_floor.proofs.tracking.Substrates.forget.Goals as goal
 
 pub returns : goal.returns

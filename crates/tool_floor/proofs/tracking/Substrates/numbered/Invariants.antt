@@ -1,5 +1,5 @@
 use Rattle.std.proofs.Common.{◌≡◌, drop}
-use Rattle.tool_floor.specs.Floor.{substrate_numbered}
+use Rattle.floor_model.specs.Floor.{substrate_numbered}
 use Rattle.tool_floor.proofs.tracking.Substrates.numbered.Given as goal
 
 abbrev pub invariant-loop-substrate : goal.invariant-loop-substrate

@@ -1,7 +1,7 @@
 use Rattle.std.proofs.Common.{Option, sym, ap, ◌∙◌}
 use Rattle.substrate.specs.declared.registered.Registered.{Registered}
-use Rattle.tool_floor.specs.Picks.{told_of}
-use Rattle.tool_floor.proofs.Told.{holder_is}
+use Rattle.floor_model.specs.Picks.{told_of}
+use Rattle.floor_model.proofs.Told.{holder_is}
 use Rattle.tool_floor.proofs.whereabouts.ToolFloorWhereabouts.holder.Goals as goal
 
 pub returns : goal.returns

@@ -1,7 +1,7 @@
 use Rattle.std.proofs.Common.{Option, ap, ◌∙◌}
 use Rattle.substrate.specs.declared.registered.Registered.{Registered}
-use Rattle.tool_floor.specs.Picks.{kept_as}
-use Rattle.tool_floor.proofs.Told.{empty_where}
+use Rattle.floor_model.specs.Picks.{kept_as}
+use Rattle.floor_model.proofs.Told.{empty_where}
 use Rattle.tool_floor.proofs.whereabouts.ToolFloorWhereabouts.is_empty.Goals as goal
 
 pub returns : goal.returns

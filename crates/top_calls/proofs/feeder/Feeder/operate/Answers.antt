@@ -1,6 +1,6 @@
 use Rattle.std.proofs.Common.{◌≡◌, true, false, rules}
 use Rattle.line_grammar.specs.declared.line.Line.TheVariants as line
-use Rattle.gem_model.specs.Feed.{is_quit}
+use Rattle.line_grammar.specs.Texts.{is_quit}
 use Rattle.top_calls.proofs.LineParts.{TreatsLine-oper}
 use Rattle.top_calls.proofs.feeder.Feeder.operate.Goals as goal
 

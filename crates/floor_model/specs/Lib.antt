@@ -1,0 +1,11 @@
+pub mod Floor
+pub mod Modules
+pub mod Naming
+pub mod Substrates
+pub mod Jobs
+pub mod Wants
+pub mod Views
+pub mod Picks
+pub mod Machines
+pub mod Left
+pub mod Signals

@@ -1,0 +1,3 @@
+pub mod Summing
+pub mod Completions
+pub mod Registrations

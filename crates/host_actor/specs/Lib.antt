@@ -1,0 +1,4 @@
+pub mod Links
+pub mod Sessions
+pub mod Hosting
+pub mod HostSteps

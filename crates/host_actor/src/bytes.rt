@@ -1,0 +1,7 @@
+/// How many bytes the reader of a session read, and its writer wrote; each count stands still at the greatest number of 64 bits.
+#[derive(Clone, Copy, Debug, PartialEq, Eq)]
+pub struct SessionBytes {
+    pub session: u64,
+    pub read: u64,
+    pub written: u64,
+}

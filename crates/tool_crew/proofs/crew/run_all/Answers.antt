@@ -1,0 +1,11 @@
+use Rattle.std.proofs.Common.{rules, ◌≡◌, sym}
+use Rattle.tool_crew.proofs.crew.run_all.Goals as goal
+
+pub returns-clause-hosted : goal.returns-clause-hosted
+returns-clause-hosted g c =
+    let f = c.join_mut-count.new.f in
+    let d : f.3.now ≡ c.door-1.given.0 = search rules in
+    let b : f.4.now ≡ c.bytes-1.given.0 = search rules in
+    let r : f.6.now ≡ c.reader-1.given.0 = search rules in
+    let w : f.7.now ≡ c.writer-1.given.0 = search rules in
+    rw (sym d, sym b, sym r, sym w) c.join_mut-count.ensures.0.met.1

@@ -1,0 +1,4 @@
+pub mod Doings
+pub mod Seating
+pub mod Crews
+pub mod Ran

@@ -11,7 +11,11 @@ use outside::{FileSource, SleepGate, StdinSource, StdoutSink, SystemClock, TcpDo
 use program_words::{Question, Words, asked, command_of, help_text, version_text};
 use serving::serve;
 use std::alloc::{AllocError, Global};
+use std::net::{Net, TcpListener, TcpStream};
 use std::process::ExitCode;
+use std::rt::{Clock, Files};
+use std::sync::Wait;
+use std::thread::Threads;
 use std::{env, io};
 use top_calls::{Cause, feed};
 
@@ -68,17 +72,26 @@ fn run_feed(rt: &HostRuntime, args: &[String], words: &[Text80]) -> Cause {
     feed(rt.alloc(), words, &mut config, &mut input, &mut out).cause
 }
 
-/// Calls `serve` on the file that the words name, a TCP port, standard input as the script and standard output for the log, and tells
-/// why it ended.
-fn run_serve(rt: &HostRuntime, args: &[String], words: &[Text80]) -> Cause {
-    let mut config = FileSource::new(rt, config_path(args));
+/// Calls `serve` on the file of this name, a TCP port, standard input as the script and standard output for the log, and tells why it
+/// ended.
+fn run_serve<
+    R: Threads
+        + Wait
+        + Sync
+        + Files
+        + Input
+        + Print
+        + Net<Listener = TcpListener, Stream = TcpStream>
+        + Clock,
+>(rt: &R, alloc: Global, path: &str, words: &[Text80]) -> Cause {
+    let mut config = FileSource::new(rt, path);
     let mut door = TcpDoor::new(rt);
     let mut script = StdinSource::new(rt);
     let mut clock = SystemClock::new(rt);
     let mut log = StdoutSink::new(rt);
     serve(
         rt,
-        rt.alloc(),
+        alloc,
         words,
         &mut config,
         &mut door,
@@ -90,34 +103,58 @@ fn run_serve(rt: &HostRuntime, args: &[String], words: &[Text80]) -> Cause {
     .cause
 }
 
-/// Does the command that the words spell, and tells why it ended. Words that spell none are refused by `feed`.
-fn run_command(rt: &HostRuntime, args: &[String], words: &[Text80]) -> Cause {
-    match command_of(words) {
-        Ok(Words::Serve(_)) => run_serve(rt, args, words),
-        _ => run_feed(rt, args, words),
+/// The arguments, and the words that they are.
+fn command_line(rt: &HostRuntime) -> Result<(Vec<String>, Vec<Text80>), AllocError> {
+    let args = arguments(rt)?;
+    let words = texts_of(rt.alloc(), &args)?;
+    Ok((args, words))
+}
+
+/// Whether the words spell the command `serve`.
+fn is_serve(words: &[Text80]) -> bool {
+    matches!(command_of(words), Ok(Words::Serve(_)))
+}
+
+/// Prints what the words ask for, or feeds; words that spell no command are refused by `feed`.
+fn answer_or_feed(
+    rt: &HostRuntime,
+    args: &[String],
+    words: &[Text80],
+) -> Result<Cause, AllocError> {
+    match asked(words) {
+        Some(question) => answer(rt, question),
+        None => Ok(run_feed(rt, args, words)),
     }
 }
 
-/// Does what the words say, tells on standard error why it ended, and answers its status.
-fn run(rt: &HostRuntime) -> Result<u8, AllocError> {
-    let args = arguments(rt)?;
-    let words = texts_of(rt.alloc(), &args)?;
-    let cause = match asked(&words) {
-        Some(question) => answer(rt, question)?,
-        None => run_command(rt, &args, &words),
-    };
+/// Tells on standard error why the run ended, and answers its status.
+fn tell(rt: &HostRuntime, cause: Cause) -> Result<u8, AllocError> {
     if let Some(text) = cause.text(rt.alloc())? {
         let _ = rt.eprintln(text.as_str());
     }
     Ok(cause.status())
 }
 
+/// There is no memory: tells so, and ends with status 7.
+fn no_memory(rt: &HostRuntime) -> ExitCode {
+    let _ = rt.eprintln("no memory");
+    ExitCode::from(7)
+}
+
 fn main(rt: HostRuntime) -> ExitCode {
-    match run(&rt) {
-        Ok(status) => ExitCode::from(status),
-        Err(_) => {
-            let _ = rt.eprintln("no memory");
-            ExitCode::from(7)
+    let Ok((args, words)) = command_line(&rt) else {
+        return no_memory(&rt);
+    };
+    let cause = if is_serve(&words) {
+        run_serve(&rt, rt.alloc(), config_path(&args), &words)
+    } else {
+        match answer_or_feed(&rt, &args, &words) {
+            Ok(cause) => cause,
+            Err(_) => return no_memory(&rt),
         }
+    };
+    match tell(&rt, cause) {
+        Ok(status) => ExitCode::from(status),
+        Err(_) => no_memory(&rt),
     }
 }

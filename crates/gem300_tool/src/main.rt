@@ -83,7 +83,10 @@ fn run_serve<
         + Print
         + Net<Listener = TcpListener, Stream = TcpStream>
         + Clock,
->(rt: &R, alloc: Global, path: &str, words: &[Text80]) -> Cause {
+>(rt: &R, alloc: Global, path: &str, words: &[Text80]) -> Cause
+where
+    R::Reader: Send,
+{
     let mut config = FileSource::new(rt, path);
     let mut door = TcpDoor::new(rt);
     let mut script = StdinSource::new(rt);

@@ -1,21 +1,27 @@
-//! Parts of the tool that are timed. `bench/items.sh`, `bench/spool.sh` and `bench/planner.sh` run it; it is no part of the tool.
+//! Parts of the tool that are timed, and a server and clients over TCP beside it. `bench/items.sh`, `bench/spool.sh`,
+//! `bench/planner.sh` and `bench/serve.sh` run it; it is no part of the tool.
 //!
-//! The first word names what is measured, `items`, `spool` or `planner`, and those behind it say how (`item.rt`, `notes.rt`,
-//! `moves.rt`). It prints how often it went well. With the word `each` alone it does a little of each, and prints the sum.
+//! The first word names what is measured, `items`, `spool` or `planner`, or is `echo`, `ask`, `press` or `visit`, and those behind
+//! it say how (`item.rt`, `notes.rt`, `moves.rt`, `links.rt`). It prints how often it went well. With the word `each` alone it does
+//! a little of each, and prints the sum.
 #![tactic(auto)]
 
 mod item;
+mod links;
 mod moves;
 mod notes;
 
 use anyhow::{Result, bail};
 use std::alloc::Global;
 use std::env;
+use std::net::{Net, TcpListener, TcpStream};
 use std::process::ExitCode;
+use std::thread::Threads;
+use std::time::Clock;
 
-// Does what the words say.
-fn measure(alloc: Global, words: &[String]) -> Result<u64> {
-    let [_, what, first, second, rest @ ..] = words else {
+// Measures the part of the tool that the words name.
+fn measure_part(alloc: Global, what: &str, words: &[String]) -> Result<u64> {
+    let [first, second, rest @ ..] = words else {
         bail!("the words are items, spool or planner, and what each takes");
     };
     let third = match rest {
@@ -23,7 +29,7 @@ fn measure(alloc: Global, words: &[String]) -> Result<u64> {
         _ => "",
     };
     let (first, second) = (first.as_str(), second.as_str());
-    match what.as_str() {
+    match what {
         "items" => item::measure(alloc, first, second, third.parse::<u64>()?),
         "spool" => notes::measure(
             alloc,
@@ -33,6 +39,21 @@ fn measure(alloc: Global, words: &[String]) -> Result<u64> {
         ),
         "planner" => moves::measure(alloc, first.parse::<u8>()?, second.parse::<u64>()?),
         _ => bail!("there is no such measurement"),
+    }
+}
+
+// Does what the words say.
+fn measure<R: Net<Listener = TcpListener, Stream = TcpStream> + Clock>(
+    rt: &R,
+    alloc: Global,
+    words: &[String],
+) -> Result<u64> {
+    let [_, what, rest @ ..] = words else {
+        bail!("the first word says what is measured");
+    };
+    match what.as_str() {
+        "echo" | "ask" | "press" | "visit" => links::measure(rt, alloc, what.as_str(), rest),
+        what => measure_part(alloc, what, rest),
     }
 }
 
@@ -47,24 +68,40 @@ fn words(rt: &HostRuntime) -> Result<Vec<String>> {
     Ok(words)
 }
 
-// A little of each: 2 items, 6 notes and 4 moves.
-fn measure_each(alloc: Global) -> Result<u64> {
+// A little of each: 2 items, 6 notes, 4 moves and 2 answers.
+fn measure_each<R: Net<Listener = TcpListener, Stream = TcpStream> + Threads + Clock + Sync>(
+    rt: &R,
+    alloc: Global,
+) -> Result<u64> {
     let items = item::measure(alloc, "decode", "list", 2)?;
     let notes = notes::measure(alloc, 3, 10, 2)?;
     let moves = moves::measure(alloc, 25, 4)?;
-    Ok(items.saturating_add(notes).saturating_add(moves))
+    let answers = links::measure_twice(rt)?;
+    Ok(
+        items
+            .saturating_add(notes)
+            .saturating_add(moves)
+            .saturating_add(answers),
+    )
 }
 
-fn run(rt: &HostRuntime) -> Result<u64> {
-    let words = words(rt)?;
-    match words.as_slice() {
-        [_, each] if each.as_str() == "each" => measure_each(rt.alloc()),
-        words => measure(rt.alloc(), words),
+fn run<R: Net<Listener = TcpListener, Stream = TcpStream> + Threads + Clock + Sync>(
+    rt: &R,
+    alloc: Global,
+    words: &[String],
+) -> Result<u64> {
+    match words {
+        [_, each] if each.as_str() == "each" => measure_each(rt, alloc),
+        words => measure(rt, alloc, words),
     }
 }
 
 fn main(rt: HostRuntime) -> ExitCode {
-    match run(&rt) {
+    let outcome = match words(&rt) {
+        Ok(words) => run(&rt, rt.alloc(), &words),
+        Err(error) => Err(error),
+    };
+    match outcome {
         Ok(count) => {
             let _ = rt.println(count);
             ExitCode::SUCCESS

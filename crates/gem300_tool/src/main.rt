@@ -1,15 +1,21 @@
-//! The program: `gem300_tool feed CONFIG` reads lines from standard input and prints lines (docs/profile/lines.md), and
-//! `--help` and `--version` tell of it (docs/profile/words.md).
+//! The program: `gem300_tool feed CONFIG` reads lines from standard input and prints lines (docs/profile/lines.md), `gem300_tool
+//! serve CONFIG` listens for a host (docs/profile/serve.md), and `--help` and `--version` tell of it (docs/profile/words.md).
 //!
-//! It hands the file, standard input and standard output to `top_calls::feed`, whose contract is the promise of the whole
-//! program, says why the run ended on standard error, and ends with its status.
+//! It hands the file, standard input, standard output, and to `serve` a TCP port, the system's clock and a gate, to `top_calls::feed`
+//! or to `serving::serve`, whose contracts are the promises of the whole program, says why the run ended on standard error, and
+//! ends with its status.
 #![tactic(auto)]
 
 use gem_ids::Text80;
-use outside::{FileSource, StdinSource, StdoutSink};
-use program_words::{Question, asked, help_text, version_text};
+use outside::{FileSource, SleepGate, StdinSource, StdoutSink, SystemClock, TcpDoor};
+use program_words::{Question, Words, asked, command_of, help_text, version_text};
+use serving::serve;
 use std::alloc::{AllocError, Global};
+use std::net::{Net, TcpListener, TcpStream};
 use std::process::ExitCode;
+use std::rt::{Clock, Files};
+use std::sync::Wait;
+use std::thread::Threads;
 use std::{env, io};
 use top_calls::{Cause, feed};
 
@@ -50,38 +56,108 @@ fn answer(rt: &HostRuntime, question: Question) -> Result<Cause, AllocError> {
     }
 }
 
-/// Calls `feed` on the file that the words name, standard input and standard output, and tells why it ended.
-fn run_feed(rt: &HostRuntime, args: &[String], words: &[Text80]) -> Cause {
-    let path = match args.get(2) {
+/// The name of the file that is the second word, as it was given.
+fn config_path(args: &[String]) -> &str {
+    match args.get(2) {
         Some(path) => path.as_str(),
         None => "",
-    };
-    let mut config = FileSource::new(rt, path);
+    }
+}
+
+/// Calls `feed` on the file that the words name, standard input and standard output, and tells why it ended.
+fn run_feed(rt: &HostRuntime, args: &[String], words: &[Text80]) -> Cause {
+    let mut config = FileSource::new(rt, config_path(args));
     let mut input = StdinSource::new(rt);
     let mut out = StdoutSink::new(rt);
     feed(rt.alloc(), words, &mut config, &mut input, &mut out).cause
 }
 
-/// Does what the words say, tells on standard error why it ended, and answers its status.
-fn run(rt: &HostRuntime) -> Result<u8, AllocError> {
+/// Calls `serve` on the file of this name, a TCP port, standard input as the script and standard output for the log, and tells why it
+/// ended.
+fn run_serve<
+    R: Threads
+        + Wait
+        + Sync
+        + Files
+        + Input
+        + Print
+        + Net<Listener = TcpListener, Stream = TcpStream>
+        + Clock,
+>(rt: &R, alloc: Global, path: &str, words: &[Text80]) -> Cause
+where
+    R::Reader: Send,
+{
+    let mut config = FileSource::new(rt, path);
+    let mut door = TcpDoor::new(rt);
+    let mut script = StdinSource::new(rt);
+    let mut clock = SystemClock::new(rt);
+    let mut log = StdoutSink::new(rt);
+    serve(
+        rt,
+        alloc,
+        words,
+        &mut config,
+        &mut door,
+        &mut script,
+        &mut clock,
+        &mut log,
+        &SleepGate::new(rt),
+    )
+    .cause
+}
+
+/// The arguments, and the words that they are.
+fn command_line(rt: &HostRuntime) -> Result<(Vec<String>, Vec<Text80>), AllocError> {
     let args = arguments(rt)?;
     let words = texts_of(rt.alloc(), &args)?;
-    let cause = match asked(&words) {
-        Some(question) => answer(rt, question)?,
-        None => run_feed(rt, &args, &words),
-    };
+    Ok((args, words))
+}
+
+/// Whether the words spell the command `serve`.
+fn is_serve(words: &[Text80]) -> bool {
+    matches!(command_of(words), Ok(Words::Serve(_)))
+}
+
+/// Prints what the words ask for, or feeds; words that spell no command are refused by `feed`.
+fn answer_or_feed(
+    rt: &HostRuntime,
+    args: &[String],
+    words: &[Text80],
+) -> Result<Cause, AllocError> {
+    match asked(words) {
+        Some(question) => answer(rt, question),
+        None => Ok(run_feed(rt, args, words)),
+    }
+}
+
+/// Tells on standard error why the run ended, and answers its status.
+fn tell(rt: &HostRuntime, cause: Cause) -> Result<u8, AllocError> {
     if let Some(text) = cause.text(rt.alloc())? {
         let _ = rt.eprintln(text.as_str());
     }
     Ok(cause.status())
 }
 
+/// There is no memory: tells so, and ends with status 7.
+fn no_memory(rt: &HostRuntime) -> ExitCode {
+    let _ = rt.eprintln("no memory");
+    ExitCode::from(7)
+}
+
 fn main(rt: HostRuntime) -> ExitCode {
-    match run(&rt) {
-        Ok(status) => ExitCode::from(status),
-        Err(_) => {
-            let _ = rt.eprintln("no memory");
-            ExitCode::from(7)
+    let Ok((args, words)) = command_line(&rt) else {
+        return no_memory(&rt);
+    };
+    let cause = if is_serve(&words) {
+        run_serve(&rt, rt.alloc(), config_path(&args), &words)
+    } else {
+        match answer_or_feed(&rt, &args, &words) {
+            Ok(cause) => cause,
+            Err(_) => return no_memory(&rt),
         }
+    };
+    match tell(&rt, cause) {
+        Ok(status) => ExitCode::from(status),
+        Err(_) => no_memory(&rt),
     }
 }

@@ -6,4 +6,3 @@ pub mod PortValues
 pub mod Floors
 pub mod Sendings
 pub mod ModuleRows
-pub mod Registered

@@ -1,6 +1,6 @@
 //! The load ports, the carriers and the modules: their rows, and what the host, the operator and the equipment do to them (SEMI
 //! E87; tables 4 to 10 and 16).
-ghost use Rattle.std.specs.Prelude.{◌≡◌, ◌≤◌, ◌+◌, ℕ, true, false, not, length, OnOk, IfOk, IfSome, Some};
+ghost use Rattle.std.specs.Prelude.{◌≡◌, ◌≤◌, true, false, not, length, OnOk, IfOk};
 ghost use Rattle.load_port.specs.Caack.{is_done_code};
 ghost use Rattle.shop_floor.specs.Floor.{numbers_from};
 ghost use Rattle.floor_model.specs.Jobs.{carrier_code};
@@ -11,7 +11,6 @@ ghost use Rattle.gem_model.specs.Ready.{ready_floor};
 ghost use Rattle.gem_model.specs.Fire.{fire};
 ghost use Rattle.gem_model.specs.Machines.{fire_floor};
 ghost use Rattle.gem_model.specs.Signals.{lacks_port, with_arrival, is_ready_to_unload};
-ghost use Rattle.history_totals.specs.Counts.{is_registration, registrations};
 
 use crate::noting::RowFiring;
 use crate::plant::Plant;
@@ -29,38 +28,12 @@ const ACCESS: u8 = 5;
 
 const RESERVATION: u8 = 6;
 
-const TRANSPORT: u8 = 12;
-
-// The row of transport by which a substrate is registered.
-const REGISTERED: u8 = 1;
-
-/// Whether a row registers a substrate.
-fn is_registration(f: Firing) -> bool
-    ensures { result ≡ is_registration f }
-{
-    f.row.table == TRANSPORT && f.row.row == REGISTERED
-}
-
-/// How many of these rows register a substrate.
-fn registrations(rows: &[Firing]) -> u64
-    ensures { result ≡ registrations rows.now }
-{
-    rows.iter().filter(|f| is_registration(**f)).count() as u64
-}
-
-/// How many substrates were registered behind the rows of those that were created, where it is known how many were before.
-fn registered_behind(before: Option<u64>, created: &[Firing]) -> Option<u64>
-    ensures { IfSome result (λ n. (b : ℕ) × (before ≡ Some b) × (n ≡ b + registrations created.now)) }
-{
-    before?.checked_add(registrations(created))
-}
-
 impl Plant {
-    /// How many substrates were registered. `None`: memory ran out while some were, and nothing is said of the plant any more.
-    pub fn registrations(&self) -> Option<u64>
-        ensures { IfSome result (λ n. n ≡ self.now.floor.places.given) }
+    /// How many substrates were registered since the first state.
+    pub fn registrations(&self) -> u64
+        ensures { result ≡ self.now.floor.places.given }
     {
-        self.registered
+        self.floor.registrations()
     }
 
     /// Whether the tool has a port of this number.
@@ -83,11 +56,7 @@ impl Plant {
         ensures fired { OnOk result (self.new ≡ fire_floor f self.old) }
         ensures created { IfOk result (λ rows. rows.items ≡ creation_rows f self.old.floor) }
     {
-        // Where memory runs out it isn't known how many were registered.
-        let before = self.registered.take();
-        let created = self.floor.fire(f)?;
-        self.registered = registered_behind(before, created.as_slice());
-        Ok(created)
+        self.floor.fire(f)
     }
 
     /// The name of the object of a row of a port, a carrier or a module.

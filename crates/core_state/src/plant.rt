@@ -45,13 +45,11 @@ pub struct Plant {
     pub(crate) alarms: Alarms,
     pub(crate) line: CountedLine,
     pub(crate) floor: ToolFloor,
-    // How many substrates were registered; none where memory ran out while some were.
-    pub(crate) registered: Option<u64>,
     pub(crate) waiting: VecDeque<Bytes>,
 }
 
 impl Model for Plant {
-    ghost use Rattle.std.specs.Prelude.{◌≡◌, ◌≤◌, length, IfSome};
+    ghost use Rattle.std.specs.Prelude.{◌≤◌, length};
     ghost use Rattle.gem_ids.specs.Moments.{last_moment};
     ghost use Rattle.event_reports.specs.Limits.{most_alarms};
     ghost use Rattle.gem_model.specs.State.{State};
@@ -76,8 +74,7 @@ impl Model for Plant {
       waiting = p.waiting.items;
     } };
 
-    ghost invariant = { λ p. (p.moment.0 ≤ last_moment) × (length p.alarms ≤ most_alarms)
-        × IfSome p.registered (λ n. n ≡ p.floor.places.given) };
+    ghost invariant = { λ p. (p.moment.0 ≤ last_moment) × (length p.alarms ≤ most_alarms) };
 }
 
 impl Plant {
@@ -117,7 +114,6 @@ impl Plant {
                 config.chambers,
                 config.recipes.as_slice(),
             )?,
-            registered: Some(0),
             waiting: VecDeque::new(alloc),
         })
     }

@@ -10,6 +10,8 @@ ghost use Rattle.note_line.specs.Line.{fate_of};
 ghost use Rattle.gem_model.specs.State.{opening, is_up, is_session_up};
 ghost use Rattle.gem_model.specs.Step.{Outcome, step};
 ghost use Rattle.gem_model.specs.Valid.{Valid};
+ghost use Rattle.gem_model.specs.Signals.{module_of};
+ghost use Rattle.robot_moves.specs.Modules.{fetched_number};
 ghost use Rattle.history_laws.specs.Recorded.{Recorded};
 ghost use Rattle.gem_model.specs.Sessions.{session_count, session_end, session_out, frame_taken};
 ghost use Rattle.gem_model.specs.Sizes.{bytes_of, counted, is_full};
@@ -22,7 +24,7 @@ use core_shop::Reaction;
 use core_state::Plant;
 use core_view::{Entries, SessionCounts};
 use event_reports::{NoMemory, Values};
-use gem_ids::{Moment, Text80};
+use gem_ids::{CmdNo, ModuleId, Moment, Text80};
 use history_totals::Totals;
 use hsms_frame::Arrival;
 use note_line::Fate;
@@ -103,20 +105,19 @@ fn done_by(plant: &Plant, event: &Event) -> u64
 }
 
 /// The counts behind an event that ended so many commands by Done and completed so many control jobs, by those before it and by
-/// what the plant tells behind it. `None`: the plant can't tell them, which comes only after want of memory.
-fn totals_behind(before: &Totals, plant: &Plant, done: u64, completed: u64) -> Option<Totals>
-    ensures { IfSome result (λ totals. totals ≡ totals_at plant.now (before.now.done + done) (before.now.completed + completed)) }
+/// what the plant tells behind it.
+fn totals_behind(before: &Totals, plant: &Plant, done: u64, completed: u64) -> Totals
+    ensures { result ≡ totals_at plant.now (before.now.done + done) (before.now.completed + completed) }
 {
-    let substrates = plant.registrations()?;
-    Some(Totals {
+    Totals {
         sessions: plant.session_count(),
         notes: plant.note_count(),
         answered: plant.answered_count(),
         dropped: plant.dropped_count(),
         done: before.done.saturating_add(done),
         completed: before.completed.saturating_add(completed),
-        substrates,
-    })
+        substrates: plant.registrations(),
+    }
 }
 
 /// The tool, with its history. Contracts see its configuration, the state that its history leads to, the history, and
@@ -250,6 +251,15 @@ impl Core {
         self.plant.module_count()
     }
 
+    /// The number of the open command of a module that was fetched. `None` exactly where it has none, or is no module of the
+    /// tool. The core is whole.
+    pub fn fetched_number(&self, m: ModuleId) -> Option<CmdNo>
+        requires { self.now.is_whole ≡ true }
+        ensures { result ≡ fetched_number (module_of m.0 self.now.state) }
+    {
+        self.plant.fetched_number(m)
+    }
+
     /// Why a session ended. None: it is up, or never came.
     pub fn session_end(&self, session: u64) -> Option<SessionCause>
         ensures { result ≡ session_end (opening self.now.config) self.now.history session }
@@ -362,14 +372,10 @@ impl Core {
         if !goes {
             return Err(PostFault::Again);
         }
-        // The plant found memory, and tells its counts.
-        let Some(totals) = totals_behind(&self.totals, &self.plant, done, completed) else {
-            return Err(PostFault::NoMemory);
-        };
         add_taken(&mut self.written, &event, &reaction.answer);
         self.bytes += event_bytes(&event);
         self.sessions = self.plant.session_count();
-        self.totals = totals;
+        self.totals = totals_behind(&self.totals, &self.plant, done, completed);
         self.is_up = self.plant.is_up();
         self.entries.push_reserved(Entry { seat, at, event });
         add_end(&mut self.ends, reaction.ended);

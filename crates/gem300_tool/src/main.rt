@@ -1,5 +1,6 @@
 //! The program: `gem300_tool feed CONFIG` reads lines from standard input and prints lines (docs/profile/lines.md), `gem300_tool
-//! serve CONFIG` listens for a host (docs/profile/serve.md), and `--help` and `--version` tell of it (docs/profile/words.md).
+//! batch SEED CARRIERS CONFIG` processes so many carriers by itself (docs/profile/batch.md), `gem300_tool serve CONFIG` listens for a
+//! host (docs/profile/serve.md), and `--help` and `--version` tell of it (docs/profile/words.md).
 //!
 //! It hands the file, standard input, standard output, and to `serve` a TCP port, the system's clock and a gate, to `top_calls::feed`
 //! or to `serving::serve`, whose contracts are the promises of the whole program, says why the run ended on standard error, and
@@ -11,11 +12,14 @@ use outside::{FileSource, SleepGate, StdinSource, StdoutSink, SystemClock, TcpDo
 use program_words::{Question, Words, asked, command_of, help_text, version_text};
 use serving::serve;
 use std::alloc::{AllocError, Global};
+use std::io::IsTerminal;
 use std::net::{Net, TcpListener, TcpStream};
 use std::process::ExitCode;
 use std::rt::{Clock, Files};
 use std::sync::Wait;
-use std::thread::Threads;
+use std::sync::atomic::{AtomicBool, Ordering};
+use std::thread::{Threads, join, sleep};
+use std::time::Duration;
 use std::{env, io};
 use top_calls::{Cause, feed};
 
@@ -56,9 +60,17 @@ fn answer(rt: &HostRuntime, question: Question) -> Result<Cause, AllocError> {
     }
 }
 
-/// The name of the file that is the second word, as it was given.
-fn config_path(args: &[String]) -> &str {
-    match args.get(2) {
+/// Where the name of the configuration stands among the arguments, of which the first is the program's own name.
+fn config_place(words: &[Text80]) -> usize {
+    match command_of(words) {
+        Ok(Words::Batch(_, _, _)) => 4,
+        _ => 2,
+    }
+}
+
+/// The name of the configuration's file, as it was given.
+fn config_path<'a>(args: &'a [String], words: &[Text80]) -> &'a str {
+    match args.get(config_place(words)) {
         Some(path) => path.as_str(),
         None => "",
     }
@@ -66,10 +78,45 @@ fn config_path(args: &[String]) -> &str {
 
 /// Calls `feed` on the file that the words name, standard input and standard output, and tells why it ended.
 fn run_feed(rt: &HostRuntime, args: &[String], words: &[Text80]) -> Cause {
-    let mut config = FileSource::new(rt, config_path(args));
+    let mut config = FileSource::new(rt, config_path(args, words));
     let mut input = StdinSource::new(rt);
     let mut out = StdoutSink::new(rt);
     feed(rt.alloc(), words, &mut config, &mut input, &mut out).cause
+}
+
+// So many times at most it is looked whether a batch is over, ten times a second: a day.
+const LOOKS: u32 = 864_000;
+
+/// Tells on standard error, each second, how many have passed, until this is over.
+fn tell_seconds(rt: &HostRuntime, is_over: &AtomicBool) {
+    for look in 0..LOOKS {
+        if is_over.load(Ordering::SeqCst) {
+            break;
+        }
+        if look % 10 == 0 {
+            let _ = rt.eprint(format_args!("\rbatch: {} s", look / 10));
+        }
+        sleep(rt, Duration::from_millis(100));
+    }
+    let _ = rt.eprintln("");
+}
+
+/// Calls `feed` for a batch. Where standard error is a terminal it is told there how long the batch has run.
+fn run_batch(rt: &HostRuntime, args: &[String], words: &[Text80]) -> Cause {
+    if !rt.stderr().is_terminal() {
+        return run_feed(rt, args, words);
+    }
+    let is_over = AtomicBool::new(false);
+    let (_, cause) = join(
+        rt,
+        || tell_seconds(rt, &is_over),
+        || {
+            let cause = run_feed(rt, args, words);
+            is_over.store(true, Ordering::SeqCst);
+            cause
+        },
+    );
+    cause
 }
 
 /// Calls `serve` on the file of this name, a TCP port, standard input as the script and standard output for the log, and tells why it
@@ -118,15 +165,14 @@ fn is_serve(words: &[Text80]) -> bool {
     matches!(command_of(words), Ok(Words::Serve(_)))
 }
 
-/// Prints what the words ask for, or feeds; words that spell no command are refused by `feed`.
-fn answer_or_feed(
-    rt: &HostRuntime,
-    args: &[String],
-    words: &[Text80],
-) -> Result<Cause, AllocError> {
-    match asked(words) {
-        Some(question) => answer(rt, question),
-        None => Ok(run_feed(rt, args, words)),
+/// Prints what the words ask for, or does their command; words that spell none are refused by `feed`.
+fn answer_or_run(rt: &HostRuntime, args: &[String], words: &[Text80]) -> Result<Cause, AllocError> {
+    if let Some(question) = asked(words) {
+        return answer(rt, question);
+    }
+    match command_of(words) {
+        Ok(Words::Batch(_, _, _)) => Ok(run_batch(rt, args, words)),
+        _ => Ok(run_feed(rt, args, words)),
     }
 }
 
@@ -149,9 +195,9 @@ fn main(rt: HostRuntime) -> ExitCode {
         return no_memory(&rt);
     };
     let cause = if is_serve(&words) {
-        run_serve(&rt, rt.alloc(), config_path(&args), &words)
+        run_serve(&rt, rt.alloc(), config_path(&args, &words), &words)
     } else {
-        match answer_or_feed(&rt, &args, &words) {
+        match answer_or_run(&rt, &args, &words) {
             Ok(cause) => cause,
             Err(_) => return no_memory(&rt),
         }

@@ -86,12 +86,15 @@ fn push_text<'a>(out: &mut Vec<u8>, text: &'a str) -> Result<(), Fault<'a>> {
 fn push_quoted(out: &mut Vec<u8>, inner: &str) -> Result<(), Fault<'static>> {
     let mut is_quote_begun = false;
     for letter in inner.bytes() {
-        let is_quote = letter == b'"';
-        if is_quote_begun && !is_quote {
+        if letter == b'"' {
+            is_quote_begun = !is_quote_begun;
+            if is_quote_begun {
+                continue;
+            }
+        } else if is_quote_begun {
             return Err(ONE_QUOTE);
         }
-        is_quote_begun = is_quote && !is_quote_begun;
-        if !is_quote_begun && out.push(letter).is_err() {
+        if out.push(letter).is_err() {
             return Err(NO_MEMORY);
         }
     }

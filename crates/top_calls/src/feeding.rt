@@ -14,13 +14,13 @@ ghost use Rattle.line_feeding.specs.Words.{refused_at};
 ghost use Rattle.line_feeding.specs.CauseOf.{cause_after};
 
 use crate::input::read_lines;
-use crate::notes::session_notes;
 use crate::reader::Reader;
 use gem_ids::Text80;
 use line_feeding::{
     Cause, Ended, Halt, InputEnd, InputRead, Notes, check_words, read_configuration,
 };
 use outside::{Sink, Source};
+use run_notes::session_notes;
 use std::alloc::Global;
 use tool_core::Core;
 use tool_events::Config;

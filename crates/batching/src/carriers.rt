@@ -18,10 +18,7 @@ use std::alloc::{AllocError, Global};
 use tool_events::{Config, Event, TEXT_BYTES};
 use tool_texts::{Line, LineFault, read_feed_line};
 
-/// The lines of a carrier that come before its modules work.
-const FIRST_LINES: [u32; 5] = [1, 2, 3, 4, 5];
-
-/// The line that takes a carrier away.
+/// The line of a carrier that takes it away; its modules work before.
 const LAST_LINE: u32 = 6;
 
 // ---- what a line puts in
@@ -118,7 +115,7 @@ fn bring(alloc: Global, batch: &mut Batch, config: &Config, k: u32) -> Result<()
     ensures made { Makes batch.old.core batch.new (lot_turns config.now k (1 ∷ 2 ∷ 3 ∷ 4 ∷ 5 ∷ []) (standing batch.old)) result }
     ensures whole { OnOk result (batch.new.core.is_whole ≡ true) }
 {
-    for i in FIRST_LINES {
+    for i in 1..LAST_LINE {
         match lot_turn(alloc, batch, config, k, i) {
             Ok(()) => {}
             Err(stop) => return Err(stop),

@@ -1,25 +1,30 @@
 -- What a batch did, by how it ended.
-use Rattle.std.proofs.Common.{◌≡◌, ℕ, true, List, [], ◌∷◌, ◌++◌, Option, Result, Ok, Err, refl, sym, ◌∙◌, ap, subst}
+use Rattle.std.proofs.Common.{◌≡◌, ◌≤◌, ℕ, List, [], ◌∷◌, length, Option, Result, Ok, Err, inl, inr, refl, sym, ap, subst, ◌∙◌, arith}
 use Rattle.std.proofs.lemmas.List.{append-nil}
-use Rattle.outside.specs.Told.{WrittenFront}
 use Rattle.outside.proofs.Writing.{Written-nothing}
 use Rattle.tool_events.specs.declared.config.Config.{Config}
 use Rattle.tool_events.specs.declared.entry.Entry.{Entry}
-use Rattle.gem_model.specs.State.{State, opening}
+use Rattle.tool_events.specs.Configs.{IsConfig}
+use Rattle.gem_model.specs.State.{opening}
+use Rattle.gem_model.specs.Sizes.{bytes_of}
 use Rattle.core_view.specs.CoreView.{CoreView}
+use Rattle.history_laws.specs.Recorded.{Recorded}
+use Rattle.history_laws.proofs.Recording.{recorded-none, recorded-after}
 use Rattle.line_feeding.specs.declared.ended.Cause.{Cause}
 use Rattle.line_feeding.specs.declared.ended.Cause.TheVariants as cause
 use Rattle.line_feeding.specs.declared.ended.SessionNote.{SessionNote}
-use Rattle.line_feeding.proofs.Going.{IsFront-append, IsFront-same}
+use Rattle.line_feeding.specs.Notes.{AreNotes}
+use Rattle.line_feeding.proofs.Going.{IsFront-same}
 use Rattle.batch_model.specs.declared.primary.Primary.{Primary}
 use Rattle.batch_model.specs.Batch.{Standing, Made, answers, begun, carriers_made, then_made, first_standing, batch_made, batch_entries}
 use Rattle.batch_model.specs.Summary.{summary}
+use Rattle.batch_model.specs.Told.{bytes_told}
 use Rattle.batching.specs.declared.batch.Batch.{Batch}
 use Rattle.batching.specs.declared.batch.Stop.{Stop}
 use Rattle.batching.specs.declared.batch.Stop.TheVariants as stop
 use Rattle.batching.specs.Making.{standing, Makes}
 use Rattle.batching.specs.Ending.{EndsAs}
-use Rattle.batching.specs.Batched.{MadeBy, Summed, Noted}
+use Rattle.batching.specs.Batched.{BatchedUnder, MadeBy, Summed}
 
 -- the core in its first state
 abbrev pub opened : Config → CoreView
@@ -104,3 +109,40 @@ Summed-front c carriers cause.Door held held' history h = absurd h
 -- nothing of it is out
 pub Summed-nothing : (c : Config) (carriers : ℕ) (held : Option (List ℕ)) (history : List Entry) → Summed c carriers cause.NoMemory held held history
 Summed-nothing c carriers held history = ([], (summary c carriers history, refl), Written-nothing held)
+
+-- what a batch did of which all is told
+pub batched : (c : Config) (seed carriers : ℕ) (b : Batch) (ran : Result (Unit {0}) Stop) (why : Cause) (held held' : Option (List ℕ)) (notes : List SessionNote) → Makes (opened c) b (batch_made c seed carriers) ran → EndsAs ran why b.core.history
+    → Summed b.core.config carriers why held held' b.core.history → Recorded b.core.config b.core.history b.core.state → length b.core.history ≤ b.core.config.max_entries → bytes_of b.core.history ≤ b.core.config.max_bytes
+    → AreNotes b.core.config b.core.history (bytes_told b.core.history) notes → BatchedUnder c seed carriers why held held' b.core.history notes
+batched c seed carriers b ran why held held' notes made ends summed recorded entries bytes are = record {
+  recorded = recorded-after b.core.config c b.core.history b.core.state made.config recorded;
+  entries_fit = subst (λ (k : Config). length b.core.history ≤ k.max_entries) made.config entries;
+  bytes_fit = subst (λ (k : Config). bytes_of b.core.history ≤ k.max_bytes) made.config bytes;
+  made = MadeBy-end c seed carriers b ran why made ends;
+  summed = subst (λ (k : Config). Summed k carriers why held held' b.core.history) made.config summed;
+  noted = inl (subst (λ (k : Config). AreNotes k b.core.history (bytes_told b.core.history) notes) made.config are);
+}
+
+-- the same where there was no memory for the notes
+pub batched-unnoted : (c : Config) (seed carriers : ℕ) (b : Batch) (ran : Result (Unit {0}) Stop) (why : Cause) (held held' : Option (List ℕ)) → Makes (opened c) b (batch_made c seed carriers) ran
+    → Summed b.core.config carriers why held held' b.core.history → Recorded b.core.config b.core.history b.core.state → length b.core.history ≤ b.core.config.max_entries → bytes_of b.core.history ≤ b.core.config.max_bytes
+    → BatchedUnder c seed carriers cause.NoMemory held held' b.core.history []
+batched-unnoted c seed carriers b ran why held held' made summed recorded entries bytes = record {
+  recorded = recorded-after b.core.config c b.core.history b.core.state made.config recorded;
+  entries_fit = subst (λ (k : Config). length b.core.history ≤ k.max_entries) made.config entries;
+  bytes_fit = subst (λ (k : Config). bytes_of b.core.history ≤ k.max_bytes) made.config bytes;
+  made = front_of c seed carriers b ran made;
+  summed = subst (λ (k : Config). Summed k carriers cause.NoMemory held held' b.core.history) made.config (Summed-front b.core.config carriers why held held' b.core.history summed);
+  noted = inr (refl, refl);
+}
+
+-- and where there was no memory for the core
+pub batched-nothing : (c : Config) (seed carriers : ℕ) (held : Option (List ℕ)) → IsConfig c → BatchedUnder c seed carriers cause.NoMemory held held [] []
+batched-nothing c seed carriers held bounds = record {
+  recorded = recorded-none c [] bounds refl;
+  entries_fit = omega arith;
+  bytes_fit = omega arith;
+  made = record { behind = batch_entries c seed carriers; joined = refl };
+  summed = Summed-nothing c carriers held [];
+  noted = inr (refl, refl);
+}

@@ -40,26 +40,26 @@ abbrev pub fetching : List ℕ → Standing → Made
 fetching numbers s = given_by (fetched_by numbers s.state) s
 
 -- one of them fetches, and then the others
-pub Makes-fetch : (a b c : Batch) (numbers : List ℕ) (m : ℕ) (ms : List ℕ) (result : Result (Unit {0}) Stop) → numbers ≡ m ∷ ms → Makes {Unit {0}} a.core b (given_by (fetched_one m a.core.state) (standing a)) (Ok tt) → Makes b.core c (fetching ms (standing b)) result → Makes a.core c (fetching numbers (standing a)) result
+pub Makes-fetch : (a b c : Batch) (numbers : List ℕ) (m : ℕ) (ms : List ℕ) (result : Result (Unit {0}) Stop) → numbers ≡ m ∷ ms → Makes {A = Unit {0}} a.core b (given_by (fetched_one m a.core.state) (standing a)) (Ok tt) → Makes b.core c (fetching ms (standing b)) result → Makes a.core c (fetching numbers (standing a)) result
 Makes-fetch a b c numbers m ms result is first rest =
     subst (λ (ns : List ℕ). Makes a.core c (fetching ns (standing a)) result) (sym is)
     (Makes-then a.core b c (given_by (fetched_one m a.core.state) (standing a)) (fetching ms) tt result first rest)
 
-pub Makes-fetch-stops : (a b : Batch) (numbers : List ℕ) (m : ℕ) (ms : List ℕ) (why : Stop) → numbers ≡ m ∷ ms → Makes {Unit {0}} a.core b (given_by (fetched_one m a.core.state) (standing a)) (Err why) → Makes {Unit {0}} a.core b (fetching numbers (standing a)) (Err why)
+pub Makes-fetch-stops : (a b : Batch) (numbers : List ℕ) (m : ℕ) (ms : List ℕ) (why : Stop) → numbers ≡ m ∷ ms → Makes {A = Unit {0}} a.core b (given_by (fetched_one m a.core.state) (standing a)) (Err why) → Makes {A = Unit {0}} a.core b (fetching numbers (standing a)) (Err why)
 Makes-fetch-stops a b numbers m ms why is first =
-    subst (λ (ns : List ℕ). Makes {Unit {0}} a.core b (fetching ns (standing a)) (Err why)) (sym is)
+    subst (λ (ns : List ℕ). Makes {A = Unit {0}} a.core b (fetching ns (standing a)) (Err why)) (sym is)
     (Makes-stops a.core b (given_by (fetched_one m a.core.state) (standing a)) (fetching ms) why first)
 
-pub Makes-fetch-none : (a : Batch) (numbers : List ℕ) → numbers ≡ [] → Makes {Unit {0}} a.core a (fetching numbers (standing a)) (Ok tt)
+pub Makes-fetch-none : (a : Batch) (numbers : List ℕ) → numbers ≡ [] → Makes {A = Unit {0}} a.core a (fetching numbers (standing a)) (Ok tt)
 Makes-fetch-none a numbers none =
-    subst (λ (ns : List ℕ). Makes {Unit {0}} a.core a (fetching ns (standing a)) (Ok tt)) (sym none) (Makes-nothing a tt)
+    subst (λ (ns : List ℕ). Makes {A = Unit {0}} a.core a (fetching ns (standing a)) (Ok tt)) (sym none) (Makes-nothing a tt)
 
 -- once the operator ended the run no module fetches
-pub Makes-quit : (a : Batch) → a.core.state.quitting ≡ true → Makes {Unit {0}} a.core a (fetched (standing a)) (Ok tt)
+pub Makes-quit : (a : Batch) → a.core.state.quitting ≡ true → Makes {A = Unit {0}} a.core a (fetched (standing a)) (Ok tt)
 Makes-quit a quits =
     let g : State = a.core.state in
     let none : fetched (standing a) ≡ nothing_made (standing a) = ap (λ b. given_by (if b then nothing g else fetched_by (module_numbers 1 g.floor.modules) g) (standing a)) quits in
-    subst (λ (made : Made). Makes {Unit {0}} a.core a made (Ok tt)) (sym none) (Makes-nothing a tt)
+    subst (λ (made : Made). Makes {A = Unit {0}} a.core a made (Ok tt)) (sym none) (Makes-nothing a tt)
 
 -- ---- the modules that have a command that was fetched
 

@@ -25,7 +25,7 @@ pub Makes-nothing : {A : Type 0} (b : Batch) (x : A) → Makes b.core b (nothing
 Makes-nothing b x = record { config = refl; on = (sym (append-nil b.core.history), refl) }
 
 -- of nothing that was made, a batch stops for want of memory
-pub Makes-unmade : {A : Type 0} (a : CoreView) (b : Batch) (made : Made) → b.core ≡ a → Makes {A} a b made (Err stop.NoMemory)
+pub Makes-unmade : {A : Type 0} (a : CoreView) (b : Batch) (made : Made) → b.core ≡ a → Makes {A = A} a b made (Err stop.NoMemory)
 Makes-unmade a b made same = rw (← same) (record { config = refl; on = IsFront-append b.core.history made.entries })
 
 -- the entries of two parts, behind a history
@@ -49,7 +49,7 @@ Makes-then a b c first more x result h i =
     let next : Makes b.core c (more first.standing) result = subst (λ (s : Standing). Makes b.core c (more s) result) h.on.1 i in
     record { config = next.config ∙ h.config; on = on_then a b c first (more first.standing) result h.config h.on.0 next.on }
 
-on_stops : {A B : Type 0} (a : CoreView) (b : Batch) (first more : Made) (why : Stop) → MadeOn {A} a b first (Err why) → MadeOn {B} a b (record more { entries = first.entries ++ more.entries }) (Err why)
+on_stops : {A B : Type 0} (a : CoreView) (b : Batch) (first more : Made) (why : Stop) → MadeOn {A = A} a b first (Err why) → MadeOn {A = B} a b (record more { entries = first.entries ++ more.entries }) (Err why)
 on_stops a b first more stop.Full h = record {
   next = h.next;
   behind = h.behind ++ more.entries;
@@ -60,11 +60,11 @@ on_stops a b first more stop.NoMemory h =
     rw (← append_assoc a.history first.entries more.entries) (IsFront-wider b.core.history (a.history ++ first.entries) more.entries h)
 
 -- one part stops, and the other isn't begun
-pub Makes-stops : {A B : Type 0} (a : CoreView) (b : Batch) (first : Made) (more : Standing → Made) (why : Stop) → Makes {A} a b first (Err why) → Makes {B} a b (then_made first more) (Err why)
+pub Makes-stops : {A B : Type 0} (a : CoreView) (b : Batch) (first : Made) (more : Standing → Made) (why : Stop) → Makes {A = A} a b first (Err why) → Makes {A = B} a b (then_made first more) (Err why)
 Makes-stops a b first more why h = record { config = h.config; on = on_stops a b first (more first.standing) why h.on }
 
 -- What stopped, stopped wherever it would have led to.
-pub Makes-stopped : {A B : Type 0} (a : CoreView) (b : Batch) (made other : Made) (why : Stop) → made.entries ≡ other.entries → Makes {A} a b made (Err why) → Makes {B} a b other (Err why)
+pub Makes-stopped : {A B : Type 0} (a : CoreView) (b : Batch) (made other : Made) (why : Stop) → made.entries ≡ other.entries → Makes {A = A} a b made (Err why) → Makes {A = B} a b other (Err why)
 Makes-stopped a b made other stop.Full same h = record { config = h.config; on = rw (← same) h.on }
 Makes-stopped a b made other stop.NoMemory same h = record { config = h.config; on = rw (← same) h.on }
 
@@ -82,14 +82,14 @@ Makes-posted b core e o x config here history state = record {
 }
 
 -- it doesn't fit the limits
-pub Makes-full : {A : Type 0} (b : Batch) (core : CoreView) (e : Event) → core.config ≡ b.core.config → core.history ≡ b.core.history → is_full b.core.config b.core.history e ≡ true → Makes {A} b.core (record b { core = core }) (posted e (standing b)) (Err stop.Full)
+pub Makes-full : {A : Type 0} (b : Batch) (core : CoreView) (e : Event) → core.config ≡ b.core.config → core.history ≡ b.core.history → is_full b.core.config b.core.history e ≡ true → Makes {A = A} b.core (record b { core = core }) (posted e (standing b)) (Err stop.Full)
 Makes-full b core e config history full = record {
   config = config;
   on = record { next = entry_of 0 e; behind = []; joined = rw history refl; full = rw history full };
 }
 
 -- there is no memory for it
-pub Makes-no_memory : {A : Type 0} (b : Batch) (core : CoreView) (e : Event) → core.config ≡ b.core.config → core.history ≡ b.core.history → Makes {A} b.core (record b { core = core }) (posted e (standing b)) (Err stop.NoMemory)
+pub Makes-no_memory : {A : Type 0} (b : Batch) (core : CoreView) (e : Event) → core.config ≡ b.core.config → core.history ≡ b.core.history → Makes {A = A} b.core (record b { core = core }) (posted e (standing b)) (Err stop.NoMemory)
 Makes-no_memory b core e config history = record {
   config = config;
   on = rw history (IsFront-append b.core.history (entry_of 0 e ∷ []));

@@ -127,25 +127,25 @@ Makes-take a b c session x result valid up some first second =
     (Makes-then a.core b c (taken_one session (standing a)) taken x result first second)
 
 pub Makes-take-stops : {A : Type 0} (a b : Batch) (session : ℕ) (why : Stop) → Valid a.core.state → is_session_up a.core.state session ≡ true → step a.core.state 0 (Take session) ≢ None
-    → Makes {A} a.core b (taken_one session (standing a)) (Err why) → Makes {Unit {0}} a.core b (taken (standing a)) (Err why)
+    → Makes {A = A} a.core b (taken_one session (standing a)) (Err why) → Makes {A = Unit {0}} a.core b (taken (standing a)) (Err why)
 Makes-take-stops a b session why valid up some first =
-    subst (λ (made : Made). Makes {Unit {0}} a.core b made (Err why))
+    subst (λ (made : Made). Makes {A = Unit {0}} a.core b made (Err why))
     (sym (taken-next (standing a) session (up_is a.core.state session up).0 (take_one a.core.state session valid up some) (hands_out a.core.state a.core.state.waiting session valid refl up some)))
     (Makes-stops a.core b (taken_one session (standing a)) taken why first)
 
-pub Makes-take-none : (a : Batch) (session : ℕ) → Valid a.core.state → is_session_up a.core.state session ≡ true → step a.core.state 0 (Take session) ≡ None → Makes {Unit {0}} a.core a (taken (standing a)) (Ok tt)
+pub Makes-take-none : (a : Batch) (session : ℕ) → Valid a.core.state → is_session_up a.core.state session ≡ true → step a.core.state 0 (Take session) ≡ None → Makes {A = Unit {0}} a.core a (taken (standing a)) (Ok tt)
 Makes-take-none a session valid up none =
     let waits : frames_waiting a.core.state ≡ [] = waiting_up a.core.state (up_is a.core.state session up).0 ∙ none_wait a.core.state a.core.state.waiting session valid refl up none in
-    subst (λ (made : Made). Makes {Unit {0}} a.core a made (Ok tt)) (sym (taken-none (standing a) (take_none a.core.state session valid up none) waits)) (Makes-nothing a tt)
+    subst (λ (made : Made). Makes {A = Unit {0}} a.core a made (Ok tt)) (sym (taken-none (standing a) (take_none a.core.state session valid up none) waits)) (Makes-nothing a tt)
 
-pub Makes-take-down : (a : Batch) → is_up a.core.state ≡ false → Makes {Unit {0}} a.core a (taken (standing a)) (Ok tt)
+pub Makes-take-down : (a : Batch) → is_up a.core.state ≡ false → Makes {A = Unit {0}} a.core a (taken (standing a)) (Ok tt)
 Makes-take-down a down =
-    subst (λ (made : Made). Makes {Unit {0}} a.core a made (Ok tt)) (sym (taken-none (standing a) (take_down a.core.state down) (waiting_down a.core.state down))) (Makes-nothing a tt)
+    subst (λ (made : Made). Makes {A = Unit {0}} a.core a made (Ok tt)) (sym (taken-none (standing a) (take_down a.core.state down) (waiting_down a.core.state down))) (Makes-nothing a tt)
 
 -- the message of the frame is kept
 pub Makes-kept : (a : CoreView) (b c : Batch) (s : Standing) (session : ℕ) (o : Outcome) (ps : List Primary) → c.core ≡ b.core → c.drawn ≡ b.drawn → c.asked.items ≡ b.asked.items ++ ps → step s.state 0 (Take session) ≡ Some o → primaries_told (Some o) ≡ ps
     → b.core.config ≡ a.config → b.core.history ≡ a.history ++ entry_of 0 (Take session) ∷ [] → standing b ≡ record s { state = after s.state 0 (Take session) }
-    → Makes {Unit {0}} a c (taken_one session s) (Ok tt)
+    → Makes {A = Unit {0}} a c (taken_one session s) (Ok tt)
 Makes-kept a b c s session o ps core drawn asked here told config history stands =
     let all : c.asked.items ≡ s.asked ++ primaries_told (step s.state 0 (Take session)) =
     asked ∙ ap (λ (qs : List Primary). qs ++ ps) (ap (λ (t : Standing). t.asked) stands)
@@ -164,7 +164,7 @@ Makes-kept a b c s session o ps core drawn asked here told config history stands
         ∙ ap (λ (n : ℕ). record { state = t.state; asked = t.asked; drawn_last = n }) last
 
 -- there is no memory to keep it
-pub Makes-unkept : (a : CoreView) (b c : Batch) (s : Standing) (session : ℕ) → c.core ≡ b.core → b.core.config ≡ a.config → b.core.history ≡ a.history ++ entry_of 0 (Take session) ∷ [] → Makes {Unit {0}} a c (taken_one session s) (Err stop.NoMemory)
+pub Makes-unkept : (a : CoreView) (b c : Batch) (s : Standing) (session : ℕ) → c.core ≡ b.core → b.core.config ≡ a.config → b.core.history ≡ a.history ++ entry_of 0 (Take session) ∷ [] → Makes {A = Unit {0}} a c (taken_one session s) (Err stop.NoMemory)
 Makes-unkept a b c s session core config history = record {
   config = ap (λ (k : CoreView). k.config) core ∙ config;
   on = IsFront-same c.core.history _ (sym (ap (λ (k : CoreView). k.history) core ∙ history));

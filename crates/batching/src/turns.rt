@@ -39,12 +39,7 @@ fn told(frame: Frame) -> Event
 }
 
 // Answers a message of the tool.
-fn answer(
-    alloc: Global,
-    batch: &mut Batch,
-    config: &Config,
-    primary: Primary,
-) -> Result<(), Stop>
+fn answer(alloc: Global, batch: &mut Batch, config: &Config, primary: Primary) -> Result<(), Stop>
     requires whole { batch.old.core.is_whole ≡ true }
     ensures made { Makes batch.old.core batch.new (entered (told (answer_to config.now.device primary)) (standing batch.old)) result }
     ensures whole { OnOk result (batch.new.core.is_whole ≡ true) }

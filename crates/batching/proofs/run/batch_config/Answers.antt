@@ -1,24 +1,26 @@
-use Rattle.std.proofs.Common.{◌≡◌, ◌∙◌, [], ap, inl, inr, refl, sym, subst}
-use Rattle.tool_events.specs.declared.config.Config.{Config}
-use Rattle.core_view.specs.CoreView.{CoreView}
-use Rattle.line_feeding.specs.declared.ended.Cause.TheVariants as cause
-use Rattle.line_feeding.specs.Notes.{AreNotes}
-use Rattle.line_feeding.proofs.Going.{IsFront-append}
-use Rattle.history_laws.proofs.Recording.{recorded-none, recorded-after}
-use Rattle.batch_model.specs.Batch.{batch_entries, batch_made}
-use Rattle.batch_model.specs.Told.{bytes_told}
-use Rattle.batching.specs.Batched.{Summed}
-use Rattle.batching.specs.Making.{Makes}
-use Rattle.batching.proofs.Ending.{opened, Makes-batch, MadeBy-end, front_of, Summed-front, Summed-nothing}
+use Rattle.std.proofs.Common.{refl}
+use Rattle.batching.specs.declared.batch.Batch.{Batch}
+use Rattle.batching.proofs.Ending.{Makes-batch, batched, batched-unnoted, batched-nothing}
 use Rattle.batching.proofs.run.batch_config.Goals as goal
 
 -- without memory for the core nothing happened
 pub returns-in_default-clause-batched : goal.returns-in_default-clause-batched
-returns-in_default-clause-batched g c = rw c.without_history.ensures (record {
-  recorded = recorded-none c.args.config.now [] c.requires.bounds refl;
-  entries_fit = omega arith;
-  bytes_fit = omega arith;
-  made = record { behind = batch_entries c.args.config.now c.args.seed c.args.carriers; joined = refl };
-  summed = Summed-nothing c.args.config.now c.args.carriers (g.K.Sink.held c.args.out.now) [];
-  noted = inr (refl, refl);
-})
+returns-in_default-clause-batched g c =
+    rw c.without_history.ensures (batched-nothing c.args.config.now c.args.seed c.args.carriers (g.K.Sink.held c.args.out.now) c.requires.bounds)
+
+-- without memory for the notes there are none
+pub returns-in_default-notes_of-clause-batched : goal.returns-in_default-notes_of-clause-batched
+returns-in_default-notes_of-clause-batched g c =
+    let first : Batch = record { core = c.in-Ok.core; asked = c.new.result; drawn = c.args.seed } in
+    let made = Makes-batch c.args.config.now c.args.seed c.args.carriers first c.run-ran.new.batch c.run-ran.result c.in-Ok.ensures c.new.ensures.items refl c.run-ran.ensures.made in
+    rw (c.with_history.ensures, c.close.ensures.history, c.none.ensures)
+    (batched-unnoted c.args.config.now c.args.seed c.args.carriers c.run-ran.new.batch c.run-ran.result c.finish-cause.result (g.K.Sink.held c.args.out.now) (g.K.Sink.held c.finish-cause.new.out)
+    made c.finish-cause.ensures.summed c.close.ensures.recorded c.close.ensures.entries_fit c.close.ensures.bytes_fit)
+
+pub returns-clause-batched : goal.returns-clause-batched
+returns-clause-batched g c =
+    let first : Batch = record { core = c.in-Ok.core; asked = c.new.result; drawn = c.args.seed } in
+    let made = Makes-batch c.args.config.now c.args.seed c.args.carriers first c.run-ran.new.batch c.run-ran.result c.in-Ok.ensures c.new.ensures.items refl c.run-ran.ensures.made in
+    rw (c.with_history-2.ensures, c.close-2.ensures.history)
+    (batched c.args.config.now c.args.seed c.args.carriers c.run-ran.new.batch c.run-ran.result c.finish-cause.result (g.K.Sink.held c.args.out.now) (g.K.Sink.held c.finish-cause.new.out) c.in-Ok-notes_of.sessions
+    made c.finish-cause.ensures.ends c.finish-cause.ensures.summed c.close-2.ensures.recorded c.close-2.ensures.entries_fit c.close-2.ensures.bytes_fit c.in-Ok-notes_of.ensures)

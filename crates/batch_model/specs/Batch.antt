@@ -21,7 +21,8 @@ use Rattle.gem_model.specs.Step.{after}
 use Rattle.gem_model.specs.Feed.{input}
 use Rattle.batch_model.specs.declared.primary.Primary.{Primary}
 use Rattle.batch_model.specs.Host.{select_request, enable_request, primary_in, answer_to}
-use Rattle.batch_model.specs.Modules.{Fetched, fetched_from, chosen}
+use Rattle.batch_model.specs.declared.fetched.Fetched.{Fetched}
+use Rattle.batch_model.specs.Modules.{fetched_from, chosen}
 
 -- ---- where a batch stands
 

@@ -1,14 +1,9 @@
 -- The simulated modules of a batch, and which is done next (this tool's profile, batch).
 use Rattle.std.specs.Prelude.{ℕ, ◌+◌, ◌/◌, ◌%◌, ◌^◌, List, [], ◌∷◌, ◌++◌, length, slice_get, Option, Some, None}
-use Rattle.gem_ids.specs.declared.numbers.ModuleId.{ModuleId}
 use Rattle.gem_ids.specs.declared.numbers.CmdNo.{CmdNo}
 use Rattle.robot_moves.specs.declared.module.Module.{Module}
 use Rattle.robot_moves.specs.Modules.{fetched_number}
-
--- a module, and the number of its open command, which it fetched
-pub record Fetched : Type 0 where
-  pub number : ModuleId
-  pub command : CmdNo
+use Rattle.batch_model.specs.declared.fetched.Fetched.{Fetched}
 
 -- the module of this number, where it has such a command
 abbrev pub fetched_as : ℕ → Option CmdNo → List Fetched

@@ -5,7 +5,9 @@
 //! counts in `history_totals`. Begin with `specs/Batch.antt`.
 #![tactic(auto)]
 
+mod fetched;
 mod primary;
 pub mod worked;
 
+pub use fetched::Fetched;
 pub use primary::Primary;

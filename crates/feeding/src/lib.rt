@@ -9,7 +9,6 @@ mod engine;
 mod feeder;
 mod feeding;
 mod input;
-mod notes;
 mod reader;
 
 pub use feeding::feed_config;

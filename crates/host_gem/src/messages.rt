@@ -1,78 +1,24 @@
-//! What a message of the host does that is taken: its reply, what it writes, and its direct rows, all by the plant before it.
-//! Each message is one arm of `gem_done` or `shop_done` (`shop.rt`).
-ghost use Rattle.std.specs.Prelude.{◌≡◌, ◌≤◌, ◌^◌, ◌∷◌, [], length, IfOk};
+//! What a message of streams 1, 2, 5 and 6 does that is taken: its reply, what it writes, and its direct rows, all by the plant
+//! before it. Each message is one arm of `gem_done`.
+ghost use Rattle.std.specs.Prelude.{◌≡◌, IfOk};
 ghost use Rattle.gem_ids.specs.Texts.{IsText};
 ghost use Rattle.gem_ids.specs.Civil.{moment_in, time_digits};
 ghost use Rattle.gem_replies.specs.declared.reply.GemReply.TheVariants as reply;
 ghost use Rattle.gem_model.specs.State.{clock_now};
 ghost use Rattle.gem_primaries.specs.Few.{HasFewParts};
 ghost use Rattle.gem_replies.specs.Sendable.{HasSendableParts};
-ghost use Rattle.gem_model.specs.Messages.{onlack, tiack, is_enabling, clock_set, gem_done, done};
-ghost use Rattle.gem_model.specs.HostMessages.{reply_text};
-ghost use Rattle.host_requests.specs.Verdicts.{message_view, HasFew};
-ghost use Rattle.core_host.specs.declared.messages.HostReply.TheVariants as host;
-ghost use Rattle.core_host.specs.Dones.{done_view, reply_view, CanBeSent};
+ghost use Rattle.gem_model.specs.Messages.{onlack, tiack, is_enabling, clock_set, gem_done};
+ghost use Rattle.host_replies.specs.Dones.{done_view, CanBeSent};
 
 use crate::remote::command;
-use crate::shop::shop_done;
 use crate::spooling::spool_streams;
 use core_state::Plant;
 use gem_states::{CommTrigger, Control, ControlTrigger};
-use gem_tables::Firing;
-use host_requests::{HostMsg, moment_in, tiack};
-use hsms_frame::Bytes;
-use msgs_300::ShopReply;
+use host_replies::{Done, answered, fires_row};
+use host_requests::{moment_in, tiack};
 use msgs_gem::{GemMsg, GemReply, Identity};
-use plant_parts::{by_comm, part, reply_text as gem_text, shop_text, unload_row};
+use plant_parts::{by_comm, part, unload_row};
 use std::alloc::{AllocError, Global};
-
-/// A reply of the tool.
-#[derive(Debug, Drop)]
-pub enum HostReply {
-    Gem(GemReply),
-    Shop(ShopReply),
-}
-
-/// What was done of a message that is taken, which is to be answered so, and whose direct rows are still to fire.
-#[derive(Debug, Drop)]
-pub struct Done {
-    pub reply: HostReply,
-    pub rows: Vec<Firing>,
-}
-
-/// A message is answered so, and no row fires.
-pub fn answered(alloc: Global, reply: GemReply) -> Done
-    ensures reply { result.reply ≡ host.Gem reply }
-    ensures rows { result.rows.items ≡ [] }
-{
-    Done {
-        reply: HostReply::Gem(reply),
-        rows: Vec::new(alloc),
-    }
-}
-
-/// A message is answered so, and this row fires.
-pub fn fires_row(alloc: Global, reply: GemReply, row: Firing) -> Result<Done, AllocError>
-    ensures reply { IfOk result (λ told. told.reply ≡ host.Gem reply) }
-    ensures rows { IfOk result (λ told. told.rows.items ≡ row ∷ []) }
-{
-    Ok(Done {
-        reply: HostReply::Gem(reply),
-        rows: Vec::from_slice(alloc, &[row])?,
-    })
-}
-
-/// The text of a reply.
-pub fn reply_text(alloc: Global, reply: &HostReply) -> Result<Bytes, AllocError>
-    requires { CanBeSent reply.now }
-    ensures text { IfOk result (λ text. text ≡ reply_text (reply_view reply.now)) }
-    ensures short { IfOk result (λ text. length text ≤ 2 ^ 31) }
-{
-    match reply {
-        HostReply::Gem(reply) => gem_text(alloc, reply),
-        HostReply::Shop(reply) => shop_text(alloc, reply),
-    }
-}
 
 /// ONLACK: 0 in HOST OFF-LINE, 1 in EQUIPMENT OFF-LINE and ATTEMPT ON-LINE, 2 on-line.
 fn onlack(control: Control) -> u8
@@ -138,8 +84,9 @@ fn date_and_time(plant: &Plant, alloc: Global) -> Result<GemReply, AllocError>
     Ok(GemReply::S2F18(plant.time_text(alloc)?))
 }
 
-/// A message of streams 1, 2, 5 and 6. Most are answered, and no row fires; the others return what they do.
-fn gem_done(plant: &mut Plant, alloc: Global, message: &GemMsg) -> Result<Done, AllocError>
+/// A message of streams 1, 2, 5 and 6: what it is answered, and the rows that it fires, by the plant before it; and what it writes
+/// is written. Most are answered, and no row fires; the others return what they do.
+pub fn gem_done(plant: &mut Plant, alloc: Global, message: &GemMsg) -> Result<Done, AllocError>
     requires { HasFewParts message.now }
     ensures done { IfOk result (λ told. done_view told plant.new ≡ gem_done plant.old message.now) }
     ensures sendable { IfOk result (λ told. CanBeSent told.reply) }
@@ -196,16 +143,4 @@ fn gem_done(plant: &mut Plant, alloc: Global, message: &GemMsg) -> Result<Done, 
         ),
     };
     Ok(answered(alloc, reply))
-}
-
-/// What a message is answered, and the rows that it fires, by the plant before it; and what it writes is written.
-pub fn perform(plant: &mut Plant, alloc: Global, message: &HostMsg) -> Result<Done, AllocError>
-    requires { HasFew message.now }
-    ensures done { IfOk result (λ told. done_view told plant.new ≡ done plant.old (message_view message.now)) }
-    ensures sendable { IfOk result (λ told. CanBeSent told.reply) }
-{
-    match message {
-        HostMsg::Gem(message) => gem_done(plant, alloc, message),
-        HostMsg::Shop(message) => shop_done(plant, alloc, message),
-    }
 }

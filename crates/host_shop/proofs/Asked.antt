@@ -13,9 +13,9 @@ use Rattle.job_requests.specs.Errors.{or_else, of_process_fault}
 use Rattle.job_requests.specs.Requests.{process_error}
 use Rattle.gem_model.specs.State.{State}
 use Rattle.gem_model.specs.JobMessages.{asked_of_jobs, with_jobs_now}
-use Rattle.core_host.specs.declared.messages.HostReply.TheVariants as code
-use Rattle.core_host.specs.declared.messages.Done.{Done}
-use Rattle.core_host.specs.Dones.{done_view}
+use Rattle.host_replies.specs.declared.done.HostReply.TheVariants as code
+use Rattle.host_replies.specs.declared.done.Done.{Done}
+use Rattle.host_replies.specs.Dones.{done_view}
 
 -- an error stands against it
 pub refused : (g after : State) (reply : Option JobError → ShopReply) (e is : Option JobError) (x : JobError) (w : Jobs) (rows : List Firing) (told : Done)

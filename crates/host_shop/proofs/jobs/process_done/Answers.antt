@@ -5,11 +5,11 @@ use Rattle.msgs_300.specs.declared.reply.JobAcknowledge.{JobAcknowledge}
 use Rattle.msgs_300.specs.declared.reply.ShopReply.TheVariants as reply
 use Rattle.job_requests.specs.Requests.{asked_process, process_error}
 use Rattle.gem_model.specs.JobMessages.{jobs_of, acknowledged}
-use Rattle.core_host.specs.declared.messages.HostReply.TheVariants as code
-use Rattle.core_host.specs.declared.messages.Done.{Done}
-use Rattle.core_host.proofs.Asked.{refused, taken, process_free}
-use Rattle.core_host.proofs.jobs.process_done.Goals.{in-Some, in-None+in_ok-rows-in-None}
-use Rattle.core_host.proofs.jobs.process_done.Goals as goal
+use Rattle.host_replies.specs.declared.done.HostReply.TheVariants as code
+use Rattle.host_replies.specs.declared.done.Done.{Done}
+use Rattle.host_shop.proofs.Asked.{refused, taken, process_free}
+use Rattle.host_shop.proofs.jobs.process_done.Goals.{in-Some, in-None+in_ok-rows-in-None}
+use Rattle.host_shop.proofs.jobs.process_done.Goals as goal
 
 pub create_process-requires-clause-free : goal.create_process-requires-clause-free
 create_process-requires-clause-free c =

@@ -2,9 +2,9 @@ use Rattle.std.proofs.Common.{map, sym, ap, ◌∙◌}
 use Rattle.std.specs.Option.{option_copied}
 use Rattle.process_job.proofs.Scans.{take_past}
 use Rattle.gem_model.specs.JobMessages.{listed_job}
-use Rattle.core_host.proofs.Few.{listed_step}
-use Rattle.core_host.proofs.jobs.listed_jobs.Goals.{in-Some+in_ok-push, in_default}
-use Rattle.core_host.proofs.jobs.listed_jobs.Goals as goal
+use Rattle.host_replies.proofs.Few.{listed_step}
+use Rattle.host_replies.proofs.jobs.listed_jobs.Goals.{in-Some+in_ok-push, in_default}
+use Rattle.host_replies.proofs.jobs.listed_jobs.Goals as goal
 
 pub loop-place-preserved : goal.loop-place-preserved
 loop-place-preserved c = elim c.match-get.branch [

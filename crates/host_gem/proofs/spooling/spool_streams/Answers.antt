@@ -4,7 +4,7 @@ use Rattle.gem_replies.specs.declared.reply.StreamRefusal.{StreamRefusal}
 use Rattle.msgs_gem.proofs.Spooling.{few_refused}
 use Rattle.gem_model.specs.Spooling.{refusal}
 use Rattle.host_requests.proofs.Refused.{refuses_fewer}
-use Rattle.core_host.proofs.spooling.spool_streams.Goals as goal
+use Rattle.host_gem.proofs.spooling.spool_streams.Goals as goal
 
 pub returns-then-not-is_empty-clause-sendable : goal.returns-then-not-is_empty-clause-sendable
 returns-then-not-is_empty-clause-sendable c =

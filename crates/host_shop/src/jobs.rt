@@ -1,35 +1,33 @@
 //! What the host asks of process jobs and control jobs (SEMI E40, S16F5, S16F11, S16F17, S16F19 and S16F21; SEMI E94, S14F9 and
 //! S16F27): what it is answered, and what is done. Why something isn't done is told by the jobs before the message.
-ghost use Rattle.std.specs.Prelude.{◌≡◌, ◌≤◌, None, map, length, option_to_list, true, false, OnOk, IfOk};
+ghost use Rattle.std.specs.Prelude.{◌≡◌, None, true, false, OnOk, IfOk};
 ghost use Rattle.secs_items.specs.View.{view};
 ghost use Rattle.process_job.specs.Creating.{create_fault};
-ghost use Rattle.process_job.specs.Jobs.{most_jobs};
 ghost use Rattle.control_job.specs.Jobs.{headed};
 ghost use Rattle.tool_jobs.specs.Creating.{with_process, with_control, control_fault, is_any_missing};
 ghost use Rattle.job_requests.specs.Acts.{act_after, act_rows};
-ghost use Rattle.job_requests.specs.Requests.{is_job_name, asked_process, process_rows, asked_control, control_rows, command_rows, cancel_error, names_error, cancelled};
+ghost use Rattle.job_requests.specs.Requests.{is_job_name, asked_process, process_rows, asked_control, control_rows, cancel_error};
 ghost use Rattle.gem_model.specs.Remote.{is_local};
-ghost use Rattle.gem_model.specs.JobMessages.{errors_of, acknowledged, object_acknowledged, jobs_of, with_jobs_now, listed_job, rows_of_command, process_done, control_done, command_done, cancel_done, control_command_done, list_done, space_done};
-ghost use Rattle.core_host.specs.Dones.{done_view, CanBeSent};
+ghost use Rattle.gem_model.specs.JobMessages.{acknowledged, jobs_of, with_jobs_now, process_done, control_done, command_done, cancel_done, control_command_done, list_done, space_done};
+ghost use Rattle.host_replies.specs.Dones.{done_view, CanBeSent};
 
-use crate::messages::{Done, HostReply};
 use core_state::Plant;
 use gem_ids::{Listed, Text80};
 use gem_states::Control;
 use gem_tables::Firing;
+use host_replies::{
+    Done, HostReply, acknowledged, command_rows, errors_of, few_cancelled, listed_jobs,
+    object_acknowledged, rows_of,
+};
 use job_requests::{
-    ControlRequest, JobError, QueueAct, cancel_error, cancel_rows, cancelled, command_error,
-    command_row, control_command, control_command_error, control_error, control_id, control_names,
-    control_request, control_row, job_name, process_error, process_row, process_spec,
+    ControlRequest, QueueAct, cancel_error, cancel_rows, command_error, control_command,
+    control_command_error, control_error, control_id, control_names, control_request, control_row,
+    job_name, process_error, process_row, process_spec,
 };
-use msgs_300::{
-    CarrierSlots, ErrorPart, JobAcknowledge, JobState, NamedValue, ObjectAcknowledge, ShopReply,
-};
-use process_job::{ProcessJob, ProcessJobs};
+use msgs_300::{CarrierSlots, JobAcknowledge, NamedValue, ShopReply};
 use secs_items::Item;
 use std::alloc::{AllocError, Global};
 use tool_events::JobWord;
-use tool_jobs::Jobs;
 
 // ---- process jobs
 
@@ -95,34 +93,6 @@ pub fn command_done(
     Ok(Done { reply, rows })
 }
 
-// The rows of a command on a process job: none for a word that there isn't.
-fn command_rows(
-    alloc: Global,
-    job: Text80,
-    word: Option<JobWord>,
-    jobs: &Jobs,
-) -> Result<Vec<Firing>, AllocError>
-    ensures { IfOk result (λ rows. rows.items ≡ rows_of_command job word jobs.now) }
-{
-    match word {
-        Some(word) => job_rows(alloc, job, word, jobs),
-        None => Ok(Vec::new(alloc)),
-    }
-}
-
-/// The row that a command on the process job of a name fires; none where no such job is kept (SEMI E40, S16F5). `AllocError` where
-/// there is no memory.
-pub fn job_rows(
-    alloc: Global,
-    job: Text80,
-    word: JobWord,
-    jobs: &Jobs,
-) -> Result<Vec<Firing>, AllocError>
-    ensures { IfOk result (λ rows. rows.items ≡ command_rows job word jobs.now) }
-{
-    rows_of(alloc, command_row(job, word, jobs))
-}
-
 /// S16F17, process jobs that are QUEUED are cancelled, all where none is named: where nothing stands against it, row 15 of table 14
 /// fires at each. S16F18 tells their names, and else the error. `AllocError` where there is no memory.
 pub fn cancel_done(plant: &Plant, alloc: Global, names: &[Text80]) -> Result<Done, AllocError>
@@ -160,17 +130,6 @@ fn cancel(
     })
 }
 
-// The names of the process jobs that are cancelled, of which there are at most as many as process jobs are kept.
-fn few_cancelled(alloc: Global, names: &[Text80], jobs: &Jobs) -> Result<Listed<Text80>, AllocError>
-    requires { names_error names.now jobs.now ≡ None }
-    ensures names { IfOk result (λ jobs_cancelled. jobs_cancelled ≡ cancelled names.now jobs.now) }
-    ensures few { IfOk result (λ jobs_cancelled. length jobs_cancelled ≤ most_jobs) }
-{
-    // The count says that few are kept.
-    let _ = jobs.process().len();
-    cancelled(alloc, names, jobs)
-}
-
 /// S16F19, the process jobs are listed in the order of creation: S16F20 tells each with its state, and nothing is done. `AllocError`
 /// where there is no memory.
 pub fn list_done(plant: &Plant, alloc: Global) -> Result<Done, AllocError>
@@ -182,30 +141,6 @@ pub fn list_done(plant: &Plant, alloc: Global) -> Result<Done, AllocError>
         reply: HostReply::Shop(ShopReply::S16F20(jobs)),
         rows: Vec::new(alloc),
     })
-}
-
-// The process jobs, as S16F20 lists them.
-fn listed_jobs(alloc: Global, process: &ProcessJobs) -> Result<Listed<JobState>, AllocError>
-    ensures jobs { IfOk result (λ jobs. jobs ≡ map listed_job process.now.kept) }
-    ensures few { length process.now.kept ≤ most_jobs }
-{
-    let mut jobs = Listed::new(alloc);
-    for place in 0..process.len() {
-        if let Some(job) = process.get(place) {
-            jobs.push(listed_job(job))?;
-        }
-    }
-    Ok(jobs)
-}
-
-// A process job, as S16F20 lists it.
-fn listed_job(job: &ProcessJob) -> JobState
-    ensures { result ≡ listed_job job.now }
-{
-    JobState {
-        job: job.id.text(),
-        state: job.states.state.number(),
-    }
 }
 
 /// S16F21, S16F22 tells how many more process jobs can be created, and nothing is done. Takes no memory.
@@ -339,54 +274,4 @@ fn is_local(plant: &Plant) -> bool
     ensures { result ≡ is_local plant.now.control }
 {
     plant.control() == Control::Local
-}
-
-// The row that a job fires, where there is one.
-fn rows_of(alloc: Global, row: Option<Firing>) -> Result<Vec<Firing>, AllocError>
-    ensures { IfOk result (λ rows. rows.items ≡ option_to_list row) }
-{
-    match row {
-        Some(row) => Vec::from_slice(alloc, &[row]),
-        None => Ok(Vec::new(alloc)),
-    }
-}
-
-// The errors of a reply: that one, where there is one.
-fn errors_of(alloc: Global, error: Option<JobError>) -> Result<Listed<ErrorPart>, AllocError>
-    ensures errors { IfOk result (λ errors. errors ≡ errors_of error) }
-    ensures few { IfOk result (λ errors. length errors ≤ 1) }
-{
-    let mut errors = Listed::new(alloc);
-    if let Some(error) = error {
-        errors.push(ErrorPart {
-            code: error.code(),
-            text: error.text(),
-        })?;
-    }
-    Ok(errors)
-}
-
-// Whether it is done, and else why not.
-fn acknowledged(alloc: Global, error: Option<JobError>) -> Result<JobAcknowledge, AllocError>
-    ensures told { IfOk result (λ told. told ≡ acknowledged error) }
-    ensures few { IfOk result (λ told. length told.errors ≤ 1) }
-{
-    Ok(JobAcknowledge {
-        ok: error.is_none(),
-        errors: errors_of(alloc, error)?,
-    })
-}
-
-// The same of an object that is to be created.
-fn object_acknowledged(
-    alloc: Global,
-    error: Option<JobError>,
-) -> Result<ObjectAcknowledge, AllocError>
-    ensures told { IfOk result (λ told. told ≡ object_acknowledged error) }
-    ensures few { IfOk result (λ told. length told.errors ≤ 1) }
-{
-    Ok(ObjectAcknowledge {
-        objack: if error.is_some() { 1 } else { 0 },
-        errors: errors_of(alloc, error)?,
-    })
 }

@@ -4,13 +4,12 @@ ghost use Rattle.secs_items.specs.Sendable.{IsLength};
 ghost use Rattle.gem_replies.specs.declared.reply.GemReply.TheVariants as reply;
 ghost use Rattle.gem_model.specs.Messages.{remote_done};
 ghost use Rattle.gem_model.specs.Remote.{decided};
-ghost use Rattle.core_host.specs.Dones.{done_view, CanBeSent};
+ghost use Rattle.host_replies.specs.Dones.{done_view, CanBeSent};
 
-use crate::jobs::job_rows;
-use crate::messages::{Done, HostReply, answered, fires_row};
 use core_state::Plant;
 use gem_ids::Listed;
 use gem_states::{Control, ControlTrigger};
+use host_replies::{Done, HostReply, answered, fires_row, job_rows};
 use host_requests::{Decision, decided};
 use msgs_gem::{GemReply, Parameter};
 use std::alloc::{AllocError, Global};

@@ -3,9 +3,9 @@ use Rattle.gem_replies.specs.Sendable.{HasSendableParts}
 use Rattle.msgs_300.specs.Sendable.{HasSendableParts as HasShopParts}
 use Rattle.gem_model.specs.State.{State}
 use Rattle.gem_model.specs.HostMessages as model
-use Rattle.core_host.specs.declared.messages.HostReply.{HostReply}
-use Rattle.core_host.specs.declared.messages.HostReply.TheVariants as code
-use Rattle.core_host.specs.declared.messages.Done.{Done}
+use Rattle.host_replies.specs.declared.done.HostReply.{HostReply}
+use Rattle.host_replies.specs.declared.done.HostReply.TheVariants as code
+use Rattle.host_replies.specs.declared.done.Done.{Done}
 
 -- the reply of the definitions that a reply of the code stands for
 abbrev pub reply_view : HostReply → model.HostReply

@@ -3,7 +3,7 @@ use Rattle.control_job.specs.Jobs.{JobStore, job_named, order_headed, headed}
 use Rattle.tool_jobs.specs.Jobs.{Jobs}
 use Rattle.gem_model.specs.JobMessages.{jobs_of, with_jobs_now}
 use Rattle.job_requests.proofs.Named.{control_same, none_waiting}
-use Rattle.core_host.proofs.jobs.make_head.Goals as goal
+use Rattle.host_shop.proofs.jobs.make_head.Goals as goal
 
 pub returns-in-Some : goal.returns-in-Some
 returns-in-Some c =

@@ -8,18 +8,18 @@ ghost use Rattle.msgs_300.specs.declared.reply.ShopReply.TheVariants as shop;
 ghost use Rattle.shop_floor.specs.Requests.{port_rows};
 ghost use Rattle.gem_model.specs.Shop.{carrier_caack, port_caack};
 ghost use Rattle.gem_model.specs.Messages.{carrier_action_done, port_action_done, shop_done};
-ghost use Rattle.core_host.specs.Dones.{done_view, CanBeSent};
+ghost use Rattle.host_replies.specs.Dones.{done_view, CanBeSent};
 
 use crate::jobs::{
     cancel_done, command_done, control_command_done, control_done, list_done, process_done,
     space_done,
 };
-use crate::messages::{Done, HostReply};
 use carrier::{CarrierAction, CarrierWord};
 use core_state::Plant;
 use gem_ids::Listed;
 use gem_states::Control;
 use gem_tables::Firing;
+use host_replies::{Done, HostReply};
 use host_requests::{carrier_action, port_word};
 use job_requests::command_named;
 use load_port::{Caack, PortAction};

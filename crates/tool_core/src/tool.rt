@@ -157,7 +157,8 @@ impl Values for Core {
         if !self.is_whole {
             return Err(AllocError);
         }
-        self.plant.showing(Text80::empty(), 0).value(alloc, vid)
+        let seen = self.plant.seen();
+        seen.showing(Text80::empty(), 0).value(alloc, vid)
     }
 }
 

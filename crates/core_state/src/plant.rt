@@ -145,7 +145,8 @@ impl Plant {
         Seen::of(
             &self.config,
             self.moment,
-            (self.shown, self.shown_at),
+            self.shown,
+            self.shown_at,
             self.quitting,
             &self.link,
             self.comm,

@@ -19,7 +19,7 @@ use core_state::Plant;
 use gem_ids::Listed;
 use gem_states::Control;
 use gem_tables::Firing;
-use host_replies::{Done, HostReply};
+use host_replies::{Done, HostReply, accepted_carrier_rows, accepted_port_rows};
 use host_requests::{carrier_action, port_word};
 use job_requests::command_named;
 use load_port::{Caack, PortAction};
@@ -35,7 +35,7 @@ fn carrier_caack(plant: &Plant, action: &CarrierAction) -> Caack
     } else if plant.control() == Control::Local {
         Caack::NotNow
     } else {
-        plant.carrier_code(action)
+        plant.floor().carrier_code(action)
     }
 }
 
@@ -48,7 +48,7 @@ fn port_caack(plant: &Plant, action: &PortAction) -> Caack
     } else if plant.control() == Control::Local {
         Caack::NotNow
     } else {
-        plant.port_code(action)
+        plant.floor().shop().port_code(action)
     }
 }
 
@@ -69,7 +69,7 @@ fn carrier_action_done(
             rows: Vec::new(alloc),
         });
     }
-    let rows = plant.carrier_rows(alloc, action)?;
+    let rows = accepted_carrier_rows(plant.floor().shop(), alloc, action)?;
     plant.write_action(action)?;
     Ok(Done { reply, rows })
 }
@@ -84,7 +84,7 @@ fn port_rows(
     ensures { IfOk result (λ rows. rows.items ≡ (if is_done_code code then port_rows action.now plant.now.floor.shop else [])) }
 {
     if code.is_done() {
-        plant.port_rows(alloc, action)
+        accepted_port_rows(plant.floor().shop(), alloc, action)
     } else {
         Ok(Vec::new(alloc))
     }

@@ -1,27 +1,17 @@
 -- The values of variables are small, and so are the texts of notes.
-use Rattle.std.proofs.Common.{◌≡◌, ℕ, zero, suc, ◌≤◌, ◌==◌, nat_le, Bool, true, false, if◌then◌else◌, List, [], ◌∷◌, length, map, filter, slice_get, Option, Some, None, is_some, IfSome, option_map, unwrap_or, refl, ap, subst, arith}
+use Rattle.std.proofs.Common.{◌≡◌, ℕ, zero, suc, ◌≤◌, ◌==◌, nat_le, Bool, true, false, if◌then◌else◌, List, [], ◌∷◌, length, slice_get, Option, Some, None, IfSome, option_map, unwrap_or, refl, subst, arith}
 use Rattle.std.proofs.lemmas.Bool.Decides.{nat_tests}
 use Rattle.gem_ids.specs.Texts.{IsText}
 use Rattle.gem_ids.specs.Civil.{time_digits}
 use Rattle.gem_ids.specs.declared.numbers.LocId.TheVariants as loc
-use Rattle.secs_items.specs.Data.{Data, DataList, ascii, u1, u2, u4}
-use Rattle.secs_items.specs.Plain.{plain, count_of}
-use Rattle.secs_items.specs.Weight.{IsBounded, AreBounded}
-use Rattle.secs_items.proofs.Weights.{plain-weight, bounded-list, bounded-text}
-use Rattle.gem_replies.specs.declared.reply.GemReply.TheVariants as reply
-use Rattle.gem_replies.specs.Replies.{reply_body}
+use Rattle.secs_items.specs.Data.{Data, ascii, u1, u2, u4}
+use Rattle.secs_items.specs.Weight.{IsBounded}
+use Rattle.secs_items.proofs.Weights.{bounded-text}
 use Rattle.data_variables.specs.declared.val.Val.{Val}
 use Rattle.data_variables.specs.declared.val.Val.TheVariants.{Number, Truth}
 use Rattle.data_variables.specs.Bodies.{value_item}
 use Rattle.data_variables.specs.Values as constants
 use Rattle.event_reports.specs.Values.{AreSmallValues}
-use Rattle.event_reports.specs.Reports.{value_items}
-use Rattle.event_reports.proofs.Small.{count_values, small_values_of}
-use Rattle.data_variables.specs.Bodies.{name_item, items}
-use Rattle.data_variables.specs.Table.{constant_ids}
-use Rattle.data_variables.proofs.Sending.{names_bounded, names_counted}
-use Rattle.gem_replies.specs.Sendable.{AreFew}
-use Rattle.gem_model.specs.Messages.{or_all, status_name, alarm_part, alids_of, enabled_alids}
 use Rattle.event_reports.specs.Limits.{most_alarms}
 use Rattle.spool.specs.Spool.{load_number, unload_number}
 use Rattle.event_reports.specs.declared.alarms.AlarmLine.{AlarmLine}
@@ -30,10 +20,10 @@ use Rattle.gem_states.specs.Communication.{comm_number}
 use Rattle.gem_states.specs.Control.{control_number}
 use Rattle.gem_model.specs.State.{State, clock_now}
 use Rattle.plant_values.proofs.MomentTexts.{clock_text}
-use Rattle.gem_rows.specs.Variables.{status_variable, status_vids}
+use Rattle.gem_rows.specs.Variables.{status_variable}
 use Rattle.gem_rows.specs.declared.variables.StatusVariable.{StatusVariable}
 use Rattle.gem_rows.specs.declared.variables.StatusVariable.TheVariants as status
-use Rattle.gem_model.specs.Values.{Occasion, no_firing, port_value, substrate_text, place_value, variable_value, value_by, event_value, status_value, svids, constant_value, or_else, value_of}
+use Rattle.gem_model.specs.Values.{Occasion, no_firing, port_value, substrate_text, place_value, variable_value, value_by, event_value, status_value, constant_value, or_else, value_of}
 use Rattle.load_port.specs.declared.port.Port.{Port}
 use Rattle.load_port.specs.Tables.{transfer_number, access_number}
 use Rattle.substrate.specs.Locations.{is_location}

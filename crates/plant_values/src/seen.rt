@@ -62,12 +62,13 @@ impl<'a> Model for Seen<'a> {
 }
 
 impl<'a> Seen<'a> {
-    /// What the tool is, by its parts, each under its name in the state of the tables. The clock is what it showed, and the moment
+    /// What the tool is, by its parts, each under its name in the state of the tables; of the clock what it showed, and the moment
     /// at which it did.
     pub fn of(
         config: &'a Config,
         moment: Moment,
-        clock: (Moment, Moment),
+        shown: Moment,
+        shown_at: Moment,
         quitting: bool,
         link: &'a LinkState,
         comm: Comm,
@@ -81,9 +82,8 @@ impl<'a> Seen<'a> {
         floor: &'a ToolFloor,
         waiting: &'a VecDeque<Bytes>,
     ) -> Seen<'a>
-        ensures { result ≡ record { config = config.now; moment = moment.0; clock = record { shown = clock.0.0; at = clock.1.0 }; quitting = quitting; link = link.now; comm = comm; control = control; switch_local = switch_local; transactions = transactions.now; constants = constants.now; reports = reports.now; alarms = alarms.now; line = line.now; floor = floor.now; waiting = waiting.now.items } }
+        ensures { result ≡ record { config = config.now; moment = moment.0; clock = record { shown = shown.0; at = shown_at.0 }; quitting = quitting; link = link.now; comm = comm; control = control; switch_local = switch_local; transactions = transactions.now; constants = constants.now; reports = reports.now; alarms = alarms.now; line = line.now; floor = floor.now; waiting = waiting.now.items } }
     {
-        let (shown, shown_at) = clock;
         Seen {
             config,
             moment,

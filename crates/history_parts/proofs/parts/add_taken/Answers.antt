@@ -1,7 +1,7 @@
 use Rattle.std.proofs.Common.{◌≡◌, ℕ, ◌+◌, ◌==◌, Bool, true, false, if◌then◌else◌, List, [], length, arith}
 use Rattle.std.proofs.lemmas.Bool.Decides.{nat_tests}
 use Rattle.gem_model.specs.Sizes.{counted}
-use Rattle.tool_core.proofs.tool.add_taken.Goals as goal
+use Rattle.history_parts.proofs.parts.add_taken.Goals as goal
 
 either_way : (a b : ℕ) → (a == b) ≡ (b == a)
 either_way a b = grind (arith, nat_tests)

@@ -6,4 +6,4 @@ use Rattle.plant_values.proofs.seen.Seen.named_ports.Given as goal
 
 -- the ports before this place are named by texts
 abbrev pub invariant-loop-place : goal.invariant-loop-place
-invariant-loop-place l = (i : ℕ) (p : Port) → i < l.place → slice_get l.self.floor.now.shop.ports i ≡ Some p → IsText (unwrap_or p.carrier [])
+invariant-loop-place l = (i : ℕ) (p : Port) → i < l.place → slice_get l.self.floor.shop.ports i ≡ Some p → IsText (unwrap_or p.carrier [])

@@ -4,12 +4,10 @@
 //! readers of `reading`, as `id` and `list_of`, and the writers of `writing`, as `code` and `list`.
 #![tactic(auto)]
 
-mod fault;
-mod named_value;
+mod message_parts;
 mod numbers;
 pub mod reading;
 pub mod writing;
 
-pub use fault::BodyFault;
-pub use named_value::NamedValue;
+pub use message_model::{BodyFault, NamedValue};
 pub use numbers::numbers_or_ids;

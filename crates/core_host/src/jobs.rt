@@ -1,13 +1,13 @@
 //! What the host asks of process jobs and control jobs (SEMI E40, S16F5, S16F11, S16F17, S16F19 and S16F21; SEMI E94, S14F9 and
 //! S16F27): what it is answered, and what is done. Why something isn't done is told by the jobs before the message.
 ghost use Rattle.std.specs.Prelude.{◌≡◌, ◌≤◌, None, map, length, option_to_list, true, false, OnOk, IfOk};
-ghost use Rattle.secs_items.specs.View.{view};
+ghost use Rattle.item_model.specs.View.{view};
 ghost use Rattle.process_job.specs.Creating.{create_fault};
 ghost use Rattle.process_job.specs.Jobs.{most_jobs};
 ghost use Rattle.control_job.specs.Jobs.{headed};
 ghost use Rattle.tool_jobs.specs.Creating.{with_process, with_control, control_fault, is_any_missing};
-ghost use Rattle.job_requests.specs.Acts.{act_after, act_rows};
-ghost use Rattle.job_requests.specs.Requests.{is_job_name, asked_process, process_rows, asked_control, control_rows, command_rows, cancel_error, names_error, cancelled};
+ghost use Rattle.request_model.specs.Acts.{act_after, act_rows};
+ghost use Rattle.request_model.specs.Requests.{is_job_name, asked_process, process_rows, asked_control, control_rows, command_rows, cancel_error, names_error, cancelled};
 ghost use Rattle.gem_model.specs.Remote.{is_local};
 ghost use Rattle.gem_model.specs.JobMessages.{errors_of, acknowledged, object_acknowledged, jobs_of, with_jobs_now, listed_job, rows_of_command, process_done, control_done, command_done, cancel_done, control_command_done, list_done, space_done};
 ghost use Rattle.core_host.specs.Dones.{done_view, CanBeSent};
@@ -17,16 +17,11 @@ use core_state::Plant;
 use gem_ids::{Listed, Text80};
 use gem_states::Control;
 use gem_tables::Firing;
-use job_requests::{
-    ControlRequest, JobError, QueueAct, cancel_error, cancel_rows, cancelled, command_error,
-    command_row, control_command, control_command_error, control_error, control_id, control_names,
-    control_request, control_row, job_name, process_error, process_row, process_spec,
-};
-use msgs_300::{
-    CarrierSlots, ErrorPart, JobAcknowledge, JobState, NamedValue, ObjectAcknowledge, ShopReply,
-};
+use job_requests::{cancel_error, cancel_rows, cancelled, command_error, command_row, control_command, control_command_error, control_error, control_id, control_names, control_request, control_row, job_name, process_error, process_row, process_spec};
+use request_model::{ControlRequest, JobError, QueueAct};
+use message_model::{CarrierSlots, ErrorPart, JobAcknowledge, JobState, NamedValue, ObjectAcknowledge, ShopReply};
 use process_job::{ProcessJob, ProcessJobs};
-use secs_items::Item;
+use item_model::Item;
 use std::alloc::{AllocError, Global};
 use tool_events::JobWord;
 use tool_jobs::Jobs;

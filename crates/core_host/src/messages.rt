@@ -3,10 +3,10 @@
 ghost use Rattle.std.specs.Prelude.{◌≡◌, ◌≤◌, ◌^◌, ◌∷◌, [], length, IfOk};
 ghost use Rattle.gem_ids.specs.Texts.{IsText};
 ghost use Rattle.gem_ids.specs.Civil.{moment_in, time_digits};
-ghost use Rattle.gem_replies.specs.declared.reply.GemReply.TheVariants as reply;
+ghost use Rattle.message_model.specs.declared.gem_reply.GemReply.TheVariants as reply;
 ghost use Rattle.gem_model.specs.State.{clock_now};
-ghost use Rattle.gem_primaries.specs.Few.{HasFewParts};
-ghost use Rattle.gem_replies.specs.Sendable.{HasSendableParts};
+ghost use Rattle.message_model.specs.Few.{HasFewParts};
+ghost use Rattle.message_model.specs.GemSendable.{HasSendableParts};
 ghost use Rattle.gem_model.specs.Messages.{onlack, tiack, is_enabling, clock_set, gem_done, done};
 ghost use Rattle.gem_model.specs.HostMessages.{reply_text};
 ghost use Rattle.host_requests.specs.Verdicts.{message_view, HasFew};
@@ -21,8 +21,7 @@ use gem_states::{CommTrigger, Control, ControlTrigger};
 use gem_tables::Firing;
 use host_requests::{HostMsg, moment_in, tiack};
 use hsms_frame::Bytes;
-use msgs_300::ShopReply;
-use msgs_gem::{GemMsg, GemReply, Identity};
+use message_model::{GemMsg, GemReply, Identity, ShopReply};
 use plant_parts::{by_comm, part, reply_text as gem_text, shop_text, unload_row};
 use std::alloc::{AllocError, Global};
 

@@ -4,12 +4,12 @@ use Rattle.std.proofs.lemmas.Bool.Decides.{nat_tests}
 use Rattle.gem_ids.specs.Texts.{IsText}
 use Rattle.gem_ids.specs.Civil.{time_digits}
 use Rattle.gem_ids.specs.declared.numbers.LocId.TheVariants as loc
-use Rattle.secs_items.specs.Data.{Data, DataList, ascii, u1, u2, u4}
-use Rattle.secs_items.specs.Plain.{plain, count_of}
-use Rattle.secs_items.specs.Weight.{IsBounded, AreBounded}
-use Rattle.secs_items.proofs.Weights.{plain-weight, bounded-list, bounded-text}
-use Rattle.gem_replies.specs.declared.reply.GemReply.TheVariants as reply
-use Rattle.gem_replies.specs.Replies.{reply_body}
+use Rattle.item_model.specs.Data.{Data, DataList, ascii, u1, u2, u4}
+use Rattle.item_model.specs.Plain.{plain, count_of}
+use Rattle.item_model.specs.Weight.{IsBounded, AreBounded}
+use Rattle.item_model.proofs.Weights.{plain-weight, bounded-list, bounded-text}
+use Rattle.message_model.specs.declared.gem_reply.GemReply.TheVariants as reply
+use Rattle.message_model.specs.GemReplies.{reply_body}
 use Rattle.data_variables.specs.declared.val.Val.{Val}
 use Rattle.data_variables.specs.declared.val.Val.TheVariants.{Number, Truth}
 use Rattle.data_variables.specs.Bodies.{value_item}
@@ -20,7 +20,7 @@ use Rattle.event_reports.proofs.Small.{count_values, small_values_of}
 use Rattle.data_variables.specs.Bodies.{name_item, items}
 use Rattle.data_variables.specs.Table.{constant_ids}
 use Rattle.data_variables.proofs.Sending.{names_bounded, names_counted}
-use Rattle.gem_replies.specs.Sendable.{AreFew}
+use Rattle.message_model.specs.GemSendable.{AreFew}
 use Rattle.gem_model.specs.Messages.{or_all, status_name, alarm_part, alids_of, enabled_alids}
 use Rattle.event_reports.specs.Limits.{most_alarms}
 use Rattle.spool.specs.Spool.{load_number, unload_number}

@@ -5,19 +5,19 @@ ghost use Rattle.data_variables.specs.Table.{constant_ids};
 ghost use Rattle.data_variables.specs.Setting.{eac, set_all_after};
 ghost use Rattle.event_reports.specs.Alarms.{is_set, ackc5, alarms_enabled};
 ghost use Rattle.event_reports.specs.Reports.{value_items, report_items, one_items, drack, defined, lrack, linked, erack, enabled};
-ghost use Rattle.gem_replies.specs.Replies.{items as items_data};
-ghost use Rattle.gem_replies.specs.Sendable.{AreFew};
+ghost use Rattle.message_model.specs.GemReplies.{items as items_data};
+ghost use Rattle.message_model.specs.GemSendable.{AreFew};
 ghost use Rattle.gem_model.specs.Values.{no_firing, status_value, constant_value, value_of, svids};
 ghost use Rattle.gem_model.specs.Messages.{or_all, status_name, settings_of, alarm_part, alids_of, enabled_alids};
 
 use crate::plant::Plant;
 use data_variables::ids as constant_ids;
-use event_reports::{NoMemory, Values, values_of};
+use event_reports::{Values, values_of};
+use item_model::{Item, Items, NoMemory};
 use gem_ids::{Ids, Listed, Text80};
 use gem_rows::{status_vids, vid_name};
-use msgs_gem::{AlarmPart, Setting, VariableName};
+use message_model::{AlarmPart, Setting, VariableName};
 use plant_parts::{alcd, settings_of, text_of_alarm};
-use secs_items::{Item, Items};
 use std::alloc::{AllocError, Global};
 
 // The status variables of a plant.

@@ -11,7 +11,7 @@ use crate::specs::{named, names, number, plain, small, spec, told, told_at};
 use anyhow::{Result, bail};
 use gem_ids::{JobId, Text80};
 use process_job::ProcessJobs;
-use secs_items::Items;
+use item_model::Items;
 use std::alloc::Global;
 use test_lines::{Subject, words};
 use tool_events::{JobWord, Recipe, RecipeChambers};

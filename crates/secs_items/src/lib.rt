@@ -5,21 +5,16 @@
 //! `decode`, which reads an item, `read_one`, which reads a text that is one item, and `encode`, which appends one.
 #![tactic(auto)]
 
-mod cloning;
 mod element;
-mod elements;
-mod fault;
-mod format;
-mod item;
 mod laws;
 mod one;
 mod reading;
-mod values;
 mod writing;
 
-pub use elements::{Bools, Bytes, Elements, I8s, I16s, I32s, I64s, U8s, U16s, U32s, U64s};
-pub use fault::ItemFault;
-pub use item::{Item, Items, NoMemory};
+pub use item_model::{
+    Bools, Bytes, Elements, I8s, I16s, I32s, I64s, Item, ItemFault, Items, NoMemory, U8s, U16s,
+    U32s, U64s,
+};
 pub use laws::{
     a_fault_stands_behind_open_bytes, a_list_of_bounded_items_is_bounded,
     an_item_takes_at_most_what_it_weighs, bytes_spell_or_have_a_fault, no_spelling_begins_another,

@@ -17,11 +17,17 @@ use core_state::Plant;
 use gem_ids::{Listed, Text80};
 use gem_states::Control;
 use gem_tables::Firing;
-use job_requests::{cancel_error, cancel_rows, cancelled, command_error, command_row, control_command, control_command_error, control_error, control_id, control_names, control_request, control_row, job_name, process_error, process_row, process_spec};
-use request_model::{ControlRequest, JobError, QueueAct};
-use message_model::{CarrierSlots, ErrorPart, JobAcknowledge, JobState, NamedValue, ObjectAcknowledge, ShopReply};
-use process_job::{ProcessJob, ProcessJobs};
 use item_model::Item;
+use job_requests::{
+    cancel_error, cancel_rows, cancelled, command_error, command_row, control_command,
+    control_command_error, control_error, control_id, control_names, control_request, control_row,
+    job_name, process_error, process_row, process_spec,
+};
+use message_model::{
+    CarrierSlots, ErrorPart, JobAcknowledge, JobState, NamedValue, ObjectAcknowledge, ShopReply,
+};
+use process_job::{ProcessJob, ProcessJobs};
+use request_model::{ControlRequest, JobError, QueueAct};
 use std::alloc::{AllocError, Global};
 use tool_events::JobWord;
 use tool_jobs::Jobs;

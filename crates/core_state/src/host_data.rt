@@ -13,9 +13,9 @@ ghost use Rattle.gem_model.specs.Messages.{or_all, status_name, settings_of, ala
 use crate::plant::Plant;
 use data_variables::ids as constant_ids;
 use event_reports::{Values, values_of};
-use item_model::{Item, Items, NoMemory};
 use gem_ids::{Ids, Listed, Text80};
 use gem_rows::{status_vids, vid_name};
+use item_model::{Item, Items, NoMemory};
 use message_model::{AlarmPart, Setting, VariableName};
 use plant_parts::{alcd, settings_of, text_of_alarm};
 use std::alloc::{AllocError, Global};

@@ -16,10 +16,10 @@ use gem_ids::Text80;
 use gem_rows::{RowId, ceid_of};
 use gem_states::Comm;
 use hsms_frame::Bytes;
+use item_model::Items;
 use message_model::GemReply;
 use note_line::Kind;
 use plant_parts::{alcd, prints, reply_text, text_of_alarm};
-use item_model::Items;
 use std::alloc::{AllocError, Global};
 
 /// A row that fired: the row, the name of its object, and whether control was ON-LINE before it.

@@ -17,9 +17,9 @@ ghost use Rattle.gem_model.specs.Values.{substrate_text, place_value, port_value
 use crate::plant::Plant;
 use data_variables::item_of;
 use event_reports::Values;
-use item_model::{Bytes, Item, NoMemory, U16s, U32s};
 use gem_ids::{LocId, Text80, time16};
 use gem_rows::{StatusVariable, status_variable};
+use item_model::{Bytes, Item, NoMemory, U16s, U32s};
 use load_port::Port;
 use plant_parts::{
     carrier_text, count, load_number, name, part, prints, short_count, state_number, unload_number,

@@ -6,9 +6,9 @@ ghost use Rattle.item_model.specs.Weight.{IsBounded};
 ghost use Rattle.message_model.specs.GemSendable.{AreFew};
 
 use gem_ids::{Listed, Text80};
+use item_model::{Bytes, Item, Items, NoMemory};
 use message_model::{AlarmPart, GemReply};
 use reply_texts::{bytes, is_text, number, repeated, sent, text};
-use item_model::{Bytes, Item, Items, NoMemory};
 use std::alloc::Global;
 use std::test::Fail;
 

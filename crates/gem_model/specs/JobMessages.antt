@@ -1,5 +1,5 @@
 -- What the host asks of process jobs and control jobs, and what is done (SEMI E40, S16F5, S16F11, S16F17, S16F19 and S16F21; SEMI E94,
--- S14F9 and S16F27; this tool's profile, messages). What is asked, and why it isn't done, is in job_requests. All is by the jobs before the
+-- S14F9 and S16F27; this tool's profile, messages). What is asked, and why it isn't done, is in request_model. All is by the jobs before the
 -- message.
 use Rattle.std.specs.Prelude.{ℕ, Bool, not, if◌then◌else◌, List, [], ◌∷◌, map, Option, Some, None, is_some}
 use Rattle.gem_tables.specs.declared.firing.Firing.{Firing}

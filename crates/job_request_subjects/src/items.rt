@@ -2,8 +2,8 @@
 
 use crate::told::read;
 use gem_ids::Listed;
-use message_model::{CarrierSlots, NamedValue};
 use item_model::{Bools, Bytes, Item, Items, U8s};
+use message_model::{CarrierSlots, NamedValue};
 use std::alloc::Global;
 
 // ---- carriers

@@ -3,11 +3,10 @@
 ghost use Rattle.std.specs.Prelude.{◌≡◌, length, IfOk};
 ghost use Rattle.message_model.specs.GemSendable.{AreCharacters, HasSendableParts};
 
+use item_model::{Bytes, NoMemory};
 use message_model::{BodyFault, GemReply, Identity};
-
 use msgs_gem::{is_ignored, read_gem};
 use reply_texts::{is_text, sent};
-use item_model::{Bytes, NoMemory};
 use std::alloc::Global;
 use std::test::Fail;
 

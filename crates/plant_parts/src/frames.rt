@@ -14,10 +14,10 @@ ghost use Rattle.item_model.specs.Sendable.{IsSendable};
 
 use gem_ids::Text80;
 use hsms_frame::{Bytes, Frame, Header, write_frame, write_header};
+use item_model::Item;
 use message_model::{GemReply, ShopReply};
 use msgs_300::shop_item;
 use msgs_gem::gem_item;
-use item_model::Item;
 use secs_items::encode;
 use std::alloc::{AllocError, Global};
 use tool_events::Config;

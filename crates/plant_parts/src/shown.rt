@@ -8,8 +8,8 @@ ghost use Rattle.spool.specs.Spool.{load_number, unload_number};
 
 use crate::frames::part;
 use gem_ids::Text80;
-use load_port::Port;
 use item_model::{Item, U8s, U16s, U32s};
+use load_port::Port;
 use spool::{Load, Unload};
 use std::alloc::{AllocError, Global};
 

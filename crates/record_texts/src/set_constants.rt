@@ -12,8 +12,8 @@ ghost use Rattle.item_model.specs.View.{view};
 
 use anyhow::{Result, bail};
 use data_variables::{Constants, Val, ids, item_of, set_of};
-use report_subjects::{add_number, numbers_in};
 use item_model::Item;
+use report_subjects::{add_number, numbers_in};
 use secs_items::{encode, read_one};
 use std::alloc::Global;
 use test_lines::{Subject, bytes};

@@ -8,9 +8,9 @@ ghost use Rattle.item_model.specs.Weight.{IsBounded};
 ghost use Rattle.message_model.specs.GemSendable.{HasSendableParts};
 
 use gem_ids::Text80;
+use item_model::{Item, NoMemory, U32s};
 use message_model::GemReply;
 use msgs_gem::gem_item;
-use item_model::{Item, NoMemory, U32s};
 use secs_items::encode;
 use std::alloc::Global;
 use std::test::Fail;

@@ -3,9 +3,9 @@
 
 use crate::pieces::add_piece;
 use gem_ids::Text80;
+use item_model::Item;
 use message_model::{CarrierSlots, NamedValue, ShopMsg};
 use msgs_300::{is_shop_stream, read_shop};
-use item_model::Item;
 use secs_items::read_one;
 use std::alloc::Global;
 

@@ -5,7 +5,6 @@ ghost use Rattle.item_model.specs.Data.{ascii as ascii_data};
 ghost use Rattle.item_model.specs.View.{view};
 
 use item_model::{Bytes, Item, ItemFault, Items, NoMemory, U16s};
-
 use secs_items::encode;
 use std::alloc::Global;
 use std::test::Fail;

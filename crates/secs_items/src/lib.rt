@@ -1,5 +1,5 @@
-//! SECS-II data items after SEMI E5 (data items, item header, item formats): the values that messages carry, and their
-//! bytes. Every spelling is read, with 1, 2 or 3 length bytes, and one is written, the shortest. Bytes that spell no item
+//! SECS-II data items after SEMI E5 (data items, item header, item formats), from bytes and to bytes, as `item_model` defines
+//! them. Every spelling is read, with 1, 2 or 3 length bytes, and one is written, the shortest. Bytes that spell no item
 //! are told by the fault of the least place. Floating numbers, JIS-8 and two-byte characters are no formats here, and lists
 //! stand inside one another at most 16 deep. What an item means to a message is left to the crates above. Begin with
 //! `decode`, which reads an item, `read_one`, which reads a text that is one item, and `encode`, which appends one.

@@ -1,8 +1,8 @@
 -- The host of a batch: what it asks first, which messages of the tool it answers, and how (this tool's profile, batch).
 use Rattle.std.specs.Prelude.{ℕ, ◌+◌, ◌==◌, nat_le, Bool, true, ◌&&◌, if◌then◌else◌, List, [], ◌∷◌, length, drop, Option, Some, None}
-use Rattle.secs_items.specs.Data.{boolean}
-use Rattle.secs_items.specs.Plain.{plain}
-use Rattle.body_parts.specs.Printed.{B, L}
+use Rattle.item_model.specs.Data.{boolean}
+use Rattle.item_model.specs.Plain.{plain}
+use Rattle.message_model.specs.Printed.{B, L}
 use Rattle.hsms_frame.specs.Cut.{header_at}
 use Rattle.hsms_frame.specs.declared.frame.Header.{Header}
 use Rattle.hsms_frame.specs.declared.frame.Frame.{Frame}

@@ -1,7 +1,7 @@
 //! A data message of the host: what it is answered, and what it does.
 ghost use Rattle.std.specs.Prelude.{◌≡◌, ◌+◌, ◌≤◌, ◌<◌, ◌^◌, length, OnOk, IfOk};
 ghost use Rattle.transactions.specs.Endings.{answered};
-ghost use Rattle.gem_replies.specs.Acknowledge.{accepts};
+ghost use Rattle.message_model.specs.Acknowledge.{accepts};
 ghost use Rattle.gem_model.specs.Direct.{Are, IsListed, attempt_answer, establish_answer};
 ghost use Rattle.gem_model.specs.Verdict.{item_of, stream_of, function_of};
 ghost use Rattle.gem_model.specs.Messages.{done};

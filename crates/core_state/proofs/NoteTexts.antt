@@ -1,12 +1,12 @@
 -- The texts of notes are small.
 use Rattle.std.proofs.Common.{ℕ, ◌≤◌, List, length, arith}
 use Rattle.gem_ids.specs.Texts.{IsText}
-use Rattle.secs_items.specs.Data.{DataList}
-use Rattle.secs_items.specs.Plain.{plain, count_of}
-use Rattle.secs_items.specs.Weight.{AreBounded}
-use Rattle.secs_items.proofs.Weights.{plain-weight, bounded-list}
-use Rattle.gem_replies.specs.declared.reply.GemReply.TheVariants as reply
-use Rattle.gem_replies.specs.Replies.{reply_body}
+use Rattle.item_model.specs.Data.{DataList}
+use Rattle.item_model.specs.Plain.{plain, count_of}
+use Rattle.item_model.specs.Weight.{AreBounded}
+use Rattle.item_model.proofs.Weights.{plain-weight, bounded-list}
+use Rattle.message_model.specs.declared.gem_reply.GemReply.TheVariants as reply
+use Rattle.message_model.specs.GemReplies.{reply_body}
 
 -- the text of an event's note
 pub event_short : (number ceid : ℕ) (reports : DataList) → count_of reports ≤ 16 → AreBounded 3 5392 reports → length (plain (reply_body (reply.S6F11 number ceid reports))) ≤ 87000

@@ -7,7 +7,7 @@ ghost use Rattle.gem_model.specs.Messages.{settings_of};
 
 use crate::plant::Plant;
 use gem_ids::Ids;
-use msgs_gem::Setting;
+use message_model::Setting;
 use plant_parts::settings_of;
 use std::alloc::{AllocError, Global};
 

@@ -1,8 +1,8 @@
 //! The notes that firings and changes of alarms make (SEMI E30, event reports and alarms).
 ghost use Rattle.std.specs.Prelude.{◌≡◌, ◌≤◌, ◌+◌, ◌*◌, [], length, OnOk, IfOk, Some};
-ghost use Rattle.secs_items.specs.Plain.{plain};
-ghost use Rattle.gem_replies.specs.declared.reply.GemReply.TheVariants as reply;
-ghost use Rattle.gem_replies.specs.Replies.{reply_body};
+ghost use Rattle.item_model.specs.Plain.{plain};
+ghost use Rattle.message_model.specs.declared.gem_reply.GemReply.TheVariants as reply;
+ghost use Rattle.message_model.specs.GemReplies.{reply_body};
 ghost use Rattle.event_reports.specs.Reports.{report_items};
 ghost use Rattle.event_reports.specs.Alarms.{is_set};
 ghost use Rattle.note_line.specs.Limits.{most_text};
@@ -15,7 +15,7 @@ use gem_ids::Text80;
 use gem_rows::{RowId, ceid_of};
 use gem_states::Comm;
 use hsms_frame::Bytes;
-use msgs_gem::GemReply;
+use message_model::GemReply;
 use note_line::Kind;
 use plant_parts::{alcd, reply_text, text_of_alarm};
 use std::alloc::{AllocError, Global};

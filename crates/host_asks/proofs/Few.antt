@@ -1,6 +1,6 @@
 -- What the host is told of variables and alarms is few.
 use Rattle.std.proofs.Common.{◌≡◌, ℕ, suc, ◌≤◌, Bool, true, false, List, [], ◌∷◌, length, map, filter, Option, is_some, refl, ap, arith}
-use Rattle.secs_items.specs.Data.{Data}
+use Rattle.item_model.specs.Data.{Data}
 use Rattle.event_reports.specs.Values.{AreSmallValues}
 use Rattle.event_reports.specs.Reports.{value_items}
 use Rattle.event_reports.specs.Limits.{most_alarms}
@@ -9,7 +9,7 @@ use Rattle.event_reports.proofs.Small.{count_values, small_values_of}
 use Rattle.data_variables.specs.Bodies.{name_item, items}
 use Rattle.data_variables.specs.Table.{constant_ids}
 use Rattle.data_variables.proofs.Sending.{names_bounded, names_counted}
-use Rattle.gem_replies.specs.Sendable.{AreFew}
+use Rattle.message_model.specs.GemSendable.{AreFew}
 use Rattle.gem_rows.specs.Variables.{status_vids}
 use Rattle.gem_model.specs.State.{State}
 use Rattle.gem_model.specs.Values.{status_value, svids, constant_value}

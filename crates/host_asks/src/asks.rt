@@ -3,19 +3,19 @@ ghost use Rattle.std.specs.Prelude.{◌≡◌, ◌≤◌, length, map, IfOk};
 ghost use Rattle.data_variables.specs.Bodies.{name_item};
 ghost use Rattle.data_variables.specs.Table.{constant_ids};
 ghost use Rattle.event_reports.specs.Reports.{value_items, report_items, one_items};
-ghost use Rattle.gem_replies.specs.Replies.{items as items_data};
-ghost use Rattle.gem_replies.specs.Sendable.{AreFew};
+ghost use Rattle.message_model.specs.GemReplies.{items as items_data};
+ghost use Rattle.message_model.specs.GemSendable.{AreFew};
 ghost use Rattle.gem_model.specs.Values.{no_firing, status_value, constant_value, value_of, svids};
 ghost use Rattle.gem_model.specs.Messages.{or_all, status_name, alarm_part, alids_of, enabled_alids};
 
 use data_variables::ids as constant_ids;
-use event_reports::{NoMemory, Values, values_of};
+use event_reports::{Values, values_of};
+use item_model::{Item, Items, NoMemory};
 use gem_ids::{Listed, Text80};
 use gem_rows::{status_vids, vid_name};
-use msgs_gem::{AlarmPart, VariableName};
+use message_model::{AlarmPart, VariableName};
 use plant_parts::{alcd, text_of_alarm};
 use plant_values::Seen;
-use secs_items::{Item, Items};
 use std::alloc::{AllocError, Global};
 
 // The status variables of a plant.

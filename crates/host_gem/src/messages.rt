@@ -3,10 +3,10 @@
 ghost use Rattle.std.specs.Prelude.{◌≡◌, IfOk};
 ghost use Rattle.gem_ids.specs.Texts.{IsText};
 ghost use Rattle.gem_ids.specs.Civil.{moment_in, time_digits};
-ghost use Rattle.gem_replies.specs.declared.reply.GemReply.TheVariants as reply;
+ghost use Rattle.message_model.specs.declared.gem_reply.GemReply.TheVariants as reply;
 ghost use Rattle.gem_model.specs.State.{clock_now};
-ghost use Rattle.gem_primaries.specs.Few.{HasFewParts};
-ghost use Rattle.gem_replies.specs.Sendable.{HasSendableParts};
+ghost use Rattle.message_model.specs.Few.{HasFewParts};
+ghost use Rattle.message_model.specs.GemSendable.{HasSendableParts};
 ghost use Rattle.gem_model.specs.Messages.{onlack, tiack, is_enabling, clock_set, gem_done};
 ghost use Rattle.host_replies.specs.Dones.{done_view, CanBeSent};
 
@@ -20,7 +20,7 @@ use host_asks::{
 };
 use host_replies::{Done, answered, fires_row};
 use host_requests::{moment_in, tiack};
-use msgs_gem::{GemMsg, GemReply, Identity};
+use message_model::{GemMsg, GemReply, Identity};
 use plant_parts::{by_comm, part, unload_row};
 use std::alloc::{AllocError, Global};
 

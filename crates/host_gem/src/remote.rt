@@ -1,7 +1,7 @@
 //! Remote commands of the host (SEMI E5, S2F41; SEMI E30, remote control; SEMI E40, commands to process jobs).
 ghost use Rattle.std.specs.Prelude.{◌≡◌, [], length, IfOk};
-ghost use Rattle.secs_items.specs.Sendable.{IsLength};
-ghost use Rattle.gem_replies.specs.declared.reply.GemReply.TheVariants as reply;
+ghost use Rattle.item_model.specs.Sendable.{IsLength};
+ghost use Rattle.message_model.specs.declared.gem_reply.GemReply.TheVariants as reply;
 ghost use Rattle.gem_model.specs.Messages.{remote_done};
 ghost use Rattle.gem_model.specs.Remote.{decided};
 ghost use Rattle.host_replies.specs.Dones.{done_view, CanBeSent};
@@ -11,7 +11,7 @@ use gem_ids::Listed;
 use gem_states::{Control, ControlTrigger};
 use host_replies::{Done, HostReply, answered, fires_row, job_rows};
 use host_requests::{Decision, decided};
-use msgs_gem::{GemReply, Parameter};
+use message_model::{GemReply, Parameter};
 use std::alloc::{AllocError, Global};
 
 /// S2F42 of a command that is done: HCACK 0, and no parameter is listed.

@@ -1,15 +1,15 @@
 //! Which notes the host has spooled (SEMI E5, S2F43; SEMI E30, spooling).
 ghost use Rattle.std.specs.Prelude.{◌≡◌, map, OnOk, IfOk};
-ghost use Rattle.gem_primaries.specs.declared.primary.SpooledStream.{SpooledStream};
-ghost use Rattle.gem_replies.specs.declared.reply.GemReply.TheVariants as reply;
-ghost use Rattle.body_parts.specs.Functions.{AreFewFunctions};
-ghost use Rattle.gem_replies.specs.Sendable.{HasSendableParts};
+ghost use Rattle.message_model.specs.declared.gem_primary.SpooledStream.{SpooledStream};
+ghost use Rattle.message_model.specs.declared.gem_reply.GemReply.TheVariants as reply;
+ghost use Rattle.message_model.specs.Functions.{AreFewFunctions};
+ghost use Rattle.message_model.specs.GemSendable.{HasSendableParts};
 ghost use Rattle.gem_model.specs.Spooling.{refusals, rspack, spools};
 
 use core_state::Plant;
 use gem_ids::Listed;
 use host_requests::{kinds_of, refusals};
-use msgs_gem::{GemReply, SpooledStream};
+use message_model::{GemReply, SpooledStream};
 use std::alloc::{AllocError, Global};
 
 /// What S2F43 is answered, by the plant before it: RSPACK 1 where the spool is ACTIVE, and where an entry is refused, with

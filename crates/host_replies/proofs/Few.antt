@@ -8,11 +8,11 @@ use Rattle.process_job.proofs.Names.{same_name}
 use Rattle.process_job.proofs.Scans.{take_here}
 use Rattle.tool_events.specs.declared.event.JobWord.TheVariants.{Cancel}
 use Rattle.tool_jobs.specs.Jobs.{Jobs}
-use Rattle.msgs_300.specs.declared.reply.JobState.{JobState}
+use Rattle.message_model.specs.declared.shop_reply.JobState.{JobState}
 use Rattle.gem_model.specs.JobMessages.{listed_job}
-use Rattle.job_requests.specs.declared.error.JobError.{JobError}
-use Rattle.job_requests.specs.Errors.{or_else, of_answer}
-use Rattle.job_requests.specs.Requests.{names_error, each_once, cancelled, is_queued}
+use Rattle.request_model.specs.declared.error.JobError.{JobError}
+use Rattle.request_model.specs.Errors.{or_else, of_answer}
+use Rattle.request_model.specs.Requests.{names_error, each_once, cancelled, is_queued}
 
 -- ---- lists
 

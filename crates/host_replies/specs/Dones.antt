@@ -1,6 +1,6 @@
 -- What the code's record of what a message did stands for.
-use Rattle.gem_replies.specs.Sendable.{HasSendableParts}
-use Rattle.msgs_300.specs.Sendable.{HasSendableParts as HasShopParts}
+use Rattle.message_model.specs.GemSendable.{HasSendableParts}
+use Rattle.message_model.specs.ShopSendable.{HasSendableParts as HasShopParts}
 use Rattle.gem_model.specs.State.{State}
 use Rattle.gem_model.specs.HostMessages as model
 use Rattle.host_replies.specs.declared.done.HostReply.{HostReply}

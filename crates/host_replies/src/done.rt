@@ -6,8 +6,7 @@ ghost use Rattle.host_replies.specs.Dones.{reply_view, CanBeSent};
 
 use gem_tables::Firing;
 use hsms_frame::Bytes;
-use msgs_300::ShopReply;
-use msgs_gem::GemReply;
+use message_model::{GemReply, ShopReply};
 use plant_parts::{reply_text as gem_text, shop_text};
 use std::alloc::{AllocError, Global};
 

@@ -2,13 +2,14 @@
 //! the message.
 ghost use Rattle.std.specs.Prelude.{◌≡◌, ◌≤◌, None, map, length, option_to_list, IfOk};
 ghost use Rattle.process_job.specs.Jobs.{most_jobs};
-ghost use Rattle.job_requests.specs.Requests.{command_rows, names_error, cancelled};
+ghost use Rattle.request_model.specs.Requests.{command_rows, names_error, cancelled};
 ghost use Rattle.gem_model.specs.JobMessages.{errors_of, acknowledged, object_acknowledged, listed_job, rows_of_command};
 
 use gem_ids::{Listed, Text80};
 use gem_tables::Firing;
-use job_requests::{JobError, cancelled, command_row};
-use msgs_300::{ErrorPart, JobAcknowledge, JobState, ObjectAcknowledge};
+use job_requests::{cancelled, command_row};
+use request_model::JobError;
+use message_model::{ErrorPart, JobAcknowledge, JobState, ObjectAcknowledge};
 use process_job::{ProcessJob, ProcessJobs};
 use std::alloc::{AllocError, Global};
 use tool_events::JobWord;

@@ -1,16 +1,16 @@
 -- What is asked of jobs, where something stands against it and where nothing does.
 use Rattle.std.proofs.Common.{◌≡◌, Bool, true, false, not, nat_lt, cond, List, [], length, Option, Some, None, refl, sym}
-use Rattle.secs_items.specs.Data.{Data}
+use Rattle.item_model.specs.Data.{Data}
 use Rattle.gem_tables.specs.declared.firing.Firing.{Firing}
 use Rattle.process_job.specs.Jobs.{is_known, most_jobs}
 use Rattle.process_job.specs.Creating.{is_recipe, is_some_material, create_fault}
 use Rattle.process_job.specs.declared.job.JobSpec.{JobSpec}
 use Rattle.process_job.specs.declared.fault.JobFault.TheVariants as process
 use Rattle.tool_jobs.specs.Jobs.{Jobs}
-use Rattle.msgs_300.specs.declared.reply.ShopReply.{ShopReply}
-use Rattle.job_requests.specs.declared.error.JobError.{JobError}
-use Rattle.job_requests.specs.Errors.{or_else, of_process_fault}
-use Rattle.job_requests.specs.Requests.{process_error}
+use Rattle.message_model.specs.declared.shop_reply.ShopReply.{ShopReply}
+use Rattle.request_model.specs.declared.error.JobError.{JobError}
+use Rattle.request_model.specs.Errors.{or_else, of_process_fault}
+use Rattle.request_model.specs.Requests.{process_error}
 use Rattle.gem_model.specs.State.{State}
 use Rattle.gem_model.specs.JobMessages.{asked_of_jobs, with_jobs_now}
 use Rattle.host_replies.specs.declared.done.HostReply.TheVariants as code

@@ -1,12 +1,12 @@
 //! What the host asks of process jobs and control jobs (SEMI E40, S16F5, S16F11, S16F17, S16F19 and S16F21; SEMI E94, S14F9 and
 //! S16F27): what it is answered, and what is done. Why something isn't done is told by the jobs before the message.
 ghost use Rattle.std.specs.Prelude.{◌≡◌, None, true, false, OnOk, IfOk};
-ghost use Rattle.secs_items.specs.View.{view};
+ghost use Rattle.item_model.specs.View.{view};
 ghost use Rattle.process_job.specs.Creating.{create_fault};
 ghost use Rattle.control_job.specs.Jobs.{headed};
 ghost use Rattle.tool_jobs.specs.Creating.{with_process, with_control, control_fault, is_any_missing};
-ghost use Rattle.job_requests.specs.Acts.{act_after, act_rows};
-ghost use Rattle.job_requests.specs.Requests.{is_job_name, asked_process, process_rows, asked_control, control_rows, cancel_error};
+ghost use Rattle.request_model.specs.Acts.{act_after, act_rows};
+ghost use Rattle.request_model.specs.Requests.{is_job_name, asked_process, process_rows, asked_control, control_rows, cancel_error};
 ghost use Rattle.gem_model.specs.Remote.{is_local};
 ghost use Rattle.gem_model.specs.JobMessages.{acknowledged, jobs_of, with_jobs_now, process_done, control_done, command_done, cancel_done, control_command_done, list_done, space_done};
 ghost use Rattle.host_replies.specs.Dones.{done_view, CanBeSent};
@@ -19,13 +19,10 @@ use host_replies::{
     Done, HostReply, acknowledged, command_rows, errors_of, few_cancelled, listed_jobs,
     object_acknowledged, rows_of,
 };
-use job_requests::{
-    ControlRequest, QueueAct, cancel_error, cancel_rows, command_error, control_command,
-    control_command_error, control_error, control_id, control_names, control_request, control_row,
-    job_name, process_error, process_row, process_spec,
-};
-use msgs_300::{CarrierSlots, JobAcknowledge, NamedValue, ShopReply};
-use secs_items::Item;
+use job_requests::{cancel_error, cancel_rows, command_error, control_command, control_command_error, control_error, control_id, control_names, control_request, control_row, job_name, process_error, process_row, process_spec};
+use request_model::{ControlRequest, QueueAct};
+use message_model::{CarrierSlots, JobAcknowledge, NamedValue, ShopReply};
+use item_model::Item;
 use std::alloc::{AllocError, Global};
 use tool_events::JobWord;
 

@@ -3,8 +3,8 @@
 ghost use Rattle.std.specs.Prelude.{◌≡◌, if◌then◌else◌, [], IfOk};
 ghost use Rattle.load_port.specs.Caack.{is_done_code};
 ghost use Rattle.load_port.specs.declared.action.PortAction.TheVariants as port;
-ghost use Rattle.msgs_300.specs.Primaries.{said};
-ghost use Rattle.msgs_300.specs.declared.reply.ShopReply.TheVariants as shop;
+ghost use Rattle.message_model.specs.ShopPrimaries.{said};
+ghost use Rattle.message_model.specs.declared.shop_reply.ShopReply.TheVariants as shop;
 ghost use Rattle.shop_floor.specs.Requests.{port_rows};
 ghost use Rattle.gem_model.specs.Shop.{carrier_caack, port_caack};
 ghost use Rattle.gem_model.specs.Messages.{carrier_action_done, port_action_done, shop_done};
@@ -23,7 +23,7 @@ use host_replies::{Done, HostReply, accepted_carrier_rows, accepted_port_rows};
 use host_requests::{carrier_action, port_word};
 use job_requests::command_named;
 use load_port::{Caack, PortAction};
-use msgs_300::{ShopMsg, ShopReply};
+use message_model::{ShopMsg, ShopReply};
 use std::alloc::{AllocError, Global};
 
 /// CAACK of an action on a carrier.

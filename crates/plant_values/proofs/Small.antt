@@ -4,9 +4,9 @@ use Rattle.std.proofs.lemmas.Bool.Decides.{nat_tests}
 use Rattle.gem_ids.specs.Texts.{IsText}
 use Rattle.gem_ids.specs.Civil.{time_digits}
 use Rattle.gem_ids.specs.declared.numbers.LocId.TheVariants as loc
-use Rattle.secs_items.specs.Data.{Data, ascii, u1, u2, u4}
-use Rattle.secs_items.specs.Weight.{IsBounded}
-use Rattle.secs_items.proofs.Weights.{bounded-text}
+use Rattle.item_model.specs.Data.{Data, ascii, u1, u2, u4}
+use Rattle.item_model.specs.Weight.{IsBounded}
+use Rattle.item_model.proofs.Weights.{bounded-text}
 use Rattle.data_variables.specs.declared.val.Val.{Val}
 use Rattle.data_variables.specs.declared.val.Val.TheVariants.{Number, Truth}
 use Rattle.data_variables.specs.Bodies.{value_item}

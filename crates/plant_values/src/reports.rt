@@ -1,13 +1,13 @@
 //! The reports of events, with the values of their variables (SEMI E30, event reports).
 ghost use Rattle.std.specs.Prelude.{◌≡◌, IfOk};
-ghost use Rattle.gem_replies.specs.Sendable.{AreFew};
+ghost use Rattle.message_model.specs.GemSendable.{AreFew};
 ghost use Rattle.event_reports.specs.Reports.{report_items, one_items};
 ghost use Rattle.gem_model.specs.Values.{value_of};
 
 use crate::seen::Seen;
 use crate::shown::prints;
 use gem_ids::Text80;
-use secs_items::Items;
+use item_model::Items;
 use std::alloc::{AllocError, Global};
 
 impl<'a> Seen<'a> {

@@ -1,14 +1,14 @@
 //! What variables show (SEMI E5, S1F3 and S2F13).
 
 ghost use Rattle.std.specs.Prelude.{◌≡◌, ◌∷◌, [], IfOk, Some, option_map, unwrap_or};
-ghost use Rattle.secs_items.specs.Data.{ascii, u1, u2, u4};
-ghost use Rattle.secs_items.specs.View.{view};
+ghost use Rattle.item_model.specs.Data.{ascii, u1, u2, u4};
+ghost use Rattle.item_model.specs.View.{view};
 ghost use Rattle.gem_ids.specs.Texts.{IsText};
 ghost use Rattle.spool.specs.Spool.{load_number, unload_number};
 
 use gem_ids::Text80;
 use load_port::Port;
-use secs_items::{Bytes, Item, U8s, U16s, U32s};
+use item_model::{Bytes, Item, U8s, U16s, U32s};
 use spool::{Load, Unload};
 use std::alloc::{AllocError, Global};
 

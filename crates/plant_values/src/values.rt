@@ -1,7 +1,7 @@
 //! The values of variables (SEMI E5, S1F3 and S2F13).
 ghost use Rattle.std.specs.Prelude.{◌≡◌, ◌∷◌, ◌≤◌, [], length, IfOk, Some, option_map, is_some, unwrap_or};
-ghost use Rattle.secs_items.specs.Data.{ascii, u1, u4};
-ghost use Rattle.secs_items.specs.View.{view};
+ghost use Rattle.item_model.specs.Data.{ascii, u1, u4};
+ghost use Rattle.item_model.specs.View.{view};
 ghost use Rattle.gem_ids.specs.Texts.{IsText};
 ghost use Rattle.event_reports.specs.Limits.{most_alarms};
 ghost use Rattle.gem_ids.specs.Civil.{time_digits};
@@ -19,11 +19,11 @@ use crate::shown::{
     carrier_text, count, load_number, name, prints, short_count, state_number, unload_number,
 };
 use data_variables::item_of;
-use event_reports::{NoMemory, Values};
+use event_reports::Values;
+use item_model::{Bytes, Item, NoMemory, U16s, U32s};
 use gem_ids::{LocId, Text80, time16};
 use gem_rows::{StatusVariable, status_variable};
 use load_port::Port;
-use secs_items::{Bytes, Item, U16s, U32s};
 use std::alloc::{AllocError, Global};
 
 /// What the variables of a plant show on an occasion: in a firing, whose object and row they tell, or outside one. The row

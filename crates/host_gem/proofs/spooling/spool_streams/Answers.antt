@@ -1,6 +1,6 @@
 use Rattle.std.proofs.Common.{List, map, sym, subst}
-use Rattle.body_parts.specs.Functions.{AreFewFunctions}
-use Rattle.gem_replies.specs.declared.reply.StreamRefusal.{StreamRefusal}
+use Rattle.message_model.specs.Functions.{AreFewFunctions}
+use Rattle.message_model.specs.declared.gem_reply.StreamRefusal.{StreamRefusal}
 use Rattle.msgs_gem.proofs.Spooling.{few_refused}
 use Rattle.gem_model.specs.Spooling.{refusal}
 use Rattle.host_requests.proofs.Refused.{refuses_fewer}

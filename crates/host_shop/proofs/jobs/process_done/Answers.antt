@@ -1,9 +1,9 @@
 use Rattle.std.proofs.Common.{◌≡◌, Vec, Global, sym, ap, ◌∙◌}
 use Rattle.gem_tables.specs.declared.firing.Firing.{Firing}
-use Rattle.secs_items.specs.View.{view}
-use Rattle.msgs_300.specs.declared.reply.JobAcknowledge.{JobAcknowledge}
-use Rattle.msgs_300.specs.declared.reply.ShopReply.TheVariants as reply
-use Rattle.job_requests.specs.Requests.{asked_process, process_error}
+use Rattle.item_model.specs.View.{view}
+use Rattle.message_model.specs.declared.shop_reply.JobAcknowledge.{JobAcknowledge}
+use Rattle.message_model.specs.declared.shop_reply.ShopReply.TheVariants as reply
+use Rattle.request_model.specs.Requests.{asked_process, process_error}
 use Rattle.gem_model.specs.JobMessages.{jobs_of, acknowledged}
 use Rattle.host_replies.specs.declared.done.HostReply.TheVariants as code
 use Rattle.host_replies.specs.declared.done.Done.{Done}

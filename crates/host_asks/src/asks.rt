@@ -10,9 +10,9 @@ ghost use Rattle.gem_model.specs.Messages.{or_all, status_name, alarm_part, alid
 
 use data_variables::ids as constant_ids;
 use event_reports::{Values, values_of};
-use item_model::{Item, Items, NoMemory};
 use gem_ids::{Listed, Text80};
 use gem_rows::{status_vids, vid_name};
+use item_model::{Item, Items, NoMemory};
 use message_model::{AlarmPart, VariableName};
 use plant_parts::{alcd, text_of_alarm};
 use plant_values::Seen;

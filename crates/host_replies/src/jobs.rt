@@ -8,9 +8,9 @@ ghost use Rattle.gem_model.specs.JobMessages.{errors_of, acknowledged, object_ac
 use gem_ids::{Listed, Text80};
 use gem_tables::Firing;
 use job_requests::{cancelled, command_row};
-use request_model::JobError;
 use message_model::{ErrorPart, JobAcknowledge, JobState, ObjectAcknowledge};
 use process_job::{ProcessJob, ProcessJobs};
+use request_model::JobError;
 use std::alloc::{AllocError, Global};
 use tool_events::JobWord;
 use tool_jobs::Jobs;

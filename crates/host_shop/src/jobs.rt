@@ -19,10 +19,14 @@ use host_replies::{
     Done, HostReply, acknowledged, command_rows, errors_of, few_cancelled, listed_jobs,
     object_acknowledged, rows_of,
 };
-use job_requests::{cancel_error, cancel_rows, command_error, control_command, control_command_error, control_error, control_id, control_names, control_request, control_row, job_name, process_error, process_row, process_spec};
-use request_model::{ControlRequest, QueueAct};
-use message_model::{CarrierSlots, JobAcknowledge, NamedValue, ShopReply};
 use item_model::Item;
+use job_requests::{
+    cancel_error, cancel_rows, command_error, control_command, control_command_error,
+    control_error, control_id, control_names, control_request, control_row, job_name,
+    process_error, process_row, process_spec,
+};
+use message_model::{CarrierSlots, JobAcknowledge, NamedValue, ShopReply};
+use request_model::{ControlRequest, QueueAct};
 use std::alloc::{AllocError, Global};
 use tool_events::JobWord;
 

@@ -6,7 +6,10 @@ ghost use Rattle.request_model.specs.Requests.{is_job_name};
 use crate::items::{last_list, push_attributes, push_carriers};
 use crate::told::{add_error, add_row, add_text, read};
 use gem_ids::{JobId, Text80};
-use job_requests::{control_error, control_names, control_request, control_row, job_name, process_error, process_row, process_spec};
+use job_requests::{
+    control_error, control_names, control_request, control_row, job_name, process_error,
+    process_row, process_spec,
+};
 use message_model::CarrierSlots;
 use process_job::JobSpec;
 use request_model::ControlRequest;

@@ -7,8 +7,8 @@ ghost use Rattle.gem_ids.specs.Texts.{IsText};
 ghost use Rattle.spool.specs.Spool.{load_number, unload_number};
 
 use gem_ids::Text80;
-use load_port::Port;
 use item_model::{Bytes, Item, U8s, U16s, U32s};
+use load_port::Port;
 use spool::{Load, Unload};
 use std::alloc::{AllocError, Global};
 

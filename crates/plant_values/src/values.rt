@@ -20,9 +20,9 @@ use crate::shown::{
 };
 use data_variables::item_of;
 use event_reports::Values;
-use item_model::{Bytes, Item, NoMemory, U16s, U32s};
 use gem_ids::{LocId, Text80, time16};
 use gem_rows::{StatusVariable, status_variable};
+use item_model::{Bytes, Item, NoMemory, U16s, U32s};
 use load_port::Port;
 use std::alloc::{AllocError, Global};
 

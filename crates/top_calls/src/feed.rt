@@ -92,21 +92,21 @@ pub fn feed<C: Source, S: Source, K: Sink>(
     // Where the words are `feed CONFIG`, it ran under the configuration that was read; where none was read, nothing happened.
     ensures fed { (name : List ℕ) → Spells words.now (command.Feed name)
         → FeedRan result.cause (looked C.left C.faults C.ends config.old) (looked C.left C.faults C.ends config.new)
-            (looked S.left S.faults S.ends input.old) (looked S.left S.faults S.ends input.new)
-            (seen K.held K.faults K.refusals out.old) (seen K.held K.faults K.refusals out.new) result.history result.sessions }
+        (looked S.left S.faults S.ends input.old) (looked S.left S.faults S.ends input.new)
+        (seen K.held K.faults K.refusals out.old) (seen K.held K.faults K.refusals out.new) result.history result.sessions }
     // Where they are `batch SEED CARRIERS CONFIG`, the batch ran under the configuration that was read; where none was read, nothing
     // happened.
     ensures batched { (seed carriers : ℕ) (name : List ℕ) → Spells words.now (command.Batch seed carriers name)
         → BatchRan seed carriers result.cause (looked C.left C.faults C.ends config.old) (looked C.left C.faults C.ends config.new)
-            (seen K.held K.faults K.refusals out.old) (seen K.held K.faults K.refusals out.new) result.history result.sessions }
+        (seen K.held K.faults K.refusals out.old) (seen K.held K.faults K.refusals out.new) result.history result.sessions }
     // A batch reads no input.
     ensures batch_reads_none { (seed carriers : ℕ) (name : List ℕ) → Spells words.now (command.Batch seed carriers name)
         → looked S.left S.faults S.ends input.new ≡ looked S.left S.faults S.ends input.old }
     // Where they are refused, nothing happened.
     ensures refused { (place : ℕ) → refused_at words.now ≡ Some place
         → Untouched (looked C.left C.faults C.ends config.old) (looked C.left C.faults C.ends config.new)
-            (looked S.left S.faults S.ends input.old) (looked S.left S.faults S.ends input.new)
-            (seen K.held K.faults K.refusals out.old) (seen K.held K.faults K.refusals out.new) result.history result.sessions }
+        (looked S.left S.faults S.ends input.old) (looked S.left S.faults S.ends input.new)
+        (seen K.held K.faults K.refusals out.old) (seen K.held K.faults K.refusals out.new) result.history result.sessions }
 
     // When each cause comes.
     ensures status { result.status ≡ status_of result.cause }

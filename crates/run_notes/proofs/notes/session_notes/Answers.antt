@@ -2,11 +2,7 @@ use Rattle.std.proofs.Common.{◌≡◌, ◌+◌, suc, List, [], ◌∷◌, leng
 use Rattle.line_feeding.specs.declared.ended.SessionNote.{SessionNote}
 use Rattle.line_feeding.specs.Notes.{note_of}
 use Rattle.line_feeding.proofs.Noting.{all_known}
-<<<<<<<< HEAD:crates/feeding/proofs/notes/session_notes/Answers.antt
-use Rattle.feeding.proofs.notes.session_notes.Goals as goal
-========
 use Rattle.run_notes.proofs.notes.session_notes.Goals as goal
->>>>>>>> 403335410d658017553454ca5082c17b930cd0bb:crates/run_notes/proofs/notes/session_notes/Answers.antt
 
 pub loop-session-preserved : goal.loop-session-preserved
 loop-session-preserved c =

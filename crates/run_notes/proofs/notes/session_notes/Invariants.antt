@@ -1,11 +1,7 @@
 use Rattle.std.proofs.Common.{◌≡◌, ℕ, suc, ◌<◌, length, Some, slice_get}
 use Rattle.line_feeding.specs.Reads.{AreCounts}
 use Rattle.line_feeding.specs.Notes.{note_of}
-<<<<<<<< HEAD:crates/feeding/proofs/notes/session_notes/Invariants.antt
-use Rattle.feeding.proofs.notes.session_notes.Given as goal
-========
 use Rattle.run_notes.proofs.notes.session_notes.Given as goal
->>>>>>>> 403335410d658017553454ca5082c17b930cd0bb:crates/run_notes/proofs/notes/session_notes/Invariants.antt
 
 -- the sessions before this one have their notes
 abbrev pub invariant-loop-session : goal.invariant-loop-session

@@ -1,5 +1,5 @@
 use Rattle.std.proofs.Common.{◌≡◌, ◌∙◌, ◌∷◌, [], List, ℕ, ap, take, subst, ◌≤◌}
-use Rattle.host_replies.proofs.Ports.{all_numbers}
+use Rattle.host_replies.proofs.PortNumbers.{all_numbers}
 use Rattle.host_replies.proofs.ports.port_numbers.Goals as goal
 
 pub returns : goal.returns

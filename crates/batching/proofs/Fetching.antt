@@ -1,12 +1,14 @@
 -- The modules that are left to fetch, and those that have a command that was fetched.
-use Rattle.std.proofs.Common.{◌≡◌, ℕ, zero, suc, ◌+◌, ◌<◌, ◌≤◌, true, if◌then◌else◌, List, [], ◌∷◌, ◌++◌, drop, length, Option, Some, None, slice_get, Result, Ok, Err, refl, sym, ◌∙◌, ap, subst, add-one, append_assoc, arith}
+use Rattle.std.proofs.Common.{◌≡◌, ◌≢◌, ℕ, zero, suc, ◌+◌, ◌<◌, ◌≤◌, Bool, true, is_some, if◌then◌else◌, List, [], ◌∷◌, ◌++◌, drop, length, Option, Some, None, slice_get, Result, Ok, Err, refl, sym, ◌∙◌, ap, subst, add-one, append_assoc, arith}
 use Rattle.std.proofs.lemmas.List.{append-nil}
-use Rattle.gem_ids.specs.declared.numbers.CmdNo.{CmdNo}
+use Rattle.gem_ids.specs.declared.numbers.ModuleId.{ModuleId}
+use Rattle.tool_events.specs.declared.event.Event.TheVariants.{Fetch}
 use Rattle.robot_moves.specs.declared.module.Module.{Module}
 use Rattle.robot_moves.specs.Modules.{fetched_number}
 use Rattle.floor_model.specs.Floor.{module_numbers}
 use Rattle.gem_model.specs.State.{State}
-use Rattle.gem_model.specs.Feed.{nothing, fetched_one, fetched_by}
+use Rattle.gem_model.specs.Step.{Outcome, step}
+use Rattle.gem_model.specs.Feed.{nothing, entered, fetched_one, fetched_by}
 use Rattle.core_view.specs.CoreView.{CoreView}
 use Rattle.batch_model.specs.declared.fetched.Fetched.{Fetched}
 use Rattle.batch_model.specs.Modules.{fetched_as, fetched_from}
@@ -14,7 +16,7 @@ use Rattle.batch_model.specs.Batch.{Standing, Made, nothing_made}
 use Rattle.batching.specs.declared.batch.Batch.{Batch}
 use Rattle.batching.specs.declared.batch.Stop.{Stop}
 use Rattle.batching.specs.Making.{standing, Makes}
-use Rattle.batching.specs.Parts.{given_by, fetched}
+use Rattle.batching.specs.Parts.{given_by, posted, fetched}
 use Rattle.batching.proofs.Making.{Makes-nothing, Makes-then, Makes-stops}
 
 next_suc : (first : ℕ) (ms : List Module) (i : ℕ) → i < length ms → drop i (module_numbers first ms) ≡ (i + first) ∷ drop (suc i) (module_numbers first ms)
@@ -34,6 +36,24 @@ numbers_end first [] zero past = refl
 numbers_end first [] (suc i) past = refl
 numbers_end first (m ∷ ms) zero past = absurd (omega (arith, past))
 numbers_end first (m ∷ ms) (suc i) past = numbers_end (first + 1) ms i (omega (arith, past))
+
+-- a module that has no command to fetch
+pub Makes-idle : (a : Batch) (m : ModuleId) → step a.core.state 0 (Fetch m) ≡ None → Makes {A = Unit {0}} a.core a (given_by (fetched_one m.0 a.core.state) (standing a)) (Ok tt)
+Makes-idle a m none =
+    let g : State = a.core.state in
+    let nothing_is : given_by (fetched_one m.0 g) (standing a) ≡ nothing_made (standing a) = ap (λ (o : Option Outcome). given_by (if is_some o then entered g 0 (Fetch m) else nothing g) (standing a)) none in
+    subst (λ (made : Made). Makes {A = Unit {0}} a.core a made (Ok tt)) (sym nothing_is) (Makes-nothing a tt)
+
+some_is : (o : Option Outcome) → o ≢ None → is_some o ≡ true
+some_is None some = absurd (some refl)
+some_is (Some o) some = refl
+
+-- one that has
+pub Makes-fetched : (a b : Batch) (m : ModuleId) (result : Result (Unit {0}) Stop) → step a.core.state 0 (Fetch m) ≢ None → Makes a.core b (posted (Fetch m) (standing a)) result → Makes a.core b (given_by (fetched_one m.0 a.core.state) (standing a)) result
+Makes-fetched a b m result some h =
+    let g : State = a.core.state in
+    let is : given_by (fetched_one m.0 g) (standing a) ≡ posted (Fetch m) (standing a) = ap (λ (b : Bool). given_by (if b then entered g 0 (Fetch m) else nothing g) (standing a)) (some_is (step g 0 (Fetch m)) some) in
+    subst (λ (made : Made). Makes a.core b made result) (sym is) h
 
 -- what the modules of these numbers make
 abbrev pub fetching : List ℕ → Standing → Made
@@ -63,24 +83,16 @@ Makes-quit a quits =
 
 -- ---- the modules that have a command that was fetched
 
-busy_suc : (first : ℕ) (ms : List Module) (i : ℕ) → i < length ms → fetched_from (i + first) (drop i ms) ≡ fetched_as (i + first) (fetched_number (slice_get ms i)) ++ fetched_from (suc i + first) (drop (suc i) ms)
-busy_suc first [] i within = absurd (omega (arith, within))
-busy_suc first (m ∷ ms) zero within =
-    let same : 0 + first ≡ first = omega arith in
-    let next : 0 + first + 1 ≡ suc 0 + first = omega arith in
-    ap (λ (n : ℕ). fetched_as (0 + first) (fetched_number (Some m)) ++ fetched_from n ms) next
-busy_suc first (m ∷ ms) (suc i) within =
-    let here : suc i + first ≡ i + (first + 1) = omega arith in
-    let next : suc (suc i) + first ≡ suc i + (first + 1) = omega arith in
-    rw (here, next) (busy_suc (first + 1) ms i (omega (arith, within)))
+busy_suc : (n : ℕ) (ms : List Module) (i : ℕ) → i < length ms → fetched_from n (drop i ms) ≡ fetched_as n (fetched_number (slice_get ms i)) ++ fetched_from (n + 1) (drop (suc i) ms)
+busy_suc n [] i within = absurd (omega (arith, within))
+busy_suc n (m ∷ ms) zero within = refl
+busy_suc n (m ∷ ms) (suc i) within = busy_suc n ms i (omega (arith, within))
 
 -- the modules from a place on are the one there and those behind it
 pub busy-next : (ms : List Module) (i : ℕ) → i < length ms → fetched_from (i + 1) (drop i ms) ≡ fetched_as (i + 1) (fetched_number (slice_get ms i)) ++ fetched_from (i + 1 + 1) (drop (i + 1) ms)
 busy-next ms i within =
-    let next : suc i + 1 ≡ i + 1 + 1 = omega arith in
     let behind : suc i ≡ i + 1 = omega arith in
-    busy_suc 1 ms i within
-    ∙ ap (λ (n : ℕ). fetched_as (i + 1) (fetched_number (slice_get ms i)) ++ fetched_from n (drop (suc i) ms)) next
+    busy_suc (i + 1) ms i within
     ∙ ap (λ (n : ℕ). fetched_as (i + 1) (fetched_number (slice_get ms i)) ++ fetched_from (i + 1 + 1) (drop n ms)) behind
 
 -- behind the last there is none

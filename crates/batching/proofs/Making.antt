@@ -49,19 +49,25 @@ Makes-then a b c first more x result h i =
     let next : Makes b.core c (more first.standing) result = subst (λ (s : Standing). Makes b.core c (more s) result) h.on.1 i in
     record { config = next.config ∙ h.config; on = on_then a b c first (more first.standing) result h.config h.on.0 next.on }
 
-on_stops : {A B : Type 0} (a : CoreView) (b : Batch) (first more : Made) (why : Stop) → MadeOn {A = A} a b first (Err why) → MadeOn {A = B} a b (record more { entries = first.entries ++ more.entries }) (Err why)
-on_stops a b first more stop.Full h = record {
-  next = h.next;
-  behind = h.behind ++ more.entries;
-  joined = sym (append_assoc a.history first.entries more.entries) ∙ ap (λ (es : List Entry). es ++ more.entries) h.joined ∙ append_assoc b.core.history (h.next ∷ h.behind) more.entries;
-  full = h.full;
-}
-on_stops a b first more stop.NoMemory h =
-    rw (← append_assoc a.history first.entries more.entries) (IsFront-wider b.core.history (a.history ++ first.entries) more.entries h)
-
 -- one part stops, and the other isn't begun
 pub Makes-stops : {A B : Type 0} (a : CoreView) (b : Batch) (first : Made) (more : Standing → Made) (why : Stop) → Makes {A = A} a b first (Err why) → Makes {A = B} a b (then_made first more) (Err why)
-Makes-stops a b first more why h = record { config = h.config; on = on_stops a b first (more first.standing) why h.on }
+Makes-stops a b first more stop.Full h =
+    let rest : List Entry = (more first.standing).entries in
+    record {
+      config = h.config;
+      on = record {
+        next = h.on.next;
+        behind = h.on.behind ++ rest;
+        joined = sym (append_assoc a.history first.entries rest) ∙ ap (λ (es : List Entry). es ++ rest) h.on.joined ∙ append_assoc b.core.history (h.on.next ∷ h.on.behind) rest;
+        full = h.on.full;
+      };
+    }
+Makes-stops a b first more stop.NoMemory h =
+    let rest : List Entry = (more first.standing).entries in
+    record {
+      config = h.config;
+      on = rw (← append_assoc a.history first.entries rest) (IsFront-wider b.core.history (a.history ++ first.entries) rest h.on);
+    }
 
 -- What stopped, stopped wherever it would have led to.
 pub Makes-stopped : {A B : Type 0} (a : CoreView) (b : Batch) (made other : Made) (why : Stop) → made.entries ≡ other.entries → Makes {A = A} a b made (Err why) → Makes {A = B} a b other (Err why)

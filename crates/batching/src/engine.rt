@@ -17,8 +17,8 @@ use tool_events::{Answer, Event, PostFault};
 /// The moment of each input: a batch looks at no clock.
 const AT_ONCE: Moment = Moment(0);
 
-/// Posts an event.
-fn post(alloc: Global, batch: &mut Batch, event: Event) -> Result<Answer, Stop>
+/// Posts an event, and hands out its answer.
+fn apply(alloc: Global, batch: &mut Batch, event: Event) -> Result<Answer, Stop>
     requires whole { batch.old.core.is_whole ≡ true }
     ensures made { Makes batch.old.core batch.new (posted event (standing batch.old)) result }
     ensures answer { IfOk result (λ answer. (o : Outcome) × (step batch.old.core.state 0 event ≡ Some o) × (o.answer ≡ answer)) }
@@ -29,6 +29,18 @@ fn post(alloc: Global, batch: &mut Batch, event: Event) -> Result<Answer, Stop>
         Err(PostFault::Full(_)) => Err(Stop::Full),
         // `Again` can't come: a frame is taken and a command fetched only where there is one, and no other input of a batch waits.
         Err(PostFault::Again | PostFault::NoMemory) => Err(Stop::NoMemory),
+    }
+}
+
+/// Posts an event, whatever it is answered.
+fn post(alloc: Global, batch: &mut Batch, event: Event) -> Result<(), Stop>
+    requires whole { batch.old.core.is_whole ≡ true }
+    ensures made { Makes batch.old.core batch.new (posted event (standing batch.old)) result }
+    ensures whole { OnOk result (batch.new.core.is_whole ≡ true) }
+{
+    match apply(alloc, batch, event) {
+        Ok(_) => Ok(()),
+        Err(stop) => Err(stop),
     }
 }
 
@@ -56,7 +68,7 @@ fn take_one(alloc: Global, batch: &mut Batch, session: u64) -> Result<(), Stop>
     ensures made { Makes batch.old.core batch.new (taken_one session (standing batch.old)) result }
     ensures whole { OnOk result (batch.new.core.is_whole ≡ true) }
 {
-    let answer = match post(alloc, batch, Event::Take { session }) {
+    let answer = match apply(alloc, batch, Event::Take { session }) {
         Ok(answer) => answer,
         Err(stop) => return Err(stop),
     };
@@ -103,10 +115,7 @@ fn fetch_one(alloc: Global, batch: &mut Batch, m: ModuleId) -> Result<(), Stop>
     if batch.core.idle(AT_ONCE, &Event::Fetch(m)) {
         return Ok(());
     }
-    match post(alloc, batch, Event::Fetch(m)) {
-        Ok(_) => Ok(()),
-        Err(stop) => Err(stop),
-    }
+    post(alloc, batch, Event::Fetch(m))
 }
 
 /// Each module fetches, in the order of their numbers.
@@ -145,7 +154,7 @@ fn post_and_take(alloc: Global, batch: &mut Batch, event: Event) -> Result<(), S
     ensures whole { OnOk result (batch.new.core.is_whole ≡ true) }
 {
     match post(alloc, batch, event) {
-        Ok(_) => take_waiting(alloc, batch),
+        Ok(()) => take_waiting(alloc, batch),
         Err(stop) => Err(stop),
     }
 }

@@ -1,22 +1,14 @@
-use Rattle.std.proofs.Common.{◌≡◌, ◌∙◌, ap, sym, Err}
-use Rattle.tool_events.specs.declared.answer.PostFault.{PostFault}
-use Rattle.tool_events.specs.Posts as posts
-use Rattle.core_view.specs.CoreView.{CoreView}
-use Rattle.batching.proofs.Making.{Makes-posted, Makes-full, Makes-no_memory}
+use Rattle.std.proofs.Common.{refl}
+use Rattle.batching.specs.Making.{standing}
+use Rattle.batching.specs.Parts.{posted}
+use Rattle.batching.proofs.Making.{Makes-done, Makes-stopped}
 use Rattle.batching.proofs.engine.post.Goals as goal
+use Rattle.batching.proofs.engine.post.Goals.{in-Ok, in-Err}
 
-pub returns-in-Ok-clause-made : goal.returns-in-Ok-clause-made
-returns-in-Ok-clause-made c =
-    let step = c.in-Ok.ensures.step in
-    Makes-posted c.args.batch.now c.apply.new.self c.args.event step.0 c.in-Ok.answer c.apply.ensures.config step.1 c.in-Ok.ensures.entry step.3
-
--- the limits stand
-pub returns-in-Err-Full-clause-made : goal.returns-in-Err-Full-clause-made
-returns-in-Err-Full-clause-made c =
-    Makes-full c.args.batch.now c.apply.new.self c.args.event c.apply.ensures.config (ap (λ (core : CoreView). core.history) c.in-Err-Full.ensures.unchanged)
-    (sym c.in-Err-Full.ensures.full ∙ ap (λ (fault : PostFault). posts.is_full (Err fault)) c.in-Err-Full.field-0-is)
-
--- an input of a batch doesn't have to wait; want of memory changes neither history nor state
-pub returns-in-Err-Again-clause-made : goal.returns-in-Err-Again-clause-made
-returns-in-Err-Again-clause-made c =
-    Makes-no_memory c.args.batch.now c.apply.new.self c.args.event c.apply.ensures.config (ap (λ (core : CoreView). core.history) c.in-Err-Again.ensures.unchanged)
+pub returns-clause-made : goal.returns-clause-made
+returns-clause-made c =
+    let made = posted c.args.event (standing c.args.batch.now) in
+    elim c.match-apply.branch [
+      | in-Ok w ↦ rw w.result-is (Makes-done c.args.batch.now.core c.apply.new.batch made _ tt w.in-Ok.ensures.made)
+      | in-Err w ↦ rw w.result-is (Makes-stopped c.args.batch.now.core c.apply.new.batch made made w.in-Err.stop refl w.in-Err.ensures.made)
+    ]

@@ -6,34 +6,34 @@ pub dones-preserved : goal.dones-preserved
 dones-preserved c =
     let next : c.dones.left ≡ suc (c.dones.left - 1) = omega (arith, c.dones-test.true) in
     record {
-      whole = c.in-Ok.ensures.whole;
+      whole = c.in-Ok-do_one.ensures.whole;
       joined = λ b result rest. c.dones.invariant.joined b result
-          (Makes-work c.args.config.now c.dones.batch c.answer_all.new.batch c.do_one.new.batch b c.dones.left (c.dones.left - 1) c.in-Ok-Some.next result next c.in-Ok-answer_all.ensures.made c.in-Ok-Some.ensures c.in-Ok.ensures.made rest);
+          (Makes-work c.args.config.now c.dones.batch c.answer_all.new.batch c.do_one.new.batch b c.dones.left (c.dones.left - 1) c.in-Ok-Some.next result next c.in-Ok.ensures.made c.in-Ok-Some.ensures c.in-Ok-do_one.ensures.made rest);
     }
 
-pub returns-in-Err-clause-made : goal.returns-in-Err-clause-made
-returns-in-Err-clause-made c =
+pub returns-in-Err-do_one-clause-made : goal.returns-in-Err-do_one-clause-made
+returns-in-Err-do_one-clause-made c =
     let next : c.dones.left ≡ suc (c.dones.left - 1) = omega (arith, c.dones-test.true) in
     c.dones.invariant.joined _ _
-    (Makes-work-stops c.args.config.now c.dones.batch c.answer_all.new.batch c.do_one.new.batch c.dones.left (c.dones.left - 1) c.in-Ok-Some.next c.in-Err.stop next c.in-Ok-answer_all.ensures.made c.in-Ok-Some.ensures c.in-Err.ensures.made)
+    (Makes-work-stops c.args.config.now c.dones.batch c.answer_all.new.batch c.do_one.new.batch c.dones.left (c.dones.left - 1) c.in-Ok-Some.next c.in-Err-do_one.stop next c.in-Ok.ensures.made c.in-Ok-Some.ensures c.in-Err-do_one.ensures.made)
 
 pub returns-in-Ok-None-clause-made : goal.returns-in-Ok-None-clause-made
 returns-in-Ok-None-clause-made c =
     let next : c.dones.left ≡ suc (c.dones.left - 1) = omega (arith, c.dones-test.true) in
     c.dones.invariant.joined _ _
-    (Makes-work-none c.args.config.now c.dones.batch c.answer_all.new.batch c.dones.left (c.dones.left - 1) next c.in-Ok-answer_all.ensures.made c.in-Ok-None.ensures)
+    (Makes-work-none c.args.config.now c.dones.batch c.answer_all.new.batch c.dones.left (c.dones.left - 1) next c.in-Ok.ensures.made c.in-Ok-None.ensures)
 
 pub returns-in-Err-next_done-clause-made : goal.returns-in-Err-next_done-clause-made
 returns-in-Err-next_done-clause-made c =
     let next : c.dones.left ≡ suc (c.dones.left - 1) = omega (arith, c.dones-test.true) in
     c.dones.invariant.joined _ _
-    (Makes-work-memory c.args.config.now c.dones.batch c.answer_all.new.batch c.dones.left (c.dones.left - 1) next c.in-Ok-answer_all.ensures.made)
+    (Makes-work-memory c.args.config.now c.dones.batch c.answer_all.new.batch c.dones.left (c.dones.left - 1) next c.in-Ok.ensures.made)
 
-pub returns-in-Err-answer_all-clause-made : goal.returns-in-Err-answer_all-clause-made
-returns-in-Err-answer_all-clause-made c =
+pub returns-in-Err-clause-made : goal.returns-in-Err-clause-made
+returns-in-Err-clause-made c =
     let next : c.dones.left ≡ suc (c.dones.left - 1) = omega (arith, c.dones-test.true) in
     c.dones.invariant.joined _ _
-    (Makes-work-unanswered c.args.config.now c.dones.batch c.answer_all.new.batch c.dones.left (c.dones.left - 1) c.in-Err-answer_all.stop next c.in-Err-answer_all.ensures.made)
+    (Makes-work-unanswered c.args.config.now c.dones.batch c.answer_all.new.batch c.dones.left (c.dones.left - 1) c.in-Err.stop next c.in-Err.ensures.made)
 
 pub returns-clause-made : goal.returns-clause-made
 returns-clause-made c =

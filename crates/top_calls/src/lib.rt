@@ -7,9 +7,9 @@
 //! each session.
 #![tactic(auto)]
 
-mod feed;
+mod commands;
 
 pub use batching::batch_config;
-pub use feed::feed;
+pub use commands::feed;
 pub use feeding::feed_config;
 pub use line_feeding::{Cause, Ended, Notes, Panels, SessionNote};

@@ -1,22 +1,19 @@
-//! Worked messages, choices and summaries, computed from the definitions. Each function is a statement about them, and has no code.
+//! Worked messages and choices, computed from the definitions. Each function is a statement about them, and has no code.
 
-ghost use Rattle.std.specs.Prelude.{◌≡◌, ◌∷◌, [], ◌++◌, codes, true, false, Some, None};
-ghost use Rattle.hex.specs.Hex.{encode_upper};
+ghost use Rattle.std.specs.Prelude.{◌≡◌, ◌∷◌, [], codes, true, false, Some, None};
 ghost use Rattle.gem_ids.specs.declared.numbers.CmdNo.{CmdNo};
-ghost use Rattle.hsms_frame.specs.Spelling.{frame_bytes};
 ghost use Rattle.robot_moves.specs.declared.module.Module.TheVariants.{Idle, Busy};
 ghost use Rattle.tool_events.specs.declared.answer.Task.TheVariants as task;
 ghost use Rattle.batch_model.specs.declared.primary.Primary.TheVariants as primary;
-ghost use Rattle.batch_model.specs.Host.{select_request, enable_request, primary_in, answer_to};
+ghost use Rattle.batch_model.specs.Host.{enable_request, primary_in, answer_to};
 ghost use Rattle.batch_model.specs.Modules.{fetched_from, chosen};
-ghost use Rattle.batch_model.specs.Summary.{summary_of};
 
-/// The messages of the host of a tool whose device is 0: the select request, S2F37, and the answers to S1F13 and S6F11.
-pub fn the_host_sends_these_bytes()
-    ensures select { encode_upper (frame_bytes select_request) ≡ codes "0000000AFFFF0000000100000001" }
-    ensures enable { encode_upper (frame_bytes (enable_request 0)) ≡ codes "000000110000822500000000000201022501010100" }
-    ensures establish { encode_upper (frame_bytes (answer_to 0 (primary.EstablishRequest 1))) ≡ codes "000000110000010E00000000000101022101000100" }
-    ensures event { encode_upper (frame_bytes (answer_to 0 (primary.EventReport 7))) ≡ codes "0000000D0000060C000000000007210100" }
+/// The messages of the host of a tool whose device is 0: S2F37 L[BOOL true, L[]], and the answers to S1F13, S1F14 L[B 0, L[]], and to
+/// S6F11, S6F12 B 0.
+pub fn the_host_sends_these_messages()
+    ensures enable { enable_request 0 ≡ record { header = record { session = 0; byte2 = 130; byte3 = 37; ptype = 0; stype = 0; system = 2 }; text = 1 ∷ 2 ∷ 37 ∷ 1 ∷ 1 ∷ 1 ∷ 0 ∷ [] } }
+    ensures establish { answer_to 0 (primary.EstablishRequest 1) ≡ record { header = record { session = 0; byte2 = 1; byte3 = 14; ptype = 0; stype = 0; system = 1 }; text = 1 ∷ 2 ∷ 33 ∷ 1 ∷ 0 ∷ 1 ∷ 0 ∷ [] } }
+    ensures event { answer_to 0 (primary.EventReport 7) ≡ record { header = record { session = 0; byte2 = 6; byte3 = 12; ptype = 0; stype = 0; system = 7 }; text = 33 ∷ 1 ∷ 0 ∷ [] } }
 {}
 
 /// The messages of the tool that are answered are S1F13 and S6F11. An alarm, a reply, a control message and what is no frame are not.
@@ -39,10 +36,4 @@ pub fn a_drawn_number_chooses_a_module()
     ensures chosen { chosen 1442695040888963407 (record { number = record { 0 = 1 }; command = record { 0 = 5 } } ∷ record { number = record { 0 = 4 }; command = record { 0 = 7 } } ∷ [])
         ≡ Some (record { number = record { 0 = 4 }; command = record { 0 = 7 } }) }
     ensures none { chosen 1442695040888963407 [] ≡ None }
-{}
-
-/// The four lines of a batch of forty carriers.
-pub fn a_summary_has_four_lines()
-    ensures { summary_of 40 (record { sessions = 1; notes = 0; answered = 0; dropped = 0; done = 8000; completed = 40; substrates = 1000 })
-        ≡ codes "carriers 40" ++ 10 ∷ codes "substrates 1000" ++ 10 ∷ codes "done 8000" ++ 10 ∷ codes "completed 40" ++ 10 ∷ [] }
 {}

@@ -47,6 +47,7 @@ fn run(alloc: Global, batch: &mut Batch, config: &Config, carriers: u32) -> Resu
     requires whole { batch.old.core.is_whole ≡ true }
     ensures made { Makes batch.old.core batch.new
         (then_made (begun config.now (standing batch.old)) (λ s. then_made (carriers_made carriers config.now 1 s) (answers config.now))) result }
+    ensures whole { OnOk result (batch.new.core.is_whole ≡ true) }
 {
     match begin(alloc, batch, config) {
         Ok(()) => carry_and_answer(alloc, batch, config, carriers),

@@ -1,5 +1,6 @@
 -- The modules that have a command, and the one of them that a drawn number chooses.
-use Rattle.std.proofs.Common.{◌≡◌, ℕ, suc, ◌+◌, ◌<◌, ◌/◌, ◌%◌, ◌^◌, List, [], ◌∷◌, ◌++◌, drop, length, slice_get, Option, Some, None, refl, sym, ◌∙◌, ap, arith}
+use Rattle.std.proofs.Common.{◌≡◌, ℕ, suc, ◌+◌, ◌<◌, ◌/◌, ◌%◌, ◌^◌, ◌==◌, true, false, List, [], ◌∷◌, ◌++◌, drop, length, slice_get, Option, Some, None, refl, sym, ◌∙◌, ap, arith}
+use Rattle.std.proofs.lemmas.Bool.{true≢false}
 use Rattle.std.proofs.lemmas.List.{append-nil}
 use Rattle.gem_ids.specs.declared.numbers.CmdNo.{CmdNo}
 use Rattle.robot_moves.specs.declared.module.Module.{Module}
@@ -30,7 +31,12 @@ busy-none all ms i found within is before =
 
 -- ---- the one that is chosen
 
+-- where there are none, none is
+pub chosen-none : (x : ℕ) (ms : List Fetched) → (length ms == 0) ≡ true → None ≡ chosen x ms
+chosen-none x [] none = refl
+chosen-none x (m ∷ ms) none = absurd (true≢false (sym none))
+
 -- where there are some, it is the one at its place
-pub chosen-some : (x : ℕ) (ms : List Fetched) → 0 < length ms → chosen x ms ≡ slice_get ms ((x / 2 ^ 33) % length ms)
-chosen-some x [] some = absurd (omega (arith, some))
+pub chosen-some : (x : ℕ) (ms : List Fetched) → (length ms == 0) ≡ false → chosen x ms ≡ slice_get ms ((x / 2 ^ 33) % length ms)
+chosen-some x [] some = absurd (true≢false some)
 chosen-some x (m ∷ ms) some = refl

@@ -1,15 +1,12 @@
--- The modules that have a command, and the one of them that a drawn number chooses.
-use Rattle.std.proofs.Common.{◌≡◌, ℕ, suc, ◌+◌, ◌<◌, ◌/◌, ◌%◌, ◌^◌, ◌==◌, true, false, List, [], ◌∷◌, ◌++◌, drop, length, slice_get, Option, Some, None, refl, sym, ◌∙◌, ap, arith}
-use Rattle.std.proofs.lemmas.Bool.{true≢false}
+-- The modules that have a command that was fetched, one after another.
+use Rattle.std.proofs.Common.{◌≡◌, ℕ, suc, ◌+◌, ◌<◌, List, [], ◌∷◌, ◌++◌, drop, length, slice_get, Option, Some, None, refl, sym, ◌∙◌, ap, arith}
 use Rattle.std.proofs.lemmas.List.{append-nil}
 use Rattle.gem_ids.specs.declared.numbers.CmdNo.{CmdNo}
 use Rattle.robot_moves.specs.declared.module.Module.{Module}
 use Rattle.robot_moves.specs.Modules.{module_at, fetched_number}
 use Rattle.batch_model.specs.declared.fetched.Fetched.{Fetched}
-use Rattle.batch_model.specs.Modules.{fetched_as, fetched_from, chosen}
+use Rattle.batch_model.specs.Modules.{fetched_as, fetched_from}
 use Rattle.batching.proofs.Fetching.{busy-joined}
-
--- ---- the modules that have a command
 
 -- modules are numbered from 1
 command-at : (ms : List Module) (i : ℕ) (o : Option CmdNo) → o ≡ fetched_number (module_at (i + 1) ms) → o ≡ fetched_number (slice_get ms i)
@@ -28,15 +25,3 @@ pub busy-none : (all : List Fetched) (ms : List Module) (i : ℕ) (found : List 
 busy-none all ms i found within is before =
     busy-joined all ms i found found within before
     (sym (append-nil found) ∙ ap (λ (o : Option CmdNo). found ++ fetched_as (i + 1) o) (command-at ms i None is))
-
--- ---- the one that is chosen
-
--- where there are none, none is
-pub chosen-none : (x : ℕ) (ms : List Fetched) → (length ms == 0) ≡ true → None ≡ chosen x ms
-chosen-none x [] none = refl
-chosen-none x (m ∷ ms) none = absurd (true≢false (sym none))
-
--- where there are some, it is the one at its place
-pub chosen-some : (x : ℕ) (ms : List Fetched) → (length ms == 0) ≡ false → chosen x ms ≡ slice_get ms ((x / 2 ^ 33) % length ms)
-chosen-some x [] some = absurd (true≢false some)
-chosen-some x (m ∷ ms) some = refl

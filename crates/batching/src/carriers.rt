@@ -10,7 +10,7 @@ ghost use Rattle.batch_model.specs.Batch.{inputs_of, lot_turn, lot_turns, carrie
 ghost use Rattle.batching.specs.Making.{standing, Makes};
 
 use crate::batch::{Batch, Stop};
-use crate::turns::{SESSION, turn, work};
+use crate::turns::{SESSION, only, turn, work};
 use hsms_frame::{Arrival, Cutter};
 use line_feeding::cut_bytes;
 use sim_modules::lot_line;
@@ -44,15 +44,6 @@ fn told_by(alloc: Global, bytes: &[u8]) -> Result<Vec<Event>, AllocError>
             arrival,
         })?;
     }
-    Ok(events)
-}
-
-// One input.
-fn only(alloc: Global, event: Event) -> Result<Vec<Event>, AllocError>
-    ensures { IfOk result (λ events. events.items ≡ event ∷ []) }
-{
-    let mut events = Vec::new(alloc);
-    events.push(event)?;
     Ok(events)
 }
 

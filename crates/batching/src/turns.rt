@@ -1,5 +1,5 @@
 //! The host answers what the tool asks, and the modules do their commands.
-ghost use Rattle.std.specs.Prelude.{◌≡◌, ◌∷◌, [], true, OnOk};
+ghost use Rattle.std.specs.Prelude.{◌≡◌, ◌∷◌, [], true, IfOk, OnOk};
 ghost use Rattle.tool_events.specs.declared.event.Event.TheVariants as event;
 ghost use Rattle.tool_events.specs.declared.event.Signal.TheVariants as signal;
 ghost use Rattle.sim_modules.specs.Drawing.{drawn};
@@ -14,7 +14,7 @@ use crate::modules::next_done;
 use batch_model::{Fetched, Primary};
 use hsms_frame::{Arrival, Frame};
 use sim_modules::draw;
-use std::alloc::Global;
+use std::alloc::{AllocError, Global};
 use tool_events::{Config, Event, Signal};
 
 /// No history takes so many answers.
@@ -70,6 +70,15 @@ pub fn answer_all(alloc: Global, batch: &mut Batch, config: &Config) -> Result<(
     Ok(())
 }
 
+/// One input.
+pub fn only(alloc: Global, event: Event) -> Result<Vec<Event>, AllocError>
+    ensures { IfOk result (λ events. events.items ≡ event ∷ []) }
+{
+    let mut events = Vec::new(alloc);
+    events.push(event)?;
+    Ok(events)
+}
+
 /// Answers what the tool asked, and then enters these inputs.
 pub fn turn(
     alloc: Global,
@@ -93,11 +102,10 @@ fn turn_one(alloc: Global, batch: &mut Batch, config: &Config, event: Event) -> 
     ensures made { Makes batch.old.core batch.new (turn config.now (event ∷ []) (standing batch.old)) result }
     ensures whole { OnOk result (batch.new.core.is_whole ≡ true) }
 {
-    let mut events = Vec::new(alloc);
-    match events.push(event) {
-        Ok(()) => turn(alloc, batch, config, events),
-        Err(_) => Err(Stop::NoMemory),
-    }
+    let Ok(events) = only(alloc, event) else {
+        return Err(Stop::NoMemory);
+    };
+    turn(alloc, batch, config, events)
 }
 
 // ---- the beginning

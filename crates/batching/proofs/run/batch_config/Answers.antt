@@ -24,3 +24,6 @@ returns-clause-batched g c =
     rw (c.with_history-2.ensures, c.close-2.ensures.history)
     (batched c.args.config.now c.args.seed c.args.carriers c.run-ran.new.batch c.run-ran.result c.finish-cause.result (g.K.Sink.held c.args.out.now) (g.K.Sink.held c.finish-cause.new.out) c.in-Ok-notes_of.sessions
     made c.finish-cause.ensures.ends c.finish-cause.ensures.summed c.close-2.ensures.recorded c.close-2.ensures.entries_fit c.close-2.ensures.bytes_fit c.in-Ok-notes_of.ensures)
+
+pub returns-clause-write_fault : goal.returns-clause-write_fault
+returns-clause-write_fault g c = rw c.with_history-2.ensures c.finish-cause.ensures.write_fault

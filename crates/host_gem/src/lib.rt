@@ -10,6 +10,7 @@
 
 mod messages;
 mod remote;
+mod replies;
 mod spooling;
 
 pub use messages::gem_done;

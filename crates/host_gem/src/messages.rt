@@ -11,13 +11,13 @@ ghost use Rattle.gem_model.specs.Messages.{onlack, tiack, is_enabling, clock_set
 ghost use Rattle.host_replies.specs.Dones.{done_view, CanBeSent};
 
 use crate::remote::command;
+use crate::replies::{
+    alarm_data, constant_data, constant_namelist, enabled_alarm_data, event_data, report_data,
+    status_data, status_namelist,
+};
 use crate::spooling::spool_streams;
 use core_state::Plant;
 use gem_states::{CommTrigger, Control, ControlTrigger};
-use host_asks::{
-    alarm_list, constant_names, constant_values, enabled_alarm_list, event_reports, one_report,
-    status_names, status_values,
-};
 use host_replies::{Done, answered, fires_row};
 use host_requests::{moment_in, tiack};
 use message_model::{GemMsg, GemReply, Identity};
@@ -97,8 +97,8 @@ pub fn gem_done(plant: &mut Plant, alloc: Global, message: &GemMsg) -> Result<Do
 {
     let reply = match message {
         GemMsg::S1F1 => on_line_data(plant, alloc)?,
-        GemMsg::S1F3(ids) => GemReply::S1F4(status_values(&plant.seen(), alloc, ids.as_slice())?),
-        GemMsg::S1F11(ids) => GemReply::S1F12(status_names(&plant.seen(), alloc, ids.as_slice())?),
+        GemMsg::S1F3(ids) => status_data(plant, alloc, ids.as_slice())?,
+        GemMsg::S1F11(ids) => status_namelist(plant, alloc, ids.as_slice())?,
         GemMsg::S1F13 => return fires_row(
             alloc,
             established(plant, alloc)?,
@@ -114,21 +114,13 @@ pub fn gem_done(plant: &mut Plant, alloc: Global, message: &GemMsg) -> Result<Do
             GemReply::S1F18(onlack(plant.control())),
             plant.by_control(ControlTrigger::HostS1F17),
         ),
-        GemMsg::S2F13(ids) => GemReply::S2F14(constant_values(
-            &plant.seen(),
-            alloc,
-            ids.as_slice(),
-        )?),
+        GemMsg::S2F13(ids) => constant_data(plant, alloc, ids.as_slice())?,
         GemMsg::S2F15(settings) => GemReply::S2F16(plant.set_constants(
             alloc,
             settings.as_slice(),
         )?),
         GemMsg::S2F17 => date_and_time(plant, alloc)?,
-        GemMsg::S2F29(ids) => GemReply::S2F30(constant_names(
-            &plant.seen(),
-            alloc,
-            ids.as_slice(),
-        )?),
+        GemMsg::S2F29(ids) => constant_namelist(plant, alloc, ids.as_slice())?,
         GemMsg::S2F31(text) => GemReply::S2F32(set_clock(plant, text.as_slice())),
         GemMsg::S2F33(_, reports) => GemReply::S2F34(plant.define_reports(
             alloc,
@@ -144,10 +136,10 @@ pub fn gem_done(plant: &mut Plant, alloc: Global, message: &GemMsg) -> Result<Do
         ),
         GemMsg::S2F43(entries) => spool_streams(plant, alloc, entries.as_slice())?,
         GemMsg::S5F3(aled, alid) => GemReply::S5F4(plant.enable_alarms(is_enabling(*aled), *alid)),
-        GemMsg::S5F5(ids) => GemReply::S5F6(alarm_list(&plant.seen(), alloc, ids.as_slice())?),
-        GemMsg::S5F7 => GemReply::S5F8(enabled_alarm_list(&plant.seen(), alloc)?),
-        GemMsg::S6F15(ceid) => GemReply::S6F16(*ceid, event_reports(&plant.seen(), alloc, *ceid)?),
-        GemMsg::S6F19(rptid) => GemReply::S6F20(one_report(&plant.seen(), alloc, *rptid)?),
+        GemMsg::S5F5(ids) => alarm_data(plant, alloc, ids.as_slice())?,
+        GemMsg::S5F7 => enabled_alarm_data(plant, alloc)?,
+        GemMsg::S6F15(ceid) => event_data(plant, alloc, *ceid)?,
+        GemMsg::S6F19(rptid) => report_data(plant, alloc, *rptid)?,
         GemMsg::S6F23(rsdc) => return fires_row(
             alloc,
             GemReply::S6F24(plant.rsda()),

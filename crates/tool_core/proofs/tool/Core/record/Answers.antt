@@ -35,7 +35,7 @@ invariant_of-self-3 c =
       ended = goes.ended;
       written = goes.written;
       bytes_are = goes.bytes_are;
-      totals_are = c.in-Some.ensures ∙ totals;
+      totals_are = c.totals_behind-self-inside.ensures ∙ totals;
       entries_fit = goes.entries_fit;
       bytes_fit = goes.bytes_fit;
     })

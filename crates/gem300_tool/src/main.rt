@@ -12,14 +12,11 @@ use outside::{FileSource, SleepGate, StdinSource, StdoutSink, SystemClock, TcpDo
 use program_words::{Question, Words, asked, command_of, help_text, version_text};
 use serving::serve;
 use std::alloc::{AllocError, Global};
-use std::io::IsTerminal;
 use std::net::{Net, TcpListener, TcpStream};
 use std::process::ExitCode;
 use std::rt::{Clock, Files};
 use std::sync::Wait;
-use std::sync::atomic::{AtomicBool, Ordering};
-use std::thread::{Threads, join, sleep};
-use std::time::Duration;
+use std::thread::Threads;
 use std::{env, io};
 use top_calls::{Cause, feed};
 
@@ -84,41 +81,6 @@ fn run_feed(rt: &HostRuntime, args: &[String], words: &[Text80]) -> Cause {
     feed(rt.alloc(), words, &mut config, &mut input, &mut out).cause
 }
 
-// So many times at most it is looked whether a batch is over, ten times a second: a day.
-const LOOKS: u32 = 864_000;
-
-/// Tells on standard error, each second, how many have passed, until this is over.
-fn tell_seconds(rt: &HostRuntime, is_over: &AtomicBool) {
-    for look in 0..LOOKS {
-        if is_over.load(Ordering::SeqCst) {
-            break;
-        }
-        if look % 10 == 0 {
-            let _ = rt.eprint(format_args!("\rbatch: {} s", look / 10));
-        }
-        sleep(rt, Duration::from_millis(100));
-    }
-    let _ = rt.eprintln("");
-}
-
-/// Calls `feed` for a batch. Where standard error is a terminal it is told there how long the batch has run.
-fn run_batch(rt: &HostRuntime, args: &[String], words: &[Text80]) -> Cause {
-    if !rt.stderr().is_terminal() {
-        return run_feed(rt, args, words);
-    }
-    let is_over = AtomicBool::new(false);
-    let (_, cause) = join(
-        rt,
-        || tell_seconds(rt, &is_over),
-        || {
-            let cause = run_feed(rt, args, words);
-            is_over.store(true, Ordering::SeqCst);
-            cause
-        },
-    );
-    cause
-}
-
 /// Calls `serve` on the file of this name, a TCP port, standard input as the script and standard output for the log, and tells why it
 /// ended.
 fn run_serve<
@@ -167,12 +129,9 @@ fn is_serve(words: &[Text80]) -> bool {
 
 /// Prints what the words ask for, or does their command; words that spell none are refused by `feed`.
 fn answer_or_run(rt: &HostRuntime, args: &[String], words: &[Text80]) -> Result<Cause, AllocError> {
-    if let Some(question) = asked(words) {
-        return answer(rt, question);
-    }
-    match command_of(words) {
-        Ok(Words::Batch(_, _, _)) => Ok(run_batch(rt, args, words)),
-        _ => Ok(run_feed(rt, args, words)),
+    match asked(words) {
+        Some(question) => answer(rt, question),
+        None => Ok(run_feed(rt, args, words)),
     }
 }
 

@@ -5,7 +5,8 @@
 //! there. It tells how often it went well.
 
 use anyhow::{Result, bail};
-use secs_items::{ItemFault, decode};
+use item_model::ItemFault;
+use secs_items::decode;
 use std::alloc::{AllocError, Global};
 
 // A binary item of 16,777,215 bytes.

@@ -2,11 +2,11 @@
 use Rattle.std.proofs.Common.{◌≡◌, ◌<◌, ◌+◌, ◌==◌, ℕ, zero, suc, List, [], ◌∷◌, ◌++◌, length, drop, get_or, Option, Some, None, option_map, arith, refl, ap, sym, ◌∙◌, add-one, append_assoc, append-nil}
 use Rattle.std.proofs.lemmas.Bool.Decides.{Decides-eqb, nat_tests}
 use Rattle.std.proofs.Math.Seq.{drop-length}
-use Rattle.secs_items.specs.Data.{item}
-use Rattle.secs_items.specs.Plain.{count_of}
-use Rattle.secs_items.specs.View.{view, items_of}
-use Rattle.secs_items.specs.declared.item.Item.{Item}
-use Rattle.body_parts.specs.Bodies.{Form, all_of, all_ids, meeting}
+use Rattle.item_model.specs.Data.{item}
+use Rattle.item_model.specs.Plain.{count_of}
+use Rattle.item_model.specs.View.{view, items_of}
+use Rattle.item_model.specs.declared.item.Item.{Item}
+use Rattle.message_model.specs.Bodies.{Form, all_of, all_ids, meeting}
 
 -- ---- a list of so many items
 

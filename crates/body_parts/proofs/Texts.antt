@@ -3,7 +3,7 @@ use Rattle.std.proofs.Common.{◌≡◌, ℕ, Bool, true, false, ◌&&◌, nat_l
 use Rattle.std.specs.List.{list_all}
 use Rattle.std.proofs.lemmas.Bool.Decides.{Decides-by_and, Decides-and}
 use Rattle.gem_ids.specs.Texts.{IsText, IsPrintable}
-use Rattle.body_parts.specs.Bodies.{is_text, meeting}
+use Rattle.message_model.specs.Bodies.{is_text, meeting}
 
 printable : (b : ℕ) → Decides (nat_le 32 b && nat_le b 126) (IsPrintable b)
 printable b = search (rules, tests)

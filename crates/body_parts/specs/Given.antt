@@ -1,7 +1,7 @@
 -- What a reader gives.
 use Rattle.std.specs.Prelude.{◌≡◌, Option, Some, None, Result, Ok, Err}
-use Rattle.body_parts.specs.declared.fault.BodyFault.{BodyFault}
-use Rattle.body_parts.specs.declared.fault.BodyFault.TheVariants as fault
+use Rattle.message_model.specs.declared.fault.BodyFault.{BodyFault}
+use Rattle.message_model.specs.declared.fault.BodyFault.TheVariants as fault
 
 -- the value of the form, seen by view, or illegal data where it has none; memory may run out
 abbrev pub Gives : {X A : Type 0} → (X → A) → Result X BodyFault → Option A → Type 0

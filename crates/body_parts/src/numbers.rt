@@ -1,15 +1,15 @@
 //! The elements of an integer item, each an id.
 
 ghost use Rattle.std.specs.Prelude.{◌≡◌, ◌≤◌, ℕ, length, IfOk, Option};
-ghost use Rattle.secs_items.specs.Ids.{signed_id, unsigned_id};
-ghost use Rattle.secs_items.specs.View.{view};
-ghost use Rattle.body_parts.specs.Bodies.{all_ids as all_ids_form, numbers as numbers_form, numbers_or_ids as numbers_or_ids_form};
+ghost use Rattle.item_model.specs.Ids.{signed_id, unsigned_id};
+ghost use Rattle.item_model.specs.View.{view};
+ghost use Rattle.message_model.specs.Bodies.{all_ids as all_ids_form, numbers as numbers_form, numbers_or_ids as numbers_or_ids_form};
 ghost use Rattle.body_parts.specs.Given.{Gives};
 
-use crate::fault::BodyFault;
 use crate::reading::{few, ids};
 use gem_ids::Ids;
-use secs_items::Item;
+use item_model::Item;
+use message_model::BodyFault;
 use std::alloc::Global;
 
 // A number that may be an id.

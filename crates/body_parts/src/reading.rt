@@ -3,14 +3,14 @@
 //! may come where a part is copied.
 
 ghost use Rattle.std.specs.Prelude.{◌≡◌, ◌≤◌, length, IfOk, Option, option_map};
-ghost use Rattle.secs_items.specs.Data.{Data};
-ghost use Rattle.secs_items.specs.View.{view, items_of};
-ghost use Rattle.body_parts.specs.Bodies.{any, are_few, byte as byte_form, characters as characters_form, each, elements as elements_form, flag as flag_form, group, id as id_form, id_or_empty as id_or_empty_form, ids as ids_form, is_empty_number as is_empty_number_form, meeting, of_count, small_id as small_id_form, text as text_form, zero_or_one as zero_or_one_form};
+ghost use Rattle.item_model.specs.Data.{Data};
+ghost use Rattle.item_model.specs.View.{view, items_of};
+ghost use Rattle.message_model.specs.Bodies.{any, are_few, byte as byte_form, characters as characters_form, each, elements as elements_form, flag as flag_form, group, id as id_form, id_or_empty as id_or_empty_form, ids as ids_form, is_empty_number as is_empty_number_form, meeting, of_count, small_id as small_id_form, text as text_form, zero_or_one as zero_or_one_form};
 ghost use Rattle.body_parts.specs.Given.{Gives};
 
-use crate::fault::BodyFault;
 use gem_ids::{Ids, Listed, Text80};
-use secs_items::{Bytes, Item};
+use item_model::{Bytes, Item};
+use message_model::BodyFault;
 use std::alloc::Global;
 
 /// The item of a text. A text that is not one item has none, and is `IllegalData`. Takes no memory.

@@ -2,12 +2,12 @@
 
 ghost use Rattle.std.specs.Prelude.{◌≡◌, IfOk};
 ghost use Rattle.gem_ids.specs.Texts.{IsText};
-ghost use Rattle.secs_items.specs.Data.{list as list_data};
-ghost use Rattle.secs_items.specs.View.{view, items_of};
-ghost use Rattle.body_parts.specs.Printed.{A, B, U1, U4, U8, code as code_data};
+ghost use Rattle.item_model.specs.Data.{list as list_data};
+ghost use Rattle.item_model.specs.View.{view, items_of};
+ghost use Rattle.message_model.specs.Printed.{A, B, U1, U4, U8, code as code_data};
 
 use gem_ids::Text80;
-use secs_items::{Bytes, Item, Items, NoMemory, U8s, U32s, U64s};
+use item_model::{Bytes, Item, Items, NoMemory, U8s, U32s, U64s};
 use std::alloc::Global;
 
 /// A list of these items, which are copied.

@@ -10,10 +10,10 @@ use Rattle.carrier.specs.declared.action.CarrierWord.TheVariants as word
 use Rattle.carrier.specs.Record.{is_id_waiting, is_map_waiting}
 use Rattle.carrier.specs.Carriers.{is_known, carrier_named}
 use Rattle.load_port.specs.Caack.{is_done_code}
-use Rattle.msgs_300.specs.Primaries.{Message, S3F17, S3F25, S3F27, S14F9, S16F5, S16F11, S16F17, S16F19, S16F21, S16F27}
+use Rattle.message_model.specs.ShopPrimaries.{Message, S3F17, S3F25, S3F27, S14F9, S16F5, S16F11, S16F17, S16F19, S16F21, S16F27}
 use Rattle.load_port.specs.declared.action.PortAction.TheVariants as ask
 use Rattle.load_port.specs.Caack.{caack_number}
-use Rattle.msgs_300.specs.declared.reply.ShopReply.TheVariants as reply
+use Rattle.message_model.specs.declared.shop_reply.ShopReply.TheVariants as reply
 use Rattle.shop_floor.specs.Floor.{Floor}
 use Rattle.shop_floor.specs.Requests.{at_port, creation_of, proceeding, cancelling, word_rows, carrier_rows}
 use Rattle.tool_events.specs.declared.answer.Task.{Task}

@@ -11,7 +11,7 @@ use Rattle.hsms_frame.specs.declared.frame.Arrival.{Arrival}
 use Rattle.hsms_link.specs.declared.table.LinkAct.{LinkAct}
 use Rattle.hsms_link.specs.declared.table.LinkAct.TheVariants as link
 use Rattle.hsms_link.specs.LinkTable.{link_act}
-use Rattle.secs_items.specs.Data.{Data}
+use Rattle.item_model.specs.Data.{Data}
 use Rattle.shop_floor.specs.Requests.{at_port, removal}
 use Rattle.tool_events.specs.declared.entry.Entry.{Entry}
 use Rattle.tool_events.specs.declared.event.Event.{Event as Posted}

@@ -78,23 +78,6 @@ fn configuration_beside(rt: &HostRuntime, names: &[String], file: &str) -> Resul
     Ok(String::new(rt.alloc()))
 }
 
-/// The sections of a file of this name and text. One whose name ends in `.lines` is what the tool itself is given, under this
-/// configuration.
-fn sections<'a>(
-    alloc: Global,
-    file: &'a str,
-    text: &'a str,
-    configuration: &'a str,
-) -> Result<Vec<Section<'a>>> {
-    if file.strip_suffix(".lines").is_none() {
-        return read(alloc, text);
-    }
-    match read_input(alloc, file, text, configuration) {
-        Ok(section) => Ok(vec![in alloc; section]?),
-        Err(why) => Err(why),
-    }
-}
-
 /// Plays these sections of a file, and tells whether all conversations went as they are written.
 fn play_sections<P: Player>(
     rt: &HostRuntime,
@@ -106,12 +89,14 @@ fn play_sections<P: Player>(
         Ok(counts) => counts,
         Err(why) => return Err(why),
     };
-    let told = match (count, failed) {
-        (0, _) => bail!("no conversation"),
-        (1, 0) => println!(rt; "{file}: 1 conversation"),
-        (1, _) => println!(rt; "{file}: 1 conversation, of which {failed} failed"),
-        (_, 0) => println!(rt; "{file}: {count} conversations"),
-        _ => println!(rt; "{file}: {count} conversations, of which {failed} failed"),
+    if count == 0 {
+        bail!("no conversation");
+    }
+    let s = if count == 1 { "" } else { "s" };
+    let told = if failed == 0 {
+        println!(rt; "{file}: {count} conversation{s}")
+    } else {
+        println!(rt; "{file}: {count} conversation{s}, of which {failed} failed")
     };
     match told {
         Ok(()) => Ok(failed == 0),
@@ -119,7 +104,8 @@ fn play_sections<P: Player>(
     }
 }
 
-/// Plays the conversations of a file of this name and text, under the configuration beside it.
+/// Plays the conversations of a file of this name and text. One whose name ends in `.lines` is what the tool itself is given,
+/// under this configuration.
 fn play_text<P: Player>(
     rt: &HostRuntime,
     player: &P,
@@ -127,7 +113,12 @@ fn play_text<P: Player>(
     text: &str,
     configuration: &str,
 ) -> Result<bool> {
-    match sections(rt.alloc(), file, text, configuration) {
+    let sections = if file.strip_suffix(".lines").is_none() {
+        read(rt.alloc(), text)
+    } else {
+        read_input(rt.alloc(), file, text, configuration)
+    };
+    match sections {
         Ok(sections) => play_sections(rt, player, file, sections.as_slice()),
         Err(why) => Err(why),
     }

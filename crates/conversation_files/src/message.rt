@@ -5,12 +5,13 @@
 //! bytes. It follows the standard alone, and takes nothing of the tool: a fault of the tool's writers is not to be shared.
 
 use crate::fault::Fault;
-use crate::spelled_item::bytes_of;
+use crate::spelled_item::{bytes_of, digit};
 use anyhow::{Result, bail};
 use std::alloc::Global;
 
-/// What a header has in front of its system bytes: the session id, bytes 2 and 3, the PType and the SType.
-type Front = [u8; 6];
+/// What a header has in front of its system bytes, as a number of six bytes: the session id, bytes 2 and 3, the PType and the
+/// SType.
+type Front = u64;
 
 /// The front of a data message to device 0: the W-bit is the uppermost of byte 2, which has the stream, and byte 3 is
 /// the function (SEMI E37, data message).
@@ -28,7 +29,7 @@ fn data_front(name: &str, is_reply_wanted: bool) -> Option<Front> {
         return None;
     }
     let wanted = if is_reply_wanted { 0x80 } else { 0 };
-    Some([0, 0, stream | wanted, function, 0, 0])
+    Some((((stream | wanted) as u64) << 24) | ((function as u64) << 16))
 }
 
 /// The SType of a control message (SEMI E37, session types).
@@ -75,12 +76,9 @@ fn add_frame<'a>(
             why: "the item is too long",
         });
     };
-    let [a, b, c, d] = length.to_be_bytes();
-    let [e, f, g, h, i, j] = front;
-    let [k, l, m, n] = number.to_be_bytes();
-    let head = [a, b, c, d, e, f, g, h, i, j, k, l, m, n];
-    match (push_hex(text, &head), push_hex(text, item)) {
-        (Some(()), Some(())) => Ok(()),
+    let head = write!(text, "{length:08X}{front:012X}{number:08X}");
+    match (head, push_hex(text, item)) {
+        (Ok(()), Some(())) => Ok(()),
         _ => Err(Fault {
             word: "",
             why: "there is no memory",
@@ -125,7 +123,7 @@ pub fn add_spelled<'a>(alloc: Global, text: &mut String, words: &'a str) -> Resu
             word: "",
             why: "a control message has no item",
         }),
-        Some(stype) => add_frame(text, [0xFF, 0xFF, 0, 0, 0, stype], words, &[]),
+        Some(stype) => add_frame(text, 0xFFFF_0000_0000 | (stype as u64), words, &[]),
         None => add_data(alloc, text, name, words),
     }
 }
@@ -142,7 +140,7 @@ pub fn spelled(alloc: Global, words: &str) -> Result<String> {
 /// Whether these are the hex digits of whole bytes.
 pub fn is_hex(text: &str) -> bool {
     for letter in text.bytes() {
-        if !matches!(letter, b'0'..=b'9' | b'A'..=b'F') {
+        if digit(letter).is_none() {
             return false;
         }
     }

@@ -11,40 +11,19 @@ use crate::fault::Fault;
 use anyhow::{Result, bail};
 use std::alloc::Global;
 
-/// The formats of items.
-#[derive(Clone, Copy)]
-enum Format {
-    List,
-    Binary,
-    Boolean,
-    Ascii,
-    I8,
-    I1,
-    I2,
-    I4,
-    U8,
-    U1,
-    U2,
-    U4,
-}
+/// The format codes, each of two octal digits (SEMI E5, item formats). Below those of numbers stands the number of their
+/// bytes, with 0 for 8.
+const LIST: u8 = 0o00;
 
-/// The format code, which is two octal digits (SEMI E5, item formats).
-fn code(format: Format) -> u8 {
-    match format {
-        Format::List => 0o00,
-        Format::Binary => 0o10,
-        Format::Boolean => 0o11,
-        Format::Ascii => 0o20,
-        Format::I8 => 0o30,
-        Format::I1 => 0o31,
-        Format::I2 => 0o32,
-        Format::I4 => 0o34,
-        Format::U8 => 0o50,
-        Format::U1 => 0o51,
-        Format::U2 => 0o52,
-        Format::U4 => 0o54,
-    }
-}
+const BINARY: u8 = 0o10;
+
+const BOOLEAN: u8 = 0o11;
+
+const ASCII: u8 = 0o20;
+
+const SIGNED: u8 = 0o30;
+
+const UNSIGNED: u8 = 0o50;
 
 /// What is told where there is no memory.
 const NO_MEMORY: Fault<'_> = Fault {
@@ -54,9 +33,9 @@ const NO_MEMORY: Fault<'_> = Fault {
 
 /// Adds the header of an item: the format code with the number of length bytes in its two low bits, and then the length,
 /// in the fewest bytes (SEMI E5, item header). It is the elements of a list, and the bytes of any other item.
-fn push_header(out: &mut Vec<u8>, format: Format, length: usize) -> Result<(), Fault<'static>> {
+fn push_header(out: &mut Vec<u8>, format: u8, length: usize) -> Result<(), Fault<'static>> {
     let [_, _, _, _, top, high, middle, low] = (length as u64).to_be_bytes();
-    let format = code(format) << 2;
+    let format = format << 2;
     let pushed = match length {
         0..=0xFF => out.extend_from_slice(&[format | 1, low]),
         0x100..=0xFFFF => out.extend_from_slice(&[format | 2, middle, low]),
@@ -83,38 +62,57 @@ fn push_text<'a>(out: &mut Vec<u8>, text: &'a str) -> Result<(), Fault<'a>> {
         });
     }
     let Some(quoted) = text.strip_prefix('"') else {
-        return push_part(out, text, "a quote stands in a text without quotes");
+        if text.contains('"') {
+            return Err(Fault {
+                word: "",
+                why: "a quote stands in a text without quotes",
+            });
+        }
+        return match out.extend_from_slice(text.as_bytes()) {
+            Ok(()) => Ok(()),
+            Err(_) => Err(NO_MEMORY),
+        };
     };
-    let Some(inner) = quoted.strip_suffix('"') else {
-        return Err(Fault {
+    match quoted.strip_suffix('"') {
+        Some(inner) => push_quoted(out, inner),
+        None => Err(Fault {
             word: "",
             why: "a text has no quote at its end",
-        });
-    };
-    for (place, part) in inner.split("\"\"").enumerate() {
-        if place > 0 && out.push(b'"').is_err() {
+        }),
+    }
+}
+
+/// Adds what stands between the quotes of a text, in which a quote is written twice.
+fn push_quoted(out: &mut Vec<u8>, inner: &str) -> Result<(), Fault<'static>> {
+    let mut is_quote_begun = false;
+    for letter in inner.bytes() {
+        if letter == b'"' {
+            is_quote_begun = !is_quote_begun;
+            if is_quote_begun {
+                continue;
+            }
+        } else if is_quote_begun {
+            return Err(ONE_QUOTE);
+        }
+        if out.push(letter).is_err() {
             return Err(NO_MEMORY);
         }
-        if let Err(fault) = push_part(out, part, "a quote in a text is to be written twice") {
-            return Err(fault);
-        }
     }
-    Ok(())
+    if is_quote_begun {
+        Err(ONE_QUOTE)
+    } else {
+        Ok(())
+    }
 }
 
-/// Adds a text that has no quote, and tells this where it has one.
-fn push_part<'a>(out: &mut Vec<u8>, part: &str, why: &'a str) -> Result<(), Fault<'a>> {
-    if part.contains('"') {
-        return Err(Fault { word: "", why });
-    }
-    match out.extend_from_slice(part.as_bytes()) {
-        Ok(()) => Ok(()),
-        Err(_) => Err(NO_MEMORY),
-    }
-}
+/// What is told of a quote in a text that is not written twice.
+const ONE_QUOTE: Fault<'_> = Fault {
+    word: "",
+    why: "a quote in a text is to be written twice",
+};
 
 /// The number of a hex digit, which has an upper-case letter.
-fn digit(letter: u8) -> Option<u8> {
+pub fn digit(letter: u8) -> Option<u8> {
     match letter {
         b'0'..=b'9' => Some(letter - b'0'),
         b'A'..=b'F' => Some(letter - b'A' + 10),
@@ -133,59 +131,61 @@ fn push_byte(out: &mut Vec<u8>, word: &str) -> Option<()> {
     }
 }
 
-/// Adds a number, the most significant byte first, or one byte of another item. None where the word is none of this format, or
-/// there is no memory.
-fn push_number(out: &mut Vec<u8>, format: Format, word: &str) -> Option<()> {
-    match format {
-        Format::U1 => match word.parse::<u8>() {
-            Ok(number) => out.push(number).ok(),
-            Err(_) => None,
-        },
-        Format::U2 => match word.parse::<u16>() {
-            Ok(number) => out.extend_from_slice(&number.to_be_bytes()).ok(),
-            Err(_) => None,
-        },
-        Format::U4 => match word.parse::<u32>() {
-            Ok(number) => out.extend_from_slice(&number.to_be_bytes()).ok(),
-            Err(_) => None,
-        },
-        Format::U8 => match word.parse::<u64>() {
-            Ok(number) => out.extend_from_slice(&number.to_be_bytes()).ok(),
-            Err(_) => None,
-        },
-        Format::I1 => match word.parse::<i8>() {
-            Ok(number) => out.extend_from_slice(&number.to_be_bytes()).ok(),
-            Err(_) => None,
-        },
-        Format::I2 => match word.parse::<i16>() {
-            Ok(number) => out.extend_from_slice(&number.to_be_bytes()).ok(),
-            Err(_) => None,
-        },
-        Format::I4 => match word.parse::<i32>() {
-            Ok(number) => out.extend_from_slice(&number.to_be_bytes()).ok(),
-            Err(_) => None,
-        },
-        Format::I8 => match word.parse::<i64>() {
-            Ok(number) => out.extend_from_slice(&number.to_be_bytes()).ok(),
-            Err(_) => None,
-        },
-        Format::Binary => push_byte(out, word),
-        Format::Boolean => match word {
-            "true" => out.push(1).ok(),
-            "false" => out.push(0).ok(),
+/// The eight bytes of the number that a word of this format is, the most significant first. None where it is none, or is greater
+/// than this, or is negative and less than this with its bits inverted.
+fn number_of(format: u8, word: &str, greatest: u64, signed: i64) -> Option<[u8; 8]> {
+    if format >= UNSIGNED {
+        return match word.parse::<u64>() {
+            Ok(number) if number <= greatest => Some(number.to_be_bytes()),
             _ => None,
-        },
-        Format::List | Format::Ascii => None,
+        };
+    }
+    match word.parse::<i64>() {
+        Ok(number) if !signed <= number && number <= signed => Some(number.to_be_bytes()),
+        _ => None,
+    }
+}
+
+/// Adds a number, the most significant byte first. None where the word is none of this format, or there is no memory.
+fn push_number(out: &mut Vec<u8>, format: u8, word: &str) -> Option<()> {
+    let (front, greatest, signed) = match format & 7 {
+        1 => (7, 0xFF, 0x7F),
+        2 => (6, 0xFFFF, 0x7FFF),
+        4 => (4, 0xFFFF_FFFF, 0x7FFF_FFFF),
+        _ => (0, u64::MAX, i64::MAX),
+    };
+    let Some(bytes) = number_of(format, word, greatest, signed) else {
+        return None;
+    };
+    match bytes.get(front..) {
+        Some(bytes) => out.extend_from_slice(bytes).ok(),
+        None => None,
+    }
+}
+
+/// Adds the element of an item that is neither a list nor a text. None where the word is none of this format, or there is no
+/// memory.
+fn push_element(out: &mut Vec<u8>, format: u8, word: &str) -> Option<()> {
+    if format == BINARY {
+        return push_byte(out, word);
+    }
+    if format != BOOLEAN {
+        return push_number(out, format, word);
+    }
+    match word {
+        "true" => out.push(1).ok(),
+        "false" => out.push(0).ok(),
+        _ => None,
     }
 }
 
 /// Adds the elements of an item that is neither a list nor a text.
-fn push_numbers<'a>(out: &mut Vec<u8>, format: Format, words: &'a str) -> Result<(), Fault<'a>> {
+fn push_elements<'a>(out: &mut Vec<u8>, format: u8, words: &'a str) -> Result<(), Fault<'a>> {
     for word in words.split_whitespace() {
-        if push_number(out, format, word).is_none() {
+        if push_element(out, format, word).is_none() {
             let why = match format {
-                Format::Binary => " is no byte of two hex digits",
-                Format::Boolean => " is neither true nor false",
+                BINARY => " is no byte of two hex digits",
+                BOOLEAN => " is neither true nor false",
                 _ => " is no number of its item",
             };
             return Err(Fault { word, why });
@@ -195,25 +195,31 @@ fn push_numbers<'a>(out: &mut Vec<u8>, format: Format, words: &'a str) -> Result
 }
 
 /// The format of an item that is no list.
-fn format_of(name: &str) -> Option<Format> {
-    match name {
-        "A" => Some(Format::Ascii),
-        "B" => Some(Format::Binary),
-        "BOOL" => Some(Format::Boolean),
-        "I8" => Some(Format::I8),
-        "I1" => Some(Format::I1),
-        "I2" => Some(Format::I2),
-        "I4" => Some(Format::I4),
-        "U8" => Some(Format::U8),
-        "U1" => Some(Format::U1),
-        "U2" => Some(Format::U2),
-        "U4" => Some(Format::U4),
+fn format_of(name: &str) -> Option<u8> {
+    let [kind, bytes] = name.as_bytes() else {
+        return match name {
+            "A" => Some(ASCII),
+            "B" => Some(BINARY),
+            "BOOL" => Some(BOOLEAN),
+            _ => None,
+        };
+    };
+    let numbers = match *kind {
+        b'I' => SIGNED,
+        b'U' => UNSIGNED,
+        _ => return None,
+    };
+    match *bytes {
+        b'1' => Some(numbers | 1),
+        b'2' => Some(numbers | 2),
+        b'4' => Some(numbers | 4),
+        b'8' => Some(numbers),
         _ => None,
     }
 }
 
 /// Adds what stands behind the header of an item that is no list, of its words; its format.
-fn push_body<'a>(out: &mut Vec<u8>, words: &'a str) -> Result<Format, Fault<'a>> {
+fn push_body<'a>(out: &mut Vec<u8>, words: &'a str) -> Result<u8, Fault<'a>> {
     let (name, value) = words.split_once(' ').unwrap_or((words, ""));
     let value = value.trim_start();
     let Some(format) = format_of(name) else {
@@ -222,9 +228,10 @@ fn push_body<'a>(out: &mut Vec<u8>, words: &'a str) -> Result<Format, Fault<'a>>
             why: " is no item",
         });
     };
-    let pushed = match format {
-        Format::Ascii => push_text(out, value),
-        _ => push_numbers(out, format, value),
+    let pushed = if format == ASCII {
+        push_text(out, value)
+    } else {
+        push_elements(out, format, value)
     };
     match pushed {
         Ok(()) => Ok(format),
@@ -277,28 +284,6 @@ struct Open {
     bytes: Vec<u8>,
 }
 
-impl Open {
-    /// Adds an element so many times.
-    fn add(
-        &mut self,
-        format: Format,
-        length: usize,
-        body: &[u8],
-        times: u32,
-    ) -> Result<(), Fault<'static>> {
-        for _ in 0..times {
-            if let Err(fault) = push_header(&mut self.bytes, format, length) {
-                return Err(fault);
-            }
-            let Ok(()) = self.bytes.extend_from_slice(body) else {
-                return Err(NO_MEMORY);
-            };
-            self.elements = self.elements.saturating_add(1);
-        }
-        Ok(())
-    }
-}
-
 /// Begins a list, as words in front of a bracket say.
 fn begin<'a>(alloc: Global, open: &mut Vec<Open>, words: &'a str) -> Result<(), Fault<'a>> {
     match times_of(words) {
@@ -321,37 +306,40 @@ fn begin<'a>(alloc: Global, open: &mut Vec<Open>, words: &'a str) -> Result<(), 
     }
 }
 
-/// Adds an element to the innermost list.
+/// What is told of a bracket that closes more than was opened.
+const CLOSES_NOTHING: Fault<'_> = Fault {
+    word: "",
+    why: "a bracket closes nothing",
+};
+
+/// Adds an element to the innermost list, so many times.
 fn add(
     open: &mut Vec<Open>,
-    format: Format,
+    format: u8,
     length: usize,
     body: &[u8],
     times: u32,
 ) -> Result<(), Fault<'static>> {
-    match open.last_mut() {
-        Some(list) => list.add(format, length, body, times),
-        None => Err(Fault {
-            word: "",
-            why: "a bracket closes nothing",
-        }),
+    let Some(list) = open.last_mut() else {
+        return Err(CLOSES_NOTHING);
+    };
+    for _ in 0..times {
+        if let Err(fault) = push_header(&mut list.bytes, format, length) {
+            return Err(fault);
+        }
+        let Ok(()) = list.bytes.extend_from_slice(body) else {
+            return Err(NO_MEMORY);
+        };
+        list.elements = list.elements.saturating_add(1);
     }
+    Ok(())
 }
 
 /// Ends the innermost list, which is then an element of the one around it.
 fn close(open: &mut Vec<Open>) -> Result<(), Fault<'static>> {
     match open.pop() {
-        Some(list) => add(
-            open,
-            Format::List,
-            list.elements,
-            list.bytes.as_slice(),
-            list.times,
-        ),
-        None => Err(Fault {
-            word: "",
-            why: "a bracket closes nothing",
-        }),
+        Some(list) => add(open, LIST, list.elements, list.bytes.as_slice(), list.times),
+        None => Err(CLOSES_NOTHING),
     }
 }
 
@@ -436,20 +424,22 @@ fn take_all<'a>(alloc: Global, open: &mut Vec<Open>, words: &'a str) -> Result<(
 
 /// The bytes of the one item that was read, where all lists are closed.
 fn whole(open: &mut Vec<Open>) -> Result<Vec<u8>, Fault<'static>> {
-    match open.pop() {
-        Some(whole) if open.is_empty() && whole.elements == 1 => Ok(whole.bytes),
-        Some(_) => Err(Fault {
+    let Some(whole) = open.pop() else {
+        return Err(CLOSES_NOTHING);
+    };
+    if !open.is_empty() {
+        return Err(Fault {
             word: "",
-            why: if open.is_empty() {
-                "a message has one item"
-            } else {
-                "a list has no bracket at its end"
-            },
-        }),
-        None => Err(Fault {
+            why: "a list has no bracket at its end",
+        });
+    }
+    if whole.elements == 1 {
+        Ok(whole.bytes)
+    } else {
+        Err(Fault {
             word: "",
-            why: "a bracket closes nothing",
-        }),
+            why: "a message has one item",
+        })
     }
 }
 

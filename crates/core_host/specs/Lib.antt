@@ -1,2 +1,1 @@
-pub mod Dones
 pub mod HostActs

@@ -1,20 +1,23 @@
 //! A data message of the host: what it is answered, and what it does.
 ghost use Rattle.std.specs.Prelude.{◌≡◌, ◌+◌, ◌≤◌, ◌<◌, ◌^◌, length, OnOk, IfOk};
 ghost use Rattle.transactions.specs.Endings.{answered};
-ghost use Rattle.gem_replies.specs.Acknowledge.{accepts};
+ghost use Rattle.message_model.specs.Acknowledge.{accepts};
 ghost use Rattle.gem_model.specs.Direct.{Are, IsListed, attempt_answer, establish_answer};
 ghost use Rattle.gem_model.specs.Verdict.{item_of, stream_of, function_of};
+ghost use Rattle.gem_model.specs.Messages.{done};
 ghost use Rattle.gem_model.specs.Act.{replied, taken, taken_as, closed_by, data_done};
-ghost use Rattle.core_host.specs.Dones.{done_view, CanBeSent};
 ghost use Rattle.core_host.specs.HostActs.{host_act, reply_act};
+ghost use Rattle.host_replies.specs.Dones.{done_view, CanBeSent};
 ghost use Rattle.host_requests.specs.Short.{IsShort};
 ghost use Rattle.host_requests.specs.Verdicts.{message_view, HasFew};
 
-use crate::messages::{Done, perform, reply_text};
 use crate::verdict::verdict_of;
 use core_state::Plant;
 use gem_states::{CommTrigger, ControlTrigger};
+use host_gem::gem_done;
+use host_replies::{Done, reply_text};
 use host_requests::{HostMsg, Verdict, header_of, item_of, stream_of, wants_reply};
+use host_shop::shop_done;
 use hsms_frame::{Arrival, Bytes, Header};
 use msgs_gem::accepts_communication;
 use plant_parts::by_comm;
@@ -91,6 +94,18 @@ fn take_message(
 {
     let done = perform(plant, alloc, message)?;
     finish(plant, alloc, header, &done)
+}
+
+/// What a message is answered, and the rows that it fires, by the plant before it; and what it writes is written.
+fn perform(plant: &mut Plant, alloc: Global, message: &HostMsg) -> Result<Done, AllocError>
+    requires { HasFew message.now }
+    ensures done { IfOk result (λ told. done_view told plant.new ≡ done plant.old (message_view message.now)) }
+    ensures sendable { IfOk result (λ told. CanBeSent told.reply) }
+{
+    match message {
+        HostMsg::Gem(message) => gem_done(plant, alloc, message),
+        HostMsg::Shop(message) => shop_done(plant, alloc, message),
+    }
 }
 
 /// What a message did is answered, and its direct rows fire.

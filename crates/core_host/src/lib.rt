@@ -4,18 +4,13 @@
 //!
 //! Each is one change of the `Plant` of `core_state`, by its header and its body, which `host_requests` reads. What the link
 //! table says of the header, the settling behind the message and the history are for `tool_core`. The verdict on a message
-//! is chosen in one place, `verdict.rt`, and each message that is taken is one arm in `messages.rt` or `shop.rt`; what is done
-//! of jobs is in `jobs.rt`.
+//! is chosen in one place, `verdict.rt`; what a message does that is taken is in `host_gem`, and of streams 3, 14 and 16 in
+//! `host_shop`.
 //!
 //! Memory may run out; nothing is said of the plant after that. Begin with `host`.
 #![tactic(auto)]
 
 mod data;
-mod jobs;
-mod messages;
-mod remote;
-mod shop;
-mod spooling;
 mod verdict;
 
 pub use data::{HostAct, host};

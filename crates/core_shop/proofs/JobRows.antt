@@ -5,7 +5,7 @@ use Rattle.control_job.specs.declared.command.CtlAct.{CtlAct}
 use Rattle.control_job.specs.declared.command.CtlAct.TheVariants.{Row, Head}
 use Rattle.control_job.specs.declared.job.ControlJob.{ControlJob}
 use Rattle.tool_jobs.specs.Jobs.{Jobs}
-use Rattle.job_requests.specs.Requests.{at_control, control_command_rows}
+use Rattle.request_model.specs.Requests.{at_control, control_command_rows}
 use Rattle.gem_model.specs.Direct.{Are, IsListed}
 
 at_listed : (row : ℕ) (c : Option ControlJob) → Are IsListed (at_control row c)

@@ -21,8 +21,9 @@ use core_state::Plant;
 use gem_ids::{JobId, ModuleId, PortNo};
 use gem_states::{CommTrigger, ControlTrigger};
 use gem_tables::Firing;
-use job_requests::{QueueAct, command_row, control_command};
+use job_requests::{command_row, control_command};
 use plant_parts::by_comm;
+use request_model::QueueAct;
 use std::alloc::{AllocError, Global};
 use tool_events::{Answer, JobWord, OperCmd, SessionCause};
 

@@ -1,5 +1,5 @@
 -- The rows of the load ports, the carriers and the modules, as the plant fires them.
-use Rattle.std.proofs.Common.{drop, get_or, drop-cons, add-one, ◌++◌, ◌+◌, ◌<◌, zero, suc, ◌≡◌, ℕ, ◌==◌, ◌≤◌, ◌&&◌, not, length, take, Bool, true, false, if◌then◌else◌, List, [], ◌∷◌, Option, Some, None, is_some, option_map, refl, sym, ◌∙◌, ap, subst, arith}
+use Rattle.std.proofs.Common.{drop, get_or, drop-cons, add-one, ◌++◌, ◌+◌, ◌<◌, zero, suc, ◌≡◌, ℕ, ◌==◌, ◌≤◌, ◌&&◌, not, length, Bool, true, false, if◌then◌else◌, List, [], ◌∷◌, Option, Some, None, is_some, option_map, refl, sym, ◌∙◌, ap, subst, arith}
 use Rattle.std.specs.Option.{option_or}
 use Rattle.std.specs.List.{AllByRecursion}
 use Rattle.std.proofs.lemmas.Bool.Decides.{nat_tests}
@@ -19,8 +19,6 @@ use Rattle.gem_model.specs.Direct.{Are, IsListed}
 use Rattle.gem_model.specs.Ready.{ready_floor}
 use Rattle.gem_model.proofs.FloorRows.{IsFloorRow, effect_is, starts_is, creations_is, object_is}
 use Rattle.gem_model.proofs.OnFloor.{creations_as}
-use Rattle.load_port.specs.declared.port.Port.{Port}
-use Rattle.shop_floor.specs.Floor.{numbers_from}
 use Rattle.gem_model.specs.State.{is_selected, can_ask}
 use Rattle.gem_model.specs.Wants.{delay_is_over, is_attempt}
 use Rattle.gem_model.specs.Machines.{least}
@@ -142,16 +140,6 @@ floor_listed g x ready is = absurd (let clash : true ≡ false = sym is ∙ not_
 
 pub floor_ready : (g : State) (x : Firing) → floor_least g.floor ≡ Some x → row_starts g x ≡ true
 floor_ready g x ready = starts_is g x (ready_is g x ready) ∙ least_starts g.floor x ready
-
--- ---- the ports by their numbers
-
-pub all_numbers : (ports : List Port) → length ports ≤ 4 → take (length ports) (1 ∷ 2 ∷ 3 ∷ 4 ∷ []) ≡ numbers_from 1 ports
-all_numbers [] few = refl
-all_numbers (a ∷ []) few = refl
-all_numbers (a ∷ (b ∷ [])) few = refl
-all_numbers (a ∷ (b ∷ (c ∷ []))) few = refl
-all_numbers (a ∷ (b ∷ (c ∷ (d ∷ [])))) few = refl
-all_numbers (a ∷ (b ∷ (c ∷ (d ∷ (e ∷ ports))))) few = absurd (omega (arith, few))
 
 -- ---- lists, one after another
 

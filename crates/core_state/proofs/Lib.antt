@@ -1,9 +1,6 @@
-pub mod MomentTexts
-pub mod Small
+pub mod NoteTexts
 pub mod Telling
 pub mod LineRows
-pub mod PortValues
 pub mod Floors
 pub mod Sendings
 pub mod ModuleRows
-pub mod Registered

@@ -1,10 +1,10 @@
 -- Whether a firing or a change of an alarm makes its note.
 use Rattle.std.proofs.Common.{◌≡◌, ℕ, ◌+◌, ◌*◌, List, Option, Bool, true, false, if◌then◌else◌, not, ◌&&◌, Some, sym, ap, ◌∙◌}
 use Rattle.gem_rows.specs.Events.{ceid_of}
-use Rattle.secs_items.specs.Data.{DataList}
-use Rattle.secs_items.specs.Plain.{plain}
-use Rattle.gem_replies.specs.declared.reply.GemReply.TheVariants as reply
-use Rattle.gem_replies.specs.Replies.{reply_body}
+use Rattle.item_model.specs.Data.{DataList}
+use Rattle.item_model.specs.Plain.{plain}
+use Rattle.message_model.specs.declared.gem_reply.GemReply.TheVariants as reply
+use Rattle.message_model.specs.GemReplies.{reply_body}
 use Rattle.event_reports.specs.Alarms.{is_alarm, is_set, set_alarm, clear_alarm}
 use Rattle.gem_model.specs.State.{State}
 use Rattle.gem_model.specs.Values.{Occasion}

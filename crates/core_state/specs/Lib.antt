@@ -1,2 +1,1 @@
 pub mod Firing
-pub mod Named

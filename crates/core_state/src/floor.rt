@@ -1,17 +1,15 @@
 //! The load ports, the carriers and the modules: their rows, and what the host, the operator and the equipment do to them (SEMI
 //! E87; tables 4 to 10 and 16).
-ghost use Rattle.std.specs.Prelude.{◌≡◌, ◌≤◌, ◌+◌, ℕ, true, false, not, length, OnOk, IfOk, IfSome, Some};
+ghost use Rattle.std.specs.Prelude.{◌≡◌, true, false, not, OnOk, IfOk};
 ghost use Rattle.load_port.specs.Caack.{is_done_code};
-ghost use Rattle.shop_floor.specs.Floor.{numbers_from};
 ghost use Rattle.floor_model.specs.Jobs.{carrier_code};
-ghost use Rattle.shop_floor.specs.Requests.{carrier_written, carrier_rows, port_code, port_rows, at_ports, mode_row, or_all};
+ghost use Rattle.shop_floor.specs.Requests.{carrier_written};
 ghost use Rattle.floor_model.specs.Floor.{with_shop};
 ghost use Rattle.floor_model.specs.Machines.{floor_starts, creation_rows, object_name};
 ghost use Rattle.gem_model.specs.Ready.{ready_floor};
 ghost use Rattle.gem_model.specs.Fire.{fire};
 ghost use Rattle.gem_model.specs.Machines.{fire_floor};
 ghost use Rattle.gem_model.specs.Signals.{lacks_port, with_arrival, is_ready_to_unload};
-ghost use Rattle.history_totals.specs.Counts.{is_registration, registrations};
 
 use crate::noting::RowFiring;
 use crate::plant::Plant;
@@ -19,48 +17,22 @@ use arrayvec::ArrayVec;
 use carrier::CarrierAction;
 use gem_ids::{CarrierId, PortNo, Text80};
 use gem_tables::Firing;
-use load_port::{Caack, PortAction};
-use plant_parts::{at_ports, mode_row};
 use std::alloc::{AllocError, Global};
-use tool_floor::MOST_CREATED;
-
-// The numbers of the tables, as the definitions have them.
-const ACCESS: u8 = 5;
-
-const RESERVATION: u8 = 6;
-
-const TRANSPORT: u8 = 12;
-
-// The row of transport by which a substrate is registered.
-const REGISTERED: u8 = 1;
-
-/// Whether a row registers a substrate.
-fn is_registration(f: Firing) -> bool
-    ensures { result ≡ is_registration f }
-{
-    f.row.table == TRANSPORT && f.row.row == REGISTERED
-}
-
-/// How many of these rows register a substrate.
-fn registrations(rows: &[Firing]) -> u64
-    ensures { result ≡ registrations rows.now }
-{
-    rows.iter().filter(|f| is_registration(**f)).count() as u64
-}
-
-/// How many substrates were registered behind the rows of those that were created, where it is known how many were before.
-fn registered_behind(before: Option<u64>, created: &[Firing]) -> Option<u64>
-    ensures { IfSome result (λ n. (b : ℕ) × (before ≡ Some b) × (n ≡ b + registrations created.now)) }
-{
-    before?.checked_add(registrations(created))
-}
+use tool_floor::{MOST_CREATED, ToolFloor};
 
 impl Plant {
-    /// How many substrates were registered. `None`: memory ran out while some were, and nothing is said of the plant any more.
-    pub fn registrations(&self) -> Option<u64>
-        ensures { IfSome result (λ n. n ≡ self.now.floor.places.given) }
+    /// The floor of the tool.
+    pub fn floor(&self) -> &ToolFloor
+        ensures { result.now ≡ self.now.floor }
     {
-        self.registered
+        &self.floor
+    }
+
+    /// How many substrates were registered since the first state.
+    pub fn registrations(&self) -> u64
+        ensures { result ≡ self.now.floor.places.given }
+    {
+        self.floor.registrations()
     }
 
     /// Whether the tool has a port of this number.
@@ -83,11 +55,7 @@ impl Plant {
         ensures fired { OnOk result (self.new ≡ fire_floor f self.old) }
         ensures created { IfOk result (λ rows. rows.items ≡ creation_rows f self.old.floor) }
     {
-        // Where memory runs out it isn't known how many were registered.
-        let before = self.registered.take();
-        let created = self.floor.fire(f)?;
-        self.registered = registered_behind(before, created.as_slice());
-        Ok(created)
+        self.floor.fire(f)
     }
 
     /// The name of the object of a row of a port, a carrier or a module.
@@ -136,20 +104,6 @@ impl Plant {
         self.floor.come(port, arrival);
     }
 
-    /// CAACK of an action on a carrier (SEMI E87, S3F18), where the host commands.
-    pub fn carrier_code(&self, action: &CarrierAction) -> Caack
-        ensures { result ≡ carrier_code action.now self.now.floor }
-    {
-        self.floor.carrier_code(action)
-    }
-
-    /// CAACK of an action on ports (SEMI E87, S3F26 and S3F28), where the host commands.
-    pub fn port_code(&self, action: &PortAction) -> Caack
-        ensures { result ≡ port_code self.now.floor.shop action.now }
-    {
-        self.floor.shop().port_code(action)
-    }
-
     /// An action on a carrier that is accepted writes.
     pub fn write_action(&mut self, action: &CarrierAction) -> Result<(), AllocError>
         requires { is_done_code (carrier_code action.now self.old.floor) ≡ true }
@@ -157,57 +111,5 @@ impl Plant {
     {
         self.floor.write(action)?;
         Ok(())
-    }
-
-    /// The direct rows of an action on a carrier that is accepted.
-    pub fn carrier_rows(
-        &self,
-        alloc: Global,
-        action: &CarrierAction,
-    ) -> Result<Vec<Firing>, AllocError>
-        ensures { IfOk result (λ rows. rows.items ≡ carrier_rows action.now self.now.floor.shop) }
-    {
-        Vec::from_slice(alloc, self.floor.shop().carrier_rows(action).as_slice())
-    }
-
-    /// The numbers of the ports.
-    fn port_numbers(&self) -> ArrayVec<u8, 4>
-        ensures { result.items ≡ numbers_from 1 self.now.floor.shop.ports }
-    {
-        let mut numbers = ArrayVec::from([1, 2, 3, 4]);
-        numbers.truncate(self.port_count());
-        numbers
-    }
-
-    /// How many ports there are.
-    fn port_count(&self) -> usize
-        ensures count { result ≡ length self.now.floor.shop.ports }
-        ensures few { result ≤ 4 }
-    {
-        self.floor.shop().port_count()
-    }
-
-    /// The rows by which the access mode of these ports changes, or that of all where there is none.
-    fn access_rows(&self, alloc: Global, mode: u8, ports: &[u8]) -> Result<Vec<Firing>, AllocError>
-        ensures { IfOk result (λ rows. rows.items ≡ at_ports 5 (mode_row mode) (or_all ports.now self.now.floor.shop)) }
-    {
-        if ports.is_empty() {
-            let numbers = self.port_numbers();
-            at_ports(alloc, ACCESS, mode_row(mode), numbers.as_slice())
-        } else {
-            at_ports(alloc, ACCESS, mode_row(mode), ports)
-        }
-    }
-
-    /// The direct rows of an action on ports that is accepted.
-    pub fn port_rows(&self, alloc: Global, action: &PortAction) -> Result<Vec<Firing>, AllocError>
-        ensures { IfOk result (λ rows. rows.items ≡ port_rows action.now self.now.floor.shop) }
-    {
-        match action {
-            PortAction::Reserve(port) => at_ports(alloc, RESERVATION, 1, &[*port]),
-            PortAction::CancelReserve(port) => at_ports(alloc, RESERVATION, 2, &[*port]),
-            PortAction::Access(mode, ports) => self.access_rows(alloc, *mode, ports.as_slice()),
-            PortAction::Unknown => Ok(Vec::new(alloc)),
-        }
     }
 }

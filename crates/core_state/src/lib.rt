@@ -6,6 +6,8 @@
 //! and keeps no history, which is for `tool_core`: each call here is one change that an event may make. It reads no
 //! clock, no file and no link. Contracts see a `Plant` as the `State` of the definitions in `gem_model`.
 //!
+//! What its variables show is told by `plant_values`, of what `Plant::seen` gives, and what the host asks of its data by `host_asks`.
+//!
 //! Memory may run out in each call that is handed an allocator; it answers `AllocError` then, and nothing is said of
 //! the plant after that. Begin with `Plant::open`.
 #![tactic(auto)]
@@ -23,8 +25,6 @@ mod open_transactions;
 mod plant;
 mod rows;
 mod sending;
-mod values;
 
 pub use noting::RowFiring;
 pub use plant::Plant;
-pub use values::Showing;

@@ -1,7 +1,7 @@
 //! The modules, as the equipment and the operator see them (this tool's profile, moves).
 ghost use Rattle.std.specs.Prelude.{◌≡◌, ◌≤◌, not, is_some, length};
 ghost use Rattle.std.specs.Option.{option_to_list};
-ghost use Rattle.robot_moves.specs.Modules.{is_open, is_up, unfetched};
+ghost use Rattle.robot_moves.specs.Modules.{is_open, is_up, unfetched, fetched_number};
 ghost use Rattle.floor_model.specs.Floor.{fetched};
 ghost use Rattle.floor_model.specs.Signals.{done_rows, closing_rows, lost_rows};
 ghost use Rattle.gem_model.specs.Direct.{Are, IsListed};
@@ -65,6 +65,13 @@ impl Plant {
         ensures few { result ≤ 255 }
     {
         self.floor.module_count()
+    }
+
+    /// The number of the open command of a module that was fetched.
+    pub fn fetched_number(&self, m: ModuleId) -> Option<CmdNo>
+        ensures { result ≡ fetched_number (module_of m.0 self.now) }
+    {
+        self.floor.fetched_number(m)
     }
 
     /// The rows that Done of the open command of a module fires. There are none exactly where it has none.

@@ -1,10 +1,9 @@
 //! The notes that firings and changes of alarms make (SEMI E30, event reports and alarms).
 ghost use Rattle.std.specs.Prelude.{◌≡◌, ◌≤◌, ◌+◌, ◌*◌, [], length, OnOk, IfOk, Some};
-ghost use Rattle.secs_items.specs.Plain.{plain};
-ghost use Rattle.gem_replies.specs.declared.reply.GemReply.TheVariants as reply;
-ghost use Rattle.gem_replies.specs.Replies.{reply_body};
-ghost use Rattle.gem_replies.specs.Sendable.{AreFew};
-ghost use Rattle.event_reports.specs.Reports.{report_items, one_items};
+ghost use Rattle.item_model.specs.Plain.{plain};
+ghost use Rattle.message_model.specs.declared.gem_reply.GemReply.TheVariants as reply;
+ghost use Rattle.message_model.specs.GemReplies.{reply_body};
+ghost use Rattle.event_reports.specs.Reports.{report_items};
 ghost use Rattle.event_reports.specs.Alarms.{is_set};
 ghost use Rattle.note_line.specs.Limits.{most_text};
 ghost use Rattle.note_line.specs.Line.{next};
@@ -16,10 +15,9 @@ use gem_ids::Text80;
 use gem_rows::{RowId, ceid_of};
 use gem_states::Comm;
 use hsms_frame::Bytes;
-use msgs_gem::GemReply;
+use message_model::GemReply;
 use note_line::Kind;
-use plant_parts::{alcd, prints, reply_text, text_of_alarm};
-use secs_items::Items;
+use plant_parts::{alcd, reply_text, text_of_alarm};
 use std::alloc::{AllocError, Global};
 
 /// A row that fired: the row, the name of its object, and whether control was ON-LINE before it.
@@ -54,49 +52,8 @@ impl Plant {
             && (online_before || self.is_online())
     }
 
-    /// The reports of an event on an occasion: in a firing of this row, which is 100 times its table plus its number, at the
-    /// object of this name; or outside a firing, with an empty name and 0.
-    pub(crate) fn reports_on(
-        &self,
-        alloc: Global,
-        ceid: u32,
-        object: Text80,
-        row: u16,
-    ) -> Result<Items, AllocError>
-        ensures reports { IfOk result (λ reports. reports ≡ report_items (value_of (record { object = object; row = row }) self.now) ceid self.now.reports) }
-        ensures few { IfOk result (AreFew 16 3 5392) }
-    {
-        prints(&object);
-        self.few_alarms();
-        self.shown_names();
-        let mut reports = Items::new(alloc);
-        let showing = self.showing(object, row);
-        self.reports.report(alloc, ceid, &showing, &mut reports)?;
-        Ok(reports)
-    }
-
-    /// The values of a report on such an occasion.
-    pub(crate) fn one_on(
-        &self,
-        alloc: Global,
-        rptid: u32,
-        object: Text80,
-        row: u16,
-    ) -> Result<Items, AllocError>
-        ensures values { IfOk result (λ values. values ≡ one_items (value_of (record { object = object; row = row }) self.now) rptid self.now.reports) }
-        ensures few { IfOk result (AreFew 1024 1 84) }
-    {
-        prints(&object);
-        self.few_alarms();
-        self.shown_names();
-        let mut values = Items::new(alloc);
-        let showing = self.showing(object, row);
-        self.reports.one(alloc, rptid, &showing, &mut values)?;
-        Ok(values)
-    }
-
     /// The text of S6F11 of the next note, with the values of the event's reports in a firing.
-    #[tactic(auto, using(crate::proofs::Small::event_short, crate::proofs::Telling::text_is))]
+    #[tactic(auto, using(crate::proofs::NoteTexts::event_short, crate::proofs::Telling::text_is))]
     fn event_text(
         &self,
         alloc: Global,
@@ -107,7 +64,8 @@ impl Plant {
         ensures text { IfOk result (λ text. text ≡ event_text (next self.now.line) ceid (report_items (value_of (record { object = object; row = row }) self.now) ceid self.now.reports)) }
         ensures short { IfOk result (λ text. length text ≤ most_text) }
     {
-        let reports = self.reports_on(alloc, ceid, object, row)?;
+        let seen = self.seen();
+        let reports = seen.reports_on(alloc, ceid, object, row)?;
         let event = GemReply::S6F11(self.line.notes().next_number(), ceid, reports);
         let text = reply_text(alloc, &event)?;
         Ok(text)

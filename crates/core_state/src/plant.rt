@@ -2,7 +2,7 @@
 ghost use Rattle.std.specs.Prelude.{◌≡◌, ◌≤◌, ◌<◌, ◌↔◌, length, slice_get, drop, option_map, IsTrue, IfOk, OnOk, true, Some, None, if◌then◌else◌};
 ghost use Rattle.gem_ids.specs.Moments.{last_moment};
 ghost use Rattle.tool_events.specs.Configs.{IsConfig};
-ghost use Rattle.gem_model.specs.State.{opening, first_comm, first_control, first_switch, first_constants, first_kinds, around, is_communicating, is_online, is_up, is_session_up, is_selected, can_ask, clock_now, raised, with_frame};
+ghost use Rattle.gem_model.specs.State.{opening, first_comm, first_control, first_switch, first_constants, first_kinds, around, is_communicating, is_online, is_up, is_session_up, is_selected, can_ask, raised, with_frame};
 ghost use Rattle.gem_model.specs.Messages.{clock_set};
 
 use data_variables::Constants;
@@ -14,6 +14,7 @@ use hsms_link::{LinkState, Phase, Ping};
 use note_counts::CountedLine;
 use note_line::Around;
 use plant_parts::{first_comm, first_constants, first_control, first_kinds, first_switch};
+use plant_values::Seen;
 use std::alloc::{AllocError, Global};
 use std::collections::VecDeque;
 use std::marker::Model;
@@ -45,13 +46,11 @@ pub struct Plant {
     pub(crate) alarms: Alarms,
     pub(crate) line: CountedLine,
     pub(crate) floor: ToolFloor,
-    // How many substrates were registered; none where memory ran out while some were.
-    pub(crate) registered: Option<u64>,
     pub(crate) waiting: VecDeque<Bytes>,
 }
 
 impl Model for Plant {
-    ghost use Rattle.std.specs.Prelude.{◌≡◌, ◌≤◌, length, IfSome};
+    ghost use Rattle.std.specs.Prelude.{◌≤◌, length};
     ghost use Rattle.gem_ids.specs.Moments.{last_moment};
     ghost use Rattle.event_reports.specs.Limits.{most_alarms};
     ghost use Rattle.gem_model.specs.State.{State};
@@ -76,8 +75,7 @@ impl Model for Plant {
       waiting = p.waiting.items;
     } };
 
-    ghost invariant = { λ p. (p.moment.0 ≤ last_moment) × (length p.alarms ≤ most_alarms)
-        × IfSome p.registered (λ n. n ≡ p.floor.places.given) };
+    ghost invariant = { λ p. (p.moment.0 ≤ last_moment) × (length p.alarms ≤ most_alarms) };
 }
 
 impl Plant {
@@ -117,7 +115,6 @@ impl Plant {
                 config.chambers,
                 config.recipes.as_slice(),
             )?,
-            registered: Some(0),
             waiting: VecDeque::new(alloc),
         })
     }
@@ -137,12 +134,28 @@ impl Plant {
         self.moment
     }
 
-    /// The clock that the host sees (docs/profile/time.md).
-    pub fn clock_now(&self) -> Moment
-        ensures { result.0 ≡ clock_now self.now }
+    /// The plant as its variables are read.
+    pub fn seen(&self) -> Seen<'_>
+        ensures { result ≡ self.now }
     {
-        let passed = self.moment.0.saturating_sub(self.shown_at.0);
-        Moment(self.shown.0.saturating_add(passed).min(Moment::LAST.0))
+        Seen::of(
+            &self.config,
+            self.moment,
+            self.shown,
+            self.shown_at,
+            self.quitting,
+            &self.link,
+            self.comm,
+            self.control,
+            self.switch_local,
+            &self.transactions,
+            &self.constants,
+            &self.reports,
+            &self.alarms,
+            &self.line,
+            &self.floor,
+            &self.waiting,
+        )
     }
 
     /// Whether the operator ended the run.

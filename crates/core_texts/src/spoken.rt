@@ -12,7 +12,7 @@ use crate::posted::{add_answer, add_fault, event, moment, number};
 use anyhow::{Result, bail};
 use event_reports::Values;
 use gem_ids::Moment;
-use secs_items::Item;
+use item_model::Item;
 use std::alloc::Global;
 use test_lines::{Subject, words};
 use tool_core::Core;

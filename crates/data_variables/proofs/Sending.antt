@@ -3,13 +3,13 @@ use Rattle.std.proofs.Common.{◌≡◌, ℕ, suc, ◌^◌, ◌<◌, ◌≤◌, 
 use Rattle.std.specs.List.{All, list_all}
 use Rattle.std.proofs.lemmas.List.Elements.{All-nil, All-cons}
 use Rattle.std.proofs.lemmas.Bool.Decides.{nat_tests}
-use Rattle.secs_items.specs.Data.{Data}
-use Rattle.secs_items.specs.View.{view}
-use Rattle.secs_items.specs.declared.item.Item.{Item}
-use Rattle.secs_items.specs.Height.{height, highest}
-use Rattle.secs_items.specs.Plain.{count_of}
-use Rattle.secs_items.specs.Sendable.{IsLength, HasShortBodies, HaveShortBodies, IsSendable}
-use Rattle.secs_items.specs.Weight.{weight, AreBounded}
+use Rattle.item_model.specs.Data.{Data}
+use Rattle.item_model.specs.View.{view}
+use Rattle.item_model.specs.declared.item.Item.{Item}
+use Rattle.item_model.specs.Height.{height, highest}
+use Rattle.item_model.specs.Plain.{count_of}
+use Rattle.item_model.specs.Sendable.{IsLength, HasShortBodies, HaveShortBodies, IsSendable}
+use Rattle.item_model.specs.Weight.{weight, AreBounded}
 use Rattle.data_variables.specs.declared.constant.Constant.{Constant}
 use Rattle.data_variables.specs.declared.val.Val.{Val}
 use Rattle.data_variables.specs.declared.val.Val.TheVariants.{Number, Truth}

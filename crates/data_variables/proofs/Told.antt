@@ -1,7 +1,7 @@
 -- Laws of items one after another.
 use Rattle.std.proofs.Common.{◌≡◌, ℕ, ◌+◌, ◌<◌, List, [], ◌∷◌, ◌++◌, map, length, take, get_or, refl, ap}
 use Rattle.std.proofs.lemmas.List.{take_more, map-append}
-use Rattle.secs_items.specs.Data.{Data, DataList, item, added}
+use Rattle.item_model.specs.Data.{Data, DataList, item, added}
 use Rattle.data_variables.specs.Bodies.{items}
 
 items_added : (ds : List Data) (d : Data) → added (items ds) d ≡ items (ds ++ d ∷ [])

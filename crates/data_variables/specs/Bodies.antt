@@ -1,7 +1,7 @@
 -- What messages say of the equipment constants (SEMI E5, S2F13 to S2F16, S2F29 and S2F30; this tool's profile, messages).
 use Rattle.std.specs.Prelude.{ℕ, List, [], ◌∷◌, Option, Some, None, option_map, option_and_then, unwrap_or, map}
-use Rattle.secs_items.specs.Data.{Data, DataList, list, boolean, ascii, u4, no_items, item}
-use Rattle.secs_items.specs.Ids.{id_of}
+use Rattle.item_model.specs.Data.{Data, DataList, list, boolean, ascii, u4, no_items, item}
+use Rattle.item_model.specs.Ids.{id_of}
 use Rattle.data_variables.specs.declared.constant.Constant.{Constant}
 use Rattle.data_variables.specs.declared.val.Val.{Val}
 use Rattle.data_variables.specs.declared.val.Val.TheVariants.{Number, Truth}

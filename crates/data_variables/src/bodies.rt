@@ -1,14 +1,14 @@
 //! Items of messages that speak of constants.
 
 ghost use Rattle.std.specs.Prelude.{◌≡◌, [], ◌∷◌, IfOk, map};
-ghost use Rattle.secs_items.specs.Sendable.{IsSendable};
-ghost use Rattle.secs_items.specs.View.{view};
+ghost use Rattle.item_model.specs.Sendable.{IsSendable};
+ghost use Rattle.item_model.specs.View.{view};
 ghost use Rattle.data_variables.specs.Bodies.{value_item, number_said, truth_said, val_in, items, name_item, namelist_of, known_name, unknown_name, A, U4};
 
 use crate::constant::{Constant, constant_of, ids as all_ids};
 use crate::val::Val;
 use gem_ids::Text80;
-use secs_items::{Bools, Bytes, Item, Items, NoMemory, U32s};
+use item_model::{Bools, Bytes, Item, Items, NoMemory, U32s};
 use std::alloc::Global;
 
 /// The item of a value (SEMI E5, ECV): U4 of one element for a number, BOOL of one for a truth value. `NoMemory` where

@@ -1,8 +1,8 @@
 //! The values of the equipment constants.
 
 ghost use Rattle.std.specs.Prelude.{◌≡◌, ◌^◌, ◌<◌, true, length, IfOk};
-ghost use Rattle.secs_items.specs.Sendable.{IsSendable};
-ghost use Rattle.secs_items.specs.View.{view};
+ghost use Rattle.item_model.specs.Sendable.{IsSendable};
+ghost use Rattle.item_model.specs.View.{view};
 ghost use Rattle.data_variables.specs.Table.{is_allowed};
 ghost use Rattle.data_variables.specs.Values.{AreConstants, value_of, number_in, truth_in};
 ghost use Rattle.data_variables.specs.Setting.{pair_code, eac, with_value, with_said, set_all_after};
@@ -12,7 +12,7 @@ use crate::bodies::namelist_item;
 use crate::constant::constant_of;
 use crate::val::Val;
 use indexmap::IndexMap;
-use secs_items::{Item, NoMemory};
+use item_model::{Item, NoMemory};
 use std::alloc::Global;
 use std::marker::Model;
 

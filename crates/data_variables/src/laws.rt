@@ -1,13 +1,13 @@
 //! Laws of the equipment constants, for proofs to cite. Each function is empty: what it ensures holds of the definitions.
 
-ghost use Rattle.secs_items.specs.Plain.{count_of};
-ghost use Rattle.secs_items.specs.Weight.{AreBounded};
+ghost use Rattle.item_model.specs.Plain.{count_of};
+ghost use Rattle.item_model.specs.Weight.{AreBounded};
 ghost use Rattle.std.specs.Prelude.{map, ◌≡◌, ℕ, ◌^◌, ◌<◌, true, List, Some, Option, length};
 ghost use Rattle.std.specs.Option.{option_eq};
 ghost use Rattle.std.specs.Str.{bytes_eq};
 ghost use Rattle.std.specs.List.{list_all};
 ghost use Rattle.gem_rows.specs.Variables.{vid_name};
-ghost use Rattle.secs_items.specs.Sendable.{IsSendable};
+ghost use Rattle.item_model.specs.Sendable.{IsSendable};
 ghost use Rattle.data_variables.specs.declared.val.Val.{Val};
 ghost use Rattle.data_variables.specs.Table.{constant_lines, defaults, is_allowed};
 ghost use Rattle.data_variables.specs.Values.{AreConstants, value_of};

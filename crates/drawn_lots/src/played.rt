@@ -6,7 +6,7 @@ use conversation_files::spelled;
 use event_reports::Values;
 use gem_ids::{ModuleId, Moment, Text80};
 use hsms_frame::{Arrival, Bytes, Frame};
-use secs_items::Item;
+use item_model::Item;
 use std::alloc::Global;
 use test_lines::{bytes, header};
 use tool_core::Core;

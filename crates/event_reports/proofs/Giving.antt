@@ -2,7 +2,7 @@
 use Rattle.std.proofs.Common.{◌≡◌, ◌<◌, ◌≤◌, ◌+◌, ◌++◌, ℕ, List, [], ◌∷◌, length, take, get_or, Option, refl, sym, ◌∙◌, ap}
 use Rattle.std.proofs.lemmas.List.{take_all, take_more}
 use Rattle.std.specs.Option.{unwrap_or}
-use Rattle.secs_items.specs.Data.{Data, DataList, list, no_items, item, added}
+use Rattle.item_model.specs.Data.{Data, DataList, list, no_items, item, added}
 use Rattle.event_reports.specs.Values.{joined}
 use Rattle.event_reports.specs.Reports.{Reports, value_items, report_item, items_of_reports}
 

@@ -2,10 +2,10 @@
 use Rattle.std.proofs.Common.{◌≡◌, ◌≤◌, ◌==◌, ℕ, suc, Bool, true, false, cond, List, [], ◌∷◌, length, Option, Some, None, refl, ap, arith}
 use Rattle.std.specs.List.{AllByRecursion, find}
 use Rattle.std.specs.Option.{option_map, unwrap_or}
-use Rattle.secs_items.specs.Data.{Data, list, no_items}
-use Rattle.secs_items.specs.Plain.{count_of}
-use Rattle.secs_items.specs.Weight.{IsBounded, AreBounded}
-use Rattle.secs_items.proofs.Weights.{bounded-list}
+use Rattle.item_model.specs.Data.{Data, list, no_items}
+use Rattle.item_model.specs.Plain.{count_of}
+use Rattle.item_model.specs.Weight.{IsBounded, AreBounded}
+use Rattle.item_model.proofs.Weights.{bounded-list}
 use Rattle.event_reports.specs.Values.{AreSmallValues}
 use Rattle.event_reports.specs.Limits.{most_vids, most_linked}
 use Rattle.event_reports.specs.Reports.{Report, EventLine, Reports, vids_of, link_of, value_items, one_items, report_item, items_of_reports, report_items}

@@ -3,7 +3,7 @@
 use Rattle.std.specs.Prelude.{ℕ, ◌==◌, Bool, false, not, ◌&&◌, ◌||◌, nat_lt, nat_le, if◌then◌else◌, List, [], ◌∷◌, ◌++◌, length, map, Option}
 use Rattle.std.specs.List.{filter, find, list_any, list_all}
 use Rattle.std.specs.Option.{option_map, unwrap_or}
-use Rattle.secs_items.specs.Data.{Data, DataList, list, u4, no_items, item}
+use Rattle.item_model.specs.Data.{Data, DataList, list, u4, no_items, item}
 use Rattle.gem_rows.specs.Events.{ceids}
 use Rattle.gem_rows.specs.Variables.{is_vid}
 use Rattle.event_reports.specs.Limits.{most_reports, most_vids, most_linked}

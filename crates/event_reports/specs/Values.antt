@@ -1,7 +1,7 @@
 -- Values that are handed in, and items that come to stand behind others.
 use Rattle.std.specs.Prelude.{◌≡◌, ℕ, Option, Some}
-use Rattle.secs_items.specs.Data.{Data, DataList, no_items, item}
-use Rattle.secs_items.specs.Weight.{IsBounded}
+use Rattle.item_model.specs.Data.{Data, DataList, no_items, item}
+use Rattle.item_model.specs.Weight.{IsBounded}
 
 -- each variable that has a value has a small one: no list of lists, and at most 84 bytes
 abbrev pub AreSmallValues : (ℕ → Option Data) → Type 0

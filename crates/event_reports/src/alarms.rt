@@ -5,7 +5,7 @@ ghost use Rattle.event_reports.specs.Alarms.{quiet, no_alarms, is_alarm, is_set,
 ghost use Rattle.event_reports.specs.Limits.{most_alarms};
 
 use gem_rows::alids;
-use secs_items::NoMemory;
+use item_model::NoMemory;
 use std::alloc::Global;
 use std::marker::Model;
 

@@ -13,8 +13,8 @@ mod reports;
 mod values;
 
 pub use alarms::{AlarmLine, Alarms};
+pub use item_model::NoMemory;
 pub use laws::{reports_stay_sound, the_alarms_stay_the_same, the_plant_stays_the_same};
 pub use lines::{EventLine, Report};
 pub use reports::{Reports, values_of};
-pub use secs_items::NoMemory;
 pub use values::Values;

@@ -4,7 +4,7 @@ ghost use Rattle.std.specs.Prelude.{◌≡◌, OnOk, OnErr};
 ghost use Rattle.event_reports.specs.Reports.{silent, with_enabled, link_without, unlinked, with_link};
 
 use gem_ids::Ids;
-use secs_items::NoMemory;
+use item_model::NoMemory;
 use std::alloc::Global;
 use std::mem;
 

@@ -3,10 +3,10 @@
 ghost use Rattle.std.specs.Prelude.{ℕ, length, take, ◌≡◌, ◌<◌, ◌≤◌, false, map, IfOk, OnOk, OnErr, IfSome, IfNone, option_map};
 ghost use Rattle.std.specs.Option.{unwrap_or};
 ghost use Rattle.std.specs.List.{list_all, HoldsAt};
-ghost use Rattle.secs_items.specs.Data.{list, no_items, added};
-ghost use Rattle.secs_items.specs.View.{view};
-ghost use Rattle.secs_items.specs.Plain.{count_of};
-ghost use Rattle.secs_items.specs.Weight.{AreBounded};
+ghost use Rattle.item_model.specs.Data.{list, no_items, added};
+ghost use Rattle.item_model.specs.View.{view};
+ghost use Rattle.item_model.specs.Plain.{count_of};
+ghost use Rattle.item_model.specs.Weight.{AreBounded};
 ghost use Rattle.event_reports.specs.Reports.{silent, no_reports, is_event, is_report, is_enabled, has_link, erack, enabled, with_enabled, vids_of, link_of, value_items, one_items, report_item, items_of_reports, report_items};
 ghost use Rattle.gem_rows.specs.Events.{ceids};
 ghost use Rattle.event_reports.specs.Values.{AreSmallValues, joined};
@@ -17,7 +17,7 @@ use crate::lines::{EventLine, Report};
 use crate::values::Values;
 use gem_ids::Ids;
 use gem_rows::ceids;
-use secs_items::{Item, Items, NoMemory};
+use item_model::{Item, Items, NoMemory};
 use std::alloc::Global;
 use std::marker::Model;
 

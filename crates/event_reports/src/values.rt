@@ -1,10 +1,10 @@
 //! Where the values of variables come from.
 
 ghost use Rattle.std.specs.Prelude.{◌≡◌, ℕ, Option, option_map, IfOk};
-ghost use Rattle.secs_items.specs.Data.{Data};
-ghost use Rattle.secs_items.specs.View.{view};
+ghost use Rattle.item_model.specs.Data.{Data};
+ghost use Rattle.item_model.specs.View.{view};
 
-use secs_items::{Item, NoMemory};
+use item_model::{Item, NoMemory};
 use std::alloc::Global;
 
 /// What gives the values of variables.

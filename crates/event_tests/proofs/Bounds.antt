@@ -1,10 +1,10 @@
 -- Bounds of the items that are sent in tests.
 use Rattle.std.proofs.Common.{◌≡◌, ℕ, ◌+◌, arith, ap, ◌∙◌}
-use Rattle.secs_items.specs.Data.{Data, DataList, list, no_items, item, added}
-use Rattle.secs_items.specs.Plain.{count_of}
-use Rattle.secs_items.specs.Weight.{IsBounded, AreBounded}
-use Rattle.secs_items.proofs.Weights.{bounded-list, bounded-added, count-added}
-use Rattle.gem_replies.specs.Sendable.{AreFew}
+use Rattle.item_model.specs.Data.{Data, DataList, list, no_items, item, added}
+use Rattle.item_model.specs.Plain.{count_of}
+use Rattle.item_model.specs.Weight.{IsBounded, AreBounded}
+use Rattle.item_model.proofs.Weights.{bounded-list, bounded-added, count-added}
+use Rattle.message_model.specs.GemSendable.{AreFew}
 
 -- one more item within bounds
 pub one_more : (deep most : ℕ) (ds new : DataList) (d : Data) (n : ℕ) → new ≡ added ds d → count_of ds ≡ n → AreBounded deep most ds → IsBounded deep most d → (count_of new ≡ n + 1) × AreBounded deep most new

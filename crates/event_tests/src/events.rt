@@ -1,14 +1,14 @@
 //! Bodies of the tool's lists of alarms, and of S5F1, S6F11 and S6F16 (`msgs_gem`).
 
 ghost use Rattle.std.specs.Prelude.{◌≤◌, length, IfOk};
-ghost use Rattle.secs_items.specs.View.{view};
-ghost use Rattle.secs_items.specs.Weight.{IsBounded};
-ghost use Rattle.gem_replies.specs.Sendable.{AreFew};
+ghost use Rattle.item_model.specs.View.{view};
+ghost use Rattle.item_model.specs.Weight.{IsBounded};
+ghost use Rattle.message_model.specs.GemSendable.{AreFew};
 
 use gem_ids::{Listed, Text80};
-use msgs_gem::{AlarmPart, GemReply};
+use item_model::{Bytes, Item, Items, NoMemory};
+use message_model::{AlarmPart, GemReply};
 use reply_texts::{bytes, is_text, number, repeated, sent, text};
-use secs_items::{Bytes, Item, Items, NoMemory};
 use std::alloc::Global;
 use std::test::Fail;
 

@@ -1,5 +1,6 @@
 //! The program: `gem300_tool feed CONFIG` reads lines from standard input and prints lines (docs/profile/lines.md), `gem300_tool
-//! serve CONFIG` listens for a host (docs/profile/serve.md), and `--help` and `--version` tell of it (docs/profile/words.md).
+//! batch SEED CARRIERS CONFIG` processes so many carriers by itself (docs/profile/batch.md), `gem300_tool serve CONFIG` listens for a
+//! host (docs/profile/serve.md), and `--help` and `--version` tell of it (docs/profile/words.md).
 //!
 //! It hands the file, standard input, standard output, and to `serve` a TCP port, the system's clock and a gate, to `top_calls::feed`
 //! or to `serving::serve`, whose contracts are the promises of the whole program, says why the run ended on standard error, and
@@ -56,9 +57,17 @@ fn answer(rt: &HostRuntime, question: Question) -> Result<Cause, AllocError> {
     }
 }
 
-/// The name of the file that is the second word, as it was given.
-fn config_path(args: &[String]) -> &str {
-    match args.get(2) {
+/// Where the name of the configuration stands among the arguments, of which the first is the program's own name.
+fn config_place(words: &[Text80]) -> usize {
+    match command_of(words) {
+        Ok(Words::Batch(_, _, _)) => 4,
+        _ => 2,
+    }
+}
+
+/// The name of the configuration's file, as it was given.
+fn config_path<'a>(args: &'a [String], words: &[Text80]) -> &'a str {
+    match args.get(config_place(words)) {
         Some(path) => path.as_str(),
         None => "",
     }
@@ -66,7 +75,7 @@ fn config_path(args: &[String]) -> &str {
 
 /// Calls `feed` on the file that the words name, standard input and standard output, and tells why it ended.
 fn run_feed(rt: &HostRuntime, args: &[String], words: &[Text80]) -> Cause {
-    let mut config = FileSource::new(rt, config_path(args));
+    let mut config = FileSource::new(rt, config_path(args, words));
     let mut input = StdinSource::new(rt);
     let mut out = StdoutSink::new(rt);
     feed(rt.alloc(), words, &mut config, &mut input, &mut out).cause
@@ -118,12 +127,8 @@ fn is_serve(words: &[Text80]) -> bool {
     matches!(command_of(words), Ok(Words::Serve(_)))
 }
 
-/// Prints what the words ask for, or feeds; words that spell no command are refused by `feed`.
-fn answer_or_feed(
-    rt: &HostRuntime,
-    args: &[String],
-    words: &[Text80],
-) -> Result<Cause, AllocError> {
+/// Prints what the words ask for, or does their command; words that spell none are refused by `feed`.
+fn answer_or_run(rt: &HostRuntime, args: &[String], words: &[Text80]) -> Result<Cause, AllocError> {
     match asked(words) {
         Some(question) => answer(rt, question),
         None => Ok(run_feed(rt, args, words)),
@@ -149,9 +154,9 @@ fn main(rt: HostRuntime) -> ExitCode {
         return no_memory(&rt);
     };
     let cause = if is_serve(&words) {
-        run_serve(&rt, rt.alloc(), config_path(&args), &words)
+        run_serve(&rt, rt.alloc(), config_path(&args, &words), &words)
     } else {
-        match answer_or_feed(&rt, &args, &words) {
+        match answer_or_run(&rt, &args, &words) {
             Ok(cause) => cause,
             Err(_) => return no_memory(&rt),
         }

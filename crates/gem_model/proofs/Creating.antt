@@ -1,7 +1,7 @@
 -- Where a job is created no fault stands against it.
 use Rattle.std.proofs.Common.{◌≡◌, ℕ, nat_lt, Bool, true, false, not, ◌&&◌, if◌then◌else◌, List, [], ◌∷◌, codes, length, Option, Some, None, is_some, refl}
 use Rattle.std.specs.Str.{bytes_eq}
-use Rattle.secs_items.specs.Data.{Data}
+use Rattle.item_model.specs.Data.{Data}
 use Rattle.process_job.specs.Jobs.{is_known, most_jobs}
 use Rattle.process_job.specs.Creating.{is_recipe, is_some_material, create_fault}
 use Rattle.process_job.specs.declared.fault.JobFault.{JobFault}
@@ -14,11 +14,11 @@ use Rattle.tool_jobs.specs.declared.fault.ControlFault.{ControlFault}
 use Rattle.tool_jobs.specs.declared.fault.ControlFault.TheVariants as control
 use Rattle.tool_jobs.specs.Creating.{control_fault, is_any_missing, is_any_owned}
 use Rattle.tool_jobs.specs.Jobs.{Jobs}
-use Rattle.job_requests.specs.declared.error.JobError.{JobError}
-use Rattle.job_requests.specs.declared.error.JobError.TheVariants as error
-use Rattle.job_requests.specs.declared.control.ControlRequest.{ControlRequest}
-use Rattle.job_requests.specs.Errors.{first_error, or_else, of_process_fault, of_control_fault}
-use Rattle.job_requests.specs.Requests.{is_job_name, is_empty_list, process_error, request_error}
+use Rattle.request_model.specs.declared.error.JobError.{JobError}
+use Rattle.request_model.specs.declared.error.JobError.TheVariants as error
+use Rattle.request_model.specs.declared.control.ControlRequest.{ControlRequest}
+use Rattle.request_model.specs.Errors.{first_error, or_else, of_process_fault, of_control_fault}
+use Rattle.request_model.specs.Requests.{is_job_name, is_empty_list, process_error, request_error}
 
 -- the fault of a creation, by its tests
 abbrev fault_by : Bool → Bool → Bool → Bool → Option JobFault

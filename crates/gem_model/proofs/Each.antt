@@ -2,7 +2,7 @@
 use Rattle.std.proofs.Common.{◌≡◌, ℕ, Bool, true, List, [], Option, Some, None}
 use Rattle.hsms_frame.specs.declared.frame.Header.{Header}
 use Rattle.hsms_link.specs.declared.state.LinkState.{LinkState}
-use Rattle.secs_items.specs.Data.{Data}
+use Rattle.item_model.specs.Data.{Data}
 use Rattle.gem_tables.specs.declared.firing.Firing.{Firing}
 use Rattle.event_reports.specs.Reports.{Reports}
 use Rattle.event_reports.specs.declared.alarms.AlarmLine.{AlarmLine}

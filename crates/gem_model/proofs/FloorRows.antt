@@ -16,9 +16,9 @@ use Rattle.load_port.specs.declared.caack.Caack.{Caack}
 use Rattle.load_port.specs.Caack.{caack_number, is_done_code}
 use Rattle.load_port.specs.declared.action.PortAction.{PortAction}
 use Rattle.load_port.specs.declared.action.PortAction.TheVariants as ask
-use Rattle.msgs_300.specs.Primaries.{Message, S3F17, S3F25, S3F27, S14F9, S16F5, S16F11, S16F17, S16F19, S16F21, S16F27}
-use Rattle.msgs_300.specs.declared.reply.ShopReply.{ShopReply}
-use Rattle.msgs_300.specs.declared.reply.ShopReply.TheVariants as reply
+use Rattle.message_model.specs.ShopPrimaries.{Message, S3F17, S3F25, S3F27, S14F9, S16F5, S16F11, S16F17, S16F19, S16F21, S16F27}
+use Rattle.message_model.specs.declared.shop_reply.ShopReply.{ShopReply}
+use Rattle.message_model.specs.declared.shop_reply.ShopReply.TheVariants as reply
 use Rattle.tool_events.specs.declared.event.JobWord.{JobWord}
 use Rattle.tool_events.specs.declared.event.JobWord.TheVariants.{Cancel}
 use Rattle.process_job.specs.Commands.{row_of}
@@ -30,8 +30,8 @@ use Rattle.control_job.specs.declared.command.CtlAct.{CtlAct}
 use Rattle.control_job.specs.declared.command.CtlAct.TheVariants.{Row, Head}
 use Rattle.control_job.specs.declared.job.ControlJob.{ControlJob}
 use Rattle.tool_jobs.specs.Jobs.{Jobs}
-use Rattle.job_requests.specs.declared.error.JobError.{JobError}
-use Rattle.job_requests.specs.Requests.{command_named, command_error, command_rows, asked_process, process_error, process_rows, asked_control, request_error, control_rows, cancel_error, cancelled, cancel_rows, control_command_error, control_command_rows, at_process, at_control}
+use Rattle.request_model.specs.declared.error.JobError.{JobError}
+use Rattle.request_model.specs.Requests.{command_named, command_error, command_rows, asked_process, process_error, process_rows, asked_control, request_error, control_rows, cancel_error, cancelled, cancel_rows, control_command_error, control_command_rows, at_process, at_control}
 use Rattle.gem_model.specs.Remote.{is_local}
 use Rattle.gem_model.specs.JobMessages.{jobs_of, asked_of_jobs, rows_of_command}
 use Rattle.gem_model.specs.Shop.{carrier_action, port_word, carrier_caack, port_caack}

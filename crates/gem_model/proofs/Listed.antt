@@ -1,10 +1,10 @@
 -- The rows that an input lists: of table 3 they are those that inputs fire. Free are those that no transaction's end fires, and of the
 -- floor those that inputs list by themselves.
-use Rattle.msgs_300.specs.Primaries.{Message, S3F17, S3F25, S3F27, S14F9, S16F5, S16F11, S16F17, S16F19, S16F21, S16F27}
+use Rattle.message_model.specs.ShopPrimaries.{Message, S3F17, S3F25, S3F27, S14F9, S16F5, S16F11, S16F17, S16F19, S16F21, S16F27}
 use Rattle.std.proofs.Common.{◌≡◌, ℕ, ◌+◌, ◌*◌, ◌==◌, Bool, true, false, if◌then◌else◌, List, [], ◌∷◌, ◌++◌, Option, refl, sym, ◌∙◌, ap, subst, is_some, Result, Ok, Err, Some, None}
-use Rattle.secs_items.specs.Data.{Data}
-use Rattle.gem_primaries.specs.declared.primary.GemMsg.{GemMsg}
-use Rattle.gem_primaries.specs.declared.primary.GemMsg.TheVariants as msg
+use Rattle.item_model.specs.Data.{Data}
+use Rattle.message_model.specs.declared.gem_primary.GemMsg.{GemMsg}
+use Rattle.message_model.specs.declared.gem_primary.GemMsg.TheVariants as msg
 use Rattle.gem_tables.specs.Table.{firing, is_one_of}
 use Rattle.gem_tables.specs.declared.firing.Firing.{Firing}
 use Rattle.gem_states.specs.declared.communication.CommTrigger.TheVariants as comm
@@ -25,8 +25,8 @@ use Rattle.control_job.specs.declared.command.CtlAct.{CtlAct}
 use Rattle.control_job.specs.declared.command.CtlAct.TheVariants.{Row, Head}
 use Rattle.control_job.specs.declared.job.ControlJob.{ControlJob}
 use Rattle.tool_jobs.specs.Jobs.{Jobs}
-use Rattle.job_requests.specs.declared.error.JobError.{JobError}
-use Rattle.job_requests.specs.Requests.{command_named, command_error, command_rows, asked_process, process_error, process_rows, asked_control, request_error, control_rows as creation_rows_of, cancel_error, cancelled, cancel_rows, control_command_error, control_command_rows, at_process, at_control}
+use Rattle.request_model.specs.declared.error.JobError.{JobError}
+use Rattle.request_model.specs.Requests.{command_named, command_error, command_rows, asked_process, process_error, process_rows, asked_control, request_error, control_rows as creation_rows_of, cancel_error, cancelled, cancel_rows, control_command_error, control_command_rows, at_process, at_control}
 use Rattle.gem_model.specs.Remote.{is_local}
 use Rattle.gem_model.specs.JobMessages.{jobs_of, asked_of_jobs, rows_of_command}
 use Rattle.gem_model.specs.State.{State, is_online}
@@ -50,7 +50,7 @@ use Rattle.load_port.specs.declared.action.PortAction.{PortAction}
 use Rattle.load_port.specs.declared.action.PortAction.TheVariants as ask
 use Rattle.load_port.specs.declared.caack.Caack.{Caack}
 use Rattle.load_port.specs.Caack.{is_done_code}
-use Rattle.msgs_300.specs.declared.reply.ShopReply.{ShopReply}
+use Rattle.message_model.specs.declared.shop_reply.ShopReply.{ShopReply}
 use Rattle.shop_floor.specs.Requests.{at_port, at_ports, mode_row, or_all, port_rows}
 use Rattle.shop_floor.specs.Floor.{Floor}
 use Rattle.floor_model.specs.Machines.{is_creation}

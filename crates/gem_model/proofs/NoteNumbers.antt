@@ -5,8 +5,8 @@ use Rattle.std.proofs.lemmas.Bool.Decides.{nat_tests}
 use Rattle.std.specs.Option.{option_or}
 use Rattle.std.proofs.lemmas.Bool.{true≢false}
 use Rattle.hsms_frame.specs.declared.frame.Header.{Header}
-use Rattle.secs_items.specs.Data.{Data}
-use Rattle.gem_replies.specs.Acknowledge.{accepts}
+use Rattle.item_model.specs.Data.{Data}
+use Rattle.message_model.specs.Acknowledge.{accepts}
 use Rattle.gem_tables.specs.Table.{firing, row_of}
 use Rattle.gem_tables.specs.declared.firing.Firing.{Firing}
 use Rattle.gem_states.specs.declared.communication.CommTrigger.TheVariants as comm

@@ -12,16 +12,16 @@ use Rattle.hsms_link.specs.declared.table.LinkAct.TheVariants as link
 use Rattle.hsms_link.specs.declared.state.LinkState.{LinkState}
 use Rattle.hsms_link.specs.LinkTable.{LinkRow, link_act, link_table, first_act}
 use Rattle.hsms_frame.specs.Spelling.{message_bytes}
-use Rattle.secs_items.specs.Data.{Data}
-use Rattle.gem_primaries.specs.declared.primary.GemMsg.{GemMsg}
-use Rattle.gem_primaries.specs.declared.primary.SpooledStream.{SpooledStream}
-use Rattle.msgs_300.specs.declared.reply.ShopReply.{ShopReply}
+use Rattle.item_model.specs.Data.{Data}
+use Rattle.message_model.specs.declared.gem_primary.GemMsg.{GemMsg}
+use Rattle.message_model.specs.declared.gem_primary.SpooledStream.{SpooledStream}
+use Rattle.message_model.specs.declared.shop_reply.ShopReply.{ShopReply}
 use Rattle.tool_jobs.specs.Jobs.{Jobs}
-use Rattle.job_requests.specs.declared.error.JobError.{JobError}
-use Rattle.job_requests.specs.Requests.{command_named, command_error, asked_process, process_error, asked_control, request_error, cancel_error, control_command_error}
+use Rattle.request_model.specs.declared.error.JobError.{JobError}
+use Rattle.request_model.specs.Requests.{command_named, command_error, asked_process, process_error, asked_control, request_error, cancel_error, control_command_error}
 use Rattle.gem_model.specs.JobMessages.{jobs_of, asked_of_jobs}
 use Rattle.gem_model.specs.Spooling.{rspack, kinds_of, spools}
-use Rattle.gem_primaries.specs.declared.primary.GemMsg.TheVariants as msg
+use Rattle.message_model.specs.declared.gem_primary.GemMsg.TheVariants as msg
 use Rattle.gem_ids.specs.Civil.{moment_in}
 use Rattle.gem_tables.specs.declared.firing.Firing.{Firing}
 use Rattle.gem_rows.specs.Events.{ceid_of}
@@ -29,7 +29,7 @@ use Rattle.event_reports.specs.Alarms.{is_alarm, is_set, set_alarm, clear_alarm}
 use Rattle.shop_floor.specs.Requests.{at_port, removal}
 use Rattle.tool_events.specs.declared.event.Signal.{Signal}
 use Rattle.tool_events.specs.declared.event.Signal.TheVariants as equipment
-use Rattle.msgs_300.specs.Primaries.{Message, S3F17, S3F25, S3F27, S14F9, S16F5, S16F11, S16F17, S16F19, S16F21, S16F27}
+use Rattle.message_model.specs.ShopPrimaries.{Message, S3F17, S3F25, S3F27, S14F9, S16F5, S16F11, S16F17, S16F19, S16F21, S16F27}
 use Rattle.shop_floor.specs.Requests.{carrier_written}
 use Rattle.load_port.specs.Caack.{is_done_code}
 use Rattle.gem_model.specs.Shop.{carrier_action, carrier_caack}

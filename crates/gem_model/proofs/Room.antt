@@ -5,8 +5,8 @@ use Rattle.std.proofs.lemmas.Bool.{true≢false}
 use Rattle.std.proofs.lemmas.Bool.Decides.{nat_tests}
 use Rattle.hsms_frame.specs.declared.frame.Header.{Header}
 use Rattle.hsms_link.specs.Links as links
-use Rattle.secs_items.specs.Data.{Data}
-use Rattle.gem_replies.specs.Acknowledge.{accepts}
+use Rattle.item_model.specs.Data.{Data}
+use Rattle.message_model.specs.Acknowledge.{accepts}
 use Rattle.gem_tables.specs.Table.{firing}
 use Rattle.gem_tables.specs.declared.firing.Firing.{Firing}
 use Rattle.gem_states.specs.declared.communication.Comm.{Comm}

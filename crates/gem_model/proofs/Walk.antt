@@ -1,5 +1,5 @@
 -- One walk over a step: what each change keeps, each step keeps.
-use Rattle.msgs_300.specs.declared.reply.ShopReply.{ShopReply}
+use Rattle.message_model.specs.declared.shop_reply.ShopReply.{ShopReply}
 use Rattle.std.proofs.Common.{◌≡◌, ℕ, ◌+◌, ◌==◌, Bool, true, false, not, ◌&&◌, if◌then◌else◌, List, [], ◌∷◌, zero, suc, length, map, find, Option, Some, None, option_map, refl, sym, ◌∙◌, ap, subst, Result, Ok, Err}
 use Rattle.hsms_frame.specs.declared.frame.Header.{Header}
 use Rattle.hsms_frame.specs.declared.frame.Arrival.{Arrival}
@@ -22,15 +22,15 @@ use Rattle.control_job.specs.declared.command.CtlAct.{CtlAct}
 use Rattle.control_job.specs.declared.command.CtlAct.TheVariants.{Row, Head}
 use Rattle.tool_jobs.specs.Jobs.{Jobs}
 use Rattle.tool_jobs.specs.Creating.{with_process}
-use Rattle.job_requests.specs.declared.error.JobError.{JobError}
-use Rattle.job_requests.specs.Requests.{command_named, command_error, asked_process, process_error, asked_control, request_error, cancel_error, control_command_error, control_after}
+use Rattle.request_model.specs.declared.error.JobError.{JobError}
+use Rattle.request_model.specs.Requests.{command_named, command_error, asked_process, process_error, asked_control, request_error, cancel_error, control_command_error, control_after}
 use Rattle.gem_model.specs.JobMessages.{jobs_of, with_jobs_now, asked_of_jobs}
 use Rattle.gem_model.proofs.Creating.{BecomesControl, one_added, one_headed, faultless, control_faultless}
 use Rattle.gem_model.proofs.Links.{link_after-keeps}
-use Rattle.secs_items.specs.Data.{Data}
-use Rattle.gem_primaries.specs.declared.primary.GemMsg.{GemMsg}
-use Rattle.gem_primaries.specs.declared.primary.GemMsg.TheVariants as msg
-use Rattle.msgs_300.specs.Primaries.{Message, S3F17, S3F25, S3F27, S14F9, S16F5, S16F11, S16F17, S16F19, S16F21, S16F27}
+use Rattle.item_model.specs.Data.{Data}
+use Rattle.message_model.specs.declared.gem_primary.GemMsg.{GemMsg}
+use Rattle.message_model.specs.declared.gem_primary.GemMsg.TheVariants as msg
+use Rattle.message_model.specs.ShopPrimaries.{Message, S3F17, S3F25, S3F27, S14F9, S16F5, S16F11, S16F17, S16F19, S16F21, S16F27}
 use Rattle.gem_ids.specs.Civil.{moment_in}
 use Rattle.gem_ids.specs.declared.numbers.PortNo.{PortNo}
 use Rattle.gem_ids.specs.declared.numbers.ModuleId.{ModuleId}
@@ -45,7 +45,7 @@ use Rattle.load_port.specs.Caack.{is_done_code}
 use Rattle.carrier.specs.Verdict.{is_unknown}
 use Rattle.load_port.specs.declared.action.PortAction.TheVariants as ask
 use Rattle.load_port.specs.Caack.{caack_number}
-use Rattle.msgs_300.specs.declared.reply.ShopReply.TheVariants as reply
+use Rattle.message_model.specs.declared.shop_reply.ShopReply.TheVariants as reply
 use Rattle.floor_model.specs.Jobs.{carrier_code}
 use Rattle.shop_floor.specs.Requests.{carrier_written, carrier_rows, at_port, removal}
 use Rattle.tool_events.specs.declared.event.Event.{Event}

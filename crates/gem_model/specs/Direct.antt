@@ -1,7 +1,7 @@
 -- The direct rows of each input, in order (this tool's profile, direct rows). A listed row that does not start at the
 -- present state is left out when they fire.
 use Rattle.std.specs.Prelude.{◌≡◌, true, ℕ, ◌==◌, if◌then◌else◌, List, [], ◌∷◌, ◌++◌, Option, is_some}
-use Rattle.secs_items.specs.Data.{Data}
+use Rattle.item_model.specs.Data.{Data}
 use Rattle.gem_states.specs.declared.communication.CommTrigger.{CommTrigger}
 use Rattle.gem_states.specs.declared.communication.CommTrigger.TheVariants as comm
 use Rattle.gem_states.specs.declared.control.ControlTrigger.{ControlTrigger}
@@ -9,7 +9,7 @@ use Rattle.gem_states.specs.declared.control.ControlTrigger.TheVariants as contr
 use Rattle.gem_states.specs.Triggers.{comm_rows, control_rows}
 use Rattle.gem_tables.specs.declared.firing.Firing.{Firing}
 use Rattle.note_line.specs.Table3.{is_direct}
-use Rattle.gem_replies.specs.Acknowledge.{accepts}
+use Rattle.message_model.specs.Acknowledge.{accepts}
 use Rattle.tool_events.specs.declared.event.OperCmd.{OperCmd}
 use Rattle.tool_events.specs.declared.event.OperCmd.TheVariants as oper
 use Rattle.transactions.specs.declared.transaction.What.{What}
@@ -18,7 +18,7 @@ use Rattle.transactions.specs.Endings.{first_of}
 use Rattle.shop_floor.specs.Requests.{at_port}
 use Rattle.floor_model.specs.Signals.{at_module, lost_rows}
 use Rattle.control_job.specs.Commands.{command_answer}
-use Rattle.job_requests.specs.Requests.{command_rows, control_command_rows}
+use Rattle.request_model.specs.Requests.{command_rows, control_command_rows}
 use Rattle.gem_model.specs.State.{State}
 use Rattle.gem_model.specs.Fire.{of_comm, of_control, of_line}
 

@@ -1,12 +1,12 @@
 -- Messages of the host that are read, and what they are answered, of all streams (SEMI E5, messages).
 use Rattle.std.specs.Prelude.{ℕ, List}
-use Rattle.secs_items.specs.Plain.{plain}
-use Rattle.gem_primaries.specs.declared.primary.GemMsg.{GemMsg}
-use Rattle.gem_replies.specs.declared.reply.GemReply.{GemReply}
-use Rattle.gem_replies.specs.Replies.{reply_body}
-use Rattle.msgs_300.specs.Primaries.{Message}
-use Rattle.msgs_300.specs.declared.reply.ShopReply.{ShopReply}
-use Rattle.msgs_300.specs.Replies.{shop_reply_body}
+use Rattle.item_model.specs.Plain.{plain}
+use Rattle.message_model.specs.declared.gem_primary.GemMsg.{GemMsg}
+use Rattle.message_model.specs.declared.gem_reply.GemReply.{GemReply}
+use Rattle.message_model.specs.GemReplies.{reply_body}
+use Rattle.message_model.specs.ShopPrimaries.{Message}
+use Rattle.message_model.specs.declared.shop_reply.ShopReply.{ShopReply}
+use Rattle.message_model.specs.ShopReplies.{shop_reply_body}
 use Rattle.gem_tables.specs.declared.firing.Firing.{Firing}
 use Rattle.gem_model.specs.State.{State}
 

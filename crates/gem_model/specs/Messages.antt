@@ -8,18 +8,18 @@ use Rattle.gem_states.specs.declared.control.Control.{Control}
 use Rattle.gem_states.specs.declared.control.Control.TheVariants as control
 use Rattle.gem_states.specs.declared.communication.CommTrigger.TheVariants as comm
 use Rattle.gem_states.specs.declared.control.ControlTrigger.TheVariants as trigger
-use Rattle.secs_items.specs.Data.{Data}
-use Rattle.gem_primaries.specs.declared.primary.GemMsg.{GemMsg}
-use Rattle.gem_primaries.specs.declared.primary.GemMsg.TheVariants as msg
-use Rattle.gem_replies.specs.declared.reply.GemReply.{GemReply}
-use Rattle.gem_replies.specs.declared.reply.GemReply.TheVariants as reply
-use Rattle.gem_replies.specs.declared.reply.AlarmPart.{AlarmPart}
-use Rattle.gem_replies.specs.declared.reply.VariableName.{VariableName}
-use Rattle.gem_replies.specs.Replies.{items}
-use Rattle.msgs_300.specs.Primaries.{Message, S3F17, S3F25, S3F27, S14F9, S16F5, S16F11, S16F17, S16F19, S16F21, S16F27}
-use Rattle.job_requests.specs.Requests.{asked_process, asked_control, command_named as job_command_named, command_rows}
-use Rattle.msgs_300.specs.declared.reply.ShopReply.{ShopReply}
-use Rattle.msgs_300.specs.declared.reply.ShopReply.TheVariants as shop
+use Rattle.item_model.specs.Data.{Data}
+use Rattle.message_model.specs.declared.gem_primary.GemMsg.{GemMsg}
+use Rattle.message_model.specs.declared.gem_primary.GemMsg.TheVariants as msg
+use Rattle.message_model.specs.declared.gem_reply.GemReply.{GemReply}
+use Rattle.message_model.specs.declared.gem_reply.GemReply.TheVariants as reply
+use Rattle.message_model.specs.declared.gem_reply.AlarmPart.{AlarmPart}
+use Rattle.message_model.specs.declared.gem_reply.VariableName.{VariableName}
+use Rattle.message_model.specs.GemReplies.{items}
+use Rattle.message_model.specs.ShopPrimaries.{Message, S3F17, S3F25, S3F27, S14F9, S16F5, S16F11, S16F17, S16F19, S16F21, S16F27}
+use Rattle.request_model.specs.Requests.{asked_process, asked_control, command_named as job_command_named, command_rows}
+use Rattle.message_model.specs.declared.shop_reply.ShopReply.{ShopReply}
+use Rattle.message_model.specs.declared.shop_reply.ShopReply.TheVariants as shop
 use Rattle.data_variables.specs.declared.val.Val.{Val}
 use Rattle.data_variables.specs.Setting.{eac, set_all_after}
 use Rattle.data_variables.specs.Table.{constant_ids}

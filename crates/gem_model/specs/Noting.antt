@@ -3,10 +3,10 @@ use Rattle.std.specs.Prelude.{ℕ, ◌+◌, ◌*◌, Bool, not, ◌&&◌, ◌||�
 use Rattle.gem_tables.specs.declared.firing.Firing.{Firing}
 use Rattle.gem_rows.specs.Events.{ceid_of}
 use Rattle.gem_rows.specs.Alarms.{alarm_text}
-use Rattle.secs_items.specs.Data.{DataList}
-use Rattle.secs_items.specs.Plain.{plain}
-use Rattle.gem_replies.specs.declared.reply.GemReply.TheVariants as reply
-use Rattle.gem_replies.specs.Replies.{reply_body}
+use Rattle.item_model.specs.Data.{DataList}
+use Rattle.item_model.specs.Plain.{plain}
+use Rattle.message_model.specs.declared.gem_reply.GemReply.TheVariants as reply
+use Rattle.message_model.specs.GemReplies.{reply_body}
 use Rattle.event_reports.specs.Reports.{is_enabled, report_items}
 use Rattle.event_reports.specs.Alarms.{is_set, is_alarm_enabled, set_alarm, clear_alarm, is_alarm}
 use Rattle.spool.specs.declared.note.Kind.TheVariants.{Event, Alarm}

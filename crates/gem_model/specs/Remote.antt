@@ -4,15 +4,15 @@ use Rattle.std.specs.List.{find, list_any}
 use Rattle.std.specs.Str.{bytes_eq}
 use Rattle.gem_states.specs.declared.control.Control.{Control}
 use Rattle.gem_states.specs.declared.control.Control.TheVariants as control
-use Rattle.secs_items.specs.Data.{Data}
-use Rattle.secs_items.specs.Ids.{id_of}
-use Rattle.body_parts.specs.Bodies.{text}
+use Rattle.item_model.specs.Data.{Data}
+use Rattle.item_model.specs.Ids.{id_of}
+use Rattle.message_model.specs.Bodies.{text}
 use Rattle.tool_events.specs.declared.event.JobWord.{JobWord}
 use Rattle.tool_events.specs.declared.event.JobWord.TheVariants.{Start, Pause, Resume, Stop, Abort}
 use Rattle.process_job.specs.Commands.{command_answer}
 use Rattle.event_reports.specs.declared.alarms.AlarmLine.{AlarmLine}
 use Rattle.event_reports.specs.Alarms.{is_alarm, is_set}
-use Rattle.gem_replies.specs.declared.reply.ParameterAcknowledge.{ParameterAcknowledge}
+use Rattle.message_model.specs.declared.gem_reply.ParameterAcknowledge.{ParameterAcknowledge}
 use Rattle.gem_model.specs.State.{State}
 
 -- the commands: GOLOCAL, which takes no parameter; CLEARALARM, which takes the ALID of an alarm; and START, PAUSE, RESUME, STOP and ABORT,

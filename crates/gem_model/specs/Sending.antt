@@ -2,8 +2,8 @@
 use Rattle.std.specs.Prelude.{ℕ, ◌+◌, ◌%◌, Bool, true, false, if◌then◌else◌, List}
 use Rattle.hsms_frame.specs.declared.frame.Header.{Header}
 use Rattle.hsms_frame.specs.Spelling.{header_bytes, message_bytes}
-use Rattle.secs_items.specs.Plain.{plain}
-use Rattle.gem_replies.specs.Replies.{B, identity}
+use Rattle.item_model.specs.Plain.{plain}
+use Rattle.message_model.specs.GemReplies.{B, identity}
 use Rattle.tool_events.specs.declared.config.Config.{Config}
 use Rattle.transactions.specs.declared.transaction.What.{What}
 use Rattle.transactions.specs.Table.{is_full}

@@ -4,8 +4,8 @@ use Rattle.std.specs.Prelude.{ℕ, Bool, true, false, not, nat_le, if◌then◌e
 use Rattle.std.specs.Str.{bytes_eq}
 use Rattle.gem_states.specs.declared.control.Control.{Control}
 use Rattle.gem_states.specs.declared.control.Control.TheVariants as control
-use Rattle.secs_items.specs.Data.{Data}
-use Rattle.body_parts.specs.Bodies.{Form, meeting, of_count, all_of, small_id, ◌>>=◌}
+use Rattle.item_model.specs.Data.{Data}
+use Rattle.message_model.specs.Bodies.{Form, meeting, of_count, all_of, small_id, ◌>>=◌}
 use Rattle.load_port.specs.declared.action.PortAction.{PortAction}
 use Rattle.load_port.specs.declared.caack.Caack.{Caack}
 use Rattle.load_port.specs.declared.caack.Caack.TheVariants.{Unknown, NotNow}

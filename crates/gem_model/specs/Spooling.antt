@@ -3,8 +3,8 @@
 use Rattle.std.specs.Prelude.{ℕ, ◌%◌, ◌==◌, Bool, not, ◌&&◌, ◌||◌, if◌then◌else◌, List, [], ◌∷◌, filter, filter_map, Option, Some, None}
 use Rattle.std.specs.List.{list_any}
 use Rattle.gem_tables.specs.declared.firing.Firing.{Firing}
-use Rattle.gem_primaries.specs.declared.primary.SpooledStream.{SpooledStream}
-use Rattle.gem_replies.specs.declared.reply.StreamRefusal.{StreamRefusal}
+use Rattle.message_model.specs.declared.gem_primary.SpooledStream.{SpooledStream}
+use Rattle.message_model.specs.declared.gem_reply.StreamRefusal.{StreamRefusal}
 use Rattle.spool.specs.Spool.{is_inactive}
 use Rattle.note_line.specs.declared.around.SpooledKinds.{SpooledKinds}
 use Rattle.note_line.specs.Line.{with_kinds}

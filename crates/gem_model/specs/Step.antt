@@ -20,7 +20,7 @@ use Rattle.tool_events.specs.declared.event.SessionCause.TheVariants as cause
 use Rattle.tool_events.specs.declared.event.SessionEnd.{SessionEnd}
 use Rattle.std.specs.Result.{is_ok}
 use Rattle.control_job.specs.Commands.{command_answer}
-use Rattle.job_requests.specs.Requests.{control_after}
+use Rattle.request_model.specs.Requests.{control_after}
 use Rattle.gem_model.specs.JobMessages.{with_jobs_now}
 use Rattle.gem_model.specs.State.{State, is_up, is_session_up, raised, with_frame}
 use Rattle.event_reports.specs.Alarms.{is_set}

@@ -5,7 +5,7 @@ use Rattle.gem_ids.specs.declared.numbers.LocId.TheVariants as loc
 use Rattle.gem_ids.specs.Civil.{time_digits}
 use Rattle.gem_states.specs.Communication.{comm_number}
 use Rattle.gem_states.specs.Control.{control_number}
-use Rattle.secs_items.specs.Data.{Data, ascii, u1, u2, u4}
+use Rattle.item_model.specs.Data.{Data, ascii, u1, u2, u4}
 use Rattle.data_variables.specs.Bodies.{value_item}
 use Rattle.data_variables.specs.Values as constants
 use Rattle.event_reports.specs.Alarms.{set_alids}

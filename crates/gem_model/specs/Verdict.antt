@@ -5,14 +5,14 @@ use Rattle.gem_tables.specs.Table.{choose}
 use Rattle.hsms_frame.specs.declared.frame.Header.{Header}
 use Rattle.hsms_frame.specs.declared.frame.Arrival.{Arrival}
 use Rattle.hsms_frame.specs.declared.frame.Arrival.TheVariants as arrival
-use Rattle.secs_items.specs.Data.{Data}
-use Rattle.secs_items.specs.One.{one_item}
-use Rattle.body_parts.specs.declared.fault.BodyFault.{BodyFault}
-use Rattle.body_parts.specs.declared.fault.BodyFault.TheVariants as fault
-use Rattle.gem_primaries.specs.declared.primary.GemMsg.{GemMsg}
-use Rattle.gem_primaries.specs.Primaries.{reading}
-use Rattle.msgs_300.specs.Primaries.{Message, is_shop_stream}
-use Rattle.msgs_300.specs.Primaries as shop
+use Rattle.item_model.specs.Data.{Data}
+use Rattle.item_model.specs.One.{one_item}
+use Rattle.message_model.specs.declared.fault.BodyFault.{BodyFault}
+use Rattle.message_model.specs.declared.fault.BodyFault.TheVariants as fault
+use Rattle.message_model.specs.declared.gem_primary.GemMsg.{GemMsg}
+use Rattle.message_model.specs.GemPrimaries.{reading}
+use Rattle.message_model.specs.ShopPrimaries.{Message, is_shop_stream}
+use Rattle.message_model.specs.ShopPrimaries as shop
 use Rattle.transactions.specs.declared.transaction.Open.{Open}
 use Rattle.transactions.specs.declared.transaction.What.TheVariants as what
 use Rattle.transactions.specs.Endings.{answered, same_kind}

@@ -1,8 +1,8 @@
 -- A text that is ignored makes no difference.
 use Rattle.std.proofs.Common.{◌≡◌, ℕ, Bool, true, Option, Some, None, refl}
-use Rattle.secs_items.specs.Data.{Data}
-use Rattle.body_parts.specs.MessageTable.{Body, ignored, printed, MessageRow, row_of, has_stream, message_in, checked, by_found, is_any, takes_any}
-use Rattle.gem_primaries.specs.Primaries.{primaries, ignores, reading}
+use Rattle.item_model.specs.Data.{Data}
+use Rattle.message_model.specs.MessageTable.{Body, ignored, printed, MessageRow, row_of, has_stream, message_in, checked, by_found, is_any, takes_any}
+use Rattle.message_model.specs.GemPrimaries.{primaries, ignores, reading}
 
 same_message : {M : Type 0} (body : Body M) (a b : Option Data) → is_any body ≡ true → checked (message_in body a) ≡ checked (message_in body b)
 same_message (ignored m) a b any = refl

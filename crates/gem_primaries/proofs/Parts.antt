@@ -1,12 +1,12 @@
 -- How many parts were read.
 use Rattle.std.proofs.Common.{◌≡◌, ◌==◌, ℕ, suc, Bool, true, false, if◌then◌else◌, List, [], ◌∷◌, length, get_or, Option, Some, None, option_map, option_and_then, arith, refl, ap, sym, subst, ◌∙◌}
 use Rattle.std.proofs.lemmas.Bool.Decides.{nat_tests}
-use Rattle.secs_items.specs.Data.{Data, DataList, list, no_items, item}
-use Rattle.secs_items.specs.Plain.{count_of}
-use Rattle.secs_items.specs.View.{view, items_of}
-use Rattle.secs_items.specs.declared.item.Item.{Item}
-use Rattle.secs_items.specs.Sendable.{IsLength, HasShortBodies}
-use Rattle.body_parts.specs.Bodies.{each, of_count, Form, all_of}
+use Rattle.item_model.specs.Data.{Data, DataList, list, no_items, item}
+use Rattle.item_model.specs.Plain.{count_of}
+use Rattle.item_model.specs.View.{view, items_of}
+use Rattle.item_model.specs.declared.item.Item.{Item}
+use Rattle.item_model.specs.Sendable.{IsLength, HasShortBodies}
+use Rattle.message_model.specs.Bodies.{each, of_count, Form, all_of}
 
 count-first : {A : Type 0} (f : Form A) (ds : DataList) (xs : List A) (x : Option A) (rest : Option (List A)) → all_of f ds ≡ rest →
     option_and_then (λ y. option_map (λ ys. y ∷ ys) rest) x ≡ Some xs → ((ys : List A) → all_of f ds ≡ Some ys → length ys ≡ count_of ds) → length xs ≡ suc (count_of ds)

@@ -5,16 +5,16 @@ use Rattle.std.specs.List.{All, sum_by}
 use Rattle.std.proofs.lemmas.List.{length-map}
 use Rattle.std.proofs.lemmas.List.Elements.{All-cons}
 use Rattle.std.proofs.lemmas.List.Sums.{sum_by-cons}
-use Rattle.secs_items.specs.Data.{Data, DataList, list, binary, boolean, ascii, i1, i2, i4, i8, u1, u2, u4, u8, no_items, item}
-use Rattle.secs_items.specs.Plain.{count_of}
-use Rattle.secs_items.specs.Sendable.{IsLength, HasShortBodies, HaveShortBodies}
-use Rattle.secs_items.specs.Spelling.{Spells, SpellAll}
+use Rattle.item_model.specs.Data.{Data, DataList, list, binary, boolean, ascii, i1, i2, i4, i8, u1, u2, u4, u8, no_items, item}
+use Rattle.item_model.specs.Plain.{count_of}
+use Rattle.item_model.specs.Sendable.{IsLength, HasShortBodies, HaveShortBodies}
+use Rattle.item_model.specs.Spelling.{Spells, SpellAll}
 use Rattle.secs_items.proofs.Sends.{sendable}
-use Rattle.body_parts.specs.Bodies.{Form, ◌>>=◌, all_of, each, l2, two, small_id}
-use Rattle.body_parts.specs.Functions.{AreFewFunctions}
-use Rattle.gem_primaries.specs.Few.{HasShortText}
-use Rattle.gem_primaries.specs.Primaries.{spooled_stream}
-use Rattle.gem_primaries.specs.declared.primary.SpooledStream.{SpooledStream}
+use Rattle.message_model.specs.Bodies.{Form, ◌>>=◌, all_of, each, l2, two, small_id}
+use Rattle.message_model.specs.Functions.{AreFewFunctions}
+use Rattle.message_model.specs.Few.{HasShortText}
+use Rattle.message_model.specs.GemPrimaries.{spooled_stream}
+use Rattle.message_model.specs.declared.gem_primary.SpooledStream.{SpooledStream}
 use Rattle.gem_primaries.proofs.Parts.{count-all_of, few_parts}
 
 -- what a text spells has short bodies

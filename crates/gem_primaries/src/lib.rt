@@ -6,6 +6,6 @@
 mod laws;
 mod primary;
 
-pub use body_parts::BodyFault;
 pub use laws::an_ignored_text_makes_no_difference;
-pub use primary::{GemMsg, Parameter, Setting, SpooledStream, is_ignored, read_gem};
+pub use message_model::{BodyFault, GemMsg, Parameter, Setting, SpooledStream};
+pub use primary::{is_ignored, read_gem};

@@ -1,12 +1,12 @@
 -- Which lists are the text of an S1F14 that accepts.
 use Rattle.std.proofs.Common.{◌≡◌, ◌<◌, ◌≤◌, ◌==◌, ℕ, suc, false, List, [], ◌∷◌, length, slice_index_or, Option, Some, None, is_some, arith, refl, sym, ◌∙◌, ap}
 use Rattle.std.proofs.lemmas.Bool.Decides.{nat_tests}
-use Rattle.secs_items.specs.Data.{list}
-use Rattle.secs_items.specs.Plain.{count_of}
-use Rattle.secs_items.specs.declared.item.Item.{Item}
-use Rattle.secs_items.specs.View.{view, items_of}
-use Rattle.gem_replies.specs.Acknowledge.{accepting}
-use Rattle.body_parts.specs.Bodies.{◌>>=◌, byte, fixed}
+use Rattle.item_model.specs.Data.{list}
+use Rattle.item_model.specs.Plain.{count_of}
+use Rattle.item_model.specs.declared.item.Item.{Item}
+use Rattle.item_model.specs.View.{view, items_of}
+use Rattle.message_model.specs.Acknowledge.{accepting}
+use Rattle.message_model.specs.Bodies.{◌>>=◌, byte, fixed}
 
 kept : {A : Type 0} (o : Option A) → is_some (o >>= λ x. Some x) ≡ is_some o
 kept None = refl

@@ -1,10 +1,10 @@
 -- Bounds of the items of replies.
 use Rattle.std.proofs.Common.{◌^◌, ℕ, arith}
-use Rattle.secs_items.specs.Data.{DataList, list}
-use Rattle.secs_items.specs.Weight.{IsBounded}
-use Rattle.secs_items.proofs.Weights.{bounded-list, bounded-more}
-use Rattle.gem_replies.specs.Replies.{event}
-use Rattle.gem_replies.specs.Sendable.{AreFew}
+use Rattle.item_model.specs.Data.{DataList, list}
+use Rattle.item_model.specs.Weight.{IsBounded}
+use Rattle.item_model.proofs.Weights.{bounded-list, bounded-more}
+use Rattle.message_model.specs.GemReplies.{event}
+use Rattle.message_model.specs.GemSendable.{AreFew}
 
 -- values
 pub values_bounded : (ds : DataList) → AreFew 1024 1 84 ds → IsBounded 5 (2 ^ 31) (list ds)

@@ -3,14 +3,14 @@ use Rattle.std.proofs.Common.{◌≡◌, ◌<◌, ◌≤◌, ◌+◌, ◌*◌, �
 use Rattle.std.specs.List.{All, sum_by}
 use Rattle.std.proofs.lemmas.List.{length-map}
 use Rattle.std.proofs.lemmas.List.Sums.{sum_by-cons}
-use Rattle.secs_items.specs.Height.{highest}
-use Rattle.secs_items.specs.Plain.{count_of}
-use Rattle.secs_items.specs.Sendable.{IsLength, HaveShortBodies}
-use Rattle.secs_items.specs.Weight.{weight_all, IsBounded}
-use Rattle.body_parts.specs.Functions.{AreFewFunctions}
-use Rattle.body_parts.specs.Printed.{items, U1, code}
-use Rattle.gem_replies.specs.Replies.{stream_refusal, spooling}
-use Rattle.gem_replies.specs.declared.reply.StreamRefusal.{StreamRefusal}
+use Rattle.item_model.specs.Height.{highest}
+use Rattle.item_model.specs.Plain.{count_of}
+use Rattle.item_model.specs.Sendable.{IsLength, HaveShortBodies}
+use Rattle.item_model.specs.Weight.{weight_all, IsBounded}
+use Rattle.message_model.specs.Functions.{AreFewFunctions}
+use Rattle.message_model.specs.Printed.{items, U1, code}
+use Rattle.message_model.specs.GemReplies.{stream_refusal, spooling}
+use Rattle.message_model.specs.declared.gem_reply.StreamRefusal.{StreamRefusal}
 
 all_tail : {X : Type 0} (P : X → Type 0) (x : X) (xs : List X) → All P (x ∷ xs) → All P xs
 all_tail P x xs all k d less = all (suc k) d (omega arith)

@@ -1,12 +1,12 @@
 //! What the host answers to the tool's own primaries.
 
 ghost use Rattle.std.specs.Prelude.{◌≡◌, is_some, option_map};
-ghost use Rattle.secs_items.specs.Data.{list};
-ghost use Rattle.secs_items.specs.View.{view, items_of};
-ghost use Rattle.gem_replies.specs.Acknowledge.{accepting, accepts};
-ghost use Rattle.body_parts.specs.Bodies.{byte, fixed};
+ghost use Rattle.item_model.specs.Data.{list};
+ghost use Rattle.item_model.specs.View.{view, items_of};
+ghost use Rattle.message_model.specs.Acknowledge.{accepting, accepts};
+ghost use Rattle.message_model.specs.Bodies.{byte, fixed};
 
-use secs_items::Item;
+use item_model::Item;
 
 /// Whether an S1F14 has COMMACK 0 (SEMI E5, S1F14; this tool's profile, messages): exactly where its text is
 /// one item, a list of two elements of which the first is `B 0`. `item` is its text, and None where the text is not one

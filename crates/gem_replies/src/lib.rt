@@ -7,6 +7,7 @@ mod acknowledge;
 mod reply;
 
 pub use acknowledge::accepts_communication;
-pub use reply::{
-    AlarmPart, GemReply, Identity, ParameterAcknowledge, StreamRefusal, VariableName, gem_item,
+pub use message_model::{
+    AlarmPart, GemReply, Identity, ParameterAcknowledge, StreamRefusal, VariableName,
 };
+pub use reply::gem_item;

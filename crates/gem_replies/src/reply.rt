@@ -1,140 +1,23 @@
 //! The tool's replies, and its own primaries.
 
 ghost use Rattle.std.specs.Prelude.{◌≡◌, ◌<◌, ◌≤◌, ◌^◌, ◌∷◌, [], List, length, map, IfOk};
-ghost use Rattle.secs_items.specs.Data.{Data};
-ghost use Rattle.secs_items.specs.Plain.{plain};
-ghost use Rattle.secs_items.specs.Sendable.{IsSendable};
-ghost use Rattle.secs_items.specs.View.{view};
-ghost use Rattle.secs_items.specs.Weight.{IsBounded};
-ghost use Rattle.body_parts.specs.Functions.{AreFewFunctions};
-ghost use Rattle.body_parts.specs.Printed.{L, U1, code as code_data, each};
-ghost use Rattle.gem_replies.specs.Replies.{alarm as alarm_data, alarm_code as alarm_code_data, alarm_part, event as event_data, identity, parameter_acknowledge, reply_body, spooling, stream_refusal as stream_refusal_data, variable_name};
-ghost use Rattle.gem_replies.specs.Sendable.{AreFew, HasSendableParts};
+ghost use Rattle.item_model.specs.Data.{Data};
+ghost use Rattle.item_model.specs.Plain.{plain};
+ghost use Rattle.item_model.specs.Sendable.{IsSendable};
+ghost use Rattle.item_model.specs.View.{view};
+ghost use Rattle.item_model.specs.Weight.{IsBounded};
+ghost use Rattle.message_model.specs.Functions.{AreFewFunctions};
+ghost use Rattle.message_model.specs.Printed.{L, U1, code as code_data, each};
+ghost use Rattle.message_model.specs.GemReplies.{alarm as alarm_data, alarm_code as alarm_code_data, alarm_part, event as event_data, identity, parameter_acknowledge, reply_body, spooling, stream_refusal as stream_refusal_data, variable_name};
+ghost use Rattle.message_model.specs.GemSendable.{AreFew, HasSendableParts};
 
 use body_parts::writing::{ascii, binary, code, elements, text, u1, u4, u8};
-use gem_ids::{Listed, Text80};
-use secs_items::{Bytes, Item, Items, NoMemory};
+use gem_ids::Text80;
+use item_model::{Bytes, Item, Items, NoMemory};
+use message_model::{
+    AlarmPart, GemReply, Identity, ParameterAcknowledge, StreamRefusal, VariableName,
+};
 use std::alloc::Global;
-
-/// What the tool tells of itself.
-#[derive(Debug, Drop)]
-pub struct Identity {
-    /// MDLN, the model of the tool.
-    pub mdln: Bytes,
-    /// SOFTREV, the revision of its software.
-    pub softrev: Bytes,
-}
-
-/// A status variable and its name.
-#[derive(Debug, Drop)]
-pub struct VariableName {
-    /// SVID, the variable.
-    pub svid: u32,
-    /// SVNAME, its name: the text of no bytes where the variable is unknown.
-    pub name: Text80,
-}
-
-/// A parameter of a remote command that is refused, and why.
-#[derive(Debug, Drop)]
-pub struct ParameterAcknowledge {
-    /// CPNAME, the name of the parameter as it was sent.
-    pub name: Text80,
-    /// CPACK, why it is refused.
-    pub cpack: u8,
-}
-
-/// A stream that is refused where the host sets what is spooled, and why.
-#[derive(Debug, Drop)]
-pub struct StreamRefusal {
-    /// STRID, the stream as it was sent.
-    pub stream: u8,
-    /// STRACK, why it is refused.
-    pub strack: u8,
-    /// FCNID, the functions that are refused.
-    pub functions: Listed<u8>,
-}
-
-/// An alarm in a list of alarms.
-#[derive(Debug, Drop)]
-pub struct AlarmPart {
-    /// ALCD, the byte of the alarm's code. None where the alarm is unknown, which is printed as a B without elements.
-    pub alcd: Option<u8>,
-    /// ALID, the alarm.
-    pub alid: u32,
-    /// ALTX, the text of the alarm: of no bytes where the alarm is unknown.
-    pub text: Text80,
-}
-
-/// A reply of the tool, or a primary of its own, with the parts of its body in the printed order (SEMI E5; this tool's
-/// profile, messages). A part with a fixed value is no field. S1F1 of the tool and each message of function 0 have no
-/// text, and no variant.
-#[derive(Debug, Drop)]
-pub enum GemReply {
-    /// On line data: MDLN and SOFTREV.
-    S1F2(Bytes, Bytes),
-    /// Selected equipment status data: the values, in the order of the request.
-    S1F4(Items),
-    /// Status variable namelist reply.
-    S1F12(Listed<VariableName>),
-    /// Establish communications, the tool's primary: MDLN and SOFTREV.
-    S1F13(Bytes, Bytes),
-    /// Establish communications acknowledge, with COMMACK 0.
-    S1F14(Identity),
-    /// OFF-LINE acknowledge, with OFLACK 0.
-    S1F16,
-    /// ON-LINE acknowledge: ONLACK.
-    S1F18(u8),
-    /// Equipment constant data: the values, in the order of the request.
-    S2F14(Items),
-    /// New equipment constant acknowledge: EAC.
-    S2F16(u8),
-    /// Date and time data: 16 digits, YYYYMMDDhhmmsscc.
-    S2F18(Bytes),
-    /// Equipment constant namelist: the constants, each the whole list of ECID, name, least, greatest and default value,
-    /// and units.
-    S2F30(Items),
-    /// Date and time set acknowledge: TIACK.
-    S2F32(u8),
-    /// Define report acknowledge: DRACK.
-    S2F34(u8),
-    /// Link event report acknowledge: LRACK.
-    S2F36(u8),
-    /// Enable or disable event report acknowledge: ERACK.
-    S2F38(u8),
-    /// Host command acknowledge: HCACK, and the parameters that are refused.
-    S2F42(u8, Listed<ParameterAcknowledge>),
-    /// Reset spooling acknowledge: RSPACK, and the streams that are refused.
-    S2F44(u8, Listed<StreamRefusal>),
-    /// Alarm report send, the tool's primary: ALCD, ALID and ALTX.
-    S5F1(u8, u32, Text80),
-    /// Enable or disable alarm acknowledge: ACKC5.
-    S5F4(u8),
-    /// List alarm data.
-    S5F6(Listed<AlarmPart>),
-    /// List enabled alarm data.
-    S5F8(Listed<AlarmPart>),
-    /// Event report send, the tool's primary: the number of its note as DATAID, CEID, and the reports, each the whole
-    /// list of RPTID and values.
-    S6F11(u64, u32, Items),
-    /// Event report data: CEID, and the reports, each the whole list of RPTID and values. DATAID is 0.
-    S6F16(u32, Items),
-    /// Individual report data: the values.
-    S6F20(Items),
-    /// Request spooled data acknowledge: RSDA.
-    S6F24(u8),
-    /// Unrecognized device id: the header that was received.
-    S9F1(Bytes),
-    /// Unrecognized stream: the header that was received.
-    S9F3(Bytes),
-    /// Unrecognized function: the header that was received.
-    S9F5(Bytes),
-    /// Illegal data: the header that was received.
-    S9F7(Bytes),
-    /// Transaction timer timeout: the header that was sent.
-    S9F9(Bytes),
-    /// Data too long: the header that was received.
-    S9F11(Bytes),
-}
 
 /// The item that is the text of the reply, as it is printed (this tool's profile, messages).
 ///

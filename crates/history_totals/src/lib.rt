@@ -5,6 +5,8 @@
 //! keeps them, is `tool_core`. Begin with `Totals`.
 #![tactic(auto)]
 
+mod laws;
 mod totals;
 
+pub use laws::each_registration_has_the_next_number;
 pub use totals::Totals;

@@ -5,9 +5,9 @@ use Rattle.std.proofs.lemmas.List.Folds.{list_any_more}
 use Rattle.std.proofs.lemmas.Slice.Eq.{bytes_eq-Decides}
 use Rattle.tool_events.specs.declared.event.JobWord.{JobWord}
 use Rattle.event_reports.specs.declared.alarms.AlarmLine.{AlarmLine}
-use Rattle.gem_replies.specs.declared.reply.ParameterAcknowledge.{ParameterAcknowledge}
-use Rattle.job_requests.specs.declared.error.JobError.TheVariants.{UnknownObject, UnknownCommand, NotNow as error_NotNow}
-use Rattle.job_requests.specs.Errors.{of_answer}
+use Rattle.message_model.specs.declared.gem_reply.ParameterAcknowledge.{ParameterAcknowledge}
+use Rattle.request_model.specs.declared.error.JobError.TheVariants.{UnknownObject, UnknownCommand, NotNow as error_NotNow}
+use Rattle.request_model.specs.Errors.{of_answer}
 use Rattle.gem_model.specs.Remote.{RemoteCommand, GoLocal, ClearAlarm, ToJob, Parameter, takes, was_given, cpack, faulty, refused, NoObject, NotNow, answered_so}
 use Rattle.host_requests.specs.Remotes.{was_taken, hcack_of, decided_so}
 

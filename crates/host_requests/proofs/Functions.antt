@@ -2,11 +2,11 @@
 use Rattle.std.proofs.Common.{◌≡◌, ℕ, ◌<◌, ◌==◌, ◌&&◌, nat_lt, Bool, true, false, if◌then◌else◌, List, [], ◌∷◌, Option, Some, None, Ok, refl, subst}
 use Rattle.std.specs.List.{find, list_all}
 use Rattle.std.proofs.lemmas.Bool.{and_parts, eqb-true, ltb-true}
-use Rattle.secs_items.specs.Data.{Data}
-use Rattle.gem_primaries.specs.declared.primary.GemMsg.{GemMsg}
-use Rattle.body_parts.specs.MessageTable.{MessageRow, row_of, has_stream, by_found}
-use Rattle.gem_primaries.specs.Primaries.{primaries, reading}
-use Rattle.msgs_300.specs.Primaries.{Message, primaries as shop_primaries, reading as shop_reading}
+use Rattle.item_model.specs.Data.{Data}
+use Rattle.message_model.specs.declared.gem_primary.GemMsg.{GemMsg}
+use Rattle.message_model.specs.MessageTable.{MessageRow, row_of, has_stream, by_found}
+use Rattle.message_model.specs.GemPrimaries.{primaries, reading}
+use Rattle.message_model.specs.ShopPrimaries.{Message, primaries as shop_primaries, reading as shop_reading}
 
 -- its function has one behind it
 abbrev has_next : {M : Type 0} → MessageRow M → Bool

@@ -1,7 +1,7 @@
 -- What refuses an entry of S2F43 lists no more functions than the entry has.
 use Rattle.std.proofs.Common.{◌≡◌, ◌≤◌, ◌==◌, ◌||◌, ℕ, suc, Bool, true, false, not, if◌then◌else◌, List, [], ◌∷◌, length, filter, Some, arith, subst}
-use Rattle.gem_primaries.specs.declared.primary.SpooledStream.{SpooledStream}
-use Rattle.gem_replies.specs.declared.reply.StreamRefusal.{StreamRefusal}
+use Rattle.message_model.specs.declared.gem_primary.SpooledStream.{SpooledStream}
+use Rattle.message_model.specs.declared.gem_reply.StreamRefusal.{StreamRefusal}
 use Rattle.gem_model.specs.Spooling.{is_spoolable, faulty_functions, refused, refusal_for, refusal}
 
 fewer : (p : ℕ → Bool) (ns : List ℕ) → length (filter p ns) ≤ length ns

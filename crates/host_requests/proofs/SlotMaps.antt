@@ -2,12 +2,12 @@
 use Rattle.std.proofs.Common.{◌≡◌, ℕ, suc, ◌+◌, ◌==◌, ◌<◌, ◌≤◌, nat_le, arith, List, [], ◌∷◌, ◌++◌, length, drop, get_or, Option, Some, None, option_map, option_and_then, refl, sym, ◌∙◌, ap, add-one, drop-cons, append_assoc}
 use Rattle.std.proofs.lemmas.List.{drop_all, append-nil}
 use Rattle.std.proofs.lemmas.Bool.Decides.{nat_tests}
-use Rattle.secs_items.specs.Data.{Data}
-use Rattle.secs_items.specs.declared.item.Item.{Item}
-use Rattle.secs_items.specs.View.{view, items_of}
-use Rattle.secs_items.specs.Ids.{id_of}
-use Rattle.secs_items.specs.Plain.{count_of}
-use Rattle.body_parts.specs.Bodies.{all_of, meeting}
+use Rattle.item_model.specs.Data.{Data}
+use Rattle.item_model.specs.declared.item.Item.{Item}
+use Rattle.item_model.specs.View.{view, items_of}
+use Rattle.item_model.specs.Ids.{id_of}
+use Rattle.item_model.specs.Plain.{count_of}
+use Rattle.message_model.specs.Bodies.{all_of, meeting}
 use Rattle.body_parts.proofs.Parts.{count-met, count-unmet}
 use Rattle.gem_model.specs.Shop.{slot_code}
 

@@ -1,11 +1,11 @@
 -- A text that is short spells its item.
 use Rattle.std.proofs.Common.{◌≡◌, ◌≤◌, ◌^◌, ℕ, List, length, Option, Some, None, Result, Ok, Err, option_map, option_copied, IfOk, IfSome, Bor, sym, subst}
-use Rattle.secs_items.specs.One.{one_item}
-use Rattle.secs_items.specs.Spelling.{AreBelow}
-use Rattle.secs_items.specs.View.{view}
-use Rattle.secs_items.specs.declared.item.Item.{Item}
+use Rattle.item_model.specs.One.{one_item}
+use Rattle.item_model.specs.Spelling.{AreBelow}
+use Rattle.item_model.specs.View.{view}
+use Rattle.item_model.specs.declared.item.Item.{Item}
 use Rattle.secs_items.proofs.OneItem.{one_spelled}
-use Rattle.gem_primaries.specs.Few.{HasShortText}
+use Rattle.message_model.specs.Few.{HasShortText}
 
 short_found : (found : Option Item) (text : List ℕ) → AreBelow 256 text → length text ≤ 2 ^ 29 → option_map view found ≡ one_item text → IfSome found (λ i. HasShortText (view i))
 short_found None text below short is = tt

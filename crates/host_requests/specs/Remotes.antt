@@ -3,8 +3,8 @@ use Rattle.std.specs.Prelude.{ℕ, ◌≤◌, Bool, List, [], length, Option, So
 use Rattle.std.specs.List.{find, list_any}
 use Rattle.std.specs.Str.{bytes_eq}
 use Rattle.tool_events.specs.declared.event.JobWord.{JobWord}
-use Rattle.job_requests.specs.declared.error.JobError.{JobError}
-use Rattle.job_requests.specs.declared.error.JobError.TheVariants.{UnknownObject}
+use Rattle.request_model.specs.declared.error.JobError.{JobError}
+use Rattle.request_model.specs.declared.error.JobError.TheVariants.{UnknownObject}
 use Rattle.gem_model.specs.Remote as model
 use Rattle.gem_model.specs.Remote.{Parameter, takes}
 use Rattle.host_requests.specs.declared.remote.RemoteCommand.{RemoteCommand}

@@ -1,8 +1,8 @@
 -- What the code's verdicts on data messages stand for.
 use Rattle.std.specs.Prelude.{◌<◌}
 use Rattle.hsms_frame.specs.declared.frame.Header.{Header}
-use Rattle.gem_primaries.specs.Few.{HasFewParts}
-use Rattle.msgs_300.specs.Primaries.{said}
+use Rattle.message_model.specs.Few.{HasFewParts}
+use Rattle.message_model.specs.ShopPrimaries.{said}
 use Rattle.gem_model.specs.HostMessages as model
 use Rattle.gem_model.specs.HostMessages.{HostMessage}
 use Rattle.gem_model.specs.Verdict as model_verdict

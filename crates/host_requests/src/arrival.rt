@@ -1,13 +1,14 @@
 //! What arrived: its header, its stream and function, and its text (SEMI E37, message header; SEMI E5, message text).
 ghost use Rattle.std.specs.Prelude.{◌≡◌, ◌≤◌, ◌^◌, length, IfOk, IfSome, option_map};
-ghost use Rattle.secs_items.specs.One.{one_item};
-ghost use Rattle.secs_items.specs.View.{view};
-ghost use Rattle.gem_primaries.specs.Few.{HasShortText};
+ghost use Rattle.item_model.specs.One.{one_item};
+ghost use Rattle.item_model.specs.View.{view};
+ghost use Rattle.message_model.specs.Few.{HasShortText};
 ghost use Rattle.gem_model.specs.Verdict.{header_of, is_too_long, item_of, wants_reply, stream_of, is_message};
 ghost use Rattle.host_requests.specs.Short.{IsShort};
 
 use hsms_frame::{Arrival, Header};
-use secs_items::{Item, read_one};
+use item_model::Item;
+use secs_items::read_one;
 use std::alloc::{AllocError, Global};
 
 /// The header of what arrived.

@@ -1,19 +1,20 @@
 //! What a data message of the host is read as, by the table of its stream (SEMI E5, streams and functions). The rules that
 //! come before it is read ask for the tool's state, and stand in `core_host`.
 ghost use Rattle.std.specs.Prelude.{◌≡◌, IfOk, IfSome, option_map};
-ghost use Rattle.secs_items.specs.View.{view};
-ghost use Rattle.gem_primaries.specs.Few.{HasShortText};
-ghost use Rattle.gem_primaries.specs.Primaries.{reading};
+ghost use Rattle.item_model.specs.View.{view};
+ghost use Rattle.message_model.specs.Few.{HasShortText};
+ghost use Rattle.message_model.specs.GemPrimaries.{reading};
 ghost use Rattle.gem_model.specs.Verdict.{Stream9, item_of, stream_of, function_of, told_by, read_as, shop_read_as, read_message};
-ghost use Rattle.msgs_300.specs.Primaries.{reading as shop_reading};
+ghost use Rattle.message_model.specs.ShopPrimaries.{reading as shop_reading};
 ghost use Rattle.host_requests.specs.Short.{IsShort};
 ghost use Rattle.host_requests.specs.Verdicts.{verdict_view, HasNext, IsFew};
 
 use crate::arrival::{item_of, stream_of};
 use hsms_frame::{Arrival, Header};
-use msgs_300::{ShopMsg, is_shop_stream, read_shop};
-use msgs_gem::{BodyFault, GemMsg, is_ignored, read_gem};
-use secs_items::Item;
+use item_model::Item;
+use message_model::{BodyFault, GemMsg, ShopMsg};
+use msgs_300::{is_shop_stream, read_shop};
+use msgs_gem::{is_ignored, read_gem};
 use std::alloc::{AllocError, Global};
 
 /// A primary of the host: of streams 1, 2, 5 and 6, or of carriers and ports.

@@ -2,17 +2,18 @@
 //! E40, commands to process jobs).
 ghost use Rattle.std.specs.Prelude.{◌≡◌, List, [], length, IfOk, option_map};
 ghost use Rattle.std.specs.Option.{option_copied};
-ghost use Rattle.secs_items.specs.View.{view};
-ghost use Rattle.body_parts.specs.Bodies.{text};
+ghost use Rattle.item_model.specs.View.{view};
+ghost use Rattle.message_model.specs.Bodies.{text};
 ghost use Rattle.gem_model.specs.State.{State};
 ghost use Rattle.gem_model.specs.Remote.{Parameter, command_named, takes, has_format, is_known, cpack, faulty, is_missing, alarm_named, job_named, refused, clearing, commanding, is_local, decided, hcack_number};
 ghost use Rattle.host_requests.specs.Remotes.{remote_view, hcack_view, decision_view, was_taken, parameter_named, hcack_of, ListsFew};
 
 use event_reports::Alarms;
 use gem_ids::{Listed, Text80};
-use job_requests::{JobError, command_error};
-use msgs_gem::{Parameter, ParameterAcknowledge};
-use secs_items::Item;
+use item_model::Item;
+use job_requests::command_error;
+use message_model::{Parameter, ParameterAcknowledge};
+use request_model::JobError;
 use std::alloc::{AllocError, Global};
 use tool_events::JobWord;
 use tool_jobs::Jobs;

@@ -1,16 +1,16 @@
 //! Which actions on carriers and load ports the host asks for (SEMI E87, S3F17 and S3F25).
 ghost use Rattle.std.specs.Prelude.{◌≡◌, ◌==◌, length, option_and_then};
-ghost use Rattle.secs_items.specs.View.{view, items_of};
-ghost use Rattle.body_parts.specs.Bodies.{all_of, meeting};
-ghost use Rattle.secs_items.specs.Plain.{count_of};
+ghost use Rattle.item_model.specs.View.{view, items_of};
+ghost use Rattle.message_model.specs.Bodies.{all_of, meeting};
+ghost use Rattle.item_model.specs.Plain.{count_of};
 ghost use Rattle.gem_model.specs.Shop.{carrier_word, port_word, slot_code, slot_map, map_given, carrier_action};
 
 use arrayvec::ArrayVec;
-use body_parts::NamedValue;
 use carrier::{CarrierAction, CarrierWord};
 use gem_ids::Text80;
+use item_model::Item;
 use load_port::PortAction;
-use secs_items::Item;
+use message_model::NamedValue;
 
 /// The action on a carrier of a name.
 fn carrier_word(name: Text80) -> CarrierWord

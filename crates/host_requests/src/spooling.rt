@@ -1,11 +1,11 @@
 //! Which notes the host asks to have spooled, and which of its entries are refused (SEMI E5, S2F43; SEMI E30, spooling).
 ghost use Rattle.std.specs.Prelude.{◌≡◌, ◌==◌, filter_map, IfOk};
 ghost use Rattle.std.specs.List.{list_any};
-ghost use Rattle.gem_primaries.specs.declared.primary.SpooledStream.{SpooledStream};
+ghost use Rattle.message_model.specs.declared.gem_primary.SpooledStream.{SpooledStream};
 ghost use Rattle.gem_model.specs.Spooling.{is_spoolable, faulty_functions, function_strack, refused, refusal_for, refusal, refusals, kinds_of};
 
 use gem_ids::Listed;
-use msgs_gem::{SpooledStream, StreamRefusal};
+use message_model::{SpooledStream, StreamRefusal};
 use note_line::SpooledKinds;
 use std::alloc::{AllocError, Global};
 

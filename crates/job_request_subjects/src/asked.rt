@@ -3,9 +3,10 @@
 use crate::told::{add_error, add_names, add_row, add_rows, add_text, read};
 use gem_ids::Text80;
 use job_requests::{
-    QueueAct, cancel_error, cancel_rows, cancelled, command_error, command_named, command_row,
+    cancel_error, cancel_rows, cancelled, command_error, command_named, command_row,
     control_command, control_command_error, make_head,
 };
+use request_model::QueueAct;
 use std::alloc::Global;
 use tool_jobs::Jobs;
 

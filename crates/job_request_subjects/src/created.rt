@@ -1,17 +1,18 @@
 //! Jobs that are created, of the words behind the first of a line. None where they say nothing, or there is no memory.
 
 ghost use Rattle.std.specs.Prelude.{◌≡◌, true};
-ghost use Rattle.job_requests.specs.Requests.{is_job_name};
+ghost use Rattle.request_model.specs.Requests.{is_job_name};
 
 use crate::items::{last_list, push_attributes, push_carriers};
 use crate::told::{add_error, add_row, add_text, read};
 use gem_ids::{JobId, Text80};
 use job_requests::{
-    ControlRequest, control_error, control_names, control_request, control_row, job_name,
-    process_error, process_row, process_spec,
+    control_error, control_names, control_request, control_row, job_name, process_error,
+    process_row, process_spec,
 };
-use msgs_300::CarrierSlots;
+use message_model::CarrierSlots;
 use process_job::JobSpec;
+use request_model::ControlRequest;
 use std::alloc::Global;
 use tool_events::{Recipe, RecipeChambers};
 use tool_jobs::Jobs;

@@ -2,8 +2,8 @@
 
 use crate::told::read;
 use gem_ids::Listed;
-use msgs_300::{CarrierSlots, NamedValue};
-use secs_items::{Bools, Bytes, Item, Items, U8s};
+use item_model::{Bools, Bytes, Item, Items, U8s};
+use message_model::{CarrierSlots, NamedValue};
 use std::alloc::Global;
 
 // ---- carriers

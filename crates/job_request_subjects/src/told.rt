@@ -2,7 +2,7 @@
 
 use gem_ids::Text80;
 use gem_tables::Firing;
-use job_requests::JobError;
+use request_model::JobError;
 
 // The text that a word stands for.
 pub(crate) fn read(word: &str) -> Option<Text80> {

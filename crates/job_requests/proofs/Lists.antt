@@ -14,7 +14,7 @@ use Rattle.process_job.proofs.Names.{same_name, turned}
 use Rattle.tool_events.specs.declared.event.JobWord.TheVariants.{Cancel}
 use Rattle.control_job.specs.Names.{is_in}
 use Rattle.tool_jobs.specs.Jobs.{Jobs}
-use Rattle.job_requests.specs.Requests.{at_process, command_rows, is_queued, each_once, cancel_rows}
+use Rattle.request_model.specs.Requests.{at_process, command_rows, is_queued, each_once, cancel_rows}
 
 -- one more is taken
 pub take_more : {X : Type 0} (xs : List X) (i : ℕ) (x : X) → i < length xs → x ≡ get_or xs i x → take (i + 1) xs ≡ take i xs ++ x ∷ []

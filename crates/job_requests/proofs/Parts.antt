@@ -1,13 +1,13 @@
 -- Items that name process jobs.
 use Rattle.std.proofs.Common.{◌≡◌, ℕ, List, [], ◌∷◌, length, get_or, Option, Some, None, option_and_then, nat_eq, refl, sym, ap, ◌∙◌, arith}
 use Rattle.std.proofs.lemmas.Bool.Decides.{nat_tests}
-use Rattle.secs_items.specs.Data.{list}
-use Rattle.secs_items.specs.View.{view, items_of}
-use Rattle.secs_items.specs.declared.item.Item.{Item}
-use Rattle.body_parts.specs.Bodies.{text}
+use Rattle.item_model.specs.Data.{list}
+use Rattle.item_model.specs.View.{view, items_of}
+use Rattle.item_model.specs.declared.item.Item.{Item}
+use Rattle.message_model.specs.Bodies.{text}
 use Rattle.body_parts.proofs.Parts.{count-unmet}
-use Rattle.job_requests.specs.Attributes.{job_with_more}
-use Rattle.job_requests.specs.Requests.{is_empty_list}
+use Rattle.request_model.specs.Attributes.{job_with_more}
+use Rattle.request_model.specs.Requests.{is_empty_list}
 
 -- a list without items
 pub empty_is : (xs : List Item) → nat_eq (length xs) 0 ≡ is_empty_list (list (items_of xs))

@@ -3,9 +3,9 @@ use Rattle.std.proofs.Common.{◌≡◌, nat_lt, Bool, true, false, not, [], ◌
 use Rattle.process_job.specs.Jobs.{JobBook, is_known, most_jobs}
 use Rattle.process_job.specs.Creating.{is_recipe, is_some_material, create_fault}
 use Rattle.process_job.specs.declared.job.JobSpec.{JobSpec}
-use Rattle.job_requests.specs.Errors.{first_error, or_else, of_process_fault}
-use Rattle.job_requests.specs.declared.error.JobError.{JobError}
-use Rattle.job_requests.specs.declared.error.JobError.TheVariants.{NameTaken, NoRecipe, NoMaterial, NoSpace}
+use Rattle.request_model.specs.Errors.{first_error, or_else, of_process_fault}
+use Rattle.request_model.specs.declared.error.JobError.{JobError}
+use Rattle.request_model.specs.declared.error.JobError.TheVariants.{NameTaken, NoRecipe, NoMaterial, NoSpace}
 
 pub by_name : (j : JobSpec) (b : JobBook) → is_known j.id b.kept ≡ true → Some NameTaken ≡ of_process_fault (create_fault j b)
 by_name j b k = rw k refl

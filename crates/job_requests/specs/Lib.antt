@@ -1,4 +1,1 @@
-pub mod Errors
-pub mod Attributes
-pub mod Requests
-pub mod Acts
+pub mod Forms

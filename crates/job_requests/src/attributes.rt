@@ -2,14 +2,15 @@
 
 ghost use Rattle.std.specs.Prelude.{◌≡◌, IfOk, is_some, option_map, option_and_then, unwrap_or, [], length, filter};
 ghost use Rattle.std.specs.List.{list_all, list_any};
-ghost use Rattle.secs_items.specs.Data.{list};
-ghost use Rattle.secs_items.specs.View.{view, items_of};
-ghost use Rattle.body_parts.specs.Bodies.{all_of, each, flag, text};
-ghost use Rattle.job_requests.specs.Attributes.{has_name, is_offered, value_of, is_given_once, job_with_more, named_jobs, job_form, is_well_formed, is_each_once, are_taken, object_id, processing_control, start_method, object_named, jobs_named, starts_itself};
+ghost use Rattle.item_model.specs.Data.{list};
+ghost use Rattle.item_model.specs.View.{view, items_of};
+ghost use Rattle.message_model.specs.Bodies.{all_of, each, flag, text};
+ghost use Rattle.job_requests.specs.Forms.{job_form};
+ghost use Rattle.request_model.specs.Attributes.{has_name, is_offered, value_of, is_given_once, job_with_more, named_jobs, is_well_formed, is_each_once, are_taken, object_id, processing_control, start_method, object_named, jobs_named, starts_itself};
 
 use gem_ids::{Listed, Text80};
-use msgs_300::NamedValue;
-use secs_items::Item;
+use item_model::Item;
+use message_model::NamedValue;
 use std::alloc::{AllocError, Global};
 
 // The form in which the process jobs are named: each by its name alone, or by a list that begins with it.

@@ -5,14 +5,14 @@ ghost use Rattle.std.specs.Str.{bytes_eq};
 ghost use Rattle.control_job.specs.Names.{is_in};
 ghost use Rattle.process_job.specs.Commands.{command_answer};
 ghost use Rattle.tool_events.specs.declared.event.JobWord.TheVariants.{Cancel};
-ghost use Rattle.job_requests.specs.Errors.{of_answer};
-ghost use Rattle.job_requests.specs.Requests.{is_queued, names_error, cancel_error, each_once, cancelled, cancel_rows};
+ghost use Rattle.request_model.specs.Errors.{of_answer};
+ghost use Rattle.request_model.specs.Requests.{is_queued, names_error, cancel_error, each_once, cancelled, cancel_rows};
 
 use crate::command::{command_row, process_answer};
-use crate::error::JobError;
 use gem_ids::{Listed, Text80};
 use gem_tables::Firing;
 use process_job::{ProcessJob, ProcessJobs};
+use request_model::JobError;
 use std::alloc::{AllocError, Global};
 use tool_events::JobWord;
 use tool_jobs::Jobs;

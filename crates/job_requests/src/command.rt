@@ -2,13 +2,13 @@
 
 ghost use Rattle.std.specs.Prelude.{◌≡◌, option_to_list};
 ghost use Rattle.process_job.specs.Commands.{row_of, command_answer};
-ghost use Rattle.job_requests.specs.Requests.{command_named, command_error, command_rows};
+ghost use Rattle.request_model.specs.Requests.{command_named, command_error, command_rows};
 
-use crate::error::JobError;
 use crate::names::{process_id, process_named};
 use gem_ids::Text80;
 use gem_tables::Firing;
 use process_job::ProcessJobs;
+use request_model::JobError;
 use tool_events::JobWord;
 use tool_jobs::Jobs;
 

@@ -8,30 +8,20 @@ ghost use Rattle.process_job.specs.Jobs.{is_known};
 ghost use Rattle.tool_jobs.specs.Jobs.{Jobs, owner};
 ghost use Rattle.tool_jobs.specs.Creating.{with_control, control_fault, is_any_missing, is_any_owned};
 ghost use Rattle.tool_jobs.specs.declared.fault.ControlFault.TheVariants.{NoJobs, NotThere, HasControlJob, NoSpace};
-ghost use Rattle.job_requests.specs.Errors.{of_control_fault};
-ghost use Rattle.job_requests.specs.Attributes.{Attribute};
-ghost use Rattle.job_requests.specs.Requests.{is_job_name, asked_control, request_error, control_error, control_rows};
+ghost use Rattle.request_model.specs.Errors.{of_control_fault};
+ghost use Rattle.request_model.specs.Attributes.{Attribute};
+ghost use Rattle.request_model.specs.Requests.{is_job_name, asked_control, request_error, control_error, control_rows};
 
 use crate::attributes::{are_taken, jobs_named, object_named, starts_itself};
 use crate::cancelling::is_in;
-use crate::error::JobError;
 use crate::names::{is_job_name, is_there, job_name, process_id};
 use control_job::CtlFault;
 use gem_ids::{JobId, Listed, Text80};
 use gem_tables::Firing;
-use msgs_300::NamedValue;
+use message_model::NamedValue;
+use request_model::{ControlRequest, JobError};
 use std::alloc::{AllocError, Global};
 use tool_jobs::Jobs;
-
-/// What the attributes of an S14F9 ask for (SEMI E94, S14F9; this tool's profile, messages): whether they are taken; the name of the
-/// control job, which also stands in the answer; the process jobs that it names; and whether it starts by itself.
-#[derive(Drop)]
-pub struct ControlRequest {
-    pub is_taken: bool,
-    pub name: Text80,
-    pub jobs: Listed<Text80>,
-    pub auto: bool,
-}
 
 /// What the attributes ask for. They are taken where each is one that there is, is given once, and has a value of its form where it
 /// is read: ObjID, a text; ProcessingCtrlSpec, a list of texts, or of lists of a text and two more items; StartMethod, a BOOL of one

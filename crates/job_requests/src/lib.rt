@@ -11,15 +11,14 @@ mod attributes;
 mod cancelling;
 mod command;
 mod control;
-mod error;
 mod names;
 mod process;
 mod queue;
 
 pub use cancelling::{cancel_error, cancel_rows, cancelled};
 pub use command::{command_error, command_named, command_row};
-pub use control::{ControlRequest, control_error, control_names, control_request, control_row};
-pub use error::JobError;
+pub use control::{control_error, control_names, control_request, control_row};
 pub use names::{control_id, job_name};
 pub use process::{process_error, process_row, process_spec};
-pub use queue::{QueueAct, control_command, control_command_error, make_head};
+pub use queue::{control_command, control_command_error, make_head};
+pub use request_model::{ControlRequest, JobError, QueueAct};

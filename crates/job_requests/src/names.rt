@@ -5,7 +5,7 @@ ghost use Rattle.std.specs.Option.{option_copied};
 ghost use Rattle.std.specs.Str.{bytes_eq};
 ghost use Rattle.process_job.specs.Jobs.{job_named as process_named, is_known};
 ghost use Rattle.control_job.specs.Jobs.{job_named as control_named};
-ghost use Rattle.job_requests.specs.Requests.{is_job_name};
+ghost use Rattle.request_model.specs.Requests.{is_job_name};
 
 use control_job::{ControlJob, ControlJobs};
 use gem_ids::{JobId, Text80};

@@ -1,22 +1,22 @@
 //! Process jobs that are created (SEMI E40, S16F11).
 
 ghost use Rattle.std.specs.Prelude.{◌≡◌, ◌+◌, nat_lt, Bool, None, true, IfOk, length, map, option_to_list};
-ghost use Rattle.secs_items.specs.View.{view};
+ghost use Rattle.item_model.specs.View.{view};
 ghost use Rattle.process_job.specs.Jobs.{most_jobs};
 ghost use Rattle.process_job.specs.Creating.{is_recipe, is_slot, are_slots, is_carrier_name, is_material, are_materials, is_some_material, create_fault};
 ghost use Rattle.process_job.specs.declared.job.JobSpec.{JobSpec};
 ghost use Rattle.tool_jobs.specs.Jobs.{Jobs};
 ghost use Rattle.tool_jobs.specs.Creating.{with_process};
-ghost use Rattle.job_requests.specs.Errors.{of_process_fault};
-ghost use Rattle.job_requests.specs.Requests.{is_job_name, material_of, asked_process, is_empty_list, process_error, process_rows};
+ghost use Rattle.request_model.specs.Errors.{of_process_fault};
+ghost use Rattle.request_model.specs.Requests.{is_job_name, material_of, asked_process, is_empty_list, process_error, process_rows};
 
-use crate::error::JobError;
 use crate::names::{is_job_name, is_there, job_name};
 use gem_ids::{Listed, Text80};
 use gem_tables::Firing;
-use msgs_300::CarrierSlots;
+use item_model::Item;
+use message_model::CarrierSlots;
 use process_job::{JobSpec, MOST_JOBS, Material, Materials, ProcessJobs};
-use secs_items::Item;
+use request_model::JobError;
 use std::alloc::{AllocError, Global};
 use tool_jobs::Jobs;
 

@@ -3,23 +3,15 @@
 ghost use Rattle.std.specs.Prelude.{◌≡◌, is_some};
 ghost use Rattle.control_job.specs.Jobs.{job_named as control_named, waiting_named, headed};
 ghost use Rattle.control_job.specs.Commands.{command_answer};
-ghost use Rattle.job_requests.specs.Acts.{act_after, act_rows, row_at};
-ghost use Rattle.job_requests.specs.Requests.{is_control_command, control_command_error, control_after, control_command_rows};
+ghost use Rattle.request_model.specs.Acts.{act_after, act_rows, row_at};
+ghost use Rattle.request_model.specs.Requests.{is_control_command, control_command_error, control_after, control_command_rows};
 
-use crate::error::JobError;
 use crate::names::{control_id, control_named};
 use control_job::{ControlJobs, CtlAct};
 use gem_ids::Text80;
 use gem_tables::Firing;
+use request_model::{JobError, QueueAct};
 use tool_jobs::Jobs;
-
-/// What a command on a control job does: it fires a row of table 15, or it makes the job the head of the queue,
-/// which `make_head` does.
-#[derive(Clone, Copy, Debug, PartialEq, Eq)]
-pub enum QueueAct {
-    Fires(Firing),
-    Heads,
-}
 
 /// Why a command on the control job of a name isn't done, the first of these that fits: `UnknownCommand` where it isn't 1 to 8;
 /// `NotNow` in ON-LINE LOCAL, which is false for the operator; `UnknownObject` where no control job of the name is kept; `NotNow`

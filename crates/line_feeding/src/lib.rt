@@ -2,8 +2,8 @@
 //! cutting of a session's bytes, the lines of an answer, and how a run of lines ends (this tool's profile,
 //! docs/profile/lines.md).
 //!
-//! The definitions of all that `feed` promises stand here too, with what follows from them alone. It posts no event: the reader
-//! of lines and `feed` itself stand in `top_calls`. Begin with `check_words` and `Ended`.
+//! The definitions of all that the feeding of lines promises stand here too, with what follows from them alone. It posts no event: the
+//! reader of lines stands in `feeding`, and `feed` itself in `top_calls`. Begin with `check_words` and `Ended`.
 #![tactic(auto)]
 
 mod configured;
@@ -20,4 +20,4 @@ pub use ended::{Cause, Ended, Notes, Panels, SessionNote};
 pub use halt::{Halt, InputEnd, InputRead};
 pub use print::{fetches, outcome_text};
 pub use read::{TextFault, read_text};
-pub use words::{check_serve_words, check_words};
+pub use words::{FeedWords, check_serve_words, check_words};

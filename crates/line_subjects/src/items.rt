@@ -5,11 +5,12 @@
 //! from its first byte to its last. `bytes 21FF 255` and `list 01FF 255` tell whether an item of this head and of so many
 //! bytes or elements is read whole and written again.
 
-ghost use Rattle.secs_items.specs.Sendable.{IsSendable};
-ghost use Rattle.secs_items.specs.View.{view};
+ghost use Rattle.item_model.specs.Sendable.{IsSendable};
+ghost use Rattle.item_model.specs.View.{view};
 
 use anyhow::{Result, bail};
-use secs_items::{Item, decode, encode, read_one};
+use item_model::Item;
+use secs_items::{decode, encode, read_one};
 use std::alloc::Global;
 use test_lines::{Subject, bytes};
 

@@ -2,8 +2,8 @@
 
 use crate::lists::{Told, gap, listed};
 use gem_ids::{Ids, Text80};
-use msgs_gem::{GemMsg, Parameter, Setting, SpooledStream};
-use secs_items::Item;
+use item_model::Item;
+use message_model::{GemMsg, Parameter, Setting, SpooledStream};
 use std::alloc::Global;
 
 /// The parts of a message of this stream and function, or `no parts`. They stand behind the name of the message where it

@@ -1,11 +1,12 @@
 //! Bodies of messages (`msgs_gem`).
 
 ghost use Rattle.std.specs.Prelude.{◌≡◌, length, IfOk};
-ghost use Rattle.gem_replies.specs.Sendable.{AreCharacters, HasSendableParts};
+ghost use Rattle.message_model.specs.GemSendable.{AreCharacters, HasSendableParts};
 
-use msgs_gem::{BodyFault, GemReply, Identity, is_ignored, read_gem};
+use item_model::{Bytes, NoMemory};
+use message_model::{BodyFault, GemReply, Identity};
+use msgs_gem::{is_ignored, read_gem};
 use reply_texts::{is_text, sent};
-use secs_items::{Bytes, NoMemory};
 use std::alloc::Global;
 use std::test::Fail;
 

@@ -1,11 +1,11 @@
 -- Lists of printed parts.
 use Rattle.std.proofs.Common.{◌≡◌, ◌<◌, ◌+◌, ◌≤◌, ℕ, zero, suc, List, [], ◌∷◌, length, take, map, get_or, arith, refl, ap, add-one}
 use Rattle.std.proofs.lemmas.List.{take_all}
-use Rattle.secs_items.specs.Data.{Data, DataList, list, item, added}
-use Rattle.secs_items.specs.Plain.{count_of}
-use Rattle.secs_items.specs.Weight.{IsBounded, AreBounded}
-use Rattle.secs_items.proofs.Weights.{bounded-list}
-use Rattle.body_parts.specs.Printed.{items}
+use Rattle.item_model.specs.Data.{Data, DataList, list, item, added}
+use Rattle.item_model.specs.Plain.{count_of}
+use Rattle.item_model.specs.Weight.{IsBounded, AreBounded}
+use Rattle.item_model.proofs.Weights.{bounded-list}
+use Rattle.message_model.specs.Printed.{items}
 
 printed-take : {X : Type 0} (body : X → Data) (xs : List X) (i : ℕ) (x : X) → i < length xs → items (map body (take (suc i) xs)) ≡ added (items (map body (take i xs))) (body (get_or xs i x))
 printed-take body [] i x within = absurd (omega arith)

@@ -11,7 +11,9 @@ mod material;
 mod primary;
 mod reply;
 
-pub use body_parts::{BodyFault, NamedValue};
-pub use material::{CarrierSlots, RecipePart};
-pub use primary::{ShopMsg, is_shop_stream, read_shop};
-pub use reply::{ErrorPart, JobAcknowledge, JobState, ObjectAcknowledge, ShopReply, shop_item};
+pub use message_model::{
+    BodyFault, CarrierSlots, ErrorPart, JobAcknowledge, JobState, NamedValue, ObjectAcknowledge,
+    RecipePart, ShopMsg, ShopReply,
+};
+pub use primary::{is_shop_stream, read_shop};
+pub use reply::shop_item;

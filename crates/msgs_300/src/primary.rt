@@ -1,46 +1,18 @@
 //! The host's primaries.
 
 ghost use Rattle.std.specs.Prelude.{◌≡◌, option_map};
-ghost use Rattle.body_parts.specs.Bodies.{any, byte, each, fixed, flag as flag_form, id as id_form, l2, l3, l5, named_value, of, small_id as small_id_form, text as text_form};
+ghost use Rattle.message_model.specs.Bodies.{any, byte, each, fixed, flag as flag_form, id as id_form, l2, l3, l5, named_value, of, small_id as small_id_form, text as text_form};
 ghost use Rattle.body_parts.specs.Given.{AnswersAs, Gives};
-ghost use Rattle.msgs_300.specs.Parts.{any_list as any_list_form, carrier_slots, l4, l7, recipe_part as recipe_part_form};
-ghost use Rattle.msgs_300.specs.Primaries.{S3F17, S3F25, S3F27, S14F9, S16F5, S16F17, S16F27, is_shop_stream as is_stream_of_table, job_creation as job_creation_said, reading, said};
-ghost use Rattle.secs_items.specs.View.{view};
+ghost use Rattle.message_model.specs.ShopParts.{any_list as any_list_form, carrier_slots, l4, l7, recipe_part as recipe_part_form};
+ghost use Rattle.message_model.specs.ShopPrimaries.{S3F17, S3F25, S3F27, S14F9, S16F5, S16F17, S16F27, is_shop_stream as is_stream_of_table, job_creation as job_creation_said, reading, said};
+ghost use Rattle.item_model.specs.View.{view};
 
-use crate::material::{CarrierSlots, RecipePart, any_list, material_format, recipe_part};
+use crate::material::{any_list, material_format, recipe_part};
 use body_parts::reading::{copied, elements, flag, id, list_of, one, parts, small_id, text};
-use body_parts::{BodyFault, NamedValue};
 use gem_ids::{Listed, Text80};
-use secs_items::Item;
+use item_model::Item;
+use message_model::{BodyFault, ShopMsg};
 use std::alloc::Global;
-
-/// A primary of the host, with the parts of its body in the printed order (after SEMI E87, E40 and E94; this tool's
-/// profile, messages). Words of actions and commands, names of objects, attributes, carriers, jobs and recipes are any
-/// texts, and numbers of ports, slots and commands any up to 255. A part with a fixed value is no field.
-#[derive(Debug, Drop)]
-pub enum ShopMsg {
-    /// Carrier action request: DATAID, CARRIERACTION, CARRIERID, PTN, and the attributes, each its name and its value.
-    S3F17(u32, Text80, Text80, u8, Listed<NamedValue>),
-    /// Port action request: PORTACTION, PTN, and an item that may be of any kind.
-    S3F25(Text80, u8, Item),
-    /// Change access: ACCESSMODE, and PTNs. None stands for all ports.
-    S3F27(u8, Listed<u8>),
-    /// Create object request: OBJSPEC, OBJTYPE, and the attributes, each its name and its value.
-    S14F9(Text80, Text80, Listed<NamedValue>),
-    /// Process job command request: DATAID, PRJOBID, PRCMDNAME, and an item that may be of any kind.
-    S16F5(u32, Text80, Text80, Item),
-    /// Process job creation: DATAID, PRJOBID, the carriers, the recipe, PRPROCESSSTART, which is true where the job starts
-    /// by itself, and a list of pause events, which may hold items of any kind.
-    S16F11(u32, Text80, Listed<CarrierSlots>, RecipePart, bool, Item),
-    /// Process job dequeue: PRJOBIDs. None stands for all that are queued.
-    S16F17(Listed<Text80>),
-    /// Process job list request. Its text is ignored.
-    S16F19,
-    /// Process job space request. Its text is ignored.
-    S16F21,
-    /// Control job command request: CTLJOBID, CTLJOBCMD, and an item that may be of any kind.
-    S16F27(Text80, u8, Item),
-}
 
 /// Reads a primary of the host by its stream and function. `item` is its text, and None where the text is not one item;
 /// where the text is ignored it is not looked at.

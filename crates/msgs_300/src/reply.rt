@@ -1,81 +1,20 @@
 //! The tool's replies.
 
 ghost use Rattle.std.specs.Prelude.{◌≡◌, ◌≤◌, ◌^◌, ◌∷◌, [], length, IfOk};
-ghost use Rattle.secs_items.specs.Data.{Data};
-ghost use Rattle.secs_items.specs.Plain.{plain};
-ghost use Rattle.secs_items.specs.Sendable.{IsSendable};
-ghost use Rattle.secs_items.specs.View.{view};
-ghost use Rattle.secs_items.specs.Weight.{IsBounded};
-ghost use Rattle.body_parts.specs.Printed.{A, L, each};
-ghost use Rattle.msgs_300.specs.Replies.{BOOL, U2, acknowledge as acknowledge_data, action_acknowledge as action_acknowledge_data, error_part, job_acknowledge, job_state, object_acknowledge as object_acknowledge_data, shop_reply_body};
-ghost use Rattle.msgs_300.specs.Sendable.{HasSendableParts};
+ghost use Rattle.item_model.specs.Data.{Data};
+ghost use Rattle.item_model.specs.Plain.{plain};
+ghost use Rattle.item_model.specs.Sendable.{IsSendable};
+ghost use Rattle.item_model.specs.View.{view};
+ghost use Rattle.item_model.specs.Weight.{IsBounded};
+ghost use Rattle.message_model.specs.Printed.{A, L, each};
+ghost use Rattle.message_model.specs.ShopReplies.{BOOL, U2, acknowledge as acknowledge_data, action_acknowledge as action_acknowledge_data, error_part, job_acknowledge, job_state, object_acknowledge as object_acknowledge_data, shop_reply_body};
+ghost use Rattle.message_model.specs.ShopSendable.{HasSendableParts};
 
 use body_parts::writing::{list, text, u1};
-use gem_ids::{Listed, Text80};
-use secs_items::{Bools, Item, Items, NoMemory, U16s};
+use gem_ids::Text80;
+use item_model::{Bools, Item, Items, NoMemory, U16s};
+use message_model::{ErrorPart, JobAcknowledge, JobState, ObjectAcknowledge, ShopReply};
 use std::alloc::Global;
-
-/// Why something that the host asks is refused (after SEMI E40 and E94; this tool's profile, messages).
-#[derive(Debug, Drop)]
-pub struct ErrorPart {
-    /// ERRCODE, the number of the cause.
-    pub code: u8,
-    /// ERRTEXT, the cause in words.
-    pub text: Text80,
-}
-
-/// Whether a command or a creation is taken, and why not (after SEMI E40; this tool's profile, messages).
-#[derive(Debug, Drop)]
-pub struct JobAcknowledge {
-    /// ACKA, true where it is taken.
-    pub ok: bool,
-    /// Why it is refused: none where it is taken.
-    pub errors: Listed<ErrorPart>,
-}
-
-/// Whether an object is created, and why not (after SEMI E94; this tool's profile, messages).
-#[derive(Debug, Drop)]
-pub struct ObjectAcknowledge {
-    /// OBJACK, 0 where it is created.
-    pub objack: u8,
-    /// Why it is refused: none where it is created.
-    pub errors: Listed<ErrorPart>,
-}
-
-/// A process job in a list of process jobs (after SEMI E40; this tool's profile, messages).
-#[derive(Debug, Drop)]
-pub struct JobState {
-    /// PRJOBID, the job.
-    pub job: Text80,
-    /// PRSTATE, the number of its state.
-    pub state: u8,
-}
-
-/// A reply of the tool, with the parts of its body in the printed order (after SEMI E87, E40 and E94; this tool's profile,
-/// messages). A part with a fixed value is no field.
-#[derive(Debug, Drop)]
-pub enum ShopReply {
-    /// Carrier action acknowledge: CAACK, 0 where the action is taken.
-    S3F18(u8),
-    /// Port action acknowledge: CAACK, 0 where the action is taken.
-    S3F26(u8),
-    /// Change access acknowledge: CAACK, 0 where the access is changed.
-    S3F28(u8),
-    /// Create object acknowledge: OBJSPEC, and whether the object is created.
-    S14F10(Text80, ObjectAcknowledge),
-    /// Process job command acknowledge: PRJOBID as it was sent, and whether the command is taken.
-    S16F6(Text80, JobAcknowledge),
-    /// Process job creation acknowledge: PRJOBID as it was sent, and whether the job is created.
-    S16F12(Text80, JobAcknowledge),
-    /// Process job dequeue acknowledge: the PRJOBIDs that are taken off the queue, and whether the request is taken.
-    S16F18(Listed<Text80>, JobAcknowledge),
-    /// Process job list: each job with its state.
-    S16F20(Listed<JobState>),
-    /// Process job space: how many more jobs can be created.
-    S16F22(u16),
-    /// Control job command acknowledge: ACKA, true where the command is taken, and why it is refused.
-    S16F28(bool, Listed<ErrorPart>),
-}
 
 /// The item that is the text of the reply, as it is printed (after SEMI E87, E40 and E94; this tool's profile, messages).
 ///

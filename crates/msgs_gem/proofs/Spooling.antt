@@ -4,10 +4,10 @@ use Rattle.std.specs.List.{All, sum_by, filter_map, cons_option}
 use Rattle.std.proofs.lemmas.List.{length-map}
 use Rattle.std.proofs.lemmas.List.Elements.{All-cons}
 use Rattle.std.proofs.lemmas.List.Sums.{sum_by-cons}
-use Rattle.secs_items.specs.Sendable.{IsLength}
-use Rattle.body_parts.specs.Functions.{AreFewFunctions}
-use Rattle.gem_primaries.specs.declared.primary.SpooledStream.{SpooledStream}
-use Rattle.gem_replies.specs.declared.reply.StreamRefusal.{StreamRefusal}
+use Rattle.item_model.specs.Sendable.{IsLength}
+use Rattle.message_model.specs.Functions.{AreFewFunctions}
+use Rattle.message_model.specs.declared.gem_primary.SpooledStream.{SpooledStream}
+use Rattle.message_model.specs.declared.gem_reply.StreamRefusal.{StreamRefusal}
 
 all_tail : {X : Type 0} (P : X → Type 0) (x : X) (xs : List X) → All P (x ∷ xs) → All P xs
 all_tail P x xs all k d less = all (suc k) d (omega arith)

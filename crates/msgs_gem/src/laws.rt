@@ -2,12 +2,12 @@
 //! definitions.
 
 ghost use Rattle.std.specs.Prelude.{◌≡◌, ◌≤◌, ℕ, List, length, filter_map, Option, Some};
-ghost use Rattle.gem_primaries.specs.Few.{HasFewParts};
-ghost use Rattle.gem_primaries.specs.declared.primary.GemMsg.TheVariants.{S2F43};
-ghost use Rattle.gem_primaries.specs.declared.primary.SpooledStream.{SpooledStream};
-ghost use Rattle.gem_replies.specs.Sendable.{HasSendableParts};
-ghost use Rattle.gem_replies.specs.declared.reply.GemReply.TheVariants.{S2F44};
-ghost use Rattle.gem_replies.specs.declared.reply.StreamRefusal.{StreamRefusal};
+ghost use Rattle.message_model.specs.Few.{HasFewParts};
+ghost use Rattle.message_model.specs.declared.gem_primary.GemMsg.TheVariants.{S2F43};
+ghost use Rattle.message_model.specs.declared.gem_primary.SpooledStream.{SpooledStream};
+ghost use Rattle.message_model.specs.GemSendable.{HasSendableParts};
+ghost use Rattle.message_model.specs.declared.gem_reply.GemReply.TheVariants.{S2F44};
+ghost use Rattle.message_model.specs.declared.gem_reply.StreamRefusal.{StreamRefusal};
 
 /// A reply can be sent that refuses some streams of a message with few functions, and of each at most as many functions
 /// as the message has of it.

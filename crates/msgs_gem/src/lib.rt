@@ -10,13 +10,10 @@
 
 mod laws;
 
-pub use body_parts::BodyFault;
-pub use gem_primaries::{
-    GemMsg, Parameter, Setting, SpooledStream, an_ignored_text_makes_no_difference, is_ignored,
-    read_gem,
-};
-pub use gem_replies::{
-    AlarmPart, GemReply, Identity, ParameterAcknowledge, StreamRefusal, VariableName,
-    accepts_communication, gem_item,
-};
+pub use gem_primaries::{an_ignored_text_makes_no_difference, is_ignored, read_gem};
+pub use gem_replies::{accepts_communication, gem_item};
 pub use laws::what_refuses_few_functions_can_be_sent;
+pub use message_model::{
+    AlarmPart, BodyFault, GemMsg, GemReply, Identity, Parameter, ParameterAcknowledge, Setting,
+    SpooledStream, StreamRefusal, VariableName,
+};

@@ -1,22 +1,24 @@
 //! The frames that the tool sends.
 ghost use Rattle.std.specs.Prelude.{◌≡◌, ◌≤◌, ◌^◌, length, [], IfOk};
 ghost use Rattle.gem_ids.specs.Texts.{IsText};
-ghost use Rattle.gem_replies.specs.declared.reply.GemReply.TheVariants as reply;
-ghost use Rattle.secs_items.specs.View.{view};
+ghost use Rattle.message_model.specs.declared.gem_reply.GemReply.TheVariants as reply;
+ghost use Rattle.item_model.specs.View.{view};
 ghost use Rattle.hsms_frame.specs.Spelling.{message_bytes, header_bytes};
-ghost use Rattle.gem_replies.specs.Replies.{reply_body, B};
-ghost use Rattle.gem_replies.specs.Sendable.{HasSendableParts};
-ghost use Rattle.msgs_300.specs.Replies.{shop_reply_body};
-ghost use Rattle.msgs_300.specs.Sendable.{HasSendableParts as HasShopParts};
+ghost use Rattle.message_model.specs.GemReplies.{reply_body, B};
+ghost use Rattle.message_model.specs.GemSendable.{HasSendableParts};
+ghost use Rattle.message_model.specs.ShopReplies.{shop_reply_body};
+ghost use Rattle.message_model.specs.ShopSendable.{HasSendableParts as HasShopParts};
 ghost use Rattle.gem_model.specs.Sending.{data_header, data_frame, identity_text, stream9_text};
-ghost use Rattle.secs_items.specs.Plain.{plain};
-ghost use Rattle.secs_items.specs.Sendable.{IsSendable};
+ghost use Rattle.item_model.specs.Plain.{plain};
+ghost use Rattle.item_model.specs.Sendable.{IsSendable};
 
 use gem_ids::Text80;
 use hsms_frame::{Bytes, Frame, Header, write_frame, write_header};
-use msgs_300::{ShopReply, shop_item};
-use msgs_gem::{GemReply, gem_item};
-use secs_items::{Item, encode};
+use item_model::Item;
+use message_model::{GemReply, ShopReply};
+use msgs_300::shop_item;
+use msgs_gem::gem_item;
+use secs_items::encode;
 use std::alloc::{AllocError, Global};
 use tool_events::Config;
 
@@ -95,12 +97,12 @@ fn ten_bytes(header: Header) -> [u8; 10]
 }
 
 /// The ten bytes of a header, as a part of a message.
-fn header_part(alloc: Global, header: Header) -> Result<secs_items::Bytes, AllocError>
+fn header_part(alloc: Global, header: Header) -> Result<item_model::Bytes, AllocError>
     ensures bytes { IfOk result (λ bytes. bytes ≡ header_bytes header) }
     ensures ten { IfOk result (λ bytes. length bytes ≡ 10) }
 {
     let bytes = Vec::from_slice(alloc, &ten_bytes(header))?;
-    Ok(secs_items::Bytes::from_vec(bytes))
+    Ok(item_model::Bytes::from_vec(bytes))
 }
 
 /// The text of a message of stream 9: the ten bytes of the header that it is about.
@@ -113,11 +115,11 @@ pub fn stream9_text(alloc: Global, about: Header) -> Result<Bytes, AllocError>
 }
 
 /// The bytes of a text, as a part of a reply.
-pub fn part(alloc: Global, text: Text80) -> Result<secs_items::Bytes, AllocError>
+pub fn part(alloc: Global, text: Text80) -> Result<item_model::Bytes, AllocError>
     ensures bytes { IfOk result (λ bytes. bytes ≡ text) }
     ensures text { IfOk result IsText }
 {
-    Ok(secs_items::Bytes::from_vec(Vec::from_slice(alloc, text.as_bytes())?))
+    Ok(item_model::Bytes::from_vec(Vec::from_slice(alloc, text.as_bytes())?))
 }
 
 /// S1F13: the model and the software revision.

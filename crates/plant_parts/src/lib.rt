@@ -1,5 +1,5 @@
-//! Parts of the plant that are made without it: the frames and texts that the tool sends, the states in which it begins, what its
-//! variables show, and the rows that inputs list.
+//! Parts of the plant that are made without it: the frames and texts that the tool sends, the states in which it begins, and
+//! the rows that inputs list. What its variables show is in `plant_values`, beside it.
 //!
 //! Each call gives one thing of what it is handed, and changes nothing. Memory may run out in each call that is handed an allocator;
 //! it answers `AllocError` then. Begin with `frames` for what is sent, and with `firsts` for how the tool begins.
@@ -10,7 +10,6 @@ mod frames;
 mod listed;
 mod notes;
 mod settings;
-mod shown;
 
 pub use firsts::{first_comm, first_constants, first_control, first_kinds, first_switch};
 pub use frames::{
@@ -19,6 +18,3 @@ pub use frames::{
 pub use listed::{at_ports, by_comm, mode_row, note_fails, unload_row};
 pub use notes::{alcd, message_of, text_of, text_of_alarm};
 pub use settings::settings_of;
-pub use shown::{
-    carrier_text, count, load_number, name, prints, short_count, state_number, unload_number,
-};

@@ -5,7 +5,7 @@ ghost use Rattle.data_variables.specs.Bodies.{val_in};
 ghost use Rattle.gem_model.specs.Messages.{settings_of};
 
 use data_variables::{Val, set_of};
-use msgs_gem::Setting;
+use message_model::Setting;
 use std::alloc::{AllocError, Global};
 
 // The constant that a part of S2F15 sets, with the value that its item says.

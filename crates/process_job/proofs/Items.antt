@@ -1,6 +1,6 @@
 -- The items of process jobs, one behind another.
 use Rattle.std.proofs.Common.{◌≡◌, ℕ, ◌+◌, List, [], ◌∷◌, ◌++◌, take, Some, slice_get, refl, sym, ap, ◌∙◌}
-use Rattle.secs_items.specs.Data.{Data, DataList, no_items, item, added}
+use Rattle.item_model.specs.Data.{Data, DataList, no_items, item, added}
 use Rattle.process_job.specs.Listing.{job_item, job_items, joined}
 use Rattle.process_job.specs.declared.job.ProcessJob.{ProcessJob}
 use Rattle.process_job.proofs.Scans.{take_here}

@@ -1,6 +1,6 @@
 -- What S16F20 tells of the process jobs (this tool's profile, S16F19).
 use Rattle.std.specs.Prelude.{List, [], ◌∷◌}
-use Rattle.secs_items.specs.Data.{Data, DataList, list, ascii, u1, no_items, item}
+use Rattle.item_model.specs.Data.{Data, DataList, list, ascii, u1, no_items, item}
 use Rattle.process_job.specs.Tables.{job_number}
 use Rattle.process_job.specs.declared.job.ProcessJob.{ProcessJob}
 

@@ -14,7 +14,7 @@ use crate::fault::JobFault;
 use crate::job::{JobSpec, ProcessJob, is_some_material};
 use crate::listing::job_item;
 use gem_ids::{JobId, Text80};
-use secs_items::{Items, NoMemory};
+use item_model::{Items, NoMemory};
 use std::alloc::Global;
 use std::marker::Model;
 use tool_events::{JobWord, Recipe};

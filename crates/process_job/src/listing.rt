@@ -2,11 +2,11 @@
 
 ghost use Rattle.std.specs.Prelude.{◌≡◌, IfOk};
 ghost use Rattle.process_job.specs.Listing.{job_item};
-ghost use Rattle.secs_items.specs.View.{view};
+ghost use Rattle.item_model.specs.View.{view};
 
 use crate::job::ProcessJob;
 use gem_ids::Listed;
-use secs_items::{Bytes, Item, Items, NoMemory, U8s};
+use item_model::{Bytes, Item, Items, NoMemory, U8s};
 use std::alloc::Global;
 
 // A job: its name, and the number of its state.

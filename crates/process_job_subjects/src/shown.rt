@@ -1,7 +1,7 @@
 //! Jobs as they are told. None where there is no memory for it.
 
+use item_model::Item;
 use process_job::{Material, ProcessJob};
-use secs_items::Item;
 
 // Bytes as text.
 fn add(all: &mut String, bytes: &[u8]) -> Option<()> {

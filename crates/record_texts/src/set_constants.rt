@@ -7,13 +7,14 @@
 
 ghost use Rattle.std.specs.Prelude.{◌<◌, length};
 ghost use Rattle.data_variables.specs.Values.{AreConstants};
-ghost use Rattle.secs_items.specs.Sendable.{IsSendable};
-ghost use Rattle.secs_items.specs.View.{view};
+ghost use Rattle.item_model.specs.Sendable.{IsSendable};
+ghost use Rattle.item_model.specs.View.{view};
 
 use anyhow::{Result, bail};
 use data_variables::{Constants, Val, ids, item_of, set_of};
+use item_model::Item;
 use report_subjects::{add_number, numbers_in};
-use secs_items::{Item, encode, read_one};
+use secs_items::{encode, read_one};
 use std::alloc::Global;
 use test_lines::{Subject, bytes};
 

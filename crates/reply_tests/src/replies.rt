@@ -1,15 +1,15 @@
 //! Bodies of the tool's replies with parts, but for those with alarms and reports (`msgs_gem`).
 
 ghost use Rattle.std.specs.Prelude.{◌≡◌, ◌≤◌, length, map, IfOk};
-ghost use Rattle.secs_items.specs.View.{view};
-ghost use Rattle.secs_items.specs.Weight.{IsBounded};
-ghost use Rattle.body_parts.specs.Functions.{AreFewFunctions};
-ghost use Rattle.gem_replies.specs.Sendable.{AreFew, HasSendableParts};
+ghost use Rattle.item_model.specs.View.{view};
+ghost use Rattle.item_model.specs.Weight.{IsBounded};
+ghost use Rattle.message_model.specs.Functions.{AreFewFunctions};
+ghost use Rattle.message_model.specs.GemSendable.{AreFew, HasSendableParts};
 
 use gem_ids::{Listed, Text80};
-use msgs_gem::{GemReply, ParameterAcknowledge, StreamRefusal, VariableName};
+use item_model::{Item, Items, NoMemory};
+use message_model::{GemReply, ParameterAcknowledge, StreamRefusal, VariableName};
 use reply_texts::{number, repeated, sent, text};
-use secs_items::{Item, Items, NoMemory};
 use std::alloc::Global;
 use std::test::Fail;
 

@@ -3,13 +3,15 @@
 #![tactic(auto)]
 
 ghost use Rattle.std.specs.Prelude.{IfOk};
-ghost use Rattle.secs_items.specs.View.{view};
-ghost use Rattle.secs_items.specs.Weight.{IsBounded};
-ghost use Rattle.gem_replies.specs.Sendable.{HasSendableParts};
+ghost use Rattle.item_model.specs.View.{view};
+ghost use Rattle.item_model.specs.Weight.{IsBounded};
+ghost use Rattle.message_model.specs.GemSendable.{HasSendableParts};
 
 use gem_ids::Text80;
-use msgs_gem::{GemReply, gem_item};
-use secs_items::{Item, NoMemory, U32s, encode};
+use item_model::{Item, NoMemory, U32s};
+use message_model::GemReply;
+use msgs_gem::gem_item;
+use secs_items::encode;
 use std::alloc::Global;
 use std::test::Fail;
 

@@ -8,13 +8,13 @@
 //! these events are enabled.
 
 ghost use Rattle.std.specs.Prelude.{◌≡◌, ◌==◌, ◌≤◌, ℕ, ◌∷◌, [], Some, None, if◌then◌else◌, IfOk};
-ghost use Rattle.secs_items.specs.Data.{u4};
+ghost use Rattle.item_model.specs.Data.{u4};
 
 use crate::ids::{add_number, close_list, numbers_in};
 use anyhow::{Result, bail};
 use event_reports::{Reports, Values};
 use gem_ids::Ids;
-use secs_items::{Item, Items, NoMemory};
+use item_model::{Item, Items, NoMemory};
 use std::alloc::Global;
 use test_lines::Subject;
 

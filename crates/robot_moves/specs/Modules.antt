@@ -1,6 +1,7 @@
 -- The modules of a tool and their commands (this tool's profile, moves).
 use Rattle.std.specs.Prelude.{ℕ, zero, suc, ◌+◌, min, ◌==◌, Bool, true, false, if◌then◌else◌, List, replicate, Option, Some, None, slice_get}
 use Rattle.gem_tables.specs.Table.{update_at}
+use Rattle.gem_ids.specs.declared.numbers.CmdNo.{CmdNo}
 use Rattle.tool_events.specs.declared.answer.Command.{Command}
 use Rattle.robot_moves.specs.declared.module.ModuleState.{ModuleState}
 use Rattle.robot_moves.specs.declared.module.ModuleState.TheVariants as state
@@ -100,3 +101,8 @@ is_open number _ = false
 abbrev pub unfetched : Option Module → Option Command
 unfetched (Some (Busy command fetched)) = if fetched then None else Some command
 unfetched _ = None
+
+-- the number of its open command that was fetched
+abbrev pub fetched_number : Option Module → Option CmdNo
+fetched_number (Some (Busy command fetched)) = if fetched then Some command.number else None
+fetched_number _ = None

@@ -1,7 +1,7 @@
 //! The modules of a tool.
 
 ghost use Rattle.std.specs.Prelude.{◌≡◌, ◌≤◌, ◌+◌, min, length, IfOk};
-ghost use Rattle.robot_moves.specs.Modules.{first_modules, module_at, change_module, is_idle, is_down, is_up, is_open, unfetched, stepped, given, taken, closed, goes_down, comes_up};
+ghost use Rattle.robot_moves.specs.Modules.{first_modules, module_at, change_module, is_idle, is_down, is_up, is_open, unfetched, fetched_number, stepped, given, taken, closed, goes_down, comes_up};
 ghost use Rattle.robot_moves.specs.declared.module.Module.TheVariants.{Idle, Down};
 
 use crate::module::{Module, Step};
@@ -65,6 +65,18 @@ impl Modules {
         ensures { result ≡ is_idle (module_at m.0 self.now) }
     {
         matches!(self.get(m), Some(Module::Idle))
+    }
+
+    /// The number of the open command of a module that was fetched. `None` exactly where it has none.
+    pub fn fetched_number(&self, m: ModuleId) -> Option<CmdNo>
+        ensures { result ≡ fetched_number (module_at m.0 self.now) }
+    {
+        match self.get(m) {
+            Some(Module::Busy { command, fetched }) => {
+                if fetched { Some(command.number) } else { None }
+            }
+            _ => None,
+        }
     }
 
     // ---- commands

@@ -2,13 +2,13 @@
 use Rattle.std.proofs.Common.{◌≡◌, ◌≢◌, ◌<◌, ◌≤◌, ◌+◌, ◌-◌, ◌*◌, ◌%◌, ℕ, zero, suc, List, [], ◌∷◌, ◌++◌, length, take, replicate, None, Ok, Err, refl, ap, sym, ◌∙◌, subst, inl, inr, arith, append-nil, append_assoc, length-append}
 use Rattle.std.proofs.lemmas.List.{take_all, length-replicate}
 use Rattle.byteorder.specs.Endian.{big_number}
-use Rattle.secs_items.specs.Data.{Data, DataList, list, binary, no_items, item}
-use Rattle.secs_items.specs.Format.{code, width}
-use Rattle.secs_items.specs.Reading.{Read, format_at, length_at, no_character, leaf, leaf_at, items_at, list_at, item_at}
-use Rattle.secs_items.specs.Spelling.{AreBelow, Spells}
-use Rattle.secs_items.specs.declared.fault.ItemFault.TheVariants as fault
-use Rattle.secs_items.specs.declared.format.Format.{Format}
-use Rattle.secs_items.specs.declared.format.Format.TheVariants as format
+use Rattle.item_model.specs.Data.{Data, DataList, list, binary, no_items, item}
+use Rattle.item_model.specs.Format.{code, width}
+use Rattle.item_model.specs.Reading.{Read, format_at, length_at, no_character, leaf, leaf_at, items_at, list_at, item_at}
+use Rattle.item_model.specs.Spelling.{AreBelow, Spells}
+use Rattle.item_model.specs.declared.fault.ItemFault.TheVariants as fault
+use Rattle.item_model.specs.declared.format.Format.{Format}
+use Rattle.item_model.specs.declared.format.Format.TheVariants as format
 use Rattle.secs_items.proofs.Characters.{position-below, below-position}
 use Rattle.secs_items.proofs.Digits.{below_append, below_right}
 use Rattle.secs_items.proofs.Failing.{nothing, no_length, no_format, LeafFails, short_head, bad_width, bad_text, short_body, ListFails, short_list, bad_items, ItemFails, at_format, too_deep, in_list, in_leaf, leaf_fails, list_fails, item_fails}

@@ -4,15 +4,15 @@ use Rattle.std.proofs.lemmas.Bool.{lt-ltb, eq-eqb}
 use Rattle.std.proofs.lemmas.List.{take_all}
 use Rattle.std.specs.Int.{bytes_high_first}
 use Rattle.byteorder.specs.Numbers.{length-bytes_high_first}
-use Rattle.secs_items.specs.Data.{Data, DataList, no_items, item}
-use Rattle.secs_items.specs.Format.{code, width}
-use Rattle.secs_items.specs.Plain.{count_of}
-use Rattle.secs_items.specs.Reading.{Read, format_at, length_at, no_character, body_at, leaf_at, items_at, item_at}
-use Rattle.secs_items.specs.Spelling.{Spells, SpellAll}
-use Rattle.secs_items.specs.declared.fault.ItemFault.{ItemFault}
-use Rattle.secs_items.specs.declared.fault.ItemFault.TheVariants as fault
-use Rattle.secs_items.specs.declared.format.Format.{Format}
-use Rattle.secs_items.specs.declared.format.Format.TheVariants as format
+use Rattle.item_model.specs.Data.{Data, DataList, no_items, item}
+use Rattle.item_model.specs.Format.{code, width}
+use Rattle.item_model.specs.Plain.{count_of}
+use Rattle.item_model.specs.Reading.{Read, format_at, length_at, no_character, body_at, leaf_at, items_at, item_at}
+use Rattle.item_model.specs.Spelling.{Spells, SpellAll}
+use Rattle.item_model.specs.declared.fault.ItemFault.{ItemFault}
+use Rattle.item_model.specs.declared.fault.ItemFault.TheVariants as fault
+use Rattle.item_model.specs.declared.format.Format.{Format}
+use Rattle.item_model.specs.declared.format.Format.TheVariants as format
 use Rattle.secs_items.proofs.Characters.{no_character-front}
 use Rattle.secs_items.proofs.Grammar.{again}
 use Rattle.secs_items.proofs.Heads.{format_at-byte, head_reads, length_at-short}

@@ -1,14 +1,14 @@
 -- What the reading of the whole input gives, in the words of the grammar.
 use Rattle.std.proofs.Common.{◌≡◌, ◌≢◌, ◌≤◌, ◌+◌, ◌-◌, ℕ, List, length, take, drop, get_or, Result, Ok, Err, refl, ap, sym, ◌∙◌, subst, arith, length-append, length-drop, Fits, w8}
 use Rattle.std.proofs.lemmas.List.{take_at, take-append-drop}
-use Rattle.secs_items.specs.Data.{Data}
+use Rattle.item_model.specs.Data.{Data}
 use Rattle.secs_items.specs.Faults.{IsFirst}
 use Rattle.secs_items.specs.Given.{Fails}
-use Rattle.secs_items.specs.Reading.{item_at}
-use Rattle.secs_items.specs.Sendable.{IsSendable}
-use Rattle.secs_items.specs.Spelling.{AreBelow, Spells}
-use Rattle.secs_items.specs.declared.fault.ItemFault.{ItemFault}
-use Rattle.secs_items.specs.declared.fault.ItemFault.TheVariants as fault
+use Rattle.item_model.specs.Reading.{item_at}
+use Rattle.item_model.specs.Sendable.{IsSendable}
+use Rattle.item_model.specs.Spelling.{AreBelow, Spells}
+use Rattle.item_model.specs.declared.fault.ItemFault.{ItemFault}
+use Rattle.item_model.specs.declared.fault.ItemFault.TheVariants as fault
 use Rattle.secs_items.proofs.Digits.{below_from}
 use Rattle.secs_items.proofs.Failing.{err_is}
 use Rattle.secs_items.proofs.Grammar.{again, found}

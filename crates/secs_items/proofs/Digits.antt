@@ -4,7 +4,7 @@ use Rattle.std.proofs.Math.Nat.{mod-eq_of_lt, mod-lt, mul-add-mod_self_right, mu
 use Rattle.std.specs.Int.{byte_at, bytes_high_first}
 use Rattle.byteorder.specs.Endian.{big_number}
 use Rattle.byteorder.specs.Numbers.{big_from-cons, big_from-bytes, big_from-lt, length-bytes_high_first}
-use Rattle.secs_items.specs.Spelling.{AreBelow}
+use Rattle.item_model.specs.Spelling.{AreBelow}
 
 pub below_at : (n : ℕ) (xs : List ℕ) (i : ℕ) → 0 < n → AreBelow n xs → slice_index xs i < n
 below_at n [] i some below = some

@@ -1,13 +1,13 @@
 -- Why a reading fails, step by step.
 use Rattle.std.proofs.Common.{◌≡◌, ◌≢◌, ◌<◌, ◌+◌, ◌-◌, ◌%◌, ◌/◌, ◌⊎◌, ℕ, zero, suc, true, false, List, [], ◌∷◌, length, take, drop, eqb, ltb, Option, Some, None, Result, Ok, Err, refl, ap, sym, ◌∙◌, inl, inr}
 use Rattle.std.proofs.lemmas.Bool.{ltb-true, eqb-true, eqb-false}
-use Rattle.secs_items.specs.Data.{Data}
-use Rattle.secs_items.specs.Format.{width, IsNoCode}
-use Rattle.secs_items.specs.Reading.{Read, format_with, known, format_at, length_at, no_character, whole_body, body_at, leaf, leaf_at, items_at, is_list, list_at, item_at}
-use Rattle.secs_items.specs.declared.fault.ItemFault.{ItemFault}
-use Rattle.secs_items.specs.declared.fault.ItemFault.TheVariants as fault
-use Rattle.secs_items.specs.declared.format.Format.{Format}
-use Rattle.secs_items.specs.declared.format.Format.TheVariants as format
+use Rattle.item_model.specs.Data.{Data}
+use Rattle.item_model.specs.Format.{width, IsNoCode}
+use Rattle.item_model.specs.Reading.{Read, format_with, known, format_at, length_at, no_character, whole_body, body_at, leaf, leaf_at, items_at, is_list, list_at, item_at}
+use Rattle.item_model.specs.declared.fault.ItemFault.{ItemFault}
+use Rattle.item_model.specs.declared.fault.ItemFault.TheVariants as fault
+use Rattle.item_model.specs.declared.format.Format.{Format}
+use Rattle.item_model.specs.declared.format.Format.TheVariants as format
 use Rattle.secs_items.proofs.Grammar.{the_list}
 use Rattle.secs_items.proofs.Heads.{bind_err, chosen, no_code, length_at-err}
 

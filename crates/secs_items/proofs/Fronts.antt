@@ -2,14 +2,14 @@
 use Rattle.std.proofs.Common.{◌≡◌, ◌<◌, ◌≤◌, ◌+◌, ◌-◌, ◌*◌, ◌⊎◌, ℕ, List, [], ◌∷◌, ◌++◌, length, take, drop, Result, Ok, Err, refl, ap, sym, ◌∙◌, subst, inl, inr, arith, append-nil}
 use Rattle.std.proofs.lemmas.List.{take-append-drop, take_all}
 use Rattle.std.specs.Int.{bytes_high_first}
-use Rattle.secs_items.specs.Data.{Data}
+use Rattle.item_model.specs.Data.{Data}
 use Rattle.secs_items.specs.Faults.{Begins, Stands, IsFirst, place_of}
-use Rattle.secs_items.specs.Format.{code}
-use Rattle.secs_items.specs.Reading.{item_at}
-use Rattle.secs_items.specs.Spelling.{AreBelow, IsHead, Spells, Open}
-use Rattle.secs_items.specs.declared.fault.ItemFault.{ItemFault}
-use Rattle.secs_items.specs.declared.fault.ItemFault.TheVariants as fault
-use Rattle.secs_items.specs.declared.format.Format.TheVariants as format
+use Rattle.item_model.specs.Format.{code}
+use Rattle.item_model.specs.Reading.{item_at}
+use Rattle.item_model.specs.Spelling.{AreBelow, IsHead, Spells, Open}
+use Rattle.item_model.specs.declared.fault.ItemFault.{ItemFault}
+use Rattle.item_model.specs.declared.fault.ItemFault.TheVariants as fault
+use Rattle.item_model.specs.declared.format.Format.TheVariants as format
 use Rattle.secs_items.proofs.Characters.{position-below}
 use Rattle.secs_items.proofs.Cut.{none_cut, leaf_cut}
 use Rattle.secs_items.proofs.Decoding.{spelled_front}

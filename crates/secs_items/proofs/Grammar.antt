@@ -3,14 +3,14 @@ use Rattle.std.proofs.Common.{◌≡◌, ◌<◌, ◌≤◌, ◌+◌, ◌-◌, �
 use Rattle.std.proofs.lemmas.Bool.{le-ltb, ltb-false, eqb-true, eq-eqb}
 use Rattle.std.proofs.lemmas.List.{take_at, drop_at, take-append-drop}
 use Rattle.std.specs.Int.{bytes_high_first}
-use Rattle.secs_items.specs.Data.{Data, DataList, list, no_items, item}
-use Rattle.secs_items.specs.Format.{code, width}
-use Rattle.secs_items.specs.Plain.{count_of}
-use Rattle.secs_items.specs.Reading.{Read, format_at, length_at, no_character, whole_body, body_at, leaf, leaf_at, items_at, is_list, list_at, item_at}
-use Rattle.secs_items.specs.Spelling.{AreBelow, IsHead, Spells, SpellAll}
-use Rattle.secs_items.specs.declared.fault.ItemFault.TheVariants as fault
-use Rattle.secs_items.specs.declared.format.Format.{Format}
-use Rattle.secs_items.specs.declared.format.Format.TheVariants as format
+use Rattle.item_model.specs.Data.{Data, DataList, list, no_items, item}
+use Rattle.item_model.specs.Format.{code, width}
+use Rattle.item_model.specs.Plain.{count_of}
+use Rattle.item_model.specs.Reading.{Read, format_at, length_at, no_character, whole_body, body_at, leaf, leaf_at, items_at, is_list, list_at, item_at}
+use Rattle.item_model.specs.Spelling.{AreBelow, IsHead, Spells, SpellAll}
+use Rattle.item_model.specs.declared.fault.ItemFault.TheVariants as fault
+use Rattle.item_model.specs.declared.format.Format.{Format}
+use Rattle.item_model.specs.declared.format.Format.TheVariants as format
 use Rattle.secs_items.proofs.Digits.{below_left, below_right}
 use Rattle.secs_items.proofs.Heads.{bind_ok, chosen, ok_is, head_reads, head_is, format_at-ok, length_at-ok}
 use Rattle.secs_items.proofs.Leaves.{IsLeaf, IsListSpelling, spelled, spells_leaf}

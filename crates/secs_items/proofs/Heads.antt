@@ -5,13 +5,13 @@ use Rattle.std.proofs.lemmas.List.{drop_at, take-append-drop}
 use Rattle.std.specs.Int.{bytes_high_first}
 use Rattle.byteorder.specs.Endian.{big_number}
 use Rattle.byteorder.specs.Numbers.{big_number-reads_back, length-bytes_high_first, big_from-append}
-use Rattle.secs_items.specs.Format.{code, IsNoCode}
-use Rattle.secs_items.specs.Reading.{◌>>=◌, first_with, formats, format_with, known, format_at, length_at}
-use Rattle.secs_items.specs.Spelling.{AreBelow, IsHead}
-use Rattle.secs_items.specs.declared.fault.ItemFault.{ItemFault}
-use Rattle.secs_items.specs.declared.fault.ItemFault.TheVariants as fault
-use Rattle.secs_items.specs.declared.format.Format.{Format}
-use Rattle.secs_items.specs.declared.format.Format.TheVariants as format
+use Rattle.item_model.specs.Format.{code, IsNoCode}
+use Rattle.item_model.specs.Reading.{◌>>=◌, first_with, formats, format_with, known, format_at, length_at}
+use Rattle.item_model.specs.Spelling.{AreBelow, IsHead}
+use Rattle.item_model.specs.declared.fault.ItemFault.{ItemFault}
+use Rattle.item_model.specs.declared.fault.ItemFault.TheVariants as fault
+use Rattle.item_model.specs.declared.format.Format.{Format}
+use Rattle.item_model.specs.declared.format.Format.TheVariants as format
 use Rattle.secs_items.proofs.Digits.{bytes_number, number_below}
 
 -- a step that was taken, and one that failed

@@ -1,10 +1,10 @@
 -- Elements read one after another.
 use Rattle.std.proofs.Common.{◌≡◌, ◌*◌, ◌≤◌, Ok, Err, refl, ap, ℕ, suc, List, [], ◌∷◌, ◌++◌, length, drop, arith, length-drop, append_assoc, sym, ◌∙◌}
 use Rattle.std.proofs.Math.Nat.{mul-suc}
-use Rattle.secs_items.specs.Data.{Data, DataList, no_items, item, added}
+use Rattle.item_model.specs.Data.{Data, DataList, no_items, item, added}
 use Rattle.secs_items.specs.Given.{Fails}
-use Rattle.secs_items.specs.Reading.{Read, ◌>>=◌, elements_at, items_at}
-use Rattle.secs_items.specs.declared.fault.ItemFault.{ItemFault}
+use Rattle.item_model.specs.Reading.{Read, ◌>>=◌, elements_at, items_at}
+use Rattle.item_model.specs.declared.fault.ItemFault.{ItemFault}
 use Rattle.secs_items.proofs.Stepping.{fails_bind}
 
 -- one more element is read

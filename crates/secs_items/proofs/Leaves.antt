@@ -10,13 +10,13 @@ use Rattle.byteorder.specs.Numbers.{big_number-reads_back, length-bytes_high_fir
 use mir.Val.{bits}
 use mir.ValLaws.{of_z_fits}
 use borrow.Author.Gap.{read_sfits}
-use Rattle.secs_items.specs.Data.{Data, DataList, list, binary, boolean, ascii, i1, i2, i4, i8, u1, u2, u4, u8}
-use Rattle.secs_items.specs.Format.{width}
-use Rattle.secs_items.specs.Plain.{count_of}
-use Rattle.secs_items.specs.Reading.{elements_at, truth_in, unsigned_in, signed_in, leaf, no_character, is_list}
-use Rattle.secs_items.specs.Spelling.{AreBelow, IsHead, Spells, SpellAll}
-use Rattle.secs_items.specs.declared.format.Format.{Format}
-use Rattle.secs_items.specs.declared.format.Format.TheVariants as format
+use Rattle.item_model.specs.Data.{Data, DataList, list, binary, boolean, ascii, i1, i2, i4, i8, u1, u2, u4, u8}
+use Rattle.item_model.specs.Format.{width}
+use Rattle.item_model.specs.Plain.{count_of}
+use Rattle.item_model.specs.Reading.{elements_at, truth_in, unsigned_in, signed_in, leaf, no_character, is_list}
+use Rattle.item_model.specs.Spelling.{AreBelow, IsHead, Spells, SpellAll}
+use Rattle.item_model.specs.declared.format.Format.{Format}
+use Rattle.item_model.specs.declared.format.Format.TheVariants as format
 use Rattle.secs_items.proofs.Characters.{position-below, below-position}
 use Rattle.secs_items.proofs.Digits.{below_left, below_right, bytes_number, number_below}
 

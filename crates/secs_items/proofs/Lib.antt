@@ -9,10 +9,8 @@ pub mod Grammar
 pub mod Heads
 pub mod InTurn
 pub mod Leaves
-pub mod Lists
 pub mod OneItem
 pub mod PlainSpelling
 pub mod Sends
 pub mod Standing
 pub mod Stepping
-pub mod Weights

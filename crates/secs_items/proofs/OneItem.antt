@@ -1,12 +1,12 @@
 -- A text that is one item, in the words of the grammar.
 use Rattle.std.proofs.Common.{◌≡◌, ◌≢◌, ◌<◌, ◌≤◌, ◌-◌, ℕ, List, [], ◌∷◌, length, take, drop, Some, None, Ok, Err, refl, ap, sym, ◌∙◌, subst, arith, append-nil, length-drop}
 use Rattle.std.proofs.lemmas.List.{take_all}
-use Rattle.secs_items.specs.Data.{Data}
+use Rattle.item_model.specs.Data.{Data}
 use Rattle.secs_items.specs.Faults.{IsFirst}
-use Rattle.secs_items.specs.One.{whole, one_item}
-use Rattle.secs_items.specs.Reading.{Read, item_at}
-use Rattle.secs_items.specs.Spelling.{AreBelow, Spells}
-use Rattle.secs_items.specs.declared.fault.ItemFault.{ItemFault}
+use Rattle.item_model.specs.One.{whole, one_item}
+use Rattle.item_model.specs.Reading.{Read, item_at}
+use Rattle.item_model.specs.Spelling.{AreBelow, Spells}
+use Rattle.item_model.specs.declared.fault.ItemFault.{ItemFault}
 use Rattle.secs_items.proofs.Decoding.{spelled_read}
 use Rattle.secs_items.proofs.Grammar.{again, found}
 use Rattle.secs_items.proofs.Standing.{first_told}

@@ -6,16 +6,16 @@ use Rattle.std.proofs.Math.Nat.{mod-eq_of_lt}
 use Rattle.std.specs.List.{All, AllByRecursion}
 use Rattle.std.specs.Int.{Width, w8, w16, w32, w64, bytes_high_first, cast_unsigned}
 use Rattle.byteorder.specs.Numbers.{length-bytes_high_first}
-use Rattle.secs_items.specs.Data.{Data, DataList, list, binary, boolean, ascii, i1, i2, i4, i8, u1, u2, u4, u8, no_items, item}
-use Rattle.secs_items.specs.Format.{code}
-use Rattle.secs_items.specs.Height.{height, highest}
-use Rattle.secs_items.specs.Plain.{plain_head, plain, plain_all, count_of, truth_bytes, signed_bytes, unsigned_bytes}
+use Rattle.item_model.specs.Data.{Data, DataList, list, binary, boolean, ascii, i1, i2, i4, i8, u1, u2, u4, u8, no_items, item}
+use Rattle.item_model.specs.Format.{code}
+use Rattle.item_model.specs.Height.{height, highest}
+use Rattle.item_model.specs.Plain.{plain_head, plain, plain_all, count_of, truth_bytes, signed_bytes, unsigned_bytes}
 use Rattle.secs_items.specs.Ranges.{IsInRange, AreInRange}
-use Rattle.secs_items.specs.Reading.{item_at}
-use Rattle.secs_items.specs.Sendable.{IsLength, HasShortBodies, HaveShortBodies}
-use Rattle.secs_items.specs.Spelling.{AreBelow, AreTruths, IsHead, Spells, SpellAll}
-use Rattle.secs_items.specs.declared.format.Format.{Format}
-use Rattle.secs_items.specs.declared.format.Format.TheVariants as format
+use Rattle.item_model.specs.Reading.{item_at}
+use Rattle.item_model.specs.Sendable.{IsLength, HasShortBodies, HaveShortBodies}
+use Rattle.item_model.specs.Spelling.{AreBelow, AreTruths, IsHead, Spells, SpellAll}
+use Rattle.item_model.specs.declared.format.Format.{Format}
+use Rattle.item_model.specs.declared.format.Format.TheVariants as format
 use Rattle.secs_items.proofs.Digits.{below_more}
 use Rattle.secs_items.proofs.Grammar.{again}
 use Rattle.secs_items.proofs.Heads.{ok_is}

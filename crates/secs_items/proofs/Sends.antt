@@ -4,13 +4,13 @@ use Rattle.std.proofs.Math.Nat.{pow-le-pow_right}
 use Rattle.std.specs.List.{All, AllByRecursion}
 use Rattle.std.specs.Int.{Width, w8, w16, w32, w64, bytes_high_first, cast_unsigned}
 use Rattle.byteorder.specs.Numbers.{length-bytes_high_first}
-use Rattle.secs_items.specs.Data.{Data, DataList, list, binary, boolean, ascii, i1, i2, i4, i8, u1, u2, u4, u8, no_items, item}
-use Rattle.secs_items.specs.Height.{height, highest}
-use Rattle.secs_items.specs.Plain.{count_of}
-use Rattle.secs_items.specs.Sendable.{IsLength, IsSendable, HasShortBodies, HaveShortBodies}
-use Rattle.secs_items.specs.Spelling.{AreBelow, IsHead, Spells, SpellAll}
-use Rattle.secs_items.specs.declared.format.Format.{Format}
-use Rattle.secs_items.specs.declared.format.Format.TheVariants as format
+use Rattle.item_model.specs.Data.{Data, DataList, list, binary, boolean, ascii, i1, i2, i4, i8, u1, u2, u4, u8, no_items, item}
+use Rattle.item_model.specs.Height.{height, highest}
+use Rattle.item_model.specs.Plain.{count_of}
+use Rattle.item_model.specs.Sendable.{IsLength, IsSendable, HasShortBodies, HaveShortBodies}
+use Rattle.item_model.specs.Spelling.{AreBelow, IsHead, Spells, SpellAll}
+use Rattle.item_model.specs.declared.format.Format.{Format}
+use Rattle.item_model.specs.declared.format.Format.TheVariants as format
 use Rattle.secs_items.proofs.Leaves.{elements_length}
 
 all_from : {X : Type 0} (P : X → Type 0) (xs : List X) → AllByRecursion P xs → All P xs

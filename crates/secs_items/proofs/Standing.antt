@@ -4,16 +4,16 @@ use Rattle.std.proofs.lemmas.Bool.{ne_eqb, eq-eqb, cases_eq}
 use Rattle.std.proofs.lemmas.List.{take_at, drop_at, get_or_at, take-append-drop, drop_more}
 use Rattle.std.proofs.Math.Seq.{take-append-add}
 use Rattle.std.specs.Int.{bytes_high_first}
-use Rattle.secs_items.specs.Data.{Data, DataList, no_items, item, added}
+use Rattle.item_model.specs.Data.{Data, DataList, no_items, item, added}
 use Rattle.secs_items.specs.Faults.{Begins, BeginsAt, Stands, place_of, rank_of, Precedes, IsFirst}
-use Rattle.secs_items.specs.Format.{code, width, IsNoCode}
-use Rattle.secs_items.specs.Plain.{count_of}
-use Rattle.secs_items.specs.Reading.{Read, first_with, formats, format_at, length_at, no_character, body_at, leaf_at, items_at, is_list, list_at, item_at}
-use Rattle.secs_items.specs.Spelling.{AreBelow, IsHead, Spells, SpellAll}
-use Rattle.secs_items.specs.declared.fault.ItemFault.{ItemFault}
-use Rattle.secs_items.specs.declared.fault.ItemFault.TheVariants as fault
-use Rattle.secs_items.specs.declared.format.Format.{Format}
-use Rattle.secs_items.specs.declared.format.Format.TheVariants as format
+use Rattle.item_model.specs.Format.{code, width, IsNoCode}
+use Rattle.item_model.specs.Plain.{count_of}
+use Rattle.item_model.specs.Reading.{Read, first_with, formats, format_at, length_at, no_character, body_at, leaf_at, items_at, is_list, list_at, item_at}
+use Rattle.item_model.specs.Spelling.{AreBelow, IsHead, Spells, SpellAll}
+use Rattle.item_model.specs.declared.fault.ItemFault.{ItemFault}
+use Rattle.item_model.specs.declared.fault.ItemFault.TheVariants as fault
+use Rattle.item_model.specs.declared.format.Format.{Format}
+use Rattle.item_model.specs.declared.format.Format.TheVariants as format
 use Rattle.secs_items.proofs.Characters.{over-position, position-over}
 use Rattle.secs_items.proofs.Complete.{completes}
 use Rattle.secs_items.proofs.Cut.{cut}

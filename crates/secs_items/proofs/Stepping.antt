@@ -1,12 +1,12 @@
 -- What the reading of an item gives, by what its format byte is.
 use Rattle.std.proofs.Common.{◌≡◌, ◌-◌, ◌≢◌, refl, ℕ, zero, suc, List, length, Ok, Err, Result, false}
-use Rattle.secs_items.specs.Data.{Data, DataList, list}
+use Rattle.item_model.specs.Data.{Data, DataList, list}
 use Rattle.secs_items.specs.Given.{Fails}
-use Rattle.secs_items.specs.Reading.{Read, ◌>>=◌, format_at, is_list, length_at, items_at, leaf_at, list_at, item_at}
-use Rattle.secs_items.specs.declared.fault.ItemFault.{ItemFault}
-use Rattle.secs_items.specs.declared.fault.ItemFault.TheVariants as fault
-use Rattle.secs_items.specs.declared.format.Format.{Format}
-use Rattle.secs_items.specs.declared.format.Format.TheVariants as format
+use Rattle.item_model.specs.Reading.{Read, ◌>>=◌, format_at, is_list, length_at, items_at, leaf_at, list_at, item_at}
+use Rattle.item_model.specs.declared.fault.ItemFault.{ItemFault}
+use Rattle.item_model.specs.declared.fault.ItemFault.TheVariants as fault
+use Rattle.item_model.specs.declared.format.Format.{Format}
+use Rattle.item_model.specs.declared.format.Format.TheVariants as format
 
 -- a fault goes past what would have come next
 pub fails_bind : {A B : Type 0} (e : ItemFault) (r : Result A ItemFault) (f : A → Result B ItemFault) → Fails e r → Fails e (r >>= f)

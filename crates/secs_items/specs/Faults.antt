@@ -1,13 +1,13 @@
 -- What is wrong with bytes that spell no item.
 use Rattle.std.specs.Prelude.{◌≡◌, ◌≢◌, ◌⊎◌, ℕ, zero, suc, ◌/◌, ◌%◌, ◌<◌, ◌≤◌, List, [], ◌++◌, length, take, drop, slice_index}
-use Rattle.secs_items.specs.Data.{DataList}
-use Rattle.secs_items.specs.Format.{width, IsNoCode}
-use Rattle.secs_items.specs.Plain.{count_of}
-use Rattle.secs_items.specs.Spelling.{IsHead, SpellAll, AreBelow, Open}
-use Rattle.secs_items.specs.declared.fault.ItemFault.{ItemFault}
-use Rattle.secs_items.specs.declared.fault.ItemFault.TheVariants as fault
-use Rattle.secs_items.specs.declared.format.Format.{Format}
-use Rattle.secs_items.specs.declared.format.Format.TheVariants as format
+use Rattle.item_model.specs.Data.{DataList}
+use Rattle.item_model.specs.Format.{width, IsNoCode}
+use Rattle.item_model.specs.Plain.{count_of}
+use Rattle.item_model.specs.Spelling.{IsHead, SpellAll, AreBelow, Open}
+use Rattle.item_model.specs.declared.fault.ItemFault.{ItemFault}
+use Rattle.item_model.specs.declared.fault.ItemFault.TheVariants as fault
+use Rattle.item_model.specs.declared.format.Format.{Format}
+use Rattle.item_model.specs.declared.format.Format.TheVariants as format
 
 -- An item inside so many lists begins behind these bytes: each of the lists has begun,
 -- and fewer of its items have gone by than it announces.

@@ -1,7 +1,7 @@
 -- What a function gave, unless memory ran out.
 use Rattle.std.specs.Prelude.{◌≡◌, Result, Ok, Err}
-use Rattle.secs_items.specs.declared.fault.ItemFault.{ItemFault}
-use Rattle.secs_items.specs.declared.fault.ItemFault.TheVariants as fault
+use Rattle.item_model.specs.declared.fault.ItemFault.{ItemFault}
+use Rattle.item_model.specs.declared.fault.ItemFault.TheVariants as fault
 
 -- the answer is this fault, or memory ran out
 abbrev pub Fails : {A : Type 0} → ItemFault → Result A ItemFault → Type 0

@@ -1,17 +1,4 @@
-pub mod Data
-pub mod Falls
 pub mod Faults
-pub mod Format
 pub mod Given
 pub mod Grows
-pub mod Height
-pub mod Ids
-pub mod One
-pub mod Plain
 pub mod Ranges
-pub mod Reading
-pub mod Sendable
-pub mod Spelling
-pub mod Stored
-pub mod View
-pub mod Weight

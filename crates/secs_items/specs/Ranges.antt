@@ -2,8 +2,8 @@
 use Rattle.std.specs.Prelude.{◌^◌, FitsSigned}
 use Rattle.std.specs.List.{AllByRecursion}
 use Rattle.std.specs.Int.{w8, w16, w32, w64}
-use Rattle.secs_items.specs.Data.{Data, DataList, list, binary, boolean, ascii, i1, i2, i4, i8, u1, u2, u4, u8, no_items, item}
-use Rattle.secs_items.specs.Spelling.{AreBelow}
+use Rattle.item_model.specs.Data.{Data, DataList, list, binary, boolean, ascii, i1, i2, i4, i8, u1, u2, u4, u8, no_items, item}
+use Rattle.item_model.specs.Spelling.{AreBelow}
 
 abbrev mutual
   -- each number is one of its format's bytes (SEMI E5, item formats)

@@ -2,7 +2,7 @@ ghost use Rattle.std.specs.Prelude.{◌≡◌, ◌<◌, ◌≤◌, List, ℕ, []
 ghost use Rattle.std.specs.Int.{w8, w16, w32, w64, to_be_bytes, cast_unsigned, cast_signed};
 ghost use Rattle.std.proofs.Common.{lit<};
 ghost use Rattle.byteorder.specs.Endian.{big_number};
-ghost use Rattle.secs_items.specs.Reading.{truth_in};
+ghost use Rattle.item_model.specs.Reading.{truth_in};
 
 use byteorder::{BigEndian, ByteOrder};
 use std::alloc::AllocError;

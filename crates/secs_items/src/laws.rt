@@ -1,15 +1,15 @@
 //! Laws of the grammar of items, for proofs to cite. Each function is empty: what it ensures holds of the definitions.
 
 ghost use Rattle.std.specs.Prelude.{◌≡◌, ◌⊎◌, ◌↔◌, ◌≤◌, ◌<◌, ◌+◌, ◌*◌, ◌^◌, ℕ, suc, List, ◌++◌, length, take, Some};
-ghost use Rattle.secs_items.specs.Data.{Data, DataList, list};
+ghost use Rattle.item_model.specs.Data.{Data, DataList, list};
 ghost use Rattle.secs_items.specs.Faults.{Stands, IsFirst, place_of};
-ghost use Rattle.secs_items.specs.One.{one_item};
-ghost use Rattle.secs_items.specs.Plain.{plain, count_of};
+ghost use Rattle.item_model.specs.One.{one_item};
+ghost use Rattle.item_model.specs.Plain.{plain, count_of};
 ghost use Rattle.secs_items.specs.Ranges.{IsInRange};
-ghost use Rattle.secs_items.specs.Sendable.{IsSendable};
-ghost use Rattle.secs_items.specs.Spelling.{AreBelow, Spells, Open};
-ghost use Rattle.secs_items.specs.Weight.{weight, IsBounded, AreBounded};
-ghost use Rattle.secs_items.specs.declared.fault.ItemFault.{ItemFault};
+ghost use Rattle.item_model.specs.Sendable.{IsSendable};
+ghost use Rattle.item_model.specs.Spelling.{AreBelow, Spells, Open};
+ghost use Rattle.item_model.specs.Weight.{weight, IsBounded, AreBounded};
+ghost use Rattle.item_model.specs.declared.fault.ItemFault.{ItemFault};
 
 /// No spelling is a proper front of another, and bytes spell one item at most. So what was written is read again,
 /// whatever follows it.

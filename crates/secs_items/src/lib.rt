@@ -1,25 +1,20 @@
-//! SECS-II data items after SEMI E5 (data items, item header, item formats): the values that messages carry, and their
-//! bytes. Every spelling is read, with 1, 2 or 3 length bytes, and one is written, the shortest. Bytes that spell no item
+//! SECS-II data items after SEMI E5 (data items, item header, item formats), from bytes and to bytes, as `item_model` defines
+//! them. Every spelling is read, with 1, 2 or 3 length bytes, and one is written, the shortest. Bytes that spell no item
 //! are told by the fault of the least place. Floating numbers, JIS-8 and two-byte characters are no formats here, and lists
 //! stand inside one another at most 16 deep. What an item means to a message is left to the crates above. Begin with
 //! `decode`, which reads an item, `read_one`, which reads a text that is one item, and `encode`, which appends one.
 #![tactic(auto)]
 
-mod cloning;
 mod element;
-mod elements;
-mod fault;
-mod format;
-mod item;
 mod laws;
 mod one;
 mod reading;
-mod values;
 mod writing;
 
-pub use elements::{Bools, Bytes, Elements, I8s, I16s, I32s, I64s, U8s, U16s, U32s, U64s};
-pub use fault::ItemFault;
-pub use item::{Item, Items, NoMemory};
+pub use item_model::{
+    Bools, Bytes, Elements, I8s, I16s, I32s, I64s, Item, ItemFault, Items, NoMemory, U8s, U16s,
+    U32s, U64s,
+};
 pub use laws::{
     a_fault_stands_behind_open_bytes, a_list_of_bounded_items_is_bounded,
     an_item_takes_at_most_what_it_weighs, bytes_spell_or_have_a_fault, no_spelling_begins_another,

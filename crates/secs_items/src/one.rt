@@ -1,13 +1,12 @@
 //! A text that is one item.
 
 ghost use Rattle.std.specs.Prelude.{◌≡◌, IfOk, IfSome, option_map};
-ghost use Rattle.secs_items.specs.One.{one_item};
-ghost use Rattle.secs_items.specs.Sendable.{IsSendable};
-ghost use Rattle.secs_items.specs.View.{view};
+ghost use Rattle.item_model.specs.One.{one_item};
+ghost use Rattle.item_model.specs.Sendable.{IsSendable};
+ghost use Rattle.item_model.specs.View.{view};
 
-use crate::fault::ItemFault;
-use crate::item::{Item, NoMemory};
 use crate::reading::decode;
+use item_model::{Item, ItemFault, NoMemory};
 use std::alloc::{AllocError, Global};
 
 /// The item that a text is from its first byte to its last (SEMI E5, message text). None exactly where the text is not

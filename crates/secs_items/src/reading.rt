@@ -1,20 +1,17 @@
 ghost use Rattle.std.specs.Prelude.{◌≡◌, ◌≢◌, ◌/◌, ◌≤◌, ℕ, length, take, Ok, Err, IfOk, IfErr, nat_le};
 ghost use Rattle.std.specs.List.{position};
-ghost use Rattle.secs_items.specs.Data.{Data};
+ghost use Rattle.item_model.specs.Data.{Data};
 ghost use Rattle.secs_items.specs.Faults.{IsFirst};
 ghost use Rattle.secs_items.specs.Given.{Gives};
-ghost use Rattle.secs_items.specs.Reading.{format_at, length_at, elements_at, leaf, no_character, body_at, leaf_at, list_at, item_at};
-ghost use Rattle.secs_items.specs.Sendable.{IsSendable};
-ghost use Rattle.secs_items.specs.Spelling.{Spells};
-ghost use Rattle.secs_items.specs.View.{view, seen};
-ghost use Rattle.secs_items.specs.declared.fault.ItemFault.{ItemFault};
+ghost use Rattle.item_model.specs.Reading.{format_at, length_at, elements_at, leaf, no_character, body_at, leaf_at, list_at, item_at};
+ghost use Rattle.item_model.specs.Sendable.{IsSendable};
+ghost use Rattle.item_model.specs.Spelling.{Spells};
+ghost use Rattle.item_model.specs.View.{view, seen};
+ghost use Rattle.item_model.specs.declared.fault.ItemFault.{ItemFault};
 
 use crate::element::Element;
-use crate::elements::{Bytes, Elements};
-use crate::fault::ItemFault;
-use crate::format::Format;
-use crate::item::{Item, Items, NoMemory};
 use byteorder::{BigEndian, ByteOrder};
+use item_model::{Bytes, Elements, Format, Item, ItemFault, Items, NoMemory};
 use std::alloc::Global;
 
 // The most lists that may stand inside one another (this tool's profile, items).
@@ -46,7 +43,7 @@ pub fn decode(alloc: Global, bytes: &[u8]) -> Result<(Item, usize), ItemFault>
 }
 
 // Reads a format byte: the format, how many length bytes come, and what is behind the byte.
-#[tactic(auto, unfolding(crate::specs::Reading::format_at))]
+#[tactic(auto, unfolding(item_model::specs::Reading::format_at))]
 fn read_format(total: usize, bytes: &[u8]) -> Result<(Format, usize, &[u8]), ItemFault>
     requires { length bytes.now ≤ total }
     ensures exact { Gives (λ r. (r.0, r.1, r.2.now)) result (format_at total bytes.now) }
@@ -67,7 +64,7 @@ fn read_format(total: usize, bytes: &[u8]) -> Result<(Format, usize, &[u8]), Ite
 }
 
 // Reads length bytes.
-#[tactic(auto, unfolding(crate::specs::Reading::length_at))]
+#[tactic(auto, unfolding(item_model::specs::Reading::length_at))]
 fn read_length(total: usize, size: usize, bytes: &[u8]) -> Result<(usize, &[u8]), ItemFault>
     requires low { 1 ≤ size }
     requires high { size ≤ 3 }
@@ -96,7 +93,7 @@ fn read_elements<T: Element>(alloc: Global, bytes: &[u8]) -> Result<Elements<T>,
 }
 
 // Reads the item that isn't a list, of this format and body.
-#[tactic(auto, unfolding(crate::specs::Reading::leaf))]
+#[tactic(auto, unfolding(item_model::specs::Reading::leaf))]
 fn read_body(alloc: Global, format: Format, body: &[u8]) -> Result<Item, NoMemory>
     ensures { IfOk result (λ item. view item ≡ leaf format body.now) }
 {
@@ -134,7 +131,7 @@ fn first_no_character(format: Format, body: &[u8]) -> Option<usize>
 }
 
 // Reads the length bytes and the body of an item that isn't a list, whose format byte stands at this place.
-#[tactic(auto, unfolding(crate::specs::Reading::leaf_at, crate::specs::Reading::body_at))]
+#[tactic(auto, unfolding(item_model::specs::Reading::leaf_at, item_model::specs::Reading::body_at))]
 fn read_leaf(
     alloc: Global,
     total: usize,

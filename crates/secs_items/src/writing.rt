@@ -1,13 +1,12 @@
 ghost use Rattle.std.specs.Prelude.{◌≡◌, ◌+◌, ◌*◌, ◌^◌, ◌<◌, ◌++◌, length, flat_map, OnOk, OnErr};
-ghost use Rattle.secs_items.specs.Format.{code};
+ghost use Rattle.item_model.specs.Format.{code};
 ghost use Rattle.secs_items.specs.Grows.{Grows};
-ghost use Rattle.secs_items.specs.Plain.{plain_head, plain, plain_all, count_of};
-ghost use Rattle.secs_items.specs.Sendable.{IsLength, IsSendable, HasShortBodies, HaveShortBodies};
-ghost use Rattle.secs_items.specs.View.{view, items_of};
+ghost use Rattle.item_model.specs.Plain.{plain_head, plain, plain_all, count_of};
+ghost use Rattle.item_model.specs.Sendable.{IsLength, IsSendable, HasShortBodies, HaveShortBodies};
+ghost use Rattle.item_model.specs.View.{view, items_of};
 
 use crate::element::Element;
-use crate::format::Format;
-use crate::item::{Item, NoMemory};
+use item_model::{Format, Item, NoMemory};
 
 /// Appends the one spelling of the item that the tool sends (SEMI E5, item formats): with the fewest length bytes, and
 /// true as 1. After `NoMemory` `out` holds what it held before.

@@ -3,8 +3,10 @@
 
 use crate::pieces::add_piece;
 use gem_ids::Text80;
-use msgs_300::{CarrierSlots, NamedValue, ShopMsg, is_shop_stream, read_shop};
-use secs_items::{Item, read_one};
+use item_model::Item;
+use message_model::{CarrierSlots, NamedValue, ShopMsg};
+use msgs_300::{is_shop_stream, read_shop};
+use secs_items::read_one;
 use std::alloc::Global;
 
 // What the primary of a function says, whose text stands behind it in pieces.

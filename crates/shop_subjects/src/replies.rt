@@ -2,11 +2,12 @@
 //! that is no text stands for that of no bytes.
 
 ghost use Rattle.std.specs.Prelude.{◌≡◌, true};
-ghost use Rattle.msgs_300.specs.Sendable.{HasSendableParts};
+ghost use Rattle.message_model.specs.ShopSendable.{HasSendableParts};
 
 use crate::pieces::{counted, text};
 use gem_ids::{Listed, Text80};
-use msgs_300::{ErrorPart, JobAcknowledge, JobState, ObjectAcknowledge, ShopReply, shop_item};
+use message_model::{ErrorPart, JobAcknowledge, JobState, ObjectAcknowledge, ShopReply};
+use msgs_300::shop_item;
 use secs_items::encode;
 use std::alloc::Global;
 use test_lines::words;

@@ -6,10 +6,10 @@ use Rattle.std.proofs.lemmas.Bool.Decides.{nat_tests}
 use Rattle.std.proofs.lemmas.List.Elements.{All-nil, All-cons, All-append}
 use Rattle.gem_ids.specs.Names.{two_digits}
 use Rattle.gem_ids.specs.Texts.{IsPrintable, IsText}
-use Rattle.secs_items.specs.Data.{Data}
-use Rattle.secs_items.specs.Sendable.{IsSendable}
-use Rattle.secs_items.specs.Weight.{IsBounded}
-use Rattle.secs_items.proofs.Weights.{bounded-sendable, bounded-text}
+use Rattle.item_model.specs.Data.{Data}
+use Rattle.item_model.specs.Sendable.{IsSendable}
+use Rattle.item_model.specs.Weight.{IsBounded}
+use Rattle.item_model.proofs.Weights.{bounded-sendable, bounded-text}
 use Rattle.sim_modules.specs.Lot.{carrier_name, control_job_asked, control_job_name, lot_number, proceed_asked, process_job_asked, process_job_name}
 
 -- bytes that print, one by one

@@ -3,11 +3,11 @@ use Rattle.std.specs.Prelude.{ℕ, ◌+◌, ◌-◌, ◌*◌, ◌%◌, ◌==◌,
 use Rattle.std.specs.Fmt.{decimal}
 use Rattle.hex.specs.Hex.{encode_upper}
 use Rattle.gem_ids.specs.Names.{two_digits}
-use Rattle.secs_items.specs.Data.{Data, boolean}
-use Rattle.secs_items.specs.Plain.{plain}
+use Rattle.item_model.specs.Data.{Data, boolean}
+use Rattle.item_model.specs.Plain.{plain}
 use Rattle.hsms_frame.specs.Spelling.{message_bytes}
 use Rattle.hsms_frame.specs.declared.frame.Header.{Header}
-use Rattle.body_parts.specs.Printed.{A, B, L, U1, U4}
+use Rattle.message_model.specs.Printed.{A, B, L, U1, U4}
 use Rattle.tool_events.specs.declared.config.Config.{Config}
 use Rattle.tool_events.specs.declared.recipes.Recipe.{Recipe}
 

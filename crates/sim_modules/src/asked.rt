@@ -1,13 +1,13 @@
 //! What the host of a batch asks, as items.
 
 ghost use Rattle.std.specs.Prelude.{◌≡◌, true, [], ◌∷◌, IfOk};
-ghost use Rattle.secs_items.specs.Data.{boolean};
-ghost use Rattle.secs_items.specs.View.{view};
-ghost use Rattle.body_parts.specs.Printed.{A, L, U1};
+ghost use Rattle.item_model.specs.Data.{boolean};
+ghost use Rattle.item_model.specs.View.{view};
+ghost use Rattle.message_model.specs.Printed.{A, L, U1};
 ghost use Rattle.sim_modules.specs.Lot.{control_job_asked, process_job_asked, proceed_asked};
 
 use body_parts::writing::{code, list, u1, u4};
-use secs_items::{Bools, Bytes, Item, Items, NoMemory};
+use item_model::{Bools, Bytes, Item, Items, NoMemory};
 use std::alloc::Global;
 
 /// That the carrier may be worked on, at its port: the text of S3F17 (SEMI E87, carrier action request).

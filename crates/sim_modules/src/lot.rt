@@ -2,15 +2,16 @@
 
 ghost use Rattle.std.specs.Prelude.{◌≡◌, ◌≤◌, ◌^◌, ◌++◌, nat_le, IfOk, OnOk, OnErr};
 ghost use Rattle.gem_ids.specs.Names.{two_digits};
-ghost use Rattle.secs_items.specs.View.{view};
-ghost use Rattle.secs_items.specs.Weight.{IsBounded};
+ghost use Rattle.item_model.specs.View.{view};
+ghost use Rattle.item_model.specs.Weight.{IsBounded};
 ghost use Rattle.tool_events.specs.Configs.{IsConfig};
 ghost use Rattle.sim_modules.specs.Lot.{asked_header, carrier_name, control_job_line, control_job_name, first_recipe, host_line, lot_line, lot_number, lot_port, placed_line, proceed_line, process_job_line, process_job_name, removed_line};
 
 use crate::asked::{control_job, proceed, process_job};
 use gem_ids::Text80;
 use hsms_frame::{Bytes, Frame, Header, NoMemory, write_frame};
-use secs_items::{Item, encode};
+use item_model::Item;
+use secs_items::encode;
 use std::alloc::Global;
 use tool_events::{Config, Recipes};
 

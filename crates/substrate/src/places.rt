@@ -66,6 +66,13 @@ impl Places {
         self.names.len()
     }
 
+    /// The last number of a registration that was given, 0 where none was: so many substrates were registered since the first state.
+    pub fn given(&self) -> u64
+        ensures { result ≡ self.now.given }
+    {
+        self.given
+    }
+
     /// The substrate at a place of their list, counted from 0, which goes by their numbers. `None` exactly where there is none.
     pub fn get(&self, index: usize) -> Option<Registered>
         ensures value { result ≡ slice_get self.now.held index }

@@ -1,6 +1,5 @@
 //! The core: the plant and the history that led to it.
-ghost use Rattle.std.specs.Prelude.{ℕ, ◌≡◌, ◌≤◌, ◌+◌, ◌^◌, ◌<◌, ◌↔◌, [], ◌∷◌, ◌++◌, length, IsTrue, true, false, ◌&&◌, ◌||◌, not, nat_le, nat_lt, Some, None, Err, OnOk, OnErr, IfOk, IfSome, IsErrOf, if◌then◌else◌, vec_len, vec_capacity, slice_get, option_map, map};
-ghost use Rattle.std.specs.Option.{option_to_list};
+ghost use Rattle.std.specs.Prelude.{ℕ, ◌≡◌, ◌≤◌, ◌+◌, ◌^◌, ◌<◌, ◌↔◌, [], ◌∷◌, ◌++◌, length, IsTrue, true, false, ◌&&◌, ◌||◌, not, nat_le, nat_lt, Some, None, Err, OnOk, OnErr, IfOk, IfSome, IsErrOf, if◌then◌else◌};
 ghost use Rattle.tool_events.specs.declared.answer.PostFault.TheVariants as PostFault;
 ghost use Rattle.tool_events.specs.declared.event.SessionEnd.{SessionEnd};
 ghost use Rattle.tool_events.specs.Configs.{IsConfig};
@@ -10,10 +9,11 @@ ghost use Rattle.note_line.specs.Line.{fate_of};
 ghost use Rattle.gem_model.specs.State.{opening, is_up, is_session_up};
 ghost use Rattle.gem_model.specs.Step.{Outcome, step};
 ghost use Rattle.gem_model.specs.Valid.{Valid};
+ghost use Rattle.gem_model.specs.Signals.{module_of};
+ghost use Rattle.robot_moves.specs.Modules.{fetched_number};
 ghost use Rattle.history_laws.specs.Recorded.{Recorded};
-ghost use Rattle.gem_model.specs.Sessions.{session_count, session_end, session_out, frame_taken};
+ghost use Rattle.gem_model.specs.Sessions.{session_count, session_end, session_out};
 ghost use Rattle.gem_model.specs.Sizes.{bytes_of, counted, is_full};
-ghost use Rattle.core_view.specs.Counts.{count_of, taker};
 ghost use Rattle.history_totals.specs.Counts.{done_by};
 ghost use Rattle.history_totals.specs.Totals.{totals_at, totals_of};
 
@@ -21,71 +21,15 @@ use crate::react::{must_wait, react};
 use core_shop::Reaction;
 use core_state::Plant;
 use core_view::{Entries, SessionCounts};
-use event_reports::{NoMemory, Values};
-use gem_ids::{Moment, Text80};
+use event_reports::Values;
+use gem_ids::{CmdNo, ModuleId, Moment, Text80};
+use history_parts::{add_end, add_taken, cause_at, event_bytes, make_room};
 use history_totals::Totals;
-use hsms_frame::Arrival;
+use item_model::{Item, NoMemory};
 use note_line::Fate;
-use secs_items::Item;
 use std::alloc::{AllocError, Global};
 use std::marker::Model;
 use tool_events::{Answer, Config, Entry, Event, PostFault, SessionCause, SessionEnd, Signal};
-
-/// How much text an event holds, in bytes: that of a frame of the host. One that is too long holds none.
-fn event_bytes(event: &Event) -> u64
-    ensures value { result ≡ event_bytes event.now }
-    ensures short { result < 2 ^ 63 }
-{
-    match event {
-        Event::Host {
-            arrival: Arrival::Frame(frame),
-            ..
-        } => frame.text.as_slice().len() as u64,
-        _ => 0,
-    }
-}
-
-/// Adds the session that ended, where one did.
-fn add_end(ends: &mut Vec<SessionEnd>, ended: Option<SessionEnd>)
-    requires { vec_len ends.old < vec_capacity ends.old }
-    ensures { ends.new.items ≡ ends.old.items ++ option_to_list ended }
-{
-    if let Some(end) = ended {
-        ends.push_reserved(end);
-    }
-}
-
-/// The cause of the end at this place, where there is one.
-fn cause_at(ends: &[SessionEnd], place: usize) -> Option<SessionCause>
-    ensures { result ≡ option_map (λ (e : SessionEnd). e.cause) (slice_get ends.now place) }
-{
-    let end = ends.get(place)?;
-    Some(end.cause)
-}
-
-/// Makes room for the count of this session, where there is one.
-fn make_room(counts: &mut SessionCounts, session: Option<u64>) -> Result<(), AllocError>
-    ensures counts { (k : ℕ) → count_of counts.new k ≡ count_of counts.old k }
-    ensures room { OnOk result (IfSome session (λ k. k ≤ length counts.new)) }
-{
-    match session {
-        Some(session) => counts.make_room(session),
-        None => Ok(()),
-    }
-}
-
-/// Adds the bytes of a frame to the count of the session whose writer took it.
-fn add_taken(counts: &mut SessionCounts, event: &Event, answer: &Answer)
-    requires { IfSome (taker event.now answer.now) (λ session. (0 < session) × (session ≤ length counts.old)) }
-    ensures { (k n : ℕ) → count_of counts.old k ≡ counted n → count_of counts.new k ≡ counted (n + length (frame_taken event.now answer.now k)) }
-{
-    match (event, answer) {
-        (Event::Take { session }, Answer::Frame(frame)) => {
-            counts.add(*session, frame.as_slice().len() as u64);
-        }
-        _ => {}
-    }
-}
 
 /// How many commands an event ends by Done, 0 or 1.
 fn done_by(plant: &Plant, event: &Event) -> u64
@@ -103,20 +47,19 @@ fn done_by(plant: &Plant, event: &Event) -> u64
 }
 
 /// The counts behind an event that ended so many commands by Done and completed so many control jobs, by those before it and by
-/// what the plant tells behind it. `None`: the plant can't tell them, which comes only after want of memory.
-fn totals_behind(before: &Totals, plant: &Plant, done: u64, completed: u64) -> Option<Totals>
-    ensures { IfSome result (λ totals. totals ≡ totals_at plant.now (before.now.done + done) (before.now.completed + completed)) }
+/// what the plant tells behind it.
+fn totals_behind(before: &Totals, plant: &Plant, done: u64, completed: u64) -> Totals
+    ensures { result ≡ totals_at plant.now (before.now.done + done) (before.now.completed + completed) }
 {
-    let substrates = plant.registrations()?;
-    Some(Totals {
+    Totals {
         sessions: plant.session_count(),
         notes: plant.note_count(),
         answered: plant.answered_count(),
         dropped: plant.dropped_count(),
         done: before.done.saturating_add(done),
         completed: before.completed.saturating_add(completed),
-        substrates,
-    })
+        substrates: plant.registrations(),
+    }
 }
 
 /// The tool, with its history. Contracts see its configuration, the state that its history leads to, the history, and
@@ -140,7 +83,7 @@ impl Model for Core {
 
     ghost Value = { CoreView };
 
-    ghost use Rattle.tool_core.specs.CoreInside.{state_of, Replays};
+    ghost use Rattle.history_parts.specs.CoreInside.{state_of, Replays};
 
     ghost view = { λ c. record { config = c.config; state = state_of c.config c.entries.items; history = c.entries.items; is_whole = c.is_whole } };
 
@@ -157,7 +100,8 @@ impl Values for Core {
         if !self.is_whole {
             return Err(AllocError);
         }
-        self.plant.showing(Text80::empty(), 0).value(alloc, vid)
+        let seen = self.plant.seen();
+        seen.showing(Text80::empty(), 0).value(alloc, vid)
     }
 }
 
@@ -248,6 +192,15 @@ impl Core {
         ensures few { result ≤ 255 }
     {
         self.plant.module_count()
+    }
+
+    /// The number of the open command of a module that was fetched. `None` exactly where it has none, or is no module of the
+    /// tool. The core is whole.
+    pub fn fetched_number(&self, m: ModuleId) -> Option<CmdNo>
+        requires { self.now.is_whole ≡ true }
+        ensures { result ≡ fetched_number (module_of m.0 self.now.state) }
+    {
+        self.plant.fetched_number(m)
     }
 
     /// Why a session ended. None: it is up, or never came.
@@ -362,14 +315,10 @@ impl Core {
         if !goes {
             return Err(PostFault::Again);
         }
-        // The plant found memory, and tells its counts.
-        let Some(totals) = totals_behind(&self.totals, &self.plant, done, completed) else {
-            return Err(PostFault::NoMemory);
-        };
         add_taken(&mut self.written, &event, &reaction.answer);
         self.bytes += event_bytes(&event);
         self.sessions = self.plant.session_count();
-        self.totals = totals;
+        self.totals = totals_behind(&self.totals, &self.plant, done, completed);
         self.is_up = self.plant.is_up();
         self.entries.push_reserved(Entry { seat, at, event });
         add_end(&mut self.ends, reaction.ended);

@@ -5,7 +5,7 @@ ghost use Rattle.std.specs.Option.{option_to_list};
 ghost use Rattle.gem_tables.specs.Table.{is_one_of};
 ghost use Rattle.load_port.specs.Caack.{is_done_code};
 ghost use Rattle.load_port.specs.Ports.{most_ports, is_no_port};
-ghost use Rattle.robot_moves.specs.Modules.{module_at, unfetched, is_open, is_up, is_down};
+ghost use Rattle.robot_moves.specs.Modules.{module_at, unfetched, fetched_number, is_open, is_up, is_down};
 ghost use Rattle.shop_floor.specs.Machines.{floor_least as shop_least};
 ghost use Rattle.shop_floor.specs.Valid.{IsFloor};
 ghost use Rattle.shop_floor.specs.Requests.{carrier_written, came};
@@ -168,6 +168,20 @@ impl ToolFloor {
         ensures few { result ≤ 255 }
     {
         self.modules.len()
+    }
+
+    /// The number of the open command of a module that was fetched.
+    pub fn fetched_number(&self, m: ModuleId) -> Option<CmdNo>
+        ensures { result ≡ fetched_number (module_at m.0 self.now.modules) }
+    {
+        self.modules.fetched_number(m)
+    }
+
+    /// How many substrates were registered since the first state.
+    pub fn registrations(&self) -> u64
+        ensures { result ≡ self.now.places.given }
+    {
+        self.places.given()
     }
 
     // Whether a substrate is at the aligner, on the arm or in a chamber.

@@ -1,10 +1,11 @@
 //! SECS-II items (`secs_items`).
 
 ghost use Rattle.std.specs.Prelude.{◌≡◌, IfOk};
-ghost use Rattle.secs_items.specs.Data.{ascii as ascii_data};
-ghost use Rattle.secs_items.specs.View.{view};
+ghost use Rattle.item_model.specs.Data.{ascii as ascii_data};
+ghost use Rattle.item_model.specs.View.{view};
 
-use secs_items::{Bytes, Item, ItemFault, Items, NoMemory, U16s, encode};
+use item_model::{Bytes, Item, ItemFault, Items, NoMemory, U16s};
+use secs_items::encode;
 use std::alloc::Global;
 use std::test::Fail;
 

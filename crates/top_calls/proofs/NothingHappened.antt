@@ -1,23 +1,15 @@
--- What is recorded where nothing happened.
+-- What a run did that took no configuration.
 use Rattle.std.proofs.Common.{◌≡◌, ◌≢◌, ℕ, List, [], Option, inl, inr, refl, arith}
 use Rattle.tool_events.specs.declared.config.Config.{Config}
 use Rattle.tool_events.specs.declared.entry.Entry.{Entry}
 use Rattle.tool_events.specs.Configs.{IsConfig}
-use Rattle.gem_model.specs.State.{opening}
-use Rattle.gem_model.specs.Run.{after_all}
-use Rattle.history_laws.specs.Recorded.{Recorded}
 use Rattle.gem_model.specs.Conversation.{worked_config}
 use Rattle.history_laws.proofs.Recording.{recorded-none}
 use Rattle.line_feeding.specs.declared.ended.Cause.{Cause}
 use Rattle.line_feeding.specs.declared.ended.Cause.TheVariants as cause
 use Rattle.line_feeding.specs.CauseOf.{Refuses}
 use Rattle.line_feeding.specs.Fed.{SourceView, Fed, Shown, IsRead, Configured, RanUnder}
-use Rattle.line_feeding.proofs.Reading.{Taken-nothing}
-use Rattle.outside.proofs.Writing.{Written-nothing}
-use Rattle.top_calls.proofs.Ending.{Fed-refused, Shown-refused}
-
-pub recorded_none : (c : Config) (history : List Entry) → IsConfig c → history ≡ [] → Recorded c history (after_all (opening c) history)
-recorded_none c history bounds none = recorded-none c history bounds none
+use Rattle.feeding.proofs.Ending.{Fed-refused, Shown-refused}
 
 -- the worked configuration keeps its bounds
 worked_is : IsConfig worked_config
@@ -75,10 +67,6 @@ configured-refused cause.Door config config' h = absurd h
 -- a run that took no configuration
 pub ran_refused : (why : Cause) (config config' input : SourceView) (held : Option (List ℕ)) → Refuses why config config' → (c : Config) × Configured c why config config' [] × RanUnder c why input input held held [] []
 ran_refused why config config' input held h = (worked_config, configured-refused why config config' h, ran-nothing why input held (Fed-refused worked_config why config config' input h) (Shown-refused worked_config why config config' held h))
-
--- a run whose words are refused
-pub ran_unfit : (place : ℕ) (config input : SourceView) (held : Option (List ℕ)) → (c : Config) × Configured c (cause.Words place) config config [] × RanUnder c (cause.Words place) input input held held [] []
-ran_unfit place config input held = (worked_config, refl, ran-nothing (cause.Words place) input held ([], Taken-nothing input.left, (refl, refl), refl) (Written-nothing held))
 
 -- what was read of a configuration that was taken, by how the run under it ended
 pub configured-read : (c : Config) (why : Cause) (config config' : SourceView) (history : List Entry) → IsRead config config' c → ((place : ℕ) → why ≢ cause.Words place) → ((rule : ℕ) (key : List ℕ) → why ≢ cause.Config rule key) → why ≢ cause.Door → Configured c why config config' history

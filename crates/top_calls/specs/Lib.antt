@@ -1,3 +1,1 @@
-pub mod Reading
-pub mod Standing
-pub mod InputEnds
+pub mod Ran

@@ -4,7 +4,7 @@ ghost use Rattle.std.specs.Prelude.{◌≡◌, IfOk};
 
 use super::Reports;
 use crate::lines::{EventLine, Report};
-use secs_items::NoMemory;
+use item_model::NoMemory;
 use std::alloc::Global;
 
 impl Reports {

@@ -10,7 +10,7 @@ use super::Reports;
 use crate::lines::{EventLine, Report};
 use gem_ids::Ids;
 use gem_rows::is_vid;
-use secs_items::NoMemory;
+use item_model::NoMemory;
 use std::alloc::Global;
 
 // So many reports are defined at most.

@@ -9,7 +9,7 @@ ghost use Rattle.event_reports.specs.Reports.{is_report, with_link, first_refusa
 use super::Reports;
 use crate::lines::EventLine;
 use gem_ids::Ids;
-use secs_items::NoMemory;
+use item_model::NoMemory;
 use std::alloc::Global;
 
 // An event is linked to so many reports at most.

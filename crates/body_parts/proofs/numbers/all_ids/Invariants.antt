@@ -1,5 +1,5 @@
 use Rattle.std.proofs.Common.{◌≡◌, drop}
-use Rattle.body_parts.specs.Bodies.{all_ids}
+use Rattle.message_model.specs.Bodies.{all_ids}
 use Rattle.body_parts.proofs.Parts.{behind}
 use Rattle.body_parts.proofs.numbers.all_ids.Given as goal
 

@@ -1,4 +1,4 @@
-use Rattle.secs_items.specs.View.{view}
+use Rattle.item_model.specs.View.{view}
 use Rattle.event_tests.proofs.Bounds.{report_bounded}
 use Rattle.event_tests.proofs.events.long_report.Goals as goal
 

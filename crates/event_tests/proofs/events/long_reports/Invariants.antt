@@ -1,6 +1,6 @@
 use Rattle.std.proofs.Common.{◌≡◌}
-use Rattle.secs_items.specs.Plain.{count_of}
-use Rattle.secs_items.specs.Weight.{AreBounded}
+use Rattle.item_model.specs.Plain.{count_of}
+use Rattle.item_model.specs.Weight.{AreBounded}
 use Rattle.event_tests.proofs.events.long_reports.Given as goal
 
 -- as many reports as turns, each within its bounds

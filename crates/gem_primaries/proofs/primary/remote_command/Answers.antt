@@ -1,4 +1,4 @@
-use Rattle.body_parts.specs.Bodies.{named_value}
+use Rattle.message_model.specs.Bodies.{named_value}
 use Rattle.gem_primaries.proofs.Parts.{few_parts, second_short}
 use Rattle.gem_primaries.proofs.Spooling.{short_bodies}
 use Rattle.gem_primaries.proofs.primary.remote_command.Goals as goal

@@ -1,7 +1,7 @@
 use Rattle.std.proofs.Common.{◌≡◌, ◌∙◌, subst}
-use Rattle.secs_items.specs.Data.{Data, added}
-use Rattle.secs_items.specs.View.{view}
-use Rattle.gem_replies.specs.Replies.{stream_refusal}
+use Rattle.item_model.specs.Data.{Data, added}
+use Rattle.item_model.specs.View.{view}
+use Rattle.message_model.specs.GemReplies.{stream_refusal}
 use Rattle.gem_replies.proofs.Printing.{printed_more}
 use Rattle.gem_replies.proofs.reply.stream_refusals.Goals as goal
 

@@ -1,6 +1,6 @@
 use Rattle.std.proofs.Common.{◌≡◌, map, take}
-use Rattle.body_parts.specs.Printed.{items}
-use Rattle.gem_replies.specs.Replies.{stream_refusal}
+use Rattle.message_model.specs.Printed.{items}
+use Rattle.message_model.specs.GemReplies.{stream_refusal}
 use Rattle.gem_replies.proofs.reply.stream_refusals.Given as goal
 
 -- the items are those of the refusals so far

@@ -1,6 +1,6 @@
 use Rattle.std.proofs.Common.{◌≡◌, ◌++◌, drop, length, option_map}
-use Rattle.secs_items.specs.View.{items_of}
-use Rattle.body_parts.specs.Bodies.{all_of}
+use Rattle.item_model.specs.View.{items_of}
+use Rattle.message_model.specs.Bodies.{all_of}
 use Rattle.gem_model.specs.Shop.{slot_code}
 use Rattle.host_requests.proofs.shop.slot_codes.Given as goal
 

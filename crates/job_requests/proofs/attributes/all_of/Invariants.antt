@@ -1,8 +1,8 @@
 use Rattle.std.proofs.Common.{◌≡◌, drop}
-use Rattle.secs_items.specs.View.{items_of}
-use Rattle.body_parts.specs.Bodies.{all_of}
+use Rattle.item_model.specs.View.{items_of}
+use Rattle.message_model.specs.Bodies.{all_of}
 use Rattle.body_parts.proofs.Parts.{behind}
-use Rattle.job_requests.specs.Attributes.{job_form}
+use Rattle.job_requests.specs.Forms.{job_form}
 use Rattle.job_requests.proofs.attributes.all_of.Given as goal
 
 abbrev pub invariant-loop-item : goal.invariant-loop-item

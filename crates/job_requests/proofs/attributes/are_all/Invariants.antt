@@ -1,7 +1,7 @@
 use Rattle.std.proofs.Common.{◌≡◌, drop, is_some}
-use Rattle.secs_items.specs.View.{items_of}
-use Rattle.body_parts.specs.Bodies.{all_of}
-use Rattle.job_requests.specs.Attributes.{job_form}
+use Rattle.item_model.specs.View.{items_of}
+use Rattle.message_model.specs.Bodies.{all_of}
+use Rattle.job_requests.specs.Forms.{job_form}
 use Rattle.job_requests.proofs.attributes.are_all.Given as goal
 
 abbrev pub invariant-loop-item : goal.invariant-loop-item

@@ -1,5 +1,5 @@
 use Rattle.std.proofs.Common.{◌≡◌, length}
-use Rattle.job_requests.specs.Attributes.{is_each_once}
+use Rattle.request_model.specs.Attributes.{is_each_once}
 use Rattle.job_requests.proofs.attributes.is_each_once.Given as goal
 
 abbrev pub invariant-loop-left : goal.invariant-loop-left

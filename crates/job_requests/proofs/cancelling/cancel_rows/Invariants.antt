@@ -1,5 +1,5 @@
 use Rattle.std.proofs.Common.{◌≡◌, take}
-use Rattle.job_requests.specs.Requests.{cancel_rows}
+use Rattle.request_model.specs.Requests.{cancel_rows}
 use Rattle.job_requests.proofs.cancelling.cancel_rows.Given as goal
 
 abbrev pub invariant-loop-name : goal.invariant-loop-name

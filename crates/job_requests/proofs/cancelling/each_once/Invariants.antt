@@ -1,5 +1,5 @@
 use Rattle.std.proofs.Common.{◌≡◌, take}
-use Rattle.job_requests.specs.Requests.{each_once}
+use Rattle.request_model.specs.Requests.{each_once}
 use Rattle.job_requests.proofs.cancelling.each_once.Given as goal
 
 abbrev pub invariant-loop-name : goal.invariant-loop-name

@@ -1,5 +1,5 @@
 use Rattle.std.proofs.Common.{◌≡◌, drop}
-use Rattle.job_requests.specs.Requests.{names_error}
+use Rattle.request_model.specs.Requests.{names_error}
 use Rattle.job_requests.proofs.cancelling.names_error.Given as goal
 
 abbrev pub invariant-loop-name : goal.invariant-loop-name

@@ -1,5 +1,5 @@
 use Rattle.std.proofs.Common.{◌≡◌, take, map, filter}
-use Rattle.job_requests.specs.Requests.{is_queued}
+use Rattle.request_model.specs.Requests.{is_queued}
 use Rattle.job_requests.proofs.cancelling.queued.Given as goal
 
 abbrev pub invariant-loop-place : goal.invariant-loop-place

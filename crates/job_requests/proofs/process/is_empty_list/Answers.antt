@@ -1,6 +1,6 @@
 use Rattle.std.proofs.Common.{ap, ◌∙◌}
-use Rattle.secs_items.specs.Data.{DataList, list}
-use Rattle.job_requests.specs.Requests.{is_empty_list}
+use Rattle.item_model.specs.Data.{DataList, list}
+use Rattle.request_model.specs.Requests.{is_empty_list}
 use Rattle.job_requests.proofs.Parts.{empty_is}
 use Rattle.job_requests.proofs.process.is_empty_list.Goals as goal
 

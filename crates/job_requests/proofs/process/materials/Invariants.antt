@@ -1,5 +1,5 @@
 use Rattle.std.proofs.Common.{◌≡◌, take, map}
-use Rattle.job_requests.specs.Requests.{material_of}
+use Rattle.request_model.specs.Requests.{material_of}
 use Rattle.job_requests.proofs.process.materials.Given as goal
 
 abbrev pub invariant-loop-carrier : goal.invariant-loop-carrier

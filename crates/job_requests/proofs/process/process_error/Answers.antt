@@ -1,7 +1,7 @@
 use Rattle.std.proofs.Common.{sym, ◌∙◌}
-use Rattle.secs_items.specs.View.{view}
-use Rattle.job_requests.specs.Requests.{is_job_name, is_empty_list}
-use Rattle.job_requests.specs.declared.error.JobError.TheVariants.{UnknownObject, NotNow, NotOffered}
+use Rattle.item_model.specs.View.{view}
+use Rattle.request_model.specs.Requests.{is_job_name, is_empty_list}
+use Rattle.request_model.specs.declared.error.JobError.TheVariants.{UnknownObject, NotNow, NotOffered}
 use Rattle.job_requests.proofs.Refused.{past_tests}
 use Rattle.job_requests.proofs.process.process_error.Goals as goal
 

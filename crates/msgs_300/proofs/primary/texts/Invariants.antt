@@ -1,6 +1,6 @@
 use Rattle.std.proofs.Common.{◌≡◌, drop}
-use Rattle.secs_items.specs.View.{items_of}
-use Rattle.body_parts.specs.Bodies.{all_of, text}
+use Rattle.item_model.specs.View.{items_of}
+use Rattle.message_model.specs.Bodies.{all_of, text}
 use Rattle.body_parts.proofs.Parts.{behind}
 use Rattle.msgs_300.proofs.primary.texts.Given as goal
 

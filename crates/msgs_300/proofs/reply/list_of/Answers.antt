@@ -1,7 +1,7 @@
 use Rattle.std.proofs.Common.{◌≡◌, ◌∙◌, subst}
-use Rattle.secs_items.specs.Data.{Data, added}
-use Rattle.secs_items.specs.View.{view}
-use Rattle.secs_items.proofs.Weights.{bounded-added}
+use Rattle.item_model.specs.Data.{Data, added}
+use Rattle.item_model.specs.View.{view}
+use Rattle.item_model.proofs.Weights.{bounded-added}
 use Rattle.msgs_300.proofs.Printing.{printed_more, printed_bounded}
 use Rattle.msgs_300.proofs.reply.list_of.Goals as goal
 

@@ -1,6 +1,6 @@
 use Rattle.std.proofs.Common.{◌≡◌, map, take}
-use Rattle.secs_items.specs.Weight.{AreBounded}
-use Rattle.body_parts.specs.Printed.{items}
+use Rattle.item_model.specs.Weight.{AreBounded}
+use Rattle.message_model.specs.Printed.{items}
 use Rattle.msgs_300.proofs.reply.list_of.Given as goal
 
 -- the items are those of the parts so far, each within its bounds

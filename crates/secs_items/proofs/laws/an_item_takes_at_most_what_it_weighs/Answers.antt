@@ -1,4 +1,4 @@
-use Rattle.secs_items.proofs.Weights.{plain-weight}
+use Rattle.item_model.proofs.Weights.{plain-weight}
 use Rattle.secs_items.proofs.laws.an_item_takes_at_most_what_it_weighs.Goals as goal
 
 pub returns : goal.returns

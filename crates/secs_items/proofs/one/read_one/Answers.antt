@@ -1,5 +1,5 @@
 use Rattle.std.proofs.Common.{sym, arith}
-use Rattle.secs_items.specs.View.{view}
+use Rattle.item_model.specs.View.{view}
 use Rattle.secs_items.proofs.Decoding.{bytes_below}
 use Rattle.secs_items.proofs.OneItem.{front_one, longer_none, fault_none}
 use Rattle.secs_items.proofs.one.read_one.Goals as goal

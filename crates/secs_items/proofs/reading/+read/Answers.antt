@@ -1,7 +1,7 @@
 use Rattle.std.proofs.Common.{arith, ◌≡◌, ◌+◌, ◌-◌, suc}
 use Rattle.std.proofs.lemmas.Result.{err_from_is_err_and, IfOk-weaker}
-use Rattle.secs_items.specs.Reading.{item_at, items_at}
-use Rattle.secs_items.specs.View.{view}
+use Rattle.item_model.specs.Reading.{item_at, items_at}
+use Rattle.item_model.specs.View.{view}
 use Rattle.secs_items.proofs.Stepping.{fails_item, leaf_item, deep_item, list_item, other_list, fails_length, fails_items, whole_list}
 use Rattle.secs_items.proofs.InTurn.{items_step, items_end, items_fail}
 use Rattle.secs_items.proofs.reading.+read.Goals as goal

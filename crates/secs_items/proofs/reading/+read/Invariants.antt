@@ -1,5 +1,5 @@
 use Rattle.std.proofs.Common.{◌≡◌, ◌≤◌, ◌+◌, ◌*◌, ◌-◌, length}
-use Rattle.secs_items.specs.Reading.{items_at, item_at}
+use Rattle.item_model.specs.Reading.{items_at, item_at}
 use Rattle.secs_items.proofs.InTurn.{behind_items}
 use Rattle.secs_items.proofs.reading.+read.Given as goal
 

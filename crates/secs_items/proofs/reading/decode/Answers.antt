@@ -1,4 +1,4 @@
-use Rattle.secs_items.specs.View.{view}
+use Rattle.item_model.specs.View.{view}
 use Rattle.secs_items.proofs.Decoding.{bytes_below, spelled_front, sendable_front, only_ok, no_fault, only_err, fault_first, first_err}
 use Rattle.secs_items.proofs.reading.decode.Goals as goal
 

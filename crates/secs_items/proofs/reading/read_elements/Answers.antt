@@ -1,5 +1,5 @@
 use Rattle.std.proofs.Common.{arith, ◌≡◌, ◌/◌, ◌-◌, ◌+◌, ℕ, suc, length, drop, ap, ◌∙◌}
-use Rattle.secs_items.specs.Reading.{elements_at}
+use Rattle.item_model.specs.Reading.{elements_at}
 use Rattle.secs_items.proofs.InTurn.{elements_step}
 use Rattle.secs_items.proofs.reading.read_elements.Goals as goal
 

@@ -1,5 +1,5 @@
 use Rattle.std.proofs.Common.{◌≡◌, ◌++◌, ◌-◌, ◌*◌, ◌≤◌, length}
-use Rattle.secs_items.specs.Reading.{elements_at}
+use Rattle.item_model.specs.Reading.{elements_at}
 use Rattle.secs_items.proofs.reading.read_elements.Given as goal
 
 -- the elements that were read and those that are to come are the elements of the bytes

@@ -1,9 +1,9 @@
 use Rattle.std.proofs.Common.{rules, ◌<◌, ◌≤◌, length, arith}
 use Rattle.std.proofs.lemmas.Grind.{common_steps}
-use Rattle.secs_items.specs.Height.{height, highest}
-use Rattle.secs_items.specs.Sendable.{HasShortBodies}
-use Rattle.secs_items.specs.View.{view, items_of}
-use Rattle.secs_items.proofs.Lists.{count_of-items_of, bodies_at, height_at, plain_all-take, truths_written, piece_written}
+use Rattle.item_model.specs.Height.{height, highest}
+use Rattle.item_model.specs.Sendable.{HasShortBodies}
+use Rattle.item_model.specs.View.{view, items_of}
+use Rattle.item_model.proofs.Lists.{count_of-items_of, bodies_at, height_at, plain_all-take, truths_written, piece_written}
 use Rattle.secs_items.proofs.writing.+write.Goals as goal
 
 pub write_item-returns-in-Bool-clause-ok : goal.write_item-returns-in-Bool-clause-ok

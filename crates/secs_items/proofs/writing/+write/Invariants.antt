@@ -1,7 +1,7 @@
 use Rattle.std.proofs.Common.{◌≡◌, ◌+◌, ◌*◌, ◌++◌, take}
-use Rattle.secs_items.specs.Height.{height, highest}
-use Rattle.secs_items.specs.Plain.{plain_head, plain_all, count_of}
-use Rattle.secs_items.specs.View.{view, items_of}
+use Rattle.item_model.specs.Height.{height, highest}
+use Rattle.item_model.specs.Plain.{plain_head, plain_all, count_of}
+use Rattle.item_model.specs.View.{view, items_of}
 use Rattle.secs_items.proofs.writing.+write.Given as goal
 
 abbrev pub decreases-write_item : goal.decreases-write_item

@@ -1,6 +1,6 @@
 use Rattle.std.proofs.Common.{◌≡◌, ◌*◌, ◌++◌, length, take, flat_map}
-use Rattle.secs_items.specs.Format.{code}
-use Rattle.secs_items.specs.Plain.{plain_head}
+use Rattle.item_model.specs.Format.{code}
+use Rattle.item_model.specs.Plain.{plain_head}
 use Rattle.secs_items.proofs.writing.write_elements.Given as goal
 
 -- the header and the elements that were gone over

@@ -1,5 +1,5 @@
 use Rattle.std.proofs.Common.{◌≡◌, IfOk, subst}
-use Rattle.secs_items.specs.View.{view}
+use Rattle.item_model.specs.View.{view}
 use Rattle.sim_modules.specs.Lot.{asked_header, host_line}
 use Rattle.sim_modules.proofs.Bounds.{control_job_bounded}
 use Rattle.sim_modules.proofs.lot.control_job_line.Goals as goal

@@ -1,4 +1,4 @@
-use Rattle.core_state.proofs.Small.{event_short}
+use Rattle.core_state.proofs.NoteTexts.{event_short}
 use Rattle.core_state.proofs.plant.Plant.event_text.Goals as goal
 
 pub returns-clause-short : goal.returns-clause-short

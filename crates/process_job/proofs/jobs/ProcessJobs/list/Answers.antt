@@ -1,6 +1,6 @@
 use Rattle.std.proofs.Common.{◌∙◌, ap, sym, List}
 use Rattle.std.specs.Option.{option_copied}
-use Rattle.secs_items.specs.Data.{Data, added}
+use Rattle.item_model.specs.Data.{Data, added}
 use Rattle.process_job.specs.Listing.{job_items, joined}
 use Rattle.process_job.specs.declared.job.ProcessJob.{ProcessJob}
 use Rattle.process_job.proofs.Items.{joined_none, next_item}

@@ -4,10 +4,10 @@ use Rattle.gem_model.specs.State.{State, is_up}
 use Rattle.gem_model.specs.Step.{Outcome, step}
 use Rattle.gem_model.specs.Sizes.{counted}
 use Rattle.history_totals.specs.Counts.{done_by, completed_by}
-use Rattle.tool_core.specs.CoreInside.{state_of}
+use Rattle.history_parts.specs.CoreInside.{state_of}
 use Rattle.core_view.specs.CoreView.{CoreView}
 use Rattle.history_totals.proofs.Summing.{totals-snoc}
-use Rattle.tool_core.proofs.Replaying.{GoesOn, goes-snoc, state-snoc}
+use Rattle.history_parts.proofs.Replaying.{GoesOn, goes-snoc, state-snoc}
 use Rattle.tool_core.proofs.tool.Core.record.Goals as goal
 
 pub invariant_of-self-3 : goal.invariant_of-self-3
@@ -35,7 +35,7 @@ invariant_of-self-3 c =
       ended = goes.ended;
       written = goes.written;
       bytes_are = goes.bytes_are;
-      totals_are = c.in-Some.ensures ∙ totals;
+      totals_are = c.totals_behind-self-inside.ensures ∙ totals;
       entries_fit = goes.entries_fit;
       bytes_fit = goes.bytes_fit;
     })

@@ -1,0 +1,73 @@
+#!/usr/bin/env bash
+# Times batches of 40, 80 and 160 carriers, each in one history, and prints of each the time, how many entries of the history that is
+# a second, and how many bytes an entry takes, and then the ratios of the times.
+#
+# A batch (docs/profile/batch.md): for each carrier of 25 substrates six lines, and 200 commands that are done in a drawn order. All
+# events are enabled, and each report is taken and answered, an entry each; so is each command fetched and done.
+#
+# Twice the carriers should take about twice the time: a ratio of at most 2.2 is wanted. The times are processor times, the least of
+# three runs each. The bytes of an entry are those by which the peak memory of 160 carriers is over that of 40, for each entry more.
+# How many entries there are is told by the program of measures, which makes the same batch. With valgrind on the machine, and the word
+# `profile`, the functions are told in which a batch of 4 carriers spends its instructions. This is a measurement. It is no test, and no
+# part of the merge gate. Build both programs first:
+#
+#     cd crates/gem300_tool && rt run -- feed ../../examples/first.toml < ../../examples/communication.lines
+#     cd crates/benches && rt run -- each
+set -euo pipefail
+cd "$(dirname "$0")/.."
+source bench/feeding.sh
+
+counter=crates/benches/out/benches
+if [ ! -x "$counter" ]; then
+    echo "$counter is missing: build it first, as the head of this script says" >&2
+    exit 2
+fi
+printf 'communication = "communicating"\nmax_entries = 4_000_000\nmax_bytes = 536_870_912\n' > "$work/batch.toml"
+
+# The peak memory of a batch of so many carriers, in kilobytes.
+peak_of() {
+    if [ -x /usr/bin/time ]; then
+        /usr/bin/time -o "$work/peak" -f '%M' "$program" batch 7 "$1" "$work/batch.toml" > /dev/null
+    else
+        "$program" batch 7 "$1" "$work/batch.toml" > /dev/null &
+        local pid=$! now
+        while now=$(awk '/VmHWM/ { print $2 }' "/proc/$pid/status" 2> /dev/null) && [ -n "$now" ]; do
+            echo "$now" > "$work/peak"
+            sleep 0.01
+        done
+        wait "$pid"
+    fi
+    cat "$work/peak"
+}
+
+# Runs a batch of so many carriers three times; the least time is left in $seconds, and how many entries it makes in $entries.
+measure() {
+    local least= run
+    for run in 1 2 3; do
+        { time "$program" batch 7 "$1" "$work/batch.toml" > "$work/out" 2> "$work/told"; } 2> "$work/time"
+        grep -qx "completed $1" "$work/out"
+        seconds=$(awk 'END { printf "%.2f", $1 + $2 }' "$work/time")
+        least=$(awk -v a="${least:-$seconds}" -v b="$seconds" 'BEGIN { print a < b ? a : b }')
+    done
+    seconds=$least
+    entries=$("$counter" batch 7 "$1")
+    awk -v carriers="$1" -v entries="$entries" -v seconds="$seconds" \
+        'BEGIN { printf "%d carriers, %d entries: %.2f s, %.0f entries a second\n", carriers, entries, seconds, entries / seconds }'
+}
+
+if [ "${1:-}" = profile ]; then
+    valgrind --tool=callgrind --callgrind-out-file="$work/calls" "$program" batch 7 4 "$work/batch.toml" > /dev/null 2>&1
+    callgrind_annotate "$work/calls" | head -40
+    exit
+fi
+
+measure 40
+first=$seconds
+few=$entries
+measure 80
+second=$seconds
+ratio "$first" "$second"
+measure 160
+ratio "$second" "$seconds"
+awk -v few="$(peak_of 40)" -v many="$(peak_of 160)" -v more=$((entries - few)) \
+    'BEGIN { printf "%.0f bytes an entry: %d kB with 40 carriers, %d kB with 160\n", (many - few) * 1024 / more, few, many }'

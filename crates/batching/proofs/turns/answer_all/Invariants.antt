@@ -1,0 +1,17 @@
+use Rattle.std.proofs.Common.{◌≡◌, true, Result}
+use Rattle.batch_model.specs.Batch.{answers_by, answers}
+use Rattle.batching.specs.declared.batch.Batch.{Batch}
+use Rattle.batching.specs.declared.batch.Stop.{Stop}
+use Rattle.batching.specs.Making.{standing, Makes}
+use Rattle.batching.proofs.turns.answer_all.Given as goal
+
+-- the core is whole; and whatever the answers that are left make, with those before them it is what all make
+abbrev pub invariant-answers : goal.invariant-answers
+invariant-answers l = record {
+  whole : l.batch.core.is_whole ≡ true;
+  joined : (b : Batch) (result : Result (Unit {0}) Stop) → Makes l.batch.core b (answers_by l.left l.config (standing l.batch)) result
+      → Makes l.fn.batch.core b (answers l.config (standing l.fn.batch)) result;
+}
+
+abbrev pub decreases-answers : goal.decreases-answers
+decreases-answers l = l.left

@@ -1,0 +1,21 @@
+use batch_model::Primary;
+use std::collections::VecDeque;
+use tool_core::Core;
+
+/// The core, the messages of the tool that were taken and are not answered yet, the oldest first, and the number that was drawn
+/// last, which is the seed at first.
+#[derive(Drop)]
+pub struct Batch {
+    pub core: Core,
+    pub asked: VecDeque<Primary>,
+    pub drawn: u64,
+}
+
+/// Why a batch stops before its end.
+#[derive(Clone, Copy, Debug, PartialEq, Eq)]
+pub enum Stop {
+    /// The next entry would not fit the history's limits.
+    Full,
+    /// There was no memory.
+    NoMemory,
+}

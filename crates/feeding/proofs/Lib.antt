@@ -1,0 +1,9 @@
+pub mod LineParts
+pub mod AtText
+pub mod Stopping
+pub mod LineEnds
+pub mod Standing
+pub mod Progress
+pub mod Ending
+pub mod NothingHappened
+pub mod Fetching

@@ -1,0 +1,20 @@
+use Rattle.std.proofs.Common.{◌≡◌, true, Result, length}
+use Rattle.core_view.specs.CoreView.{CoreView}
+use Rattle.gem_model.specs.State.{is_session_up}
+use Rattle.gem_model.specs.Feed.{taken_all}
+use Rattle.line_feeding.specs.declared.halt.Halt.{Halt}
+use Rattle.line_feeding.specs.Going.{Goes, SinkView, seen}
+use Rattle.feeding.proofs.engine.take_frames.Given as goal
+
+-- the core is whole, and the session up; and whatever the rest does, with what was taken it does all
+abbrev pub invariant-loop-core : goal.invariant-loop-core
+invariant-loop-core g l =
+    let see = seen g.K.Sink.held g.K.Sink.faults g.K.Sink.refusals in
+    record {
+      whole : l.core.is_whole ≡ true;
+      up : is_session_up l.core.state l.session ≡ true;
+      joined : (core : CoreView) (out : SinkView) (result : Result (Unit {0}) Halt) → Goes l.core core (see l.out) out (taken_all l.core.state) result → Goes l.fn.core core (see l.fn.out) out (taken_all l.fn.core.state) result;
+    }
+
+abbrev pub decreases-loop-core : goal.decreases-loop-core
+decreases-loop-core g l = length l.core.state.waiting

@@ -1,0 +1,193 @@
+//! One line after another: what each says is put in, in the session that is up.
+ghost use Rattle.std.specs.Prelude.{◌≡◌, ◌<◌, ◌≤◌, [], length, true, Ok, IfOk, OnOk, OnErr};
+ghost use Rattle.tool_events.specs.Configs.{IsConfig};
+ghost use Rattle.gem_model.specs.State.{opening, is_session_up};
+ghost use Rattle.history_laws.specs.Recorded.{Recorded};
+ghost use Rattle.gem_model.specs.Sizes.{bytes_of};
+ghost use Rattle.line_grammar.specs.declared.line.Line.TheVariants as line;
+ghost use Rattle.line_grammar.specs.Reading.{feed_line_of};
+ghost use Rattle.gem_model.specs.Feed.{Reading, first_reading};
+ghost use Rattle.line_feeding.specs.Going.{seen};
+ghost use Rattle.line_feeding.specs.Reads.{AddsLine};
+
+use crate::engine::{AT_ONCE, input, take_messages};
+use core_view::{Entries, SessionCounts};
+use gem_ids::Moment;
+use hsms_frame::Cutter;
+use line_feeding::{Halt, cut_bytes, ends_run, quit_behind};
+use outside::Sink;
+use std::alloc::{AllocError, Global};
+use tool_core::Core;
+use tool_events::{Config, Event, OperCmd, SessionCause, Signal, TEXT_BYTES};
+use tool_texts::{Line, LineFault, read_feed_line};
+
+/// The core, the cutter of the session that is up, and the bytes that came in each session.
+#[derive(Drop)]
+pub struct Feeder {
+    pub core: Core,
+    pub cutter: Cutter,
+    pub reads: SessionCounts,
+}
+
+impl Feeder {
+    ghost use Rattle.feeding.specs.Reading.{IsReading, TakesLine, TreatsLine};
+
+    /// The core in its first state.
+    pub fn open(alloc: Global, config: &Config) -> Result<Feeder, AllocError>
+        requires { IsConfig config.now }
+        ensures core { IfOk result (λ feeder. feeder.core ≡ record { config = config.now; state = opening config.now; history = []; is_whole = true }) }
+        ensures reading { IfOk result (λ feeder. IsReading (first_reading config.now) feeder.core feeder.cutter) }
+        ensures reads { IfOk result (λ feeder. feeder.reads ≡ []) }
+    {
+        let cutter = Cutter::new(alloc, TEXT_BYTES)?;
+        Ok(Feeder {
+            core: Core::open(alloc, config)?,
+            cutter,
+            reads: SessionCounts::none(alloc),
+        })
+    }
+
+    /// Hands out the history.
+    pub fn into_history(self) -> Entries
+        ensures history { result ≡ self.core.history }
+        ensures recorded { Recorded self.core.config self.core.history self.core.state }
+        ensures entries_fit { length self.core.history ≤ self.core.config.max_entries }
+        ensures bytes_fit { bytes_of self.core.history ≤ self.core.config.max_bytes }
+    {
+        let Feeder { core, .. } = self;
+        core.close()
+    }
+
+    /// A link comes up. A new session begins with no bytes.
+    fn link_up<K: Sink>(&mut self, alloc: Global, out: &mut K) -> Result<(), Halt>
+        requires whole { self.old.core.is_whole ≡ true }
+        ensures takes { (r : Reading) → IsReading r self.old.core self.old.cutter
+            → TakesLine r line.Up self.old self.new (seen K.held K.faults K.refusals out.old) (seen K.held K.faults K.refusals out.new) result }
+        ensures whole { OnOk result (self.new.core.is_whole ≡ true) }
+    {
+        if self.core.session_up().is_some() {
+            return input(alloc, &mut self.core, AT_ONCE, Event::LinkUp, out);
+        }
+        let Ok(cutter) = Cutter::new(alloc, TEXT_BYTES) else {
+            return Err(Halt::NoMemory);
+        };
+        self.cutter = cutter;
+        input(alloc, &mut self.core, AT_ONCE, Event::LinkUp, out)
+    }
+
+    /// The peer closes the link. Without a session nothing happens.
+    fn link_down<K: Sink>(&mut self, alloc: Global, out: &mut K) -> Result<(), Halt>
+        requires whole { self.old.core.is_whole ≡ true }
+        ensures takes { (r : Reading) → IsReading r self.old.core self.old.cutter
+            → TakesLine r line.Down self.old self.new (seen K.held K.faults K.refusals out.old) (seen K.held K.faults K.refusals out.new) result }
+        ensures whole { OnOk result (self.new.core.is_whole ≡ true) }
+    {
+        let Some(session) = self.core.session_up() else {
+            return Ok(());
+        };
+        let cause = SessionCause::PeerEnd;
+        input(
+            alloc,
+            &mut self.core,
+            AT_ONCE,
+            Event::LinkDown { session, cause },
+            out,
+        )
+    }
+
+    /// The clock is looked at, at this moment. Where nothing is due nothing happens.
+    fn look<K: Sink>(&mut self, alloc: Global, at: Moment, out: &mut K) -> Result<(), Halt>
+        requires whole { self.old.core.is_whole ≡ true }
+        ensures takes { (r : Reading) → IsReading r self.old.core self.old.cutter
+            → TakesLine r (line.Moment at) self.old self.new (seen K.held K.faults K.refusals out.old) (seen K.held K.faults K.refusals out.new) result }
+        ensures whole { OnOk result (self.new.core.is_whole ≡ true) }
+    {
+        if self.core.idle(at, &Event::Tick) {
+            return Ok(());
+        }
+        input(alloc, &mut self.core, at, Event::Tick, out)
+    }
+
+    /// Counts bytes that came in the session that is up.
+    fn count_bytes(&mut self, session: u64, bytes: &[u8]) -> Result<(), AllocError>
+        requires up { is_session_up self.old.core.state session ≡ true }
+        requires numbered { 0 < session }
+        ensures counts { OnOk result ((r : Reading) → r.state ≡ self.old.core.state
+            → AddsLine r (line.Bytes bytes.now) self.old.reads self.new.reads) }
+        ensures unchanged { self.new ≡ record self.old { reads = self.new.reads } }
+        ensures none { OnErr result (self.new ≡ self.old) }
+    {
+        self.reads.make_room(session)?;
+        self.reads.add(session, bytes.len() as u64);
+        Ok(())
+    }
+
+    /// Bytes of the host come. Without a session they are dropped.
+    fn take_bytes<K: Sink>(&mut self, alloc: Global, bytes: &[u8], out: &mut K) -> Result<(), Halt>
+        requires whole { self.old.core.is_whole ≡ true }
+        ensures takes { (r : Reading) → IsReading r self.old.core self.old.cutter
+            → TakesLine r (line.Bytes bytes.now) self.old self.new (seen K.held K.faults K.refusals out.old) (seen K.held K.faults K.refusals out.new) result }
+        ensures whole { OnOk result (self.new.core.is_whole ≡ true) }
+    {
+        let Some(session) = self.core.session_up() else {
+            return Ok(());
+        };
+        let Ok(()) = self.count_bytes(session, bytes) else {
+            return Err(Halt::NoMemory);
+        };
+        let mut arrivals = Vec::new(alloc);
+        let Ok(short) = cut_bytes(alloc, &mut self.cutter, bytes, &mut arrivals) else {
+            return Err(Halt::NoMemory);
+        };
+        take_messages(alloc, &mut self.core, session, arrivals, short, out)
+    }
+
+    /// An operator wants something. The command that ends the run halts it.
+    fn operate<K: Sink>(&mut self, alloc: Global, command: OperCmd, out: &mut K) -> Result<(), Halt>
+        requires whole { self.old.core.is_whole ≡ true }
+        ensures takes { (r : Reading) → IsReading r self.old.core self.old.cutter
+            → TreatsLine r (Ok (line.Oper command)) self.old self.new (seen K.held K.faults K.refusals out.old) (seen K.held K.faults K.refusals out.new) result }
+        ensures whole { OnOk result (self.new.core.is_whole ≡ true) }
+    {
+        let quits = ends_run(&command);
+        let taken = input(alloc, &mut self.core, AT_ONCE, Event::Oper(command), out);
+        if quits { quit_behind(taken) } else { taken }
+    }
+
+    /// The equipment tells something.
+    fn signal<K: Sink>(&mut self, alloc: Global, signal: Signal, out: &mut K) -> Result<(), Halt>
+        requires whole { self.old.core.is_whole ≡ true }
+        ensures takes { (r : Reading) → IsReading r self.old.core self.old.cutter
+            → TakesLine r (line.Signal signal) self.old self.new (seen K.held K.faults K.refusals out.old) (seen K.held K.faults K.refusals out.new) result }
+        ensures whole { OnOk result (self.new.core.is_whole ≡ true) }
+    {
+        input(alloc, &mut self.core, AT_ONCE, Event::Signal(signal), out)
+    }
+
+    /// Takes one line, without its line feed.
+    pub fn take_line<K: Sink>(
+        &mut self,
+        alloc: Global,
+        line: &[u8],
+        out: &mut K,
+    ) -> Result<(), Halt>
+        requires whole { self.old.core.is_whole ≡ true }
+        ensures takes { (r : Reading) → IsReading r self.old.core self.old.cutter
+            → TreatsLine r (feed_line_of line.now) self.old self.new (seen K.held K.faults K.refusals out.old) (seen K.held K.faults K.refusals out.new) result }
+        ensures whole { OnOk result (self.new.core.is_whole ≡ true) }
+    {
+        match read_feed_line(alloc, line) {
+            Ok(Line::Skip) => Ok(()),
+            // No line of `feed` waits for a port.
+            Ok(Line::Watch(_)) => Ok(()),
+            Ok(Line::Up) => self.link_up(alloc, out),
+            Ok(Line::Down) => self.link_down(alloc, out),
+            Ok(Line::Moment(at)) => self.look(alloc, at, out),
+            Ok(Line::Bytes(bytes)) => self.take_bytes(alloc, bytes.as_slice(), out),
+            Ok(Line::Oper(command)) => self.operate(alloc, command, out),
+            Ok(Line::Signal(signal)) => self.signal(alloc, signal, out),
+            Err(LineFault::Place(place)) => Err(Halt::Line(place)),
+            Err(LineFault::NoMemory) => Err(Halt::NoMemory),
+        }
+    }
+}

@@ -1,0 +1,143 @@
+//! The input as lines: bytes are gathered to lines, and each line is taken at its line feed.
+ghost use Rattle.std.specs.Prelude.{◌≡◌, ◌+◌, ◌<◌, ◌≤◌, ◌≢◌, ◌^◌, ◌==◌, ℕ, List, [], ◌∷◌, ◌++◌, length, take, drop, true, false, Err, IfOk, IfSome, IfNone, OnOk};
+ghost use Rattle.std.specs.List.{list_any};
+ghost use Rattle.tool_events.specs.Configs.{IsConfig};
+ghost use Rattle.line_feeding.specs.Going.{seen};
+
+use crate::feeder::Feeder;
+use line_feeding::Halt;
+use memchr::memchr;
+use outside::Sink;
+use std::alloc::{AllocError, Global};
+use tool_events::Config;
+use tool_texts::LINE_BYTES;
+
+/// Gathers bytes to lines, and takes each.
+#[derive(Drop)]
+pub struct Reader {
+    pub feeder: Feeder,
+    /// What came of the line that isn't whole.
+    pub line: Vec<u8>,
+    /// The number of that line, the first being 1.
+    pub number: u64,
+}
+
+impl Reader {
+    ghost use Rattle.feeding.specs.Standing.{IsOneLine, Stands, StandsOrStopped, Takes, Finishes};
+
+    /// A reader before the first byte.
+    pub fn open(alloc: Global, config: &Config) -> Result<Reader, AllocError>
+        requires { IsConfig config.now }
+        ensures stands { IfOk result (Stands []) }
+        ensures number { IfOk result (λ reader. reader.number ≡ 1) }
+        ensures history { IfOk result (λ reader. reader.feeder.core.history ≡ []) }
+        ensures config { IfOk result (λ reader. reader.feeder.core.config ≡ config.now) }
+        ensures whole { IfOk result (λ reader. reader.feeder.core.is_whole ≡ true) }
+    {
+        let feeder = Feeder::open(alloc, config)?;
+        Ok(Reader {
+            feeder,
+            line: Vec::new(alloc),
+            number: 1,
+        })
+    }
+
+    /// The line is whole: it is taken, and the next begins.
+    fn end_line<K: Sink>(&mut self, alloc: Global, out: &mut K) -> Result<(), Halt>
+        requires number { self.old.number + 1 < 2 ^ 64 }
+        requires whole { self.old.feeder.core.is_whole ≡ true }
+        ensures takes { (text : List ℕ) → Stands text self.old
+            → Takes text (10 ∷ []) self.old self.new (seen K.held K.faults K.refusals out.old) (seen K.held K.faults K.refusals out.new) result }
+        ensures number { self.new.number ≤ self.old.number + 1 }
+        ensures whole { OnOk result (self.new.feeder.core.is_whole ≡ true) }
+    {
+        match self.feeder.take_line(alloc, &self.line, out) {
+            Ok(()) => {}
+            Err(halt) => return Err(halt),
+        }
+        self.line.clear();
+        self.number += 1;
+        Ok(())
+    }
+
+    /// Bytes of the line that isn't whole come, of which none is a line feed. A line of over 600,000 bytes is refused.
+    fn push_part(&mut self, part: &[u8]) -> Result<(), Halt>
+        requires { IsOneLine part.now }
+        ensures stands { (text : List ℕ) → Stands text self.old → StandsOrStopped (text ++ part.now) self.new result }
+        ensures core_stays { self.new.feeder.core ≡ self.old.feeder.core }
+        ensures fault { result ≢ Err Halt.Write }
+        ensures number { self.new.number ≡ self.old.number }
+    {
+        if part.len() > LINE_BYTES.saturating_sub(self.line.len()) {
+            return Err(Halt::Line(LINE_BYTES as u64));
+        }
+        match self.line.extend_from_slice(part) {
+            Ok(()) => Ok(()),
+            Err(_) => Err(Halt::NoMemory),
+        }
+    }
+
+    /// What was left of the line comes, and its line feed.
+    fn take_rest<K: Sink>(&mut self, alloc: Global, rest: &[u8], out: &mut K) -> Result<(), Halt>
+        requires number { self.old.number + 1 < 2 ^ 64 }
+        requires whole { self.old.feeder.core.is_whole ≡ true }
+        requires line { IsOneLine rest.now }
+        ensures takes { (text : List ℕ) → Stands text self.old
+            → Takes text (rest.now ++ 10 ∷ []) self.old self.new (seen K.held K.faults K.refusals out.old) (seen K.held K.faults K.refusals out.new) result }
+        ensures number { self.new.number ≤ self.old.number + 1 }
+        ensures whole { OnOk result (self.new.feeder.core.is_whole ≡ true) }
+    {
+        match self.push_part(rest) {
+            Ok(()) => self.end_line(alloc, out),
+            Err(halt) => Err(halt),
+        }
+    }
+
+    /// The next bytes of the text come.
+    pub fn take_piece<K: Sink>(
+        &mut self,
+        alloc: Global,
+        piece: &[u8],
+        out: &mut K,
+    ) -> Result<(), Halt>
+        requires number { self.old.number + length piece.now < 2 ^ 64 }
+        requires whole { self.old.feeder.core.is_whole ≡ true }
+        ensures takes { (text : List ℕ) → Stands text self.old
+            → Takes text piece.now self.old self.new (seen K.held K.faults K.refusals out.old) (seen K.held K.faults K.refusals out.new) result }
+        ensures number { self.new.number ≤ self.old.number + length piece.now }
+        ensures whole { OnOk result (self.new.feeder.core.is_whole ≡ true) }
+    {
+        let mut left = piece;
+        while let Some(end) = line_end(left) {
+            match self.take_rest(alloc, &left[..end], out) {
+                Ok(()) => {}
+                Err(halt) => return Err(halt),
+            }
+            left = &left[end + 1..];
+        }
+        self.push_part(left)
+    }
+
+    /// The text ends: what came of its last line is a line too.
+    pub fn finish<K: Sink>(&mut self, alloc: Global, out: &mut K) -> Result<(), Halt>
+        requires { self.old.feeder.core.is_whole ≡ true }
+        ensures finishes { (text : List ℕ) → Stands text self.old
+            → Finishes text self.old self.new (seen K.held K.faults K.refusals out.old) (seen K.held K.faults K.refusals out.new) result }
+        ensures number { self.new.number ≡ self.old.number }
+    {
+        if self.line.is_empty() {
+            return Ok(());
+        }
+        self.feeder.take_line(alloc, &self.line, out)
+    }
+}
+
+// The place of the first line feed.
+fn line_end(bytes: &[u8]) -> Option<usize>
+    ensures within { IfSome result (λ end. end < length bytes.now) }
+    ensures feed { IfSome result (λ end. bytes.now ≡ take end bytes.now ++ 10 ∷ drop (end + 1) bytes.now) }
+    ensures line { IfSome result (λ end. list_any (λ b. b == 10) (take end bytes.now) ≡ false) }
+    ensures none { IfNone result (list_any (λ b. b == 10) bytes.now ≡ false) }
+{
+    memchr(b'\n', bytes)
+}

@@ -1,3 +1,0 @@
-pub mod Acknowledge
-pub mod Replies
-pub mod Sendable

@@ -1,0 +1,5 @@
+use Rattle.host_asks.proofs.Few.{few_names}
+use Rattle.host_asks.proofs.asks.constant_names.Goals as goal
+
+pub returns-clause-few : goal.returns-clause-few
+returns-clause-few c few = few_names c.args.ids.now few

@@ -1,0 +1,150 @@
+//! What a message of streams 1, 2, 5 and 6 does that is taken: its reply, what it writes, and its direct rows, all by the plant
+//! before it. Each message is one arm of `gem_done`.
+ghost use Rattle.std.specs.Prelude.{◌≡◌, IfOk};
+ghost use Rattle.gem_ids.specs.Texts.{IsText};
+ghost use Rattle.gem_ids.specs.Civil.{moment_in, time_digits};
+ghost use Rattle.message_model.specs.declared.gem_reply.GemReply.TheVariants as reply;
+ghost use Rattle.gem_model.specs.State.{clock_now};
+ghost use Rattle.message_model.specs.Few.{HasFewParts};
+ghost use Rattle.message_model.specs.GemSendable.{HasSendableParts};
+ghost use Rattle.gem_model.specs.Messages.{onlack, tiack, is_enabling, clock_set, gem_done};
+ghost use Rattle.host_replies.specs.Dones.{done_view, CanBeSent};
+
+use crate::remote::command;
+use crate::replies::{
+    alarm_data, constant_data, constant_namelist, enabled_alarm_data, event_data, report_data,
+    status_data, status_namelist,
+};
+use crate::spooling::spool_streams;
+use core_state::Plant;
+use gem_states::{CommTrigger, Control, ControlTrigger};
+use host_replies::{Done, answered, fires_row};
+use host_requests::{moment_in, tiack};
+use message_model::{GemMsg, GemReply, Identity};
+use plant_parts::{by_comm, part, unload_row};
+use std::alloc::{AllocError, Global};
+
+/// ONLACK: 0 in HOST OFF-LINE, 1 in EQUIPMENT OFF-LINE and ATTEMPT ON-LINE, 2 on-line.
+fn onlack(control: Control) -> u8
+    ensures { result ≡ onlack control }
+{
+    match control {
+        Control::HostOffline => 0,
+        Control::EquipmentOffline | Control::Attempt => 1,
+        Control::Local | Control::Remote => 2,
+    }
+}
+
+/// The clock is set to the moment that a text says, where it says one. Gives TIACK.
+fn set_clock(plant: &mut Plant, text: &[u8]) -> u8
+    ensures code { result ≡ tiack text.now }
+    ensures after { plant.new ≡ clock_set (moment_in text.now) plant.old }
+{
+    plant.set_clock(moment_in(text));
+    tiack(text)
+}
+
+/// Whether ALED enables.
+fn is_enabling(aled: u8) -> bool
+    ensures { result ≡ is_enabling aled }
+{
+    aled >= 128
+}
+
+/// What the tool tells of itself.
+fn identity(plant: &Plant, alloc: Global) -> Result<Identity, AllocError>
+    ensures identity { IfOk result (λ tool. tool ≡ record { mdln = plant.now.config.mdln; softrev = plant.now.config.softrev }) }
+    ensures mdln { IfOk result (λ tool. IsText tool.mdln) }
+    ensures softrev { IfOk result (λ tool. IsText tool.softrev) }
+{
+    Ok(Identity {
+        mdln: part(alloc, plant.config().mdln)?,
+        softrev: part(alloc, plant.config().softrev)?,
+    })
+}
+
+/// S1F2.
+fn on_line_data(plant: &Plant, alloc: Global) -> Result<GemReply, AllocError>
+    ensures reply { IfOk result (λ r. r ≡ reply.S1F2 plant.now.config.mdln plant.now.config.softrev) }
+    ensures sendable { IfOk result HasSendableParts }
+{
+    let Identity { mdln, softrev } = identity(plant, alloc)?;
+    Ok(GemReply::S1F2(mdln, softrev))
+}
+
+/// S1F14.
+fn established(plant: &Plant, alloc: Global) -> Result<GemReply, AllocError>
+    ensures reply { IfOk result (λ r. r ≡ reply.S1F14 (record { mdln = plant.now.config.mdln; softrev = plant.now.config.softrev })) }
+    ensures sendable { IfOk result HasSendableParts }
+{
+    Ok(GemReply::S1F14(identity(plant, alloc)?))
+}
+
+/// S2F18.
+fn date_and_time(plant: &Plant, alloc: Global) -> Result<GemReply, AllocError>
+    ensures reply { IfOk result (λ r. r ≡ reply.S2F18 (time_digits (clock_now plant.now))) }
+    ensures sendable { IfOk result HasSendableParts }
+{
+    Ok(GemReply::S2F18(plant.seen().time_text(alloc)?))
+}
+
+/// A message of streams 1, 2, 5 and 6: what it is answered, and the rows that it fires, by the plant before it; and what it writes
+/// is written. Most are answered, and no row fires; the others return what they do.
+pub fn gem_done(plant: &mut Plant, alloc: Global, message: &GemMsg) -> Result<Done, AllocError>
+    requires { HasFewParts message.now }
+    ensures done { IfOk result (λ told. done_view told plant.new ≡ gem_done plant.old message.now) }
+    ensures sendable { IfOk result (λ told. CanBeSent told.reply) }
+{
+    let reply = match message {
+        GemMsg::S1F1 => on_line_data(plant, alloc)?,
+        GemMsg::S1F3(ids) => status_data(plant, alloc, ids.as_slice())?,
+        GemMsg::S1F11(ids) => status_namelist(plant, alloc, ids.as_slice())?,
+        GemMsg::S1F13 => return fires_row(
+            alloc,
+            established(plant, alloc)?,
+            by_comm(CommTrigger::HostS1F13),
+        ),
+        GemMsg::S1F15 => return fires_row(
+            alloc,
+            GemReply::S1F16,
+            plant.by_control(ControlTrigger::HostS1F15),
+        ),
+        GemMsg::S1F17 => return fires_row(
+            alloc,
+            GemReply::S1F18(onlack(plant.control())),
+            plant.by_control(ControlTrigger::HostS1F17),
+        ),
+        GemMsg::S2F13(ids) => constant_data(plant, alloc, ids.as_slice())?,
+        GemMsg::S2F15(settings) => GemReply::S2F16(plant.set_constants(
+            alloc,
+            settings.as_slice(),
+        )?),
+        GemMsg::S2F17 => date_and_time(plant, alloc)?,
+        GemMsg::S2F29(ids) => constant_namelist(plant, alloc, ids.as_slice())?,
+        GemMsg::S2F31(text) => GemReply::S2F32(set_clock(plant, text.as_slice())),
+        GemMsg::S2F33(_, reports) => GemReply::S2F34(plant.define_reports(
+            alloc,
+            reports.as_slice(),
+        )?),
+        GemMsg::S2F35(_, events) => GemReply::S2F36(plant.link_reports(alloc, events.as_slice())?),
+        GemMsg::S2F37(on, ceids) => GemReply::S2F38(plant.enable_events(*on, ceids.as_slice())),
+        GemMsg::S2F41(name, parameters) => return command(
+            plant,
+            alloc,
+            name.as_bytes(),
+            parameters.as_slice(),
+        ),
+        GemMsg::S2F43(entries) => spool_streams(plant, alloc, entries.as_slice())?,
+        GemMsg::S5F3(aled, alid) => GemReply::S5F4(plant.enable_alarms(is_enabling(*aled), *alid)),
+        GemMsg::S5F5(ids) => alarm_data(plant, alloc, ids.as_slice())?,
+        GemMsg::S5F7 => enabled_alarm_data(plant, alloc)?,
+        GemMsg::S6F15(ceid) => event_data(plant, alloc, *ceid)?,
+        GemMsg::S6F19(rptid) => report_data(plant, alloc, *rptid)?,
+        GemMsg::S6F23(rsdc) => return fires_row(
+            alloc,
+            GemReply::S6F24(plant.rsda()),
+            unload_row(*rsdc),
+        ),
+    };
+    Ok(answered(alloc, reply))
+}

@@ -1,0 +1,13 @@
+pub mod Data
+pub mod Falls
+pub mod Format
+pub mod Height
+pub mod Ids
+pub mod One
+pub mod Plain
+pub mod Reading
+pub mod Sendable
+pub mod Spelling
+pub mod Stored
+pub mod View
+pub mod Weight

@@ -1,0 +1,14 @@
+pub mod Acknowledge
+pub mod Bodies
+pub mod Codes
+pub mod Few
+pub mod Functions
+pub mod GemPrimaries
+pub mod GemReplies
+pub mod GemSendable
+pub mod MessageTable
+pub mod Printed
+pub mod ShopParts
+pub mod ShopPrimaries
+pub mod ShopReplies
+pub mod ShopSendable

@@ -1,0 +1,3 @@
+pub mod MomentTexts
+pub mod PortValues
+pub mod Small

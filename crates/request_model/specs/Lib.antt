@@ -1,0 +1,4 @@
+pub mod Errors
+pub mod Attributes
+pub mod Requests
+pub mod Acts

@@ -1,5 +1,0 @@
-use Rattle.top_calls.proofs.LineParts.{TakesLine-signal}
-use Rattle.top_calls.proofs.feeder.Feeder.signal.Goals as goal
-
-pub returns-clause-takes : goal.returns-clause-takes
-returns-clause-takes g c = λ r reading. TakesLine-signal r c.args.signal c.args.self.now c.input.new.core _ _ c.input.result reading c.input.ensures.goes

@@ -14,11 +14,10 @@ ghost use Rattle.robot_moves.specs.Modules.{fetched_number};
 ghost use Rattle.history_laws.specs.Recorded.{Recorded};
 ghost use Rattle.gem_model.specs.Sessions.{session_count, session_end, session_out};
 ghost use Rattle.gem_model.specs.Sizes.{bytes_of, counted, is_full};
-ghost use Rattle.history_totals.specs.Counts.{done_by};
-ghost use Rattle.history_totals.specs.Totals.{totals_at, totals_of};
+ghost use Rattle.history_totals.specs.Totals.{totals_of};
 
-use crate::react::{must_wait, react};
-use core_shop::Reaction;
+use crate::react::must_wait;
+use crate::stepped::take_event;
 use core_state::Plant;
 use core_view::{Entries, SessionCounts};
 use event_reports::Values;
@@ -29,45 +28,14 @@ use item_model::{Item, NoMemory};
 use note_line::Fate;
 use std::alloc::{AllocError, Global};
 use std::marker::Model;
-use tool_events::{Answer, Config, Entry, Event, PostFault, SessionCause, SessionEnd, Signal};
-
-/// How many commands an event ends by Done, 0 or 1.
-fn done_by(plant: &Plant, event: &Event) -> u64
-    ensures { result ≡ done_by plant.now event.now }
-{
-    match event {
-        Event::Signal(Signal::Done(m, n)) => {
-            if plant.is_quitting() {
-                return 0;
-            }
-            if plant.is_open(*m, *n) { 1 } else { 0 }
-        }
-        _ => 0,
-    }
-}
-
-/// The counts behind an event that ended so many commands by Done and completed so many control jobs, by those before it and by
-/// what the plant tells behind it.
-fn totals_behind(before: &Totals, plant: &Plant, done: u64, completed: u64) -> Totals
-    ensures { result ≡ totals_at plant.now (before.now.done + done) (before.now.completed + completed) }
-{
-    Totals {
-        sessions: plant.session_count(),
-        notes: plant.note_count(),
-        answered: plant.answered_count(),
-        dropped: plant.dropped_count(),
-        done: before.done.saturating_add(done),
-        completed: before.completed.saturating_add(completed),
-        substrates: plant.registrations(),
-    }
-}
+use tool_events::{Answer, Config, Entry, Event, PostFault, SessionCause, SessionEnd};
 
 /// The tool, with its history. Contracts see its configuration, the state that its history leads to, the history, and
 /// whether it can go on. The state is that of the plant while the core is whole.
 #[derive(Drop)]
 pub struct Core {
     config: Config,
-    plant: Plant,
+    plant: Box<Plant>,
     entries: Vec<Entry>,
     ends: Vec<SessionEnd>,
     written: SessionCounts,
@@ -87,7 +55,7 @@ impl Model for Core {
 
     ghost view = { λ c. record { config = c.config; state = state_of c.config c.entries.items; history = c.entries.items; is_whole = c.is_whole } };
 
-    ghost invariant = { λ c. Replays c.config c.plant c.entries.items c.ends.items c.written c.bytes c.sessions c.totals c.is_up c.is_whole };
+    ghost invariant = { λ c. Replays c.config c.plant.value c.entries.items c.ends.items c.written c.bytes c.sessions c.totals c.is_up c.is_whole };
 }
 
 impl Values for Core {
@@ -113,7 +81,7 @@ impl Core {
     {
         Ok(Core {
             config: *config,
-            plant: Plant::open(alloc, config)?,
+            plant: Box::new(alloc, Plant::open(alloc, config)?)?,
             entries: Vec::new(alloc),
             ends: Vec::new(alloc),
             written: SessionCounts::none(alloc),
@@ -299,31 +267,21 @@ impl Core {
         };
         // What an event that finds no memory leaves of the plant counts for nothing.
         self.is_whole = false;
-        let mut reaction = Reaction::answered(Answer::Done);
-        let done = done_by(&self.plant, &event);
-        let mut completed = 0;
-        let Ok(goes) = react(
-            &mut self.plant,
-            alloc,
-            at,
-            &event,
-            &mut reaction,
-            &mut completed,
-        ) else {
+        let Ok(found) = take_event(&mut self.plant, alloc, at, &event, &self.totals) else {
             return Err(PostFault::NoMemory);
         };
-        if !goes {
+        let Some(told) = found else {
             return Err(PostFault::Again);
-        }
-        add_taken(&mut self.written, &event, &reaction.answer);
+        };
+        add_taken(&mut self.written, &event, &told.reaction.answer);
         self.bytes += event_bytes(&event);
-        self.sessions = self.plant.session_count();
-        self.totals = totals_behind(&self.totals, &self.plant, done, completed);
-        self.is_up = self.plant.is_up();
+        self.sessions = told.sessions;
+        self.totals = told.totals;
+        self.is_up = told.is_up;
         self.entries.push_reserved(Entry { seat, at, event });
-        add_end(&mut self.ends, reaction.ended);
+        add_end(&mut self.ends, told.reaction.ended);
         self.is_whole = true;
-        Ok(reaction.answer)
+        Ok(told.reaction.answer)
     }
 
     /// What became of the note of this number: it waits, is open, or has ended, and how. `None`: no note has the number. The

@@ -30,12 +30,24 @@ use std::alloc::{AllocError, Global};
 use std::marker::Model;
 use tool_events::{Answer, Config, Entry, Event, PostFault, SessionCause, SessionEnd};
 
+/// The plant, in a box, so that a core that is handed on is small. How it is dropped is written out: so it is proved here alone, and
+/// not again wherever a core is dropped.
+struct BoxedPlant {
+    plant: Box<Plant>,
+}
+
+impl Drop for BoxedPlant {
+    fn drop(self) {
+        let BoxedPlant { plant: _plant } = self;
+    }
+}
+
 /// The tool, with its history. Contracts see its configuration, the state that its history leads to, the history, and
 /// whether it can go on. The state is that of the plant while the core is whole.
 #[derive(Drop)]
 pub struct Core {
     config: Config,
-    plant: Box<Plant>,
+    boxed: BoxedPlant,
     entries: Vec<Entry>,
     ends: Vec<SessionEnd>,
     written: SessionCounts,
@@ -55,7 +67,7 @@ impl Model for Core {
 
     ghost view = { λ c. record { config = c.config; state = state_of c.config c.entries.items; history = c.entries.items; is_whole = c.is_whole } };
 
-    ghost invariant = { λ c. Replays c.config c.plant.value c.entries.items c.ends.items c.written c.bytes c.sessions c.totals c.is_up c.is_whole };
+    ghost invariant = { λ c. Replays c.config c.boxed.plant.value c.entries.items c.ends.items c.written c.bytes c.sessions c.totals c.is_up c.is_whole };
 }
 
 impl Values for Core {
@@ -68,7 +80,7 @@ impl Values for Core {
         if !self.is_whole {
             return Err(AllocError);
         }
-        let seen = self.plant.seen();
+        let seen = self.boxed.plant.seen();
         seen.showing(Text80::empty(), 0).value(alloc, vid)
     }
 }
@@ -81,7 +93,9 @@ impl Core {
     {
         Ok(Core {
             config: *config,
-            plant: Box::new(alloc, Plant::open(alloc, config)?)?,
+            boxed: BoxedPlant {
+                plant: Box::new(alloc, Plant::open(alloc, config)?)?,
+            },
             entries: Vec::new(alloc),
             ends: Vec::new(alloc),
             written: SessionCounts::none(alloc),
@@ -150,7 +164,7 @@ impl Core {
         requires { self.now.is_whole ≡ true }
         ensures { result ≡ self.now.state.quitting }
     {
-        self.plant.is_quitting()
+        self.boxed.plant.is_quitting()
     }
 
     /// How many modules the tool has, 2 to 255. The core is whole.
@@ -159,7 +173,7 @@ impl Core {
         ensures count { result ≡ length self.now.state.floor.modules }
         ensures few { result ≤ 255 }
     {
-        self.plant.module_count()
+        self.boxed.plant.module_count()
     }
 
     /// The number of the open command of a module that was fetched. `None` exactly where it has none, or is no module of the
@@ -168,7 +182,7 @@ impl Core {
         requires { self.now.is_whole ≡ true }
         ensures { result ≡ fetched_number (module_of m.0 self.now.state) }
     {
-        self.plant.fetched_number(m)
+        self.boxed.plant.fetched_number(m)
     }
 
     /// Why a session ended. None: it is up, or never came.
@@ -218,7 +232,7 @@ impl Core {
         // The state keeps what is true of each state that a history leads to.
         ensures valid { Valid self.now.state }
     {
-        must_wait(&self.plant, at, event)
+        must_wait(&self.boxed.plant, at, event)
     }
 
     /// Whether the history takes no event with so much text, in bytes, any more.
@@ -252,7 +266,7 @@ impl Core {
         ensures whole { posts.is_want result ≡ false → self.new.is_whole ≡ true }
     {
         // Asked first, so that want of memory is not told of an event that has to wait.
-        if must_wait(&self.plant, at, &event) {
+        if must_wait(&self.boxed.plant, at, &event) {
             return Err(PostFault::Again);
         }
         let Ok(()) = self.entries.reserve(1) else {
@@ -267,7 +281,7 @@ impl Core {
         };
         // What an event that finds no memory leaves of the plant counts for nothing.
         self.is_whole = false;
-        let Ok(found) = take_event(&mut self.plant, alloc, at, &event, &self.totals) else {
+        let Ok(found) = take_event(&mut self.boxed.plant, alloc, at, &event, &self.totals) else {
             return Err(PostFault::NoMemory);
         };
         let Some(told) = found else {
@@ -290,7 +304,7 @@ impl Core {
         requires { self.now.is_whole ≡ true }
         ensures { result ≡ fate_of number self.now.state.line.told }
     {
-        self.plant.fate(number)
+        self.boxed.plant.fate(number)
     }
 
     /// Takes an event that this seat posts at this moment, answers it, and adds it to the history. `Full`: the history

@@ -1,4 +1,4 @@
-use Rattle.std.proofs.Common.{◌≡◌, ◌+◌, true, Some, refl, ap, subst, sym, ◌∙◌}
+use Rattle.std.proofs.Common.{◌≡◌, ◌≤◌, ◌+◌, true, Some, None, IfSome, length, if◌then◌else◌, refl, ap, subst, sym, ◌∙◌}
 use Rattle.tool_events.specs.declared.entry.Entry.{Entry}
 use Rattle.gem_model.specs.State.{State, is_up}
 use Rattle.gem_model.specs.Step.{Outcome, step}
@@ -8,7 +8,7 @@ use Rattle.history_totals.specs.Totals.{totals_at}
 use Rattle.history_parts.specs.CoreInside.{state_of}
 use Rattle.core_view.specs.CoreView.{CoreView}
 use Rattle.history_totals.proofs.Summing.{totals-snoc}
-use Rattle.history_parts.proofs.Replaying.{GoesOn, goes-snoc, state-snoc}
+use Rattle.history_parts.proofs.Replaying.{GoesOn, goes-snoc, state-snoc, taker_fits}
 use Rattle.tool_core.proofs.tool.Core.record.Goals as goal
 
 pub invariant_of-self-3 : goal.invariant_of-self-3
@@ -60,3 +60,17 @@ returns-clause-step c =
       refl,
       rw (c.push_reserved.ensures.items, c.in-Ok.ensures.items) (state-snoc k.config k.entries.items entry o i.run here),
     )
+
+pub add_taken-requires : goal.add_taken-requires
+add_taken-requires c =
+    let k = c.self.inside in
+    let i = c.self.invariant in
+    let told = c.in-Some.told in
+    let old : State = state_of k.config k.entries.items in
+    let n = length c.make_room.new.counts in
+    let whole : k.is_whole ≡ true = ap (λ (v : CoreView). v.is_whole) c.self.view_is ∙ c.requires.whole in
+    let there : c.deref_mut.result.now ≡ old = c.deref_mut.ensures.value ∙ i.plant_is whole in
+    let o : Outcome = record { answer = told.reaction.answer; ended = told.reaction.ended; after = c.take_event.new.plant } in
+    let here : step old c.args.at.0 c.args.event ≡ Some o = subst (λ (g : State). step g c.args.at.0 c.args.event ≡ Some o) there (rw c.in-Some.is at c.in-Ok-take_event.ensures.steps) in
+    let room : IfSome (if is_up old then Some old.link.session else None) (λ k. k ≤ n) = rw (c.session_up-up.ensures.session, c.in-Ok.ensures.items) at c.in-Ok-make_room.ensures.room in
+    taker_fits k.config k.entries.items c.args.at.0 n c.args.event o i.run here room

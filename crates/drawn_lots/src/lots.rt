@@ -26,20 +26,33 @@ pub(crate) fn up_to(last: &mut u64, most: u64) -> u64 {
         .saturating_add(1)
 }
 
+// How many ports a tool of this shape has; one or two is drawn where one does.
+fn ports_of(shape: Shape, last: &mut u64) -> u64 {
+    match shape {
+        Shape::One | Shape::Shared => up_to(last, 2),
+        Shape::Each | Shape::Both => 2,
+    }
+}
+
+// A core under a configuration of this text.
+fn core_under(alloc: Global, text: &str) -> Option<Core> {
+    match read_config(alloc, text.as_bytes()) {
+        Ok(config) => Core::open(alloc, &config).ok(),
+        Err(_) => None,
+    }
+}
+
 /// The tool of the lot of a seed: it has one or two chambers and ports, begins COMMUNICATING and ON-LINE, and knows the recipe R1.
 pub(crate) fn opened(alloc: Global, shape: Shape, seed: u64) -> Option<Played> {
     let mut last = seed;
     let chambers = up_to(&mut last, 2);
-    let ports = match shape {
-        Shape::One | Shape::Shared => up_to(&mut last, 2),
-        Shape::Each | Shape::Both => 2,
-    };
+    let ports = ports_of(shape, &mut last);
     let text = format!(in alloc;
         "communication = \"communicating\"\nchambers = {chambers}\nports = {ports}\n"
     ).ok()?;
-    match read_config(alloc, text.as_bytes()) {
-        Ok(config) => Some(Played::new(alloc, Core::open(alloc, &config).ok()?, last, ports)),
-        Err(_) => None,
+    match core_under(alloc, text.as_str()) {
+        Some(core) => Some(Played::new(alloc, core, last, ports)),
+        None => None,
     }
 }
 
@@ -63,89 +76,145 @@ fn slots(alloc: Global, from: u64, to: u64) -> Option<String> {
     Some(words)
 }
 
+// Of each port, the name of its carrier; the message by which the host proceeds with it; and all of it as the material of a job.
+const CARRIERS: [(&[u8], &str, &str); 2] = [
+    (
+        b"CAR1",
+        "S3F17 W 3 L[U4 0, A ProceedWithCarrier, A CAR1, U1 1, L[]]",
+        "L[A CAR1, L[]]",
+    ),
+    (
+        b"CAR2",
+        "S3F17 W 3 L[U4 0, A ProceedWithCarrier, A CAR2, U1 2, L[]]",
+        "L[A CAR2, L[]]",
+    ),
+];
+
+// The messages that create a process job over this material, which starts by itself: of the first, and of the second.
+const FIRST_JOB: (&str, &str) = (
+    "S16F11 W 4 L[U4 0, A PJ1, B 0D, L[",
+    "], L[U1 1, A R1, L[]], BOOL true, L[]]",
+);
+
+const SECOND_JOB: (&str, &str) = (
+    "S16F11 W 4 L[U4 0, A PJ2, B 0D, L[",
+    "], L[U1 1, A R1, L[]], BOOL true, L[]]",
+);
+
+// The messages that create a control job of the first process job, and of both.
+const CONTROL_JOB: &str =
+    "S14F9 W 5 L[A Equipment, A ControlJob, L[L[A ObjID, A CJ1], L[A ProcessingCtrlSpec, L[A PJ1]]]]";
+
+const CONTROL_JOB_OF_BOTH: &str =
+    "S14F9 W 5 L[A Equipment, A ControlJob, L[L[A ObjID, A CJ1], L[A ProcessingCtrlSpec, L[A PJ1, A PJ2]]]]";
+
+// The signal by which a carrier with so many substrates comes to a port, 1 or 2.
+fn placed(port: u64, name: &[u8], substrates: u64) -> Option<Signal> {
+    Some(Signal::Placed {
+        port: PortNo(u8::try_from(port).ok()?),
+        id: CarrierId::read(Text80::read(name).ok()?),
+        map: map_of(substrates),
+    })
+}
+
 impl Played {
     // A carrier comes to a port, and the host proceeds with it for its id and for its slot map. How many substrates it has is drawn.
-    fn receive(&mut self, alloc: Global, port: u64) -> Option<u64> {
+    // Gives them, and the carrier as material.
+    fn receive(&mut self, alloc: Global, port: u64) -> Option<(u64, &'static str)> {
         let substrates = up_to(&mut self.last, 25);
-        let name = format!(in alloc; "CAR{port}").ok()?;
-        let id = CarrierId::read(Text80::read(name.as_bytes()).ok()?);
-        let map = map_of(substrates);
-        let port_no = PortNo(u8::try_from(port).ok()?);
-        self.post(
-            alloc,
-            Event::Signal(Signal::Placed {
-                port: port_no,
-                id,
-                map,
-            }),
-        )?;
-        let words = format!(in alloc;
-            "S3F17 W 3 L[U4 0, A ProceedWithCarrier, A CAR{port}, U1 {port}, L[]]"
-        ).ok()?;
-        self.send(alloc, words.as_str())?;
-        self.send(alloc, words.as_str())?;
-        Some(substrates)
+        let (name, proceed, material) = *CARRIERS.get(port.saturating_sub(1) as usize)?;
+        self.post(alloc, Event::Signal(placed(port, name, substrates)?))?;
+        self.send(alloc, proceed)?;
+        self.send(alloc, proceed)?;
+        Some((substrates, material))
     }
 
-    // The host creates a process job over slots of the carriers, which starts by itself.
-    fn create(&mut self, alloc: Global, job: &str, material: &str) -> Option<()> {
-        let words = format!(in alloc;
-            "S16F11 W 4 L[U4 0, A {job}, B 0D, L[{material}], L[U1 1, A R1, L[]], BOOL true, L[]]"
-        ).ok()?;
+    // The host creates a process job over this material, by a message that has these words before it and behind it.
+    fn create(&mut self, alloc: Global, job: (&str, &str), material: &str) -> Option<()> {
+        let (front, back) = job;
+        let words = format!(in alloc; "{front}{material}{back}").ok()?;
         self.send(alloc, words.as_str())
     }
 
     fn begin_one(&mut self, alloc: Global) -> Option<u64> {
         let port = up_to(&mut self.last, self.ports);
-        let substrates = self.receive(alloc, port)?;
-        let material = format!(in alloc; "L[A CAR{port}, L[]]").ok()?;
-        self.create(alloc, "PJ1", material.as_str())?;
+        let (substrates, material) = self.receive(alloc, port)?;
+        self.create(alloc, FIRST_JOB, material)?;
         Some(substrates)
+    }
+
+    // A process job over these slots of the carrier of a port.
+    fn create_over(
+        &mut self,
+        alloc: Global,
+        job: (&str, &str),
+        port: u64,
+        from: u64,
+        to: u64,
+    ) -> Option<()> {
+        let slots = slots(alloc, from, to)?;
+        let material = format!(in alloc; "L[A CAR{port}, L[{slots}]]").ok()?;
+        self.create(alloc, job, material.as_str())
     }
 
     // The first process job has the slots from the first on, the second those to the last, and one at least is of both.
     fn begin_shared(&mut self, alloc: Global) -> Option<u64> {
         let port = up_to(&mut self.last, self.ports);
-        let substrates = self.receive(alloc, port)?;
+        let (substrates, _) = self.receive(alloc, port)?;
         let end = up_to(&mut self.last, substrates);
         let begin = up_to(&mut self.last, end);
-        let first = slots(alloc, 1, end)?;
-        let first = format!(in alloc; "L[A CAR{port}, L[{first}]]").ok()?;
-        self.create(alloc, "PJ1", first.as_str())?;
-        let second = slots(alloc, begin, substrates)?;
-        let second = format!(in alloc; "L[A CAR{port}, L[{second}]]").ok()?;
-        self.create(alloc, "PJ2", second.as_str())?;
+        self.create_over(alloc, FIRST_JOB, port, 1, end)?;
+        self.create_over(alloc, SECOND_JOB, port, begin, substrates)?;
         Some(substrates)
     }
 
-    fn begin_two(&mut self, alloc: Global, is_of_both: bool) -> Option<u64> {
-        let substrates = self.receive(alloc, 1)?;
-        let substrates = substrates.saturating_add(self.receive(alloc, 2)?);
-        if is_of_both {
-            self.create(alloc, "PJ1", "L[A CAR1, L[]], L[A CAR2, L[]]")?;
-        } else {
-            self.create(alloc, "PJ1", "L[A CAR1, L[]]")?;
-            self.create(alloc, "PJ2", "L[A CAR2, L[]]")?;
-        }
+    // Two carriers come, and give how many substrates they have.
+    fn receive_two(&mut self, alloc: Global) -> Option<u64> {
+        let (first, _) = self.receive(alloc, 1)?;
+        let (second, _) = self.receive(alloc, 2)?;
+        Some(first.saturating_add(second))
+    }
+
+    fn begin_each(&mut self, alloc: Global) -> Option<u64> {
+        let substrates = self.receive_two(alloc)?;
+        self.create(alloc, FIRST_JOB, "L[A CAR1, L[]]")?;
+        self.create(alloc, SECOND_JOB, "L[A CAR2, L[]]")?;
         Some(substrates)
+    }
+
+    fn begin_both(&mut self, alloc: Global) -> Option<u64> {
+        let substrates = self.receive_two(alloc)?;
+        self.create(alloc, FIRST_JOB, "L[A CAR1, L[]], L[A CAR2, L[]]")?;
+        Some(substrates)
+    }
+
+    // Carriers come, and process jobs of them are created. Gives how many substrates there are.
+    fn begin_jobs(&mut self, alloc: Global, shape: Shape) -> Option<u64> {
+        match shape {
+            Shape::One => self.begin_one(alloc),
+            Shape::Shared => self.begin_shared(alloc),
+            Shape::Each => self.begin_each(alloc),
+            Shape::Both => self.begin_both(alloc),
+        }
+    }
+
+    // A link comes up, on which the host has CEID 1508 alone told.
+    fn connect(&mut self, alloc: Global) -> Option<()> {
+        self.post(alloc, Event::LinkUp)?;
+        self.send(alloc, "Select.req 1")?;
+        self.send(alloc, "S2F37 W 2 L[BOOL true, L[U4 1508]]")
     }
 
     /// A link comes up, on which the host has CEID 1508 alone told, carriers come, and process jobs and a control job of them are
     /// created. Gives how many substrates there are.
     pub(crate) fn begin(&mut self, alloc: Global, shape: Shape) -> Option<u64> {
-        self.post(alloc, Event::LinkUp)?;
-        self.send(alloc, "Select.req 1")?;
-        self.send(alloc, "S2F37 W 2 L[BOOL true, L[U4 1508]]")?;
-        let (substrates, jobs) = match shape {
-            Shape::One => (self.begin_one(alloc)?, "A PJ1"),
-            Shape::Shared => (self.begin_shared(alloc)?, "A PJ1, A PJ2"),
-            Shape::Each => (self.begin_two(alloc, false)?, "A PJ1, A PJ2"),
-            Shape::Both => (self.begin_two(alloc, true)?, "A PJ1"),
+        self.connect(alloc)?;
+        let substrates = self.begin_jobs(alloc, shape)?;
+        let control_job = match shape {
+            Shape::One | Shape::Both => CONTROL_JOB,
+            Shape::Shared | Shape::Each => CONTROL_JOB_OF_BOTH,
         };
-        let words = format!(in alloc;
-            "S14F9 W 5 L[A Equipment, A ControlJob, L[L[A ObjID, A CJ1], L[A ProcessingCtrlSpec, L[{jobs}]]]]"
-        ).ok()?;
-        self.send(alloc, words.as_str())?;
+        self.send(alloc, control_job)?;
         self.fetch_all(alloc)?;
         Some(substrates)
     }

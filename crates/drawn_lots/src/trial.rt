@@ -142,6 +142,31 @@ impl Played {
         Some(())
     }
 
+    // What disturbs the lot is drawn, where something does.
+    fn await_one(&mut self, is_disturbed: bool) {
+        let drawn = up_to(&mut self.last, 4);
+        self.awaited = match drawn {
+            _ if !is_disturbed => Awaited::Nothing,
+            1 => Awaited::Failed,
+            2 => Awaited::Down,
+            3 => Awaited::Stop,
+            _ => Awaited::Lost,
+        };
+    }
+
+    // Plays a lot that has begun, of so many Dones where it is undisturbed, whose disturbance is due in the place of this one.
+    fn play_on(&mut self, alloc: Global, is_disturbed: bool, dones: u64, due: u64) -> Option<()> {
+        for _ in 0..dones.saturating_mul(2).saturating_add(50) {
+            if !is_disturbed {
+                self.check(dones)?;
+            }
+            if !self.step(alloc, self.ended.saturating_add(1) >= due)? {
+                return self.rests(alloc);
+            }
+        }
+        self.wrong("the tool does not come to rest")
+    }
+
     /// Plays a lot, and gives how many substrates it has, and how many commands ended. Undisturbed these are eight Dones for each
     /// substrate, in whatever order; at the last of them the control job is told to be COMPLETED, and until then a command is open.
     /// Disturbed, in the place of a Done that is drawn or as soon behind it as can be, the tool comes to rest, where a module that is
@@ -156,22 +181,8 @@ impl Played {
         let substrates = self.begin(alloc, shape)?;
         let dones = substrates.saturating_mul(8);
         let due = up_to(&mut self.last, dones);
-        self.awaited = match up_to(&mut self.last, 4) {
-            _ if !is_disturbed => Awaited::Nothing,
-            1 => Awaited::Failed,
-            2 => Awaited::Down,
-            3 => Awaited::Stop,
-            _ => Awaited::Lost,
-        };
-        for _ in 0..dones.saturating_mul(2).saturating_add(50) {
-            if !is_disturbed {
-                self.check(dones)?;
-            }
-            if !self.step(alloc, self.ended.saturating_add(1) >= due)? {
-                self.rests(alloc)?;
-                return Some((substrates, self.ended));
-            }
-        }
-        self.wrong("the tool does not come to rest")
+        self.await_one(is_disturbed);
+        self.play_on(alloc, is_disturbed, dones, due)?;
+        Some((substrates, self.ended))
     }
 }

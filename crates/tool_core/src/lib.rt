@@ -11,6 +11,7 @@
 #![tactic(auto)]
 
 mod react;
+mod stepped;
 mod tool;
 
 pub use history_totals::Totals;

@@ -14,11 +14,10 @@ ghost use Rattle.robot_moves.specs.Modules.{fetched_number};
 ghost use Rattle.history_laws.specs.Recorded.{Recorded};
 ghost use Rattle.gem_model.specs.Sessions.{session_count, session_end, session_out};
 ghost use Rattle.gem_model.specs.Sizes.{bytes_of, counted, is_full};
-ghost use Rattle.history_totals.specs.Counts.{done_by};
-ghost use Rattle.history_totals.specs.Totals.{totals_at, totals_of};
+ghost use Rattle.history_totals.specs.Totals.{totals_of};
 
-use crate::react::{must_wait, react};
-use core_shop::Reaction;
+use crate::react::must_wait;
+use crate::stepped::take_event;
 use core_state::Plant;
 use core_view::{Entries, SessionCounts};
 use event_reports::Values;
@@ -29,36 +28,17 @@ use item_model::{Item, NoMemory};
 use note_line::Fate;
 use std::alloc::{AllocError, Global};
 use std::marker::Model;
-use tool_events::{Answer, Config, Entry, Event, PostFault, SessionCause, SessionEnd, Signal};
+use tool_events::{Answer, Config, Entry, Event, PostFault, SessionCause, SessionEnd};
 
-/// How many commands an event ends by Done, 0 or 1.
-fn done_by(plant: &Plant, event: &Event) -> u64
-    ensures { result ≡ done_by plant.now event.now }
-{
-    match event {
-        Event::Signal(Signal::Done(m, n)) => {
-            if plant.is_quitting() {
-                return 0;
-            }
-            if plant.is_open(*m, *n) { 1 } else { 0 }
-        }
-        _ => 0,
-    }
+/// The plant, in a box, so that a core that is handed on is small. How it is dropped is written out: so it is proved here alone, and
+/// not again wherever a core is dropped.
+struct BoxedPlant {
+    plant: Box<Plant>,
 }
 
-/// The counts behind an event that ended so many commands by Done and completed so many control jobs, by those before it and by
-/// what the plant tells behind it.
-fn totals_behind(before: &Totals, plant: &Plant, done: u64, completed: u64) -> Totals
-    ensures { result ≡ totals_at plant.now (before.now.done + done) (before.now.completed + completed) }
-{
-    Totals {
-        sessions: plant.session_count(),
-        notes: plant.note_count(),
-        answered: plant.answered_count(),
-        dropped: plant.dropped_count(),
-        done: before.done.saturating_add(done),
-        completed: before.completed.saturating_add(completed),
-        substrates: plant.registrations(),
+impl Drop for BoxedPlant {
+    fn drop(self) {
+        let BoxedPlant { plant: _plant } = self;
     }
 }
 
@@ -67,7 +47,7 @@ fn totals_behind(before: &Totals, plant: &Plant, done: u64, completed: u64) -> T
 #[derive(Drop)]
 pub struct Core {
     config: Config,
-    plant: Plant,
+    boxed: BoxedPlant,
     entries: Vec<Entry>,
     ends: Vec<SessionEnd>,
     written: SessionCounts,
@@ -87,7 +67,7 @@ impl Model for Core {
 
     ghost view = { λ c. record { config = c.config; state = state_of c.config c.entries.items; history = c.entries.items; is_whole = c.is_whole } };
 
-    ghost invariant = { λ c. Replays c.config c.plant c.entries.items c.ends.items c.written c.bytes c.sessions c.totals c.is_up c.is_whole };
+    ghost invariant = { λ c. Replays c.config c.boxed.plant.value c.entries.items c.ends.items c.written c.bytes c.sessions c.totals c.is_up c.is_whole };
 }
 
 impl Values for Core {
@@ -100,7 +80,7 @@ impl Values for Core {
         if !self.is_whole {
             return Err(AllocError);
         }
-        let seen = self.plant.seen();
+        let seen = self.boxed.plant.seen();
         seen.showing(Text80::empty(), 0).value(alloc, vid)
     }
 }
@@ -113,7 +93,9 @@ impl Core {
     {
         Ok(Core {
             config: *config,
-            plant: Plant::open(alloc, config)?,
+            boxed: BoxedPlant {
+                plant: Box::new(alloc, Plant::open(alloc, config)?)?,
+            },
             entries: Vec::new(alloc),
             ends: Vec::new(alloc),
             written: SessionCounts::none(alloc),
@@ -182,7 +164,7 @@ impl Core {
         requires { self.now.is_whole ≡ true }
         ensures { result ≡ self.now.state.quitting }
     {
-        self.plant.is_quitting()
+        self.boxed.plant.is_quitting()
     }
 
     /// How many modules the tool has, 2 to 255. The core is whole.
@@ -191,7 +173,7 @@ impl Core {
         ensures count { result ≡ length self.now.state.floor.modules }
         ensures few { result ≤ 255 }
     {
-        self.plant.module_count()
+        self.boxed.plant.module_count()
     }
 
     /// The number of the open command of a module that was fetched. `None` exactly where it has none, or is no module of the
@@ -200,7 +182,7 @@ impl Core {
         requires { self.now.is_whole ≡ true }
         ensures { result ≡ fetched_number (module_of m.0 self.now.state) }
     {
-        self.plant.fetched_number(m)
+        self.boxed.plant.fetched_number(m)
     }
 
     /// Why a session ended. None: it is up, or never came.
@@ -250,7 +232,7 @@ impl Core {
         // The state keeps what is true of each state that a history leads to.
         ensures valid { Valid self.now.state }
     {
-        must_wait(&self.plant, at, event)
+        must_wait(&self.boxed.plant, at, event)
     }
 
     /// Whether the history takes no event with so much text, in bytes, any more.
@@ -284,7 +266,7 @@ impl Core {
         ensures whole { posts.is_want result ≡ false → self.new.is_whole ≡ true }
     {
         // Asked first, so that want of memory is not told of an event that has to wait.
-        if must_wait(&self.plant, at, &event) {
+        if must_wait(&self.boxed.plant, at, &event) {
             return Err(PostFault::Again);
         }
         let Ok(()) = self.entries.reserve(1) else {
@@ -299,31 +281,21 @@ impl Core {
         };
         // What an event that finds no memory leaves of the plant counts for nothing.
         self.is_whole = false;
-        let mut reaction = Reaction::answered(Answer::Done);
-        let done = done_by(&self.plant, &event);
-        let mut completed = 0;
-        let Ok(goes) = react(
-            &mut self.plant,
-            alloc,
-            at,
-            &event,
-            &mut reaction,
-            &mut completed,
-        ) else {
+        let Ok(found) = take_event(&mut self.boxed.plant, alloc, at, &event, &self.totals) else {
             return Err(PostFault::NoMemory);
         };
-        if !goes {
+        let Some(told) = found else {
             return Err(PostFault::Again);
-        }
-        add_taken(&mut self.written, &event, &reaction.answer);
+        };
+        add_taken(&mut self.written, &event, &told.reaction.answer);
         self.bytes += event_bytes(&event);
-        self.sessions = self.plant.session_count();
-        self.totals = totals_behind(&self.totals, &self.plant, done, completed);
-        self.is_up = self.plant.is_up();
+        self.sessions = told.sessions;
+        self.totals = told.totals;
+        self.is_up = told.is_up;
         self.entries.push_reserved(Entry { seat, at, event });
-        add_end(&mut self.ends, reaction.ended);
+        add_end(&mut self.ends, told.reaction.ended);
         self.is_whole = true;
-        Ok(reaction.answer)
+        Ok(told.reaction.answer)
     }
 
     /// What became of the note of this number: it waits, is open, or has ended, and how. `None`: no note has the number. The
@@ -332,7 +304,7 @@ impl Core {
         requires { self.now.is_whole ≡ true }
         ensures { result ≡ fate_of number self.now.state.line.told }
     {
-        self.plant.fate(number)
+        self.boxed.plant.fate(number)
     }
 
     /// Takes an event that this seat posts at this moment, answers it, and adds it to the history. `Full`: the history

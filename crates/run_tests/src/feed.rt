@@ -54,27 +54,6 @@ fn words(alloc: Global, words: &[&str]) -> Result<Vec<Text80>, Fail> {
     Ok(all)
 }
 
-// What a run leaves: why it ended, its status, how many entries and notes there are, and the first note.
-#[derive(Clone, Copy, Debug, PartialEq, Eq)]
-struct Left {
-    cause: Cause,
-    status: u8,
-    entries: usize,
-    sessions: usize,
-    first: Option<SessionNote>,
-}
-
-fn left_by(ended: &Ended) -> Left {
-    let sessions = ended.sessions.as_slice();
-    Left {
-        cause: ended.cause,
-        status: ended.status,
-        entries: ended.history.as_slice().len(),
-        sessions: sessions.len(),
-        first: sessions.first().copied(),
-    }
-}
-
 // Runs these words. It tells nothing of the contract of `feed`, which is long, so that tests are proved without it; and it
 // alone calls `feed`, since each call takes a minute to prove.
 fn run<S: Source, K: Sink>(
@@ -83,14 +62,13 @@ fn run<S: Source, K: Sink>(
     config: &mut MemSource,
     input: &mut S,
     out: &mut K,
-) -> Result<Left, Fail> {
+) -> Result<Ended, Fail> {
     let words = words(alloc, typed)?;
-    let ended = feed(alloc, &words, config, input, out);
-    Ok(left_by(&ended))
+    Ok(feed(alloc, &words, config, input, out))
 }
 
 // Runs `feed c` on these lines under the known configuration.
-fn run_lines<S: Source, K: Sink>(alloc: Global, input: &mut S, out: &mut K) -> Result<Left, Fail> {
+fn run_lines<S: Source, K: Sink>(alloc: Global, input: &mut S, out: &mut K) -> Result<Ended, Fail> {
     let mut config = source(alloc, KNOWN, &[])?;
     run(alloc, &["feed", "c"], &mut config, input, out)
 }
@@ -103,21 +81,21 @@ fn fed(
     piece: usize,
     reads: &[u64],
     writes: &[u64],
-) -> Result<(Left, Vec<u8>), Fail>
+) -> Result<(Ended, Vec<u8>), Fail>
     requires { 0 < piece }
 {
     let mut input = source(alloc, lines, reads)?.with_piece(piece);
     let mut out = MemSink::new(alloc, Vec::from_slice(alloc, writes)?);
-    let left = run_lines(alloc, &mut input, &mut out)?;
-    Ok((left, out.into_bytes()))
+    let ended = run_lines(alloc, &mut input, &mut out)?;
+    Ok((ended, out.into_bytes()))
 }
 
 // Runs the lines, which come in pieces of so many bytes, and tells the status and all that was written.
 fn printed(alloc: Global, lines: &[u8], piece: usize) -> Result<(u8, Vec<u8>), Fail>
     requires { 0 < piece }
 {
-    let (left, out) = fed(alloc, lines, piece, &[], &[])?;
-    Ok((left.status, out))
+    let (ended, out) = fed(alloc, lines, piece, &[], &[])?;
+    Ok((ended.status, out))
 }
 
 // Whether these lines, in pieces of so many bytes, print this and end well.
@@ -186,9 +164,9 @@ fn answers(alloc: Global, last: u32, piece: usize) -> Result<(u8, bool, usize), 
 {
     let lines = asked(alloc, last)?;
     let want = answered(alloc, last)?;
-    let (left, out) = fed(alloc, lines.as_bytes(), piece, &[], &[])?;
+    let (ended, out) = fed(alloc, lines.as_bytes(), piece, &[], &[])?;
     let is_answered = out.as_slice() == want.as_bytes();
-    Ok((left.status, is_answered, left.entries))
+    Ok((ended.status, is_answered, ended.history.as_slice().len()))
 }
 
 #[test]
@@ -225,25 +203,21 @@ fn a_text_that_is_too_long_is_told_and_the_next_message_is_answered(
     Ok(())
 }
 
-// What is left by a command that ends the run, in pieces of so many bytes.
-fn quit(alloc: Global, piece: usize) -> Result<Left, Fail>
+// A command that ends the run, in pieces of so many bytes: why it ends, the entries, and the notes.
+fn quit(alloc: Global, piece: usize) -> Result<(Cause, usize, bool), Fail>
     requires { 0 < piece }
 {
     let lines = joined(alloc, SELECTED, b"O quit\nL+\n")?;
-    let (left, _) = fed(alloc, &lines, piece, &[], &[])?;
-    Ok(left)
+    let (ended, _) = fed(alloc, &lines, piece, &[], &[])?;
+    let notes = [note(1, 14, 14, SessionCause::Quit)];
+    let is_noted = ended.sessions.as_slice() == notes.as_slice();
+    Ok((ended.cause, ended.history.as_slice().len(), is_noted))
 }
 
 #[test]
 fn a_run_that_the_operator_ends_is_done(rt: HostRuntime) -> Result<(), Fail> {
-    // The entries are the link, the select request, its response, and the command.
-    let want = Left {
-        cause: Cause::Done,
-        status: 0,
-        entries: 4,
-        sessions: 1,
-        first: Some(note(1, 14, 14, SessionCause::Quit)),
-    };
+    // The link, the select request, its response, and the command.
+    let want = (Cause::Done, 4, true);
     assert_eq!(rt; quit(rt.alloc(), 4096)?, want);
     assert_eq!(rt; quit(rt.alloc(), 1)?, want);
     Ok(())
@@ -260,9 +234,9 @@ fn note(session: u64, read: u64, written: u64, cause: SessionCause) -> SessionNo
 }
 
 // Whether the session is up and selected where the run stops with this status, and these bytes came in it.
-fn stops_in_session_1(left: &Left, status: u8, read: u64, written: u64) -> bool {
-    let note = note(1, read, written, SessionCause::Stopped);
-    left.status == status && left.sessions == 1 && left.first == Some(note)
+fn stops_in_session_1(ended: &Ended, status: u8, read: u64, written: u64) -> bool {
+    let notes = [note(1, read, written, SessionCause::Stopped)];
+    ended.status == status && ended.sessions.as_slice() == notes.as_slice()
 }
 
 // Lines of which the second behind the select request is outside the grammar.
@@ -321,8 +295,8 @@ fn false_place(alloc: Global, lines: &[(&[u8], u64)]) -> Result<Option<usize>, F
 
 fn is_refused(alloc: Global, line: &[u8], place: u64) -> Result<bool, Fail> {
     let lines = joined(alloc, SELECTED, line)?;
-    let (left, out) = fed(alloc, &lines, 4096, &[], &[])?;
-    Ok(left.cause == Cause::Line(3, place) && left.status == 6 && out.as_slice() == SELECTED_OUT)
+    let (ended, out) = fed(alloc, &lines, 4096, &[], &[])?;
+    Ok(ended.cause == Cause::Line(3, place) && ended.status == 6 && out.as_slice() == SELECTED_OUT)
 }
 
 #[test]
@@ -355,19 +329,19 @@ fn run_words(
     typed: &[&str],
     text: &[u8],
     fails: &[u64],
-) -> Result<(Left, Vec<u8>), Fail> {
+) -> Result<(Ended, Vec<u8>), Fail> {
     let mut config = source(alloc, text, fails)?;
     let mut input = source(alloc, SELECTED, &[])?;
     let mut out = MemSink::new(alloc, Vec::new(alloc));
-    let left = run(alloc, typed, &mut config, &mut input, &mut out)?;
-    Ok((left, out.into_bytes()))
+    let ended = run(alloc, typed, &mut config, &mut input, &mut out)?;
+    Ok((ended, out.into_bytes()))
 }
 
 // Whether this text is refused as no table of TOML, before a session and with nothing printed.
 fn is_no_table(alloc: Global, text: &[u8]) -> Result<bool, Fail> {
-    let (left, out) = run_words(alloc, &["feed", "c"], text, &[])?;
-    let is_so = left.cause == Cause::Config(0, Text80::empty()) && left.status == 2;
-    Ok(is_so && left.sessions == 0 && out.is_empty())
+    let (ended, out) = run_words(alloc, &["feed", "c"], text, &[])?;
+    let is_so = ended.cause == Cause::Config(0, Text80::empty()) && ended.status == 2;
+    Ok(is_so && ended.sessions.as_slice().is_empty() && out.is_empty())
 }
 
 // A comment of so many bytes.
@@ -381,8 +355,8 @@ fn comment(alloc: Global, length: usize) -> Result<Vec<u8>, Fail> {
 
 // What a run on a selected link prints, and its status, where the configuration has this text.
 fn configured(alloc: Global, text: &[u8]) -> Result<(u8, Vec<u8>), Fail> {
-    let (left, out) = run_words(alloc, &["feed", "c"], text, &[])?;
-    Ok((left.status, out))
+    let (ended, out) = run_words(alloc, &["feed", "c"], text, &[])?;
+    Ok((ended.status, out))
 }
 
 #[test]
@@ -441,8 +415,8 @@ fn ends_at_read(
 ) -> Result<bool, Fail>
     requires { 0 < piece }
 {
-    let (left, out) = fed(alloc, lines, piece, &[fails], &[])?;
-    Ok(left.cause == Cause::ReadFault && left.status == 3 && out.as_slice() == want)
+    let (ended, out) = fed(alloc, lines, piece, &[fails], &[])?;
+    Ok(ended.cause == Cause::ReadFault && ended.status == 3 && out.as_slice() == want)
 }
 
 // The place of the first of these that ends the run in another way.
@@ -457,8 +431,8 @@ fn false_read(alloc: Global, all: &[(&[u8], u64, usize, &[u8])]) -> Result<Optio
 
 // Whether a configuration that can't be read ends the run with nothing printed.
 fn ends_at_config(alloc: Global) -> Result<bool, Fail> {
-    let (left, out) = run_words(alloc, &["feed", "c"], KNOWN, &[1])?;
-    Ok(left.cause == Cause::ReadFault && out.is_empty())
+    let (ended, out) = run_words(alloc, &["feed", "c"], KNOWN, &[1])?;
+    Ok(ended.cause == Cause::ReadFault && out.is_empty())
 }
 
 #[test]
@@ -470,29 +444,24 @@ fn a_read_that_fails_ends_the_run_behind_the_whole_lines(rt: HostRuntime) -> Res
 
 // Whether the run ends by a write that fails, and this is printed.
 fn ends_at_write(alloc: Global, fails: u64, want: &[u8]) -> Result<bool, Fail> {
-    let (left, out) = fed(alloc, SELECTED, 4096, &[], &[fails])?;
-    Ok(left.cause == Cause::WriteFault && left.status == 4 && out.as_slice() == want)
+    let (ended, out) = fed(alloc, SELECTED, 4096, &[], &[fails])?;
+    Ok(ended.cause == Cause::WriteFault && ended.status == 4 && out.as_slice() == want)
 }
 
 // Whether a sink that takes so many bytes ends the run, and has them.
 fn ends_at_limit(alloc: Global, limit: usize) -> Result<bool, Fail> {
     let mut input = source(alloc, SELECTED, &[])?;
     let mut out = MemSink::new(alloc, Vec::new(alloc)).with_limit(limit);
-    let left = run_lines(alloc, &mut input, &mut out)?;
-    Ok(left.cause == Cause::WriteFault && Some(out.as_bytes()) == SELECTED_OUT.get(..limit))
+    let ended = run_lines(alloc, &mut input, &mut out)?;
+    Ok(ended.cause == Cause::WriteFault && Some(out.as_bytes()) == SELECTED_OUT.get(..limit))
 }
 
 #[test]
-fn a_sink_that_fails_ends_the_run(rt: HostRuntime) -> Result<(), Fail> {
+fn a_sink_that_fails_or_takes_nothing_ends_the_run(rt: HostRuntime) -> Result<(), Fail> {
     assert!(rt; ends_at_write(rt.alloc(), 1, b"")?);
     assert!(rt; ends_at_write(rt.alloc(), 2, UP)?);
-    Ok(())
-}
-
-#[test]
-fn a_sink_that_takes_no_more_ends_the_run(rt: HostRuntime) -> Result<(), Fail> {
     for limit in [0, 3, 4, 10] {
-        assert!(rt; ends_at_limit(rt.alloc(), limit)?);
+        assert!(rt; ends_at_limit(rt.alloc(), limit)?, "at {limit}");
     }
     Ok(())
 }
@@ -527,21 +496,22 @@ impl Sink for Narrow {
     }
 }
 
-// The status of a run into it, and whether it took all that a selected link prints.
-fn narrowly_printed(alloc: Global) -> Result<(u8, bool), Fail> {
+// The status of a run into it, and what it took.
+fn narrowly_printed(alloc: Global) -> Result<(u8, Vec<u8>), Fail> {
     let mut input = source(alloc, SELECTED, &[])?;
     let mut out = Narrow {
         taken: Vec::new(alloc),
         faults: 0,
     };
-    let left = run_lines(alloc, &mut input, &mut out)?;
-    let is_all = out.taken.as_slice() == SELECTED_OUT;
-    Ok((left.status, is_all))
+    let ended = run_lines(alloc, &mut input, &mut out)?;
+    Ok((ended.status, out.taken))
 }
 
 #[test]
 fn a_sink_that_takes_a_byte_at_a_time_gets_all(rt: HostRuntime) -> Result<(), Fail> {
-    assert_eq!(rt; narrowly_printed(rt.alloc())?, (0, true));
+    let (status, taken) = narrowly_printed(rt.alloc())?;
+    assert_eq!(rt; status, 0);
+    assert_eq!(rt; taken.as_slice(), SELECTED_OUT);
     Ok(())
 }
 

@@ -57,39 +57,83 @@ fn a_door_that_nobody_asks_answers_not_yet(rt: HostRuntime) -> Result<(), Fail> 
     Ok(())
 }
 
-#[test]
-fn a_link_carries_bytes_both_ways_until_it_is_shut(rt: HostRuntime) -> Result<(), Fail> {
-    let (mut door, port) = open_door(&rt)?;
-    let mut peer = TcpStream::connect(&rt, SocketAddr::from((Ipv4Addr::LOCALHOST, port)))?;
-    let (mut link_in, mut link_out) = next_link(&mut door)?;
+// A peer that is connected to this port.
+fn connected(rt: &HostRuntime, port: u16) -> Result<TcpStream, Fail> {
+    let peer = TcpStream::connect(rt, SocketAddr::from((Ipv4Addr::LOCALHOST, port)))?;
+    Ok(peer)
+}
+
+// The peer asks: what is read of the link then, in eight bytes.
+fn read_question(
+    peer: &mut TcpStream,
+    link_in: &mut TcpIn,
+) -> Result<(Result<usize, Failed>, [u8; 8]), Fail> {
     peer.write_all(b"ask")?;
     let mut asked = [0; 8];
     let read = link_in.read(&mut asked);
+    Ok((read, asked))
+}
+
+// It is answered: what the link takes, and what the peer reads then.
+fn read_answer(
+    peer: &mut TcpStream,
+    link_out: &mut TcpOut,
+) -> Result<(Result<usize, Failed>, [u8; 6]), Fail> {
     let wrote = link_out.write(b"answer");
     let mut answered = [0; 6];
     peer.read_exact(&mut answered)?;
-    assert_eq!(rt; (read, asked), (Ok(3), *b"ask\0\0\0\0\0"));
-    assert_eq!(rt; (wrote, answered), (Ok(6), *b"answer"));
+    Ok((wrote, answered))
+}
+
+// The link is shut: what is read of it then, and what the peer reads.
+fn read_ends(
+    peer: &mut TcpStream,
+    link_in: &mut TcpIn,
+    link_out: &mut TcpOut,
+) -> Result<(Result<usize, Failed>, usize), Fail> {
     link_out.shut();
-    let ends = (link_in.read(&mut asked), peer.read(&mut asked)?);
+    let read = link_in.read(&mut [0; 8]);
+    let end = peer.read(&mut [0; 8])?;
+    Ok((read, end))
+}
+
+#[test]
+fn a_link_carries_bytes_both_ways_until_it_is_shut(rt: HostRuntime) -> Result<(), Fail> {
+    let (mut door, port) = open_door(&rt)?;
+    let mut peer = connected(&rt, port)?;
+    let (mut link_in, mut link_out) = next_link(&mut door)?;
+    let asked = read_question(&mut peer, &mut link_in)?;
+    let answered = read_answer(&mut peer, &mut link_out)?;
+    let ends = read_ends(&mut peer, &mut link_in, &mut link_out)?;
     let counts = [link_in.faults(), link_in.ends(), link_out.faults()];
+    assert_eq!(rt; asked, (Ok(3), *b"ask\0\0\0\0\0"));
+    assert_eq!(rt; answered, (Ok(6), *b"answer"));
     assert_eq!(rt; (ends, counts), ((Ok(0), 0), [0, 1, 0]));
+    Ok(())
+}
+
+// The next link is read once, and handed back: what was read.
+fn read_and_back(door: &mut TcpDoor<'_, HostRuntime>) -> Result<Result<usize, Failed>, Fail> {
+    let (mut link_in, link_out) = next_link(door)?;
+    let read = link_in.read(&mut [0; 4]);
     door.back(link_in, link_out);
-    assert_eq!(rt; (door.links(), door.faults()), (1, 0));
+    Ok(read)
+}
+
+// A peer goes away at once.
+fn go_away(rt: &HostRuntime, port: u16) -> Result<(), Fail> {
+    drop(connected(rt, port)?);
     Ok(())
 }
 
 #[test]
 fn a_peer_that_goes_away_ends_its_link_and_the_next_is_given(rt: HostRuntime) -> Result<(), Fail> {
     let (mut door, port) = open_door(&rt)?;
-    let addr = SocketAddr::from((Ipv4Addr::LOCALHOST, port));
-    drop(TcpStream::connect(&rt, addr)?);
-    let (mut link_in, link_out) = next_link(&mut door)?;
-    let end = link_in.read(&mut [0; 4]);
-    door.back(link_in, link_out);
-    let _peer = TcpStream::connect(&rt, addr)?;
-    let (link_in, link_out) = next_link(&mut door)?;
-    door.back(link_in, link_out);
-    assert_eq!(rt; (end, door.links()), (Ok(0), 2));
+    go_away(&rt, port)?;
+    let end = read_and_back(&mut door)?;
+    go_away(&rt, port)?;
+    let next = read_and_back(&mut door)?;
+    let counts = (door.links(), door.faults());
+    assert_eq!(rt; (end, next, counts), (Ok(0), Ok(0), (2, 0)));
     Ok(())
 }

@@ -156,6 +156,16 @@ class Host:
         self.send(primary)
         return self.await_answer(primary)
 
+    def cancel(self, carrier):
+        """Says that a carrier is not wanted. Whether the link is still up: a script of the tool that waits for this may end the
+        run before the answer went out."""
+        try:
+            self.ask(3, 17, cancel_carrier(carrier))
+        except LinkEnded:
+            print("the tool has ended the run", flush=True)
+            return False
+        return True
+
     def separate(self):
         self.send(Message(0xFFFF, 0, 0, 0, 9, self.next_system()))
 
@@ -169,9 +179,8 @@ def visit(port, carrier):
             host.select()
             host.ask(1, 13, EMPTY_LIST)
             is_answered = host.ask(1, 1).name() == "S1F2"
-            if carrier is not None:
-                host.ask(3, 17, cancel_carrier(carrier))
-            host.separate()
+            if carrier is None or host.cancel(carrier):
+                host.separate()
     except (LinkEnded, OSError) as why:
         print(f"the link failed: {why}", file=sys.stderr)
     return is_answered

@@ -1,15 +1,16 @@
 //! The subjects of the texts, and how they begin.
 
 use crate::set_constants::SetConstants;
+use crate::shop_messages::ShopMessages;
+use crate::tool_alarms::ToolAlarms;
+use crate::tool_reports::ToolReports;
 use anyhow::{Result, bail};
 use conversation_files::Line;
-use report_subjects::{ToolAlarms, ToolReports};
-use shop_subjects::ShopMessages;
 use std::alloc::Global;
 use test_lines::{Texts, answers};
 
 /// What the host may set, and the bodies of streams 3, 14 and 16.
-pub struct Records;
+pub(crate) struct Records;
 
 impl Texts for Records {
     fn play(&self, alloc: Global, begins: &str, lines: &[Line<'_>]) -> Result<Option<String>> {

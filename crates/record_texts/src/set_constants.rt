@@ -10,17 +10,17 @@ ghost use Rattle.data_variables.specs.Values.{AreConstants};
 ghost use Rattle.item_model.specs.Sendable.{IsSendable};
 ghost use Rattle.item_model.specs.View.{view};
 
+use crate::ids::{add_number, numbers_in};
 use anyhow::{Result, bail};
 use data_variables::{Constants, Val, ids, item_of, set_of};
 use item_model::Item;
-use report_subjects::{add_number, numbers_in};
 use secs_items::{encode, read_one};
 use std::alloc::Global;
 use test_lines::{Subject, bytes};
 
 /// The equipment constants.
 #[derive(Drop)]
-pub struct SetConstants {
+pub(crate) struct SetConstants {
     constants: Constants,
 }
 
@@ -36,7 +36,7 @@ const DEFAULTS: [(u32, Val); 7] = [
 
 impl SetConstants {
     /// Those of a tool that begins. None where there is no memory.
-    pub fn new(alloc: Global) -> Option<SetConstants> {
+    pub(crate) fn new(alloc: Global) -> Option<SetConstants> {
         match Constants::new(alloc, &DEFAULTS) {
             Ok(constants) => Some(SetConstants { constants }),
             Err(_) => None,

@@ -99,12 +99,7 @@ fn comment(alloc: Global, count: &str) -> Option<Vec<u8>> {
 }
 
 // Reads a text, which is then the last that was read.
-fn read(
-    alloc: Global,
-    last: &mut Option<Config>,
-    text: &[u8],
-    answer: &mut String,
-) -> Option<()> {
+fn read(alloc: Global, last: &mut Option<Config>, text: &[u8], answer: &mut String) -> Option<()> {
     match read_config(alloc, text) {
         Ok(config) => {
             *last = Some(config);

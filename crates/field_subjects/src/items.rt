@@ -154,7 +154,10 @@ fn add_there_and_back(
     match decode(alloc, spelled) {
         Ok((item, used)) => match is_back(alloc, &item, spelled) {
             Some(is_back) => {
-                add_truth(answer, is_back && used == spelled.len() && has(&item, count));
+                add_truth(
+                    answer,
+                    is_back && used == spelled.len() && has(&item, count),
+                );
                 Some(())
             }
             None => None,

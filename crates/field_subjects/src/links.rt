@@ -115,7 +115,10 @@ fn take(link: &mut LinkState, header: Header, at: Moment, answer: &mut String) -
 fn add_header(header: Header, answer: &mut String) {
     let (session, system) = (header.session, header.system);
     let _ = write!(answer, "{session:04X}");
-    add_bytes(answer, &[header.byte2, header.byte3, header.ptype, header.stype]);
+    add_bytes(
+        answer,
+        &[header.byte2, header.byte3, header.ptype, header.stype],
+    );
     let _ = write!(answer, "{system:08X}");
 }
 

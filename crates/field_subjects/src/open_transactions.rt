@@ -69,7 +69,11 @@ fn of_system(table: &mut Transactions, words: &[&str], answer: &mut String) -> O
 fn add_open(open: Option<Open>, answer: &mut String) {
     match open {
         Some(open) => {
-            let _ = write!(answer, "{} S{}F{} ", open.system, open.stream, open.function);
+            let _ = write!(
+                answer,
+                "{} S{}F{} ",
+                open.system, open.stream, open.function
+            );
             let _ = write!(answer, "{} {:?}", open.deadline, open.what);
         }
         None => add(answer, "none"),

@@ -8,7 +8,6 @@ use carrier::{Accessing, CarrierRecord, IdState, MapState};
 use said_words::{WordSubject, add_gap, named, small, word_at};
 use std::alloc::Global;
 
-
 // The states of each table, in the order of their numbers.
 const STATES: [CarrierRecord; 4] = [
     CarrierRecord {

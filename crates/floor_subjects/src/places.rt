@@ -94,12 +94,7 @@ fn called(
 }
 
 // A substrate is registered or shifted.
-fn moved(
-    places: &mut Places,
-    sub: SubstrateId,
-    words: &[&str],
-    answer: &mut String,
-) -> Option<()> {
+fn moved(places: &mut Places, sub: SubstrateId, words: &[&str], answer: &mut String) -> Option<()> {
     let Some(first) = location(words, 2) else {
         return None;
     };
@@ -117,11 +112,7 @@ fn moved(
 }
 
 // Registers a substrate. None where the tool has no such place.
-fn register(
-    places: &mut Places,
-    sub: SubstrateId,
-    loc: LocId,
-) -> Option<Result<u64, PlaceFault>> {
+fn register(places: &mut Places, sub: SubstrateId, loc: LocId) -> Option<Result<u64, PlaceFault>> {
     if places.has(loc) {
         Some(places.register(sub, loc))
     } else {
@@ -270,7 +261,8 @@ fn first_otherwise(
     let mut x = seed;
     for call in 0..calls {
         x = drawn(x);
-        if !goes_alike(places, plain, tool, x) || call % 50 == 49 && !are_alike(places, plain.held())
+        if !goes_alike(places, plain, tool, x)
+            || call % 50 == 49 && !are_alike(places, plain.held())
         {
             return Some(call);
         }
@@ -307,7 +299,9 @@ fn called_alike(
             shifts_alike(places, plain, sub, start, to)
         }
     };
-    alike && has_alike(places, plain, from) && has_alike(places, plain, to)
+    alike
+        && has_alike(places, plain, from)
+        && has_alike(places, plain, to)
         && places.find(sub) == plain.find(sub)
 }
 

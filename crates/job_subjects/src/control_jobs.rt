@@ -8,7 +8,9 @@
 use crate::names::{add_names, automatic, job, jobs, numbered};
 use control_job::{ControlJob, ControlJobs, CtlAct};
 use gem_ids::JobId;
-use said_words::{WordSubject, add, add_bytes, add_count, add_gap, add_truth, number, small, word_at};
+use said_words::{
+    WordSubject, add, add_bytes, add_count, add_gap, add_truth, number, small, word_at,
+};
 use std::alloc::Global;
 
 /// The control jobs that are kept.
@@ -112,12 +114,7 @@ fn say_job(jobs: &mut ControlJobs, words: &[&str], answer: &mut String) -> Optio
 
 // What is answered to a command at the job of a name, or to all of 0 to 9; its number; or the control job that a process job of that
 // name belongs to.
-fn ask_named(
-    jobs: &ControlJobs,
-    name: JobId,
-    words: &[&str],
-    answer: &mut String,
-) -> Option<()> {
+fn ask_named(jobs: &ControlJobs, name: JobId, words: &[&str], answer: &mut String) -> Option<()> {
     match (word_at(words, 0), small(words, 2)) {
         ("ask", Some(command)) => add_answer(answer, jobs.command(name, command)),
         ("commands", _) => add_answers(answer, jobs, name),
@@ -154,8 +151,8 @@ fn add_number(answer: &mut String, job: Option<&ControlJob>) {
 
 // How many jobs are kept, the first in the queue, whether one is active, the job of a number, or the number of the job at a place.
 fn ask(jobs: &ControlJobs, words: &[&str], answer: &mut String) -> Option<()> {
-    match (word_at(words, 0), small(words, 1)) {
-        ("job", Some(number)) => add_job(answer, jobs.get(u64::from(number))),
+    match (word_at(words, 0), number(words, 1)) {
+        ("job", Some(number)) => add_job(answer, jobs.get(number)),
         ("at", Some(place)) => add_number(answer, jobs.at(place as usize)),
         (call, _) => return add_told(answer, jobs, call),
     }

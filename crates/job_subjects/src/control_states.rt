@@ -9,20 +9,16 @@ use control_job::{ControlJobRecord, ControlState, Ending};
 use said_words::{WordSubject, add_gap, small, word_at};
 use std::alloc::Global;
 
-const STATES: [ControlJobRecord; 8] = [
-    of(ControlState::Queued, Ending::No),
-    of(ControlState::Selected, Ending::No),
-    of(ControlState::WaitingForStart, Ending::No),
-    of(ControlState::Executing, Ending::No),
-    of(ControlState::Executing, Ending::ByStop),
-    of(ControlState::Executing, Ending::ByAbort),
-    of(ControlState::Paused, Ending::No),
-    of(ControlState::Completed, Ending::No),
+const STATES: [(ControlState, Ending); 8] = [
+    (ControlState::Queued, Ending::No),
+    (ControlState::Selected, Ending::No),
+    (ControlState::WaitingForStart, Ending::No),
+    (ControlState::Executing, Ending::No),
+    (ControlState::Executing, Ending::ByStop),
+    (ControlState::Executing, Ending::ByAbort),
+    (ControlState::Paused, Ending::No),
+    (ControlState::Completed, Ending::No),
 ];
-
-const fn of(state: ControlState, ending: Ending) -> ControlJobRecord {
-    ControlJobRecord { state, ending }
-}
 
 /// The states of a control job.
 #[derive(Clone, Copy)]
@@ -40,9 +36,9 @@ impl WordSubject for ControlStates {
 }
 
 fn add_fired(answer: &mut String, row: u8) {
-    for record in STATES {
+    for (state, ending) in STATES {
         add_gap(answer, ", ");
-        add_behind(answer, record, row);
+        add_behind(answer, ControlJobRecord { state, ending }, row);
     }
 }
 

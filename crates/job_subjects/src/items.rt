@@ -1,8 +1,8 @@
 //! The parts of messages, as lines say them. None where the words say nothing, or there is no memory.
 
 use crate::specs::push_slots;
-use item_model::{Bools, Bytes, Item, Items, U8s};
 use gem_ids::Listed;
+use item_model::{Bools, Bytes, Item, Items, U8s};
 use message_model::{CarrierSlots, NamedValue};
 use said_words::{of_name, text};
 use std::alloc::Global;

@@ -12,7 +12,9 @@ use crate::specs::{plain, spec};
 use gem_ids::{JobId, Text80};
 use item_model::Items;
 use process_job::ProcessJobs;
-use said_words::{WordSubject, add, add_count, add_gap, add_truth, named, number, small, text, word_at};
+use said_words::{
+    WordSubject, add, add_count, add_gap, add_truth, named, number, small, text, word_at,
+};
 use std::alloc::Global;
 use tool_events::{JobWord, Recipe, RecipeChambers};
 
@@ -168,12 +170,7 @@ fn fire_all(jobs: &mut ProcessJobs, object: u64, words: &[&str]) -> Option<()> {
 // ---- what the jobs say
 
 // How many there are or may come, or the job of a number or a place, or what is told by a name.
-fn ask(
-    jobs: &ProcessJobs,
-    object: Option<u64>,
-    words: &[&str],
-    answer: &mut String,
-) -> Option<()> {
+fn ask(jobs: &ProcessJobs, object: Option<u64>, words: &[&str], answer: &mut String) -> Option<()> {
     match (word_at(words, 0), object) {
         ("len", _) => add_count(answer, jobs.len() as u64),
         ("space", _) => add_count(answer, u64::from(jobs.space())),

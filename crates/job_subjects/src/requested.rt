@@ -3,11 +3,11 @@
 use crate::items::{last_list, push_attributes, push_carriers};
 use crate::told::{add_error, add_row};
 use gem_ids::{JobId, Text80};
+use item_model::Item;
 use job_requests::{
     control_error, control_names, control_request, control_row, job_name, process_error,
     process_row, process_spec,
 };
-use item_model::Item;
 use message_model::{CarrierSlots, NamedValue};
 use process_job::JobSpec;
 use request_model::ControlRequest;
@@ -28,7 +28,11 @@ struct ProcessAsked {
 }
 
 fn asked(words: &[&str]) -> Option<ProcessAsked> {
-    match (text_at(words, 0), text_at(words, 1), named(&TRUTHS, words, 2)) {
+    match (
+        text_at(words, 0),
+        text_at(words, 1),
+        named(&TRUTHS, words, 2),
+    ) {
         (Some(job), Some(recipe), Some(start)) => Some(ProcessAsked { job, recipe, start }),
         _ => None,
     }
@@ -50,7 +54,15 @@ pub(crate) fn process(
     };
     let mut carriers = Vec::new(alloc);
     match push_carriers(alloc, &mut carriers, said) {
-        Some(()) => process_of(alloc, local, jobs, &asked, carriers.as_slice(), said, answer),
+        Some(()) => process_of(
+            alloc,
+            local,
+            jobs,
+            &asked,
+            carriers.as_slice(),
+            said,
+            answer,
+        ),
         None => None,
     }
 }
@@ -118,7 +130,10 @@ pub(crate) fn control(
         return None;
     };
     let mut attributes = Vec::new(alloc);
-    match (text_at(words, 0), push_attributes(alloc, &mut attributes, said)) {
+    match (
+        text_at(words, 0),
+        push_attributes(alloc, &mut attributes, said),
+    ) {
         (Some(kind), Some(())) => {
             control_of(alloc, local, jobs, kind, attributes.as_slice(), answer)
         }

@@ -3,19 +3,24 @@
 use said_words::{add, add_count, add_gap, named, number, small, word_at};
 use tool_jobs::{Jobs, Sight};
 
-const SIGHTS: [(&str, Sight); 5] = [
-    ("nothing", sight(false, false, false)),
-    ("here", sight(true, false, false)),
-    ("settled", sight(false, true, false)),
-    ("still", sight(false, false, true)),
-    ("all", sight(true, true, true)),
+// What each sight has of the material: that it is here, settled, and still.
+const SIGHTS: [(&str, (bool, bool, bool)); 5] = [
+    ("nothing", (false, false, false)),
+    ("here", (true, false, false)),
+    ("settled", (false, true, false)),
+    ("still", (false, false, true)),
+    ("all", (true, true, true)),
 ];
 
-const fn sight(here: bool, settled: bool, still: bool) -> Sight {
-    Sight {
-        here,
-        settled,
-        still,
+// What the floor shows, by the word at a place of a line.
+fn sight(words: &[&str], place: usize) -> Option<Sight> {
+    match named(&SIGHTS, words, place) {
+        Some((here, settled, still)) => Some(Sight {
+            here,
+            settled,
+            still,
+        }),
+        None => None,
     }
 }
 
@@ -49,7 +54,7 @@ fn fire_control(jobs: &mut Jobs, object: u64, row: u8) -> Option<()> {
 
 // The rows of a table that start at the job of a number, and `-` where none does.
 pub(crate) fn rows(answer: &mut String, jobs: &Jobs, words: &[&str]) -> Option<()> {
-    let (Some(object), Some(sight)) = (number(words, 2), named(&SIGHTS, words, 3)) else {
+    let (Some(object), Some(sight)) = (number(words, 2), sight(words, 3)) else {
         return None;
     };
     let is_process = word_at(words, 1) == "14";
@@ -76,7 +81,7 @@ fn starts(jobs: &Jobs, is_process: bool, object: u64, row: u8, sight: Sight) -> 
 
 // The row of a table that is ready by itself at the job of a number.
 pub(crate) fn ready(answer: &mut String, jobs: &Jobs, words: &[&str]) -> Option<()> {
-    let (Some(object), Some(sight)) = (number(words, 2), named(&SIGHTS, words, 3)) else {
+    let (Some(object), Some(sight)) = (number(words, 2), sight(words, 3)) else {
         return None;
     };
     let ready = match word_at(words, 1) {

@@ -1,6 +1,7 @@
 //! Lists of numbers, as they stand in lines: with spaces between them, or as `65 times 1`, and `-` where there is none.
 
 use gem_ids::Ids;
+use said_words::{add, add_count, add_gap};
 use std::alloc::Global;
 
 /// The numbers that a text tells. None where it is no list of numbers, or there is no memory.
@@ -17,16 +18,19 @@ fn add_numbers(all: &mut Vec<u32>, text: &str) -> Option<()> {
         return add_times(all, count.trim(), number);
     }
     for word in text.split_whitespace() {
-        if word != "-" {
-            let Ok(number) = word.parse::<u32>() else {
-                return None;
-            };
-            let Ok(()) = all.push(number) else {
-                return None;
-            };
-        }
+        let Some(()) = push(all, word) else {
+            return None;
+        };
     }
     Some(())
+}
+
+fn push(all: &mut Vec<u32>, word: &str) -> Option<()> {
+    match word.parse::<u32>() {
+        Ok(number) => all.push(number).ok(),
+        Err(_) if word == "-" => Some(()),
+        Err(_) => None,
+    }
 }
 
 // So many times one number.
@@ -34,28 +38,23 @@ fn add_times(all: &mut Vec<u32>, count: &str, number: &str) -> Option<()> {
     let Ok(count) = count.parse::<u32>() else {
         return None;
     };
-    let Ok(number) = number.parse::<u32>() else {
-        return None;
-    };
     for _ in 0..count {
-        let Ok(()) = all.push(number) else {
+        let Some(()) = push(all, number) else {
             return None;
         };
     }
     Some(())
 }
 
-/// Puts a number behind others, with a space between them. None where there is no memory.
-pub(crate) fn add_number(list: &mut String, number: u32) -> Option<()> {
-    let gap = if list.is_empty() { "" } else { " " };
-    write!(list, "{gap}{number}").ok()
+/// Puts a number behind others, with a space between them.
+pub(crate) fn add_number(list: &mut String, number: u32) {
+    add_gap(list, " ");
+    add_count(list, u64::from(number));
 }
 
-/// Puts `-` where there is no number. None where there is no memory.
-pub(crate) fn close_list(list: &mut String) -> Option<()> {
+/// Puts `-` where there is no number.
+pub(crate) fn close_list(list: &mut String) {
     if list.is_empty() {
-        list.push_str("-").ok()
-    } else {
-        Some(())
+        add(list, "-");
     }
 }

@@ -14,9 +14,8 @@
 
 use crate::primaries::{add_each, add_read};
 use crate::replies::add_reply;
-use anyhow::{Result, bail};
+use said_words::{LineSubject, add, add_gap};
 use std::alloc::Global;
-use test_lines::Subject;
 
 /// The bodies of the messages of one stream.
 #[derive(Clone, Copy)]
@@ -25,23 +24,15 @@ pub(crate) struct ShopMessages {
     pub(crate) stream: u8,
 }
 
-impl Subject for ShopMessages {
-    fn answer(&mut self, alloc: Global, said: &str) -> Result<String> {
-        let mut answer = String::new(alloc);
-        match say(alloc, self.stream, said, &mut answer) {
-            Some(()) => Ok(answer),
-            None => bail!("it says nothing, or there is no memory"),
+impl LineSubject for ShopMessages {
+    fn say(&mut self, alloc: Global, said: &str, answer: &mut String) -> Option<()> {
+        let stream = self.stream;
+        match said.split_once(' ') {
+            Some(("parts", rest)) => add_counted(alloc, stream, rest, ", ", answer),
+            Some(("words", rest)) => add_counted(alloc, stream, rest, " ", answer),
+            Some(("pairs", rest)) => add_counted(alloc, stream, rest, "0102", answer),
+            _ => tell(alloc, stream, said, answer),
         }
-    }
-}
-
-// Says a line; what is answered.
-fn say(alloc: Global, stream: u8, said: &str, answer: &mut String) -> Option<()> {
-    match said.split_once(' ') {
-        Some(("parts", rest)) => add_counted(alloc, stream, rest, ", ", answer),
-        Some(("words", rest)) => add_counted(alloc, stream, rest, " ", answer),
-        Some(("pairs", rest)) => add_counted(alloc, stream, rest, "0102", answer),
-        _ => tell(alloc, stream, said, answer),
     }
 }
 
@@ -91,9 +82,9 @@ fn add_runs(text: &str, gap: &str, answer: &mut String) {
 
 // A part that stands so many times, behind others.
 fn add_run(part: &str, count: usize, gap: &str, answer: &mut String) {
-    let gap = if answer.is_empty() { "" } else { gap };
     if count > 0 {
-        let _ = write!(answer, "{gap}{part}");
+        add_gap(answer, gap);
+        add(answer, part);
     }
     if count > 1 {
         let _ = write!(answer, "*{count}");

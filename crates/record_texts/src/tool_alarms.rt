@@ -6,10 +6,9 @@
 ghost use Rattle.std.specs.Prelude.{◌≤◌};
 
 use crate::ids::{add_number, close_list};
-use anyhow::{Result, bail};
 use event_reports::Alarms;
+use said_words::{LineSubject, add_count, add_truth};
 use std::alloc::Global;
-use test_lines::Subject;
 
 /// The alarms of a tool.
 #[derive(Drop)]
@@ -18,61 +17,54 @@ pub(crate) struct ToolAlarms {
 }
 
 impl ToolAlarms {
-    /// Those of a tool with so many ports, at most 4, and chambers, at most 8, none of them set or enabled.
-    pub(crate) fn new(alloc: Global, ports: u8, chambers: u8) -> Result<ToolAlarms> {
+    /// Those of a tool with so many ports, at most 4, and chambers, at most 8, none of them set or enabled. None where there is no
+    /// such tool, or no memory.
+    pub(crate) fn new(alloc: Global, ports: u8, chambers: u8) -> Option<ToolAlarms> {
         if ports > 4 || chambers > 8 {
-            bail!("there is no such tool");
+            return None;
         }
         match Alarms::new(alloc, ports, chambers) {
-            Ok(alarms) => Ok(ToolAlarms { alarms }),
-            Err(_) => bail!("there is no memory"),
+            Ok(alarms) => Some(ToolAlarms { alarms }),
+            Err(_) => None,
         }
     }
 }
 
-impl Subject for ToolAlarms {
-    fn answer(&mut self, alloc: Global, said: &str) -> Result<String> {
-        let mut answer = String::new(alloc);
-        match say(&mut self.alarms, said, &mut answer) {
-            Some(()) => Ok(answer),
-            None => bail!("it says nothing, or there is no memory"),
+impl LineSubject for ToolAlarms {
+    fn say(&mut self, _alloc: Global, said: &str, answer: &mut String) -> Option<()> {
+        match said.split_once(' ') {
+            Some((word, "all")) => enable(&mut self.alarms, word, None, answer),
+            Some((word, alid)) => match alid.parse::<u32>() {
+                Ok(alid) => change(&mut self.alarms, word, alid, answer),
+                Err(_) => None,
+            },
+            None => add_all(&self.alarms, said, answer),
         }
     }
 }
 
-// Says a line to the alarms; the answer. None where it says nothing.
-fn say(alarms: &mut Alarms, said: &str, answer: &mut String) -> Option<()> {
-    let Some((word, alid)) = said.split_once(' ') else {
-        return add_all(alarms, said, answer);
+// An alarm or all of them are enabled or disabled: ACKC5.
+fn enable(alarms: &mut Alarms, word: &str, alid: Option<u32>, answer: &mut String) -> Option<()> {
+    let code = match word {
+        "enable" => alarms.enable(true, alid),
+        "disable" => alarms.enable(false, alid),
+        _ => return None,
     };
-    match word {
-        "enable" => enable(alarms, true, alid, answer),
-        "disable" => enable(alarms, false, alid, answer),
-        _ => change(alarms, word, alid, answer),
-    }
-}
-
-fn enable(alarms: &mut Alarms, on: bool, alid: &str, answer: &mut String) -> Option<()> {
-    if alid == "all" {
-        return write!(answer, "{}", alarms.enable(on, None)).ok();
-    }
-    match alid.parse::<u32>() {
-        Ok(alid) => write!(answer, "{}", alarms.enable(on, Some(alid))).ok(),
-        Err(_) => None,
-    }
+    add_count(answer, u64::from(code));
+    Some(())
 }
 
 // Sets or clears an alarm, and tells whether it changed; or tells what it is.
-fn change(alarms: &mut Alarms, word: &str, alid: &str, answer: &mut String) -> Option<()> {
-    let Ok(alid) = alid.parse::<u32>() else {
-        return None;
-    };
-    let is = match word {
-        "set" => alarms.set(alid),
-        "clear" => alarms.clear(alid),
-        _ => is_so(alarms, word, alid)?,
-    };
-    write!(answer, "{is}").ok()
+fn change(alarms: &mut Alarms, word: &str, alid: u32, answer: &mut String) -> Option<()> {
+    match word {
+        "set" => add_truth(answer, alarms.set(alid)),
+        "clear" => add_truth(answer, alarms.clear(alid)),
+        _ => match is_so(alarms, word, alid) {
+            Some(is) => add_truth(answer, is),
+            None => return enable(alarms, word, Some(alid), answer),
+        },
+    }
+    Some(())
 }
 
 fn is_so(alarms: &Alarms, asked: &str, alid: u32) -> Option<bool> {
@@ -87,12 +79,12 @@ fn is_so(alarms: &Alarms, asked: &str, alid: u32) -> Option<bool> {
 // All alarms of which it is so.
 fn add_all(alarms: &Alarms, asked: &str, answer: &mut String) -> Option<()> {
     for line in alarms.lines() {
-        let Some(is) = is_so(alarms, asked, line.alid) else {
-            return None;
-        };
-        if is && add_number(answer, line.alid).is_none() {
-            return None;
+        match is_so(alarms, asked, line.alid) {
+            Some(true) => add_number(answer, line.alid),
+            Some(false) => {}
+            None => return None,
         }
     }
-    close_list(answer)
+    close_list(answer);
+    Some(())
 }

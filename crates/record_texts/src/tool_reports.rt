@@ -11,12 +11,11 @@ ghost use Rattle.std.specs.Prelude.{◌≡◌, ◌==◌, ◌≤◌, ℕ, ◌∷�
 ghost use Rattle.item_model.specs.Data.{u4};
 
 use crate::ids::{add_number, close_list, numbers_in};
-use anyhow::{Result, bail};
 use event_reports::{Reports, Values};
 use gem_ids::Ids;
 use item_model::{Item, Items, NoMemory};
+use said_words::{LineSubject, add_count};
 use std::alloc::Global;
-use test_lines::Subject;
 
 /// The reports of a tool.
 #[derive(Drop)]
@@ -25,35 +24,41 @@ pub(crate) struct ToolReports {
 }
 
 impl ToolReports {
-    /// None of a tool with so many ports, at most 4, and chambers, at most 8.
-    pub(crate) fn new(alloc: Global, ports: u8, chambers: u8) -> Result<ToolReports> {
+    /// None of a tool with so many ports, at most 4, and chambers, at most 8. None where there is no such tool, or no memory.
+    pub(crate) fn new(alloc: Global, ports: u8, chambers: u8) -> Option<ToolReports> {
         if ports > 4 || chambers > 8 {
-            bail!("there is no such tool");
+            return None;
         }
         match Reports::new(alloc, ports, chambers) {
-            Ok(reports) => Ok(ToolReports { reports }),
-            Err(_) => bail!("there is no memory"),
+            Ok(reports) => Some(ToolReports { reports }),
+            Err(_) => None,
         }
     }
 }
 
-impl Subject for ToolReports {
-    fn answer(&mut self, alloc: Global, said: &str) -> Result<String> {
-        let mut answer = String::new(alloc);
-        match say(alloc, &mut self.reports, said, &mut answer) {
-            Some(()) => Ok(answer),
-            None => bail!("it says nothing, or there is no memory"),
+impl LineSubject for ToolReports {
+    fn say(&mut self, alloc: Global, said: &str, answer: &mut String) -> Option<()> {
+        let Some((word, rest)) = said.split_once(' ') else {
+            return None;
+        };
+        match word {
+            "define" => define(alloc, &mut self.reports, entries(alloc, rest), answer),
+            "many" => define(alloc, &mut self.reports, many(alloc, rest), answer),
+            "link" => link(alloc, &mut self.reports, entries(alloc, rest), answer),
+            _ => say(alloc, &mut self.reports, word, rest, answer),
         }
     }
 }
 
-// Says a line to the reports; the answer. None where it says nothing.
-fn say(alloc: Global, reports: &mut Reports, said: &str, answer: &mut String) -> Option<()> {
-    let Some((word, rest)) = said.split_once(' ') else {
-        return None;
-    };
+// Events are enabled or not; or what the reports say.
+fn say(
+    alloc: Global,
+    reports: &mut Reports,
+    word: &str,
+    rest: &str,
+    answer: &mut String,
+) -> Option<()> {
     match word {
-        "define" | "many" | "link" => change(alloc, reports, word, rest, answer),
         "enable" => enable(alloc, reports, true, rest, answer),
         "disable" => enable(alloc, reports, false, rest, answer),
         "enabled" => add_enabled(alloc, reports, rest, answer),
@@ -79,52 +84,62 @@ impl Values for Numbers {
 
 const NUMBERS: Numbers = Numbers { but: 3 };
 
-// Defines reports, or links them to events.
-fn change(
+// ---- what changes the reports
+
+// Defines reports.
+fn define(
     alloc: Global,
     reports: &mut Reports,
-    word: &str,
-    rest: &str,
+    entries: Option<Vec<(u32, Ids)>>,
     answer: &mut String,
 ) -> Option<()> {
-    let Some(entries) = entries(alloc, word, rest) else {
-        return None;
-    };
-    let code = match word {
-        "link" => reports.link(alloc, entries.as_slice()),
-        _ => reports.define(alloc, entries.as_slice()),
-    };
+    match &entries {
+        Some(entries) => add_code(answer, reports.define(alloc, entries.as_slice())),
+        None => None,
+    }
+}
+
+// Links reports to events.
+fn link(
+    alloc: Global,
+    reports: &mut Reports,
+    entries: Option<Vec<(u32, Ids)>>,
+    answer: &mut String,
+) -> Option<()> {
+    match &entries {
+        Some(entries) => add_code(answer, reports.link(alloc, entries.as_slice())),
+        None => None,
+    }
+}
+
+fn add_code(answer: &mut String, code: Result<u8, NoMemory>) -> Option<()> {
     match code {
-        Ok(code) => write!(answer, "{code}").ok(),
+        Ok(code) => {
+            add_count(answer, u64::from(code));
+            Some(())
+        }
         Err(_) => None,
     }
 }
 
 // The entries of an S2F33 or S2F35.
-fn entries(alloc: Global, word: &str, text: &str) -> Option<Vec<(u32, Ids)>> {
+fn entries(alloc: Global, text: &str) -> Option<Vec<(u32, Ids)>> {
     let mut entries = Vec::new(alloc);
-    let added = match word {
-        "many" => add_many(alloc, &mut entries, text),
-        _ => add_entries(alloc, &mut entries, text),
-    };
-    match added {
-        Some(()) => Some(entries),
-        None => None,
-    }
-}
-
-fn add_entries(alloc: Global, entries: &mut Vec<(u32, Ids)>, text: &str) -> Option<()> {
     if text != "-" {
         for one in text.split(';') {
-            let Some(entry) = entry(alloc, one) else {
-                return None;
-            };
-            let Ok(()) = entries.push(entry) else {
+            let Some(()) = push(&mut entries, entry(alloc, one)) else {
                 return None;
             };
         }
     }
-    Some(())
+    Some(entries)
+}
+
+fn push(entries: &mut Vec<(u32, Ids)>, entry: Option<(u32, Ids)>) -> Option<()> {
+    match entry {
+        Some(entry) => entries.push(entry).ok(),
+        None => None,
+    }
 }
 
 // An entry: its number, and its list.
@@ -132,29 +147,32 @@ fn entry(alloc: Global, text: &str) -> Option<(u32, Ids)> {
     let Some((number, list)) = text.split_once(':') else {
         return None;
     };
-    let Ok(number) = number.trim().parse::<u32>() else {
-        return None;
-    };
-    let Some(list) = numbers_in(alloc, list) else {
-        return None;
-    };
-    Some((number, list))
+    match (number.trim().parse::<u32>(), numbers_in(alloc, list)) {
+        (Ok(number), Some(list)) => Some((number, list)),
+        _ => None,
+    }
 }
 
 // So many reports of VID 1, with RPTIDs that rise from 1,001.
-fn add_many(alloc: Global, entries: &mut Vec<(u32, Ids)>, count: &str) -> Option<()> {
+fn many(alloc: Global, count: &str) -> Option<Vec<(u32, Ids)>> {
     let Ok(count) = count.parse::<u16>() else {
         return None;
     };
+    let mut entries = Vec::new(alloc);
     for place in 0..count {
-        let Some(list) = numbers_in(alloc, "1") else {
-            return None;
-        };
-        let Ok(()) = entries.push((1_001 + u32::from(place), list)) else {
+        let Some(()) = push(&mut entries, of_number(alloc, 1_001 + u32::from(place))) else {
             return None;
         };
     }
-    Some(())
+    Some(entries)
+}
+
+// A report of this RPTID, of VID 1.
+fn of_number(alloc: Global, rptid: u32) -> Option<(u32, Ids)> {
+    match numbers_in(alloc, "1") {
+        Some(list) => Some((rptid, list)),
+        None => None,
+    }
 }
 
 fn enable(
@@ -164,22 +182,35 @@ fn enable(
     list: &str,
     answer: &mut String,
 ) -> Option<()> {
-    let Some(ceids) = numbers_in(alloc, list) else {
-        return None;
-    };
-    write!(answer, "{}", reports.enable(on, ceids.as_slice())).ok()
+    match numbers_in(alloc, list) {
+        Some(ceids) => {
+            add_count(answer, u64::from(reports.enable(on, ceids.as_slice())));
+            Some(())
+        }
+        None => None,
+    }
 }
+
+// ---- what the reports say
 
 // The enabled events among these.
 fn add_enabled(alloc: Global, reports: &Reports, list: &str, answer: &mut String) -> Option<()> {
-    for ceid in numbers_in(alloc, list)?.as_slice() {
+    match numbers_in(alloc, list) {
+        Some(ceids) => {
+            add_those_enabled(answer, reports, ceids.as_slice());
+            Some(())
+        }
+        None => None,
+    }
+}
+
+fn add_those_enabled(answer: &mut String, reports: &Reports, ceids: &[u32]) {
+    for ceid in ceids {
         if reports.is_enabled(*ceid) {
-            if add_number(answer, *ceid).is_none() {
-                return None;
-            }
+            add_number(answer, *ceid);
         }
     }
-    close_list(answer)
+    close_list(answer);
 }
 
 // What a report or an event tells.
@@ -187,14 +218,9 @@ fn show(alloc: Global, reports: &Reports, word: &str, id: &str, answer: &mut Str
     let Ok(id) = id.parse::<u32>() else {
         return None;
     };
-    let Some(items) = items_of(alloc, reports, word == "event", id) else {
-        return None;
-    };
-    match word {
-        "event" => add_reports(answer, items.as_slice()),
-        "report" => add_values(answer, items.as_slice()),
-        "values" => write!(answer, "{}", items.as_slice().len()).ok(),
-        _ => None,
+    match items_of(alloc, reports, word == "event", id) {
+        Some(items) => add_items(answer, word, items.as_slice()),
+        None => None,
     }
 }
 
@@ -211,6 +237,16 @@ fn items_of(alloc: Global, reports: &Reports, is_event: bool, id: u32) -> Option
     }
 }
 
+fn add_items(answer: &mut String, word: &str, items: &[Item]) -> Option<()> {
+    match word {
+        "event" => return add_reports(answer, items),
+        "report" => add_values(answer, items),
+        "values" => add_count(answer, items.len() as u64),
+        _ => return None,
+    }
+    Some(())
+}
+
 // The number of a U4 of one element, and 0 of another item.
 fn number(item: &Item) -> u32 {
     match item {
@@ -223,30 +259,38 @@ fn number(item: &Item) -> u32 {
 }
 
 // The numbers of values, in which 0 stands for an empty list.
-fn add_values(answer: &mut String, items: &[Item]) -> Option<()> {
+fn add_values(answer: &mut String, items: &[Item]) {
     for item in items {
-        if add_number(answer, number(item)).is_none() {
-            return None;
-        }
+        add_number(answer, number(item));
     }
-    close_list(answer)
+    close_list(answer);
 }
 
 // The numbers of reports: of each its RPTID, and behind it its values.
 fn add_reports(answer: &mut String, items: &[Item]) -> Option<()> {
     for item in items {
-        let Item::List(parts) = item else {
+        let Some(()) = add_report(answer, parts(item)) else {
             return None;
         };
-        let [rptid, Item::List(values)] = parts.as_slice() else {
-            return None;
-        };
-        if add_number(answer, number(rptid)).is_none() {
-            return None;
-        }
-        if add_values(answer, values.as_slice()).is_none() {
-            return None;
-        }
     }
-    close_list(answer)
+    close_list(answer);
+    Some(())
+}
+
+fn parts(item: &Item) -> &[Item] {
+    match item {
+        Item::List(parts) => parts.as_slice(),
+        _ => &[],
+    }
+}
+
+fn add_report(answer: &mut String, parts: &[Item]) -> Option<()> {
+    match parts {
+        [rptid, Item::List(values)] => {
+            add_number(answer, number(rptid));
+            add_values(answer, values.as_slice());
+            Some(())
+        }
+        _ => None,
+    }
 }

@@ -226,20 +226,19 @@ fn ask(of: &mut Floor, words: &[&str], answer: &mut String) -> Option<()> {
     };
     let code = of.floor.carrier_code(&action);
     add_count(answer, u64::from(code.number()));
-    if code.is_done() {
-        carry_out(of, &action)
-    } else {
-        Some(())
+    if !code.is_done() {
+        return Some(());
+    }
+    let rows = of.floor.carrier_rows(&action);
+    match of.floor.write(&action) {
+        Ok(()) => follow(of, rows.as_slice()),
+        Err(_) => None,
     }
 }
 
-// What the host asks for is done, and rows fire.
-fn carry_out(of: &mut Floor, action: &CarrierAction) -> Option<()> {
-    let rows = of.floor.carrier_rows(action);
-    let Ok(()) = of.floor.write(action) else {
-        return None;
-    };
-    for row in rows.as_slice() {
+// Rows fire with those that they create, and then others by themselves.
+fn follow(of: &mut Floor, rows: &[Firing]) -> Option<()> {
+    for row in rows {
         let Some(()) = fire_all(of, *row) else {
             return None;
         };

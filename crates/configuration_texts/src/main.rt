@@ -20,6 +20,7 @@ use test_lines::{Texts, answers, play_folder};
 use word_texts::WordTexts;
 
 /// What an integrator sets, and what reads the files of configurations.
+#[derive(Drop)]
 struct Settings<'r> {
     rt: &'r HostRuntime,
 }

@@ -1,6 +1,12 @@
-//! What stands in a line, and how often. None where it stands for nothing.
+//! What stands in a line, and how often, and the bytes of items. None where a text stands for nothing.
+
+ghost use Rattle.item_model.specs.Sendable.{IsSendable};
+ghost use Rattle.item_model.specs.View.{view};
 
 use gem_ids::Text80;
+use item_model::Item;
+use said_words::add;
+use secs_items::encode;
 use std::alloc::Global;
 use test_lines::bytes;
 
@@ -41,4 +47,21 @@ pub(crate) fn text(word: &str) -> Text80 {
         return Text80::empty();
     }
     Text80::read(word.as_bytes()).unwrap_or(Text80::empty())
+}
+
+// The bytes of an item.
+pub(crate) fn add_encoded(alloc: Global, item: &Item, answer: &mut String) -> Option<()>
+    requires { IsSendable (view item.now) }
+{
+    let mut bytes = Vec::new(alloc);
+    let Ok(()) = encode(item, &mut bytes) else {
+        return None;
+    };
+    match hex::encode_upper(alloc, bytes.as_slice()) {
+        Ok(digits) => {
+            add(answer, digits.as_str());
+            Some(())
+        }
+        Err(_) => None,
+    }
 }

@@ -6,6 +6,7 @@ use gem_ids::Text80;
 use item_model::Item;
 use message_model::{CarrierSlots, NamedValue, ShopMsg};
 use msgs_300::{is_shop_stream, read_shop};
+use said_words::add;
 use secs_items::read_one;
 use std::alloc::Global;
 
@@ -79,6 +80,13 @@ fn add_message(message: &ShopMsg, answer: &mut String) {
             add_text(" ", kind, answer);
             add_attributes(attributes.as_slice(), answer);
         }
+        other => add_job_message(other, answer),
+    }
+}
+
+// The parts of a message of stream 16.
+fn add_job_message(message: &ShopMsg, answer: &mut String) {
+    match message {
         ShopMsg::S16F5(dataid, job, command, item) => {
             add_number("", *dataid, answer);
             add_text(" ", job, answer);
@@ -98,12 +106,9 @@ fn add_message(message: &ShopMsg, answer: &mut String) {
             let _ = write!(answer, "{} jobs", jobs.len());
             add_texts(jobs.as_slice(), answer);
         }
-        ShopMsg::S16F19 => {
-            let _ = answer.push_str("all jobs");
-        }
-        ShopMsg::S16F21 => {
-            let _ = answer.push_str("space");
-        }
+        ShopMsg::S16F19 => add(answer, "all jobs"),
+        ShopMsg::S16F21 => add(answer, "space"),
+        _ => {}
     }
 }
 

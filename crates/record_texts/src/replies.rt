@@ -4,11 +4,11 @@
 ghost use Rattle.std.specs.Prelude.{◌≡◌, true};
 ghost use Rattle.message_model.specs.ShopSendable.{HasSendableParts};
 
-use crate::pieces::{counted, text};
+use crate::pieces::{add_encoded, counted, text};
 use gem_ids::{Listed, Text80};
 use message_model::{ErrorPart, JobAcknowledge, JobState, ObjectAcknowledge, ShopReply};
 use msgs_300::shop_item;
-use secs_items::encode;
+use said_words::word_at;
 use std::alloc::Global;
 use test_lines::words;
 
@@ -22,7 +22,7 @@ pub(crate) fn add_reply(alloc: Global, stream: u8, said: &str, answer: &mut Stri
         return None;
     }
     match reply(alloc, stream, words.as_slice(), more) {
-        Some(reply) => add_encoded(alloc, &reply, answer),
+        Some(reply) => add_sendable(alloc, &reply, answer),
         None => None,
     }
 }
@@ -31,9 +31,9 @@ pub(crate) fn add_reply(alloc: Global, stream: u8, said: &str, answer: &mut Stri
 fn has_numbers(stream: u8, words: &[&str], more: &str) -> bool {
     let function = small(words, 0);
     let is_number = match (stream, function) {
-        (3, _) => at(words, 1).parse::<u8>().is_ok(),
-        (14, _) => at(words, 2).parse::<u8>().is_ok(),
-        (16, 22) => at(words, 1).parse::<u16>().is_ok(),
+        (3, _) => word_at(words, 1).parse::<u8>().is_ok(),
+        (14, _) => word_at(words, 2).parse::<u8>().is_ok(),
+        (16, 22) => word_at(words, 1).parse::<u16>().is_ok(),
         _ => true,
     };
     is_number && are_parts(more, stream == 16 && function == 20)
@@ -62,19 +62,12 @@ fn is_part(part: &str, is_of_jobs: bool) -> bool {
     }
 }
 
-fn add_encoded(alloc: Global, reply: &ShopReply, answer: &mut String) -> Option<()> {
+fn add_sendable(alloc: Global, reply: &ShopReply, answer: &mut String) -> Option<()> {
     if !is_sendable(reply) {
         return None;
     }
-    let Ok(item) = shop_item(alloc, reply) else {
-        return None;
-    };
-    let mut text = Vec::new(alloc);
-    let Ok(()) = encode(&item, &mut text) else {
-        return None;
-    };
-    match hex::encode_upper(alloc, text.as_slice()) {
-        Ok(digits) => answer.push_str(digits.as_str()).ok(),
+    match shop_item(alloc, reply) {
+        Ok(item) => add_encoded(alloc, &item, answer),
         Err(_) => None,
     }
 }
@@ -97,43 +90,55 @@ fn is_sendable(reply: &ShopReply) -> bool
 // The reply of a function, whose parts are these words and what stands behind them.
 fn reply(alloc: Global, stream: u8, words: &[&str], more: &str) -> Option<ShopReply> {
     match (stream, small(words, 0)) {
-        (3, 18) => Some(ShopReply::S3F18(small(words, 1))),
-        (3, 26) => Some(ShopReply::S3F26(small(words, 1))),
-        (3, 28) => Some(ShopReply::S3F28(small(words, 1))),
+        (3, function) => port_reply(function, small(words, 1)),
         (14, 10) => Some(created(alloc, words, more)),
-        (16, 6) => Some(ShopReply::S16F6(name(words), told(alloc, words, 2, more))),
-        (16, 12) => Some(ShopReply::S16F12(name(words), told(alloc, words, 2, more))),
-        (16, 18) => Some(dequeued(alloc, words, more)),
-        (16, 20) => Some(ShopReply::S16F20(states(alloc, more))),
-        (16, 22) => Some(ShopReply::S16F22(number(words, 1))),
-        (16, 28) => Some(ShopReply::S16F28(is_true(words, 1), errors(alloc, more))),
+        (16, function) => job_reply(alloc, function, words, more),
         _ => None,
     }
 }
 
-// The word at a place of a line, or none.
-fn at<'a>(words: &[&'a str], place: usize) -> &'a str {
-    match words.get(place) {
-        Some(word) => *word,
-        None => "",
+fn port_reply(function: u8, code: u8) -> Option<ShopReply> {
+    match function {
+        18 => Some(ShopReply::S3F18(code)),
+        26 => Some(ShopReply::S3F26(code)),
+        28 => Some(ShopReply::S3F28(code)),
+        _ => None,
+    }
+}
+
+fn job_reply(alloc: Global, function: u8, words: &[&str], more: &str) -> Option<ShopReply> {
+    match function {
+        6 => Some(ShopReply::S16F6(name(words), told(alloc, words, 2, more))),
+        12 => Some(ShopReply::S16F12(name(words), told(alloc, words, 2, more))),
+        18 => Some(dequeued(alloc, words, more)),
+        _ => queue_reply(alloc, function, words, more),
+    }
+}
+
+fn queue_reply(alloc: Global, function: u8, words: &[&str], more: &str) -> Option<ShopReply> {
+    match function {
+        20 => Some(ShopReply::S16F20(states(alloc, more))),
+        22 => Some(ShopReply::S16F22(number(words, 1))),
+        28 => Some(ShopReply::S16F28(is_true(words, 1), errors(alloc, more))),
+        _ => None,
     }
 }
 
 fn number(words: &[&str], place: usize) -> u16 {
-    at(words, place).parse::<u16>().unwrap_or(0)
+    word_at(words, place).parse::<u16>().unwrap_or(0)
 }
 
 fn small(words: &[&str], place: usize) -> u8 {
-    at(words, place).parse::<u8>().unwrap_or(0)
+    word_at(words, place).parse::<u8>().unwrap_or(0)
 }
 
 fn is_true(words: &[&str], place: usize) -> bool {
-    at(words, place) == "true"
+    word_at(words, place) == "true"
 }
 
 // The name of the object or job, which is the second word.
 fn name(words: &[&str]) -> Text80 {
-    text(at(words, 1))
+    text(word_at(words, 1))
 }
 
 fn created(alloc: Global, words: &[&str], more: &str) -> ShopReply {

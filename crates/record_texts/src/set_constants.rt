@@ -7,14 +7,12 @@
 
 ghost use Rattle.std.specs.Prelude.{◌<◌, length};
 ghost use Rattle.data_variables.specs.Values.{AreConstants};
-ghost use Rattle.item_model.specs.Sendable.{IsSendable};
-ghost use Rattle.item_model.specs.View.{view};
 
 use crate::ids::{add_number, numbers_in};
+use crate::pieces::add_encoded;
 use data_variables::{Constants, Val, ids, item_of, set_of};
-use item_model::Item;
 use said_words::{LineSubject, add, add_count, add_gap, add_truth};
-use secs_items::{encode, read_one};
+use secs_items::read_one;
 use std::alloc::Global;
 use test_lines::bytes;
 
@@ -166,28 +164,11 @@ fn add_names(alloc: Global, constants: &Constants, list: &str, answer: &mut Stri
     match numbers_in(alloc, list) {
         Some(asked) if asked.len() < 1024 => {
             match constants.namelist(alloc, asked.as_slice()) {
-                Ok(names) => add_bytes(alloc, &names, answer),
+                Ok(names) => add_encoded(alloc, &names, answer),
                 Err(_) => None,
             }
         }
         _ => None,
-    }
-}
-
-// The bytes of an item.
-fn add_bytes(alloc: Global, item: &Item, answer: &mut String) -> Option<()>
-    requires { IsSendable (view item.now) }
-{
-    let mut bytes = Vec::new(alloc);
-    let Ok(()) = encode(item, &mut bytes) else {
-        return None;
-    };
-    match hex::encode_upper(alloc, bytes.as_slice()) {
-        Ok(digits) => {
-            add(answer, digits.as_str());
-            Some(())
-        }
-        Err(_) => None,
     }
 }
 
@@ -217,7 +198,7 @@ fn add_said(alloc: Global, ecid: u32, bytes: &[u8], answer: &mut String) -> Opti
 fn add_value_bytes(alloc: Global, word: &str, answer: &mut String) -> Option<()> {
     match val(word) {
         Some(Some(value)) => match item_of(alloc, value) {
-            Ok(item) => add_bytes(alloc, &item, answer),
+            Ok(item) => add_encoded(alloc, &item, answer),
             Err(_) => None,
         },
         _ => None,

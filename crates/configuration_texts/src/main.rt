@@ -4,23 +4,31 @@
 //!
 //! It takes each file of the folder in which it is run, in the order of their names, and prints a line for each: its name,
 //! and how many conversations it has. Where a file cannot be read, or one of them goes otherwise, it says on standard error
-//! which and where, and ends with status 1.
+//! which and where, and ends with status 1. Files whose name ends in `.toml` are configurations, which the texts have read.
 #![tactic(auto)]
 
+mod configs;
+mod values;
+mod word_texts;
+
 use anyhow::{Result, bail};
-use configuration_subjects::{ConfigTexts, WordTexts};
+use configs::ConfigTexts;
 use conversation_files::Line;
 use std::alloc::Global;
 use std::process::ExitCode;
 use test_lines::{Texts, answers, play_folder};
+use word_texts::WordTexts;
 
-/// What an integrator sets.
-pub struct Settings;
+/// What an integrator sets, and what reads the files of configurations.
+#[derive(Drop)]
+struct Settings<'r> {
+    rt: &'r HostRuntime,
+}
 
-impl Texts for Settings {
+impl Texts for Settings<'_> {
     fn play(&self, alloc: Global, begins: &str, lines: &[Line<'_>]) -> Result<Option<String>> {
         match begins {
-            "to configurations" => answers(alloc, &mut ConfigTexts::new(), lines),
+            "to configurations" => answers(alloc, &mut ConfigTexts::new(self.rt), lines),
             "to words" => answers(alloc, &mut WordTexts, lines),
             _ => bail!("there is no such subject"),
         }
@@ -28,5 +36,5 @@ impl Texts for Settings {
 }
 
 fn main(rt: HostRuntime) -> ExitCode {
-    play_folder(&rt, &Settings)
+    play_folder(&rt, &Settings { rt: &rt })
 }

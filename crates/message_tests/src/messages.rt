@@ -6,7 +6,7 @@ ghost use Rattle.message_model.specs.GemSendable.{AreCharacters, HasSendablePart
 use item_model::{Bytes, NoMemory};
 use message_model::{BodyFault, GemReply, Identity};
 use msgs_gem::{is_ignored, read_gem};
-use reply_texts::{is_text, sent};
+use crate::texts::{is_text, sent};
 use std::alloc::Global;
 use std::test::Fail;
 

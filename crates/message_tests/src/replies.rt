@@ -9,7 +9,7 @@ ghost use Rattle.message_model.specs.GemSendable.{AreFew, HasSendableParts};
 use gem_ids::{Listed, Text80};
 use item_model::{Item, Items, NoMemory};
 use message_model::{GemReply, ParameterAcknowledge, StreamRefusal, VariableName};
-use reply_texts::{number, repeated, sent, text};
+use crate::texts::{number, repeated, sent, text};
 use std::alloc::Global;
 use std::test::Fail;
 

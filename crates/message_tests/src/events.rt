@@ -8,7 +8,7 @@ ghost use Rattle.message_model.specs.GemSendable.{AreFew};
 use gem_ids::{Listed, Text80};
 use item_model::{Bytes, Item, Items, NoMemory};
 use message_model::{AlarmPart, GemReply};
-use reply_texts::{bytes, is_text, number, repeated, sent, text};
+use crate::texts::{bytes, is_text, number, repeated, sent, text};
 use std::alloc::Global;
 use std::test::Fail;
 

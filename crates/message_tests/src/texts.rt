@@ -1,6 +1,4 @@
-//! Texts of the tool's replies and primaries, and of their parts. It is a library of the tests of these, and no part of the
-//! tool. Begin with `sent` and `is_text`.
-#![tactic(auto)]
+//! Texts of the tool's replies and primaries, and of their parts.
 
 ghost use Rattle.std.specs.Prelude.{IfOk};
 ghost use Rattle.item_model.specs.View.{view};

@@ -2,7 +2,8 @@
 //! what the module answers; `draw 1` tells the number that is drawn from another, and `draw again` the one from that.
 
 use crate::outcomes::substrate;
-use anyhow::{Result, bail};
+use crate::words::{numbers, told};
+use anyhow::Result;
 use gem_ids::{CmdNo, ModuleId, Text80};
 use sim_modules::{SimModule, draw};
 use std::alloc::Global;
@@ -29,7 +30,7 @@ impl Acts {
     pub fn of(alloc: Global, words: &str) -> Option<Acts> {
         let (number, fails) = words.split_once(" failing at ").unwrap_or((words, ""));
         let number = number.parse::<u8>().ok()?;
-        let plan = plan(alloc, fails)?;
+        let plan = numbers(alloc, fails)?;
         let module = SimModule::new(alloc, ModuleId(number), plan.as_slice()).ok()?;
         Some(Acts {
             module: Some(module),
@@ -38,22 +39,11 @@ impl Acts {
     }
 }
 
-// Numbers, parted by spaces.
-fn plan(alloc: Global, words: &str) -> Option<Vec<u64>> {
-    let mut plan = Vec::new(alloc);
-    for word in words.split_whitespace() {
-        plan.push(word.parse::<u64>().ok()?).ok()?;
-    }
-    Some(plan)
-}
-
 impl Subject for Acts {
     fn answer(&mut self, alloc: Global, said: &str) -> Result<String> {
         let mut answer = String::new(alloc);
-        match say(self, said, &mut answer) {
-            Some(()) => Ok(answer),
-            None => bail!("it says nothing, or there is no memory"),
-        }
+        let said = say(self, said, &mut answer);
+        told(answer, said)
     }
 }
 

@@ -15,7 +15,8 @@
 
 use crate::hosts::host;
 use crate::played::{keep, operate_script, read, run, write};
-use anyhow::{Result, bail};
+use crate::words::told;
+use anyhow::Result;
 use outside::MemSource;
 use std::alloc::Global;
 use std::sync::Wait;
@@ -61,10 +62,8 @@ impl<'a, R> Seat<'a, R> {
 impl<R: Threads + Wait + Sync> Subject for Seat<'_, R> {
     fn answer(&mut self, alloc: Global, said: &str) -> Result<String> {
         let mut answer = String::new(alloc);
-        match say(alloc, self, said, &mut answer) {
-            Some(()) => Ok(answer),
-            None => bail!("it says nothing, or there is no memory"),
-        }
+        let said = say(alloc, self, said, &mut answer);
+        told(answer, said)
     }
 }
 

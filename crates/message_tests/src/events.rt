@@ -5,10 +5,10 @@ ghost use Rattle.item_model.specs.View.{view};
 ghost use Rattle.item_model.specs.Weight.{IsBounded};
 ghost use Rattle.message_model.specs.GemSendable.{AreFew};
 
+use crate::texts::{bytes, is_text, number, repeated, sent, text};
 use gem_ids::{Listed, Text80};
 use item_model::{Bytes, Item, Items, NoMemory};
 use message_model::{AlarmPart, GemReply};
-use crate::texts::{bytes, is_text, number, repeated, sent, text};
 use std::alloc::Global;
 use std::test::Fail;
 
@@ -33,23 +33,23 @@ fn two_alarms(alloc: Global) -> Result<Listed<AlarmPart>, NoMemory>
 
 // The two lists of alarms, with no alarm and with two.
 fn no_fives(alloc: Global) -> Result<Vec<u8>, NoMemory> {
-    sent(alloc, &GemReply::S5F6(Listed::new(alloc)))
+    sent(alloc, GemReply::S5F6(Listed::new(alloc)))
 }
 
 fn no_sevens(alloc: Global) -> Result<Vec<u8>, NoMemory> {
-    sent(alloc, &GemReply::S5F8(Listed::new(alloc)))
+    sent(alloc, GemReply::S5F8(Listed::new(alloc)))
 }
 
 fn two_fives(alloc: Global) -> Result<Vec<u8>, NoMemory> {
-    sent(alloc, &GemReply::S5F6(two_alarms(alloc)?))
+    sent(alloc, GemReply::S5F6(two_alarms(alloc)?))
 }
 
 fn two_sevens(alloc: Global) -> Result<Vec<u8>, NoMemory> {
-    sent(alloc, &GemReply::S5F8(two_alarms(alloc)?))
+    sent(alloc, GemReply::S5F8(two_alarms(alloc)?))
 }
 
 fn one_alarm(alloc: Global) -> Result<Vec<u8>, NoMemory> {
-    sent(alloc, &GemReply::S5F1(0x84, 11, text(b"Module down")))
+    sent(alloc, GemReply::S5F1(0x84, 11, text(b"Module down")))
 }
 
 #[test]
@@ -79,14 +79,11 @@ fn no_reports(alloc: Global) -> Items
 // Events without reports.
 fn event(alloc: Global) -> Result<Vec<u8>, NoMemory> {
     let reports = no_reports(alloc);
-    sent(
-        alloc,
-        &GemReply::S6F11(0x0102_0304_0506_0708, 1001, reports),
-    )
+    sent(alloc, GemReply::S6F11(0x0102_0304_0506_0708, 1001, reports))
 }
 
 fn event_on_request(alloc: Global) -> Result<Vec<u8>, NoMemory> {
-    sent(alloc, &GemReply::S6F16(1001, no_reports(alloc)))
+    sent(alloc, GemReply::S6F16(1001, no_reports(alloc)))
 }
 
 #[test]
@@ -143,7 +140,7 @@ fn long_reports(alloc: Global, count: usize) -> Result<Items, NoMemory>
 fn longest(alloc: Global) -> Result<Vec<u8>, NoMemory> {
     sent(
         alloc,
-        &GemReply::S6F11(
+        GemReply::S6F11(
             18_446_744_073_709_551_615,
             4_294_967_295,
             long_reports(alloc, 16)?,

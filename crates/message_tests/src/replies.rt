@@ -6,16 +6,16 @@ ghost use Rattle.item_model.specs.Weight.{IsBounded};
 ghost use Rattle.message_model.specs.Functions.{AreFewFunctions};
 ghost use Rattle.message_model.specs.GemSendable.{AreFew, HasSendableParts};
 
+use crate::texts::{number, repeated, sent, text};
 use gem_ids::{Listed, Text80};
 use item_model::{Item, Items, NoMemory};
 use message_model::{GemReply, ParameterAcknowledge, StreamRefusal, VariableName};
-use crate::texts::{number, repeated, sent, text};
 use std::alloc::Global;
 use std::test::Fail;
 
 // Whether the text of a reply has these bytes, as hex digits.
-fn is_sent(rt: &HostRuntime, reply: &GemReply, wanted: &str) -> bool
-    requires { HasSendableParts reply.now }
+fn is_sent(rt: &HostRuntime, reply: GemReply, wanted: &str) -> bool
+    requires { HasSendableParts reply }
 {
     match sent(rt.alloc(), reply) {
         Ok(text) => is_text(rt, text.as_slice(), wanted),
@@ -54,9 +54,9 @@ fn are_values(rt: &HostRuntime, reply: u8, values: Items, wanted: &str) -> bool
     requires { AreFew 1024 1 84 values }
 {
     match reply {
-        0 => is_sent(rt, &GemReply::S1F4(values), wanted),
-        1 => is_sent(rt, &GemReply::S2F14(values), wanted),
-        _ => is_sent(rt, &GemReply::S6F20(values), wanted),
+        0 => is_sent(rt, GemReply::S1F4(values), wanted),
+        1 => is_sent(rt, GemReply::S2F14(values), wanted),
+        _ => is_sent(rt, GemReply::S6F20(values), wanted),
     }
 }
 
@@ -98,7 +98,7 @@ fn two_constants(alloc: Global) -> Result<Items, NoMemory>
 
 fn are_constants(rt: &HostRuntime, wanted: &str) -> bool {
     match two_constants(rt.alloc()) {
-        Ok(constants) => is_sent(rt, &GemReply::S2F30(constants), wanted),
+        Ok(constants) => is_sent(rt, GemReply::S2F30(constants), wanted),
         Err(_) => false,
     }
 }
@@ -129,13 +129,13 @@ fn two_names(alloc: Global) -> Result<Listed<VariableName>, NoMemory>
 // Whether S1F12 with two names has this text.
 fn are_names(rt: &HostRuntime, wanted: &str) -> bool {
     match two_names(rt.alloc()) {
-        Ok(names) => is_sent(rt, &GemReply::S1F12(names), wanted),
+        Ok(names) => is_sent(rt, GemReply::S1F12(names), wanted),
         Err(_) => false,
     }
 }
 
 fn are_no_names(rt: &HostRuntime, wanted: &str) -> bool {
-    is_sent(rt, &GemReply::S1F12(Listed::new(rt.alloc())), wanted)
+    is_sent(rt, GemReply::S1F12(Listed::new(rt.alloc())), wanted)
 }
 
 #[test]
@@ -147,8 +147,8 @@ fn a_name_has_its_variable_and_no_units(rt: HostRuntime) -> Result<(), Fail> {
 }
 
 // The replies that are a code.
-fn is_code(rt: &HostRuntime, reply: &GemReply) -> bool
-    requires { HasSendableParts reply.now }
+fn is_code(rt: &HostRuntime, reply: GemReply) -> bool
+    requires { HasSendableParts reply }
 {
     is_sent(rt, reply, "210103")
 }
@@ -156,12 +156,12 @@ fn is_code(rt: &HostRuntime, reply: &GemReply) -> bool
 #[test]
 fn a_code_is_one_binary_byte(rt: HostRuntime) -> Result<(), Fail> {
     let codes = [
-        is_code(&rt, &GemReply::S2F16(3)),
-        is_code(&rt, &GemReply::S2F34(3)),
-        is_code(&rt, &GemReply::S2F36(3)),
-        is_code(&rt, &GemReply::S2F38(3)),
-        is_code(&rt, &GemReply::S5F4(3)),
-        is_code(&rt, &GemReply::S6F24(3)),
+        is_code(&rt, GemReply::S2F16(3)),
+        is_code(&rt, GemReply::S2F34(3)),
+        is_code(&rt, GemReply::S2F36(3)),
+        is_code(&rt, GemReply::S2F38(3)),
+        is_code(&rt, GemReply::S5F4(3)),
+        is_code(&rt, GemReply::S6F24(3)),
     ];
     assert_eq!(rt; codes, [true; 6]);
     Ok(())
@@ -186,12 +186,12 @@ fn two_refused(alloc: Global) -> Result<Listed<ParameterAcknowledge>, NoMemory>
 
 // Whether HCACK without a parameter, and with two, has this text.
 fn is_accepted(rt: &HostRuntime, wanted: &str) -> bool {
-    is_sent(rt, &GemReply::S2F42(0, Listed::new(rt.alloc())), wanted)
+    is_sent(rt, GemReply::S2F42(0, Listed::new(rt.alloc())), wanted)
 }
 
 fn is_refused(rt: &HostRuntime, wanted: &str) -> bool {
     match two_refused(rt.alloc()) {
-        Ok(parameters) => is_sent(rt, &GemReply::S2F42(3, parameters), wanted),
+        Ok(parameters) => is_sent(rt, GemReply::S2F42(3, parameters), wanted),
         Err(_) => false,
     }
 }
@@ -250,25 +250,21 @@ fn three_streams(alloc: Global) -> Result<Listed<StreamRefusal>, NoMemory>
 // Whether S2F44 has this text: of an S2F43 that is done, or that comes too late; of one that has one fault, and of one that has
 // three.
 fn is_answered(rt: &HostRuntime, rspack: u8, wanted: &str) -> bool {
-    is_sent(
-        rt,
-        &GemReply::S2F44(rspack, Listed::new(rt.alloc())),
-        wanted,
-    )
+    is_sent(rt, GemReply::S2F44(rspack, Listed::new(rt.alloc())), wanted)
 }
 
 fn is_one_fault(rt: &HostRuntime, stream: u8, strack: u8, functions: &[u8], wanted: &str) -> bool
     requires { length functions.now ≤ 256 }
 {
     match one_stream(rt.alloc(), stream, strack, functions) {
-        Ok(refusals) => is_sent(rt, &GemReply::S2F44(1, refusals), wanted),
+        Ok(refusals) => is_sent(rt, GemReply::S2F44(1, refusals), wanted),
         Err(_) => false,
     }
 }
 
 fn are_three_faults(rt: &HostRuntime, wanted: &str) -> bool {
     match three_streams(rt.alloc()) {
-        Ok(refusals) => is_sent(rt, &GemReply::S2F44(1, refusals), wanted),
+        Ok(refusals) => is_sent(rt, GemReply::S2F44(1, refusals), wanted),
         Err(_) => false,
     }
 }
@@ -293,7 +289,7 @@ fn a_choice_of_streams_is_answered_with_its_faults(rt: HostRuntime) -> Result<()
 // Whether S2F44 with one stream that is refused with 256 functions has these bytes.
 fn are_256_functions(rt: &HostRuntime, wanted: &[u8]) -> bool {
     match one_stream(rt.alloc(), 6, 4, &[12; 256]) {
-        Ok(refusals) => match sent(rt.alloc(), &GemReply::S2F44(1, refusals)) {
+        Ok(refusals) => match sent(rt.alloc(), GemReply::S2F44(1, refusals)) {
             Ok(text) => are_bytes(rt, text.as_slice(), wanted),
             Err(_) => false,
         },

@@ -13,8 +13,14 @@ use secs_items::encode;
 use std::alloc::Global;
 use std::test::Fail;
 
-/// The text of a reply.
-pub fn sent(alloc: Global, reply: &GemReply) -> Result<Vec<u8>, NoMemory>
+/// The text of a reply. It takes the reply, so that no test has to prove how one is let go.
+pub fn sent(alloc: Global, reply: GemReply) -> Result<Vec<u8>, NoMemory>
+    requires { HasSendableParts reply }
+{
+    text_of(alloc, &reply)
+}
+
+fn text_of(alloc: Global, reply: &GemReply) -> Result<Vec<u8>, NoMemory>
     requires { HasSendableParts reply.now }
 {
     let mut text = Vec::new(alloc);

@@ -2,6 +2,7 @@
 
 ghost use Rattle.std.specs.Prelude.{◌<◌};
 
+use crate::wanted::is_none;
 use gem_ids::Text80;
 use gem_rows::{
     RowId, StatusVariable, alarm_text, alids, ceid_of, ceids, is_ceid, is_vid, row_of,
@@ -45,13 +46,21 @@ fn wanted_ceid(ceids: &[u32], table: u8, row: u8) -> Option<u32> {
     }
 }
 
-// The first row of tables 0 to 19 that has another CEID.
-fn false_row(ceids: &[u32]) -> Option<(u8, u8)> {
+// The first row of a table that has another CEID.
+fn false_row_of(ceids: &[u32], table: u8) -> Option<u8> {
+    for row in 0..101 {
+        if ceid_of(RowId { table, row }) != wanted_ceid(ceids, table, row) {
+            return Some(row);
+        }
+    }
+    None
+}
+
+// The first of tables 0 to 19 that has such a row.
+fn false_table(ceids: &[u32]) -> Option<u32> {
     for table in 0..20 {
-        for row in 0..101 {
-            if ceid_of(RowId { table, row }) != wanted_ceid(ceids, table, row) {
-                return Some((table, row));
-            }
+        if false_row_of(ceids, table).is_some() {
+            return Some(u32::from(table));
         }
     }
     None
@@ -82,13 +91,21 @@ fn false_ceid(ceids: &[u32]) -> Option<u32> {
     None
 }
 
-#[test]
-fn each_row_and_its_ceid_name_each_other(rt: HostRuntime) {
-    assert_eq!(rt; false_row(CEIDS.as_slice()), None);
-    assert_eq!(rt; false_ceid(CEIDS.as_slice()), None);
+// The first of three great numbers that has a row.
+fn great_ceid() -> Option<u32> {
     for ceid in [25_801, 65_737, 4_294_967_295] {
-        assert_eq!(rt; row_of(ceid), None, "at {ceid}");
+        if row_of(ceid).is_some() {
+            return Some(ceid);
+        }
     }
+    None
+}
+
+#[test]
+fn each_row_and_its_ceid_name_each_other() -> Result<(), Fail> {
+    is_none(false_table(CEIDS.as_slice()))?;
+    is_none(false_ceid(CEIDS.as_slice()))?;
+    is_none(great_ceid())
 }
 
 // The names of variables, with the numbers of things in them.
@@ -165,9 +182,9 @@ fn false_name(names: &[(u32, &'static [u8])]) -> Option<u32> {
 }
 
 #[test]
-fn each_variable_has_its_name(rt: HostRuntime) {
-    assert_eq!(rt; false_name(NAMES.as_slice()), None);
-    assert_eq!(rt; vid_name(4_294_967_295), None);
+fn each_variable_has_its_name(rt: HostRuntime) -> Result<(), Fail> {
+    assert!(rt; vid_name(4_294_967_295).is_none());
+    is_none(false_name(NAMES.as_slice()))
 }
 
 // The first number below 400 that is a status variable and has no name among theirs, or the other way round, or of which the
@@ -183,16 +200,28 @@ fn false_status(names: &[(u32, &'static [u8])]) -> Option<u32> {
     None
 }
 
+// Some numbers, and their variables.
+const VARIABLES: [(u32, StatusVariable); 4] = [
+    (8, StatusVariable::AlarmsSet),
+    (28, StatusVariable::ChamberSubstrate(8)),
+    (31, StatusVariable::PortTransfer(1)),
+    (54, StatusVariable::PortCarrier(4)),
+];
+
+// The first of these numbers that has another variable.
+fn false_variable(variables: &[(u32, StatusVariable)]) -> Option<u32> {
+    for (vid, variable) in variables {
+        if status_variable(*vid) != Some(*variable) {
+            return Some(*vid);
+        }
+    }
+    None
+}
+
 #[test]
-fn each_status_variable_is_listed(rt: HostRuntime) {
-    assert_eq!(rt; false_status(NAMES.as_slice()), None);
-    assert_eq!(rt; status_variable(8), Some(StatusVariable::AlarmsSet));
-    assert_eq!(rt;
-        status_variable(28),
-        Some(StatusVariable::ChamberSubstrate(8))
-    );
-    assert_eq!(rt; status_variable(31), Some(StatusVariable::PortTransfer(1)));
-    assert_eq!(rt; status_variable(54), Some(StatusVariable::PortCarrier(4)));
+fn each_status_variable_is_listed() -> Result<(), Fail> {
+    is_none(false_status(NAMES.as_slice()))?;
+    is_none(false_variable(VARIABLES.as_slice()))
 }
 
 // The texts of alarms.
@@ -225,8 +254,8 @@ fn false_text(texts: &[(u32, &'static [u8])]) -> Option<u32> {
 }
 
 #[test]
-fn each_alarm_has_its_text(rt: HostRuntime) {
-    assert_eq!(rt; false_text(ALARMS.as_slice()), None);
+fn each_alarm_has_its_text() -> Result<(), Fail> {
+    is_none(false_text(ALARMS.as_slice()))
 }
 
 // The variables of ports and chambers, for one port and two chambers; for two and one; for the largest plant.
@@ -261,22 +290,20 @@ fn false_vid(names: &[(u32, &'static [u8])], ports: u8, chambers: u8, own: &[u32
     None
 }
 
-// The first plant and number for which that is so.
-fn false_plant(
-    names: &[(u32, &'static [u8])],
-    plants: &[(u8, u8, &[u32])],
-) -> Option<(u8, u8, u32)> {
+// The first number for which that is so of the first such plant.
+fn false_plant(names: &[(u32, &'static [u8])], plants: &[(u8, u8, &[u32])]) -> Option<u32> {
     for (ports, chambers, own) in plants {
-        if let Some(vid) = false_vid(names, *ports, *chambers, own) {
-            return Some((*ports, *chambers, vid));
+        let vid = false_vid(names, *ports, *chambers, own);
+        if vid.is_some() {
+            return vid;
         }
     }
     None
 }
 
 #[test]
-fn a_plant_knows_the_variables_of_its_own_ports_and_chambers(rt: HostRuntime) {
-    assert_eq!(rt; false_plant(NAMES.as_slice(), OWN.as_slice()), None);
+fn a_plant_knows_the_variables_of_its_own_ports_and_chambers() -> Result<(), Fail> {
+    is_none(false_plant(NAMES.as_slice(), OWN.as_slice()))
 }
 
 // Whether a plant has these alarms.

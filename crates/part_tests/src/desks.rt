@@ -1,5 +1,6 @@
 //! A desk in memory (`tool_events`).
 
+use crate::wanted::is_text;
 use gem_ids::{Moment, PortNo};
 use hsms_frame::{Arrival, Bytes, Frame, Header};
 use std::alloc::Global;
@@ -90,14 +91,18 @@ fn takes(alloc: Global) -> Result<Vec<Event>, Fail> {
     Ok(vec![in alloc; Event::LinkUp, take, Event::Take { session: 3 }]?)
 }
 
+// What is told of them.
+fn frame_taken(alloc: Global) -> Result<String, Fail> {
+    let events = takes(alloc)?;
+    told(alloc, of_a_frame(alloc)?, events)
+}
+
 #[test]
 fn posts_are_answered_from_the_list_and_recorded(rt: HostRuntime) -> Result<(), Fail> {
-    let alloc = rt.alloc();
-    assert_eq!(rt;
-        told(alloc, of_a_frame(alloc)?, takes(alloc)?)?.as_str(),
-        "Session(3)\nAgain\nframe\nLinkUp: Session(3)\nTake { session: 3 }: frame\n(0, 0, 0)"
-    );
-    Ok(())
+    is_text(
+        frame_taken(rt.alloc())?.as_str(),
+        "Session(3)\nAgain\nframe\nLinkUp: Session(3)\nTake { session: 3 }: frame\n(0, 0, 0)",
+    )
 }
 
 // A desk that has nothing but this.
@@ -109,14 +114,22 @@ fn of_two(
     Ok(MemDesk::new(alloc, vec![in alloc; first, Err(second)]?))
 }
 
+// What is told where Listen would be done, and a link would have to wait.
+fn falsely_answered(alloc: Global) -> Result<String, Fail> {
+    let events = vec![in alloc; Event::Listen, Event::LinkUp, Event::Watch(PortNo(1))]?;
+    told(
+        alloc,
+        of_two(alloc, Ok(Answer::Done), PostFault::Again)?,
+        events,
+    )
+}
+
 #[test]
 fn what_an_event_may_not_have_is_ended(rt: HostRuntime) -> Result<(), Fail> {
-    let alloc = rt.alloc();
-    let mut desk = of_two(alloc, Ok(Answer::Done), PostFault::Again)?;
-    let events = vec![in alloc; Event::Listen, Event::LinkUp, Event::Watch(PortNo(1))]?;
-    let answers = all_posted(alloc, &mut desk, events)?;
-    assert_eq!(rt; answers.as_str(), "Ended\nEnded\nEnded\n");
-    Ok(())
+    is_text(
+        falsely_answered(rt.alloc())?.as_str(),
+        "Ended\nEnded\nEnded\nListen: Ended\nLinkUp: Ended\nWatch(PortNo(1)): Ended\n(0, 0, 0)",
+    )
 }
 
 // A message of the host comes, and the clock is looked at.
@@ -125,11 +138,20 @@ fn message_and_tick(alloc: Global) -> Result<Vec<Event>, Fail> {
     Ok(vec![in alloc; host_message(text), Event::Tick]?)
 }
 
+// What is told where both are refused.
+fn refused(alloc: Global) -> Result<String, Fail> {
+    let events = message_and_tick(alloc)?;
+    told(
+        alloc,
+        of_two(alloc, Err(PostFault::Full(9)), PostFault::NoMemory)?,
+        events,
+    )
+}
+
 #[test]
 fn the_text_of_the_last_full_post_is_told(rt: HostRuntime) -> Result<(), Fail> {
-    let alloc = rt.alloc();
-    let desk = of_two(alloc, Err(PostFault::Full(9)), PostFault::NoMemory)?;
-    let told = told(alloc, desk, message_and_tick(alloc)?)?;
-    assert_eq!(rt; told.as_str(), "Full(9)\nNoMemory\n(1, 1, 5)");
-    Ok(())
+    is_text(
+        refused(rt.alloc())?.as_str(),
+        "Full(9)\nNoMemory\n(1, 1, 5)",
+    )
 }

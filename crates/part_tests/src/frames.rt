@@ -137,7 +137,7 @@ fn half_arrives(alloc: Global) -> Result<[bool; 2], Fail> {
 
 #[test]
 fn two_frames_and_a_half_in_one_piece(rt: HostRuntime) -> Result<(), Fail> {
-    assert_eq!(rt; half_arrives(rt.alloc())?, [true, true]);
+    assert!(rt; half_arrives(rt.alloc())? == [true, true]);
     Ok(())
 }
 
@@ -163,11 +163,8 @@ fn five_are_skipped(alloc: Global, piece: usize) -> Result<bool, Fail> {
 fn a_text_over_the_greatest_is_skipped_and_the_next_frame_arrives(
     rt: HostRuntime,
 ) -> Result<(), Fail> {
-    let skipped = [
-        five_are_skipped(rt.alloc(), 32)?,
-        five_are_skipped(rt.alloc(), 1)?,
-    ];
-    assert_eq!(rt; skipped, [true, true]);
+    assert!(rt; five_are_skipped(rt.alloc(), 32)?);
+    assert!(rt; five_are_skipped(rt.alloc(), 1)?);
     Ok(())
 }
 
@@ -187,7 +184,7 @@ fn short_length(alloc: Global) -> Result<([Result<(), CutFault>; 3], bool), Fail
 #[test]
 fn a_short_length_is_told_for_good(rt: HostRuntime) -> Result<(), Fail> {
     let short = Err(CutFault::ShortLength(9));
-    assert_eq!(rt; short_length(rt.alloc())?, ([short; 3], true));
+    assert!(rt; short_length(rt.alloc())? == ([short; 3], true));
     Ok(())
 }
 
@@ -202,7 +199,7 @@ fn data_written(alloc: Global) -> Result<Vec<u8>, Fail> {
 
 #[test]
 fn frames_are_written_with_the_most_significant_byte_first(rt: HostRuntime) -> Result<(), Fail> {
-    assert_eq!(rt; write_header(select()), SELECT);
-    assert_eq!(rt; data_written(rt.alloc())?.as_slice(), DATA.as_slice());
+    assert!(rt; write_header(select()) == SELECT);
+    assert!(rt; data_written(rt.alloc())?.as_slice() == DATA.as_slice());
     Ok(())
 }

@@ -3,7 +3,9 @@
 ghost use Rattle.std.specs.Prelude.{◌≡◌, IfOk};
 ghost use Rattle.item_model.specs.Data.{ascii as ascii_data};
 ghost use Rattle.item_model.specs.View.{view};
+ghost use Rattle.item_model.specs.Sendable.{IsSendable};
 
+use crate::wanted::is_text;
 use item_model::{Bytes, Item, ItemFault, Items, NoMemory, U16s};
 use secs_items::encode;
 use std::alloc::Global;
@@ -15,13 +17,20 @@ fn ascii(alloc: Global, text: &[u8]) -> Result<Item, NoMemory>
     Ok(Item::Ascii(Bytes::from_vec(Vec::from_slice(alloc, text)?)))
 }
 
-// What the tool tells of itself, behind a byte that stands there before.
-fn model_and_revision(alloc: Global) -> Result<Vec<u8>, NoMemory> {
+// What the tool tells of itself.
+fn two_texts(alloc: Global) -> Result<Item, NoMemory>
+    ensures { IfOk result (λ item. IsSendable (view item)) }
+{
     let mut items = Items::new(alloc);
     items.push(ascii(alloc, b"GEM300")?)?;
     items.push(ascii(alloc, b"1.0.00")?)?;
+    Ok(Item::List(items))
+}
+
+// The same, behind a byte that stands there before.
+fn model_and_revision(alloc: Global) -> Result<Vec<u8>, NoMemory> {
     let mut out = vec![in alloc; 0xEE]?;
-    encode(&Item::List(items), &mut out)?;
+    encode(&two_texts(alloc)?, &mut out)?;
     Ok(out)
 }
 
@@ -33,8 +42,7 @@ fn told(alloc: Global) -> Result<String, Fail> {
 #[test]
 fn a_list_of_two_texts_is_appended(rt: HostRuntime) -> Result<(), Fail> {
     let want = "EE0102410647454D3330304106312E302E3030";
-    assert_eq!(rt; told(rt.alloc())?.as_str(), want);
-    Ok(())
+    is_text(told(rt.alloc())?.as_str(), want)
 }
 
 // Faults as they are printed, each in its line.
@@ -65,8 +73,7 @@ out of memory
 
 #[test]
 fn a_fault_is_printed_with_its_place(rt: HostRuntime) -> Result<(), Fail> {
-    assert_eq!(rt; printed(rt.alloc())?.as_str(), PRINTED);
-    Ok(())
+    is_text(printed(rt.alloc())?.as_str(), PRINTED)
 }
 
 // Lists and elements made of vectors, and the vectors taken out of them.

@@ -21,3 +21,5 @@ mod notes;
 mod spooling;
 #[cfg(test)]
 mod system_bytes;
+#[cfg(test)]
+mod wanted;

@@ -1,5 +1,7 @@
 //! The line of notes (`note_line`), with a thousand notes.
 
+ghost use Rattle.std.specs.Prelude.{◌≡◌, length, IfOk};
+
 use hsms_frame::Bytes;
 use note_line::{Around, Fate, Kind, Note, NoteLine, SpooledKinds};
 use spool::{Load, Unload};
@@ -54,7 +56,9 @@ fn rows(line: &mut NoteLine, around: Around) {
 }
 
 // The text of an event: two bytes.
-fn text(alloc: Global) -> Result<Bytes, AllocError> {
+fn text(alloc: Global) -> Result<Bytes, AllocError>
+    ensures { IfOk result (λ text. length text ≡ 2) }
+{
     Ok(Bytes::from_vec(Vec::from_slice(alloc, &[1, 1])?))
 }
 

@@ -30,6 +30,14 @@ fn six_messages_have_an_ignored_text(rt: HostRuntime) {
     assert_eq!(rt; false_ignored(IGNORED.as_slice()), None);
 }
 
+// The fault of function 9 of a stream.
+fn fault_of(alloc: Global, stream: u8) -> Option<BodyFault> {
+    match &read_gem(alloc, stream, 9, None) {
+        Err(fault) => Some(*fault),
+        Ok(_) => None,
+    }
+}
+
 // The first stream whose function 9 has another fault than that the function is unknown, of a stream that some message
 // has, or else that the stream is.
 fn false_fault(alloc: Global) -> Option<u8> {
@@ -39,7 +47,7 @@ fn false_fault(alloc: Global) -> Option<u8> {
         } else {
             BodyFault::UnknownStream
         };
-        if !matches!(&read_gem(alloc, stream, 9, None), Err(fault) if *fault == want) {
+        if fault_of(alloc, stream) != Some(want) {
             return Some(stream);
         }
     }

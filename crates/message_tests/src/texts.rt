@@ -1,6 +1,7 @@
 //! Texts of the tool's replies and primaries, and of their parts.
 
 ghost use Rattle.std.specs.Prelude.{IfOk};
+ghost use Rattle.item_model.specs.Sendable.{IsSendable};
 ghost use Rattle.item_model.specs.View.{view};
 ghost use Rattle.item_model.specs.Weight.{IsBounded};
 ghost use Rattle.message_model.specs.GemSendable.{HasSendableParts};
@@ -23,8 +24,16 @@ pub fn sent(alloc: Global, reply: GemReply) -> Result<Vec<u8>, NoMemory>
 fn text_of(alloc: Global, reply: &GemReply) -> Result<Vec<u8>, NoMemory>
     requires { HasSendableParts reply.now }
 {
+    let item = gem_item(alloc, reply)?;
+    encoded(alloc, &item)
+}
+
+// The bytes of an item.
+fn encoded(alloc: Global, item: &Item) -> Result<Vec<u8>, NoMemory>
+    requires { IsSendable (view item.now) }
+{
     let mut text = Vec::new(alloc);
-    encode(&gem_item(alloc, reply)?, &mut text)?;
+    encode(item, &mut text)?;
     Ok(text)
 }
 

@@ -27,51 +27,59 @@ fn host_message(text: Vec<u8>) -> Event {
     }
 }
 
-fn answer_text(alloc: Global, answer: &Answer) -> Result<String, Fail> {
+// Adds an answer, as its own line: a frame by its text, and others as they are printed.
+fn add_answer(text: &mut String, answer: &Answer) -> Option<()> {
     match answer {
-        Answer::Frame(frame) => Ok(String::from_utf8_lossy(alloc, frame.as_slice())?),
-        other => Ok(format!(in alloc; "{other:?}")?),
+        Answer::Frame(frame) => text.push_str(str::from_utf8(frame.as_slice()).ok()?).ok()?,
+        other => write!(text, "{other:?}").ok()?,
+    }
+    text.push('\n').ok()
+}
+
+// Adds what a post is answered.
+fn add_posted(text: &mut String, desk: &mut MemDesk, event: Event) -> Option<()> {
+    match &desk.post(AT, event) {
+        Ok(answer) => add_answer(text, answer),
+        Err(fault) => write!(text, "{fault:?}\n").ok(),
     }
 }
 
-// What a post is answered, as its own line.
-fn posted(alloc: Global, desk: &mut MemDesk, event: Event) -> Result<String, Fail> {
-    match desk.post(AT, event) {
-        Ok(answer) => Ok(format!(in alloc; "{}\n", answer_text(alloc, &answer)?)?),
-        Err(fault) => Ok(format!(in alloc; "{fault:?}\n")?),
-    }
-}
-
-// What each of these posts is answered.
-fn all_posted(alloc: Global, desk: &mut MemDesk, events: Vec<Event>) -> Result<String, Fail> {
-    let mut text = String::new(alloc);
+// Adds what each of these posts is answered.
+fn add_all_posted(text: &mut String, desk: &mut MemDesk, events: Vec<Event>) -> Option<()> {
     for event in events {
-        text.push_str(posted(alloc, desk, event)?.as_str())?;
+        add_posted(text, desk, event)?;
     }
-    Ok(text)
+    Some(())
 }
 
-// The posts that are recorded, each with its answer.
-fn recorded(alloc: Global, desk: &MemDesk) -> Result<String, Fail> {
-    let mut text = String::new(alloc);
+// Adds the posts that are recorded, each with its answer.
+fn add_recorded(text: &mut String, desk: &MemDesk) -> Option<()> {
     for post in desk.posts() {
-        let answer = answer_text(alloc, &post.answer)?;
-        text.push_str(format!(in alloc; "{:?}: {answer}\n", post.event)?.as_str())?;
+        write!(text, "{:?}: ", post.event).ok()?;
+        add_answer(text, &post.answer)?;
     }
-    Ok(text)
+    Some(())
 }
 
-// How many posts found the history full or no memory, and the text of the last that found it full.
-fn counts(desk: &MemDesk) -> (u64, u64, u64) {
-    (desk.fulls(), desk.wants(), desk.full_bytes())
+// Adds how many posts found the history full or no memory, and the text of the last that found it full.
+fn add_counts(text: &mut String, desk: &MemDesk) -> Option<()> {
+    let counts = [desk.fulls(), desk.wants(), desk.full_bytes()];
+    write!(text, "{counts:?}").ok()
 }
 
 // What each of these posts is answered, the posts that are recorded then, and the counts.
 fn told(alloc: Global, mut desk: MemDesk, events: Vec<Event>) -> Result<String, Fail> {
-    let answers = all_posted(alloc, &mut desk, events)?;
-    let recorded = recorded(alloc, &desk)?;
-    let counts = counts(&desk);
-    Ok(format!(in alloc; "{answers}{recorded}{counts:?}")?)
+    let mut text = String::new(alloc);
+    match add_all(&mut text, &mut desk, events) {
+        Some(()) => Ok(text),
+        None => Err(Fail::new("there is no memory, or no text")),
+    }
+}
+
+fn add_all(text: &mut String, desk: &mut MemDesk, events: Vec<Event>) -> Option<()> {
+    add_all_posted(text, desk, events)?;
+    add_recorded(text, desk)?;
+    add_counts(text, desk)
 }
 
 // A desk that gives a session, has to be asked again, and gives a frame.
@@ -101,7 +109,7 @@ fn frame_taken(alloc: Global) -> Result<String, Fail> {
 fn posts_are_answered_from_the_list_and_recorded(rt: HostRuntime) -> Result<(), Fail> {
     is_text(
         frame_taken(rt.alloc())?.as_str(),
-        "Session(3)\nAgain\nframe\nLinkUp: Session(3)\nTake { session: 3 }: frame\n(0, 0, 0)",
+        "Session(3)\nAgain\nframe\nLinkUp: Session(3)\nTake { session: 3 }: frame\n[0, 0, 0]",
     )
 }
 
@@ -128,7 +136,7 @@ fn falsely_answered(alloc: Global) -> Result<String, Fail> {
 fn what_an_event_may_not_have_is_ended(rt: HostRuntime) -> Result<(), Fail> {
     is_text(
         falsely_answered(rt.alloc())?.as_str(),
-        "Ended\nEnded\nEnded\nListen: Ended\nLinkUp: Ended\nWatch(PortNo(1)): Ended\n(0, 0, 0)",
+        "Ended\nEnded\nEnded\nListen: Ended\nLinkUp: Ended\nWatch(PortNo(1)): Ended\n[0, 0, 0]",
     )
 }
 
@@ -152,6 +160,6 @@ fn refused(alloc: Global) -> Result<String, Fail> {
 fn the_text_of_the_last_full_post_is_told(rt: HostRuntime) -> Result<(), Fail> {
     is_text(
         refused(rt.alloc())?.as_str(),
-        "Full(9)\nNoMemory\n(1, 1, 5)",
+        "Full(9)\nNoMemory\n[1, 1, 5]",
     )
 }

@@ -102,8 +102,19 @@ fn four_arrive(alloc: Global, piece: usize) -> Result<bool, Fail> {
     let text = long_text(alloc)?;
     let stream = joined(alloc, &[&SELECT, &LONG_FRONT, &text, &DATA, &SELECT])?;
     let piece = if piece == 0 { stream.len() } else { piece };
-    let out = arrivals(alloc, GREATEST, &stream, piece)?;
-    Ok(are_four(&out, &text) && written(alloc, &out)?.as_slice() == stream.as_slice())
+    are_four_again(alloc, &stream, &text, piece)
+}
+
+// The same of this stream, in which this long text is.
+fn are_four_again(alloc: Global, stream: &[u8], text: &[u8], piece: usize) -> Result<bool, Fail> {
+    let out = arrivals(alloc, GREATEST, stream, piece)?;
+    let are_written = are_written(alloc, &out, stream)?;
+    Ok(are_written && are_four(&out, text))
+}
+
+// Whether the frames that arrived are these bytes, written one behind the other.
+fn are_written(alloc: Global, out: &[Arrival], stream: &[u8]) -> Result<bool, Fail> {
+    Ok(written(alloc, out)?.as_slice() == stream)
 }
 
 #[test]
@@ -129,10 +140,10 @@ fn half_arrives(alloc: Global) -> Result<[bool; 2], Fail> {
     let piece = joined(alloc, &[&SELECT, &DATA, &DATA[..8]])?;
     let mut cutter = Cutter::new(alloc, GREATEST)?;
     let mut out = Vec::new(alloc);
-    cutter.feed(alloc, &piece, &mut out)?;
-    let are_two = are_select_and_data(&out, 1);
-    cutter.feed(alloc, &DATA[8..], &mut out)?;
-    Ok([are_two, are_select_and_data(&out, 2)])
+    let are_fed = cutter.feed(alloc, &piece, &mut out).is_ok();
+    let are_two = are_fed && are_select_and_data(&out, 1);
+    let are_fed = cutter.feed(alloc, &DATA[8..], &mut out).is_ok();
+    Ok([are_two, are_fed && are_select_and_data(&out, 2)])
 }
 
 #[test]

@@ -1,48 +1,42 @@
 //! The subjects of the texts, and how they begin.
 
 use crate::acts::Acts;
-use crate::clocks::{Dated, Gated, Listed};
-use crate::doors::DoorOf;
-use crate::loopback::Loopback;
 use crate::lots::Lots;
-use crate::machine::Machine;
 use crate::seat::Seat;
-use crate::set_clock::SetClock;
-use crate::sinks::Sunk;
-use crate::words::{numbers, point};
 use anyhow::{Result, bail};
 use conversation_files::Line;
-use outside::{HoldGate, OpenGate, SleepGate};
 use std::alloc::Global;
-use std::net::{Net, TcpListener, TcpStream};
 use std::sync::Wait;
 use std::thread::Threads;
-use std::time::Clock;
 use test_lines::{Subject, Texts, answers};
 
-/// What lies outside of the tool, the actors, the simulated modules and the lines of a batch.
+/// The actors, the simulated modules and the lines of a batch.
 #[derive(Drop)]
 pub struct Actors<'a, R> {
-    pub host: &'a HostRuntime,
     pub rt: &'a R,
 }
 
 // Whether lines go as they are written; the fault of the first that does not.
 type Played = Result<Option<String>>;
 
-impl<R: Threads + Wait + Sync + Net<Listener = TcpListener, Stream = TcpStream> + Clock> Texts
-    for Actors<'_, R> {
+impl<R: Threads + Wait + Sync> Texts for Actors<'_, R> {
     fn play(&self, alloc: Global, begins: &str, lines: &[Line<'_>]) -> Result<Option<String>> {
         match begins {
             "to a desk" => answers(alloc, &mut Seat::new(self.rt, alloc), lines),
-            "to the machine" => answers(alloc, &mut Machine::new(self.host, self.rt), lines),
-            "to a door of the machine" => answers(alloc, &mut Loopback::new(self.rt), lines),
             "to numbers that are drawn" => answers(alloc, &mut Acts::none(), lines),
-            _ => match begins.split_once("to a gate that ") {
-                Some(("", words)) => play_gate(alloc, words, lines),
-                _ => play_kinds(alloc, begins, lines),
-            },
+            _ => play_kinds(alloc, begins, lines),
         }
+    }
+}
+
+// Says lines to a module, or to a batch under a configuration.
+fn play_kinds(alloc: Global, begins: &str, lines: &[Line<'_>]) -> Played {
+    if let Some(words) = begins.strip_prefix("to module ") {
+        return play_some(alloc, Acts::of(alloc, words), lines);
+    }
+    match begins.strip_prefix("to a batch under ") {
+        Some(words) => play_some(alloc, Lots::under(alloc, words), lines),
+        None => bail!("there is no such subject"),
     }
 }
 
@@ -52,85 +46,4 @@ fn play_some<S: Subject + Drop>(alloc: Global, subject: Option<S>, lines: &[Line
         Some(mut subject) => answers(alloc, &mut subject, lines),
         None => bail!("there is no such subject, or no memory"),
     }
-}
-
-// Says lines to a subject of some kind, which begins as its first line says.
-fn play_kinds(alloc: Global, begins: &str, lines: &[Line<'_>]) -> Played {
-    let Some((kind, words)) = kind_of(begins) else {
-        bail!("there is no such subject");
-    };
-    match kind {
-        "to a door of " => play_some(alloc, DoorOf::named(alloc, words), lines),
-        "to a sink" => play_some(alloc, Sunk::named(alloc, words), lines),
-        "to module " => play_some(alloc, Acts::of(alloc, words), lines),
-        "to a batch under " => play_some(alloc, Lots::under(alloc, words), lines),
-        "to a clock of " => play_some(alloc, listed(alloc, words), lines),
-        _ => play_date(alloc, words, lines),
-    }
-}
-
-// The kind of a subject, and the words behind it.
-fn kind_of(begins: &str) -> Option<(&str, &str)> {
-    for kind in KINDS {
-        if let Some(words) = begins.strip_prefix(kind) {
-            return Some((kind, words));
-        }
-    }
-    None
-}
-
-const KINDS: [&str; 6] = [
-    "to a door of ",
-    "to a sink",
-    "to module ",
-    "to a batch under ",
-    "to a clock of ",
-    "to the system's clock at ",
-];
-
-// A clock that gives these moments.
-fn listed(alloc: Global, words: &str) -> Option<Listed> {
-    let words = if words == "none" { "" } else { words };
-    Listed::of(alloc, numbers(alloc, words)?.as_slice())
-}
-
-// Says lines to the system's clock, at a date in milliseconds since 1970, after so many milliseconds.
-fn play_date(alloc: Global, words: &str, lines: &[Line<'_>]) -> Played {
-    let Some(system) = dated(words) else {
-        bail!("there is no such date");
-    };
-    answers(alloc, &mut Dated::new(&system), lines)
-}
-
-fn dated(words: &str) -> Option<SetClock> {
-    let (date, passed) = words.split_once(" after ").unwrap_or((words, "0"));
-    let system = SetClock::at(date.parse::<u64>().ok()?);
-    system.set(passed.parse::<u64>().ok()?);
-    Some(system)
-}
-
-// Says lines to a gate.
-fn play_gate(alloc: Global, words: &str, lines: &[Line<'_>]) -> Played {
-    let system = &SetClock::at(0);
-    match words {
-        "is open" => play_at(alloc, system, OpenGate, lines),
-        "sleeps" => play_at(alloc, system, SleepGate::new(system), lines),
-        _ => play_some(alloc, holding(system, words), lines),
-    }
-}
-
-fn play_at<G: outside::Gate + Drop>(
-    alloc: Global,
-    system: &SetClock,
-    gate: G,
-    lines: &[Line<'_>],
-) -> Played {
-    answers(alloc, &mut Gated { system, gate }, lines)
-}
-
-// A gate that holds who passes a point until another was passed.
-fn holding<'a>(system: &'a SetClock, words: &str) -> Option<Gated<'a, HoldGate<'a, SetClock>>> {
-    let (held, until) = words.strip_prefix("holds ")?.split_once(" until ")?;
-    let gate = HoldGate::new(system, point(held)?, point(until)?);
-    Some(Gated { system, gate })
 }

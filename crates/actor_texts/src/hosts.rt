@@ -40,11 +40,15 @@ fn host_at<R: Threads + Wait + Sync>(
     let mut sessions = Vec::new(alloc);
     let end = host_all(seat.rt, alloc, reader, writer, door, &mut sessions, &passes);
     write!(answer, "{end:?}").ok()?;
-    add_posts(alloc, told, reader)?;
-    add_posts(alloc, told, writer)?;
+    tell_desks(alloc, told, reader, writer)?;
     add_door(alloc, told, door)?;
     add_sessions(told, sessions.as_slice())?;
     passes.add_counts(told)
+}
+
+fn tell_desks(alloc: Global, told: &mut String, reader: &MemDesk, writer: &MemDesk) -> Option<()> {
+    add_posts(alloc, told, reader)?;
+    add_posts(alloc, told, writer)
 }
 
 fn host_all<R: Threads + Wait + Sync>(
@@ -59,18 +63,27 @@ fn host_all<R: Threads + Wait + Sync>(
     run_host(rt, alloc, reader, writer, door, sessions, passes)
 }
 
-// The door of these words.
+// The door of these words: how many links it has, and whether it is closed behind them.
 fn door<R>(alloc: Global, seat: &Seat<'_, R>, words: &str) -> Option<MemDoor> {
-    let fails = Vec::from_slice(alloc, seat.fails.as_slice()).ok()?;
-    let links = match words.split_once(' ')?.0 {
-        "0" => Vec::new(alloc),
-        "1" => one_link(alloc, seat.bytes.as_slice())?,
-        _ => return None,
-    };
-    let door = MemDoor::new(alloc, links, fails).ok()?;
-    match words.split_once(' ')?.1 {
+    let (count, end) = words.split_once(' ')?;
+    let door = waiting(alloc, count, seat.bytes.as_slice(), seat.fails.as_slice())?;
+    match end {
         "open" => Some(door),
         "closed" => Some(door.with_end()),
+        _ => None,
+    }
+}
+
+// A door of so many links, whose calls of these numbers fail.
+fn waiting(alloc: Global, count: &str, bytes: &[u8], fails: &[u64]) -> Option<MemDoor> {
+    let fails = Vec::from_slice(alloc, fails).ok()?;
+    MemDoor::new(alloc, links(alloc, count, bytes)?, fails).ok()
+}
+
+fn links(alloc: Global, count: &str, bytes: &[u8]) -> Option<Vec<(MemIn, MemOut)>> {
+    match count {
+        "0" => Some(Vec::new(alloc)),
+        "1" => one_link(alloc, bytes),
         _ => None,
     }
 }

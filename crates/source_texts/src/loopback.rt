@@ -116,17 +116,31 @@ fn say_others<R>(
     said: &str,
     answer: &mut String,
 ) -> Option<()> {
-    match said.split_once(' ').unwrap_or((said, "")) {
-        ("port", _) => write!(answer, "{}", loopback.door.port().is_some()).ok(),
-        ("counts", _) => add_counts(answer, &loopback.door),
-        ("waits", _) => write!(answer, "{}", loopback.door.waits()).ok(),
-        ("leave", _) => {
+    match said {
+        "port" => write!(answer, "{}", loopback.door.port().is_some()).ok(),
+        "counts" => add_counts(answer, &loopback.door),
+        "waits" => write!(answer, "{}", loopback.door.waits()).ok(),
+        "leave" => {
             loopback.peer = None;
             Some(())
         }
-        ("ask", text) => loopback.peer.as_mut()?.write_all(text.as_bytes()).ok(),
-        ("hear", count) => hear(loopback.peer.as_mut()?, alloc, count, answer),
-        (word, rest) => say_link(loopback.link.as_mut()?, word, rest, answer),
+        _ => say_ends(&mut loopback.link, &mut loopback.peer, alloc, said, answer),
+    }
+}
+
+// What the peer does, or is done with the link.
+fn say_ends(
+    link: &mut Option<(TcpIn, TcpOut)>,
+    peer: &mut Option<TcpStream>,
+    alloc: Global,
+    said: &str,
+    answer: &mut String,
+) -> Option<()> {
+    let (word, rest) = said.split_once(' ').unwrap_or((said, ""));
+    match word {
+        "ask" => peer.as_mut()?.write_all(rest.as_bytes()).ok(),
+        "hear" => hear(peer.as_mut()?, alloc, rest, answer),
+        _ => say_link(link.as_mut()?, word, rest, answer),
     }
 }
 

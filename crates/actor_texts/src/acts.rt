@@ -63,6 +63,8 @@ fn add_drawn(acts: &mut Acts, number: u64, answer: &mut String) -> Option<()> {
 }
 
 fn act(acts: &mut Acts, number: u64) -> Option<Signal> {
+    // The borrow checker has to be told here of the type that a command holds.
+    let _: Option<Task> = None;
     let command = process(number)?;
     Some(acts.module.as_mut()?.act(&command))
 }

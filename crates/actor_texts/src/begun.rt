@@ -7,7 +7,6 @@ use anyhow::{Result, bail};
 use conversation_files::Line;
 use std::alloc::Global;
 use std::sync::Wait;
-use std::thread::Threads;
 use test_lines::{Subject, Texts, answers};
 
 /// The actors, the simulated modules and the lines of a batch.
@@ -19,7 +18,7 @@ pub struct Actors<'a, R> {
 // Whether lines go as they are written; the fault of the first that does not.
 type Played = Result<Option<String>>;
 
-impl<R: Threads + Wait + Sync> Texts for Actors<'_, R> {
+impl<R: Wait> Texts for Actors<'_, R> {
     fn play(&self, alloc: Global, begins: &str, lines: &[Line<'_>]) -> Result<Option<String>> {
         match begins {
             "to a desk" => answers(alloc, &mut Seat::new(self.rt, alloc), lines),

@@ -9,7 +9,6 @@
 
 mod acts;
 mod begun;
-mod hosts;
 mod lots;
 mod outcomes;
 mod passes;

@@ -1,26 +1,23 @@
-//! An actor at a desk in memory (`actors`, `host_actor`): what it posted, what it was answered, and how it ended.
+//! An actor at a desk in memory (`actors`): what it posted, what it was answered, and how it ended.
 //!
-//! `answers done, again` is what the desk answers, as `outcomes` says, and `writer frame de, ended` what that of the host actor's
-//! writers does. `line O local`, `text O up 3` and `bytes 0AFF` put a text with a line feed, one without, and bytes behind what
-//! comes in; `bytes 23 700000` puts these bytes as often. `fails 2 4` is which reads, writes, acts or calls of a door fail.
+//! `answers done, again` is what the desk answers, as `outcomes` says. `line O local`, `text O up 3` and `bytes 0AFF` put a text with a line feed, one without, and bytes behind what
+//! comes in; `bytes 23 700000` puts these bytes as often. `fails 2 4` is which reads, writes or acts fail.
 //!
 //! Then an actor runs, and what it answers is how it ended, and how many bytes it read or wrote: `read 5` is the reader of session
 //! 7, whose reads give five bytes at most; `operate 5` an operator, whose script is read so; `write 4` the writer of session 2, at a
-//! link that takes four bytes and no more; `module` the module of number 3; `time` the clock, with how often it was read, and how many
-//! hundredths it waited; `host 1 closed` the host actor, at a door of one link, or of none, that is closed behind it, or `open`.
+//! link that takes four bytes and no more; `module` the module of number 3; and `time` the clock, with how often it was read, and how many
+//! hundredths it waited.
 //! Each time `then` tells what is to be told line by line: the posts, how many were answered `Full` and `NoMemory`, what became
-//! of the link or the door, and which points were passed; and `the end` behind them.
+//! of the link, and which points were passed; and `the end` behind them.
 //!
 //! `says W 255` tells what a line says in a script, and `said` what the bytes that come in do.
 
-use crate::hosts::host;
 use crate::played::{keep, operate_script, read, run, write};
 use crate::words::told;
 use anyhow::Result;
 use outside::MemSource;
 use std::alloc::Global;
 use std::sync::Wait;
-use std::thread::Threads;
 use test_lines::{Subject, bytes};
 use tool_texts::read_script_line;
 
@@ -29,7 +26,6 @@ use tool_texts::read_script_line;
 pub struct Seat<'a, R> {
     pub rt: &'a R,
     pub answers: String,
-    pub writer: String,
     pub bytes: Vec<u8>,
     pub fails: Vec<u64>,
     pub told: String,
@@ -42,7 +38,6 @@ impl<'a, R> Seat<'a, R> {
         Seat {
             rt,
             answers: String::new(alloc),
-            writer: String::new(alloc),
             bytes: Vec::new(alloc),
             fails: Vec::new(alloc),
             told: String::new(alloc),
@@ -59,7 +54,7 @@ impl<'a, R> Seat<'a, R> {
     }
 }
 
-impl<R: Threads + Wait + Sync> Subject for Seat<'_, R> {
+impl<R: Wait> Subject for Seat<'_, R> {
     fn answer(&mut self, alloc: Global, said: &str) -> Result<String> {
         let mut answer = String::new(alloc);
         let said = say(alloc, self, said, &mut answer);
@@ -68,7 +63,7 @@ impl<R: Threads + Wait + Sync> Subject for Seat<'_, R> {
 }
 
 // Says a line; the answer. None where it says nothing.
-fn say<R: Threads + Wait + Sync>(
+fn say<R: Wait>(
     alloc: Global,
     seat: &mut Seat<'_, R>,
     said: &str,
@@ -78,7 +73,6 @@ fn say<R: Threads + Wait + Sync>(
     match word {
         "then" => tell_next(seat, answer),
         "answers" => keep_words(&mut seat.answers, rest),
-        "writer" => keep_words(&mut seat.writer, rest),
         "fails" => keep_fails(&mut seat.fails, rest),
         "line" | "text" | "bytes" => come_in(alloc, &mut seat.bytes, word, rest),
         "says" => add_said(answer, rest.as_bytes()),
@@ -140,7 +134,7 @@ fn add_said(answer: &mut String, line: &[u8]) -> Option<()> {
 }
 
 // An actor begins and ends, and what is told of it begins anew.
-fn begin<R: Threads + Wait + Sync>(
+fn begin<R: Wait>(
     alloc: Global,
     seat: &mut Seat<'_, R>,
     actor: &str,
@@ -155,7 +149,6 @@ fn begin<R: Threads + Wait + Sync>(
         "write" => write(alloc, seat, rest, answer),
         "module" => run(alloc, seat, answer),
         "time" => keep(alloc, seat, answer),
-        "host" => host(alloc, seat, rest, answer),
         _ => None,
     }
 }

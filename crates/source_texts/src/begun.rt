@@ -12,7 +12,6 @@ use conversation_files::Line;
 use outside::{HoldGate, OpenGate, SleepGate};
 use std::alloc::Global;
 use std::net::{Net, TcpListener, TcpStream};
-use std::thread::Threads;
 use std::time::Clock;
 use test_lines::{Subject, Texts, answers};
 
@@ -26,11 +25,10 @@ pub struct Outside<'a, R> {
 // Whether lines go as they are written; the fault of the first that does not.
 type Played = Result<Option<String>>;
 
-impl<R: Threads + Sync + Net<Listener = TcpListener, Stream = TcpStream> + Clock> Texts
-    for Outside<'_, R> {
+impl<R: Net<Listener = TcpListener, Stream = TcpStream> + Clock> Texts for Outside<'_, R> {
     fn play(&self, alloc: Global, begins: &str, lines: &[Line<'_>]) -> Result<Option<String>> {
         match begins {
-            "to the machine" => answers(alloc, &mut Machine::new(self.host, self.rt), lines),
+            "to the machine" => answers(alloc, &mut Machine::new(self.host), lines),
             "to a door of the machine" => answers(alloc, &mut Loopback::new(self.rt), lines),
             _ => match begins.split_once("to a gate that ") {
                 Some(("", words)) => play_gate(alloc, words, lines),

@@ -1,24 +1,18 @@
-//! What the machine has (`outside`): a file that a test writes, standard input and output, its own clock, and two threads.
+//! What the machine has (`outside`): a file that a test writes, standard input and output, and its own clock.
 //!
 //! `make abc` writes a file of this text, and `make 1000 lines` one of so many lines, each with its number in five digits. `twice`
 //! reads it twice into four bytes, and tells both counts, the bytes, and the source's faults and ends; `pieces` reads it to its end
 //! into seven bytes, and tells how many bytes came, whether they are the text, and the same counts. `remove` removes it.
 //!
 //! `standard` reads and writes no byte, and tells what both answer, and their faults, ends and refusals. `clock` reads the system's own
-//! clock, waits three hundredths and reads it again: whether it is past 2020, and whether two hundredths passed. `held` tells
-//! whether a thread that is held at a point goes on within nine seconds once another has passed the other.
+//! clock, waits three hundredths and reads it again: whether it is past 2020, and whether two hundredths passed.
 
 use crate::words::told;
 use anyhow::Result;
 use gem_ids::Moment;
-use outside::{
-    Clock, Failed, FileSource, Gate, HoldGate, Point, Sink, Source, StdinSource, StdoutSink,
-    SystemClock,
-};
+use outside::{Clock, Failed, FileSource, Sink, Source, StdinSource, StdoutSink, SystemClock};
 use std::alloc::Global;
 use std::fs;
-use std::thread::{Threads, join};
-use std::time::{Duration, Instant};
 use test_lines::Subject;
 
 // The name of the file, in the folder in which the program is run.
@@ -26,28 +20,25 @@ const NAME: &str = "a-file-that-is-read";
 
 /// The machine, and the text of the file.
 #[derive(Drop)]
-pub struct Machine<'a, R> {
+pub struct Machine<'a> {
     rt: &'a HostRuntime,
-    threads: &'a R,
     text: String,
 }
 
-impl<'a, R> Machine<'a, R> {
+impl<'a> Machine<'a> {
     /// The machine, with no file yet.
-    pub fn new(rt: &'a HostRuntime, threads: &'a R) -> Machine<'a, R> {
+    pub fn new(rt: &'a HostRuntime) -> Machine<'a> {
         Machine {
             rt,
-            threads,
             text: String::new(rt.alloc()),
         }
     }
 }
 
-impl<R: Threads + Sync> Subject for Machine<'_, R> {
+impl Subject for Machine<'_> {
     fn answer(&mut self, alloc: Global, said: &str) -> Result<String> {
         let mut answer = String::new(alloc);
         let said = match said {
-            "held" => held(self.rt, self.threads, &mut answer),
             "clock" => look(self.rt, &mut answer),
             "standard" => touch(self.rt, &mut answer),
             _ => say_file(self.rt, alloc, &mut self.text, said, &mut answer),
@@ -149,16 +140,4 @@ fn look(rt: &HostRuntime, answer: &mut String) -> Option<()> {
     let after = clock.now();
     let is_later = after.0 >= before.0.saturating_add(2);
     write!(answer, "{} {is_later}", before > IN_2020).ok()
-}
-
-fn held<R: Threads + Sync>(rt: &HostRuntime, threads: &R, answer: &mut String) -> Option<()> {
-    let gate = HoldGate::new(rt, Point::HostRead, Point::OperLine);
-    let start = Instant::now(rt).ok()?;
-    join(
-        threads,
-        || gate.pass(Point::HostRead),
-        || gate.pass(Point::OperLine),
-    );
-    let passed = start.elapsed(rt).ok()?;
-    write!(answer, "{}", passed < Duration::from_secs(9)).ok()
 }

@@ -6,25 +6,29 @@
 
 use std::alloc::{AllocError, Global};
 
+/// The first word of a line, and what stands behind it.
+pub fn first_word(said: &str) -> (&str, &str) {
+    said.split_once(' ').unwrap_or((said, ""))
+}
+
 /// Adds what is said to a place. False: it says nothing.
 pub fn add(alloc: Global, place: &mut Vec<u8>, said: &str) -> Result<bool, AllocError> {
-    let (form, text) = said.split_once(' ').unwrap_or((said, ""));
+    let (form, text) = first_word(said);
     match form {
         "line" => add_line(place, text),
-        "text" => add_text(place, text.trim_matches('|')),
-        "none" => Ok(cleared(place)),
+        "text" => add_text(place, text),
         _ => add_bytes(alloc, place, form, text),
     }
 }
 
 // Takes all away.
-fn cleared(place: &mut Vec<u8>) -> bool {
+fn cleared(place: &mut Vec<u8>) -> Result<bool, AllocError> {
     place.clear();
-    true
+    Ok(true)
 }
 
 fn add_text(place: &mut Vec<u8>, text: &str) -> Result<bool, AllocError> {
-    place.extend_from_slice(text.as_bytes())?;
+    place.extend_from_slice(text.trim_matches('|').as_bytes())?;
     Ok(true)
 }
 
@@ -42,6 +46,7 @@ fn add_bytes(
     text: &str,
 ) -> Result<bool, AllocError> {
     match form {
+        "none" => cleared(place),
         "bytes" => add_hex(alloc, place, text),
         "many" => add_many(place, text),
         "asks" => add_messages(alloc, place, text, ASK),

@@ -9,11 +9,11 @@
 //! full, and the cause has the number of its entries and of the bytes of text in it, and no byte of an input), `notes` (how many),
 //! of session 1 `note 1` (why it ended) and `bytes 1` (that came and went), and `printed`.
 //!
-//! `text 3` tells the text of the cause with this status: words at place 1, rule 0 with an empty key, 40 entries without text and 500 bytes
-//! of the input, byte 5 of line 3.
+//! Behind `text 3`, `cause` tells the text of the cause with this status: words at place 1, rule 0 with an empty key, 40 entries without text
+//! and 500 bytes of the input, byte 5 of line 3.
 
 use crate::calls::{Given, run, run_narrow, words_of};
-use crate::places::add;
+use crate::places::{add, first_word};
 use crate::told::{answer_of, tell_cause, tell_whether};
 use anyhow::{Result, bail};
 use gem_ids::Text80;
@@ -22,11 +22,21 @@ use test_lines::Subject;
 use top_calls::Cause;
 
 /// What the next run is given, what the last one told, and how many entries it had.
-#[derive(Drop)]
 pub struct Runs {
     given: Given,
     told: String,
     entries: usize,
+}
+
+// Written out, so that it is proved once.
+impl Drop for Runs {
+    fn drop(self) {
+        let Runs {
+            given: _given,
+            told: _told,
+            entries: _entries,
+        } = self;
+    }
 }
 
 impl Runs {
@@ -53,31 +63,43 @@ impl Runs {
         Ok(true)
     }
 
+    // Tells the cause with this status. False: it is no number.
+    fn tell_text(&mut self, alloc: Global, status: &str) -> Result<bool, AllocError> {
+        self.told.clear();
+        match status.parse::<u8>() {
+            Ok(status) => {
+                tell_cause(alloc, &mut self.told, cause_of(status))?;
+                Ok(true)
+            }
+            Err(_) => Ok(false),
+        }
+    }
+
     // Does what is said. False: it says nothing.
     fn take(&mut self, alloc: Global, said: &str) -> Result<bool, AllocError> {
-        match said {
-            "run" => self.run(alloc, false),
-            "run narrow" => self.run(alloc, true),
-            _ => match said.split_once(' ') {
-                Some((first, rest)) => give(alloc, &mut self.given, first, rest),
-                None => Ok(false),
-            },
+        let (first, rest) = first_word(said);
+        match first {
+            "run" => self.run(alloc, rest == "narrow"),
+            "text" => self.tell_text(alloc, rest),
+            _ => give(alloc, &mut self.given, first, rest),
+        }
+    }
+
+    // Does what is said, which is answered nothing.
+    fn taken(&mut self, alloc: Global, said: &str) -> Result<String> {
+        if self.take(alloc, said)? {
+            Ok(String::new(alloc))
+        } else {
+            bail!("it says nothing")
         }
     }
 }
 
 impl Subject for Runs {
     fn answer(&mut self, alloc: Global, said: &str) -> Result<String> {
-        if let Some(status) = said.strip_prefix("text ") {
-            return cause_text(alloc, status);
-        }
-        if let Some(answer) = answer_of(self.told.as_str(), said) {
-            return Ok(String::from_str(alloc, answer)?);
-        }
-        if self.take(alloc, said)? {
-            Ok(String::new(alloc))
-        } else {
-            bail!("it says nothing")
+        match answer_of(self.told.as_str(), said) {
+            Some(answer) => Ok(String::from_str(alloc, answer)?),
+            None => self.taken(alloc, said),
         }
     }
 }
@@ -124,16 +146,5 @@ fn cause_of(status: u8) -> Cause {
         6 => Cause::Line(3, 5),
         7 => Cause::NoMemory,
         _ => Cause::Door,
-    }
-}
-
-// The text of a cause with this status.
-fn cause_text(alloc: Global, status: &str) -> Result<String> {
-    let status = status.parse::<u8>()?;
-    let mut told = String::new(alloc);
-    tell_cause(alloc, &mut told, cause_of(status))?;
-    match answer_of(told.as_str(), "cause") {
-        Some(text) => Ok(String::from_str(alloc, text)?),
-        None => bail!("a cause has a text"),
     }
 }

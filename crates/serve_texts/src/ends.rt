@@ -5,7 +5,7 @@ use outside::{Failed, LinkIn, LinkOut, MemSink, MemSource, Sink, Source};
 use std::alloc::{AllocError, Global};
 use std::time;
 
-/// The end at which bytes come in. Behind them it gives its end once the link was shut, or after 10,000 turns.
+/// The end at which bytes come in. Behind them it gives its end once the link was shut, or after 60,000 turns.
 #[derive(Drop)]
 pub struct PatientIn<'a, R> {
     rt: &'a R,

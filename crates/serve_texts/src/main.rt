@@ -3,7 +3,7 @@
 //! tool; docs/TESTING.md says how such a text is written.
 //!
 //! Each run has all its actors on threads of their own: what is expected holds for every order of their turns, and whatever waits
-//! gives up after 10,000 turns of a millisecond, so that each run ends.
+//! gives up after 60,000 turns of a millisecond, so that each run ends.
 //!
 //! It reads the file `runs.txt` of the folder in which it is run, and prints how many conversations that has. Each line of it tells the
 //! next run something, or asks the last one (`subject`), and behind ` = ` stands the answer; `conversation NAME` begins anew. Where one is

@@ -5,7 +5,7 @@ use outside::{Failed, MemSource, Source};
 use std::alloc::{AllocError, Global};
 use std::time;
 
-/// A script in pieces. Its reads from a number on are answered once a sign was raised, and fail where it is not within 10,000
+/// A script in pieces. Its reads from a number on are answered once a sign was raised, and fail where it is not within 60,000
 /// turns.
 #[derive(Drop)]
 pub struct WaitingScript<'a, R> {

@@ -65,8 +65,21 @@ pub fn run_both<R: Threads + Wait + Sync + time::Clock>(
     Ok(told)
 }
 
-/// Runs what is given, where a peer sends nothing, and the clock goes on by a second at each look; the operator ends the run once the
-/// link was shut. Tells of it.
+// Runs what is given at this door. The clock goes on by a second at each look; the operator ends the run once the link was shut.
+fn run_watched<'a, R: Threads + Wait + Sync + time::Clock>(
+    rt: &'a R,
+    alloc: Global,
+    given: &Given,
+    door: &mut PatientDoor<'a, R>,
+    signs: &'a LinkSigns,
+) -> Result<String, AllocError> {
+    let mut script = quit_at(rt, alloc, &signs.was_shut)?;
+    let mut clock = StepClock::new(rt, 100);
+    let gate = SleepGate::new(rt);
+    run_serve(rt, alloc, given, door, &mut script, &mut clock, &gate)
+}
+
+/// Runs what is given, where a peer sends nothing, the clock goes on, and the operator ends the run once the link was shut. Tells of it.
 pub fn run_silent<R: Threads + Wait + Sync + time::Clock>(
     rt: &R,
     alloc: Global,
@@ -74,8 +87,5 @@ pub fn run_silent<R: Threads + Wait + Sync + time::Clock>(
 ) -> Result<String, AllocError> {
     let signs = LinkSigns::new();
     let mut door = patient_door(rt, alloc, b"", &signs)?;
-    let mut script = quit_at(rt, alloc, &signs.was_shut)?;
-    let mut clock = StepClock::new(rt, 100);
-    let gate = SleepGate::new(rt);
-    run_serve(rt, alloc, given, &mut door, &mut script, &mut clock, &gate)
+    run_watched(rt, alloc, given, &mut door, &signs)
 }

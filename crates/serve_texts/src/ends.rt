@@ -2,11 +2,10 @@
 
 use crate::signs::LinkSigns;
 use outside::{Failed, LinkIn, LinkOut, MemSink, MemSource, Sink, Source};
-use std::alloc::Global;
-use std::test::Fail;
+use std::alloc::{AllocError, Global};
 use std::time;
 
-/// The end at which bytes come in. Behind them it gives its end once the link was shut, or after 10,000 turns.
+/// The end at which bytes come in. Behind them it gives its end once the link was shut, or after 60,000 turns.
 #[derive(Drop)]
 pub struct PatientIn<'a, R> {
     rt: &'a R,
@@ -94,7 +93,7 @@ pub fn patient_link<'a, R: time::Clock>(
     alloc: Global,
     bytes: &[u8],
     signs: &'a LinkSigns,
-) -> Result<(PatientIn<'a, R>, TellingOut<'a>), Fail> {
+) -> Result<(PatientIn<'a, R>, TellingOut<'a>), AllocError> {
     let link_in = PatientIn {
         rt,
         bytes: MemSource::new(Vec::from_slice(alloc, bytes)?, Vec::new(alloc)),

@@ -2,11 +2,10 @@
 
 use crate::signs::Sign;
 use outside::{Failed, MemSource, Source};
-use std::alloc::Global;
-use std::test::Fail;
+use std::alloc::{AllocError, Global};
 use std::time;
 
-/// A script in pieces. Its reads from a number on are answered once a sign was raised, and fail where it is not within 10,000
+/// A script in pieces. Its reads from a number on are answered once a sign was raised, and fail where it is not within 60,000
 /// turns.
 #[derive(Drop)]
 pub struct WaitingScript<'a, R> {
@@ -48,7 +47,7 @@ pub fn quit_at<'a, R: time::Clock>(
     rt: &'a R,
     alloc: Global,
     sign: &'a Sign,
-) -> Result<WaitingScript<'a, R>, Fail> {
+) -> Result<WaitingScript<'a, R>, AllocError> {
     Ok(WaitingScript {
         rt,
         text: MemSource::new(Vec::from_slice(alloc, b"O quit\n")?, Vec::new(alloc)),
@@ -64,7 +63,7 @@ pub fn local_and_quit_at<'a, R: time::Clock>(
     rt: &'a R,
     alloc: Global,
     sign: &'a Sign,
-) -> Result<WaitingScript<'a, R>, Fail> {
+) -> Result<WaitingScript<'a, R>, AllocError> {
     let text = MemSource::new(
         Vec::from_slice(alloc, b"O local\nO quit\n")?,
         Vec::new(alloc),

@@ -35,7 +35,7 @@ pub fn free_port<R: Net<Listener = TcpListener, Stream = TcpStream> + time::Cloc
     None
 }
 
-/// A stream to this port. While it is refused it tries again, for 10,000 turns at most. A read waits for ten seconds at most.
+/// A stream to this port. While it is refused it tries again, for 60,000 turns at most. A read waits for ten seconds at most.
 pub fn connected<R: Net<Listener = TcpListener, Stream = TcpStream> + time::Clock>(
     rt: &R,
     port: u16,

@@ -5,7 +5,7 @@ use std::thread;
 use std::time::{self, Duration};
 
 /// How many turns a thread waits at most.
-pub const TURNS: u32 = 10_000;
+pub const TURNS: u32 = 60_000;
 
 /// A sign that is raised once, and stays so.
 #[derive(Drop)]
@@ -31,7 +31,7 @@ impl Sign {
         self.raised.load(Ordering::SeqCst)
     }
 
-    /// Waits until it is raised, for 10,000 turns at most, and tells whether it is.
+    /// Waits until it is raised, for 60,000 turns at most, and tells whether it is.
     pub fn is_raised_in_time<R: time::Clock>(&self, rt: &R) -> bool {
         for _ in 0..TURNS {
             if self.is_raised() {

@@ -332,12 +332,12 @@ fn are_alike(places: &Places, held: &[Registered]) -> bool {
     if places.len() != held.len() {
         return false;
     }
-    let mut index = 0;
+    let mut index = 0usize;
     for one in held {
         if !is_held(places, index, one) {
             return false;
         }
-        index += 1;
+        index = index.saturating_add(1);
     }
     true
 }

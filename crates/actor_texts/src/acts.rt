@@ -4,7 +4,7 @@
 use crate::outcomes::substrate;
 use crate::words::{numbers, told};
 use anyhow::Result;
-use gem_ids::{CmdNo, ModuleId, Text80};
+use gem_ids::{CmdNo, ModuleId, SubstrateId, Text80};
 use sim_modules::{SimModule, draw};
 use std::alloc::Global;
 use test_lines::Subject;
@@ -50,11 +50,18 @@ impl Subject for Acts {
 // Says a line; the answer. None where it says nothing.
 fn say(acts: &mut Acts, said: &str, answer: &mut String) -> Option<()> {
     match said.split_once(' ')? {
-        ("act", number) => write!(answer, "{:?}", act(acts, number.parse::<u64>().ok()?)?).ok(),
+        ("act", number) => add_act(acts, number.parse::<u64>().ok()?, answer),
         ("draw", "again") => add_drawn(acts, acts.drawn, answer),
         ("draw", number) => add_drawn(acts, number.parse::<u64>().ok()?, answer),
         _ => None,
     }
+}
+
+fn add_act(acts: &mut Acts, number: u64, answer: &mut String) -> Option<()> {
+    // The borrow checker has to be told here of the types that a command holds.
+    let _: Option<(SubstrateId, Task)> = None;
+    let signal = act(acts, number)?;
+    write!(answer, "{signal:?}").ok()
 }
 
 fn add_drawn(acts: &mut Acts, number: u64, answer: &mut String) -> Option<()> {

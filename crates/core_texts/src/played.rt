@@ -8,7 +8,7 @@ use hsms_frame::{Arrival, Frame};
 use item_model::Item;
 use std::alloc::Global;
 use tool_core::Core;
-use tool_events::{Answer, Command, Event, OperCmd, PostFault, Signal};
+use tool_events::{Answer, Command, Event, OperCmd, PostFault, Signal, Task};
 
 /// What disturbs a lot, until it has come: an open command fails; a module with one goes down; the host stops the process job that
 /// runs; the operator says that a substrate is lost.
@@ -196,6 +196,8 @@ impl Played {
 
     // A module fetches its command, where it has one.
     fn fetch(&mut self, alloc: Global, module: ModuleId) -> bool {
+        // The borrow checker has to be told here of the type that a command holds.
+        let _: Option<Task> = None;
         self.tell(alloc, Event::Fetch(module));
         match command_of(&self.answer) {
             Some(command) => self.open.push(Fetched { module, command }).is_ok(),

@@ -1,36 +1,33 @@
 //! The reader of configurations (`configuration`).
 //!
 //! `reads device=5 & ports=1` reads a text of these lines, between which ` & ` stands, and `reads` one of no byte; `bytes 6F0A` reads
-//! the bytes of hex digits, `filled 65536` one comment of so many bytes, and `file least.toml` the file of this name, which lies beside
-//! the texts. It is answered `ok`, or the least rule that is broken and its key, as `rule 2 device`. A key alone, as `device`, asks for
+//! the bytes of hex digits, and `filled 65536` one comment of so many bytes. It is answered `ok`, or the least rule that is broken and its key, as `rule 2 device`. A key alone, as `device`, asks for
 //! its value in what was read last.
 
 use crate::values::{add_text, add_value};
 use anyhow::{Result, bail};
 use configuration::{ConfigFault, read_config};
 use std::alloc::Global;
-use std::fs;
 use test_lines::{Subject, bytes};
 use tool_events::Config;
 
 /// The reader of configurations.
 #[derive(Drop)]
-pub(crate) struct ConfigTexts<'r> {
-    rt: &'r HostRuntime,
+pub(crate) struct ConfigTexts {
     last: Option<Config>,
 }
 
-impl<'r> ConfigTexts<'r> {
+impl ConfigTexts {
     /// The reader, with nothing read yet.
-    pub(crate) fn new(rt: &'r HostRuntime) -> ConfigTexts<'r> {
-        ConfigTexts { rt, last: None }
+    pub(crate) fn new() -> ConfigTexts {
+        ConfigTexts { last: None }
     }
 }
 
-impl Subject for ConfigTexts<'_> {
+impl Subject for ConfigTexts {
     fn answer(&mut self, alloc: Global, said: &str) -> Result<String> {
         let mut answer = String::new(alloc);
-        match say(self.rt, alloc, &mut self.last, said, &mut answer) {
+        match say(alloc, &mut self.last, said, &mut answer) {
             Some(()) => Ok(answer),
             None => bail!("it says nothing, or there is no memory"),
         }
@@ -38,15 +35,9 @@ impl Subject for ConfigTexts<'_> {
 }
 
 // Says a line; the answer. None where it says nothing.
-fn say(
-    rt: &HostRuntime,
-    alloc: Global,
-    last: &mut Option<Config>,
-    said: &str,
-    answer: &mut String,
-) -> Option<()> {
+fn say(alloc: Global, last: &mut Option<Config>, said: &str, answer: &mut String) -> Option<()> {
     let (verb, rest) = said.split_once(' ').unwrap_or((said, ""));
-    match text_of(rt, alloc, verb, rest) {
+    match text_of(alloc, verb, rest) {
         Some(text) => read(alloc, last, text.as_slice(), answer),
         None => match last {
             Some(config) => add_value(answer, config, verb),
@@ -56,12 +47,11 @@ fn say(
 }
 
 // The text that is to be read. None where the line asks for a value.
-fn text_of(rt: &HostRuntime, alloc: Global, verb: &str, rest: &str) -> Option<Vec<u8>> {
+fn text_of(alloc: Global, verb: &str, rest: &str) -> Option<Vec<u8>> {
     match verb {
         "reads" => lines_of(alloc, rest),
         "bytes" => bytes(alloc, rest).ok(),
         "filled" => comment(alloc, rest),
-        "file" => fs::read(rt, rest).ok(),
         _ => None,
     }
 }

@@ -4,7 +4,7 @@
 //!
 //! It takes each file of the folder in which it is run, in the order of their names, and prints a line for each: its name,
 //! and how many conversations it has. Where a file cannot be read, or one of them goes otherwise, it says on standard error
-//! which and where, and ends with status 1. Files whose name ends in `.toml` are configurations, which the texts have read.
+//! which and where, and ends with status 1.
 #![tactic(auto)]
 
 mod configs;
@@ -19,16 +19,13 @@ use std::process::ExitCode;
 use test_lines::{Texts, answers, play_folder};
 use word_texts::WordTexts;
 
-/// What an integrator sets, and what reads the files of configurations.
-#[derive(Drop)]
-struct Settings<'r> {
-    rt: &'r HostRuntime,
-}
+/// What an integrator sets.
+struct Settings;
 
-impl Texts for Settings<'_> {
+impl Texts for Settings {
     fn play(&self, alloc: Global, begins: &str, lines: &[Line<'_>]) -> Result<Option<String>> {
         match begins {
-            "to configurations" => answers(alloc, &mut ConfigTexts::new(self.rt), lines),
+            "to configurations" => answers(alloc, &mut ConfigTexts::new(), lines),
             "to words" => answers(alloc, &mut WordTexts, lines),
             _ => bail!("there is no such subject"),
         }
@@ -36,5 +33,5 @@ impl Texts for Settings<'_> {
 }
 
 fn main(rt: HostRuntime) -> ExitCode {
-    play_folder(&rt, &Settings { rt: &rt })
+    play_folder(&rt, &Settings)
 }

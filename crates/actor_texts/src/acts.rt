@@ -4,7 +4,7 @@
 use crate::outcomes::substrate;
 use crate::words::{numbers, told};
 use anyhow::Result;
-use gem_ids::{CmdNo, ModuleId, SubstrateId, Text80};
+use gem_ids::{CarrierId, CmdNo, ModuleId, SubstrateId, Text80};
 use sim_modules::{SimModule, draw};
 use std::alloc::Global;
 use test_lines::Subject;
@@ -58,8 +58,8 @@ fn say(acts: &mut Acts, said: &str, answer: &mut String) -> Option<()> {
 }
 
 fn add_act(acts: &mut Acts, number: u64, answer: &mut String) -> Option<()> {
-    // The borrow checker has to be told here of the types that a command holds.
-    let _: Option<(SubstrateId, Task)> = None;
+    // The borrow checker has to be told here of the types that commands and signals hold.
+    let _: Option<(CarrierId, SubstrateId, Task)> = None;
     let signal = act(acts, number)?;
     write!(answer, "{signal:?}").ok()
 }

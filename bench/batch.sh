@@ -7,21 +7,35 @@
 #
 # Twice the carriers should take about twice the time: a ratio of at most 2.2 is wanted. The times are processor times, the least of
 # three runs each. The bytes of an entry are those by which the peak memory of 160 carriers is over that of 40, for each entry more.
-# How many entries there are is told by the program of measures, which makes the same batch. With valgrind on the machine, and the word
+# How many entries there are is the least limit of entries with which the batch completes. With valgrind on the machine, and the word
 # `profile`, the functions are told in which a batch of 4 carriers spends its instructions. This is a measurement. It is no test, and no
-# part of the merge gate. Build both programs first:
+# part of the merge gate. Build the program first:
 #
 #     cd crates/gem300_tool && rt run -- feed ../../examples/first.toml < ../../examples/communication.lines
-#     cd crates/benches && rt run -- each
 set -euo pipefail
 cd "$(dirname "$0")/.."
 source bench/feeding.sh
 
-counter=crates/benches/out/benches
-if [ ! -x "$counter" ]; then
-    echo "$counter is missing: build it first, as the head of this script says" >&2
-    exit 2
-fi
+# A configuration whose limit of entries is so high.
+limit_to() {
+    printf 'communication = "communicating"\nmax_entries = %d\nmax_bytes = 536_870_912\n' "$1" > "$work/limit.toml"
+}
+
+# How many entries a batch of so many carriers makes: the least limit with which it completes.
+entries_of() {
+    local low=1 high=4000000 middle
+    while [ "$low" -lt "$high" ]; do
+        middle=$(((low + high) / 2))
+        limit_to "$middle"
+        if "$program" batch 7 "$1" "$work/limit.toml" > /dev/null 2>&1; then
+            high=$middle
+        else
+            low=$((middle + 1))
+        fi
+    done
+    echo "$low"
+}
+
 printf 'communication = "communicating"\nmax_entries = 4_000_000\nmax_bytes = 536_870_912\n' > "$work/batch.toml"
 
 # The peak memory of a batch of so many carriers, in kilobytes.
@@ -50,7 +64,7 @@ measure() {
         least=$(awk -v a="${least:-$seconds}" -v b="$seconds" 'BEGIN { print a < b ? a : b }')
     done
     seconds=$least
-    entries=$("$counter" batch 7 "$1")
+    entries=$(entries_of "$1")
     awk -v carriers="$1" -v entries="$entries" -v seconds="$seconds" \
         'BEGIN { printf "%d carriers, %d entries: %.2f s, %.0f entries a second\n", carriers, entries, seconds, entries / seconds }'
 }

@@ -1,12 +1,11 @@
 //! Parts of the tool that are timed, and a server and clients over TCP beside it. `bench/items.sh`, `bench/spool.sh`,
-//! `bench/planner.sh`, `bench/batch.sh` and `bench/serve.sh` run it; it is no part of the tool.
+//! `bench/planner.sh` and `bench/serve.sh` run it; it is no part of the tool.
 //!
-//! The first word names what is measured, `items`, `spool`, `planner` or `batch`, or is `echo`, `ask`, `press` or `visit`, and those
-//! behind it say how (`item.rt`, `notes.rt`, `moves.rt`, `batches.rt`, `links.rt`). It prints how often it went well, or how many
-//! entries a batch made. With the word `each` alone it does a little of each but a batch, and prints the sum.
+//! The first word names what is measured, `items`, `spool` or `planner`, or is `echo`, `ask`, `press` or `visit`, and those behind it
+//! say how (`item.rt`, `notes.rt`, `moves.rt`, `links.rt`). It prints how often it went well. With the word `each` alone it does a
+//! little of each, and prints the sum.
 #![tactic(auto)]
 
-mod batches;
 mod item;
 mod links;
 mod moves;
@@ -23,7 +22,7 @@ use std::time::Clock;
 // Measures the part of the tool that the words name.
 fn measure_part(alloc: Global, what: &str, words: &[String]) -> Result<u64> {
     let [first, second, rest @ ..] = words else {
-        bail!("the words are items, spool, planner or batch, and what each takes");
+        bail!("the words are items, spool or planner, and what each takes");
     };
     let third = match rest {
         [third] => third.as_str(),
@@ -39,7 +38,6 @@ fn measure_part(alloc: Global, what: &str, words: &[String]) -> Result<u64> {
             third.parse::<u64>()?,
         ),
         "planner" => moves::measure(alloc, first.parse::<u8>()?, second.parse::<u64>()?),
-        "batch" => batches::measure(alloc, first.parse::<u64>()?, second.parse::<u32>()?),
         _ => bail!("there is no such measurement"),
     }
 }

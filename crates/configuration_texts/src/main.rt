@@ -7,15 +7,20 @@
 //! which and where, and ends with status 1.
 #![tactic(auto)]
 
+mod configs;
+mod values;
+mod word_texts;
+
 use anyhow::{Result, bail};
-use configuration_subjects::{ConfigTexts, WordTexts};
+use configs::ConfigTexts;
 use conversation_files::Line;
 use std::alloc::Global;
 use std::process::ExitCode;
 use test_lines::{Texts, answers, play_folder};
+use word_texts::WordTexts;
 
 /// What an integrator sets.
-pub struct Settings;
+struct Settings;
 
 impl Texts for Settings {
     fn play(&self, alloc: Global, begins: &str, lines: &[Line<'_>]) -> Result<Option<String>> {

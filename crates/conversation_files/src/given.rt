@@ -1,88 +1,81 @@
 //! What the lines of a conversation give to the tool: the words of the command, the configuration, and the input.
 
-use crate::script::{Kind, Line, has};
+use crate::script::{Kind, Line, last_of};
 use std::alloc::{AllocError, Global};
 
 /// What stands in front of a configuration that does not say how communication begins: most conversations begin with it.
 const COMMUNICATING: &str = "communication = \"communicating\"\n";
 
-/// Adds the lines of a kind, each with its line feed.
-fn add_lines(text: &mut String, lines: &[Line<'_>], kind: Kind) -> Result<(), AllocError> {
+/// Adds a line, with its line feed. False where there is no memory.
+fn add_line(text: &mut String, line: &Line<'_>) -> bool {
+    text.push_str(line.spelled()).is_ok() && text.push('\n').is_ok()
+}
+
+/// Adds the lines of a kind, each with its line feed. False where there is no memory.
+fn add_lines(text: &mut String, lines: &[Line<'_>], kind: Kind) -> bool {
     for line in lines {
-        if line.kind == kind {
-            let Ok(()) = text.push_str(line.spelled()) else {
-                return Err(AllocError);
-            };
-            let Ok(()) = text.push('\n') else {
-                return Err(AllocError);
-            };
+        if line.kind == kind && !add_line(text, line) {
+            return false;
         }
     }
-    Ok(())
+    true
 }
 
 /// The lines that come in, each with its line feed.
 pub fn input_of(alloc: Global, lines: &[Line<'_>]) -> Result<String, AllocError> {
     let mut text = String::new(alloc);
-    match add_lines(&mut text, lines, Kind::Said) {
-        Ok(()) => Ok(text),
-        Err(error) => Err(error),
+    if add_lines(&mut text, lines, Kind::Said) {
+        Ok(text)
+    } else {
+        Err(AllocError)
     }
 }
 
-/// Whether a line says how communication begins.
+/// Adds how communication begins, and then the lines of keys.
+fn add_communicating(text: &mut String, lines: &[Line<'_>]) -> bool {
+    text.push_str(COMMUNICATING).is_ok() && add_lines(text, lines, Kind::Key)
+}
+
+/// The text of the configuration: the lines of keys. The tool begins COMMUNICATING where none of these names communication.
+pub fn configuration_of(alloc: Global, lines: &[Line<'_>]) -> Result<String, AllocError> {
+    let mut text = String::new(alloc);
+    let is_added = if is_communication(lines) {
+        add_lines(&mut text, lines, Kind::Key)
+    } else {
+        add_communicating(&mut text, lines)
+    };
+    if is_added { Ok(text) } else { Err(AllocError) }
+}
+
+/// Whether a line of keys names communication.
 fn is_communication(lines: &[Line<'_>]) -> bool {
     for line in lines {
-        if line.kind == Kind::Key && line.text.strip_prefix("communication ").is_some() {
+        if line.kind == Kind::Key && line.text.contains("communication") {
             return true;
         }
     }
     false
 }
 
-fn add_configuration(text: &mut String, lines: &[Line<'_>]) -> Result<(), AllocError> {
-    if has(lines, Kind::Configured) {
-        return add_lines(text, lines, Kind::Configured);
-    }
-    if !is_communication(lines) {
-        let Ok(()) = text.push_str(COMMUNICATING) else {
-            return Err(AllocError);
-        };
-    }
-    add_lines(text, lines, Kind::Key)
-}
-
-/// The text of the configuration: that of a file, where there is one, and else of the lines of keys. The tool begins
-/// COMMUNICATING where none of these says how communication begins.
-pub fn configuration_of(alloc: Global, lines: &[Line<'_>]) -> Result<String, AllocError> {
-    let mut text = String::new(alloc);
-    match add_configuration(&mut text, lines) {
-        Ok(()) => Ok(text),
-        Err(error) => Err(error),
-    }
-}
-
-/// Adds the words of a line, in which `''` is an empty one.
-fn push_words<'a>(words: &mut Vec<&'a str>, text: &'a str) -> Result<(), AllocError> {
+/// Adds the words of a line. False where there is no memory.
+fn push_words<'a>(words: &mut Vec<&'a str>, text: &'a str) -> bool {
     for word in text.split_whitespace() {
-        let Ok(()) = words.push(if word == "''" { "" } else { word }) else {
-            return Err(AllocError);
-        };
+        if words.push(if word == "''" { "" } else { word }).is_err() {
+            return false;
+        }
     }
-    Ok(())
+    true
 }
 
 /// The words of the command: those of the last line that has them, and else `feed c`.
 pub fn words_of<'a>(alloc: Global, lines: &[Line<'a>]) -> Result<Vec<&'a str>, AllocError> {
-    let mut text = "feed c";
-    for line in lines {
-        if line.kind == Kind::Command {
-            text = line.text;
-        }
-    }
     let mut words = Vec::new(alloc);
-    match push_words(&mut words, text) {
-        Ok(()) => Ok(words),
-        Err(error) => Err(error),
+    if push_words(
+        &mut words,
+        last_of(lines, Kind::Command).unwrap_or("feed c"),
+    ) {
+        Ok(words)
+    } else {
+        Err(AllocError)
     }
 }

@@ -4,127 +4,126 @@
 //! system bytes as a decimal number, and its item, where it has one. `Select.req 1` is a control message with its system
 //! bytes. It follows the standard alone, and takes nothing of the tool: a fault of the tool's writers is not to be shared.
 
-use crate::fault::Fault;
 use crate::spelled_item::{bytes_of, digit};
 use anyhow::{Result, bail};
 use std::alloc::Global;
 
-/// What a header has in front of its system bytes, as a number of six bytes: the session id, bytes 2 and 3, the PType and the
-/// SType.
-type Front = u64;
+/// What a header has in front of its system bytes: the session id, bytes 2 and 3, the PType and the SType.
+type Front = [u8; 6];
 
-/// The front of a data message to device 0: the W-bit is the uppermost of byte 2, which has the stream, and byte 3 is
-/// the function (SEMI E37, data message).
-fn data_front(name: &str, is_reply_wanted: bool) -> Option<Front> {
-    let Some(numbers) = name.strip_prefix('S') else {
-        return None;
-    };
-    let Some((stream, function)) = numbers.split_once('F') else {
-        return None;
-    };
-    let (Ok(stream), Ok(function)) = (stream.parse::<u8>(), function.parse::<u8>()) else {
-        return None;
-    };
-    if stream > 127 {
-        return None;
+/// The stream of these letters, as `S3`.
+fn stream_of(letters: &str) -> Option<u8> {
+    match letters.strip_prefix('S') {
+        Some(number) => number.parse::<u8>().ok(),
+        None => None,
     }
-    let wanted = if is_reply_wanted { 0x80 } else { 0 };
-    Some((((stream | wanted) as u64) << 24) | ((function as u64) << 16))
 }
 
-/// The SType of a control message (SEMI E37, session types).
-fn stype(name: &str) -> Option<u8> {
-    match name {
-        "Select.req" => Some(1),
-        "Select.rsp" => Some(2),
-        "Deselect.req" => Some(3),
-        "Deselect.rsp" => Some(4),
-        "Linktest.req" => Some(5),
-        "Linktest.rsp" => Some(6),
-        "Separate.req" => Some(9),
+/// The stream and the function of a name, as `S3F17`.
+fn stream_and_function(name: &str) -> Option<(u8, u8)> {
+    let (stream, function) = name.split_once('F').unwrap_or((name, ""));
+    match (stream_of(stream), function.parse::<u8>()) {
+        (Some(stream), Ok(function)) => Some((stream, function)),
         _ => None,
     }
 }
 
-/// Adds bytes as hex digits.
-fn push_hex(text: &mut String, bytes: &[u8]) -> Option<()> {
-    for byte in bytes {
-        let Ok(()) = write!(text, "{byte:02X}") else {
-            return None;
-        };
+/// The front of a data message to device 0: the W-bit is the uppermost of byte 2, which has the stream, and byte 3 is
+/// the function (SEMI E37, data message).
+fn data_front(name: &str, is_reply_wanted: bool) -> Option<Front> {
+    let wanted = if is_reply_wanted { 0x80 } else { 0 };
+    match stream_and_function(name) {
+        Some((stream, function)) if stream <= 127 => Some([0, 0, stream | wanted, function, 0, 0]),
+        _ => None,
     }
-    Some(())
+}
+
+/// The front of a control message (SEMI E37, session types).
+fn control_front(name: &str) -> Option<Front> {
+    let stype = match name {
+        "Select.req" => 1,
+        "Select.rsp" => 2,
+        "Deselect.req" => 3,
+        "Deselect.rsp" => 4,
+        "Linktest.req" => 5,
+        "Linktest.rsp" => 6,
+        "Separate.req" => 9,
+        _ => return None,
+    };
+    Some([0xFF, 0xFF, 0, 0, 0, stype])
+}
+
+/// Adds bytes as hex digits. False where there is no memory.
+fn push_hex(text: &mut String, bytes: &[u8]) -> bool {
+    for byte in bytes {
+        if write!(text, "{byte:02X}").is_err() {
+            return false;
+        }
+    }
+    true
 }
 
 /// Adds the frame of this front, these system bytes and this item, in hex digits; the length counts the header's ten bytes and
-/// the item.
-fn add_frame<'a>(
+/// the item, which is far shorter than a length may be.
+fn push_frame(text: &mut String, front: Front, system: u32, item: &[u8]) -> bool {
+    write!(text, "{:08X}", item.len().saturating_add(10)).is_ok()
+        && push_hex(text, &front)
+        && push_hex(text, &system.to_be_bytes())
+        && push_hex(text, item)
+}
+
+/// The same, with the system bytes as a word.
+fn add_frame(
     text: &mut String,
     front: Front,
-    system: &'a str,
+    system: &str,
     item: &[u8],
-) -> Result<(), Fault<'a>> {
-    let Ok(number) = system.parse::<u32>() else {
-        return Err(Fault {
-            word: system,
-            why: " is no number of system bytes",
-        });
-    };
-    let Ok(length) = u32::try_from(item.len().saturating_add(10)) else {
-        return Err(Fault {
-            word: "",
-            why: "the item is too long",
-        });
-    };
-    let head = write!(text, "{length:08X}{front:012X}{number:08X}");
-    match (head, push_hex(text, item)) {
-        (Ok(()), Some(())) => Ok(()),
-        _ => Err(Fault {
-            word: "",
-            why: "there is no memory",
-        }),
+) -> Result<(), &'static str> {
+    match system.parse::<u32>() {
+        Ok(system) if push_frame(text, front, system, item) => Ok(()),
+        Ok(_) => Err("there is no memory"),
+        Err(_) => Err("the system bytes are no number"),
     }
 }
 
-/// Adds the data message with this name and these words behind it.
-fn add_data<'a>(
+/// Adds the data message of this front, with these words behind it.
+fn add_data(
     alloc: Global,
     text: &mut String,
-    name: &'a str,
-    words: &'a str,
-) -> Result<(), Fault<'a>> {
-    let after_w = words.strip_prefix("W ");
-    let words = after_w.unwrap_or(words);
-    let Some(front) = data_front(name, after_w.is_some()) else {
-        return Err(Fault {
-            word: name,
-            why: " is no message",
-        });
-    };
+    front: Front,
+    words: &str,
+) -> Result<(), &'static str> {
     match words.split_once(' ') {
         Some((system, words)) => match bytes_of(alloc, words) {
             Ok(item) => add_frame(text, front, system, item.as_slice()),
-            Err(fault) => Err(fault),
+            Err(why) => Err(why),
         },
         None => add_frame(text, front, words, &[]),
     }
 }
 
-/// Adds the frame that these words say, in hex digits.
-pub fn add_spelled<'a>(alloc: Global, text: &mut String, words: &'a str) -> Result<(), Fault<'a>> {
-    let Some((name, words)) = words.split_once(' ') else {
-        return Err(Fault {
-            word: "",
-            why: "it is neither whole bytes in hex digits nor a message with its system bytes",
-        });
-    };
-    match stype(name) {
-        Some(_) if words.contains(' ') => Err(Fault {
-            word: "",
-            why: "a control message has no item",
-        }),
-        Some(stype) => add_frame(text, 0xFFFF_0000_0000 | (stype as u64), words, &[]),
-        None => add_data(alloc, text, name, words),
+/// Adds the message of this name, with these words behind it.
+fn add_message(
+    alloc: Global,
+    text: &mut String,
+    name: &str,
+    words: &str,
+) -> Result<(), &'static str> {
+    if let Some(front) = control_front(name) {
+        return add_frame(text, front, words, &[]);
+    }
+    let after_w = words.strip_prefix("W ");
+    match data_front(name, after_w.is_some()) {
+        Some(front) => add_data(alloc, text, front, after_w.unwrap_or(words)),
+        None => Err("its first word names no message"),
+    }
+}
+
+/// Adds the frame that these words say, in hex digits. The error is why they cannot be read.
+pub fn add_spelled(alloc: Global, text: &mut String, words: &str) -> Result<(), &'static str> {
+    match words.split_once(' ') {
+        Some((name, words)) => add_message(alloc, text, name, words),
+        None => Err("it is neither whole bytes in hex digits nor a message with its system bytes"),
     }
 }
 
@@ -133,16 +132,21 @@ pub fn spelled(alloc: Global, words: &str) -> Result<String> {
     let mut text = String::new(alloc);
     match add_spelled(alloc, &mut text, words) {
         Ok(()) => Ok(text),
-        Err(fault) => bail!("{}{}", fault.word, fault.why),
+        Err(why) => bail!("{why}"),
     }
 }
 
-/// Whether these are the hex digits of whole bytes.
-pub fn is_hex(text: &str) -> bool {
+/// Whether all of these are hex digits.
+fn are_digits(text: &str) -> bool {
     for letter in text.bytes() {
         if digit(letter).is_none() {
             return false;
         }
     }
-    !text.is_empty() && text.len() % 2 == 0
+    true
+}
+
+/// Whether these are the hex digits of whole bytes.
+pub fn is_hex(text: &str) -> bool {
+    !text.is_empty() && text.len() % 2 == 0 && are_digits(text)
 }

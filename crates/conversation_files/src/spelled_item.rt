@@ -6,8 +6,9 @@
 //! `U4`, `U8`, `I1`, `I2`, `I4` or `I8` with decimal numbers; an item with nothing behind its name has no element. A text
 //! that has a comma, a bracket, a quote or a space at an end stands in quotes, and a quote in it is written twice. In a
 //! list `25 times U1 3` stands for that item 25 times. Lengths are spelled in the fewest bytes.
+//!
+//! What can fail here tells whether it did by a truth value, and `Spelling::why` says why.
 
-use crate::fault::Fault;
 use anyhow::{Result, bail};
 use std::alloc::Global;
 
@@ -25,91 +26,84 @@ const SIGNED: u8 = 0o30;
 
 const UNSIGNED: u8 = 0o50;
 
-/// What is told where there is no memory.
-const NO_MEMORY: Fault<'_> = Fault {
-    word: "",
-    why: "there is no memory",
-};
+/// The most elements of a list, and the most bytes of another item.
+const MOST: usize = 0xFF_FFFF;
+
+// ---- the parts of an item
+
+/// How many bytes a length takes at least.
+fn length_bytes(length: usize) -> u8 {
+    match length {
+        0..=0xFF => 1,
+        0x100..=0xFFFF => 2,
+        _ => 3,
+    }
+}
+
+/// Adds the last of eight bytes, so many.
+fn push_last(out: &mut Vec<u8>, bytes: [u8; 8], count: u8) -> bool {
+    match bytes.get(8usize.saturating_sub(count as usize)..) {
+        Some(last) => out.extend_from_slice(last).is_ok(),
+        None => false,
+    }
+}
 
 /// Adds the header of an item: the format code with the number of length bytes in its two low bits, and then the length,
 /// in the fewest bytes (SEMI E5, item header). It is the elements of a list, and the bytes of any other item.
-fn push_header(out: &mut Vec<u8>, format: u8, length: usize) -> Result<(), Fault<'static>> {
-    let [_, _, _, _, top, high, middle, low] = (length as u64).to_be_bytes();
-    let format = format << 2;
-    let pushed = match length {
-        0..=0xFF => out.extend_from_slice(&[format | 1, low]),
-        0x100..=0xFFFF => out.extend_from_slice(&[format | 2, middle, low]),
-        0x1_0000..=0xFF_FFFF => out.extend_from_slice(&[format | 3, high, middle, low]),
-        _ => {
-            return Err(Fault {
-                word: "",
-                why: "an item is too long",
-            });
+fn push_header(out: &mut Vec<u8>, format: u8, length: usize) -> bool {
+    let count = length_bytes(length);
+    length <= MOST
+        && out.push((format << 2) | count).is_ok()
+        && push_last(out, (length as u64).to_be_bytes(), count)
+}
+
+/// Adds a letter of a text in quotes, in which a quote is written twice, behind the first of two or not. Tells whether it is
+/// the first of two; none where it may not stand there, or there is no memory.
+fn push_letter(out: &mut Vec<u8>, letter: u8, is_quote_begun: bool) -> Option<bool> {
+    let is_quote = letter == b'"';
+    if is_quote && !is_quote_begun {
+        return Some(true);
+    }
+    if is_quote == is_quote_begun && out.push(letter).is_ok() {
+        Some(false)
+    } else {
+        None
+    }
+}
+
+/// Adds what stands between the quotes of a text.
+fn push_quoted(out: &mut Vec<u8>, inner: &str) -> bool {
+    let mut is_quote_begun = false;
+    for letter in inner.bytes() {
+        match push_letter(out, letter, is_quote_begun) {
+            Some(is_begun) => is_quote_begun = is_begun,
+            None => return false,
         }
-    };
-    match pushed {
-        Ok(()) => Ok(()),
-        Err(_) => Err(NO_MEMORY),
+    }
+    !is_quote_begun
+}
+
+/// Adds a text without quotes.
+fn push_plain(out: &mut Vec<u8>, text: &str) -> bool {
+    !text.contains('"') && out.extend_from_slice(text.as_bytes()).is_ok()
+}
+
+/// What stands between the quotes of a text.
+fn between_quotes(text: &str) -> Option<&str> {
+    match text.strip_prefix('"') {
+        Some(text) => text.strip_suffix('"'),
+        None => None,
     }
 }
 
 /// Adds a text, in quotes or without.
-fn push_text<'a>(out: &mut Vec<u8>, text: &'a str) -> Result<(), Fault<'a>> {
-    if !text.is_ascii() {
-        return Err(Fault {
-            word: "",
-            why: "a text has other letters than ASCII",
-        });
-    }
-    let Some(quoted) = text.strip_prefix('"') else {
-        if text.contains('"') {
-            return Err(Fault {
-                word: "",
-                why: "a quote stands in a text without quotes",
-            });
+fn push_text(out: &mut Vec<u8>, text: &str) -> bool {
+    text.is_ascii()
+        && match between_quotes(text) {
+            Some(inner) => push_quoted(out, inner),
+            None => push_plain(out, text),
         }
-        return match out.extend_from_slice(text.as_bytes()) {
-            Ok(()) => Ok(()),
-            Err(_) => Err(NO_MEMORY),
-        };
-    };
-    match quoted.strip_suffix('"') {
-        Some(inner) => push_quoted(out, inner),
-        None => Err(Fault {
-            word: "",
-            why: "a text has no quote at its end",
-        }),
-    }
 }
-
-/// Adds what stands between the quotes of a text, in which a quote is written twice.
-fn push_quoted(out: &mut Vec<u8>, inner: &str) -> Result<(), Fault<'static>> {
-    let mut is_quote_begun = false;
-    for letter in inner.bytes() {
-        if letter == b'"' {
-            is_quote_begun = !is_quote_begun;
-            if is_quote_begun {
-                continue;
-            }
-        } else if is_quote_begun {
-            return Err(ONE_QUOTE);
-        }
-        if out.push(letter).is_err() {
-            return Err(NO_MEMORY);
-        }
-    }
-    if is_quote_begun {
-        Err(ONE_QUOTE)
-    } else {
-        Ok(())
-    }
-}
-
-/// What is told of a quote in a text that is not written twice.
-const ONE_QUOTE: Fault<'_> = Fault {
-    word: "",
-    why: "a quote in a text is to be written twice",
-};
 
 /// The number of a hex digit, which has an upper-case letter.
 pub fn digit(letter: u8) -> Option<u8> {
@@ -120,96 +114,114 @@ pub fn digit(letter: u8) -> Option<u8> {
     }
 }
 
-/// Adds the byte of two hex digits. None where they are none, or there is no memory.
-fn push_byte(out: &mut Vec<u8>, word: &str) -> Option<()> {
-    let [high, low] = word.as_bytes() else {
-        return None;
-    };
-    match (digit(*high), digit(*low)) {
-        (Some(high), Some(low)) => out.push((high << 4) | low).ok(),
+/// The byte of two hex digits.
+fn byte_of(high: u8, low: u8) -> Option<u8> {
+    match (digit(high), digit(low)) {
+        (Some(high), Some(low)) => Some((high << 4) | low),
         _ => None,
     }
 }
 
-/// The eight bytes of the number that a word of this format is, the most significant first. None where it is none, or is greater
-/// than this, or is negative and less than this with its bits inverted.
-fn number_of(format: u8, word: &str, greatest: u64, signed: i64) -> Option<[u8; 8]> {
-    if format >= UNSIGNED {
-        return match word.parse::<u64>() {
-            Ok(number) if number <= greatest => Some(number.to_be_bytes()),
-            _ => None,
-        };
+/// Adds a byte, where there is one.
+fn push_some(out: &mut Vec<u8>, byte: Option<u8>) -> bool {
+    match byte {
+        Some(byte) => out.push(byte).is_ok(),
+        None => false,
     }
+}
+
+/// Adds the byte of a word of two hex digits.
+fn push_byte(out: &mut Vec<u8>, word: &str) -> bool {
+    match word.as_bytes() {
+        [high, low] => push_some(out, byte_of(*high, *low)),
+        _ => false,
+    }
+}
+
+/// Adds a truth value.
+fn push_truth(out: &mut Vec<u8>, word: &str) -> bool {
+    let byte = match word {
+        "true" => Some(1),
+        "false" => Some(0),
+        _ => None,
+    };
+    push_some(out, byte)
+}
+
+/// The eight bytes of a number without a sign, the most significant first. None where a word is none, or is greater than this.
+fn unsigned(word: &str, greatest: u64) -> Option<[u8; 8]> {
+    match word.parse::<u64>() {
+        Ok(number) if number <= greatest => Some(number.to_be_bytes()),
+        _ => None,
+    }
+}
+
+/// The same of a number with a sign. A negative one may not be less than this with its bits inverted.
+fn signed(word: &str, greatest: i64) -> Option<[u8; 8]> {
     match word.parse::<i64>() {
-        Ok(number) if !signed <= number && number <= signed => Some(number.to_be_bytes()),
+        Ok(number) if !greatest <= number && number <= greatest => Some(number.to_be_bytes()),
         _ => None,
     }
 }
 
-/// Adds a number, the most significant byte first. None where the word is none of this format, or there is no memory.
-fn push_number(out: &mut Vec<u8>, format: u8, word: &str) -> Option<()> {
-    let (front, greatest, signed) = match format & 7 {
-        1 => (7, 0xFF, 0x7F),
-        2 => (6, 0xFFFF, 0x7FFF),
-        4 => (4, 0xFFFF_FFFF, 0x7FFF_FFFF),
-        _ => (0, u64::MAX, i64::MAX),
+/// The same of a number of a format.
+fn number_of(format: u8, word: &str) -> Option<[u8; 8]> {
+    let (greatest, greatest_signed) = match format & 7 {
+        1 => (0xFF, 0x7F),
+        2 => (0xFFFF, 0x7FFF),
+        4 => (0xFFFF_FFFF, 0x7FFF_FFFF),
+        _ => (u64::MAX, i64::MAX),
     };
-    let Some(bytes) = number_of(format, word, greatest, signed) else {
-        return None;
-    };
-    match bytes.get(front..) {
-        Some(bytes) => out.extend_from_slice(bytes).ok(),
-        None => None,
+    if format >= UNSIGNED {
+        unsigned(word, greatest)
+    } else {
+        signed(word, greatest_signed)
     }
 }
 
-/// Adds the element of an item that is neither a list nor a text. None where the word is none of this format, or there is no
-/// memory.
-fn push_element(out: &mut Vec<u8>, format: u8, word: &str) -> Option<()> {
-    if format == BINARY {
-        return push_byte(out, word);
+/// How many bytes a number of a format has.
+fn bytes_of_number(format: u8) -> u8 {
+    match format & 7 {
+        0 => 8,
+        count => count,
     }
-    if format != BOOLEAN {
-        return push_number(out, format, word);
+}
+
+/// Adds a number, the most significant byte first.
+fn push_number(out: &mut Vec<u8>, format: u8, word: &str) -> bool {
+    match number_of(format, word) {
+        Some(bytes) => push_last(out, bytes, bytes_of_number(format)),
+        None => false,
     }
-    match word {
-        "true" => out.push(1).ok(),
-        "false" => out.push(0).ok(),
-        _ => None,
+}
+
+/// Adds the element of an item that is neither a list nor a text.
+fn push_element(out: &mut Vec<u8>, format: u8, word: &str) -> bool {
+    match format {
+        BINARY => push_byte(out, word),
+        BOOLEAN => push_truth(out, word),
+        _ => push_number(out, format, word),
     }
 }
 
 /// Adds the elements of an item that is neither a list nor a text.
-fn push_elements<'a>(out: &mut Vec<u8>, format: u8, words: &'a str) -> Result<(), Fault<'a>> {
+fn push_elements(out: &mut Vec<u8>, format: u8, words: &str) -> bool {
     for word in words.split_whitespace() {
-        if push_element(out, format, word).is_none() {
-            let why = match format {
-                BINARY => " is no byte of two hex digits",
-                BOOLEAN => " is neither true nor false",
-                _ => " is no number of its item",
-            };
-            return Err(Fault { word, why });
+        if !push_element(out, format, word) {
+            return false;
         }
     }
-    Ok(())
+    true
 }
 
-/// The format of an item that is no list.
-fn format_of(name: &str) -> Option<u8> {
-    let [kind, bytes] = name.as_bytes() else {
-        return match name {
-            "A" => Some(ASCII),
-            "B" => Some(BINARY),
-            "BOOL" => Some(BOOLEAN),
-            _ => None,
-        };
-    };
-    let numbers = match *kind {
+/// The format of numbers of these bytes of a name, as `U4`.
+fn number_format(kind: u8, count: u8) -> Option<u8> {
+    let numbers = match kind {
         b'I' => SIGNED,
         b'U' => UNSIGNED,
         _ => return None,
     };
-    match *bytes {
+    match count {
         b'1' => Some(numbers | 1),
         b'2' => Some(numbers | 2),
         b'4' => Some(numbers | 4),
@@ -218,26 +230,38 @@ fn format_of(name: &str) -> Option<u8> {
     }
 }
 
-/// Adds what stands behind the header of an item that is no list, of its words; its format.
-fn push_body<'a>(out: &mut Vec<u8>, words: &'a str) -> Result<u8, Fault<'a>> {
-    let (name, value) = words.split_once(' ').unwrap_or((words, ""));
-    let value = value.trim_start();
-    let Some(format) = format_of(name) else {
-        return Err(Fault {
-            word: name,
-            why: " is no item",
-        });
-    };
-    let pushed = if format == ASCII {
-        push_text(out, value)
-    } else {
-        push_elements(out, format, value)
-    };
-    match pushed {
-        Ok(()) => Ok(format),
-        Err(fault) => Err(fault),
+/// The format of an item that is no list.
+fn format_of(name: &str) -> Option<u8> {
+    match name {
+        "A" => Some(ASCII),
+        "B" => Some(BINARY),
+        "BOOL" => Some(BOOLEAN),
+        _ => match name.as_bytes() {
+            [kind, count] => number_format(*kind, *count),
+            _ => None,
+        },
     }
 }
+
+/// Adds what stands behind the header of an item of a format, of the words behind its name.
+fn push_value(out: &mut Vec<u8>, format: u8, words: &str) -> bool {
+    if format == ASCII {
+        push_text(out, words)
+    } else {
+        push_elements(out, format, words)
+    }
+}
+
+/// Adds what stands behind the header of an item that is no list, of its words; its format.
+fn push_body(out: &mut Vec<u8>, words: &str) -> Option<u8> {
+    let (name, value) = words.split_once(' ').unwrap_or((words, ""));
+    match format_of(name) {
+        Some(format) if push_value(out, format, value.trim_start()) => Some(format),
+        _ => None,
+    }
+}
+
+// ---- marks
 
 /// What ends a piece of words.
 #[derive(Clone, Copy, PartialEq, Eq)]
@@ -257,24 +281,26 @@ fn mark_of(letter: u8) -> Option<Mark> {
     }
 }
 
-/// How often what these words say stands here, and the words without that.
-pub fn times_of(words: &str) -> Result<(u32, &str), Fault<'_>> {
-    let Some((times, item)) = words.split_once(" times ") else {
-        return Ok((1, words));
-    };
-    for letter in times.bytes() {
-        if !letter.is_ascii_digit() {
-            return Ok((1, words));
-        }
-    }
-    match times.parse::<u32>() {
-        Ok(number) if 1 <= number && number <= 0xFF_FFFF => Ok((number, item.trim_start())),
-        _ => Err(Fault {
-            word: times,
-            why: " times is no number of elements",
-        }),
+/// The number of times that a word says.
+fn number_of_times(word: &str) -> Option<u32> {
+    match word.parse::<u32>() {
+        Ok(number) if 1 <= number && number <= 0xFF_FFFF => Some(number),
+        _ => None,
     }
 }
+
+/// How often what these words say stands here, and the words without that.
+pub fn times_of(words: &str) -> (u32, &str) {
+    match words.split_once(" times ") {
+        Some((times, item)) => match number_of_times(times) {
+            Some(number) => (number, item.trim_start()),
+            None => (1, words),
+        },
+        None => (1, words),
+    }
+}
+
+// ---- lists
 
 /// A list whose elements are read, and how often it stands where it stands.
 #[derive(Drop)]
@@ -284,179 +310,203 @@ struct Open {
     bytes: Vec<u8>,
 }
 
-/// Begins a list, as words in front of a bracket say.
-fn begin<'a>(alloc: Global, open: &mut Vec<Open>, words: &'a str) -> Result<(), Fault<'a>> {
-    match times_of(words) {
-        Ok((times, "L")) => {
-            let list = Open {
-                times,
-                elements: 0,
-                bytes: Vec::new(alloc),
-            };
-            match open.push(list) {
-                Ok(()) => Ok(()),
-                Err(_) => Err(NO_MEMORY),
+impl Open {
+    fn new(alloc: Global, times: u32) -> Open {
+        Open {
+            times,
+            elements: 0,
+            bytes: Vec::new(alloc),
+        }
+    }
+
+    /// Adds an element.
+    fn push(&mut self, format: u8, length: usize, body: &[u8]) -> bool {
+        self.elements = self.elements.saturating_add(1);
+        push_header(&mut self.bytes, format, length) && self.bytes.extend_from_slice(body).is_ok()
+    }
+
+    /// Adds an element so many times.
+    fn push_times(&mut self, format: u8, length: usize, body: &[u8], times: u32) -> bool {
+        for _ in 0..times {
+            if !self.push(format, length, body) {
+                return false;
             }
         }
-        Ok(_) => Err(Fault {
-            word: "",
-            why: "a bracket opens behind other words than L",
-        }),
-        Err(fault) => Err(fault),
+        true
     }
 }
 
-/// What is told of a bracket that closes more than was opened.
-const CLOSES_NOTHING: Fault<'_> = Fault {
-    word: "",
-    why: "a bracket closes nothing",
-};
-
-/// Adds an element to the innermost list, so many times.
-fn add(
-    open: &mut Vec<Open>,
-    format: u8,
-    length: usize,
-    body: &[u8],
-    times: u32,
-) -> Result<(), Fault<'static>> {
-    let Some(list) = open.last_mut() else {
-        return Err(CLOSES_NOTHING);
-    };
-    for _ in 0..times {
-        if let Err(fault) = push_header(&mut list.bytes, format, length) {
-            return Err(fault);
-        }
-        let Ok(()) = list.bytes.extend_from_slice(body) else {
-            return Err(NO_MEMORY);
-        };
-        list.elements = list.elements.saturating_add(1);
-    }
-    Ok(())
-}
-
-/// Ends the innermost list, which is then an element of the one around it.
-fn close(open: &mut Vec<Open>) -> Result<(), Fault<'static>> {
-    match open.pop() {
-        Some(list) => add(open, LIST, list.elements, list.bytes.as_slice(), list.times),
-        None => Err(CLOSES_NOTHING),
-    }
-}
-
-/// Takes the words in front of a comma, a bracket that closes or the end, where there may be none or must be some.
-fn take_words<'a>(
-    alloc: Global,
-    open: &mut Vec<Open>,
-    words: &'a str,
-    may_be_none: bool,
-) -> Result<(), Fault<'a>> {
-    if words.is_empty() {
-        return if may_be_none {
-            Ok(())
-        } else {
-            Err(Fault {
-                word: "",
-                why: "an item is missing",
-            })
-        };
-    }
-    match times_of(words) {
-        Ok((times, words)) => {
-            let mut body = Vec::new(alloc);
-            match push_body(&mut body, words) {
-                Ok(format) => add(open, format, body.len(), body.as_slice(), times),
-                Err(fault) => Err(fault),
-            }
-        }
-        Err(fault) => Err(fault),
-    }
-}
-
-/// Takes the words between two marks.
-fn take<'a>(
-    alloc: Global,
-    open: &mut Vec<Open>,
-    words: &'a str,
+/// Where the piece of words begins that is read, the mark in front of it, and whether a quote is open.
+#[derive(Clone, Copy)]
+struct Cut {
+    begin: usize,
     before: Mark,
-    mark: Mark,
-) -> Result<(), Fault<'a>> {
-    let is_behind_list = before == Mark::Closes;
-    if is_behind_list && !words.is_empty() {
-        return Err(Fault {
-            word: "",
-            why: "words stand right behind a list",
-        });
-    }
-    match mark {
-        Mark::Opens => begin(alloc, open, words),
-        Mark::Closes => {
-            let may_be_none = is_behind_list || before == Mark::Opens;
-            match take_words(alloc, open, words, may_be_none) {
-                Ok(()) => close(open),
-                Err(fault) => Err(fault),
-            }
-        }
-        Mark::Comma | Mark::End => take_words(alloc, open, words, is_behind_list),
-    }
+    is_quoted: bool,
 }
 
-/// Reads these words, which are cut at the brackets and commas that stand in no quotes.
-fn take_all<'a>(alloc: Global, open: &mut Vec<Open>, words: &'a str) -> Result<(), Fault<'a>> {
-    let mut before = Mark::Comma;
-    let mut is_quoted = false;
-    let mut begin = 0usize;
-    for (place, letter) in words.bytes().enumerate() {
+impl Cut {
+    fn new() -> Cut {
+        Cut {
+            begin: 0,
+            before: Mark::Comma,
+            is_quoted: false,
+        }
+    }
+
+    /// The mark that a letter is, if it is one and stands in no quotes.
+    fn mark(&mut self, letter: u8) -> Option<Mark> {
         if letter == b'"' {
-            is_quoted = !is_quoted;
+            self.is_quoted = !self.is_quoted;
         }
-        if !is_quoted && let Some(mark) = mark_of(letter) {
-            let piece = words.get(begin..place).unwrap_or("").trim();
-            if let Err(fault) = take(alloc, open, piece, before, mark) {
-                return Err(fault);
+        if self.is_quoted {
+            None
+        } else {
+            mark_of(letter)
+        }
+    }
+
+    /// The piece in front of a mark at this place; the next begins behind it.
+    fn piece<'a>(&mut self, words: &'a str, place: usize, mark: Mark) -> &'a str {
+        let piece = words.get(self.begin..place).unwrap_or("").trim();
+        self.begin = place.saturating_add(1);
+        self.before = mark;
+        piece
+    }
+}
+
+/// The lists whose elements are read, of which the outermost is what has the item itself; what of the words is read; and why they
+/// cannot be.
+#[derive(Drop)]
+struct Spelling {
+    open: Vec<Open>,
+    cut: Cut,
+    why: &'static str,
+}
+
+impl Spelling {
+    fn new(alloc: Global) -> Spelling {
+        Spelling {
+            open: Vec::new(alloc),
+            cut: Cut::new(),
+            why: "an item is too long, or there is no memory",
+        }
+    }
+
+    /// The words cannot be read, for this reason.
+    fn wrong(&mut self, why: &'static str) -> bool {
+        self.why = why;
+        false
+    }
+
+    /// Begins a list.
+    fn open(&mut self, alloc: Global, times: u32) -> bool {
+        self.open.push(Open::new(alloc, times)).is_ok()
+    }
+
+    /// Begins a list, as words in front of a bracket say.
+    fn begin(&mut self, alloc: Global, words: &str) -> bool {
+        match times_of(words) {
+            (times, "L") => self.open(alloc, times),
+            _ => self.wrong("a bracket opens behind other words than L"),
+        }
+    }
+
+    /// Adds an element to the innermost list, so many times.
+    fn add(&mut self, format: u8, length: usize, body: &[u8], times: u32) -> bool {
+        match self.open.last_mut() {
+            Some(list) => list.push_times(format, length, body, times),
+            None => self.wrong("a bracket closes nothing"),
+        }
+    }
+
+    /// Ends the innermost list, which is then an element of the one around it.
+    fn close(&mut self) -> bool {
+        match self.open.pop() {
+            Some(list) => self.add(LIST, list.elements, list.bytes.as_slice(), list.times),
+            None => false,
+        }
+    }
+
+    /// Adds the item that these words say, so many times.
+    fn add_item(&mut self, alloc: Global, words: &str, times: u32) -> bool {
+        let mut body = Vec::new(alloc);
+        match push_body(&mut body, words) {
+            Some(format) => self.add(format, body.len(), body.as_slice(), times),
+            None => self.wrong("an item is spelled in no known way"),
+        }
+    }
+
+    /// Takes the words in front of a comma, a bracket that closes or the end, where there may be none or must be some.
+    fn take_words(&mut self, alloc: Global, words: &str, may_be_none: bool) -> bool {
+        if !words.is_empty() {
+            let (times, words) = times_of(words);
+            return self.add_item(alloc, words, times);
+        }
+        may_be_none || self.wrong("an item is missing")
+    }
+
+    /// Takes the words in front of a bracket that closes.
+    fn take_last(&mut self, alloc: Global, words: &str, before: Mark) -> bool {
+        self.take_words(alloc, words, before != Mark::Comma) && self.close()
+    }
+
+    /// Takes the words between two marks.
+    fn take(&mut self, alloc: Global, words: &str, before: Mark, mark: Mark) -> bool {
+        let is_behind_list = before == Mark::Closes;
+        if is_behind_list && !words.is_empty() {
+            return self.wrong("words stand right behind a list");
+        }
+        match mark {
+            Mark::Opens => self.begin(alloc, words),
+            Mark::Closes => self.take_last(alloc, words, before),
+            _ => self.take_words(alloc, words, is_behind_list),
+        }
+    }
+
+    /// Takes the words in front of a mark at this place.
+    fn take_to(&mut self, alloc: Global, words: &str, place: usize, mark: Mark) -> bool {
+        let before = self.cut.before;
+        let piece = self.cut.piece(words, place, mark);
+        self.take(alloc, piece, before, mark)
+    }
+
+    /// Reads these words, which are cut at the brackets and commas that stand in no quotes.
+    fn take_all(&mut self, alloc: Global, words: &str) -> bool {
+        for (place, letter) in words.bytes().enumerate() {
+            if let Some(mark) = self.cut.mark(letter)
+                && !self.take_to(alloc, words, place, mark)
+            {
+                return false;
             }
-            before = mark;
-            begin = place.saturating_add(1);
+        }
+        self.take_to(alloc, words, words.len(), Mark::End)
+    }
+
+    /// The bytes of the one item that was read, where all lists are closed.
+    fn whole(&mut self) -> Option<Vec<u8>> {
+        self.why = "a list has no bracket at its end, or a message has several items";
+        match self.open.pop() {
+            Some(whole) if self.open.is_empty() && whole.elements == 1 => Some(whole.bytes),
+            _ => None,
         }
     }
-    let piece = words.get(begin..).unwrap_or("").trim();
-    take(alloc, open, piece, before, Mark::End)
-}
 
-/// The bytes of the one item that was read, where all lists are closed.
-fn whole(open: &mut Vec<Open>) -> Result<Vec<u8>, Fault<'static>> {
-    let Some(whole) = open.pop() else {
-        return Err(CLOSES_NOTHING);
-    };
-    if !open.is_empty() {
-        return Err(Fault {
-            word: "",
-            why: "a list has no bracket at its end",
-        });
-    }
-    if whole.elements == 1 {
-        Ok(whole.bytes)
-    } else {
-        Err(Fault {
-            word: "",
-            why: "a message has one item",
-        })
+    /// Reads the one item that these words say.
+    fn read(&mut self, alloc: Global, words: &str) -> Option<Vec<u8>> {
+        if self.open(alloc, 1) && self.take_all(alloc, words) {
+            self.whole()
+        } else {
+            None
+        }
     }
 }
 
-/// The item that these words say.
-pub fn bytes_of<'a>(alloc: Global, words: &'a str) -> Result<Vec<u8>, Fault<'a>> {
-    let mut open = Vec::new(alloc);
-    let outermost = Open {
-        times: 1,
-        elements: 0,
-        bytes: Vec::new(alloc),
-    };
-    match open.push(outermost) {
-        Ok(()) => match take_all(alloc, &mut open, words) {
-            Ok(()) => whole(&mut open),
-            Err(fault) => Err(fault),
-        },
-        Err(_) => Err(NO_MEMORY),
+/// The item that these words say. The error is why they cannot be read.
+pub fn bytes_of(alloc: Global, words: &str) -> Result<Vec<u8>, &'static str> {
+    let mut spelling = Spelling::new(alloc);
+    match spelling.read(alloc, words) {
+        Some(bytes) => Ok(bytes),
+        None => Err(spelling.why),
     }
 }
 
@@ -464,6 +514,6 @@ pub fn bytes_of<'a>(alloc: Global, words: &'a str) -> Result<Vec<u8>, Fault<'a>>
 pub fn item(alloc: Global, words: &str) -> Result<Vec<u8>> {
     match bytes_of(alloc, words) {
         Ok(bytes) => Ok(bytes),
-        Err(fault) => bail!("{}{}", fault.word, fault.why),
+        Err(why) => bail!("{why}"),
     }
 }

@@ -8,7 +8,7 @@
 //!
 //! The contracts of a core are long, so each of its calls stands in one function without a clause, that gives back words.
 
-use crate::posted::{add_answer, add_fault, event, moment, number};
+use crate::posted::{add_answer, add_fault, event, moment, number, posted, word};
 use anyhow::{Result, bail};
 use event_reports::Values;
 use gem_ids::Moment;
@@ -16,7 +16,7 @@ use item_model::Item;
 use std::alloc::Global;
 use test_lines::{Subject, words};
 use tool_core::Core;
-use tool_events::{Answer, Event, PostFault};
+use tool_events::Event;
 
 /// A core, until it is closed.
 #[derive(Drop)]
@@ -63,13 +63,27 @@ fn add_closed(core: Option<Core>, answer: &mut String) -> Option<()> {
 }
 
 fn answer_of(alloc: Global, core: &mut Core, words: &[&str], answer: &mut String) -> Option<()> {
-    match *words.first()? {
+    match word(words, 0) {
         "at" => post(alloc, core, words, answer),
         "waits" => add_waits(alloc, core, words, answer),
-        word => match words.get(1) {
-            Some(number) => show(alloc, core, word, number.parse::<u64>().ok()?, answer),
-            None => count(core, word, answer),
-        },
+        asked => asked_of(alloc, core, asked, words, answer),
+    }
+}
+
+// What a core is asked by a word, and a number where one stands.
+fn asked_of(
+    alloc: Global,
+    core: &Core,
+    asked: &str,
+    words: &[&str],
+    answer: &mut String,
+) -> Option<()> {
+    if words.len() == 1 {
+        return count(core, asked, answer);
+    }
+    match number(words, 1) {
+        Some(number) => show(alloc, core, asked, number, answer),
+        None => None,
     }
 }
 
@@ -77,11 +91,7 @@ fn answer_of(alloc: Global, core: &mut Core, words: &[&str], answer: &mut String
 fn show(alloc: Global, core: &Core, word: &str, number: u64, answer: &mut String) -> Option<()> {
     match word {
         "fate" => add_fate(core, number, answer),
-        "value" => add_value(
-            alloc,
-            &value(alloc, core, u32::try_from(number).ok()?)?,
-            answer,
-        ),
+        "value" => show_value(alloc, core, number, answer),
         "end" => add_end(core, number, answer),
         "bytes" => add_bytes(core, number, answer),
         "entry" => add_entry(core, number as usize, answer),
@@ -89,16 +99,22 @@ fn show(alloc: Global, core: &Core, word: &str, number: u64, answer: &mut String
     }
 }
 
-// What seat 1 is answered.
-fn posted(alloc: Global, core: &mut Core, at: Moment, event: Event) -> Result<Answer, PostFault> {
-    core.apply(alloc, 1, at, event)
+fn post(alloc: Global, core: &mut Core, words: &[&str], answer: &mut String) -> Option<()> {
+    match (moment(words), event(alloc, words)) {
+        (Some(at), Some(event)) => add_posted(alloc, core, at, event, answer),
+        _ => None,
+    }
 }
 
-fn post(alloc: Global, core: &mut Core, words: &[&str], answer: &mut String) -> Option<()> {
-    let Some(at) = moment(words) else {
-        return None;
-    };
-    match &posted(alloc, core, at, event(alloc, words)?) {
+// Posts an event; its answer.
+fn add_posted(
+    alloc: Global,
+    core: &mut Core,
+    at: Moment,
+    event: Event,
+    answer: &mut String,
+) -> Option<()> {
+    match &posted(alloc, core, at, event) {
         Ok(given) => add_answer(alloc, given, answer),
         Err(fault) => add_fault(*fault, answer),
     }
@@ -106,16 +122,18 @@ fn post(alloc: Global, core: &mut Core, words: &[&str], answer: &mut String) -> 
 
 // Whether an event has to wait.
 fn add_waits(alloc: Global, core: &Core, words: &[&str], answer: &mut String) -> Option<()> {
-    let Some(at) = moment(words) else {
-        return None;
-    };
-    let Some(event) = event(alloc, words) else {
-        return None;
-    };
-    let Some(waits) = waits(core, at, &event) else {
-        return None;
-    };
-    write!(answer, "{waits}").ok()
+    match (moment(words), event(alloc, words)) {
+        (Some(at), Some(event)) => add_truth(waits(core, at, &event), answer),
+        _ => None,
+    }
+}
+
+fn add_truth(truth: Option<bool>, answer: &mut String) -> Option<()> {
+    match truth {
+        Some(true) => answer.push_str("true").ok(),
+        Some(false) => answer.push_str("false").ok(),
+        None => None,
+    }
 }
 
 // A core that is not whole is asked nothing.
@@ -136,26 +154,47 @@ fn add_fate(core: &Core, number: u64, answer: &mut String) -> Option<()> {
     write!(answer, "{fate:?}").ok()
 }
 
-// The value of a variable.
-fn value(alloc: Global, core: &Core, vid: u32) -> Option<Option<Item>> {
-    core.value(alloc, vid).ok()
+/// The value of a variable outside a firing. This has no clause, as the function above.
+pub(crate) fn value(alloc: Global, core: &Core, variable: u32) -> Option<Option<Item>> {
+    core.value(alloc, variable).ok()
 }
 
-// The value of a variable in words.
-fn add_value(alloc: Global, item: &Option<Item>, answer: &mut String) -> Option<()> {
+// The value of a variable of this number.
+fn show_value(alloc: Global, core: &Core, number: u64, answer: &mut String) -> Option<()> {
+    let Ok(variable) = u32::try_from(number) else {
+        return None;
+    };
+    match &value(alloc, core, variable) {
+        Some(Some(item)) => add_item(alloc, item, answer),
+        Some(None) => answer.push_str("none").ok(),
+        None => None,
+    }
+}
+
+// A text in words.
+fn add_text(alloc: Global, text: &[u8], answer: &mut String) -> Option<()> {
+    match String::from_utf8_lossy(alloc, text) {
+        Ok(text) => write!(answer, "A {:?}", text.as_str()).ok(),
+        Err(_) => None,
+    }
+}
+
+// An item in words.
+fn add_item(alloc: Global, item: &Item, answer: &mut String) -> Option<()> {
     match item {
-        Some(Item::Ascii(text)) => {
-            let Ok(text) = String::from_utf8_lossy(alloc, text.as_slice()) else {
-                return None;
-            };
-            write!(answer, "A {:?}", text.as_str()).ok()
-        }
-        Some(Item::Bool(truths)) => write!(answer, "BOOL {:?}", truths.as_slice()).ok(),
-        Some(Item::U1(numbers)) => write!(answer, "U1 {:?}", numbers.as_slice()).ok(),
-        Some(Item::U2(numbers)) => write!(answer, "U2 {:?}", numbers.as_slice()).ok(),
-        Some(Item::U4(numbers)) => write!(answer, "U4 {:?}", numbers.as_slice()).ok(),
-        Some(_) => None,
-        None => answer.push_str("none").ok(),
+        Item::Ascii(text) => add_text(alloc, text.as_slice(), answer),
+        Item::Bool(truths) => write!(answer, "BOOL {:?}", truths.as_slice()).ok(),
+        item => add_numbers(item, answer),
+    }
+}
+
+// An item of numbers in words.
+fn add_numbers(item: &Item, answer: &mut String) -> Option<()> {
+    match item {
+        Item::U1(numbers) => write!(answer, "U1 {:?}", numbers.as_slice()).ok(),
+        Item::U2(numbers) => write!(answer, "U2 {:?}", numbers.as_slice()).ok(),
+        Item::U4(numbers) => write!(answer, "U4 {:?}", numbers.as_slice()).ok(),
+        _ => None,
     }
 }
 

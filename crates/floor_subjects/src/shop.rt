@@ -3,65 +3,61 @@
 //!
 //! A port stands as its number, and a row as its table, the number of its port or that of creation of its carrier, and its own.
 
-use crate::words::{add, is_at, small};
-use anyhow::{Result, bail};
+use crate::carrier_names::{action, carrier};
 use carrier::CarrierAction;
-use carrier_subjects::{action, carrier};
-use gem_ids::{CarrierId, PortNo, Text80};
+use gem_ids::{CarrierId, PortNo};
 use gem_tables::Firing;
 use load_port::PortAction;
+use said_words::{
+    WordSubject, add, add_bytes, add_count, add_truth, named, small, text_at, word_at,
+};
 use shop_floor::ShopFloor;
 use std::alloc::Global;
-use test_lines::{Subject, words};
 
 /// A shop floor, and the rows that fired at it since they were last told.
 #[derive(Drop)]
-pub struct Floor {
+pub(crate) struct Floor {
     floor: ShopFloor,
     fired: String,
 }
 
 impl Floor {
-    /// A floor of so many ports. The error: there are more than four, or there is no memory.
-    pub fn new(alloc: Global, ports: u8) -> Result<Floor> {
-        if ports <= 4
-            && let Ok(floor) = ShopFloor::new(alloc, ports)
-        {
-            let fired = String::new(alloc);
-            Ok(Floor { floor, fired })
-        } else {
-            bail!("a floor has at most four ports, and wants memory")
+    /// A floor of so many ports. None where there are more than four, or no memory.
+    pub(crate) fn new(alloc: Global, ports: u8) -> Option<Floor> {
+        if ports > 4 {
+            return None;
+        }
+        match ShopFloor::new(alloc, ports) {
+            Ok(floor) => Some(Floor {
+                floor,
+                fired: String::new(alloc),
+            }),
+            Err(_) => None,
         }
     }
 }
 
-impl Subject for Floor {
-    fn answer(&mut self, alloc: Global, said: &str) -> Result<String> {
-        let words = words(alloc, said)?;
-        let mut answer = String::new(alloc);
-        match say(self, words.as_slice(), &mut answer) {
-            Some(()) => Ok(answer),
-            None => bail!("it says nothing, or there is no memory"),
+impl WordSubject for Floor {
+    fn say(&mut self, _alloc: Global, words: &[&str], answer: &mut String) -> Option<()> {
+        match small(words, 1) {
+            Some(number) => at(self, number, words, answer),
+            None => say_word(self, words, answer),
         }
     }
 }
 
-// Says the words of a line to the floor; the answer. None where they say nothing.
-fn say(of: &mut Floor, words: &[&str], answer: &mut String) -> Option<()> {
-    let Some(first) = words.first() else {
-        return None;
-    };
-    match *first {
+// What a line says by its first word, where no number stands behind it.
+fn say_word(of: &mut Floor, words: &[&str], answer: &mut String) -> Option<()> {
+    match word_at(words, 0) {
         "ask" => ask(of, words, answer),
         "settle" => settle(of),
-        "fired" => tell_fired(of, answer),
-        "present" | "known" | "stopped" => match carrier(words, 1) {
-            Some(name) => add_known(answer, &of.floor, name, first),
-            None => None,
-        },
-        "mark" => mark(of, words),
-        first => match small(words, 1) {
-            Some(number) => at(of, first, number, words, answer),
+        "fired" => {
+            tell_fired(of, answer);
+            Some(())
+        }
+        "mark" => mark(&mut of.floor, words),
+        call => match carrier(words, 1) {
+            Some(name) => add_known(answer, &of.floor, name, call),
             None => None,
         },
     }
@@ -74,21 +70,34 @@ fn fire(of: &mut Floor, x: Firing) -> Option<()> {
     if !of.floor.starts(x) {
         return Some(());
     }
-    let Ok(()) = of.floor.fire(x) else {
-        return None;
-    };
-    let gap = if of.fired.is_empty() { "" } else { " " };
-    write!(of.fired, "{gap}{}.{}.{}", x.row.table, x.object, x.row.row).ok()
+    match of.floor.fire(x) {
+        Ok(()) => {
+            add_firing(&mut of.fired, x);
+            Some(())
+        }
+        Err(_) => None,
+    }
+}
+
+fn add_firing(fired: &mut String, x: Firing) {
+    let gap = if fired.is_empty() { "" } else { " " };
+    let (table, object, row) = (x.row.table, x.object, x.row.row);
+    let _ = write!(fired, "{gap}{table}.{object}.{row}");
 }
 
 // A row fires where it starts, and then those of the carrier that it creates.
 fn fire_all(of: &mut Floor, x: Firing) -> Option<()> {
     let creations = of.floor.creations(x);
-    let Some(()) = fire(of, x) else {
-        return None;
-    };
-    for creation in creations.as_slice() {
-        let Some(()) = fire(of, *creation) else {
+    match fire(of, x) {
+        Some(()) => fire_each(of, creations.as_slice()),
+        None => None,
+    }
+}
+
+// Rows fire where they start, one behind the other.
+fn fire_each(of: &mut Floor, rows: &[Firing]) -> Option<()> {
+    for row in rows {
+        let Some(()) = fire(of, *row) else {
             return None;
         };
     }
@@ -109,70 +118,77 @@ fn settle(of: &mut Floor) -> Option<()> {
 }
 
 // The rows that fired, which are told no more.
-fn tell_fired(of: &mut Floor, answer: &mut String) -> Option<()> {
-    let Ok(()) = answer.push_str(of.fired.as_str()) else {
-        return None;
-    };
+fn tell_fired(of: &mut Floor, answer: &mut String) {
+    add(answer, of.fired.as_str());
     of.fired.clear();
-    Some(())
 }
 
 // ---- what is done with a port or in a table of this number
 
-// A carrier is placed at or removed from a port, and rows fire; it comes, and nothing fires by itself yet; a row fires, or it is told
-// whether it starts, and at whom; whether a port is ready to unload, and what a reservation of it is answered.
-fn at(of: &mut Floor, call: &str, number: u8, words: &[&str], answer: &mut String) -> Option<()> {
-    match call {
+// A carrier is placed at or removed from a port, and rows fire; it comes, and nothing fires by itself yet; whether a port is ready to
+// unload, and what a reservation of it is answered.
+fn at(of: &mut Floor, number: u8, words: &[&str], answer: &mut String) -> Option<()> {
+    match word_at(words, 0) {
         "come" => come(of, number, words),
         "place" => match come(of, number, words) {
             Some(()) => settle(of),
             None => None,
         },
         "remove" => remove(of, u64::from(number)),
-        "ready" => write!(answer, "{}", of.floor.is_ready_to_unload(PortNo(number))).ok(),
-        "reserve" => {
-            let code = of.floor.port_code(&PortAction::Reserve(number));
-            write!(answer, "{}", code.number()).ok()
-        }
-        _ => {
-            let (Some(object), row) = (small(words, 2), small(words, 3).unwrap_or(1)) else {
-                return None;
-            };
-            of_row(
-                of,
-                call,
-                Firing::new(number, u64::from(object), row),
-                answer,
-            )
-        }
+        _ => ask_port(of, number, words, answer),
     }
 }
 
+fn ask_port(of: &mut Floor, number: u8, words: &[&str], answer: &mut String) -> Option<()> {
+    match word_at(words, 0) {
+        "ready" => add_truth(answer, of.floor.is_ready_to_unload(PortNo(number))),
+        "reserve" => {
+            let code = of.floor.port_code(&PortAction::Reserve(number));
+            add_count(answer, u64::from(code.number()));
+        }
+        _ => return in_table(of, number, words, answer),
+    }
+    Some(())
+}
+
+// The row at an object of a table, row 1 where none is named.
+fn in_table(of: &mut Floor, table: u8, words: &[&str], answer: &mut String) -> Option<()> {
+    match small(words, 2) {
+        Some(object) => {
+            let row = small(words, 3).unwrap_or(1);
+            let x = Firing::new(table, u64::from(object), row);
+            of_row(of, word_at(words, 0), x, answer)
+        }
+        None => None,
+    }
+}
+
+// A row fires, or it is told whether it starts, and at whom.
 fn of_row(of: &mut Floor, call: &str, x: Firing, answer: &mut String) -> Option<()> {
     match call {
-        "fire" => fire_all(of, x),
-        "starts" => write!(answer, "{}", of.floor.starts(x)).ok(),
-        "name" => add(answer, of.floor.object_name(x).as_bytes()),
-        _ => None,
+        "fire" => return fire_all(of, x),
+        "starts" => add_truth(answer, of.floor.starts(x)),
+        "name" => add_bytes(answer, of.floor.object_name(x).as_bytes()),
+        _ => return None,
     }
+    Some(())
 }
 
 // A carrier comes to a port, with the name that is read (`unread` where none was) and its map.
 fn come(of: &mut Floor, port: u8, words: &[&str]) -> Option<()> {
-    let name = carrier(words, 2);
-    let id = if is_at(words, 2, "unread") {
-        None
-    } else {
-        name
-    };
-    let (Some(_), Some(map)) = (name, map(words, 3)) else {
-        return None;
-    };
+    match (carrier(words, 2), named(&MAPS, words, 3)) {
+        (Some(_), Some(map)) if word_at(words, 2) == "unread" => come_as(of, port, None, map),
+        (Some(name), Some(map)) => come_as(of, port, Some(name), map),
+        _ => None,
+    }
+}
+
+fn come_as(of: &mut Floor, port: u8, name: Option<CarrierId>, map: [u8; 25]) -> Option<()> {
     let number = PortNo(port);
     if !of.floor.has_port(number) {
         return None;
     }
-    let arrival = of.floor.arrival(number, id, map);
+    let arrival = of.floor.arrival(number, name, map);
     of.floor.come(number, arrival);
     fire_all(of, Firing::new(4, u64::from(port), 3))
 }
@@ -191,15 +207,14 @@ fn remove(of: &mut Floor, port: u64) -> Option<()> {
 // ---- what process jobs do
 
 // The carrier of a name is marked stopped.
-fn mark(of: &mut Floor, words: &[&str]) -> Option<()> {
-    let Some(word) = words.get(1) else {
-        return None;
-    };
-    let Ok(name) = Text80::read(word.as_bytes()) else {
-        return None;
-    };
-    of.floor.mark_stopped(name);
-    Some(())
+fn mark(floor: &mut ShopFloor, words: &[&str]) -> Option<()> {
+    match text_at(words, 1) {
+        Some(name) => {
+            floor.mark_stopped(name);
+            Some(())
+        }
+        None => None,
+    }
 }
 
 // ---- what the host asks
@@ -210,17 +225,20 @@ fn ask(of: &mut Floor, words: &[&str], answer: &mut String) -> Option<()> {
         return None;
     };
     let code = of.floor.carrier_code(&action);
-    let Ok(()) = write!(answer, "{}", code.number()) else {
-        return None;
-    };
+    add_count(answer, u64::from(code.number()));
     if !code.is_done() {
         return Some(());
     }
     let rows = of.floor.carrier_rows(&action);
-    let Ok(()) = of.floor.write(&action) else {
-        return None;
-    };
-    for row in rows.as_slice() {
+    match of.floor.write(&action) {
+        Ok(()) => follow(of, rows.as_slice()),
+        Err(_) => None,
+    }
+}
+
+// Rows fire with those that they create, and then others by themselves.
+fn follow(of: &mut Floor, rows: &[Firing]) -> Option<()> {
+    for row in rows {
         let Some(()) = fire_all(of, *row) else {
             return None;
         };
@@ -230,51 +248,44 @@ fn ask(of: &mut Floor, words: &[&str], answer: &mut String) -> Option<()> {
 
 // What the host asks for: an action, a carrier, a port, and a map, where one is given.
 fn asked(words: &[&str]) -> Option<CarrierAction> {
-    let (Some(word), Some(name), Some(port)) = (action(words, 1), words.get(2), small(words, 3))
-    else {
-        return None;
-    };
-    let Ok(id) = Text80::read(name.as_bytes()) else {
-        return None;
-    };
-    let map = map(words, 4);
+    let map = named(&MAPS, words, 4);
     if map.is_none() && words.len() > 4 {
         return None;
     }
-    Some(CarrierAction {
-        word,
-        id,
-        port,
-        map,
-        bad_attr: false,
-    })
+    match (action(words, 1), text_at(words, 2), small(words, 3)) {
+        (Some(word), Some(id), Some(port)) => Some(CarrierAction {
+            word,
+            id,
+            port,
+            map,
+            bad_attr: false,
+        }),
+        _ => None,
+    }
 }
 
 // ---- what is told
 
 // Whether a carrier is known, whether it is present, or whether it is marked stopped.
 fn add_known(answer: &mut String, floor: &ShopFloor, name: CarrierId, call: &str) -> Option<()> {
-    let holds = match floor.carrier_named(name.text()) {
-        Some(carrier) => match call {
-            "known" => true,
-            "present" => carrier.present,
-            _ => carrier.stopped,
-        },
-        None => false,
+    let found = floor.carrier_named(name.text());
+    let holds = match call {
+        "known" => found.is_some(),
+        "present" => matches!(&found, Some(carrier) if carrier.present),
+        "stopped" => matches!(&found, Some(carrier) if carrier.stopped),
+        _ => return None,
     };
-    write!(answer, "{holds}").ok()
+    add_truth(answer, holds);
+    Some(())
 }
 
-// The map at a place of a line: its slots are correctly occupied, or one is undefined.
-fn map(words: &[&str], place: usize) -> Option<[u8; 25]> {
-    let Some(word) = words.get(place) else {
-        return None;
-    };
-    match *word {
-        "good" => Some([3; 25]),
-        "bad" => Some([
+// The map of a carrier whose slots are correctly occupied, and that of one with an undefined slot.
+const MAPS: [(&str, [u8; 25]); 2] = [
+    ("good", [3; 25]),
+    (
+        "bad",
+        [
             3, 3, 3, 3, 3, 3, 3, 0, 3, 3, 3, 3, 3, 3, 3, 3, 3, 3, 3, 3, 3, 3, 3, 3, 3,
-        ]),
-        _ => None,
-    }
-}
+        ],
+    ),
+];

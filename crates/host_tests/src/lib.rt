@@ -1,7 +1,10 @@
-//! Tests of the host actor (`host_actor`) by its public name, over desks, links and a door in memory. It has no code of its own,
+//! Tests with threads: of the host actor (`host_actor`), over desks, links and a door in memory, and of a gate that holds a thread, by
+//! their public names. It has no code of its own,
 //! and nothing stands on it. Expected values are worked by hand, and calls are made with ample memory.
 #![tactic(auto)]
 
+#[cfg(test)]
+mod held;
 #[cfg(test)]
 mod hosting;
 #[cfg(test)]

@@ -3,10 +3,10 @@
 ghost use Rattle.std.specs.Prelude.{◌≡◌, length, IfOk};
 ghost use Rattle.message_model.specs.GemSendable.{AreCharacters, HasSendableParts};
 
+use crate::texts::{is_text, sent};
 use item_model::{Bytes, NoMemory};
 use message_model::{BodyFault, GemReply, Identity};
 use msgs_gem::{is_ignored, read_gem};
-use reply_texts::{is_text, sent};
 use std::alloc::Global;
 use std::test::Fail;
 
@@ -30,6 +30,14 @@ fn six_messages_have_an_ignored_text(rt: HostRuntime) {
     assert_eq!(rt; false_ignored(IGNORED.as_slice()), None);
 }
 
+// The fault of function 9 of a stream.
+fn fault_of(alloc: Global, stream: u8) -> Option<BodyFault> {
+    match &read_gem(alloc, stream, 9, None) {
+        Err(fault) => Some(*fault),
+        Ok(_) => None,
+    }
+}
+
 // The first stream whose function 9 has another fault than that the function is unknown, of a stream that some message
 // has, or else that the stream is.
 fn false_fault(alloc: Global) -> Option<u8> {
@@ -39,7 +47,7 @@ fn false_fault(alloc: Global) -> Option<u8> {
         } else {
             BodyFault::UnknownStream
         };
-        if !matches!(&read_gem(alloc, stream, 9, None), Err(fault) if *fault == want) {
+        if fault_of(alloc, stream) != Some(want) {
             return Some(stream);
         }
     }
@@ -88,17 +96,17 @@ fn revision(alloc: Global) -> Result<Bytes, NoMemory>
 
 // What the tool tells of itself.
 fn data(alloc: Global) -> Result<Vec<u8>, NoMemory> {
-    sent(alloc, &GemReply::S1F2(model(alloc)?, revision(alloc)?))
+    sent(alloc, GemReply::S1F2(model(alloc)?, revision(alloc)?))
 }
 
 fn establish(alloc: Global) -> Result<Vec<u8>, NoMemory> {
-    sent(alloc, &GemReply::S1F13(model(alloc)?, revision(alloc)?))
+    sent(alloc, GemReply::S1F13(model(alloc)?, revision(alloc)?))
 }
 
 fn acknowledge(alloc: Global) -> Result<Vec<u8>, NoMemory> {
     let mdln = model(alloc)?;
     let softrev = revision(alloc)?;
-    sent(alloc, &GemReply::S1F14(Identity { mdln, softrev }))
+    sent(alloc, GemReply::S1F14(Identity { mdln, softrev }))
 }
 
 #[test]
@@ -119,7 +127,7 @@ fn the_tool_tells_its_model_and_then_its_revision(rt: HostRuntime) -> Result<(),
 
 // The text of the time.
 fn told_time(alloc: Global) -> Result<Vec<u8>, NoMemory> {
-    sent(alloc, &GemReply::S2F18(characters(alloc)?))
+    sent(alloc, GemReply::S2F18(characters(alloc)?))
 }
 
 fn characters(alloc: Global) -> Result<Bytes, NoMemory>
@@ -131,9 +139,9 @@ fn characters(alloc: Global) -> Result<Bytes, NoMemory>
 #[test]
 fn a_code_is_one_binary_byte_and_the_time_is_ascii(rt: HostRuntime) -> Result<(), Fail> {
     let alloc = rt.alloc();
-    is_text(alloc, sent(alloc, &GemReply::S1F16), "210100")?;
-    is_text(alloc, sent(alloc, &GemReply::S1F18(2)), "210102")?;
-    is_text(alloc, sent(alloc, &GemReply::S2F32(1)), "210101")?;
+    is_text(alloc, sent(alloc, GemReply::S1F16), "210100")?;
+    is_text(alloc, sent(alloc, GemReply::S1F18(2)), "210102")?;
+    is_text(alloc, sent(alloc, GemReply::S2F32(1)), "210101")?;
     is_text(
         alloc,
         told_time(alloc),
@@ -161,7 +169,7 @@ const HEADER: [u8; 10] = [0x00, 0x00, 0x81, 0x05, 0x00, 0x00, 0x00, 0x00, 0x00, 
 
 // The text of such a message about the header.
 fn error(alloc: Global, function: u8) -> Result<Vec<u8>, NoMemory> {
-    sent(alloc, &of_stream_9(function, made(alloc, &HEADER)?))
+    sent(alloc, of_stream_9(function, made(alloc, &HEADER)?))
 }
 
 #[test]

@@ -8,21 +8,23 @@
 
 ghost use Rattle.std.specs.Prelude.{◌≤◌};
 
-use anyhow::{Result, bail};
 use hsms_frame::Bytes;
+use said_words::{WordSubject, add, add_count, add_truth, middle, named, number, small, word_at};
 use spool::{Kind, Note, Pushed, Spool};
 use std::alloc::Global;
-use test_lines::{Subject, bytes, words};
+use test_lines::bytes;
+
+const KINDS: [(&str, Kind); 2] = [("event", Kind::Event), ("alarm", Kind::Alarm)];
 
 /// A spool.
 #[derive(Drop)]
-pub struct Spooled {
+pub(crate) struct Spooled {
     spool: Spool,
 }
 
 impl Spooled {
     /// A spool with room for so many notes, 1 to 65,536.
-    pub fn new(alloc: Global, room: u32) -> Option<Spooled> {
+    pub(crate) fn new(alloc: Global, room: u32) -> Option<Spooled> {
         if room < 1 || room > 65_536 {
             return None;
         }
@@ -33,56 +35,35 @@ impl Spooled {
     }
 }
 
-impl Subject for Spooled {
-    fn answer(&mut self, alloc: Global, said: &str) -> Result<String> {
-        let words = words(alloc, said)?;
-        let mut answer = String::new(alloc);
-        match say(alloc, &mut self.spool, words.as_slice(), &mut answer) {
-            Some(()) => Ok(answer),
-            None => bail!("it says nothing, or there is no memory"),
+impl WordSubject for Spooled {
+    fn say(&mut self, alloc: Global, words: &[&str], answer: &mut String) -> Option<()> {
+        match word_at(words, 0) {
+            "push" | "put" => push(alloc, &mut self.spool, words, answer),
+            "next" => {
+                add_note(alloc, answer, self.spool.next().as_ref());
+                Some(())
+            }
+            "purge" => {
+                add_note(alloc, answer, self.spool.purge_one().as_ref());
+                Some(())
+            }
+            _ => change(alloc, &mut self.spool, words, answer),
         }
     }
 }
 
-// Says the words of a line to the spool; the answer. None where they say nothing.
-fn say(alloc: Global, spool: &mut Spool, words: &[&str], answer: &mut String) -> Option<()> {
-    match *words.first()? {
-        "push" | "put" => add_dropped(answer, pushed(alloc, spool, words)?),
-        "next" => add_note(alloc, answer, spool.next().as_ref()),
-        "purge" => add_note(alloc, answer, spool.purge_one().as_ref()),
-        "fire" => write!(answer, "{}", spool.fire(small(words, 1)?)).ok(),
-        "ask" => ask(spool, words, answer),
-        _ => show(alloc, spool, words, answer),
-    }
-}
-
-// The number at a place of a line.
-pub(crate) fn number(words: &[&str], place: usize) -> Option<u64> {
-    words.get(place)?.parse::<u64>().ok()
-}
-
-// The number below 256 at a place of a line.
-pub(crate) fn small(words: &[&str], place: usize) -> Option<u8> {
-    words.get(place)?.parse::<u8>().ok()
-}
-
-// The number of 32 bits at a place of a line.
-pub(crate) fn middle(words: &[&str], place: usize) -> Option<u32> {
-    words.get(place)?.parse::<u32>().ok()
-}
+// ---- what changes the spool
 
 // The kind of a note, by the word at a place of a line.
 pub(crate) fn kind(words: &[&str], place: usize) -> Option<Kind> {
-    match *words.get(place)? {
-        "event" => Some(Kind::Event),
-        "alarm" => Some(Kind::Alarm),
-        _ => None,
-    }
+    named(&KINDS, words, place)
 }
 
 // The note that a line tells of.
 fn note(alloc: Global, words: &[&str]) -> Option<Note> {
-    let number = number(words, 1)?;
+    let Some(number) = number(words, 1) else {
+        return None;
+    };
     if words.len() < 5 {
         return Some(Note {
             number,
@@ -91,80 +72,111 @@ fn note(alloc: Global, words: &[&str]) -> Option<Note> {
             text: Bytes::from_vec(Vec::new(alloc)),
         });
     }
-    let kind = kind(words, 2)?;
-    let id = middle(words, 3)?;
-    let text = bytes(alloc, words.get(4)?).ok()?;
-    Some(Note {
-        number,
-        kind,
-        id,
-        text: Bytes::from_vec(text),
-    })
+    note_of(alloc, number, words)
 }
 
-// What becomes of a note that a line puts to the rear or back to the front, where a full spool may be overwritten.
-fn pushed(alloc: Global, spool: &mut Spool, words: &[&str]) -> Option<Pushed> {
-    let note = note(alloc, words)?;
-    let is_over = matches!(words.last(), Some(&"over"));
-    match words.first() {
-        Some(&"push") => Some(spool.push(note, is_over)),
-        _ => Some(spool.put_back(note, is_over)),
+// A note of its own kind, id and text.
+fn note_of(alloc: Global, number: u64, words: &[&str]) -> Option<Note> {
+    match (
+        kind(words, 2),
+        middle(words, 3),
+        bytes(alloc, word_at(words, 4)),
+    ) {
+        (Some(kind), Some(id), Ok(text)) => Some(Note {
+            number,
+            kind,
+            id,
+            text: Bytes::from_vec(text),
+        }),
+        _ => None,
     }
 }
 
-// Which note was dropped.
-fn add_dropped(answer: &mut String, pushed: Pushed) -> Option<()> {
-    match pushed {
-        Pushed::Kept => answer.push_str("all kept").ok(),
-        Pushed::DroppedOldest(note) => write!(answer, "oldest {} dropped", note.number).ok(),
-        Pushed::DroppedNewest(note) => write!(answer, "newest {} dropped", note.number).ok(),
-    }
-}
-
-// The number of a note, and its kind, its id and its text where it has a text.
-pub(crate) fn add_note(alloc: Global, answer: &mut String, found: Option<&Note>) -> Option<()> {
-    match found {
-        Some(note) if note.text.as_slice().is_empty() => add_count(answer, note.number),
-        Some(note) => {
-            let text = hex::encode_upper(alloc, note.text.as_slice()).ok()?;
-            write!(answer, "{} {:?} {} {text}", note.number, note.kind, note.id).ok()
+// A note is put to the rear or back to the front, where a full spool may be overwritten; and which note was dropped.
+fn push(alloc: Global, spool: &mut Spool, words: &[&str], answer: &mut String) -> Option<()> {
+    let is_over = words.last() == Some(&"over");
+    match note(alloc, words) {
+        Some(note) if word_at(words, 0) == "push" => {
+            add_dropped(answer, &spool.push(note, is_over));
+            Some(())
         }
-        None => answer.push_str("none").ok(),
+        Some(note) => {
+            add_dropped(answer, &spool.put_back(note, is_over));
+            Some(())
+        }
+        None => None,
     }
 }
 
-pub(crate) fn add_count(answer: &mut String, count: u64) -> Option<()> {
-    write!(answer, "{count}").ok()
+fn add_dropped(answer: &mut String, pushed: &Pushed) {
+    let _ = match pushed {
+        Pushed::Kept => write!(answer, "all kept"),
+        Pushed::DroppedOldest(note) => write!(answer, "oldest {} dropped", note.number),
+        Pushed::DroppedNewest(note) => write!(answer, "newest {} dropped", note.number),
+    };
+}
+
+// A row fires, or the host asks for something; or what the spool says.
+fn change(alloc: Global, spool: &mut Spool, words: &[&str], answer: &mut String) -> Option<()> {
+    match (word_at(words, 0), small(words, 1)) {
+        ("fire", Some(row)) => {
+            add_truth(answer, spool.fire(row));
+            Some(())
+        }
+        ("ask", Some(rsdc)) => ask(spool, rsdc, words, answer),
+        _ => show(alloc, spool, words, answer),
+    }
 }
 
 // What the host asks for: RSDA.
-fn ask(spool: &mut Spool, words: &[&str], answer: &mut String) -> Option<()> {
-    let rsdc = small(words, 1)?;
-    if rsdc > 1 {
-        return None;
+fn ask(spool: &mut Spool, rsdc: u8, words: &[&str], answer: &mut String) -> Option<()> {
+    match middle(words, 2) {
+        Some(most) if rsdc <= 1 => {
+            add_count(answer, u64::from(spool.begin_unload(rsdc, most)));
+            Some(())
+        }
+        _ => None,
     }
-    let rsda = spool.begin_unload(rsdc, middle(words, 2)?);
-    add_count(answer, u64::from(rsda))
 }
 
-// What the spool says of itself.
+// ---- what the spool says of itself
+
+// The number of a note, and its kind, its id and its text where it has a text.
+pub(crate) fn add_note(alloc: Global, answer: &mut String, found: Option<&Note>) {
+    match found {
+        Some(note) => {
+            add_count(answer, note.number);
+            if !note.text.as_slice().is_empty() {
+                add_parts(alloc, answer, note);
+            }
+        }
+        None => add(answer, "none"),
+    }
+}
+
+fn add_parts(alloc: Global, answer: &mut String, note: &Note) {
+    let _ = write!(answer, " {:?} {} ", note.kind, note.id);
+    if let Ok(text) = hex::encode_upper(alloc, note.text.as_slice()) {
+        add(answer, text.as_str());
+    }
+}
+
 fn show(alloc: Global, spool: &Spool, words: &[&str], answer: &mut String) -> Option<()> {
-    match *words.first()? {
+    match word_at(words, 0) {
         "len" => add_count(answer, spool.len() as u64),
         "capacity" => add_count(answer, spool.capacity() as u64),
         "total" => add_count(answer, u64::from(spool.total())),
         "oldest" => add_note(alloc, answer, spool.oldest()),
         "states" => add_states(answer, spool),
-        _ => None,
+        _ => return None,
     }
+    Some(())
 }
 
-fn add_states(answer: &mut String, spool: &Spool) -> Option<()> {
-    let load = spool.load();
-    let unload = spool.unload();
-    let total = spool.total();
-    match spool.budget() {
-        Some(budget) => write!(answer, "{load:?} {unload:?} budget {budget} came {total}").ok(),
-        None => write!(answer, "{load:?} {unload:?} came {total}").ok(),
+fn add_states(answer: &mut String, spool: &Spool) {
+    let _ = write!(answer, "{:?} {:?} ", spool.load(), spool.unload());
+    if let Some(budget) = spool.budget() {
+        let _ = write!(answer, "budget {budget} ");
     }
+    let _ = write!(answer, "came {}", spool.total());
 }

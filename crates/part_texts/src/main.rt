@@ -6,13 +6,17 @@
 //! which and where, and ends with status 1.
 #![tactic(auto)]
 
-mod begun;
 mod spelled;
 
-use begun::Parts;
+use field_subjects::FieldTexts;
+use floor_subjects::FloorTexts;
+use job_subjects::JobTexts;
+use spelled::SpelledTexts;
 use std::process::ExitCode;
 use test_lines::play_folder;
 
 fn main(rt: HostRuntime) -> ExitCode {
-    play_folder(&rt, &Parts)
+    let floor = FloorTexts { others: &JobTexts };
+    let field = FieldTexts { others: &floor };
+    play_folder(&rt, &SpelledTexts { others: &field })
 }

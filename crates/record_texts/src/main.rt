@@ -8,7 +8,14 @@
 #![tactic(auto)]
 
 mod begun;
+mod ids;
+mod pieces;
+mod primaries;
+mod replies;
 mod set_constants;
+mod shop_messages;
+mod tool_alarms;
+mod tool_reports;
 
 use begun::Records;
 use std::process::ExitCode;

@@ -7,20 +7,18 @@
 
 ghost use Rattle.std.specs.Prelude.{◌<◌, length};
 ghost use Rattle.data_variables.specs.Values.{AreConstants};
-ghost use Rattle.item_model.specs.Sendable.{IsSendable};
-ghost use Rattle.item_model.specs.View.{view};
 
-use anyhow::{Result, bail};
+use crate::ids::{add_number, numbers_in};
+use crate::pieces::add_encoded;
 use data_variables::{Constants, Val, ids, item_of, set_of};
-use item_model::Item;
-use report_subjects::{add_number, numbers_in};
-use secs_items::{encode, read_one};
+use said_words::{LineSubject, add, add_count, add_gap, add_truth};
+use secs_items::read_one;
 use std::alloc::Global;
-use test_lines::{Subject, bytes};
+use test_lines::bytes;
 
 /// The equipment constants.
 #[derive(Drop)]
-pub struct SetConstants {
+pub(crate) struct SetConstants {
     constants: Constants,
 }
 
@@ -36,7 +34,7 @@ const DEFAULTS: [(u32, Val); 7] = [
 
 impl SetConstants {
     /// Those of a tool that begins. None where there is no memory.
-    pub fn new(alloc: Global) -> Option<SetConstants> {
+    pub(crate) fn new(alloc: Global) -> Option<SetConstants> {
         match Constants::new(alloc, &DEFAULTS) {
             Ok(constants) => Some(SetConstants { constants }),
             Err(_) => None,
@@ -44,27 +42,40 @@ impl SetConstants {
     }
 }
 
-impl Subject for SetConstants {
-    fn answer(&mut self, alloc: Global, said: &str) -> Result<String> {
-        let mut answer = String::new(alloc);
-        match say(alloc, &mut self.constants, said, &mut answer) {
-            Some(()) => Ok(answer),
-            None => bail!("it says nothing, or there is no memory"),
+impl LineSubject for SetConstants {
+    fn say(&mut self, alloc: Global, said: &str, answer: &mut String) -> Option<()> {
+        let (word, rest) = said.split_once(' ').unwrap_or((said, ""));
+        match word {
+            "set" => set(alloc, &mut self.constants, rest, answer),
+            "values" => {
+                add_values(&self.constants, answer);
+                Some(())
+            }
+            "ids" => {
+                add_ids(answer);
+                Some(())
+            }
+            "names" => add_names(alloc, &self.constants, rest, answer),
+            _ => say(alloc, &self.constants, word, rest, answer),
         }
     }
 }
 
-// Says a line to the constants; the answer. None where it says nothing.
-fn say(alloc: Global, constants: &mut Constants, said: &str, answer: &mut String) -> Option<()> {
-    let (word, rest) = said.split_once(' ').unwrap_or((said, ""));
+// What an item or a value says, or what a constant is.
+fn say(
+    alloc: Global,
+    constants: &Constants,
+    word: &str,
+    rest: &str,
+    answer: &mut String,
+) -> Option<()> {
     match word {
-        "set" => set(alloc, constants, rest, answer),
-        "values" => add_values(constants, answer),
-        "ids" => add_ids(answer),
-        "names" => add_names(alloc, constants, rest, answer),
         "item" => add_item(alloc, rest, answer),
         "bytes" => add_value_bytes(alloc, rest, answer),
-        _ => show(constants, word, rest, answer),
+        _ => match rest.parse::<u32>() {
+            Ok(ecid) => show(constants, word, ecid, answer),
+            Err(_) => None,
+        },
     }
 }
 
@@ -81,113 +92,84 @@ fn val(word: &str) -> Option<Option<Val>> {
     }
 }
 
-// The constants of a message, each with its new value.
-fn add_sets(sets: &mut Vec<(u32, Option<Val>)>, text: &str) -> Option<()> {
-    if text != "-" {
-        for one in text.split(';') {
-            let Some(constant) = constant(one.trim()) else {
-                return None;
-            };
-            let Ok(()) = sets.push(constant) else {
-                return None;
-            };
-        }
-    }
-    Some(())
-}
-
 // A constant, and its new value behind it.
 fn constant(text: &str) -> Option<(u32, Option<Val>)> {
     let Some((ecid, word)) = text.split_once(' ') else {
         return None;
     };
-    let Ok(ecid) = ecid.parse::<u32>() else {
-        return None;
-    };
-    let Some(value) = val(word) else {
-        return None;
-    };
-    Some((ecid, value))
-}
-
-fn set(alloc: Global, constants: &mut Constants, text: &str, answer: &mut String) -> Option<()> {
-    let mut sets = Vec::new(alloc);
-    match add_sets(&mut sets, text) {
-        Some(()) => write!(answer, "{}", constants.set_all(sets.as_slice())).ok(),
-        None => None,
-    }
-}
-
-fn add_value(answer: &mut String, value: Option<Val>) -> Option<()> {
-    match value {
-        Some(Val::Number(number)) => write!(answer, "{number}").ok(),
-        Some(Val::Truth(truth)) => write!(answer, "{truth}").ok(),
-        None => answer.push_str("none").ok(),
-    }
-}
-
-// The values of all constants in their order.
-fn add_values(constants: &Constants, answer: &mut String) -> Option<()> {
-    for ecid in ids() {
-        if !answer.is_empty() {
-            let Ok(()) = answer.push(' ') else {
-                return None;
-            };
-        }
-        if add_value(answer, constants.get(ecid)).is_none() {
-            return None;
-        }
-    }
-    Some(())
-}
-
-fn add_ids(answer: &mut String) -> Option<()> {
-    for ecid in ids() {
-        if add_number(answer, ecid).is_none() {
-            return None;
-        }
-    }
-    Some(())
-}
-
-// What a constant is.
-fn show(constants: &Constants, word: &str, ecid: &str, answer: &mut String) -> Option<()> {
-    let Ok(ecid) = ecid.parse::<u32>() else {
-        return None;
-    };
-    match word {
-        "value" => add_value(answer, constants.get(ecid)),
-        "number" => write!(answer, "{}", constants.number(ecid)).ok(),
-        "truth" => write!(answer, "{}", constants.truth(ecid)).ok(),
+    match (ecid.parse::<u32>(), val(word)) {
+        (Ok(ecid), Some(value)) => Some((ecid, value)),
         _ => None,
     }
 }
 
-fn add_names(alloc: Global, constants: &Constants, list: &str, answer: &mut String) -> Option<()> {
-    let Some(asked) = numbers_in(alloc, list) else {
-        return None;
-    };
-    if asked.len() >= 1024 {
-        return None;
+// The constants of a message, each with its new value.
+fn add_sets(sets: &mut Vec<(u32, Option<Val>)>, text: &str) -> Option<()> {
+    for one in text.split(';') {
+        let Some(constant) = constant(one.trim()) else {
+            return None;
+        };
+        let Ok(()) = sets.push(constant) else {
+            return None;
+        };
     }
-    let Ok(names) = constants.namelist(alloc, asked.as_slice()) else {
-        return None;
-    };
-    add_bytes(alloc, &names, answer)
+    Some(())
 }
 
-// The bytes of an item.
-fn add_bytes(alloc: Global, item: &Item, answer: &mut String) -> Option<()>
-    requires { IsSendable (view item.now) }
-{
-    let mut bytes = Vec::new(alloc);
-    let Ok(()) = encode(item, &mut bytes) else {
-        return None;
-    };
-    let Ok(digits) = hex::encode_upper(alloc, bytes.as_slice()) else {
-        return None;
-    };
-    answer.push_str(digits.as_str()).ok()
+fn set(alloc: Global, constants: &mut Constants, text: &str, answer: &mut String) -> Option<()> {
+    let mut sets = Vec::new(alloc);
+    if text != "-" {
+        let Some(()) = add_sets(&mut sets, text) else {
+            return None;
+        };
+    }
+    add_count(answer, u64::from(constants.set_all(sets.as_slice())));
+    Some(())
+}
+
+fn add_value(answer: &mut String, value: Option<Val>) {
+    match value {
+        Some(Val::Number(number)) => add_count(answer, u64::from(number)),
+        Some(Val::Truth(truth)) => add_truth(answer, truth),
+        None => add(answer, "none"),
+    }
+}
+
+// The values of all constants in their order.
+fn add_values(constants: &Constants, answer: &mut String) {
+    for ecid in ids() {
+        add_gap(answer, " ");
+        add_value(answer, constants.get(ecid));
+    }
+}
+
+fn add_ids(answer: &mut String) {
+    for ecid in ids() {
+        add_number(answer, ecid);
+    }
+}
+
+// What a constant is.
+fn show(constants: &Constants, word: &str, ecid: u32, answer: &mut String) -> Option<()> {
+    match word {
+        "value" => add_value(answer, constants.get(ecid)),
+        "number" => add_count(answer, u64::from(constants.number(ecid))),
+        "truth" => add_truth(answer, constants.truth(ecid)),
+        _ => return None,
+    }
+    Some(())
+}
+
+fn add_names(alloc: Global, constants: &Constants, list: &str, answer: &mut String) -> Option<()> {
+    match numbers_in(alloc, list) {
+        Some(asked) if asked.len() < 1024 => {
+            match constants.namelist(alloc, asked.as_slice()) {
+                Ok(names) => add_encoded(alloc, &names, answer),
+                Err(_) => None,
+            }
+        }
+        _ => None,
+    }
 }
 
 // What an item says for a constant.
@@ -195,33 +177,30 @@ fn add_item(alloc: Global, text: &str, answer: &mut String) -> Option<()> {
     let Some((ecid, digits)) = text.split_once(' ') else {
         return None;
     };
-    let Ok(ecid) = ecid.parse::<u32>() else {
-        return None;
-    };
-    let Ok(bytes) = bytes(alloc, digits) else {
-        return None;
-    };
-    match val_of(alloc, ecid, bytes.as_slice()) {
-        Some(value) => add_value(answer, value),
-        None => None,
+    match (ecid.parse::<u32>(), bytes(alloc, digits)) {
+        (Ok(ecid), Ok(bytes)) => add_said(alloc, ecid, bytes.as_slice(), answer),
+        _ => None,
     }
 }
 
 // What the item of these bytes says for a constant. None where they are not the bytes of one item.
-fn val_of(alloc: Global, ecid: u32, bytes: &[u8]) -> Option<Option<Val>> {
+fn add_said(alloc: Global, ecid: u32, bytes: &[u8], answer: &mut String) -> Option<()> {
     match &read_one(alloc, bytes) {
-        Ok(Some(item)) => Some(set_of(ecid, item)),
+        Ok(Some(item)) => {
+            add_value(answer, set_of(ecid, item));
+            Some(())
+        }
         _ => None,
     }
 }
 
 // The bytes of the item of a value.
 fn add_value_bytes(alloc: Global, word: &str, answer: &mut String) -> Option<()> {
-    let Some(Some(value)) = val(word) else {
-        return None;
-    };
-    let Ok(item) = item_of(alloc, value) else {
-        return None;
-    };
-    add_bytes(alloc, &item, answer)
+    match val(word) {
+        Some(Some(value)) => match item_of(alloc, value) {
+            Ok(item) => add_encoded(alloc, &item, answer),
+            Err(_) => None,
+        },
+        _ => None,
+    }
 }

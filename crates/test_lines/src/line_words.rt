@@ -35,10 +35,10 @@ pub fn bytes(alloc: Global, digits: &str) -> Result<Vec<u8>> {
     Ok(hex::decode(alloc, digits)?)
 }
 
-/// The header of its ten bytes, as hex digits.
-pub fn header(alloc: Global, digits: &str) -> Result<Header> {
-    match bytes(alloc, digits)?.as_slice() {
-        [a, b, byte2, byte3, ptype, stype, c, d, e, f] => Ok(Header {
+/// The header of its ten bytes.
+fn header_of(bytes: &[u8]) -> Option<Header> {
+    match bytes {
+        [a, b, byte2, byte3, ptype, stype, c, d, e, f] => Some(Header {
             session: u16::from_be_bytes([*a, *b]),
             byte2: *byte2,
             byte3: *byte3,
@@ -46,7 +46,18 @@ pub fn header(alloc: Global, digits: &str) -> Result<Header> {
             stype: *stype,
             system: u32::from_be_bytes([*c, *d, *e, *f]),
         }),
-        _ => bail!("a header has ten bytes"),
+        _ => None,
+    }
+}
+
+/// The header of its ten bytes, as hex digits.
+pub fn header(alloc: Global, digits: &str) -> Result<Header> {
+    match bytes(alloc, digits) {
+        Ok(bytes) => match header_of(bytes.as_slice()) {
+            Some(header) => Ok(header),
+            None => bail!("a header has ten bytes"),
+        },
+        Err(why) => Err(why),
     }
 }
 

@@ -1,8 +1,8 @@
 //! What lines are said to, and how they are compared with what is answered.
 
-use anyhow::Result;
+use anyhow::{Error, Result};
 use conversation_files::{Line, Player, Section};
-use std::alloc::Global;
+use std::alloc::{AllocError, Global};
 use std::process::ExitCode;
 
 /// What lines are said to.
@@ -25,11 +25,17 @@ pub fn answers<S: Subject>(
     lines: &[Line<'_>],
 ) -> Result<Option<String>> {
     for line in lines {
-        if let Some(why) = otherwise(alloc, subject, line)? {
-            return Ok(Some(why));
+        match otherwise(alloc, subject, line) {
+            Ok(None) => {}
+            told => return told,
         }
     }
     Ok(None)
+}
+
+/// What is told, where there is memory for it.
+fn some(told: Result<String, AllocError>) -> Result<Option<String>> {
+    Ok(Some(told?))
 }
 
 /// What is said in a line, and what is to be answered.
@@ -43,18 +49,28 @@ fn otherwise<S: Subject>(
     subject: &mut S,
     line: &Line<'_>,
 ) -> Result<Option<String>> {
-    let number = line.number;
     let (said, wanted) = parts(line.text);
     match subject.answer(alloc, said) {
         Ok(answer) if answer.as_str() == wanted => Ok(None),
-        Ok(answer) => {
-            let wanted = or_nothing(wanted);
-            let got = or_nothing(answer.as_str());
-            let why = format!(in alloc; "line {number}: {said}: wanted {wanted}, got {got}")?;
-            Ok(Some(why))
-        }
-        Err(why) => Ok(Some(format!(in alloc; "line {number}: {said}: {why}")?)),
+        Ok(answer) => some(told(alloc, line, wanted, answer.as_str())),
+        Err(why) => some(told_unsaid(alloc, line, &why)),
     }
+}
+
+/// Tells what is wanted of a line, and what it is answered.
+fn told(alloc: Global, line: &Line<'_>, wanted: &str, got: &str) -> Result<String, AllocError> {
+    let number = line.number;
+    let (said, _) = parts(line.text);
+    let wanted = or_nothing(wanted);
+    let got = or_nothing(got);
+    format!(in alloc; "line {number}: {said}: wanted {wanted}, got {got}")
+}
+
+/// Tells why a line says nothing.
+fn told_unsaid(alloc: Global, line: &Line<'_>, why: &Error) -> Result<String, AllocError> {
+    let number = line.number;
+    let text = line.text;
+    format!(in alloc; "line {number}: {text}: {why}")
 }
 
 fn or_nothing(text: &str) -> &str {
@@ -77,23 +93,29 @@ struct Said<'t, T> {
     texts: &'t T,
 }
 
+/// Says the lines below the first to the subject that this names, as `Player::play` does for `Said`.
+fn play_lines<T: Texts>(
+    alloc: Global,
+    texts: &T,
+    first: &Line<'_>,
+    lines: &[Line<'_>],
+) -> Result<Option<String>> {
+    if !is_answered(lines) {
+        return some(String::from_str(alloc, "no line says what is to be answered"));
+    }
+    match texts.play(alloc, first.text, lines) {
+        Ok(told) => Ok(told),
+        Err(why) => some(told_unsaid(alloc, first, &why)),
+    }
+}
+
 impl<T: Texts> Player for Said<'_, T> {
     /// Says the lines of a conversation to the subject that its first line names, and tells the first line that is answered
     /// otherwise, or why nothing can be said.
     fn play(&self, alloc: Global, section: &Section<'_>) -> Result<Option<String>> {
-        let Some((first, lines)) = section.lines.as_slice().split_first() else {
-            return Ok(Some(format!(in alloc; "no line")?));
-        };
-        if !is_answered(lines) {
-            return Ok(Some(format!(in alloc; "no line says what is to be answered")?));
-        }
-        match self.texts.play(alloc, first.text, lines) {
-            Ok(told) => Ok(told),
-            Err(why) => {
-                let number = first.number;
-                let text = first.text;
-                Ok(Some(format!(in alloc; "line {number}: {text}: {why}")?))
-            }
+        match section.lines.as_slice().split_first() {
+            Some((first, lines)) => play_lines(alloc, self.texts, first, lines),
+            None => some(String::from_str(alloc, "no line")),
         }
     }
 }

@@ -1,0 +1,187 @@
+//! Runs, to which a text says what they are given, and which it asks what they leave.
+//!
+//! `words WORD ..` are the words of the command. `config` and `script` are what the configuration and the script of the operator have:
+//! behind them `line TEXT` adds a text and a line feed, `text |TEXT|` what stands between the bars. `config_fault 1`, `log_fault 1` and
+//! `door_fault 1` let that read, write or call of the door fail, and with `closed` a door in memory is closed behind its links.
+//!
+//! `run` runs what was given at a door without links; `run hasty` at one with a link, whose peer selects and goes away; `run both` with
+//! a host that selects and is read once a line of the operator was answered, and an operator who says `O local`, and `O quit` once the
+//! host was answered; `run silent` with a peer that sends nothing, and an operator who ends the run once the link was shut;
+//! `run visited 20000 7` over loopback, at a free port at most 5,000 above that number, with a host that asks 7 times 25 S1F1.
+//!
+//! Of the last run are asked `status`, `cause`, `entries`, `first seat` (of the first entry), `seat 0` to `seat 2` and `seats from 3` (to 9; what each posted),
+//! `operator first` (in front of the first message of the host), `notes` (how many), of session 1 `note 1` (why it ended) and `bytes 1`
+//! (that came and went), and `log`. At a door in memory `script left` tells how many bytes are left of the script, and `waits` how often
+//! a door without links was asked too early. With a peer that goes away `front` tells whether the link was handed back and holds a front
+//! of the select response, and `race` whether seat 0 posted what it may. `selected` tells whether the select response came, `windows` how
+//! many windows were answered, and `ended by the tool` whether the tool ended the link.
+
+use crate::calls::{Given, words_of};
+use crate::links::{run_both, run_silent};
+use crate::loopback::run_visited;
+use crate::memory::{run_alone, run_hasty};
+use crate::peers::free_port;
+use crate::told::answer_of;
+use std::alloc::{AllocError, Global};
+use std::net::{Net, TcpListener, TcpStream};
+use std::sync::Wait;
+use std::thread::Threads;
+use std::time;
+
+/// What the next run is given, and what the last one told.
+pub struct Serves {
+    given: Given,
+    told: String,
+}
+
+// Written out, so that it is proved once.
+impl Drop for Serves {
+    fn drop(self) {
+        let Serves {
+            given: _given,
+            told: _told,
+        } = self;
+    }
+}
+
+impl Serves {
+    /// Nothing is given, and nothing has run.
+    pub fn new(alloc: Global) -> Serves {
+        Serves {
+            given: Given::none(alloc),
+            told: String::new(alloc),
+        }
+    }
+}
+
+/// What is answered to a line: where it asks, what the last run told, and else nothing, or why it says nothing.
+pub fn answer<
+    R: Net<Listener = TcpListener, Stream = TcpStream> + Threads + Wait + Sync + time::Clock,
+>(rt: &R, alloc: Global, serves: &mut Serves, said: &str) -> Result<String, AllocError> {
+    if let Some(answer) = answer_of(serves.told.as_str(), said) {
+        return String::from_str(alloc, answer);
+    }
+    if take(rt, alloc, serves, said)? {
+        Ok(String::new(alloc))
+    } else {
+        String::from_str(alloc, "it says nothing")
+    }
+}
+
+// Does what is said. False: it says nothing.
+fn take<R: Net<Listener = TcpListener, Stream = TcpStream> + Threads + Wait + Sync + time::Clock>(
+    rt: &R,
+    alloc: Global,
+    serves: &mut Serves,
+    said: &str,
+) -> Result<bool, AllocError> {
+    let (first, rest) = said.split_once(' ').unwrap_or((said, ""));
+    if first == "run" {
+        run(rt, alloc, serves, rest)
+    } else {
+        give(alloc, &mut serves.given, first, rest)
+    }
+}
+
+// Runs what was given, in this way. False: there is none such.
+fn run<R: Net<Listener = TcpListener, Stream = TcpStream> + Threads + Wait + Sync + time::Clock>(
+    rt: &R,
+    alloc: Global,
+    serves: &mut Serves,
+    way: &str,
+) -> Result<bool, AllocError> {
+    match ran(rt, alloc, &mut serves.given, way)? {
+        Some(told) => {
+            serves.told = told;
+            Ok(true)
+        }
+        None => Ok(false),
+    }
+}
+
+// Runs what is given in this way, and tells of it.
+fn ran<R: Net<Listener = TcpListener, Stream = TcpStream> + Threads + Wait + Sync + time::Clock>(
+    rt: &R,
+    alloc: Global,
+    given: &mut Given,
+    way: &str,
+) -> Result<Option<String>, AllocError> {
+    let told = match way {
+        "" => run_alone(rt, alloc, given)?,
+        "hasty" => run_hasty(rt, alloc, given)?,
+        "both" => run_both(rt, alloc, given)?,
+        "silent" => run_silent(rt, alloc, given)?,
+        _ => return visited(rt, alloc, given, way),
+    };
+    Ok(Some(told))
+}
+
+// Runs what is given over loopback.
+fn visited<
+    R: Net<Listener = TcpListener, Stream = TcpStream> + Threads + Wait + Sync + time::Clock,
+>(rt: &R, alloc: Global, given: &mut Given, way: &str) -> Result<Option<String>, AllocError> {
+    let Some((first, windows)) = visit_of(way) else {
+        return Ok(None);
+    };
+    let Some(port) = free_port(rt, first) else {
+        return Ok(None);
+    };
+    let line = format!(in alloc; "tcp_port = {port}")?;
+    add_line(&mut given.config, line.as_str())?;
+    let told = run_visited(rt, alloc, given, port, windows)?;
+    Ok(Some(told))
+}
+
+// The number above which a port is looked for, and how many windows are asked.
+fn visit_of(way: &str) -> Option<(u16, u32)> {
+    let (first, windows) = way.strip_prefix("visited ")?.split_once(' ')?;
+    match (first.parse::<u16>(), windows.parse::<u32>()) {
+        (Ok(first), Ok(windows)) => Some((first, windows)),
+        _ => None,
+    }
+}
+
+// Gives the next run what is said. False: it says nothing.
+fn give(alloc: Global, given: &mut Given, first: &str, rest: &str) -> Result<bool, AllocError> {
+    match first {
+        "words" => {
+            given.words = words_of(alloc, rest)?;
+            Ok(true)
+        }
+        "config" => add(&mut given.config, rest),
+        "script" => add(&mut given.script, rest),
+        _ => Ok(limit(given, first, rest.parse::<u64>().unwrap_or(0))),
+    }
+}
+
+// Sets a limit. False: it has no such name.
+fn limit(given: &mut Given, name: &str, n: u64) -> bool {
+    match name {
+        "config_fault" => given.limits.config_fault = n,
+        "log_fault" => given.limits.log_fault = n,
+        "door_fault" => given.limits.door_fault = n,
+        "closed" => given.limits.is_closed = true,
+        _ => return false,
+    }
+    true
+}
+
+// Adds a text. False: it says none.
+fn add(place: &mut Vec<u8>, said: &str) -> Result<bool, AllocError> {
+    match said.split_once(' ') {
+        Some(("line", text)) => add_line(place, text),
+        Some(("text", text)) => add_text(place, text),
+        _ => Ok(false),
+    }
+}
+
+fn add_text(place: &mut Vec<u8>, text: &str) -> Result<bool, AllocError> {
+    place.extend_from_slice(text.trim_matches('|').as_bytes())?;
+    Ok(true)
+}
+
+fn add_line(place: &mut Vec<u8>, text: &str) -> Result<bool, AllocError> {
+    place.extend_from_slice(text.as_bytes())?;
+    place.push(b'\n')?;
+    Ok(true)
+}

@@ -1,0 +1,117 @@
+//! Clocks and gates (`outside`). `to a clock of 3 1` is one in memory that gives these moments; `to the system's clock at .. after
+//! 7000` is at a date in milliseconds since 1970, so many behind some beginning, and `set 8509` is so many behind it. `now` reads it, `wait 25` waits hundredths, `reads`
+//! tells how often it was read, and `slept` how many milliseconds were slept.
+//!
+//! `to a gate that sleeps`, `to an open gate` and `to a gate that holds 3 until line` are gates over such a clock: `pass idle` passes
+//! a point.
+
+use crate::set_clock::SetClock;
+use crate::words::{point, told};
+use anyhow::Result;
+use gem_ids::Moment;
+use outside::{Clock, Gate, ListClock, SystemClock};
+use std::alloc::Global;
+use test_lines::Subject;
+
+/// A clock in memory.
+#[derive(Drop)]
+pub struct Listed {
+    clock: ListClock,
+}
+
+impl Listed {
+    /// One that gives these moments.
+    pub fn of(alloc: Global, numbers: &[u64]) -> Option<Listed> {
+        let mut moments = Vec::new(alloc);
+        for number in numbers {
+            moments.push(Moment(*number)).ok()?;
+        }
+        Some(Listed {
+            clock: ListClock::new(moments),
+        })
+    }
+}
+
+impl Subject for Listed {
+    fn answer(&mut self, alloc: Global, said: &str) -> Result<String> {
+        let mut answer = String::new(alloc);
+        let said = match said {
+            "reads" => write!(answer, "{}", self.clock.reads()).ok(),
+            _ => say(&mut self.clock, said, &mut answer),
+        };
+        told(answer, said)
+    }
+}
+
+// Reads a clock, or waits by it.
+fn say(clock: &mut impl Clock, said: &str, answer: &mut String) -> Option<()> {
+    match said {
+        "now" => write!(answer, "{}", clock.now().0).ok(),
+        _ => {
+            clock.wait(said.strip_prefix("wait ")?.parse::<u32>().ok()?);
+            Some(())
+        }
+    }
+}
+
+/// The system's clock, where the system's time is set by hand.
+#[derive(Drop)]
+pub struct Dated<'a> {
+    system: &'a SetClock,
+    clock: SystemClock<'a, SetClock>,
+}
+
+impl<'a> Dated<'a> {
+    /// The clock of this system.
+    pub fn new(system: &'a SetClock) -> Dated<'a> {
+        Dated {
+            system,
+            clock: SystemClock::new(system),
+        }
+    }
+}
+
+impl Subject for Dated<'_> {
+    fn answer(&mut self, alloc: Global, said: &str) -> Result<String> {
+        let mut answer = String::new(alloc);
+        let said = match say_system(self.system, said, &mut answer) {
+            Some(()) => Some(()),
+            None => say(&mut self.clock, said, &mut answer),
+        };
+        told(answer, said)
+    }
+}
+
+// Sets what passed, or tells what was slept.
+fn say_system(system: &SetClock, said: &str, answer: &mut String) -> Option<()> {
+    match said {
+        "slept" => write!(answer, "{}", system.slept()).ok(),
+        _ => {
+            system.set(said.strip_prefix("set ")?.parse::<u64>().ok()?);
+            Some(())
+        }
+    }
+}
+
+/// A gate over such a clock.
+#[derive(Drop)]
+pub struct Gated<'a, G> {
+    pub system: &'a SetClock,
+    pub gate: G,
+}
+
+impl<G: Gate> Subject for Gated<'_, G> {
+    fn answer(&mut self, alloc: Global, said: &str) -> Result<String> {
+        let mut answer = String::new(alloc);
+        let said = match said.strip_prefix("pass ") {
+            Some(word) => pass(&self.gate, word),
+            None => say_system(self.system, said, &mut answer),
+        };
+        told(answer, said)
+    }
+}
+
+fn pass<G: Gate>(gate: &G, word: &str) -> Option<()> {
+    gate.pass(point(word)?);
+    Some(())
+}

@@ -18,21 +18,41 @@ use msgs_gem::{is_ignored, read_gem};
 use std::alloc::{AllocError, Global};
 
 /// A primary of the host: of streams 1, 2, 5 and 6, or of carriers and ports.
-#[derive(Debug, Drop)]
+#[derive(Debug)]
 pub enum HostMsg {
     Gem(GemMsg),
     Shop(ShopMsg),
 }
 
+// Written out, so that it is one call wherever a message is dropped.
+impl Drop for HostMsg {
+    fn drop(self) {
+        match self {
+            HostMsg::Gem(_message) => {}
+            HostMsg::Shop(_message) => {}
+        }
+    }
+}
+
 /// What a data message does: nothing; it is told by a message of stream 9 of this function; it is answered by function 0
 /// of its stream; it answers a transaction of the tool, if that is open; or it is taken.
-#[derive(Debug, Drop)]
+#[derive(Debug)]
 pub enum Verdict {
     Discarded,
     Stream9(u8),
     Aborted,
     Answers,
     Taken(HostMsg),
+}
+
+// Written out, so that it is one call wherever a verdict is dropped.
+impl Drop for Verdict {
+    fn drop(self) {
+        match self {
+            Verdict::Taken(_message) => {}
+            Verdict::Discarded | Verdict::Stream9(_) | Verdict::Aborted | Verdict::Answers => {}
+        }
+    }
 }
 
 /// The item of the text of a message, where it is one; a text that is ignored is not decoded.

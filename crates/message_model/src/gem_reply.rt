@@ -55,7 +55,7 @@ pub struct AlarmPart {
 /// A reply of the tool, or a primary of its own, with the parts of its body in the printed order (SEMI E5; this tool's
 /// profile, messages). A part with a fixed value is no field. S1F1 of the tool and each message of function 0 have no
 /// text, and no variant.
-#[derive(Debug, Drop)]
+#[derive(Debug)]
 pub enum GemReply {
     /// On line data: MDLN and SOFTREV.
     S1F2(Bytes, Bytes),
@@ -121,4 +121,43 @@ pub enum GemReply {
     S9F9(Bytes),
     /// Data too long: the header that was received.
     S9F11(Bytes),
+}
+
+// Written out, so that it is one call wherever such a message is dropped.
+impl Drop for GemReply {
+    fn drop(self) {
+        match self {
+            GemReply::S1F2(_a, _b) => {}
+            GemReply::S1F4(_a) => {}
+            GemReply::S1F12(_a) => {}
+            GemReply::S1F13(_a, _b) => {}
+            GemReply::S1F14(_a) => {}
+            GemReply::S1F18(_a) => {}
+            GemReply::S2F14(_a) => {}
+            GemReply::S2F16(_a) => {}
+            GemReply::S2F18(_a) => {}
+            GemReply::S2F30(_a) => {}
+            GemReply::S2F32(_a) => {}
+            GemReply::S2F34(_a) => {}
+            GemReply::S2F36(_a) => {}
+            GemReply::S2F38(_a) => {}
+            GemReply::S2F42(_a, _b) => {}
+            GemReply::S2F44(_a, _b) => {}
+            GemReply::S5F1(_a, _b, _c) => {}
+            GemReply::S5F4(_a) => {}
+            GemReply::S5F6(_a) => {}
+            GemReply::S5F8(_a) => {}
+            GemReply::S6F11(_a, _b, _c) => {}
+            GemReply::S6F16(_a, _b) => {}
+            GemReply::S6F20(_a) => {}
+            GemReply::S6F24(_a) => {}
+            GemReply::S9F1(_a) => {}
+            GemReply::S9F3(_a) => {}
+            GemReply::S9F5(_a) => {}
+            GemReply::S9F7(_a) => {}
+            GemReply::S9F9(_a) => {}
+            GemReply::S9F11(_a) => {}
+            GemReply::S1F16 => {}
+        }
+    }
 }

@@ -40,7 +40,7 @@ pub struct JobState {
 
 /// A reply of the tool, with the parts of its body in the printed order (after SEMI E87, E40 and E94; this tool's profile,
 /// messages). A part with a fixed value is no field.
-#[derive(Debug, Drop)]
+#[derive(Debug)]
 pub enum ShopReply {
     /// Carrier action acknowledge: CAACK, 0 where the action is taken.
     S3F18(u8),
@@ -62,4 +62,22 @@ pub enum ShopReply {
     S16F22(u16),
     /// Control job command acknowledge: ACKA, true where the command is taken, and why it is refused.
     S16F28(bool, Listed<ErrorPart>),
+}
+
+// Written out, so that it is one call wherever such a message is dropped.
+impl Drop for ShopReply {
+    fn drop(self) {
+        match self {
+            ShopReply::S3F18(_a) => {}
+            ShopReply::S3F26(_a) => {}
+            ShopReply::S3F28(_a) => {}
+            ShopReply::S14F10(_a, _b) => {}
+            ShopReply::S16F6(_a, _b) => {}
+            ShopReply::S16F12(_a, _b) => {}
+            ShopReply::S16F18(_a, _b) => {}
+            ShopReply::S16F20(_a) => {}
+            ShopReply::S16F22(_a) => {}
+            ShopReply::S16F28(_a, _b) => {}
+        }
+    }
 }

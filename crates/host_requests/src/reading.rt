@@ -18,7 +18,6 @@ use msgs_gem::{is_ignored, read_gem};
 use std::alloc::{AllocError, Global};
 
 /// A primary of the host: of streams 1, 2, 5 and 6, or of carriers and ports.
-#[derive(Debug)]
 pub enum HostMsg {
     Gem(GemMsg),
     Shop(ShopMsg),
@@ -36,7 +35,6 @@ impl Drop for HostMsg {
 
 /// What a data message does: nothing; it is told by a message of stream 9 of this function; it is answered by function 0
 /// of its stream; it answers a transaction of the tool, if that is open; or it is taken.
-#[derive(Debug)]
 pub enum Verdict {
     Discarded,
     Stream9(u8),

@@ -12,7 +12,6 @@ pub type NoMemory = AllocError;
 /// One data item of a message (SEMI E5, data items): a list of items, or elements of one kind. Contracts speak of what it
 /// says, without where it lies in memory.
 #[cycle(item)]
-#[derive(Debug)]
 pub enum Item {
     /// L, format code 00 in octal: items, which may be lists.
     List(Items),
@@ -61,7 +60,7 @@ impl Drop for Item {
 
 /// The items of a list. Contracts see what they say, one after another.
 #[cycle(item)]
-#[derive(Debug, Drop)]
+#[derive(Drop)]
 pub struct Items {
     items: Vec<Item>,
 }

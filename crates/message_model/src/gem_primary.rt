@@ -9,7 +9,7 @@ use item_model::{Bytes, Item};
 use std::marker::Model;
 
 /// A constant and its new value, as S2F15 sets it. Contracts see the number and what the item says.
-#[derive(Debug, Drop)]
+#[derive(Drop)]
 pub struct Setting {
     /// ECID, the constant.
     pub id: u32,
@@ -34,7 +34,7 @@ impl Model for Setting {
 pub type Parameter = NamedValue;
 
 /// A stream, and its functions whose notes are to be spooled, as S2F43 gives them.
-#[derive(Debug, Drop)]
+#[derive(Drop)]
 pub struct SpooledStream {
     /// STRID, the stream.
     pub stream: u8,
@@ -60,7 +60,6 @@ impl Setting {
 
 /// A primary of the host, with the parts of its body in the printed order (SEMI E5; this tool's profile, messages). A
 /// list of ids has at most 1,024 of them, and an empty one stands for all where it asks or enables.
-#[derive(Debug)]
 pub enum GemMsg {
     /// Are you there. Its text is ignored.
     S1F1,

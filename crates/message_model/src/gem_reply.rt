@@ -4,7 +4,7 @@ use gem_ids::{Listed, Text80};
 use item_model::{Bytes, Items};
 
 /// What the tool tells of itself.
-#[derive(Debug, Drop)]
+#[derive(Drop)]
 pub struct Identity {
     /// MDLN, the model of the tool.
     pub mdln: Bytes,
@@ -13,7 +13,7 @@ pub struct Identity {
 }
 
 /// A status variable and its name.
-#[derive(Debug, Drop)]
+#[derive(Drop)]
 pub struct VariableName {
     /// SVID, the variable.
     pub svid: u32,
@@ -22,7 +22,7 @@ pub struct VariableName {
 }
 
 /// A parameter of a remote command that is refused, and why.
-#[derive(Debug, Drop)]
+#[derive(Drop)]
 pub struct ParameterAcknowledge {
     /// CPNAME, the name of the parameter as it was sent.
     pub name: Text80,
@@ -31,7 +31,7 @@ pub struct ParameterAcknowledge {
 }
 
 /// A stream that is refused where the host sets what is spooled, and why.
-#[derive(Debug, Drop)]
+#[derive(Drop)]
 pub struct StreamRefusal {
     /// STRID, the stream as it was sent.
     pub stream: u8,
@@ -42,7 +42,7 @@ pub struct StreamRefusal {
 }
 
 /// An alarm in a list of alarms.
-#[derive(Debug, Drop)]
+#[derive(Drop)]
 pub struct AlarmPart {
     /// ALCD, the byte of the alarm's code. None where the alarm is unknown, which is printed as a B without elements.
     pub alcd: Option<u8>,
@@ -55,7 +55,6 @@ pub struct AlarmPart {
 /// A reply of the tool, or a primary of its own, with the parts of its body in the printed order (SEMI E5; this tool's
 /// profile, messages). A part with a fixed value is no field. S1F1 of the tool and each message of function 0 have no
 /// text, and no variant.
-#[derive(Debug)]
 pub enum GemReply {
     /// On line data: MDLN and SOFTREV.
     S1F2(Bytes, Bytes),

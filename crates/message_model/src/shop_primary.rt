@@ -8,7 +8,6 @@ use item_model::Item;
 /// A primary of the host, with the parts of its body in the printed order (after SEMI E87, E40 and E94; this tool's
 /// profile, messages). Words of actions and commands, names of objects, attributes, carriers, jobs and recipes are any
 /// texts, and numbers of ports, slots and commands any up to 255. A part with a fixed value is no field.
-#[derive(Debug)]
 pub enum ShopMsg {
     /// Carrier action request: DATAID, CARRIERACTION, CARRIERID, PTN, and the attributes, each its name and its value.
     S3F17(u32, Text80, Text80, u8, Listed<NamedValue>),

@@ -4,8 +4,8 @@ use Rattle.gem_model.specs.Machines.{least}
 use Rattle.gem_model.specs.Settle.{settled, settling}
 use Rattle.gem_model.specs.Sizes.{counted}
 use Rattle.history_totals.specs.Counts.{completes, completions}
-use Rattle.core_shop.proofs.Firings.{fired_settles, fired_falls, none_settled, fired_counts, none_counts}
-use Rattle.core_shop.proofs.settling.follow.Goals as goal
+use Rattle.core_settling.proofs.Firings.{fired_settles, fired_falls, none_settled, fired_counts, none_counts}
+use Rattle.core_settling.proofs.settling.follow.Goals as goal
 
 pub loop-completes-preserved : goal.loop-completes-preserved
 loop-completes-preserved c =

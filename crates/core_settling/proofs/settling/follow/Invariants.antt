@@ -3,7 +3,7 @@ use Rattle.gem_model.specs.Measure.{left}
 use Rattle.gem_model.specs.Settle.{settled, settling}
 use Rattle.gem_model.specs.Sizes.{counted}
 use Rattle.history_totals.specs.Counts.{completions}
-use Rattle.core_shop.proofs.settling.follow.Given as goal
+use Rattle.core_settling.proofs.settling.follow.Given as goal
 
 -- the plant settles to the same state as the one that the call began with, and as many control jobs are completed in all
 abbrev pub invariant-loop-completes : goal.invariant-loop-completes

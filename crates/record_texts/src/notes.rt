@@ -1,4 +1,4 @@
-//! The subjects of the texts, and how they begin.
+//! The spool and the line of notes, and how they begin.
 
 use crate::line_of_notes::LineOfNotes;
 use crate::spooled::Spooled;

@@ -2,7 +2,7 @@
 //! memory; SECS-II items and the longest lines; the catalogues, each number of them, and system bytes at their ends; and the spool
 //! and the line of notes with a thousand notes. It has no code of its own, and nothing stands on it. Expected values are worked by
 //! hand from the printed formats and tables, and calls are made with ample memory, on small input and on large. What a file can say
-//! is in those of `part_texts`, `note_texts` and `record_texts`.
+//! is in those of `part_texts` and `record_texts`.
 #![tactic(auto)]
 
 #[cfg(test)]

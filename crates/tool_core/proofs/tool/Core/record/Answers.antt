@@ -11,8 +11,8 @@ use Rattle.history_totals.proofs.Summing.{totals-snoc}
 use Rattle.history_parts.proofs.Replaying.{GoesOn, goes-snoc, state-snoc, taker_fits}
 use Rattle.tool_core.proofs.tool.Core.record.Goals as goal
 
-pub invariant_of-self-3 : goal.invariant_of-self-3
-invariant_of-self-3 c =
+pub invariant_of-self-2 : goal.invariant_of-self-2
+invariant_of-self-2 c =
     let k = c.self.inside in
     let i = c.self.invariant in
     let told = c.in_ok-told.told in
@@ -72,5 +72,5 @@ add_taken-requires c =
     let there : c.deref_mut.result.now ≡ old = c.deref_mut.ensures.value ∙ i.plant_is whole in
     let o : Outcome = record { answer = told.reaction.answer; ended = told.reaction.ended; after = c.take_event.new.plant } in
     let here : step old c.args.at.0 c.args.event ≡ Some o = subst (λ (g : State). step g c.args.at.0 c.args.event ≡ Some o) there (c.in_ok-told.ensures.steps) in
-    let room : IfSome (if is_up old then Some old.link.session else None) (λ k. k ≤ n) = rw c.session_up-up.ensures.session at c.in-Ok.ensures.for_session in
+    let room : IfSome (if is_up old then Some old.link.session else None) (λ k. k ≤ n) = rw (c.session_up-up.ensures.session, ← c.self.view_is) at c.in-Ok.ensures.for_session in
     taker_fits k.config k.entries.items c.args.at.0 n c.args.event o i.run here room

@@ -1,5 +1,6 @@
-//! The subjects of the texts, and how they begin.
+//! What lies outside of the tool, and how it begins.
 
+use crate::begun::{Played, play_some};
 use crate::clocks::{Dated, Gated, Listed};
 use crate::doors::DoorOf;
 use crate::loopback::Loopback;
@@ -13,7 +14,7 @@ use outside::{HoldGate, OpenGate, SleepGate};
 use std::alloc::Global;
 use std::net::{Net, TcpListener, TcpStream};
 use std::time::Clock;
-use test_lines::{Subject, Texts, answers};
+use test_lines::{Texts, answers};
 
 /// What lies outside of the tool.
 #[derive(Drop)]
@@ -21,9 +22,6 @@ pub struct Outside<'a, R> {
     pub host: &'a HostRuntime,
     pub rt: &'a R,
 }
-
-// Whether lines go as they are written; the fault of the first that does not.
-type Played = Result<Option<String>>;
 
 impl<R: Net<Listener = TcpListener, Stream = TcpStream> + Clock> Texts for Outside<'_, R> {
     fn play(&self, alloc: Global, begins: &str, lines: &[Line<'_>]) -> Result<Option<String>> {
@@ -35,14 +33,6 @@ impl<R: Net<Listener = TcpListener, Stream = TcpStream> + Clock> Texts for Outsi
                 _ => play_kinds(alloc, begins, lines),
             },
         }
-    }
-}
-
-// Says lines to a subject, where there is one.
-fn play_some<S: Subject + Drop>(alloc: Global, subject: Option<S>, lines: &[Line<'_>]) -> Played {
-    match subject {
-        Some(mut subject) => answers(alloc, &mut subject, lines),
-        None => bail!("there is no such subject, or no memory"),
     }
 }
 

@@ -5,12 +5,12 @@ ghost use Rattle.item_model.specs.View.{view};
 ghost use Rattle.item_model.specs.Weight.{IsBounded};
 ghost use Rattle.message_model.specs.GemSendable.{AreFew};
 
-use crate::texts::{bytes, is_text, number, repeated, sent, text};
+use crate::texts::{are_added, is_sent, number, sent, text};
+use crate::told::told;
 use gem_ids::{Listed, Text80};
 use item_model::{Bytes, Item, Items, NoMemory};
 use message_model::{AlarmPart, GemReply};
 use std::alloc::Global;
-use std::test::Fail;
 
 // Two alarms, the second of which is unknown.
 fn two_alarms(alloc: Global) -> Result<Listed<AlarmPart>, NoMemory>
@@ -31,42 +31,42 @@ fn two_alarms(alloc: Global) -> Result<Listed<AlarmPart>, NoMemory>
     Ok(Listed::from_vec(alarms))
 }
 
-// The two lists of alarms, with no alarm and with two.
-fn no_fives(alloc: Global) -> Result<Vec<u8>, NoMemory> {
-    sent(alloc, GemReply::S5F6(Listed::new(alloc)))
+// Whether the two lists of alarms have this text: 0 stands for S5F6, and 1 for S5F8.
+fn are_alarms(rt: &HostRuntime, reply: u8, alarms: Listed<AlarmPart>, wanted: &str) -> bool
+    requires { length alarms ≤ 1024 }
+{
+    match reply {
+        0 => is_sent(rt, GemReply::S5F6(alarms), wanted),
+        _ => is_sent(rt, GemReply::S5F8(alarms), wanted),
+    }
 }
 
-fn no_sevens(alloc: Global) -> Result<Vec<u8>, NoMemory> {
-    sent(alloc, GemReply::S5F8(Listed::new(alloc)))
+const TWO: &str = "01020103210184B1040000000B410B4D6F64756C6520646F776E01032100B104000000634100";
+
+// The same, with no alarm and with two.
+fn are_lists(rt: &HostRuntime, reply: u8) -> bool {
+    are_alarms(rt, reply, Listed::new(rt.alloc()), "0100") && are_two(rt, reply)
 }
 
-fn two_fives(alloc: Global) -> Result<Vec<u8>, NoMemory> {
-    sent(alloc, GemReply::S5F6(two_alarms(alloc)?))
+fn are_two(rt: &HostRuntime, reply: u8) -> bool {
+    match two_alarms(rt.alloc()) {
+        Ok(alarms) => are_alarms(rt, reply, alarms, TWO),
+        Err(_) => false,
+    }
 }
 
-fn two_sevens(alloc: Global) -> Result<Vec<u8>, NoMemory> {
-    sent(alloc, GemReply::S5F8(two_alarms(alloc)?))
-}
-
-fn one_alarm(alloc: Global) -> Result<Vec<u8>, NoMemory> {
-    sent(alloc, GemReply::S5F1(0x84, 11, text(b"Module down")))
-}
-
-#[test]
-fn an_alarm_has_its_code_number_and_text_and_an_unknown_one_no_code(
-    rt: HostRuntime,
-) -> Result<(), Fail> {
-    let alloc = rt.alloc();
-    is_text(
-        alloc,
-        one_alarm(alloc),
+fn is_alarm(rt: &HostRuntime) -> bool {
+    is_sent(
+        rt,
+        GemReply::S5F1(0x84, 11, text(b"Module down")),
         "0103210184B1040000000B410B4D6F64756C6520646F776E",
-    )?;
-    is_text(alloc, no_fives(alloc), "0100")?;
-    is_text(alloc, no_sevens(alloc), "0100")?;
-    let two = "01020103210184B1040000000B410B4D6F64756C6520646F776E01032100B104000000634100";
-    is_text(alloc, two_fives(alloc), two)?;
-    is_text(alloc, two_sevens(alloc), two)
+    )
+}
+
+fn tell_alarms(rt: &HostRuntime) -> bool {
+    let alarms = "an_alarm_has_its_code_number_and_text_and_an_unknown_one_no_code";
+    let are_alarms = is_alarm(rt) && are_lists(rt, 0) && are_lists(rt, 1);
+    told(rt, alarms, are_alarms)
 }
 
 // No reports.
@@ -77,21 +77,26 @@ fn no_reports(alloc: Global) -> Items
 }
 
 // Events without reports.
-fn event(alloc: Global) -> Result<Vec<u8>, NoMemory> {
-    let reports = no_reports(alloc);
-    sent(alloc, GemReply::S6F11(0x0102_0304_0506_0708, 1001, reports))
+fn is_event(rt: &HostRuntime) -> bool {
+    let reports = no_reports(rt.alloc());
+    is_sent(
+        rt,
+        GemReply::S6F11(0x0102_0304_0506_0708, 1001, reports),
+        "0103A1080102030405060708B104000003E90100",
+    )
 }
 
-fn event_on_request(alloc: Global) -> Result<Vec<u8>, NoMemory> {
-    sent(alloc, GemReply::S6F16(1001, no_reports(alloc)))
+fn is_on_request(rt: &HostRuntime) -> bool {
+    is_sent(
+        rt,
+        GemReply::S6F16(1001, no_reports(rt.alloc())),
+        "0103A1080000000000000000B104000003E90100",
+    )
 }
 
-#[test]
-fn an_event_has_its_note_and_a_report_on_request_has_none(rt: HostRuntime) -> Result<(), Fail> {
-    let note = "0103A1080102030405060708B104000003E90100";
-    is_text(rt.alloc(), event(rt.alloc()), note)?;
-    let none = "0103A1080000000000000000B104000003E90100";
-    is_text(rt.alloc(), event_on_request(rt.alloc()), none)
+fn tell_events(rt: &HostRuntime) -> bool {
+    let are_events = is_event(rt) && is_on_request(rt);
+    told(rt, "an_event_has_its_note_and_a_report_on_request_has_none", are_events)
 }
 
 // A B of 80 bytes.
@@ -148,27 +153,62 @@ fn longest(alloc: Global) -> Result<Vec<u8>, NoMemory> {
     )
 }
 
-// A head as hex digits, and so many times these bytes behind it.
-fn behind(alloc: Global, head: &str, one: &[u8], count: usize) -> Result<Vec<u8>, Fail> {
-    let mut text = bytes(alloc, head)?;
-    for _ in 0..count {
-        text.extend_from_slice(one)?;
+// Adds a value as it is sent: 80 times `x`.
+fn is_value_added(text: &mut Vec<u8>) -> bool {
+    text.extend_from_slice(&[0x21, 0x50]).is_ok() && are_added(text, b"x", 80)
+}
+
+const REPORT: [u8; 10] = [0x01, 0x02, 0xB1, 0x04, 0xFF, 0xFF, 0xFF, 0xFF, 0x01, 0x40];
+
+// Adds a report as it is sent, of 64 values.
+fn is_report_added(text: &mut Vec<u8>) -> bool {
+    if text.extend_from_slice(&REPORT).is_err() {
+        return false;
     }
-    Ok(text)
+    for _ in 0..64 {
+        if !is_value_added(text) {
+            return false;
+        }
+    }
+    true
 }
 
-// Its text: 16 reports of 64 values, each 80 times `x`.
-fn longest_text(alloc: Global) -> Result<Vec<u8>, Fail> {
-    let value = repeated(alloc, "2150", "78", 80)?;
-    let report = behind(alloc, "0102B104FFFFFFFF0140", value.as_slice(), 64)?;
-    let head = "0103A108FFFFFFFFFFFFFFFFB104FFFFFFFF0110";
-    behind(alloc, head, report.as_slice(), 16)
+const EVENT: [u8; 20] = [
+    0x01, 0x03, 0xA1, 0x08, 0xFF, 0xFF, 0xFF, 0xFF, 0xFF, 0xFF, 0xFF, 0xFF, 0xB1, 0x04, 0xFF, 0xFF, 0xFF,
+    0xFF, 0x01, 0x10,
+];
+
+// Adds the text of the longest: 16 reports.
+fn is_longest_added(text: &mut Vec<u8>) -> bool {
+    if text.extend_from_slice(&EVENT).is_err() {
+        return false;
+    }
+    for _ in 0..16 {
+        if !is_report_added(text) {
+            return false;
+        }
+    }
+    true
 }
 
-#[test]
-fn an_event_has_16_reports_of_64_values(rt: HostRuntime) -> Result<(), Fail> {
-    let want = longest_text(rt.alloc())?;
-    let sent = longest(rt.alloc())?;
-    assert!(rt; sent.len() == 20 + 16 * (10 + 64 * 82) && sent.as_slice() == want.as_slice());
-    Ok(())
+fn is_longest(alloc: Global, sent: &[u8]) -> bool {
+    let mut want = Vec::new(alloc);
+    is_longest_added(&mut want)
+        && sent.len() == 20 + 16 * (10 + 64 * 82)
+        && sent == want.as_slice()
+}
+
+fn longest_is_sent(alloc: Global) -> bool {
+    match &longest(alloc) {
+        Ok(sent) => is_longest(alloc, sent.as_slice()),
+        Err(_) => false,
+    }
+}
+
+/// Tells how each of these tests went, and gives whether all went well.
+pub fn tell(rt: &HostRuntime) -> bool {
+    let is_longest = longest_is_sent(rt.alloc());
+    tell_alarms(rt)
+        & tell_events(rt)
+        & told(rt, "an_event_has_16_reports_of_64_values", is_longest)
 }

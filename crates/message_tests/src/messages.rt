@@ -3,12 +3,12 @@
 ghost use Rattle.std.specs.Prelude.{◌≡◌, length, IfOk};
 ghost use Rattle.message_model.specs.GemSendable.{AreCharacters, HasSendableParts};
 
-use crate::texts::{is_text, sent};
+use crate::texts::is_sent;
+use crate::told::{told, told_none};
 use item_model::{Bytes, NoMemory};
 use message_model::{BodyFault, GemReply, Identity};
 use msgs_gem::{is_ignored, read_gem};
 use std::alloc::Global;
-use std::test::Fail;
 
 // The messages whose text is ignored, by stream and function.
 const IGNORED: [(u8, u8); 6] = [(1, 1), (1, 13), (1, 15), (1, 17), (2, 17), (5, 7)];
@@ -25,11 +25,6 @@ fn false_ignored(ignored: &[(u8, u8)]) -> Option<(u8, u8)> {
     None
 }
 
-#[test]
-fn six_messages_have_an_ignored_text(rt: HostRuntime) {
-    assert_eq!(rt; false_ignored(IGNORED.as_slice()), None);
-}
-
 // The fault of function 9 of a stream.
 fn fault_of(alloc: Global, stream: u8) -> Option<BodyFault> {
     match &read_gem(alloc, stream, 9, None) {
@@ -40,7 +35,7 @@ fn fault_of(alloc: Global, stream: u8) -> Option<BodyFault> {
 
 // The first stream whose function 9 has another fault than that the function is unknown, of a stream that some message
 // has, or else that the stream is.
-fn false_fault(alloc: Global) -> Option<u8> {
+fn false_fault(alloc: Global) -> Option<(u8, u8)> {
     for stream in 0..255 {
         let want = if [1, 2, 5, 6].contains(&stream) {
             BodyFault::UnknownFunction
@@ -48,32 +43,33 @@ fn false_fault(alloc: Global) -> Option<u8> {
             BodyFault::UnknownStream
         };
         if fault_of(alloc, stream) != Some(want) {
-            return Some(stream);
+            return Some((stream, 9));
         }
     }
     None
 }
 
-#[test]
-fn what_is_not_known_is_told_by_its_stream_or_function(rt: HostRuntime) {
-    assert_eq!(rt; false_fault(rt.alloc()), None);
-}
-
-fn printed(alloc: Global) -> Result<String, Fail> {
+// Adds the faults as they are printed.
+fn add_faults(text: &mut String) -> Option<()> {
     let stream = BodyFault::UnknownStream;
     let function = BodyFault::UnknownFunction;
     let data = BodyFault::IllegalData;
     let memory = BodyFault::NoMemory;
-    Ok(format!(in alloc; "{stream}, {function}, {data}, {memory}")?)
+    write!(text, "{stream}, {function}, {data}, {memory}").ok()
 }
 
-#[test]
-fn a_fault_is_printed(rt: HostRuntime) -> Result<(), Fail> {
-    assert_eq!(rt;
-        printed(rt.alloc())?.as_str(),
-        "unknown stream, unknown function, illegal data, out of memory"
-    );
-    Ok(())
+fn are_printed(alloc: Global) -> bool {
+    let mut text = String::new(alloc);
+    let _ = add_faults(&mut text);
+    text.as_str() == "unknown stream, unknown function, illegal data, out of memory"
+}
+
+fn tell_known(rt: &HostRuntime) -> bool {
+    let unknown = "what_is_not_known_is_told_by_its_stream_or_function";
+    let alloc = rt.alloc();
+    told_none(rt, "six_messages_have_an_ignored_text", false_ignored(&IGNORED))
+        & told_none(rt, unknown, false_fault(alloc))
+        & told(rt, "a_fault_is_printed", are_printed(alloc))
 }
 
 fn made(alloc: Global, bytes: &[u8]) -> Result<Bytes, NoMemory>
@@ -94,40 +90,47 @@ fn revision(alloc: Global) -> Result<Bytes, NoMemory>
     made(alloc, b"1.0.01")
 }
 
-// What the tool tells of itself.
-fn data(alloc: Global) -> Result<Vec<u8>, NoMemory> {
-    sent(alloc, GemReply::S1F2(model(alloc)?, revision(alloc)?))
+// Whether what the tool tells of itself has this text: 0 stands for S1F2, 1 for S1F13, and 2 for S1F14.
+fn is_itself(rt: &HostRuntime, message: u8, mdln: Bytes, softrev: Bytes, wanted: &str) -> bool
+    requires model { AreCharacters mdln }
+    requires revision { AreCharacters softrev }
+{
+    match message {
+        0 => is_sent(rt, GemReply::S1F2(mdln, softrev), wanted),
+        1 => is_sent(rt, GemReply::S1F13(mdln, softrev), wanted),
+        _ => is_sent(rt, GemReply::S1F14(Identity { mdln, softrev }), wanted),
+    }
 }
 
-fn establish(alloc: Global) -> Result<Vec<u8>, NoMemory> {
-    sent(alloc, GemReply::S1F13(model(alloc)?, revision(alloc)?))
+fn is_told(rt: &HostRuntime, message: u8, mdln: Bytes, wanted: &str) -> bool
+    requires { AreCharacters mdln }
+{
+    match revision(rt.alloc()) {
+        Ok(softrev) => is_itself(rt, message, mdln, softrev, wanted),
+        Err(_) => false,
+    }
 }
 
-fn acknowledge(alloc: Global) -> Result<Vec<u8>, NoMemory> {
-    let mdln = model(alloc)?;
-    let softrev = revision(alloc)?;
-    sent(alloc, GemReply::S1F14(Identity { mdln, softrev }))
+fn tells(rt: &HostRuntime, message: u8, wanted: &str) -> bool {
+    match model(rt.alloc()) {
+        Ok(mdln) => is_told(rt, message, mdln, wanted),
+        Err(_) => false,
+    }
 }
 
-#[test]
-fn the_tool_tells_its_model_and_then_its_revision(rt: HostRuntime) -> Result<(), Fail> {
-    let alloc = rt.alloc();
-    is_text(alloc, data(alloc), "0102410647454D3330304106312E302E3031")?;
-    is_text(
-        alloc,
-        establish(alloc),
-        "0102410647454D3330304106312E302E3031",
-    )?;
-    is_text(
-        alloc,
-        acknowledge(alloc),
-        "01022101000102410647454D3330304106312E302E3031",
-    )
+fn tell_itself(rt: &HostRuntime) -> bool {
+    let are_told = tells(rt, 0, "0102410647454D3330304106312E302E3031")
+        && tells(rt, 1, "0102410647454D3330304106312E302E3031")
+        && tells(rt, 2, "01022101000102410647454D3330304106312E302E3031");
+    told(rt, "the_tool_tells_its_model_and_then_its_revision", are_told)
 }
 
-// The text of the time.
-fn told_time(alloc: Global) -> Result<Vec<u8>, NoMemory> {
-    sent(alloc, GemReply::S2F18(characters(alloc)?))
+// Whether the text of the time is this one.
+fn is_time(rt: &HostRuntime, wanted: &str) -> bool {
+    match characters(rt.alloc()) {
+        Ok(time) => is_sent(rt, GemReply::S2F18(time), wanted),
+        Err(_) => false,
+    }
 }
 
 fn characters(alloc: Global) -> Result<Bytes, NoMemory>
@@ -136,17 +139,16 @@ fn characters(alloc: Global) -> Result<Bytes, NoMemory>
     made(alloc, b"2026112711094700")
 }
 
-#[test]
-fn a_code_is_one_binary_byte_and_the_time_is_ascii(rt: HostRuntime) -> Result<(), Fail> {
-    let alloc = rt.alloc();
-    is_text(alloc, sent(alloc, GemReply::S1F16), "210100")?;
-    is_text(alloc, sent(alloc, GemReply::S1F18(2)), "210102")?;
-    is_text(alloc, sent(alloc, GemReply::S2F32(1)), "210101")?;
-    is_text(
-        alloc,
-        told_time(alloc),
-        "411032303236313132373131303934373030",
-    )
+fn are_codes(rt: &HostRuntime) -> bool {
+    is_sent(rt, GemReply::S1F16, "210100")
+        && is_sent(rt, GemReply::S1F18(2), "210102")
+        && is_sent(rt, GemReply::S2F32(1), "210101")
+}
+
+fn tell_codes(rt: &HostRuntime) -> bool {
+    let codes = "a_code_is_one_binary_byte_and_the_time_is_ascii";
+    let time = "411032303236313132373131303934373030";
+    told(rt, codes, are_codes(rt) && is_time(rt, time))
 }
 
 // A message of stream 9 by its function; S9F11 for any other number.
@@ -167,16 +169,27 @@ fn of_stream_9(function: u8, header: Bytes) -> GemReply
 // The header of an S1F5 with W and system bytes 7.
 const HEADER: [u8; 10] = [0x00, 0x00, 0x81, 0x05, 0x00, 0x00, 0x00, 0x00, 0x00, 0x07];
 
-// The text of such a message about the header.
-fn error(alloc: Global, function: u8) -> Result<Vec<u8>, NoMemory> {
-    sent(alloc, of_stream_9(function, made(alloc, &HEADER)?))
+// Whether such a message about the header has this text.
+fn is_error(rt: &HostRuntime, function: u8) -> bool {
+    match made(rt.alloc(), &HEADER) {
+        Ok(header) => is_sent(rt, of_stream_9(function, header), "210A00008105000000000007"),
+        Err(_) => false,
+    }
 }
 
-#[test]
-fn stream_9_tells_the_header_as_binary(rt: HostRuntime) -> Result<(), Fail> {
-    let alloc = rt.alloc();
+fn are_errors(rt: &HostRuntime) -> bool {
     for function in [1, 3, 5, 7, 9, 11] {
-        is_text(alloc, error(alloc, function), "210A00008105000000000007")?;
+        if !is_error(rt, function) {
+            return false;
+        }
     }
-    Ok(())
+    true
+}
+
+/// Tells how each of these tests went, and gives whether all went well.
+pub fn tell(rt: &HostRuntime) -> bool {
+    tell_known(rt)
+        & tell_itself(rt)
+        & tell_codes(rt)
+        & told(rt, "stream_9_tells_the_header_as_binary", are_errors(rt))
 }

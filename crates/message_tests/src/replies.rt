@@ -6,38 +6,12 @@ ghost use Rattle.item_model.specs.Weight.{IsBounded};
 ghost use Rattle.message_model.specs.Functions.{AreFewFunctions};
 ghost use Rattle.message_model.specs.GemSendable.{AreFew, HasSendableParts};
 
-use crate::texts::{number, repeated, sent, text};
+use crate::texts::{are_added, are_bytes, is_sent, number, sent, text};
+use crate::told::told;
 use gem_ids::{Listed, Text80};
 use item_model::{Item, Items, NoMemory};
 use message_model::{GemReply, ParameterAcknowledge, StreamRefusal, VariableName};
 use std::alloc::Global;
-use std::test::Fail;
-
-// Whether the text of a reply has these bytes, as hex digits.
-fn is_sent(rt: &HostRuntime, reply: GemReply, wanted: &str) -> bool
-    requires { HasSendableParts reply }
-{
-    match sent(rt.alloc(), reply) {
-        Ok(text) => is_text(rt, text.as_slice(), wanted),
-        Err(_) => false,
-    }
-}
-
-fn is_text(rt: &HostRuntime, text: &[u8], wanted: &str) -> bool {
-    match hex::decode(rt.alloc(), wanted) {
-        Ok(wanted) => are_bytes(rt, text, wanted.as_slice()),
-        Err(_) => false,
-    }
-}
-
-// Whether a text has these bytes. Where it has not, both are told.
-fn are_bytes(rt: &HostRuntime, text: &[u8], wanted: &[u8]) -> bool {
-    if text == wanted {
-        return true;
-    }
-    let _ = eprintln!(rt; "{text:?}, wanted {wanted:?}");
-    false
-}
 
 // The value 7, and an L without items.
 fn two_values(alloc: Global) -> Result<Items, NoMemory>
@@ -68,14 +42,14 @@ fn are_two_values(rt: &HostRuntime, reply: u8) -> bool {
     }
 }
 
-#[test]
-fn values_are_a_list(rt: HostRuntime) -> Result<(), Fail> {
-    let alloc = rt.alloc();
-    for reply in 0..3 {
-        let none = are_values(&rt, reply, Items::new(alloc), "0100");
-        assert_eq!(rt; (none, are_two_values(&rt, reply)), (true, true));
-    }
-    Ok(())
+// Whether it has the text of no value, and that of two.
+fn is_list(rt: &HostRuntime, reply: u8) -> bool {
+    are_values(rt, reply, Items::new(rt.alloc()), "0100") && are_two_values(rt, reply)
+}
+
+fn tell_values(rt: &HostRuntime) -> bool {
+    let are_lists = is_list(rt, 0) && is_list(rt, 1) && is_list(rt, 2);
+    told(rt, "values_are_a_list", are_lists)
 }
 
 // A constant, as L[U4].
@@ -103,10 +77,9 @@ fn are_constants(rt: &HostRuntime, wanted: &str) -> bool {
     }
 }
 
-#[test]
-fn constants_are_printed_as_they_are_given(rt: HostRuntime) -> Result<(), Fail> {
-    assert!(rt; are_constants(&rt, "01020101B104000000C90101B104000000CA"));
-    Ok(())
+fn tell_constants(rt: &HostRuntime) -> bool {
+    let are_constants = are_constants(rt, "01020101B104000000C90101B104000000CA");
+    told(rt, "constants_are_printed_as_they_are_given", are_constants)
 }
 
 // Two names, the second of an unknown variable.
@@ -138,12 +111,10 @@ fn are_no_names(rt: &HostRuntime, wanted: &str) -> bool {
     is_sent(rt, GemReply::S1F12(Listed::new(rt.alloc())), wanted)
 }
 
-#[test]
-fn a_name_has_its_variable_and_no_units(rt: HostRuntime) -> Result<(), Fail> {
+fn tell_names(rt: &HostRuntime) -> bool {
     let two = "01020103B104000000014105436C6F636B41000103B104FFFFFFFF41004100";
-    assert!(rt; are_no_names(&rt, "0100"));
-    assert!(rt; are_names(&rt, two));
-    Ok(())
+    let are_all = are_no_names(rt, "0100") && are_names(rt, two);
+    told(rt, "a_name_has_its_variable_and_no_units", are_all)
 }
 
 // The replies that are a code.
@@ -153,18 +124,13 @@ fn is_code(rt: &HostRuntime, reply: GemReply) -> bool
     is_sent(rt, reply, "210103")
 }
 
-#[test]
-fn a_code_is_one_binary_byte(rt: HostRuntime) -> Result<(), Fail> {
-    let codes = [
-        is_code(&rt, GemReply::S2F16(3)),
-        is_code(&rt, GemReply::S2F34(3)),
-        is_code(&rt, GemReply::S2F36(3)),
-        is_code(&rt, GemReply::S2F38(3)),
-        is_code(&rt, GemReply::S5F4(3)),
-        is_code(&rt, GemReply::S6F24(3)),
-    ];
-    assert_eq!(rt; codes, [true; 6]);
-    Ok(())
+fn are_codes(rt: &HostRuntime) -> bool {
+    is_code(rt, GemReply::S2F16(3))
+        && is_code(rt, GemReply::S2F34(3))
+        && is_code(rt, GemReply::S2F36(3))
+        && is_code(rt, GemReply::S2F38(3))
+        && is_code(rt, GemReply::S5F4(3))
+        && is_code(rt, GemReply::S6F24(3))
 }
 
 // Two parameters that are refused.
@@ -196,12 +162,10 @@ fn is_refused(rt: &HostRuntime, wanted: &str) -> bool {
     }
 }
 
-#[test]
-fn a_command_is_answered_with_its_refused_parameters(rt: HostRuntime) -> Result<(), Fail> {
+fn tell_parameters(rt: &HostRuntime) -> bool {
     let refused = "0102210103010201024104414C494421010301024100210101";
-    assert!(rt; is_accepted(&rt, "01022101000100"));
-    assert!(rt; is_refused(&rt, refused));
-    Ok(())
+    let are_answered = is_accepted(rt, "01022101000100") && is_refused(rt, refused);
+    told(rt, "a_command_is_answered_with_its_refused_parameters", are_answered)
 }
 
 // A stream that is refused with functions.
@@ -269,39 +233,61 @@ fn are_three_faults(rt: &HostRuntime, wanted: &str) -> bool {
     }
 }
 
-#[test]
-fn a_choice_of_streams_is_answered_with_its_faults(rt: HostRuntime) -> Result<(), Fail> {
+fn are_faults(rt: &HostRuntime) -> bool {
     let stream = "010221010101010103A501012101010100";
     let function = "010221010101010103A501062101040101A5010C";
     let three =
         "010221010101030103A5010121010101000103A501062101030102A50109A501FF0103A501002101020100";
-    let answers = [
-        is_answered(&rt, 0, "01022101000100"),
-        is_answered(&rt, 1, "01022101010100"),
-        is_one_fault(&rt, 1, 1, &[], stream),
-        is_one_fault(&rt, 6, 4, &[12], function),
-        are_three_faults(&rt, three),
-    ];
-    assert_eq!(rt; answers, [true; 5]);
-    Ok(())
+    is_answered(rt, 0, "01022101000100")
+        && is_answered(rt, 1, "01022101010100")
+        && is_one_fault(rt, 1, 1, &[], stream)
+        && is_one_fault(rt, 6, 4, &[12], function)
+        && are_three_faults(rt, three)
 }
 
 // Whether S2F44 with one stream that is refused with 256 functions has these bytes.
 fn are_256_functions(rt: &HostRuntime, wanted: &[u8]) -> bool {
     match one_stream(rt.alloc(), 6, 4, &[12; 256]) {
-        Ok(refusals) => match sent(rt.alloc(), GemReply::S2F44(1, refusals)) {
-            Ok(text) => are_bytes(rt, text.as_slice(), wanted),
-            Err(_) => false,
-        },
+        Ok(refusals) => is_refusal(rt, GemReply::S2F44(1, refusals), wanted),
         Err(_) => false,
     }
 }
 
-#[test]
-fn a_refused_stream_lists_each_of_its_functions(rt: HostRuntime) -> Result<(), Fail> {
-    let head = "010221010101010103A50106210104020100";
-    let wanted = repeated(rt.alloc(), head, "A5010C", 256)?;
-    assert_eq!(rt; wanted.len(), 18 + 3 * 256);
-    assert!(rt; are_256_functions(&rt, wanted.as_slice()));
-    Ok(())
+fn is_refusal(rt: &HostRuntime, reply: GemReply, wanted: &[u8]) -> bool
+    requires { HasSendableParts reply }
+{
+    match &sent(rt.alloc(), reply) {
+        Ok(text) => are_bytes(rt, text.as_slice(), wanted),
+        Err(_) => false,
+    }
+}
+
+// What stands in front of the functions.
+const HEAD: [u8; 18] = [
+    0x01, 0x02, 0x21, 0x01, 0x01, 0x01, 0x01, 0x01, 0x03, 0xA5, 0x01, 0x06, 0x21, 0x01, 0x04, 0x02, 0x01,
+    0x00,
+];
+
+fn each_is_listed(rt: &HostRuntime) -> bool {
+    let mut wanted = Vec::new(rt.alloc());
+    wanted.extend_from_slice(&HEAD).is_ok()
+        && are_added(&mut wanted, &[0xA5, 0x01, 0x0C], 256)
+        && wanted.len() == 18 + 3 * 256
+        && are_256_functions(rt, wanted.as_slice())
+}
+
+fn tell_streams(rt: &HostRuntime) -> bool {
+    let faults = "a_choice_of_streams_is_answered_with_its_faults";
+    let each = "a_refused_stream_lists_each_of_its_functions";
+    told(rt, faults, are_faults(rt)) & told(rt, each, each_is_listed(rt))
+}
+
+/// Tells how each of these tests went, and gives whether all went well.
+pub fn tell(rt: &HostRuntime) -> bool {
+    tell_values(rt)
+        & tell_constants(rt)
+        & tell_names(rt)
+        & told(rt, "a_code_is_one_binary_byte", are_codes(rt))
+        & tell_parameters(rt)
+        & tell_streams(rt)
 }

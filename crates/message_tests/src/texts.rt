@@ -12,7 +12,6 @@ use message_model::GemReply;
 use msgs_gem::gem_item;
 use secs_items::encode;
 use std::alloc::Global;
-use std::test::Fail;
 
 /// The text of a reply. It takes the reply, so that no test has to prove how one is let go.
 pub fn sent(alloc: Global, reply: GemReply) -> Result<Vec<u8>, NoMemory>
@@ -37,32 +36,40 @@ fn encoded(alloc: Global, item: &Item) -> Result<Vec<u8>, NoMemory>
     Ok(text)
 }
 
-/// A text that was made has these bytes, as hex digits. The error tells the bytes that it has.
-pub fn is_text(alloc: Global, made: Result<Vec<u8>, NoMemory>, wanted: &str) -> Result<(), Fail> {
-    let made = made?;
-    if made.as_slice() == bytes(alloc, wanted)?.as_slice() {
-        Ok(())
-    } else {
-        Err(Fail::new(format_args!("{made:?}, wanted {wanted}")))
+/// Whether the text of a reply has these bytes, as hex digits. Where it has not, both are told.
+pub fn is_sent(rt: &HostRuntime, reply: GemReply, wanted: &str) -> bool
+    requires { HasSendableParts reply }
+{
+    match &sent(rt.alloc(), reply) {
+        Ok(text) => is_text(rt, text.as_slice(), wanted),
+        Err(_) => false,
     }
 }
 
-/// A head, and so many times one item behind it, each as hex digits.
-pub fn repeated(alloc: Global, head: &str, one: &str, count: usize) -> Result<Vec<u8>, Fail> {
-    let mut text = bytes(alloc, head)?;
-    let one = bytes(alloc, one)?;
+fn is_text(rt: &HostRuntime, text: &[u8], wanted: &str) -> bool {
+    match &hex::decode(rt.alloc(), wanted) {
+        Ok(wanted) => are_bytes(rt, text, wanted.as_slice()),
+        Err(_) => false,
+    }
+}
+
+/// Whether a text has these bytes. Where it has not, both are told.
+pub fn are_bytes(rt: &HostRuntime, text: &[u8], wanted: &[u8]) -> bool {
+    if text == wanted {
+        return true;
+    }
+    let _ = eprintln!(rt; "{text:?}, wanted {wanted:?}");
+    false
+}
+
+/// Adds so many times these bytes; whether there was memory for them.
+pub fn are_added(text: &mut Vec<u8>, one: &[u8], count: usize) -> bool {
     for _ in 0..count {
-        text.extend_from_slice(one.as_slice())?;
+        if text.extend_from_slice(one).is_err() {
+            return false;
+        }
     }
-    Ok(text)
-}
-
-/// The bytes of hex digits, and none of `-`.
-pub fn bytes(alloc: Global, digits: &str) -> Result<Vec<u8>, Fail> {
-    if digits == "-" {
-        return Ok(Vec::new(alloc));
-    }
-    Ok(hex::decode(alloc, digits)?)
+    true
 }
 
 /// A text of these bytes, and the text of none where they are no text.

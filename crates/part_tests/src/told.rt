@@ -14,6 +14,14 @@ pub fn told_none(rt: &HostRuntime, name: &str, fault: Option<u32>) -> bool {
     told(rt, name, fault.is_none())
 }
 
+/// The same of messages that were looked at one by one, of which none is to be at fault, each by its stream and function.
+pub fn told_no_message(rt: &HostRuntime, name: &str, fault: Option<(u8, u8)>) -> bool {
+    if let Some((stream, function)) = fault {
+        let _ = eprintln!(rt; "{name}: not S{stream}F{function}");
+    }
+    told(rt, name, fault.is_none())
+}
+
 /// The same of a text, which is to be this one.
 pub fn told_text(rt: &HostRuntime, name: &str, got: &[u8], want: &str) -> bool {
     let is_wanted = got == want.as_bytes();

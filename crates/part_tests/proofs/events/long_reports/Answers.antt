@@ -1,6 +1,6 @@
 use Rattle.item_model.specs.View.{view}
-use Rattle.message_tests.proofs.Bounds.{one_more}
-use Rattle.message_tests.proofs.events.long_reports.Goals as goal
+use Rattle.part_tests.proofs.Bounds.{one_more}
+use Rattle.part_tests.proofs.events.long_reports.Goals as goal
 
 pub loop-preserved : goal.loop-preserved
 loop-preserved c =

@@ -96,7 +96,11 @@ fn is_on_request(rt: &HostRuntime) -> bool {
 
 fn tell_events(rt: &HostRuntime) -> bool {
     let are_events = is_event(rt) && is_on_request(rt);
-    told(rt, "an_event_has_its_note_and_a_report_on_request_has_none", are_events)
+    told(
+        rt,
+        "an_event_has_its_note_and_a_report_on_request_has_none",
+        are_events,
+    )
 }
 
 // A B of 80 bytes.
@@ -174,8 +178,8 @@ fn is_report_added(text: &mut Vec<u8>) -> bool {
 }
 
 const EVENT: [u8; 20] = [
-    0x01, 0x03, 0xA1, 0x08, 0xFF, 0xFF, 0xFF, 0xFF, 0xFF, 0xFF, 0xFF, 0xFF, 0xB1, 0x04, 0xFF, 0xFF, 0xFF,
-    0xFF, 0x01, 0x10,
+    0x01, 0x03, 0xA1, 0x08, 0xFF, 0xFF, 0xFF, 0xFF, 0xFF, 0xFF, 0xFF, 0xFF, 0xB1, 0x04, 0xFF, 0xFF,
+    0xFF, 0xFF, 0x01, 0x10,
 ];
 
 // Adds the text of the longest: 16 reports.
@@ -193,9 +197,7 @@ fn is_longest_added(text: &mut Vec<u8>) -> bool {
 
 fn is_longest(alloc: Global, sent: &[u8]) -> bool {
     let mut want = Vec::new(alloc);
-    is_longest_added(&mut want)
-        && sent.len() == 20 + 16 * (10 + 64 * 82)
-        && sent == want.as_slice()
+    is_longest_added(&mut want) && sent.len() == 20 + 16 * (10 + 64 * 82) && sent == want.as_slice()
 }
 
 fn longest_is_sent(alloc: Global) -> bool {
@@ -208,7 +210,5 @@ fn longest_is_sent(alloc: Global) -> bool {
 /// Tells how each of these tests went, and gives whether all went well.
 pub fn tell(rt: &HostRuntime) -> bool {
     let is_longest = longest_is_sent(rt.alloc());
-    tell_alarms(rt)
-        & tell_events(rt)
-        & told(rt, "an_event_has_16_reports_of_64_values", is_longest)
+    tell_alarms(rt) & tell_events(rt) & told(rt, "an_event_has_16_reports_of_64_values", is_longest)
 }

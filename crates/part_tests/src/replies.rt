@@ -165,7 +165,11 @@ fn is_refused(rt: &HostRuntime, wanted: &str) -> bool {
 fn tell_parameters(rt: &HostRuntime) -> bool {
     let refused = "0102210103010201024104414C494421010301024100210101";
     let are_answered = is_accepted(rt, "01022101000100") && is_refused(rt, refused);
-    told(rt, "a_command_is_answered_with_its_refused_parameters", are_answered)
+    told(
+        rt,
+        "a_command_is_answered_with_its_refused_parameters",
+        are_answered,
+    )
 }
 
 // A stream that is refused with functions.
@@ -264,8 +268,8 @@ fn is_refusal(rt: &HostRuntime, reply: GemReply, wanted: &[u8]) -> bool
 
 // What stands in front of the functions.
 const HEAD: [u8; 18] = [
-    0x01, 0x02, 0x21, 0x01, 0x01, 0x01, 0x01, 0x01, 0x03, 0xA5, 0x01, 0x06, 0x21, 0x01, 0x04, 0x02, 0x01,
-    0x00,
+    0x01, 0x02, 0x21, 0x01, 0x01, 0x01, 0x01, 0x01, 0x03, 0xA5, 0x01, 0x06, 0x21, 0x01, 0x04, 0x02,
+    0x01, 0x00,
 ];
 
 fn each_is_listed(rt: &HostRuntime) -> bool {

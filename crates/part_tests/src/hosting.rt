@@ -83,7 +83,7 @@ fn tell_run<R: Threads + Wait + Sync>(
     if let Some(mut door) = door {
         run_at(handle, rt.alloc(), &mut text, reader, writer, &mut door);
     }
-    told_text(rt, name, text.as_str(), want)
+    told_text(rt, name, text.as_str().as_bytes(), want)
 }
 
 // A door of no links.

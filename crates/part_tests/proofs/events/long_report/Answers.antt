@@ -1,6 +1,6 @@
 use Rattle.item_model.specs.View.{view}
-use Rattle.message_tests.proofs.Bounds.{report_bounded}
-use Rattle.message_tests.proofs.events.long_report.Goals as goal
+use Rattle.part_tests.proofs.Bounds.{report_bounded}
+use Rattle.part_tests.proofs.events.long_report.Goals as goal
 
 pub returns : goal.returns
 returns c =

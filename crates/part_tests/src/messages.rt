@@ -4,7 +4,7 @@ ghost use Rattle.std.specs.Prelude.{◌≡◌, length, IfOk};
 ghost use Rattle.message_model.specs.GemSendable.{AreCharacters, HasSendableParts};
 
 use crate::texts::is_sent;
-use crate::told::{told, told_none};
+use crate::told::{told, told_no_message};
 use item_model::{Bytes, NoMemory};
 use message_model::{BodyFault, GemReply, Identity};
 use msgs_gem::{is_ignored, read_gem};
@@ -67,8 +67,11 @@ fn are_printed(alloc: Global) -> bool {
 fn tell_known(rt: &HostRuntime) -> bool {
     let unknown = "what_is_not_known_is_told_by_its_stream_or_function";
     let alloc = rt.alloc();
-    told_none(rt, "six_messages_have_an_ignored_text", false_ignored(&IGNORED))
-        & told_none(rt, unknown, false_fault(alloc))
+    told_no_message(
+        rt,
+        "six_messages_have_an_ignored_text",
+        false_ignored(&IGNORED),
+    ) & told_no_message(rt, unknown, false_fault(alloc))
         & told(rt, "a_fault_is_printed", are_printed(alloc))
 }
 
@@ -122,7 +125,11 @@ fn tell_itself(rt: &HostRuntime) -> bool {
     let are_told = tells(rt, 0, "0102410647454D3330304106312E302E3031")
         && tells(rt, 1, "0102410647454D3330304106312E302E3031")
         && tells(rt, 2, "01022101000102410647454D3330304106312E302E3031");
-    told(rt, "the_tool_tells_its_model_and_then_its_revision", are_told)
+    told(
+        rt,
+        "the_tool_tells_its_model_and_then_its_revision",
+        are_told,
+    )
 }
 
 // Whether the text of the time is this one.
@@ -172,7 +179,11 @@ const HEADER: [u8; 10] = [0x00, 0x00, 0x81, 0x05, 0x00, 0x00, 0x00, 0x00, 0x00, 
 // Whether such a message about the header has this text.
 fn is_error(rt: &HostRuntime, function: u8) -> bool {
     match made(rt.alloc(), &HEADER) {
-        Ok(header) => is_sent(rt, of_stream_9(function, header), "210A00008105000000000007"),
+        Ok(header) => is_sent(
+            rt,
+            of_stream_9(function, header),
+            "210A00008105000000000007",
+        ),
         Err(_) => false,
     }
 }

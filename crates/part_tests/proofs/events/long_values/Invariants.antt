@@ -1,7 +1,7 @@
 use Rattle.std.proofs.Common.{◌≡◌}
 use Rattle.item_model.specs.Plain.{count_of}
 use Rattle.item_model.specs.Weight.{AreBounded}
-use Rattle.message_tests.proofs.events.long_values.Given as goal
+use Rattle.part_tests.proofs.events.long_values.Given as goal
 
 -- as many values as turns, each within its bounds
 abbrev pub invariant-loop : goal.invariant-loop

@@ -1,6 +1,7 @@
-//! What the subjects here share: numbers of a line, and how a line ends that says nothing.
+//! What the subjects here share: numbers of a line, points of a gate, and how a line ends that says nothing.
 
 use anyhow::{Result, bail};
+use outside::Point;
 use std::alloc::Global;
 
 /// The answer that was put together, where the line said something.
@@ -18,4 +19,16 @@ pub fn numbers(alloc: Global, words: &str) -> Option<Vec<u64>> {
         numbers.push(word.parse::<u64>().ok()?).ok()?;
     }
     Some(numbers)
+}
+
+/// A point, by its word: `idle`, `accept`, `host`, `line`, `tick`, or the number of a module.
+pub fn point(word: &str) -> Option<Point> {
+    match word {
+        "idle" => Some(Point::Idle),
+        "accept" => Some(Point::Accept),
+        "host" => Some(Point::HostRead),
+        "line" => Some(Point::OperLine),
+        "tick" => Some(Point::Tick),
+        number => Some(Point::Module(number.parse::<u8>().ok()?)),
+    }
 }

@@ -122,30 +122,25 @@ fn play_sections<P: Player>(
     are_played(rt, player, file, sections) && print_count(rt, file, count)
 }
 
-/// Plays the conversations of a file of this text.
-fn play_text<P: Player>(rt: &HostRuntime, player: &P, file: &str, text: &str) -> Result<bool> {
+/// Tells why a file cannot be read, which counts as one of which a conversation failed.
+fn is_unread(rt: &HostRuntime, file: &str, why: &Error) -> bool {
+    let _ = eprintln!(rt; "{file}: {why:#}");
+    false
+}
+
+/// Plays the conversations of a file of this text, and tells whether all of them went as they are written.
+fn play_text<P: Player>(rt: &HostRuntime, player: &P, file: &str, text: &str) -> bool {
     match read(rt.alloc(), text) {
-        Ok(sections) => Ok(play_sections(rt, player, file, sections.as_slice())),
-        Err(why) => Err(why),
+        Ok(sections) => play_sections(rt, player, file, sections.as_slice()),
+        Err(why) => is_unread(rt, file, &why),
     }
 }
 
 /// Plays the conversations of a file, and tells whether all of them went as they are written.
-fn play_file<P: Player>(rt: &HostRuntime, player: &P, file: &str) -> Result<bool> {
+fn is_well<P: Player>(rt: &HostRuntime, player: &P, file: &str) -> bool {
     match fs::read_to_string(rt, file) {
         Ok(text) => play_text(rt, player, file, text.as_str()),
-        Err(why) => Err(why.into()),
-    }
-}
-
-/// The same, where a file that cannot be read counts as one of which a conversation failed.
-fn is_well<P: Player>(rt: &HostRuntime, player: &P, file: &str) -> bool {
-    match play_file(rt, player, file) {
-        Ok(well) => well,
-        Err(why) => {
-            let _ = eprintln!(rt; "{file}: {why:#}");
-            false
-        }
+        Err(why) => is_unread(rt, file, &why.into()),
     }
 }
 

@@ -21,30 +21,34 @@ fn add_lines(text: &mut String, lines: &[Line<'_>], kind: Kind) -> bool {
     true
 }
 
-/// The lines that come in, each with its line feed.
-pub fn input_of(alloc: Global, lines: &[Line<'_>]) -> Result<String, AllocError> {
+/// The lines of a kind, each with its line feed, behind what stands in front of them.
+fn text_of(
+    alloc: Global,
+    front: &str,
+    lines: &[Line<'_>],
+    kind: Kind,
+) -> Result<String, AllocError> {
     let mut text = String::new(alloc);
-    if add_lines(&mut text, lines, Kind::Said) {
+    if text.push_str(front).is_ok() && add_lines(&mut text, lines, kind) {
         Ok(text)
     } else {
         Err(AllocError)
     }
 }
 
-/// Adds how communication begins, and then the lines of keys.
-fn add_communicating(text: &mut String, lines: &[Line<'_>]) -> bool {
-    text.push_str(COMMUNICATING).is_ok() && add_lines(text, lines, Kind::Key)
+/// The lines that come in, each with its line feed.
+pub fn input_of(alloc: Global, lines: &[Line<'_>]) -> Result<String, AllocError> {
+    text_of(alloc, "", lines, Kind::Said)
 }
 
 /// The text of the configuration: the lines of keys. The tool begins COMMUNICATING where none of these names communication.
 pub fn configuration_of(alloc: Global, lines: &[Line<'_>]) -> Result<String, AllocError> {
-    let mut text = String::new(alloc);
-    let is_added = if is_communication(lines) {
-        add_lines(&mut text, lines, Kind::Key)
+    let front = if is_communication(lines) {
+        ""
     } else {
-        add_communicating(&mut text, lines)
+        COMMUNICATING
     };
-    if is_added { Ok(text) } else { Err(AllocError) }
+    text_of(alloc, front, lines, Kind::Key)
 }
 
 /// Whether a line of keys names communication.

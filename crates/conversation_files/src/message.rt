@@ -4,12 +4,25 @@
 //! system bytes as a decimal number, and its item, where it has one. `Select.req 1` is a control message with its system
 //! bytes. It follows the standard alone, and takes nothing of the tool: a fault of the tool's writers is not to be shared.
 
+use crate::names::of_name;
 use crate::spelled_item::{bytes_of, digit};
 use anyhow::{Result, bail};
 use std::alloc::Global;
 
-/// What a header has in front of its system bytes: the session id, bytes 2 and 3, the PType and the SType.
-type Front = [u8; 6];
+/// What a header has in front of its system bytes, as a number of six bytes: the session id, bytes 2 and 3, the PType and the
+/// SType.
+type Front = u64;
+
+/// The fronts of control messages (SEMI E37, session types).
+const CONTROLS: [(&str, Front); 7] = [
+    ("Select.req", 0xFFFF_0000_0001),
+    ("Select.rsp", 0xFFFF_0000_0002),
+    ("Deselect.req", 0xFFFF_0000_0003),
+    ("Deselect.rsp", 0xFFFF_0000_0004),
+    ("Linktest.req", 0xFFFF_0000_0005),
+    ("Linktest.rsp", 0xFFFF_0000_0006),
+    ("Separate.req", 0xFFFF_0000_0009),
+];
 
 /// The stream of these letters, as `S3`.
 fn stream_of(letters: &str) -> Option<u8> {
@@ -33,24 +46,12 @@ fn stream_and_function(name: &str) -> Option<(u8, u8)> {
 fn data_front(name: &str, is_reply_wanted: bool) -> Option<Front> {
     let wanted = if is_reply_wanted { 0x80 } else { 0 };
     match stream_and_function(name) {
-        Some((stream, function)) if stream <= 127 => Some([0, 0, stream | wanted, function, 0, 0]),
+        Some((stream, function)) if stream <= 127 => {
+            let bytes = [0, 0, 0, 0, stream | wanted, function, 0, 0];
+            Some(u64::from_be_bytes(bytes))
+        }
         _ => None,
     }
-}
-
-/// The front of a control message (SEMI E37, session types).
-fn control_front(name: &str) -> Option<Front> {
-    let stype = match name {
-        "Select.req" => 1,
-        "Select.rsp" => 2,
-        "Deselect.req" => 3,
-        "Deselect.rsp" => 4,
-        "Linktest.req" => 5,
-        "Linktest.rsp" => 6,
-        "Separate.req" => 9,
-        _ => return None,
-    };
-    Some([0xFF, 0xFF, 0, 0, 0, stype])
 }
 
 /// Adds bytes as hex digits. False where there is no memory.
@@ -66,10 +67,8 @@ fn push_hex(text: &mut String, bytes: &[u8]) -> bool {
 /// Adds the frame of this front, these system bytes and this item, in hex digits; the length counts the header's ten bytes and
 /// the item, which is far shorter than a length may be.
 fn push_frame(text: &mut String, front: Front, system: u32, item: &[u8]) -> bool {
-    write!(text, "{:08X}", item.len().saturating_add(10)).is_ok()
-        && push_hex(text, &front)
-        && push_hex(text, &system.to_be_bytes())
-        && push_hex(text, item)
+    let length = item.len().saturating_add(10);
+    write!(text, "{length:08X}{front:012X}{system:08X}").is_ok() && push_hex(text, item)
 }
 
 /// The same, with the system bytes as a word.
@@ -109,7 +108,7 @@ fn add_message(
     name: &str,
     words: &str,
 ) -> Result<(), &'static str> {
-    if let Some(front) = control_front(name) {
+    if let Some(front) = of_name(&CONTROLS, name) {
         return add_frame(text, front, words, &[]);
     }
     let after_w = words.strip_prefix("W ");
@@ -138,8 +137,8 @@ pub fn spelled(alloc: Global, words: &str) -> Result<String> {
 
 /// Whether all of these are hex digits.
 fn are_digits(text: &str) -> bool {
-    for letter in text.bytes() {
-        if digit(letter).is_none() {
+    for letter in text.as_bytes() {
+        if digit(*letter).is_none() {
             return false;
         }
     }

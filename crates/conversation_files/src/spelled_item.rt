@@ -9,6 +9,7 @@
 //!
 //! What can fail here tells whether it did by a truth value, and `Spelling::why` says why.
 
+use crate::names::of_name;
 use anyhow::{Result, bail};
 use std::alloc::Global;
 
@@ -25,6 +26,24 @@ const ASCII: u8 = 0o20;
 const SIGNED: u8 = 0o30;
 
 const UNSIGNED: u8 = 0o50;
+
+/// The formats of items that are no lists, by their names.
+const FORMATS: [(&str, u8); 11] = [
+    ("A", ASCII),
+    ("B", BINARY),
+    ("BOOL", BOOLEAN),
+    ("I1", SIGNED | 1),
+    ("I2", SIGNED | 2),
+    ("I4", SIGNED | 4),
+    ("I8", SIGNED),
+    ("U1", UNSIGNED | 1),
+    ("U2", UNSIGNED | 2),
+    ("U4", UNSIGNED | 4),
+    ("U8", UNSIGNED),
+];
+
+/// The bytes of truth values, by their words.
+const TRUTHS: [(&str, u8); 2] = [("true", 1), ("false", 0)];
 
 /// The most elements of a list, and the most bytes of another item.
 const MOST: usize = 0xFF_FFFF;
@@ -74,8 +93,8 @@ fn push_letter(out: &mut Vec<u8>, letter: u8, is_quote_begun: bool) -> Option<bo
 /// Adds what stands between the quotes of a text.
 fn push_quoted(out: &mut Vec<u8>, inner: &str) -> bool {
     let mut is_quote_begun = false;
-    for letter in inner.bytes() {
-        match push_letter(out, letter, is_quote_begun) {
+    for letter in inner.as_bytes() {
+        match push_letter(out, *letter, is_quote_begun) {
             Some(is_begun) => is_quote_begun = is_begun,
             None => return false,
         }
@@ -140,12 +159,7 @@ fn push_byte(out: &mut Vec<u8>, word: &str) -> bool {
 
 /// Adds a truth value.
 fn push_truth(out: &mut Vec<u8>, word: &str) -> bool {
-    let byte = match word {
-        "true" => Some(1),
-        "false" => Some(0),
-        _ => None,
-    };
-    push_some(out, byte)
+    push_some(out, of_name(&TRUTHS, word))
 }
 
 /// The eight bytes of a number without a sign, the most significant first. None where a word is none, or is greater than this.
@@ -214,35 +228,6 @@ fn push_elements(out: &mut Vec<u8>, format: u8, words: &str) -> bool {
     true
 }
 
-/// The format of numbers of these bytes of a name, as `U4`.
-fn number_format(kind: u8, count: u8) -> Option<u8> {
-    let numbers = match kind {
-        b'I' => SIGNED,
-        b'U' => UNSIGNED,
-        _ => return None,
-    };
-    match count {
-        b'1' => Some(numbers | 1),
-        b'2' => Some(numbers | 2),
-        b'4' => Some(numbers | 4),
-        b'8' => Some(numbers),
-        _ => None,
-    }
-}
-
-/// The format of an item that is no list.
-fn format_of(name: &str) -> Option<u8> {
-    match name {
-        "A" => Some(ASCII),
-        "B" => Some(BINARY),
-        "BOOL" => Some(BOOLEAN),
-        _ => match name.as_bytes() {
-            [kind, count] => number_format(*kind, *count),
-            _ => None,
-        },
-    }
-}
-
 /// Adds what stands behind the header of an item of a format, of the words behind its name.
 fn push_value(out: &mut Vec<u8>, format: u8, words: &str) -> bool {
     if format == ASCII {
@@ -255,7 +240,7 @@ fn push_value(out: &mut Vec<u8>, format: u8, words: &str) -> bool {
 /// Adds what stands behind the header of an item that is no list, of its words; its format.
 fn push_body(out: &mut Vec<u8>, words: &str) -> Option<u8> {
     let (name, value) = words.split_once(' ').unwrap_or((words, ""));
-    match format_of(name) {
+    match of_name(&FORMATS, name) {
         Some(format) if push_value(out, format, value.trim_start()) => Some(format),
         _ => None,
     }
@@ -336,10 +321,12 @@ impl Open {
     }
 }
 
-/// Where the piece of words begins that is read, the mark in front of it, and whether a quote is open.
+/// Where the piece of words begins that is read, and the letter that is read stands, the mark in front of the piece, and whether a
+/// quote is open.
 #[derive(Clone, Copy)]
 struct Cut {
     begin: usize,
+    place: usize,
     before: Mark,
     is_quoted: bool,
 }
@@ -348,6 +335,7 @@ impl Cut {
     fn new() -> Cut {
         Cut {
             begin: 0,
+            place: 0,
             before: Mark::Comma,
             is_quoted: false,
         }
@@ -365,10 +353,10 @@ impl Cut {
         }
     }
 
-    /// The piece in front of a mark at this place; the next begins behind it.
-    fn piece<'a>(&mut self, words: &'a str, place: usize, mark: Mark) -> &'a str {
-        let piece = words.get(self.begin..place).unwrap_or("").trim();
-        self.begin = place.saturating_add(1);
+    /// The piece in front of a mark that is read; the next begins behind it.
+    fn piece<'a>(&mut self, words: &'a str, mark: Mark) -> &'a str {
+        let piece = words.get(self.begin..self.place).unwrap_or("").trim();
+        self.begin = self.place.saturating_add(1);
         self.before = mark;
         piece
     }
@@ -463,23 +451,31 @@ impl Spelling {
         }
     }
 
-    /// Takes the words in front of a mark at this place.
-    fn take_to(&mut self, alloc: Global, words: &str, place: usize, mark: Mark) -> bool {
+    /// Takes the words in front of a mark that is read.
+    fn take_to(&mut self, alloc: Global, words: &str, mark: Mark) -> bool {
         let before = self.cut.before;
-        let piece = self.cut.piece(words, place, mark);
+        let piece = self.cut.piece(words, mark);
         self.take(alloc, piece, before, mark)
+    }
+
+    /// Takes a letter of these words, and the words in front of it where it is a mark.
+    fn take_letter(&mut self, alloc: Global, words: &str, letter: u8) -> bool {
+        let is_taken = match self.cut.mark(letter) {
+            Some(mark) => self.take_to(alloc, words, mark),
+            None => true,
+        };
+        self.cut.place = self.cut.place.saturating_add(1);
+        is_taken
     }
 
     /// Reads these words, which are cut at the brackets and commas that stand in no quotes.
     fn take_all(&mut self, alloc: Global, words: &str) -> bool {
-        for (place, letter) in words.bytes().enumerate() {
-            if let Some(mark) = self.cut.mark(letter)
-                && !self.take_to(alloc, words, place, mark)
-            {
+        for letter in words.as_bytes() {
+            if !self.take_letter(alloc, words, *letter) {
                 return false;
             }
         }
-        self.take_to(alloc, words, words.len(), Mark::End)
+        self.take_to(alloc, words, Mark::End)
     }
 
     /// The bytes of the one item that was read, where all lists are closed.

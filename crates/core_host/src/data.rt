@@ -2,14 +2,15 @@
 ghost use Rattle.std.specs.Prelude.{◌≡◌, ◌+◌, ◌≤◌, ◌<◌, ◌^◌, length, OnOk, IfOk};
 ghost use Rattle.transactions.specs.Endings.{answered};
 ghost use Rattle.message_model.specs.Acknowledge.{accepts};
-ghost use Rattle.gem_model.specs.Direct.{Are, IsListed, attempt_answer, establish_answer};
-ghost use Rattle.gem_model.specs.Verdict.{item_of, stream_of, function_of};
+ghost use Rattle.gem_model.specs.Direct.{Are, IsListed, answer_rows, attempt_answer, establish_answer};
+ghost use Rattle.gem_model.specs.Fire.{fires};
+ghost use Rattle.gem_model.specs.Verdict.{header_of, item_of, stream_of, function_of};
 ghost use Rattle.gem_model.specs.Messages.{done};
-ghost use Rattle.gem_model.specs.Act.{replied, taken, taken_as, closed_by, data_done};
-ghost use Rattle.core_host.specs.HostActs.{host_act, reply_act};
+ghost use Rattle.gem_model.specs.Act.{replied, taken, taken_as, closed_by, note_answered, data_act, data_done};
+ghost use Rattle.core_host.specs.HostActs.{act_of, host_act, reply_act};
 ghost use Rattle.host_replies.specs.Dones.{done_view, CanBeSent};
 ghost use Rattle.host_requests.specs.Short.{IsShort};
-ghost use Rattle.host_requests.specs.Verdicts.{message_view, HasFew};
+ghost use Rattle.host_requests.specs.Verdicts.{message_view, verdict_view, HasFew, HasNext, IsFew};
 
 use crate::verdict::verdict_of;
 use core_state::Plant;
@@ -44,19 +45,52 @@ pub fn host(plant: &mut Plant, alloc: Global, arrival: &Arrival) -> Result<HostA
     ensures answer { IfOk result (λ act. act ≡ host_act plant.old arrival.now) }
     ensures after { OnOk result (plant.new ≡ data_done arrival.now plant.old) }
 {
+    match verdict_of(plant, alloc, arrival) {
+        Ok(verdict) => done_by(plant, alloc, arrival, verdict),
+        Err(error) => Err(error),
+    }
+}
+
+/// What a data message does by the rule that fits, which is let go.
+fn done_by(
+    plant: &mut Plant,
+    alloc: Global,
+    arrival: &Arrival,
+    verdict: Verdict,
+) -> Result<HostAct, AllocError>
+    requires next { HasNext (header_of arrival.now) verdict }
+    requires few { IsFew verdict }
+    ensures answer { IfOk result (λ act. act ≡ act_of (header_of arrival.now) (verdict_view verdict)) }
+    ensures after { OnOk result (plant.new ≡ data_act (header_of arrival.now) (item_of arrival.now) (verdict_view verdict) plant.old) }
+{
+    follow(plant, alloc, arrival, &verdict)
+}
+
+/// What a data message does by the rule that fits.
+fn follow(
+    plant: &mut Plant,
+    alloc: Global,
+    arrival: &Arrival,
+    verdict: &Verdict,
+) -> Result<HostAct, AllocError>
+    requires next { HasNext (header_of arrival.now) verdict.now }
+    requires few { IsFew verdict.now }
+    ensures answer { IfOk result (λ act. act ≡ act_of (header_of arrival.now) (verdict_view verdict.now)) }
+    ensures after { OnOk result (plant.new ≡ data_act (header_of arrival.now) (item_of arrival.now) (verdict_view verdict.now) plant.old) }
+{
     let header = header_of(arrival);
-    match verdict_of(plant, alloc, arrival)? {
+    match verdict {
         Verdict::Discarded => Ok(HostAct::Silent),
         Verdict::Stream9(function) => {
-            plant.send_stream9(alloc, function, header)?;
-            Ok(HostAct::Stream9(function))
+            plant.send_stream9(alloc, *function, header)?;
+            Ok(HostAct::Stream9(*function))
         }
         Verdict::Aborted => answer(plant, alloc, &header, 0, Bytes::from_vec(Vec::new(alloc))),
         Verdict::Answers => {
             close(plant, alloc, &header, arrival)?;
             Ok(HostAct::Silent)
         }
-        Verdict::Taken(message) => take_message(plant, alloc, &header, &message),
+        Verdict::Taken(message) => take_message(plant, alloc, &header, message),
     }
 }
 
@@ -128,7 +162,6 @@ fn finish(
 }
 
 /// The transaction that a message answers is closed, and its rows fire. Without one nothing changes.
-#[tactic(auto, using(crate::proofs::Listed::comm_listed, crate::proofs::Listed::control_listed))]
 fn close(
     plant: &mut Plant,
     alloc: Global,
@@ -137,11 +170,24 @@ fn close(
 ) -> Result<(), AllocError>
     ensures { OnOk result (plant.new ≡ closed_by header.now (item_of arrival.now) (answered header.now.system (stream_of header.now) (function_of header.now) plant.old.transactions.opened) plant.old) }
 {
-    let answered = plant.answer_transaction(header.system, stream_of(header), header.byte3);
-    let Some(one) = answered else {
-        return Ok(());
-    };
-    match one.what {
+    match plant.answer_transaction(header.system, stream_of(header), header.byte3) {
+        Some(one) => take_answer(plant, alloc, header, arrival, one.what),
+        None => Ok(()),
+    }
+}
+
+/// The answer to what the tool asked: its rows fire, and a note is answered.
+#[tactic(auto, using(crate::proofs::Listed::comm_listed, crate::proofs::Listed::control_listed))]
+fn take_answer(
+    plant: &mut Plant,
+    alloc: Global,
+    header: &Header,
+    arrival: &Arrival,
+    what: What,
+) -> Result<(), AllocError>
+    ensures { OnOk result (plant.new ≡ fires (answer_rows what (function_of header.now) (item_of arrival.now)) (note_answered what plant.old)) }
+{
+    match what {
         What::Establish => {
             let trigger = establish_answer(alloc, header, arrival)?;
             plant.fire_listed(alloc, &[by_comm(trigger)])

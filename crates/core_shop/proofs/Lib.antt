@@ -1,4 +1,3 @@
-pub mod Firings
 pub mod JobRows
 pub mod Operating
 pub mod Timeouts

@@ -22,6 +22,7 @@ mod modules;
 mod notes;
 mod noting;
 mod open_transactions;
+mod opening;
 mod plant;
 mod rows;
 mod sending;

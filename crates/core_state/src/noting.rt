@@ -17,7 +17,7 @@ use gem_states::Comm;
 use hsms_frame::Bytes;
 use message_model::GemReply;
 use note_line::Kind;
-use plant_parts::{alcd, reply_text, text_of_alarm};
+use plant_parts::{alcd, text_of_alarm, text_of_reply};
 use std::alloc::{AllocError, Global};
 
 /// A row that fired: the row, the name of its object, and whether control was ON-LINE before it.
@@ -66,8 +66,8 @@ impl Plant {
     {
         let seen = self.seen();
         let reports = seen.reports_on(alloc, ceid, object, row)?;
-        let event = GemReply::S6F11(self.line.notes().next_number(), ceid, reports);
-        let text = reply_text(alloc, &event)?;
+        let number = self.line.notes().next_number();
+        let text = text_of_reply(alloc, GemReply::S6F11(number, ceid, reports))?;
         Ok(text)
     }
 
@@ -135,7 +135,7 @@ impl Plant {
         ensures short { IfOk result (λ text. length text ≤ most_text) }
     {
         let code = alcd(self.alarms.is_set(alid));
-        reply_text(alloc, &GemReply::S5F1(code, alid, text_of_alarm(alid)))
+        text_of_reply(alloc, GemReply::S5F1(code, alid, text_of_alarm(alid)))
     }
 
     /// The note of an alarm, by whether it is set, waits behind the others.

@@ -1,10 +1,16 @@
 //! The plant: what the tool is, what it says of itself, and its small changes.
 ghost use Rattle.std.specs.Prelude.{◌≡◌, ◌≤◌, ◌<◌, ◌↔◌, length, slice_get, drop, option_map, IsTrue, IfOk, OnOk, true, Some, None, if◌then◌else◌};
 ghost use Rattle.gem_ids.specs.Moments.{last_moment};
+ghost use Rattle.event_reports.specs.Alarms.{no_alarms};
+ghost use Rattle.event_reports.specs.Reports.{no_reports};
+ghost use Rattle.floor_model.specs.Floor as floors;
+ghost use Rattle.note_line.specs.Line as notes;
 ghost use Rattle.tool_events.specs.Configs.{IsConfig};
+ghost use Rattle.transactions.specs.Table.{none_open};
 ghost use Rattle.gem_model.specs.State.{opening, first_comm, first_control, first_switch, first_constants, first_kinds, around, is_communicating, is_online, is_up, is_session_up, is_selected, can_ask, raised, with_frame};
 ghost use Rattle.gem_model.specs.Messages.{clock_set};
 
+use crate::opening::{first_kept, first_settings, first_told};
 use data_variables::Constants;
 use event_reports::{Alarms, Reports};
 use gem_ids::Moment;
@@ -13,7 +19,7 @@ use hsms_frame::Bytes;
 use hsms_link::{LinkState, Phase, Ping};
 use note_counts::CountedLine;
 use note_line::Around;
-use plant_parts::{first_comm, first_constants, first_control, first_kinds, first_switch};
+use plant_parts::{first_comm, first_control, first_switch};
 use plant_values::Seen;
 use std::alloc::{AllocError, Global};
 use std::collections::VecDeque;
@@ -86,7 +92,33 @@ impl Plant {
         requires { IsConfig config.now }
         ensures { IfOk result (λ plant. plant ≡ opening config.now) }
     {
-        Ok(Plant {
+        let settings = first_settings(alloc, config)?;
+        let told = first_told(alloc, config)?;
+        let kept = first_kept(alloc, config)?;
+        Ok(Plant::of(alloc, config, settings, told, kept))
+    }
+
+    // The plant of its parts.
+    fn of(
+        alloc: Global,
+        config: &Config,
+        settings: (Transactions, Constants),
+        told: (Reports, Alarms),
+        kept: (CountedLine, ToolFloor),
+    ) -> Plant
+        requires config { IsConfig config.now }
+        requires transactions { settings.0 ≡ none_open }
+        requires constants { settings.1 ≡ first_constants config.now }
+        requires reports { told.0 ≡ no_reports config.now.ports config.now.chambers }
+        requires alarms { told.1 ≡ no_alarms config.now.ports config.now.chambers }
+        requires line { kept.0 ≡ notes.opening config.now.spool_capacity (first_kinds config.now.spool_streams) }
+        requires floor { kept.1 ≡ floors.opening config.now.ports config.now.chambers config.now.recipes }
+        ensures { result ≡ opening config.now }
+    {
+        let (transactions, constants) = settings;
+        let (reports, alarms) = told;
+        let (line, floor) = kept;
+        Plant {
             config: *config,
             moment: config.start_moment,
             shown: config.start_moment,
@@ -100,23 +132,14 @@ impl Plant {
             comm: first_comm(config.communication),
             control: first_control(config.control),
             switch_local: first_switch(config.control),
-            transactions: Transactions::new(alloc)?,
-            constants: first_constants(alloc, config)?,
-            reports: Reports::new(alloc, config.ports, config.chambers)?,
-            alarms: Alarms::new(alloc, config.ports, config.chambers)?,
-            line: CountedLine::new(
-                alloc,
-                config.spool_capacity,
-                first_kinds(config.spool_streams),
-            )?,
-            floor: ToolFloor::new(
-                alloc,
-                config.ports,
-                config.chambers,
-                config.recipes.as_slice(),
-            )?,
+            transactions,
+            constants,
+            reports,
+            alarms,
+            line,
+            floor,
             waiting: VecDeque::new(alloc),
-        })
+        }
     }
 
     /// The configuration, which never changes.

@@ -4,9 +4,31 @@
 //! takes it out again; `copy` tells the vector of a copy.
 
 use gem_ids::Ids;
-use said_words::{WordSubject, add_count, add_truth, middle, word_at};
+use said_words::{WordSubject, add_count, add_truth, middle, named};
 use std::alloc::Global;
 use std::mem::replace;
+
+// What is said to a list.
+#[derive(Clone, Copy)]
+enum Asks {
+    Push,
+    Of,
+    Into,
+    Len,
+    Empty,
+    At,
+    Copy,
+}
+
+const ASKS: [(&str, Asks); 7] = [
+    ("push", Asks::Push),
+    ("of", Asks::Of),
+    ("into", Asks::Into),
+    ("len", Asks::Len),
+    ("empty", Asks::Empty),
+    ("at", Asks::At),
+    ("copy", Asks::Copy),
+];
 
 /// A list of ids.
 #[derive(Drop)]
@@ -25,14 +47,15 @@ impl IdList {
 
 impl WordSubject for IdList {
     fn say(&mut self, alloc: Global, words: &[&str], answer: &mut String) -> Option<()> {
-        match word_at(words, 0) {
-            "push" => push(&mut self.ids, middle(words, 1), middle(words, 2)),
-            "of" => of(alloc, &mut self.ids, words),
-            "into" => {
+        match named(&ASKS, words, 0) {
+            Some(Asks::Push) => push(&mut self.ids, middle(words, 1), middle(words, 2)),
+            Some(Asks::Of) => of(alloc, &mut self.ids, words),
+            Some(Asks::Into) => {
                 add_ids(answer, replace(&mut self.ids, Ids::new(alloc)));
                 Some(())
             }
-            _ => add_told(answer, &self.ids, words),
+            Some(asks) => add_told(answer, &self.ids, asks, middle(words, 1)),
+            None => None,
         }
     }
 }
@@ -77,18 +100,24 @@ fn add_ids(answer: &mut String, ids: Ids) {
 }
 
 // How many ids are listed, whether there is none, the id at a place, or those of a copy.
-fn add_told(answer: &mut String, ids: &Ids, words: &[&str]) -> Option<()> {
-    match word_at(words, 0) {
-        "len" => add_count(answer, ids.len() as u64),
-        "empty" => add_truth(answer, ids.is_empty()),
-        "at" => return add_at(answer, ids, middle(words, 1)),
-        "copy" => match ids.clone() {
-            Ok(copy) => add_ids(answer, copy),
-            Err(_) => return None,
-        },
-        _ => return None,
+fn add_told(answer: &mut String, ids: &Ids, asks: Asks, place: Option<u32>) -> Option<()> {
+    match asks {
+        Asks::Len => add_count(answer, ids.len() as u64),
+        Asks::Empty => add_truth(answer, ids.is_empty()),
+        Asks::At => return add_at(answer, ids, place),
+        _ => return add_copy(answer, ids),
     }
     Some(())
+}
+
+fn add_copy(answer: &mut String, ids: &Ids) -> Option<()> {
+    match ids.clone() {
+        Ok(copy) => {
+            add_ids(answer, copy);
+            Some(())
+        }
+        Err(_) => None,
+    }
 }
 
 fn add_at(answer: &mut String, ids: &Ids, place: Option<u32>) -> Option<()> {

@@ -9,7 +9,7 @@ ghost use Rattle.item_model.specs.Sendable.{IsSendable};
 ghost use Rattle.item_model.specs.View.{view};
 
 use item_model::Item;
-use said_words::{LineSubject, add, add_bytes, add_truth};
+use said_words::{LineSubject, add, add_bytes, add_truth, of_name};
 use secs_items::{decode, encode, read_one};
 use std::alloc::Global;
 use test_lines::bytes;
@@ -31,18 +31,33 @@ impl LineSubject for ItemTexts {
     }
 }
 
+// What is asked of bytes.
+#[derive(Clone, Copy)]
+enum Asks {
+    Plain,
+    Fault,
+    Whole,
+    Bytes,
+    List,
+}
+
+const ASKS: [(&str, Asks); 5] = [
+    ("plain", Asks::Plain),
+    ("fault", Asks::Fault),
+    ("whole", Asks::Whole),
+    ("bytes", Asks::Bytes),
+    ("list", Asks::List),
+];
+
 // What is asked of bytes; the answer.
 fn say(alloc: Global, asked: &str, spelled: &[u8], count: &str, answer: &mut String) -> Option<()> {
-    match asked {
-        "plain" => add_plain(alloc, spelled, answer),
-        "fault" => {
-            add_fault(alloc, spelled, answer);
-            Some(())
-        }
-        "whole" => add_whole(alloc, spelled, answer),
-        "bytes" => add_long(alloc, spelled, &[], count, answer),
-        "list" => add_long(alloc, spelled, &[0xA5, 1], count, answer),
-        _ => add_read(alloc, asked, spelled, answer),
+    match of_name(&ASKS, asked) {
+        Some(Asks::Plain) => add_plain(alloc, spelled, answer),
+        Some(Asks::Fault) => add_fault(alloc, spelled, answer),
+        Some(Asks::Whole) => add_whole(alloc, spelled, answer),
+        Some(Asks::Bytes) => add_long(alloc, spelled, &[], count, answer),
+        Some(Asks::List) => add_long(alloc, spelled, &[0xA5, 1], count, answer),
+        None => add_read(alloc, asked, spelled, answer),
     }
 }
 
@@ -152,27 +167,31 @@ fn add_there_and_back(
     answer: &mut String,
 ) -> Option<()> {
     match decode(alloc, spelled) {
-        Ok((item, used)) => match is_back(alloc, &item, spelled) {
-            Some(is_back) => {
-                add_truth(
-                    answer,
-                    is_back && used == spelled.len() && has(&item, count),
-                );
-                Some(())
-            }
-            None => None,
-        },
+        Ok((item, used)) if used == spelled.len() => add_back(alloc, &item, spelled, count, answer),
+        Ok(_) => {
+            add_truth(answer, false);
+            Some(())
+        }
         Err(_) => None,
     }
 }
 
-// Whether an item is written as it was spelled.
-fn is_back(alloc: Global, item: &Item, spelled: &[u8]) -> Option<bool>
+// Whether an item has so many bytes or elements, and is written as it was spelled.
+fn add_back(
+    alloc: Global,
+    item: &Item,
+    spelled: &[u8],
+    count: usize,
+    answer: &mut String,
+) -> Option<()>
     requires { IsSendable (view item.now) }
 {
     let mut written = Vec::new(alloc);
     match encode(item, &mut written) {
-        Ok(()) => Some(written.as_slice() == spelled),
+        Ok(()) => {
+            add_truth(answer, written.as_slice() == spelled && has(item, count));
+            Some(())
+        }
         Err(_) => None,
     }
 }
@@ -180,12 +199,10 @@ fn is_back(alloc: Global, item: &Item, spelled: &[u8]) -> Option<bool>
 // ---- what an item is
 
 // The fault of bytes; none where an item is read.
-fn add_fault(alloc: Global, bytes: &[u8], answer: &mut String) {
-    match decode(alloc, bytes) {
-        Ok(_) => add(answer, "none"),
-        Err(fault) => {
-            let _ = write!(answer, "{fault:?}");
-        }
+fn add_fault(alloc: Global, bytes: &[u8], answer: &mut String) -> Option<()> {
+    match &decode(alloc, bytes) {
+        Ok(_) => answer.push_str("none").ok(),
+        Err(fault) => write!(answer, "{fault:?}").ok(),
     }
 }
 

@@ -4,11 +4,25 @@
 //! answered; or else the place of the first byte at which no line goes on, or the length of the line where only more was
 //! wanted.
 
-use said_words::{LineSubject, add, add_bytes, add_count};
+use said_words::{LineSubject, add, add_bytes, add_count, of_name};
 use std::alloc::Global;
 use test_lines::bytes;
 use tool_events::{OperCmd, Signal};
 use tool_texts::{Line, LineFault, read_feed_line, read_line, read_operator};
+
+// As what a line is read.
+#[derive(Clone, Copy)]
+enum Reading {
+    Feed,
+    Any,
+    Operator,
+}
+
+const READINGS: [(&str, Reading); 3] = [
+    ("feed", Reading::Feed),
+    ("any", Reading::Any),
+    ("operator", Reading::Operator),
+];
 
 /// Lines that come in.
 #[derive(Clone, Copy)]
@@ -27,17 +41,22 @@ impl LineSubject for LineTexts {
 }
 
 fn read(alloc: Global, reading: &str, line: &[u8], answer: &mut String) -> Option<()> {
-    match reading {
-        "feed" => add_read(alloc, read_feed_line(alloc, line), answer),
-        "any" => add_read(alloc, read_line(alloc, line), answer),
-        "operator" => match read_operator(line) {
-            Ok(command) => {
-                add_command(command, answer);
-                Some(())
-            }
-            Err(fault) => add_fault(fault, answer),
-        },
-        _ => None,
+    match of_name(&READINGS, reading) {
+        Some(Reading::Feed) => add_read(alloc, read_feed_line(alloc, line), answer),
+        Some(Reading::Any) => add_read(alloc, read_line(alloc, line), answer),
+        Some(Reading::Operator) => add_operator(line, answer),
+        None => None,
+    }
+}
+
+// A line as words of an operator.
+fn add_operator(line: &[u8], answer: &mut String) -> Option<()> {
+    match read_operator(line) {
+        Ok(command) => {
+            add_command(command, answer);
+            Some(())
+        }
+        Err(fault) => add_fault(fault, answer),
     }
 }
 

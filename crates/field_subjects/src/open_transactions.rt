@@ -1,9 +1,41 @@
 //! Open transactions (`transactions`). A kind stands as `establish`, `attempt`, or the number of its note.
 
 use gem_ids::Moment;
-use said_words::{WordSubject, add, add_count, add_truth, middle, number, small, word_at};
+use said_words::{WordSubject, add, add_count, add_truth, middle, named, number, small};
 use std::alloc::Global;
 use transactions::{Full, Open, Transactions, What};
+
+// What is said to the open transactions.
+#[derive(Clone, Copy)]
+enum Asks {
+    Draw,
+    Len,
+    Close,
+    Empty,
+    Expired,
+    Due,
+    Find,
+    Answer,
+    Start,
+    Open,
+    Forget,
+}
+
+const ASKS: [(&str, Asks); 11] = [
+    ("draw", Asks::Draw),
+    ("len", Asks::Len),
+    ("close", Asks::Close),
+    ("empty", Asks::Empty),
+    ("expired", Asks::Expired),
+    ("due", Asks::Due),
+    ("find", Asks::Find),
+    ("answer", Asks::Answer),
+    ("start", Asks::Start),
+    ("open", Asks::Open),
+    ("forget", Asks::Forget),
+];
+
+const KINDS: [(&str, What); 2] = [("establish", What::Establish), ("attempt", What::Attempt)];
 
 /// The open transactions.
 #[derive(Drop)]
@@ -23,40 +55,63 @@ impl Table {
 
 impl WordSubject for Table {
     fn say(&mut self, _alloc: Global, words: &[&str], answer: &mut String) -> Option<()> {
-        match word_at(words, 0) {
-            "draw" => add_count(answer, u64::from(self.table.draw())),
-            "len" => add_count(answer, self.table.len() as u64),
-            "close" => add_open(self.table.close_one(), answer),
-            _ => match number(words, 1) {
-                Some(number) => return at(&mut self.table, number, words, answer),
-                None => return of_kind(&mut self.table, words, answer),
-            },
+        match named(&ASKS, words, 0) {
+            Some(asks) => say(&mut self.table, asks, words, answer),
+            None => None,
         }
-        Some(())
+    }
+}
+
+fn say(table: &mut Transactions, asks: Asks, words: &[&str], answer: &mut String) -> Option<()> {
+    match asks {
+        Asks::Draw => add_count(answer, u64::from(table.draw())),
+        Asks::Len => add_count(answer, table.len() as u64),
+        Asks::Close => add_open(table.close_one(), answer),
+        Asks::Empty => add_truth(answer, table.is_empty()),
+        _ => return say_of(table, asks, words, answer),
+    }
+    Some(())
+}
+
+// What is told of a moment, of system bytes, or of a kind.
+fn say_of(table: &mut Transactions, asks: Asks, words: &[&str], answer: &mut String) -> Option<()> {
+    match asks {
+        Asks::Expired | Asks::Due => at(table, asks, number(words, 1), answer),
+        Asks::Find | Asks::Answer => of_system(table, asks, words, answer),
+        Asks::Start => start(table, kind(words), number(words, 2), answer),
+        _ => of_kind(table, asks, kind(words), answer),
     }
 }
 
 // ---- what a number tells
 
-// What expired at a moment, and whether one is due then; or what is told of system bytes.
-fn at(table: &mut Transactions, number: u64, words: &[&str], answer: &mut String) -> Option<()> {
-    match word_at(words, 0) {
-        "expired" => add_open(table.expired(Moment(number)), answer),
-        "due" => add_truth(answer, table.is_due(Moment(number))),
-        "find" | "answer" => return of_system(table, words, answer),
-        _ => return of_kind(table, words, answer),
+// What expired at a moment, or whether one is due then.
+fn at(
+    table: &mut Transactions,
+    asks: Asks,
+    moment: Option<u64>,
+    answer: &mut String,
+) -> Option<()> {
+    match (asks, moment) {
+        (Asks::Expired, Some(moment)) => add_open(table.expired(Moment(moment)), answer),
+        (_, Some(moment)) => add_truth(answer, table.is_due(Moment(moment))),
+        (_, None) => return None,
     }
     Some(())
 }
 
 // What is found by its system bytes, stream and function, or answered so.
-fn of_system(table: &mut Transactions, words: &[&str], answer: &mut String) -> Option<()> {
+fn of_system(
+    table: &mut Transactions,
+    asks: Asks,
+    words: &[&str],
+    answer: &mut String,
+) -> Option<()> {
     match (middle(words, 1), small(words, 2), small(words, 3)) {
         (Some(system), Some(stream), Some(function)) => {
-            let open = if word_at(words, 0) == "find" {
-                table.find(system, stream, function)
-            } else {
-                table.answer(system, stream, function)
+            let open = match asks {
+                Asks::Find => table.find(system, stream, function),
+                _ => table.answer(system, stream, function),
             };
             add_open(open, answer);
             Some(())
@@ -84,24 +139,23 @@ fn add_open(open: Option<Open>, answer: &mut String) {
 
 // The kind behind the first word of a line.
 fn kind(words: &[&str]) -> Option<What> {
-    match word_at(words, 1) {
-        "establish" => Some(What::Establish),
-        "attempt" => Some(What::Attempt),
-        _ => match number(words, 1) {
-            Some(note) => Some(What::Note(note)),
-            None => None,
-        },
+    match number(words, 1) {
+        Some(note) => Some(What::Note(note)),
+        None => named(&KINDS, words, 1),
     }
 }
 
-// A primary is sent; or whether one of a kind is open or forgotten, or none is open.
-fn of_kind(table: &mut Transactions, words: &[&str], answer: &mut String) -> Option<()> {
-    match (word_at(words, 0), kind(words)) {
-        ("start", Some(kind)) => return start(table, kind, number(words, 2), answer),
-        ("open", Some(kind)) => add_truth(answer, table.is_open(kind)),
-        ("forget", Some(kind)) => add_truth(answer, table.forget(kind)),
-        ("empty", _) => add_truth(answer, table.is_empty()),
-        _ => return None,
+// Whether one of a kind is open, or forgotten.
+fn of_kind(
+    table: &mut Transactions,
+    asks: Asks,
+    kind: Option<What>,
+    answer: &mut String,
+) -> Option<()> {
+    match (asks, kind) {
+        (Asks::Open, Some(kind)) => add_truth(answer, table.is_open(kind)),
+        (_, Some(kind)) => add_truth(answer, table.forget(kind)),
+        (_, None) => return None,
     }
     Some(())
 }
@@ -109,11 +163,11 @@ fn of_kind(table: &mut Transactions, words: &[&str], answer: &mut String) -> Opt
 // A primary is sent, of this kind and with this deadline: its system bytes, or `full` and how many are open.
 fn start(
     table: &mut Transactions,
-    what: What,
+    what: Option<What>,
     deadline: Option<u64>,
     answer: &mut String,
 ) -> Option<()> {
-    let Some(deadline) = deadline else {
+    let (Some(what), Some(deadline)) = (what, deadline) else {
         return None;
     };
     let (stream, function) = primary(what);

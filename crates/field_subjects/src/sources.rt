@@ -1,8 +1,22 @@
 //! A source in memory (`outside`).
 
 use outside::{MemSource, Source};
-use said_words::{WordSubject, add, add_bytes, small, word_at};
+use said_words::{WordSubject, add, add_bytes, named, small};
 use std::alloc::Global;
+
+// What is asked of a source.
+#[derive(Clone, Copy)]
+enum Asks {
+    Left,
+    Counts,
+    Read,
+}
+
+const ASKS: [(&str, Asks); 3] = [
+    ("left", Asks::Left),
+    ("counts", Asks::Counts),
+    ("read", Asks::Read),
+];
 
 /// A source, and a buffer of four bytes that it is read to.
 #[derive(Drop)]
@@ -38,14 +52,11 @@ fn source_of(alloc: Global, bytes: &str, fails: &[u64], piece: usize) -> Option<
 impl WordSubject for Reads {
     // So many bytes are read, which are answered, and the whole buffer behind them; what is left; the faults and ends.
     fn say(&mut self, alloc: Global, words: &[&str], answer: &mut String) -> Option<()> {
-        match word_at(words, 0) {
-            "left" => add_bytes(answer, self.source.left()),
-            "counts" => add_counts(answer, &self.source),
-            "read" => match small(words, 1) {
-                Some(most) => return read(alloc, self, most as usize, answer),
-                None => return None,
-            },
-            _ => return None,
+        match named(&ASKS, words, 0) {
+            Some(Asks::Left) => add_bytes(answer, self.source.left()),
+            Some(Asks::Counts) => add_counts(answer, &self.source),
+            Some(Asks::Read) => return read(alloc, self, small(words, 1), answer),
+            None => return None,
         }
         Some(())
     }
@@ -56,8 +67,11 @@ fn add_counts(answer: &mut String, source: &MemSource) {
 }
 
 // Reads so many bytes, at most the four of the buffer.
-fn read(alloc: Global, reads: &mut Reads, most: usize, answer: &mut String) -> Option<()> {
-    let Some(room) = reads.buffer.get_mut(..most) else {
+fn read(alloc: Global, reads: &mut Reads, most: Option<u8>, answer: &mut String) -> Option<()> {
+    let Some(most) = most else {
+        return None;
+    };
+    let Some(room) = reads.buffer.get_mut(..most as usize) else {
         return None;
     };
     let count = reads.source.read(room);

@@ -1,7 +1,7 @@
 //! The states of communication and control (`gem_states`).
 
 use gem_states::{Comm, CommTrigger, Control, ControlTrigger};
-use said_words::{WordSubject, add_count, add_truth, named, number, small, word_at};
+use said_words::{WordSubject, add_truth, named, number, small, word_at};
 use std::alloc::Global;
 
 const COMM_TRIGGERS: [(&str, CommTrigger); 4] = [
@@ -18,6 +18,22 @@ const CONTROL_TRIGGERS: [(&str, ControlTrigger); 6] = [
     ("Offline", ControlTrigger::Offline),
     ("Remote", ControlTrigger::Remote),
     ("Local", ControlTrigger::Local),
+];
+
+// What is asked of a state.
+#[derive(Clone, Copy)]
+enum Asks {
+    Row,
+    Fire,
+    State,
+    Number,
+}
+
+const ASKS: [(&str, Asks); 4] = [
+    ("row", Asks::Row),
+    ("fire", Asks::Fire),
+    ("state", Asks::State),
+    ("number", Asks::Number),
 ];
 
 /// The state of communication.
@@ -39,16 +55,13 @@ impl Communicates {
 impl WordSubject for Communicates {
     // The row of a trigger; whether a row fires, with the moment at which its delay is over; the state, or its number.
     fn say(&mut self, _alloc: Global, words: &[&str], answer: &mut String) -> Option<()> {
-        match word_at(words, 0) {
-            "row" => return add_comm_row(answer, &self.0, words),
-            "fire" => return fire_comm(&mut self.0, words, answer),
-            "state" => {
-                let _ = write!(answer, "{:?}", self.0);
-            }
-            "number" => add_count(answer, u64::from(self.0.number())),
-            _ => return None,
+        match named(&ASKS, words, 0) {
+            Some(Asks::Row) => add_comm_row(answer, &self.0, words),
+            Some(Asks::Fire) => fire_comm(&mut self.0, words, answer),
+            Some(Asks::State) => write!(answer, "{:?}", self.0).ok(),
+            Some(Asks::Number) => write!(answer, "{}", self.0.number()).ok(),
+            None => None,
         }
-        Some(())
     }
 }
 
@@ -83,16 +96,13 @@ impl Controls {
 impl WordSubject for Controls {
     // The row of a trigger, with the switch at local or remote; whether a row fires; the state, or its number.
     fn say(&mut self, _alloc: Global, words: &[&str], answer: &mut String) -> Option<()> {
-        match word_at(words, 0) {
-            "row" => return add_control_row(answer, &self.0, words),
-            "fire" => return fire_control(&mut self.0, words, answer),
-            "state" => {
-                let _ = write!(answer, "{:?}", self.0);
-            }
-            "number" => add_count(answer, u64::from(self.0.number())),
-            _ => return None,
+        match named(&ASKS, words, 0) {
+            Some(Asks::Row) => add_control_row(answer, &self.0, words),
+            Some(Asks::Fire) => fire_control(&mut self.0, words, answer),
+            Some(Asks::State) => write!(answer, "{:?}", self.0).ok(),
+            Some(Asks::Number) => write!(answer, "{}", self.0.number()).ok(),
+            None => None,
         }
-        Some(())
     }
 }
 

@@ -6,9 +6,29 @@
 //! are one, and `named CAR01.01` the text of a substrate's name.
 
 use gem_ids::{CarrierId, JobId, SlotNo, SubstrateId, Text80, TextFault, substrate_id};
-use said_words::{WordSubject, add, add_bytes, add_truth, small, text, text_at, word_at};
+use said_words::{WordSubject, add, add_bytes, add_truth, named, small, text, text_at, word_at};
 use std::alloc::Global;
 use test_lines::bytes;
+
+// What is asked.
+#[derive(Clone, Copy)]
+enum Asks {
+    Text,
+    Empty,
+    Carrier,
+    Substrate,
+    Named,
+    Same,
+}
+
+const ASKS: [(&str, Asks); 6] = [
+    ("text", Asks::Text),
+    ("empty", Asks::Empty),
+    ("carrier", Asks::Carrier),
+    ("substrate", Asks::Substrate),
+    ("named", Asks::Named),
+    ("same", Asks::Same),
+];
 
 /// Texts and names.
 #[derive(Clone, Copy)]
@@ -16,18 +36,29 @@ pub(crate) struct Names;
 
 impl WordSubject for Names {
     fn say(&mut self, alloc: Global, words: &[&str], answer: &mut String) -> Option<()> {
-        match word_at(words, 0) {
-            "text" => match bytes(alloc, word_at(words, 1)) {
-                Ok(bytes) => add_length(answer, bytes.as_slice()),
-                Err(_) => return None,
+        match named(&ASKS, words, 0) {
+            Some(Asks::Text) => add_length_of(alloc, answer, word_at(words, 1)),
+            Some(Asks::Empty) => {
+                add_truth(answer, is_empty_text());
+                Some(())
+            }
+            Some(asks) => match text_at(words, 1) {
+                Some(name) => add_named(answer, asks, name, words),
+                None => None,
             },
-            "empty" => add_truth(answer, is_empty_text()),
-            _ => match text_at(words, 1) {
-                Some(name) => return add_named(answer, name, words),
-                None => return None,
-            },
+            None => None,
         }
-        Some(())
+    }
+}
+
+// The length of the text of these bytes, which stand as hex digits, or why they are none.
+fn add_length_of(alloc: Global, answer: &mut String, digits: &str) -> Option<()> {
+    match bytes(alloc, digits) {
+        Ok(bytes) => {
+            add_length(answer, bytes.as_slice());
+            Some(())
+        }
+        Err(_) => None,
     }
 }
 
@@ -50,16 +81,15 @@ fn is_empty_text() -> bool {
 }
 
 // What is told of a name.
-fn add_named(answer: &mut String, name: Text80, words: &[&str]) -> Option<()> {
-    match word_at(words, 0) {
-        "carrier" => {
+fn add_named(answer: &mut String, asks: Asks, name: Text80, words: &[&str]) -> Option<()> {
+    match asks {
+        Asks::Carrier => {
             add_carrier(answer, CarrierId::read(name));
             Some(())
         }
-        "substrate" => add_substrate(answer, CarrierId::read(name), small(words, 2)),
-        "named" => add_substrate_name(answer, SubstrateId::read(name)),
-        "same" => add_same(answer, JobId::read(name), words),
-        _ => None,
+        Asks::Substrate => add_substrate(answer, CarrierId::read(name), small(words, 2)),
+        Asks::Named => add_substrate_name(answer, SubstrateId::read(name)),
+        _ => add_same(answer, JobId::read(name), words),
     }
 }
 

@@ -1,13 +1,13 @@
 //! The host's primaries.
 
-ghost use Rattle.std.specs.Prelude.{◌≡◌, IfOk, IfSome, option_map};
-ghost use Rattle.message_model.specs.Bodies.{each, l2, named_value, of, text as text_form};
+ghost use Rattle.std.specs.Prelude.{◌≡◌, IfOk, IfSome, option_and_then, option_map};
+ghost use Rattle.message_model.specs.Bodies.{characters as characters_form, each, flag as flag_form, group, id as id_form, ids as ids_form, l2, named_value, of, text as text_form};
 ghost use Rattle.message_model.specs.Few.{HasFewParts, HasShortText};
 ghost use Rattle.body_parts.specs.Given.{Gives};
-ghost use Rattle.message_model.specs.declared.gem_primary.GemMsg.TheVariants.{S2F41, S2F43};
+ghost use Rattle.message_model.specs.declared.gem_primary.GemMsg.TheVariants.{S2F13, S2F15, S2F29, S2F31, S2F33, S2F35, S2F37, S2F41, S2F43};
 ghost use Rattle.item_model.specs.View.{view};
 ghost use Rattle.body_parts.specs.Given.{Answers};
-ghost use Rattle.message_model.specs.GemPrimaries.{ignores, reading, spooled_stream};
+ghost use Rattle.message_model.specs.GemPrimaries.{ignores, reading, setting, spooled_stream};
 
 use body_parts::numbers_or_ids;
 use body_parts::reading::{
@@ -64,27 +64,77 @@ fn read_stream_2(alloc: Global, function: u8, item: Option<&Item>) -> Result<Gem
     ensures few { IfSome item.entry (λ i. HasShortText (view i.now)) → IfOk result HasFewParts }
 {
     match function {
-        13 => Ok(GemMsg::S2F13(ids(alloc, one(item)?)?)),
-        15 => Ok(GemMsg::S2F15(list_of(alloc, one(item)?)?)),
+        13 => constants_asked(alloc, item),
+        15 => constants_set(alloc, item),
         17 => Ok(GemMsg::S2F17),
-        29 => Ok(GemMsg::S2F29(ids(alloc, one(item)?)?)),
-        31 => Ok(GemMsg::S2F31(characters(alloc, one(item)?)?)),
-        33 => {
-            let [dataid, reports] = parts::<2>(one(item)?)?;
-            Ok(GemMsg::S2F33(id(dataid)?, list_of(alloc, reports)?))
-        }
-        35 => {
-            let [dataid, events] = parts::<2>(one(item)?)?;
-            Ok(GemMsg::S2F35(id(dataid)?, list_of(alloc, events)?))
-        }
-        37 => {
-            let [ceed, events] = parts::<2>(one(item)?)?;
-            Ok(GemMsg::S2F37(flag(ceed)?, ids(alloc, events)?))
-        }
+        29 => constant_names_asked(alloc, item),
+        31 => clock_set(alloc, item),
+        33 => reports_defined(alloc, item),
+        35 => events_linked(alloc, item),
+        37 => events_enabled(alloc, item),
         41 => remote_command(alloc, one(item)?),
         43 => spooled_streams(alloc, one(item)?),
         _ => Err(BodyFault::UnknownFunction),
     }
+}
+
+// The constants whose values are asked.
+fn constants_asked(alloc: Global, item: Option<&Item>) -> Result<GemMsg, BodyFault>
+    ensures form { Gives (λ m. m) result (option_and_then (of S2F13 ids_form) (option_map (λ i. view i.now) item.entry)) }
+    ensures few { IfOk result HasFewParts }
+{
+    Ok(GemMsg::S2F13(ids(alloc, one(item)?)?))
+}
+
+// The constants that are set, with their values.
+fn constants_set(alloc: Global, item: Option<&Item>) -> Result<GemMsg, BodyFault>
+    ensures form { Gives (λ m. m) result (option_and_then (of S2F15 (each setting)) (option_map (λ i. view i.now) item.entry)) }
+    ensures few { IfOk result HasFewParts }
+{
+    Ok(GemMsg::S2F15(list_of(alloc, one(item)?)?))
+}
+
+// The constants whose names are asked.
+fn constant_names_asked(alloc: Global, item: Option<&Item>) -> Result<GemMsg, BodyFault>
+    ensures form { Gives (λ m. m) result (option_and_then (of S2F29 ids_form) (option_map (λ i. view i.now) item.entry)) }
+    ensures few { IfOk result HasFewParts }
+{
+    Ok(GemMsg::S2F29(ids(alloc, one(item)?)?))
+}
+
+// The moment that the clock is set to.
+fn clock_set(alloc: Global, item: Option<&Item>) -> Result<GemMsg, BodyFault>
+    ensures form { Gives (λ m. m) result (option_and_then (of S2F31 characters_form) (option_map (λ i. view i.now) item.entry)) }
+    ensures few { IfOk result HasFewParts }
+{
+    Ok(GemMsg::S2F31(characters(alloc, one(item)?)?))
+}
+
+// The reports that are defined, with their variables.
+fn reports_defined(alloc: Global, item: Option<&Item>) -> Result<GemMsg, BodyFault>
+    ensures form { Gives (λ m. m) result (option_and_then (l2 S2F33 id_form (each group)) (option_map (λ i. view i.now) item.entry)) }
+    ensures few { IfOk result HasFewParts }
+{
+    let [dataid, reports] = parts::<2>(one(item)?)?;
+    Ok(GemMsg::S2F33(id(dataid)?, list_of(alloc, reports)?))
+}
+
+// The events that are linked, with their reports.
+fn events_linked(alloc: Global, item: Option<&Item>) -> Result<GemMsg, BodyFault>
+    ensures form { Gives (λ m. m) result (option_and_then (l2 S2F35 id_form (each group)) (option_map (λ i. view i.now) item.entry)) }
+    ensures few { IfOk result HasFewParts }
+{
+    let [dataid, events] = parts::<2>(one(item)?)?;
+    Ok(GemMsg::S2F35(id(dataid)?, list_of(alloc, events)?))
+}
+
+// The events that are enabled or disabled.
+fn events_enabled(alloc: Global, item: Option<&Item>) -> Result<GemMsg, BodyFault>
+    ensures form { Gives (λ m. m) result (option_and_then (l2 S2F37 flag_form ids_form) (option_map (λ i. view i.now) item.entry)) }
+    ensures few { IfOk result HasFewParts }
+{
+    let [ceed, events] = parts::<2>(one(item)?)?;
+    Ok(GemMsg::S2F37(flag(ceed)?, ids(alloc, events)?))
 }
 
 // A remote command and its parameters.

@@ -2,6 +2,8 @@
 ghost use Rattle.std.specs.Prelude.{◌≡◌, ◌≤◌, length, map, IfOk};
 ghost use Rattle.data_variables.specs.Bodies.{name_item};
 ghost use Rattle.data_variables.specs.Table.{constant_ids};
+ghost use Rattle.item_model.specs.Data.{DataList, list};
+ghost use Rattle.item_model.specs.View.{view};
 ghost use Rattle.event_reports.specs.Reports.{value_items, report_items, one_items};
 ghost use Rattle.message_model.specs.GemReplies.{items as items_data};
 ghost use Rattle.message_model.specs.GemSendable.{AreFew};
@@ -137,10 +139,17 @@ pub fn constant_names(seen: &Seen<'_>, alloc: Global, ids: &[u32]) -> Result<Ite
     ensures names { IfOk result (λ names. names ≡ items_data (map name_item (or_all constant_ids ids.now))) }
     ensures few { length ids.now ≤ 1024 → AreFew 1024 1 210 (items_data (map name_item (or_all constant_ids ids.now))) }
 {
-    match seen.constants().namelist(alloc, ids) {
-        Ok(Item::List(names)) => Ok(names),
-        Ok(_) => Ok(Items::new(alloc)),
-        Err(fault) => Err(fault),
+    let item = seen.constants().namelist(alloc, ids)?;
+    list_in(alloc, &item)
+}
+
+// The items of a list, and none of any other item.
+fn list_in(alloc: Global, item: &Item) -> Result<Items, AllocError>
+    ensures { IfOk result (λ items. (said : DataList) → view item.now ≡ list said → items ≡ said) }
+{
+    match item {
+        Item::List(items) => items.clone(),
+        _ => Ok(Items::new(alloc)),
     }
 }
 

@@ -11,14 +11,14 @@ use plant_parts::{reply_text as gem_text, shop_text};
 use std::alloc::{AllocError, Global};
 
 /// A reply of the tool.
-#[derive(Debug, Drop)]
+#[derive(Drop)]
 pub enum HostReply {
     Gem(GemReply),
     Shop(ShopReply),
 }
 
 /// What was done of a message that is taken, which is to be answered so, and whose direct rows are still to fire.
-#[derive(Debug, Drop)]
+#[derive(Drop)]
 pub struct Done {
     pub reply: HostReply,
     pub rows: Vec<Firing>,

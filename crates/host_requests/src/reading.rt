@@ -18,21 +18,39 @@ use msgs_gem::{is_ignored, read_gem};
 use std::alloc::{AllocError, Global};
 
 /// A primary of the host: of streams 1, 2, 5 and 6, or of carriers and ports.
-#[derive(Debug, Drop)]
 pub enum HostMsg {
     Gem(GemMsg),
     Shop(ShopMsg),
 }
 
+// Written out, so that it is one call wherever a message is dropped.
+impl Drop for HostMsg {
+    fn drop(self) {
+        match self {
+            HostMsg::Gem(_message) => {}
+            HostMsg::Shop(_message) => {}
+        }
+    }
+}
+
 /// What a data message does: nothing; it is told by a message of stream 9 of this function; it is answered by function 0
 /// of its stream; it answers a transaction of the tool, if that is open; or it is taken.
-#[derive(Debug, Drop)]
 pub enum Verdict {
     Discarded,
     Stream9(u8),
     Aborted,
     Answers,
     Taken(HostMsg),
+}
+
+// Written out, so that it is one call wherever a verdict is dropped.
+impl Drop for Verdict {
+    fn drop(self) {
+        match self {
+            Verdict::Taken(_message) => {}
+            Verdict::Discarded | Verdict::Stream9(_) | Verdict::Aborted | Verdict::Answers => {}
+        }
+    }
 }
 
 /// The item of the text of a message, where it is one; a text that is ignored is not decoded.
@@ -61,8 +79,20 @@ fn told_by(fault: BodyFault) -> Result<u8, AllocError>
     }
 }
 
-/// What a message of carriers and ports is read as.
+/// What an item is read as, by the messages of carriers and ports.
 #[tactic(auto, using(crate::proofs::Functions::shop_function))]
+fn shop_verdict(alloc: Global, header: &Header, item: Option<&Item>) -> Result<Verdict, AllocError>
+    ensures verdict { IfOk result (λ verdict. verdict_view verdict ≡ shop_read_as (shop_reading (stream_of header.now) (function_of header.now) (option_map (λ i. view i.now) item.entry))) }
+    ensures next { IfOk result (HasNext header.now) }
+    ensures few { IfOk result IsFew }
+{
+    match read_shop(alloc, stream_of(header), header.byte3, item) {
+        Ok(message) => Ok(Verdict::Taken(HostMsg::Shop(message))),
+        Err(fault) => Ok(Verdict::Stream9(told_by(fault)?)),
+    }
+}
+
+/// What a message of carriers and ports is read as.
 fn read_shop_message(
     alloc: Global,
     header: &Header,
@@ -73,14 +103,25 @@ fn read_shop_message(
     ensures few { IfOk result IsFew }
 {
     let item = item_of(alloc, arrival)?;
-    match read_shop(alloc, stream_of(header), header.byte3, item.as_ref()) {
-        Ok(message) => Ok(Verdict::Taken(HostMsg::Shop(message))),
+    shop_verdict(alloc, header, item.as_ref())
+}
+
+/// What an item is read as, by the messages of the rest.
+#[tactic(auto, using(crate::proofs::Functions::read_function))]
+fn gem_verdict(alloc: Global, header: &Header, item: Option<&Item>) -> Result<Verdict, AllocError>
+    requires short { IfSome item (λ i. HasShortText (view i.now)) }
+    ensures verdict { IfOk result (λ verdict. verdict_view verdict ≡ read_as (reading (stream_of header.now) (function_of header.now) (option_map (λ i. view i.now) item.entry))) }
+    ensures next { IfOk result (HasNext header.now) }
+    ensures few { IfOk result IsFew }
+{
+    match read_gem(alloc, stream_of(header), header.byte3, item) {
+        Ok(message) => Ok(Verdict::Taken(HostMsg::Gem(message))),
         Err(fault) => Ok(Verdict::Stream9(told_by(fault)?)),
     }
 }
 
 /// What a message of the rest is read as.
-#[tactic(auto, using(crate::proofs::Functions::read_function))]
+#[tactic(auto, using(crate::proofs::Texts::short_borrowed))]
 fn read_gem_message(
     alloc: Global,
     header: &Header,
@@ -92,10 +133,7 @@ fn read_gem_message(
     ensures few { IfOk result IsFew }
 {
     let item = text_item(alloc, header, arrival)?;
-    match read_gem(alloc, stream_of(header), header.byte3, item.as_ref()) {
-        Ok(message) => Ok(Verdict::Taken(HostMsg::Gem(message))),
-        Err(fault) => Ok(Verdict::Stream9(told_by(fault)?)),
-    }
+    gem_verdict(alloc, header, item.as_ref())
 }
 
 /// What a message is read as, by the table of its stream.

@@ -53,7 +53,7 @@ impl Hcack {
 
 /// What is decided of a command: it is refused with a code and the faulty parameters that S2F42 lists; or it is done, and
 /// then HCACK is 0: GOLOCAL, CLEARALARM of this alarm, or a command to the process job of a name.
-#[derive(Debug, Drop)]
+#[derive(Drop)]
 pub enum Decision {
     Refused(Hcack, Listed<ParameterAcknowledge>),
     GoesLocal,

@@ -47,12 +47,15 @@ pub fn process_done(
     ensures sendable { IfOk result (λ told. CanBeSent told.reply) }
 {
     let error = process_error(is_local(plant), job, carriers, recipe, events, plant.jobs());
-    let reply = HostReply::Shop(ShopReply::S16F12(job, acknowledged(alloc, error)?));
+    let told = acknowledged(alloc, error)?;
     let rows = match error {
         Some(_) => Vec::new(alloc),
         None => create_process(plant, alloc, job, carriers, recipe, start)?,
     };
-    Ok(Done { reply, rows })
+    Ok(Done {
+        reply: HostReply::Shop(ShopReply::S16F12(job, told)),
+        rows,
+    })
 }
 
 // A process job is created that can be. Gives its row of creation.
@@ -86,12 +89,15 @@ pub fn command_done(
     ensures sendable { IfOk result (λ told. CanBeSent told.reply) }
 {
     let error = command_error(is_local(plant), job, word, plant.jobs());
-    let reply = HostReply::Shop(ShopReply::S16F6(job, acknowledged(alloc, error)?));
+    let told = acknowledged(alloc, error)?;
     let rows = match error {
         Some(_) => Vec::new(alloc),
         None => command_rows(alloc, job, word, plant.jobs())?,
     };
-    Ok(Done { reply, rows })
+    Ok(Done {
+        reply: HostReply::Shop(ShopReply::S16F6(job, told)),
+        rows,
+    })
 }
 
 /// S16F17, process jobs that are QUEUED are cancelled, all where none is named: where nothing stands against it, row 15 of table 14

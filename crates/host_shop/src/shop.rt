@@ -1,11 +1,13 @@
 //! What the host asks of carriers and load ports (SEMI E87, S3F17, S3F25 and S3F27): what it is answered, and what is done. What it
 //! asks of jobs is in `jobs.rt`.
-ghost use Rattle.std.specs.Prelude.{◌≡◌, if◌then◌else◌, [], IfOk};
+ghost use Rattle.std.specs.Prelude.{◌≡◌, if◌then◌else◌, [], true, IfOk, OnOk};
 ghost use Rattle.load_port.specs.Caack.{is_done_code};
 ghost use Rattle.load_port.specs.declared.action.PortAction.TheVariants as port;
 ghost use Rattle.message_model.specs.ShopPrimaries.{said};
 ghost use Rattle.message_model.specs.declared.shop_reply.ShopReply.TheVariants as shop;
-ghost use Rattle.shop_floor.specs.Requests.{port_rows};
+ghost use Rattle.shop_floor.specs.Requests.{port_rows, carrier_rows, carrier_written};
+ghost use Rattle.floor_model.specs.Floor.{with_shop};
+ghost use Rattle.floor_model.specs.Jobs.{carrier_code};
 ghost use Rattle.gem_model.specs.Shop.{carrier_caack, port_caack};
 ghost use Rattle.gem_model.specs.Messages.{carrier_action_done, port_action_done, shop_done};
 ghost use Rattle.host_replies.specs.Dones.{done_view, CanBeSent};
@@ -62,16 +64,30 @@ fn carrier_action_done(
     ensures sendable { IfOk result (λ told. CanBeSent told.reply) }
 {
     let code = carrier_caack(plant, action);
-    let reply = HostReply::Shop(ShopReply::S3F18(code.number()));
-    if !code.is_done() {
-        return Ok(Done {
-            reply,
-            rows: Vec::new(alloc),
-        });
-    }
+    let rows = if code.is_done() {
+        write_carrier_action(plant, alloc, action)?
+    } else {
+        Vec::new(alloc)
+    };
+    Ok(Done {
+        reply: HostReply::Shop(ShopReply::S3F18(code.number())),
+        rows,
+    })
+}
+
+/// An action on a carrier that can be done is written. Gives the rows that it fires, by the plant before it.
+fn write_carrier_action(
+    plant: &mut Plant,
+    alloc: Global,
+    action: &CarrierAction,
+) -> Result<Vec<Firing>, AllocError>
+    requires { is_done_code (carrier_code action.now plant.old.floor) ≡ true }
+    ensures rows { IfOk result (λ rows. rows.items ≡ carrier_rows action.now plant.old.floor.shop) }
+    ensures after { OnOk result (plant.new ≡ record plant.old { floor = with_shop (carrier_written action.now plant.old.floor.shop) plant.old.floor }) }
+{
     let rows = accepted_carrier_rows(plant.floor().shop(), alloc, action)?;
     plant.write_action(action)?;
-    Ok(Done { reply, rows })
+    Ok(rows)
 }
 
 /// The rows of an action on ports that is answered with this code: none where it is not done.
@@ -96,9 +112,10 @@ fn port_action_done(plant: &Plant, alloc: Global, action: &PortAction) -> Result
     ensures sendable { IfOk result (λ told. CanBeSent told.reply) }
 {
     let code = port_caack(plant, action);
+    let rows = port_rows(plant, alloc, action, code)?;
     Ok(Done {
         reply: HostReply::Shop(ShopReply::S3F26(code.number())),
-        rows: port_rows(plant, alloc, action, code)?,
+        rows,
     })
 }
 
@@ -114,9 +131,10 @@ fn access_done(
 {
     let asked = PortAction::Access(mode, ports.clone()?);
     let code = port_caack(plant, &asked);
+    let rows = port_rows(plant, alloc, &asked, code)?;
     Ok(Done {
         reply: HostReply::Shop(ShopReply::S3F28(code.number())),
-        rows: port_rows(plant, alloc, &asked, code)?,
+        rows,
     })
 }
 

@@ -1,7 +1,8 @@
 //! What a cutter keeps of a frame while it comes.
 
-ghost use Rattle.std.specs.Prelude.{◌≡◌, ◌+◌, ◌-◌, ◌<◌, ◌≤◌, [], ◌++◌, min, length, take, drop, IfOk, OnOk, OnErr};
-ghost use Rattle.hsms_frame.specs.Cut.{length_field};
+ghost use Rattle.std.specs.Prelude.{◌≡◌, ℕ, List, ◌+◌, ◌-◌, ◌<◌, ◌≤◌, [], ◌∷◌, ◌++◌, min, length, take, drop, IfOk, OnOk, OnErr};
+ghost use Rattle.hsms_frame.specs.Spelling.{IsBytes};
+ghost use Rattle.hsms_frame.specs.Cut.{length_field, arrival_at, arrivals_of, behind_of};
 ghost use Rattle.hsms_frame.specs.Held.{kept, IsHeld, is_filled, Fills, Passes};
 
 use crate::cutting::{arrival_at, behind, cut_whole, length_field};
@@ -28,6 +29,44 @@ fn top_up<'p>(bytes: &mut Vec<u8>, len: usize, piece: &'p [u8]) -> Result<&'p [u
     let (front, rest) = piece.split_at(taken);
     bytes.extend_from_slice(front)?;
     Ok(rest)
+}
+
+// What is kept of a piece, where nothing was kept before it.
+fn first_held(alloc: Global, max: u32, piece: &[u8]) -> Result<Held, NoMemory>
+    ensures fills { IfOk result (λ held. (after : List ℕ) × Fills (record { max = max; bytes = []; skipped = 0 }) piece.now (kept held) after) }
+    ensures max { IfOk result (λ held. held.max ≡ max) }
+{
+    let mut held = Held {
+        max,
+        bytes: Vec::new(alloc),
+        skipped: 0,
+    };
+    held.fill(piece)?;
+    Ok(held)
+}
+
+// Adds the arrival of a frame that is whole, and those of the frames that are whole in the piece behind it. Answers what is kept
+// of the rest. After `NoMemory` what arrived before is at the front.
+fn frames_on(
+    alloc: Global,
+    max: u32,
+    whole: &[u8],
+    piece: &[u8],
+    out: &mut Vec<Arrival>,
+) -> Result<Held, NoMemory>
+    requires header { 14 ≤ length whole.now }
+    requires field { 10 ≤ length_field whole.now }
+    requires text { length_field whole.now ≤ 10 + max → 4 + length_field whole.now ≤ length whole.now }
+    ensures arrived { IfOk result (λ held. drop (length out.old.items) out.new.items ≡ arrival_at max whole.now ∷ arrivals_of max piece.now) }
+    ensures fills { IfOk result (λ held. (after : List ℕ) × Fills (record { max = max; bytes = []; skipped = 0 }) (behind_of piece.now) (kept held) after) }
+    ensures held { IfOk result (λ held. IsHeld (kept held)) }
+    ensures max { IfOk result (λ held. held.max ≡ max) }
+    ensures bytes { OnOk result (IsBytes whole.now) }
+    ensures appended { take (length out.old.items) out.new.items ≡ out.old.items }
+{
+    out.push(arrival_at(alloc, max, whole)?)?;
+    let rest = cut_whole(alloc, max, piece, out)?;
+    first_held(alloc, max, rest)
 }
 
 impl Held {
@@ -125,15 +164,7 @@ impl Held {
         if !self.is_filled() {
             return Ok(());
         }
-        out.push(arrival_at(alloc, self.max, &self.bytes)?)?;
-        let rest = cut_whole(alloc, self.max, rest, out)?;
-        let mut next = Held {
-            max: self.max,
-            bytes: Vec::new(alloc),
-            skipped: 0,
-        };
-        next.fill(rest)?;
-        *self = next;
+        *self = frames_on(alloc, self.max, &self.bytes, rest, out)?;
         Ok(())
     }
 

@@ -12,7 +12,6 @@ pub type NoMemory = AllocError;
 /// One data item of a message (SEMI E5, data items): a list of items, or elements of one kind. Contracts speak of what it
 /// says, without where it lies in memory.
 #[cycle(item)]
-#[derive(Debug, Drop)]
 pub enum Item {
     /// L, format code 00 in octal: items, which may be lists.
     List(Items),
@@ -40,9 +39,28 @@ pub enum Item {
     U8(U64s),
 }
 
+// Written out, so that it is one call wherever an item is dropped.
+impl Drop for Item {
+    fn drop(self) {
+        match self {
+            Item::List(_items) => {}
+            Item::Binary(_elements) | Item::Ascii(_elements) => {}
+            Item::Bool(_elements) => {}
+            Item::I1(_elements) => {}
+            Item::I2(_elements) => {}
+            Item::I4(_elements) => {}
+            Item::I8(_elements) => {}
+            Item::U1(_elements) => {}
+            Item::U2(_elements) => {}
+            Item::U4(_elements) => {}
+            Item::U8(_elements) => {}
+        }
+    }
+}
+
 /// The items of a list. Contracts see what they say, one after another.
 #[cycle(item)]
-#[derive(Debug, Drop)]
+#[derive(Drop)]
 pub struct Items {
     items: Vec<Item>,
 }

@@ -54,27 +54,58 @@ impl Cause {
     pub fn text(&self, alloc: Global) -> Result<Option<String>, AllocError>
         ensures { IfOk result (λ text. IsNone text ↔ (self.now ≡ cause.Done)) }
     {
-        let text = match self {
-            Cause::Done => return Ok(None),
-            Cause::Words(place) => format!(in alloc; "words at {place}")?,
-            Cause::Config(rule, key) => {
-                let mut text = format!(in alloc; "config rule {rule} key ")?;
-                for byte in key.as_bytes() {
-                    text.push(char::from(*byte))?;
-                }
-                text
-            }
-            Cause::ReadFault => format!(in alloc; "read fault")?,
-            Cause::WriteFault => format!(in alloc; "write fault")?,
-            Cause::Full(entries, bytes, input) => format!(in alloc;
-                "full {entries} {bytes} {input}"
-            )?,
-            Cause::Line(number, place) => format!(in alloc; "line {number} at {place}")?,
-            Cause::NoMemory => format!(in alloc; "no memory")?,
-            Cause::Door => format!(in alloc; "door fault")?,
-        };
-        Ok(Some(text))
+        match self {
+            Cause::Done => Ok(None),
+            _ => Ok(Some(self.words(alloc)?)),
+        }
     }
+
+    // The words of a cause.
+    fn words(&self, alloc: Global) -> Result<String, AllocError> {
+        match self {
+            Cause::Words(place) => format!(in alloc; "words at {place}"),
+            Cause::Config(rule, key) => config_text(alloc, *rule, key.as_bytes()),
+            Cause::Full(entries, bytes, input) => full_text(alloc, *entries, *bytes, *input),
+            Cause::Line(number, place) => line_text(alloc, *number, *place),
+            _ => String::from_str(alloc, self.word()),
+        }
+    }
+
+    // The word of a cause without a number.
+    fn word(&self) -> &'static str {
+        match self {
+            Cause::ReadFault => "read fault",
+            Cause::WriteFault => "write fault",
+            Cause::NoMemory => "no memory",
+            Cause::Door => "door fault",
+            _ => "",
+        }
+    }
+}
+
+// The words of a broken rule, at this key.
+fn config_text(alloc: Global, rule: u8, key: &[u8]) -> Result<String, AllocError> {
+    let mut text = format!(in alloc; "config rule {rule} key ")?;
+    push_bytes(&mut text, key)?;
+    Ok(text)
+}
+
+// Puts bytes behind a text, each as a character.
+fn push_bytes(text: &mut String, bytes: &[u8]) -> Result<(), AllocError> {
+    for byte in bytes {
+        text.push(char::from(*byte))?;
+    }
+    Ok(())
+}
+
+// The words of a full history, by its entries, their bytes and the bytes of the input.
+fn full_text(alloc: Global, entries: u64, bytes: u64, input: u64) -> Result<String, AllocError> {
+    format!(in alloc; "full {entries} {bytes} {input}")
+}
+
+// The words of a line that is none, from this place on.
+fn line_text(alloc: Global, number: u64, place: u64) -> Result<String, AllocError> {
+    format!(in alloc; "line {number} at {place}")
 }
 
 /// A session: its number, the bytes that the lines gave to it, the bytes of its frames that went out, and why it ended;

@@ -4,7 +4,7 @@ use gem_ids::{Listed, Text80};
 use item_model::{Bytes, Items};
 
 /// What the tool tells of itself.
-#[derive(Debug, Drop)]
+#[derive(Drop)]
 pub struct Identity {
     /// MDLN, the model of the tool.
     pub mdln: Bytes,
@@ -13,7 +13,7 @@ pub struct Identity {
 }
 
 /// A status variable and its name.
-#[derive(Debug, Drop)]
+#[derive(Drop)]
 pub struct VariableName {
     /// SVID, the variable.
     pub svid: u32,
@@ -22,7 +22,7 @@ pub struct VariableName {
 }
 
 /// A parameter of a remote command that is refused, and why.
-#[derive(Debug, Drop)]
+#[derive(Drop)]
 pub struct ParameterAcknowledge {
     /// CPNAME, the name of the parameter as it was sent.
     pub name: Text80,
@@ -31,7 +31,7 @@ pub struct ParameterAcknowledge {
 }
 
 /// A stream that is refused where the host sets what is spooled, and why.
-#[derive(Debug, Drop)]
+#[derive(Drop)]
 pub struct StreamRefusal {
     /// STRID, the stream as it was sent.
     pub stream: u8,
@@ -42,7 +42,7 @@ pub struct StreamRefusal {
 }
 
 /// An alarm in a list of alarms.
-#[derive(Debug, Drop)]
+#[derive(Drop)]
 pub struct AlarmPart {
     /// ALCD, the byte of the alarm's code. None where the alarm is unknown, which is printed as a B without elements.
     pub alcd: Option<u8>,
@@ -55,7 +55,6 @@ pub struct AlarmPart {
 /// A reply of the tool, or a primary of its own, with the parts of its body in the printed order (SEMI E5; this tool's
 /// profile, messages). A part with a fixed value is no field. S1F1 of the tool and each message of function 0 have no
 /// text, and no variant.
-#[derive(Debug, Drop)]
 pub enum GemReply {
     /// On line data: MDLN and SOFTREV.
     S1F2(Bytes, Bytes),
@@ -121,4 +120,43 @@ pub enum GemReply {
     S9F9(Bytes),
     /// Data too long: the header that was received.
     S9F11(Bytes),
+}
+
+// Written out, so that it is one call wherever such a message is dropped.
+impl Drop for GemReply {
+    fn drop(self) {
+        match self {
+            GemReply::S1F2(_a, _b) => {}
+            GemReply::S1F4(_a) => {}
+            GemReply::S1F12(_a) => {}
+            GemReply::S1F13(_a, _b) => {}
+            GemReply::S1F14(_a) => {}
+            GemReply::S1F18(_a) => {}
+            GemReply::S2F14(_a) => {}
+            GemReply::S2F16(_a) => {}
+            GemReply::S2F18(_a) => {}
+            GemReply::S2F30(_a) => {}
+            GemReply::S2F32(_a) => {}
+            GemReply::S2F34(_a) => {}
+            GemReply::S2F36(_a) => {}
+            GemReply::S2F38(_a) => {}
+            GemReply::S2F42(_a, _b) => {}
+            GemReply::S2F44(_a, _b) => {}
+            GemReply::S5F1(_a, _b, _c) => {}
+            GemReply::S5F4(_a) => {}
+            GemReply::S5F6(_a) => {}
+            GemReply::S5F8(_a) => {}
+            GemReply::S6F11(_a, _b, _c) => {}
+            GemReply::S6F16(_a, _b) => {}
+            GemReply::S6F20(_a) => {}
+            GemReply::S6F24(_a) => {}
+            GemReply::S9F1(_a) => {}
+            GemReply::S9F3(_a) => {}
+            GemReply::S9F5(_a) => {}
+            GemReply::S9F7(_a) => {}
+            GemReply::S9F9(_a) => {}
+            GemReply::S9F11(_a) => {}
+            GemReply::S1F16 => {}
+        }
+    }
 }

@@ -5,7 +5,7 @@ use item_model::Item;
 
 /// A carrier whose substrates a process job is to process, as S16F11 names it (after SEMI E40; this tool's profile,
 /// messages).
-#[derive(Debug, Drop)]
+#[derive(Drop)]
 pub struct CarrierSlots {
     /// CARRIERID, the carrier, by any text.
     pub carrier: Text80,
@@ -15,7 +15,7 @@ pub struct CarrierSlots {
 
 /// The recipe of a process job, as S16F11 names it (after SEMI E40; this tool's profile, messages). The recipe method
 /// before it is fixed, and so no field.
-#[derive(Debug, Drop)]
+#[derive(Drop)]
 pub struct RecipePart {
     /// RCPSPEC, the recipe, by any text.
     pub recipe: Text80,

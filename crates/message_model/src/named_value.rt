@@ -6,7 +6,7 @@ use item_model::Item;
 use std::marker::Model;
 
 /// A name and its value, as a host gives a parameter or an attribute. Contracts see the text and what the item says.
-#[derive(Debug, Drop)]
+#[derive(Drop)]
 pub struct NamedValue {
     /// The name.
     pub name: Text80,

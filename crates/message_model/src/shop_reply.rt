@@ -3,7 +3,7 @@
 use gem_ids::{Listed, Text80};
 
 /// Why something that the host asks is refused (after SEMI E40 and E94; this tool's profile, messages).
-#[derive(Debug, Drop)]
+#[derive(Drop)]
 pub struct ErrorPart {
     /// ERRCODE, the number of the cause.
     pub code: u8,
@@ -12,7 +12,7 @@ pub struct ErrorPart {
 }
 
 /// Whether a command or a creation is taken, and why not (after SEMI E40; this tool's profile, messages).
-#[derive(Debug, Drop)]
+#[derive(Drop)]
 pub struct JobAcknowledge {
     /// ACKA, true where it is taken.
     pub ok: bool,
@@ -21,7 +21,7 @@ pub struct JobAcknowledge {
 }
 
 /// Whether an object is created, and why not (after SEMI E94; this tool's profile, messages).
-#[derive(Debug, Drop)]
+#[derive(Drop)]
 pub struct ObjectAcknowledge {
     /// OBJACK, 0 where it is created.
     pub objack: u8,
@@ -30,7 +30,7 @@ pub struct ObjectAcknowledge {
 }
 
 /// A process job in a list of process jobs (after SEMI E40; this tool's profile, messages).
-#[derive(Debug, Drop)]
+#[derive(Drop)]
 pub struct JobState {
     /// PRJOBID, the job.
     pub job: Text80,
@@ -40,7 +40,6 @@ pub struct JobState {
 
 /// A reply of the tool, with the parts of its body in the printed order (after SEMI E87, E40 and E94; this tool's profile,
 /// messages). A part with a fixed value is no field.
-#[derive(Debug, Drop)]
 pub enum ShopReply {
     /// Carrier action acknowledge: CAACK, 0 where the action is taken.
     S3F18(u8),
@@ -62,4 +61,22 @@ pub enum ShopReply {
     S16F22(u16),
     /// Control job command acknowledge: ACKA, true where the command is taken, and why it is refused.
     S16F28(bool, Listed<ErrorPart>),
+}
+
+// Written out, so that it is one call wherever such a message is dropped.
+impl Drop for ShopReply {
+    fn drop(self) {
+        match self {
+            ShopReply::S3F18(_a) => {}
+            ShopReply::S3F26(_a) => {}
+            ShopReply::S3F28(_a) => {}
+            ShopReply::S14F10(_a, _b) => {}
+            ShopReply::S16F6(_a, _b) => {}
+            ShopReply::S16F12(_a, _b) => {}
+            ShopReply::S16F18(_a, _b) => {}
+            ShopReply::S16F20(_a) => {}
+            ShopReply::S16F22(_a) => {}
+            ShopReply::S16F28(_a, _b) => {}
+        }
+    }
 }

@@ -71,10 +71,8 @@ fn object_acknowledge(alloc: Global, told: &ObjectAcknowledge) -> Result<Item, N
     ensures exact { IfOk result (λ item. view item ≡ object_acknowledge_data told.now) }
     ensures bounded { length told.now.errors ≤ 1024 → IfOk result (λ item. IsBounded 3 120000 (view item)) }
 {
-    let mut parts = Items::new(alloc);
-    parts.push(u1(alloc, told.objack)?)?;
-    parts.push(list_of(alloc, told.errors.as_slice())?)?;
-    Ok(Item::List(parts))
+    let objack = u1(alloc, told.objack)?;
+    pair(alloc, objack, list_of(alloc, told.errors.as_slice())?)
 }
 
 // What a command to a process job, or its creation, is answered.
@@ -82,10 +80,12 @@ fn job_answered(alloc: Global, job: &Text80, told: &JobAcknowledge) -> Result<It
     ensures exact { IfOk result (λ item. view item ≡ L (A job.now ∷ (job_acknowledge told.now ∷ []))) }
     ensures bounded { length told.now.errors ≤ 1024 → IfOk result (λ item. IsBounded 5 (2 ^ 31) (view item)) }
 {
-    let mut parts = Items::new(alloc);
-    parts.push(text(alloc, job)?)?;
-    parts.push(acknowledged(alloc, told.ok, told.errors.as_slice())?)?;
-    Ok(Item::List(parts))
+    let job = text(alloc, job)?;
+    pair(
+        alloc,
+        job,
+        acknowledged(alloc, told.ok, told.errors.as_slice())?,
+    )
 }
 
 // What is answered where jobs are to be taken off the queue.
@@ -93,10 +93,12 @@ fn jobs_dequeued(alloc: Global, jobs: &[Text80], told: &JobAcknowledge) -> Resul
     ensures exact { IfOk result (λ item. view item ≡ L (each A jobs.now ∷ (job_acknowledge told.now ∷ []))) }
     ensures bounded { length jobs.now ≤ 1024 → length told.now.errors ≤ 1024 → IfOk result (λ item. IsBounded 5 (2 ^ 31) (view item)) }
 {
-    let mut parts = Items::new(alloc);
-    parts.push(list_of(alloc, jobs)?)?;
-    parts.push(acknowledged(alloc, told.ok, told.errors.as_slice())?)?;
-    Ok(Item::List(parts))
+    let jobs = list_of(alloc, jobs)?;
+    pair(
+        alloc,
+        jobs,
+        acknowledged(alloc, told.ok, told.errors.as_slice())?,
+    )
 }
 
 // Whether something is taken, and why not.
@@ -104,9 +106,17 @@ fn acknowledged(alloc: Global, ok: bool, errors: &[ErrorPart]) -> Result<Item, N
     ensures exact { IfOk result (λ item. view item ≡ acknowledge_data ok errors.now) }
     ensures bounded { length errors.now ≤ 1024 → IfOk result (λ item. IsBounded 3 120000 (view item)) }
 {
+    let ok = truth(alloc, ok)?;
+    pair(alloc, ok, list_of(alloc, errors)?)
+}
+
+// A list of two items.
+fn pair(alloc: Global, first: Item, second: Item) -> Result<Item, NoMemory>
+    ensures { IfOk result (λ item. view item ≡ L (view first ∷ (view second ∷ []))) }
+{
     let mut parts = Items::new(alloc);
-    parts.push(truth(alloc, ok)?)?;
-    parts.push(list_of(alloc, errors)?)?;
+    parts.push(first)?;
+    parts.push(second)?;
     Ok(Item::List(parts))
 }
 
@@ -146,10 +156,8 @@ impl Printed for ErrorPart {
     ghost body = { error_part };
 
     fn item(&self, alloc: Global) -> Result<Item, NoMemory> {
-        let mut parts = Items::new(alloc);
-        parts.push(u1(alloc, self.code)?)?;
-        parts.push(text(alloc, &self.text)?)?;
-        Ok(Item::List(parts))
+        let code = u1(alloc, self.code)?;
+        pair(alloc, code, text(alloc, &self.text)?)
     }
 }
 
@@ -157,10 +165,8 @@ impl Printed for JobState {
     ghost body = { job_state };
 
     fn item(&self, alloc: Global) -> Result<Item, NoMemory> {
-        let mut parts = Items::new(alloc);
-        parts.push(text(alloc, &self.job)?)?;
-        parts.push(u1(alloc, self.state)?)?;
-        Ok(Item::List(parts))
+        let job = text(alloc, &self.job)?;
+        pair(alloc, job, u1(alloc, self.state)?)
     }
 }
 

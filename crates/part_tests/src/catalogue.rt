@@ -2,14 +2,13 @@
 
 ghost use Rattle.std.specs.Prelude.{◌<◌};
 
-use crate::wanted::is_none;
+use crate::told::{told, told_none};
 use gem_ids::Text80;
 use gem_rows::{
     RowId, StatusVariable, alarm_text, alids, ceid_of, ceids, is_ceid, is_vid, row_of,
     status_variable, status_vids, vid_name,
 };
 use std::alloc::Global;
-use std::test::Fail;
 
 // The CEIDs, table by table.
 const CEIDS: [u32; 86] = [
@@ -30,10 +29,12 @@ const CEIDS: [u32; 86] = [
     1501, 1502, 1503, 1504, 1505, 1506, 1507, 1508, 1509, 1510, 1511, 1512, // control jobs
 ];
 
-#[test]
-fn the_ceids_are_those_of_the_tables(rt: HostRuntime) -> Result<(), Fail> {
-    assert!(rt; ceids(rt.alloc())?.as_slice() == CEIDS.as_slice());
-    Ok(())
+// Whether these are all.
+fn are_ceids(alloc: Global, want: &[u32]) -> bool {
+    match &ceids(alloc) {
+        Ok(all) => all.as_slice() == want,
+        Err(_) => false,
+    }
 }
 
 // The CEID of a row after the list of them.
@@ -101,11 +102,9 @@ fn great_ceid() -> Option<u32> {
     None
 }
 
-#[test]
-fn each_row_and_its_ceid_name_each_other() -> Result<(), Fail> {
-    is_none(false_table(CEIDS.as_slice()))?;
-    is_none(false_ceid(CEIDS.as_slice()))?;
-    is_none(great_ceid())
+// The first of all these.
+fn false_row(ceids: &[u32]) -> Option<u32> {
+    false_table(ceids).or(false_ceid(ceids)).or(great_ceid())
 }
 
 // The names of variables, with the numbers of things in them.
@@ -171,20 +170,23 @@ fn is_listed(text: Option<&Text80>, name: &[u8]) -> bool {
     }
 }
 
-// The first number below 400 whose variable has another name.
+// Whether the variable of a number has another name.
+fn is_false_name(names: &[(u32, &'static [u8])], vid: u32) -> bool {
+    !is_listed(vid_name(vid).as_ref(), listed(names, vid))
+}
+
+// The first number below 400 whose variable has another name, or the last number, where it has one.
 fn false_name(names: &[(u32, &'static [u8])]) -> Option<u32> {
     for vid in 0..400 {
-        if !is_listed(vid_name(vid).as_ref(), listed(names, vid)) {
+        if is_false_name(names, vid) {
             return Some(vid);
         }
     }
-    None
-}
-
-#[test]
-fn each_variable_has_its_name(rt: HostRuntime) -> Result<(), Fail> {
-    assert!(rt; vid_name(4_294_967_295).is_none());
-    is_none(false_name(NAMES.as_slice()))
+    if is_false_name(names, 4_294_967_295) {
+        Some(4_294_967_295)
+    } else {
+        None
+    }
 }
 
 // The first number below 400 that is a status variable and has no name among theirs, or the other way round, or of which the
@@ -218,12 +220,6 @@ fn false_variable(variables: &[(u32, StatusVariable)]) -> Option<u32> {
     None
 }
 
-#[test]
-fn each_status_variable_is_listed() -> Result<(), Fail> {
-    is_none(false_status(NAMES.as_slice()))?;
-    is_none(false_variable(VARIABLES.as_slice()))
-}
-
 // The texts of alarms.
 const ALARMS: [(u32, &[u8]); 15] = [
     (11, b"module 1 down"),
@@ -251,11 +247,6 @@ fn false_text(texts: &[(u32, &'static [u8])]) -> Option<u32> {
         }
     }
     None
-}
-
-#[test]
-fn each_alarm_has_its_text() -> Result<(), Fail> {
-    is_none(false_text(ALARMS.as_slice()))
 }
 
 // The variables of ports and chambers, for one port and two chambers; for two and one; for the largest plant.
@@ -301,11 +292,6 @@ fn false_plant(names: &[(u32, &'static [u8])], plants: &[(u8, u8, &[u32])]) -> O
     None
 }
 
-#[test]
-fn a_plant_knows_the_variables_of_its_own_ports_and_chambers() -> Result<(), Fail> {
-    is_none(false_plant(NAMES.as_slice(), OWN.as_slice()))
-}
-
 // Whether a plant has these alarms.
 fn has_alarms(alloc: Global, ports: u8, chambers: u8, want: &[u32]) -> bool {
     match &alids(alloc, ports, chambers) {
@@ -314,11 +300,44 @@ fn has_alarms(alloc: Global, ports: u8, chambers: u8, want: &[u32]) -> bool {
     }
 }
 
-#[test]
-fn a_plant_has_the_alarms_of_its_own_modules_and_ports(rt: HostRuntime) {
-    let alloc = rt.alloc();
-    assert!(rt; has_alarms(alloc, 1, 1, &[11, 12, 13, 31, 50]));
-    assert!(rt; has_alarms(alloc, 2, 2, &[11, 12, 13, 14, 31, 32, 50]));
-    let most = [11, 12, 13, 14, 15, 16, 17, 18, 19, 20, 31, 32, 33, 34, 50];
-    assert!(rt; has_alarms(alloc, 4, 8, &most));
+// The alarms of the largest plant.
+const MOST: [u32; 15] = [11, 12, 13, 14, 15, 16, 17, 18, 19, 20, 31, 32, 33, 34, 50];
+
+// Whether each plant has the alarms of its own.
+fn have_alarms(alloc: Global) -> bool {
+    has_alarms(alloc, 1, 1, &[11, 12, 13, 31, 50])
+        && has_alarms(alloc, 2, 2, &[11, 12, 13, 14, 31, 32, 50])
+        && has_alarms(alloc, 4, 8, &MOST)
+}
+
+// Tells of rows and their numbers.
+fn tell_rows(rt: &HostRuntime) -> bool {
+    let are_ceids = are_ceids(rt.alloc(), &CEIDS);
+    told(rt, "the_ceids_are_those_of_the_tables", are_ceids)
+        & told_none(
+            rt,
+            "each_row_and_its_ceid_name_each_other",
+            false_row(&CEIDS),
+        )
+}
+
+// Tells of variables.
+fn tell_variables(rt: &HostRuntime) -> bool {
+    let status = false_status(&NAMES).or(false_variable(&VARIABLES));
+    let plant = "a_plant_knows_the_variables_of_its_own_ports_and_chambers";
+    told_none(rt, "each_variable_has_its_name", false_name(&NAMES))
+        & told_none(rt, "each_status_variable_is_listed", status)
+        & told_none(rt, plant, false_plant(&NAMES, &OWN))
+}
+
+// Tells of alarms.
+fn tell_alarms(rt: &HostRuntime) -> bool {
+    let plant = "a_plant_has_the_alarms_of_its_own_modules_and_ports";
+    told_none(rt, "each_alarm_has_its_text", false_text(&ALARMS))
+        & told(rt, plant, have_alarms(rt.alloc()))
+}
+
+/// Tells how each of these tests went, and gives whether all went well.
+pub fn tell(rt: &HostRuntime) -> bool {
+    tell_rows(rt) & tell_variables(rt) & tell_alarms(rt)
 }

@@ -1,8 +1,8 @@
 //! HSMS frames (`hsms_frame`).
 
+use crate::told::told;
 use hsms_frame::{Arrival, Bytes, CutFault, Cutter, Frame, Header, write_frame, write_header};
 use std::alloc::Global;
-use std::test::Fail;
 
 // The greatest text of this tool, in bytes.
 const GREATEST: u32 = 262_144;
@@ -37,32 +37,36 @@ fn data() -> Header {
     }
 }
 
-// A text of 1,000 bytes.
-fn long_text(alloc: Global) -> Result<Vec<u8>, Fail> {
-    let mut text = Vec::new(alloc);
+// Adds a text of 1,000 bytes. None where there is no memory.
+fn add_long_text(text: &mut Vec<u8>) -> Option<()> {
     for place in 0..1000_usize {
-        text.push((place % 251) as u8)?;
+        text.push((place % 251) as u8).ok()?;
     }
-    Ok(text)
+    Some(())
 }
 
-// The bytes of parts that stand one behind the other.
-fn joined(alloc: Global, parts: &[&[u8]]) -> Result<Vec<u8>, Fail> {
-    let mut bytes = Vec::new(alloc);
-    for part in parts {
-        bytes.extend_from_slice(part)?;
-    }
-    Ok(bytes)
-}
-
-// What arrives of a stream that comes in pieces of one byte, of seven bytes, or in one piece.
-fn arrivals(alloc: Global, max: u32, stream: &[u8], piece: usize) -> Result<Vec<Arrival>, Fail> {
-    let mut cutter = Cutter::new(alloc, max)?;
-    let mut out = Vec::new(alloc);
+// Adds what arrives of a stream that comes in pieces of so many bytes; whether all of it is taken.
+fn are_fed(
+    alloc: Global,
+    cutter: &mut Cutter,
+    stream: &[u8],
+    piece: usize,
+    out: &mut Vec<Arrival>,
+) -> bool {
     for piece in stream.chunks(piece.max(1)) {
-        cutter.feed(alloc, piece, &mut out)?;
+        if cutter.feed(alloc, piece, out).is_err() {
+            return false;
+        }
     }
-    Ok(out)
+    true
+}
+
+// The same where the greatest text is this one.
+fn arrive(alloc: Global, max: u32, stream: &[u8], piece: usize, out: &mut Vec<Arrival>) -> bool {
+    match Cutter::new(alloc, max) {
+        Ok(mut cutter) => are_fed(alloc, &mut cutter, stream, piece, out),
+        Err(_) => false,
+    }
 }
 
 // The arrival at this place is this frame.
@@ -73,18 +77,30 @@ fn is_frame(out: &[Arrival], at: usize, header: Header, text: &[u8]) -> bool {
     }
 }
 
-// The frames that arrived, written one behind the other.
-fn written(alloc: Global, out: &[Arrival]) -> Result<Vec<u8>, Fail> {
-    let mut bytes = Vec::new(alloc);
+// Adds a frame as it is written. None where it cannot be written, or there is no memory.
+fn add_frame(bytes: &mut Vec<u8>, frame: &Frame) -> Option<()> {
+    if frame.text.as_slice().len() < 4_294_967_286 {
+        write_frame(frame, bytes).ok()
+    } else {
+        None
+    }
+}
+
+// Adds the frames that arrived, written one behind the other. None where another thing arrived.
+fn add_written(bytes: &mut Vec<u8>, out: &[Arrival]) -> Option<()> {
     for arrival in out {
         match arrival {
-            Arrival::Frame(frame) if frame.text.as_slice().len() < 4_294_967_286 => {
-                write_frame(frame, &mut bytes)?;
-            }
-            _ => return Err("a frame that can be written".into()),
+            Arrival::Frame(frame) => add_frame(bytes, frame)?,
+            _ => return None,
         }
     }
-    Ok(bytes)
+    Some(())
+}
+
+// Whether the frames that arrived are these bytes, written one behind the other.
+fn are_written(alloc: Global, out: &[Arrival], stream: &[u8]) -> bool {
+    let mut bytes = Vec::new(alloc);
+    add_written(&mut bytes, out).is_some() && bytes.as_slice() == stream
 }
 
 // Whether these are the frames of a select request, of S1F1 with this long text and with its own, and of a select
@@ -97,32 +113,37 @@ fn are_four(out: &[Arrival], text: &[u8]) -> bool {
         && is_frame(out, 3, select(), &[])
 }
 
-// Whether they arrive so in pieces of so many bytes, where 0 is all, and are written again.
-fn four_arrive(alloc: Global, piece: usize) -> Result<bool, Fail> {
-    let text = long_text(alloc)?;
-    let stream = joined(alloc, &[&SELECT, &LONG_FRONT, &text, &DATA, &SELECT])?;
-    let piece = if piece == 0 { stream.len() } else { piece };
-    are_four_again(alloc, &stream, &text, piece)
+// Whether they arrive so in pieces of so many bytes of this stream, in which this long text is, and are written again.
+fn four_arrive(alloc: Global, stream: &[u8], text: &[u8], piece: usize) -> bool {
+    let mut out = Vec::new(alloc);
+    arrive(alloc, GREATEST, stream, piece, &mut out)
+        && are_four(out.as_slice(), text)
+        && are_written(alloc, out.as_slice(), stream)
 }
 
-// The same of this stream, in which this long text is.
-fn are_four_again(alloc: Global, stream: &[u8], text: &[u8], piece: usize) -> Result<bool, Fail> {
-    let out = arrivals(alloc, GREATEST, stream, piece)?;
-    let are_written = are_written(alloc, &out, stream)?;
-    Ok(are_written && are_four(&out, text))
+// The same in pieces of all, of 1, of 7 and of 14 bytes.
+fn four_arrive_in_pieces(alloc: Global, stream: &[u8], text: &[u8]) -> bool {
+    four_arrive(alloc, stream, text, stream.len())
+        && four_arrive(alloc, stream, text, 1)
+        && four_arrive(alloc, stream, text, 7)
+        && four_arrive(alloc, stream, text, 14)
 }
 
-// Whether the frames that arrived are these bytes, written one behind the other.
-fn are_written(alloc: Global, out: &[Arrival], stream: &[u8]) -> Result<bool, Fail> {
-    Ok(written(alloc, out)?.as_slice() == stream)
+// Adds the stream in which this long text is; whether there was memory for it.
+fn is_stream_added(stream: &mut Vec<u8>, text: &[u8]) -> bool {
+    stream.extend_from_slice(&SELECT).is_ok()
+        && stream.extend_from_slice(&LONG_FRONT).is_ok()
+        && stream.extend_from_slice(text).is_ok()
+        && stream.extend_from_slice(&DATA).is_ok()
+        && stream.extend_from_slice(&SELECT).is_ok()
 }
 
-#[test]
-fn frames_arrive_once_and_are_written_again_byte_for_byte(rt: HostRuntime) -> Result<(), Fail> {
-    for piece in [0, 1, 7, 14] {
-        assert!(rt; four_arrive(rt.alloc(), piece)?, "in pieces of {piece}");
-    }
-    Ok(())
+fn are_four_again(alloc: Global) -> bool {
+    let mut text = Vec::new(alloc);
+    let mut stream = Vec::new(alloc);
+    add_long_text(&mut text).is_some()
+        && is_stream_added(&mut stream, text.as_slice())
+        && four_arrive_in_pieces(alloc, stream.as_slice(), text.as_slice())
 }
 
 // Whether these are the frames of a select request and of so many S1F1.
@@ -135,21 +156,31 @@ fn are_select_and_data(out: &[Arrival], count: usize) -> bool {
     out.len() == count.saturating_add(1) && is_frame(out, 0, select(), &[])
 }
 
-// Whether two frames arrive with a half of one behind them, and the third with the other half.
-fn half_arrives(alloc: Global) -> Result<[bool; 2], Fail> {
-    let piece = joined(alloc, &[&SELECT, &DATA, &DATA[..8]])?;
-    let mut cutter = Cutter::new(alloc, GREATEST)?;
-    let mut out = Vec::new(alloc);
-    let are_fed = cutter.feed(alloc, &piece, &mut out).is_ok();
-    let are_two = are_fed && are_select_and_data(&out, 1);
-    let are_fed = cutter.feed(alloc, &DATA[8..], &mut out).is_ok();
-    Ok([are_two, are_fed && are_select_and_data(&out, 2)])
+// Both of them, and a half of S1F1.
+const TWO_AND_HALF: [u8; 39] = [
+    0, 0, 0, 0x0A, 0xFF, 0xFF, 0, 0, 0, 1, 0, 0, 0, 1, 0, 0, 0, 0x0D, 0, 0, 0x81, 1, 0, 0, 1, 2, 3,
+    4, 0xA5, 1, 7, 0, 0, 0, 0x0D, 0, 0, 0x81, 1,
+];
+
+// The other half.
+const HALF: [u8; 9] = [0, 0, 1, 2, 3, 4, 0xA5, 1, 7];
+
+// Whether they are, behind a piece, a select request and so many S1F1.
+fn are_then(
+    alloc: Global,
+    cutter: &mut Cutter,
+    piece: &[u8],
+    out: &mut Vec<Arrival>,
+    count: usize,
+) -> bool {
+    cutter.feed(alloc, piece, out).is_ok() && are_select_and_data(out.as_slice(), count)
 }
 
-#[test]
-fn two_frames_and_a_half_in_one_piece(rt: HostRuntime) -> Result<(), Fail> {
-    assert!(rt; half_arrives(rt.alloc())? == [true, true]);
-    Ok(())
+// Whether two frames arrive with a half of one behind them, and the third with the other half.
+fn half_arrives(alloc: Global, cutter: &mut Cutter) -> bool {
+    let mut out = Vec::new(alloc);
+    are_then(alloc, cutter, &TWO_AND_HALF, &mut out, 1)
+        && are_then(alloc, cutter, &HALF, &mut out, 2)
 }
 
 // Whether a frame with this header and this length arrives first, whose text is too long.
@@ -160,57 +191,90 @@ fn is_too_long(out: &[Arrival], want: Header, length: u32) -> bool {
     }
 }
 
+// A select request with a text of five bytes, and S1F1.
+const FIVE: [u8; 36] = [
+    0, 0, 0, 0x0F, 0xFF, 0xFF, 0, 0, 0, 1, 0, 0, 0, 1, 9, 9, 9, 9, 9, 0, 0, 0, 0x0D, 0, 0, 0x81, 1,
+    0, 0, 1, 2, 3, 4, 0xA5, 1, 7,
+];
+
 // Whether a text of five bytes is skipped where four are the most, in pieces of so many bytes, and the next frame
 // arrives.
-fn five_are_skipped(alloc: Global, piece: usize) -> Result<bool, Fail> {
-    let front = [0, 0, 0, 0x0F];
-    let stream = joined(alloc, &[&front, &SELECT[4..], &[9, 9, 9, 9, 9], &DATA])?;
-    let out = arrivals(alloc, 4, &stream, piece)?;
-    let is_next = is_frame(&out, 1, data(), &[0xA5, 1, 7]);
-    Ok(out.len() == 2 && is_too_long(&out, select(), 15) && is_next)
-}
-
-#[test]
-fn a_text_over_the_greatest_is_skipped_and_the_next_frame_arrives(
-    rt: HostRuntime,
-) -> Result<(), Fail> {
-    assert!(rt; five_are_skipped(rt.alloc(), 32)?);
-    assert!(rt; five_are_skipped(rt.alloc(), 1)?);
-    Ok(())
-}
-
-// A stream with a length of 9 is told, and so is all that comes behind it; whether only the frame before it arrived.
-fn short_length(alloc: Global) -> Result<([Result<(), CutFault>; 3], bool), Fail> {
-    let piece = joined(alloc, &[&SELECT, &[0, 0, 0, 9, 1, 2]])?;
-    let mut cutter = Cutter::new(alloc, GREATEST)?;
+fn five_are_skipped(alloc: Global, piece: usize) -> bool {
     let mut out = Vec::new(alloc);
-    let answers = [
-        cutter.feed(alloc, &piece, &mut out),
-        cutter.feed(alloc, &SELECT, &mut out),
-        cutter.feed(alloc, &[], &mut out),
-    ];
-    Ok((answers, are_select_and_data(&out, 0)))
+    arrive(alloc, 4, &FIVE, piece, &mut out) && are_skipped(out.as_slice())
 }
 
-#[test]
-fn a_short_length_is_told_for_good(rt: HostRuntime) -> Result<(), Fail> {
-    let short = Err(CutFault::ShortLength(9));
-    assert!(rt; short_length(rt.alloc())? == ([short; 3], true));
-    Ok(())
+fn are_skipped(out: &[Arrival]) -> bool {
+    out.len() == 2 && is_too_long(out, select(), 15) && is_frame(out, 1, data(), &[0xA5, 1, 7])
 }
 
-// S1F1 with its text, written.
-fn data_written(alloc: Global) -> Result<Vec<u8>, Fail> {
-    let text = Bytes::from_vec(Vec::from_slice(alloc, &[0xA5, 1, 7])?);
+// A select request, and a length of 9 behind it.
+const SHORT: [u8; 20] = [
+    0, 0, 0, 0x0A, 0xFF, 0xFF, 0, 0, 0, 1, 0, 0, 0, 1, 0, 0, 0, 9, 1, 2,
+];
+
+// Whether a piece is answered that a length is 9.
+fn is_short(alloc: Global, cutter: &mut Cutter, piece: &[u8], out: &mut Vec<Arrival>) -> bool {
+    cutter.feed(alloc, piece, out) == Err(CutFault::ShortLength(9))
+}
+
+// Whether a stream with a length of 9 is told, and so is all that comes behind it, and only the frame before it arrives.
+fn short_is_told(alloc: Global, cutter: &mut Cutter) -> bool {
+    let mut out = Vec::new(alloc);
+    is_short(alloc, cutter, &SHORT, &mut out)
+        && is_short(alloc, cutter, &SELECT, &mut out)
+        && is_short(alloc, cutter, &[], &mut out)
+        && are_select_and_data(out.as_slice(), 0)
+}
+
+// Whether S1F1 is written with its text.
+fn is_data_written(alloc: Global) -> bool {
+    match Vec::from_slice(alloc, &[0xA5, 1, 7]) {
+        Ok(text) => is_written(alloc, Bytes::from_vec(text)),
+        Err(_) => false,
+    }
+}
+
+fn is_written(alloc: Global, text: Bytes) -> bool {
     let header = data();
     let mut out = Vec::new(alloc);
-    write_frame(&Frame { header, text }, &mut out)?;
-    Ok(out)
+    add_frame(&mut out, &Frame { header, text }).is_some() && out.as_slice() == DATA.as_slice()
 }
 
-#[test]
-fn frames_are_written_with_the_most_significant_byte_first(rt: HostRuntime) -> Result<(), Fail> {
-    assert!(rt; write_header(select()) == SELECT);
-    assert!(rt; data_written(rt.alloc())?.as_slice() == DATA.as_slice());
-    Ok(())
+// Whether a half arrives, or a short length is told, of a new stream.
+fn is_cut(alloc: Global, is_half: bool) -> bool {
+    match Cutter::new(alloc, GREATEST) {
+        Ok(mut cutter) => cuts(alloc, &mut cutter, is_half),
+        Err(_) => false,
+    }
+}
+
+fn cuts(alloc: Global, cutter: &mut Cutter, is_half: bool) -> bool {
+    if is_half {
+        half_arrives(alloc, cutter)
+    } else {
+        short_is_told(alloc, cutter)
+    }
+}
+
+// Tells of frames that arrive.
+fn tell_arrivals(rt: &HostRuntime, alloc: Global) -> bool {
+    let four = "frames_arrive_once_and_are_written_again_byte_for_byte";
+    let five = "a_text_over_the_greatest_is_skipped_and_the_next_frame_arrives";
+    let are_skipped = five_are_skipped(alloc, 32) && five_are_skipped(alloc, 1);
+    told(rt, four, are_four_again(alloc))
+        & told(
+            rt,
+            "two_frames_and_a_half_in_one_piece",
+            is_cut(alloc, true),
+        )
+        & told(rt, five, are_skipped)
+        & told(rt, "a_short_length_is_told_for_good", is_cut(alloc, false))
+}
+
+/// Tells how each of these tests went, and gives whether all went well.
+pub fn tell(rt: &HostRuntime) -> bool {
+    let are_written = write_header(select()) == SELECT && is_data_written(rt.alloc());
+    let written = "frames_are_written_with_the_most_significant_byte_first";
+    tell_arrivals(rt, rt.alloc()) & told(rt, written, are_written)
 }

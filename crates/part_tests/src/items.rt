@@ -5,11 +5,10 @@ ghost use Rattle.item_model.specs.Data.{ascii as ascii_data};
 ghost use Rattle.item_model.specs.View.{view};
 ghost use Rattle.item_model.specs.Sendable.{IsSendable};
 
-use crate::wanted::is_text;
+use crate::told::{told, told_text};
 use item_model::{Bytes, Item, ItemFault, Items, NoMemory, U16s};
 use secs_items::encode;
 use std::alloc::Global;
-use std::test::Fail;
 
 fn ascii(alloc: Global, text: &[u8]) -> Result<Item, NoMemory>
     ensures { IfOk result (λ item. view item ≡ ascii_data text.now) }
@@ -27,27 +26,30 @@ fn two_texts(alloc: Global) -> Result<Item, NoMemory>
     Ok(Item::List(items))
 }
 
-// The same, behind a byte that stands there before.
-fn model_and_revision(alloc: Global) -> Result<Vec<u8>, NoMemory> {
-    let mut out = vec![in alloc; 0xEE]?;
-    encode(&two_texts(alloc)?, &mut out)?;
-    Ok(out)
+const MODEL_AND_REVISION: [u8; 19] = [
+    0xEE, 0x01, 0x02, 0x41, 0x06, 0x47, 0x45, 0x4D, 0x33, 0x30, 0x30, 0x41, 0x06, 0x31, 0x2E, 0x30,
+    0x2E, 0x30, 0x30,
+];
+
+// Whether its bytes are these, behind a byte that stands there before.
+fn is_appended(alloc: Global, item: &Item) -> bool
+    requires { IsSendable (view item.now) }
+{
+    let mut out = Vec::new(alloc);
+    out.push(0xEE).is_ok()
+        && encode(item, &mut out).is_ok()
+        && out.as_slice() == MODEL_AND_REVISION.as_slice()
 }
 
-// The same, as hex digits.
-fn told(alloc: Global) -> Result<String, Fail> {
-    Ok(hex::encode_upper(alloc, model_and_revision(alloc)?.as_slice())?)
-}
-
-#[test]
-fn a_list_of_two_texts_is_appended(rt: HostRuntime) -> Result<(), Fail> {
-    let want = "EE0102410647454D3330304106312E302E3030";
-    is_text(told(rt.alloc())?.as_str(), want)
+fn are_model_and_revision(alloc: Global) -> bool {
+    match &two_texts(alloc) {
+        Ok(item) => is_appended(alloc, item),
+        Err(_) => false,
+    }
 }
 
 // Faults as they are printed, each in its line.
-fn printed(alloc: Global) -> Result<String, Fail> {
-    let mut text = String::new(alloc);
+fn add_faults(text: &mut String) -> Option<()> {
     for fault in [
         ItemFault::Truncated(3),
         ItemFault::BadLengthBytes(4),
@@ -57,9 +59,9 @@ fn printed(alloc: Global) -> Result<String, Fail> {
         ItemFault::TooDeep(32),
         ItemFault::NoMemory,
     ] {
-        text.push_str(format!(in alloc; "{fault}\n")?.as_str())?;
+        write!(text, "{fault}\n").ok()?;
     }
-    Ok(text)
+    Some(())
 }
 
 const PRINTED: &str = "the bytes end at 3, within the item
@@ -71,22 +73,46 @@ a list inside 16 lists at 32
 out of memory
 ";
 
-#[test]
-fn a_fault_is_printed_with_its_place(rt: HostRuntime) -> Result<(), Fail> {
-    is_text(printed(rt.alloc())?.as_str(), PRINTED)
+fn tell_faults(rt: &HostRuntime) -> bool {
+    let mut text = String::new(rt.alloc());
+    let _ = add_faults(&mut text);
+    told_text(
+        rt,
+        "a_fault_is_printed_with_its_place",
+        text.as_bytes(),
+        PRINTED,
+    )
 }
 
-// Lists and elements made of vectors, and the vectors taken out of them.
-fn in_and_out(alloc: Global) -> Result<(Vec<Item>, Vec<u16>), NoMemory> {
-    let items = Items::from_vec(vec![in alloc; ascii(alloc, b"A")?]?);
-    let numbers = U16s::from_vec(vec![in alloc; 7]?);
-    Ok((items.into_vec(), numbers.into_vec()))
+// Whether a list made of a vector of one item gives one back.
+fn is_item_back(alloc: Global) -> bool {
+    match ascii(alloc, b"A") {
+        Ok(item) => is_one_back(alloc, item),
+        Err(_) => false,
+    }
 }
 
-#[test]
-fn a_list_gives_its_vector_back(rt: HostRuntime) {
-    let made = in_and_out(rt.alloc());
-    assert!(rt;
-        matches!(&made, Ok((items, numbers)) if items.len() == 1 && numbers.as_slice() == [7].as_slice())
-    );
+fn is_one_back(alloc: Global, item: Item) -> bool {
+    match vec![in alloc; item] {
+        Ok(items) => Items::from_vec(items).into_vec().len() == 1,
+        Err(_) => false,
+    }
+}
+
+// Whether elements made of a vector give it back.
+fn is_element_back(alloc: Global) -> bool {
+    match vec![in alloc; 7_u16] {
+        Ok(numbers) => U16s::from_vec(numbers).into_vec().as_slice() == [7].as_slice(),
+        Err(_) => false,
+    }
+}
+
+/// Tells how each of these tests went, and gives whether all went well.
+pub fn tell(rt: &HostRuntime) -> bool {
+    let alloc = rt.alloc();
+    let are_back = is_item_back(alloc) && is_element_back(alloc);
+    let are_appended = are_model_and_revision(alloc);
+    told(rt, "a_list_of_two_texts_is_appended", are_appended)
+        & tell_faults(rt)
+        & told(rt, "a_list_gives_its_vector_back", are_back)
 }

@@ -1,10 +1,9 @@
 //! The longest lines that come in, and the lines that are printed (`tool_texts`).
 
-use crate::wanted::is_text;
+use crate::told::{told, told_text};
 use gem_ids::{CmdNo, LocId, ModuleId, PortNo, SlotNo, SubstrateId, Text80};
-use hsms_frame::{Bytes, NoMemory};
+use hsms_frame::Bytes;
 use std::alloc::Global;
-use std::test::Fail;
 use tool_events::{Command, SessionCause, Task};
 use tool_texts::{LINE_BYTES, Line, LineFault, OutLine, print_out_line, read_feed_line, read_line};
 
@@ -24,114 +23,116 @@ fn refused_anywhere(alloc: Global, line: &[u8]) -> Option<u64> {
     }
 }
 
-// A line of bytes, which has so many `A` behind its first two.
-fn long_line(alloc: Global, count: usize) -> Result<Vec<u8>, NoMemory> {
-    let mut line = Vec::from_slice(alloc, b"H ")?;
-    for _ in 0..count {
-        line.push(b'A')?;
-    }
-    Ok(line)
+// Adds a line of bytes, which has so many `A` behind its first two; whether there was memory for it.
+fn is_long_line(line: &mut Vec<u8>, count: usize) -> bool {
+    line.extend_from_slice(b"H ").is_ok() && line.resize(count.saturating_add(2), b'A').is_ok()
 }
 
-// How long the longest line is, how many bytes it gives, and the last of them.
-fn longest(alloc: Global) -> Result<(usize, usize, Option<u8>), Fail> {
-    let line = long_line(alloc, 599_998)?;
-    match read_feed_line(alloc, line.as_slice()) {
-        Ok(Line::Bytes(bytes)) => {
-            let bytes = bytes.as_slice();
-            Ok((line.len(), bytes.len(), bytes.last().copied()))
-        }
-        _ => Err(Fail::new("a line of bytes")),
+// Whether a line is read as 299,999 bytes, of which the last is 170.
+fn is_longest(alloc: Global, line: &[u8]) -> bool {
+    match &read_feed_line(alloc, line) {
+        Ok(Line::Bytes(bytes)) => are_longest(bytes.as_slice()),
+        _ => false,
     }
 }
 
-// Where a longer line is refused, and a longer comment.
-fn too_long(alloc: Global) -> Result<[Option<u64>; 2], Fail> {
-    let mut line = long_line(alloc, 599_999)?;
-    let bytes = refused(alloc, line.as_slice());
+fn are_longest(bytes: &[u8]) -> bool {
+    bytes.len() == 299_999 && bytes.last().copied() == Some(170)
+}
+
+// Whether a longer line is refused.
+fn is_too_long(alloc: Global, line: &[u8]) -> bool {
+    refused(alloc, line) == Some(600_000)
+}
+
+// Whether a comment is refused that is as long.
+fn is_comment_too_long(alloc: Global, line: &mut Vec<u8>) -> bool {
     if let Some(first) = line.first_mut() {
         *first = b'#';
     }
-    Ok([bytes, refused_anywhere(alloc, line.as_slice())])
+    refused_anywhere(alloc, line.as_slice()) == Some(600_000)
 }
 
-#[test]
-fn a_line_of_six_hundred_thousand_bytes_is_read_and_no_longer_one(
-    rt: HostRuntime,
-) -> Result<(), Fail> {
-    assert!(rt; longest(rt.alloc())? == (600_000, 299_999, Some(170)));
-    assert!(rt; too_long(rt.alloc())? == [Some(600_000); 2]);
-    assert_eq!(rt; LINE_BYTES, 600_000);
-    Ok(())
+// Whether 600,000 bytes are read, and no more.
+fn are_read(alloc: Global, line: &mut Vec<u8>) -> bool {
+    is_long_line(line, 599_998)
+        && line.len() == 600_000
+        && is_longest(alloc, line.as_slice())
+        && line.push(b'A').is_ok()
+        && is_too_long(alloc, line.as_slice())
+        && is_comment_too_long(alloc, line)
+        && LINE_BYTES == 600_000
 }
 
-// Lines as they are printed, each behind a byte that stood there.
-fn printed(alloc: Global, lines: &[OutLine]) -> Result<String, Fail> {
-    let mut out = Vec::new(alloc);
-    for line in lines {
-        out.push(b'|')?;
-        print_out_line(alloc, line, &mut out)?;
+// Adds a line as it is printed, behind a byte that stood there; whether there was memory for it.
+fn is_added(alloc: Global, out: &mut Vec<u8>, line: OutLine) -> bool {
+    out.push(b'|').is_ok() && print_out_line(alloc, &line, out).is_ok()
+}
+
+// Adds the line of a frame of two bytes.
+fn is_frame_added(alloc: Global, out: &mut Vec<u8>) -> bool {
+    match vec![in alloc; 10, 255] {
+        Ok(frame) => is_added(alloc, out, OutLine::Frame(Bytes::from_vec(frame))),
+        Err(_) => false,
     }
-    Ok(String::from_utf8_lossy(alloc, out.as_slice())?)
 }
 
-// Lines of a frame, of sessions, and of an operator.
-fn sessions(alloc: Global) -> Result<String, Fail> {
-    let frame = Bytes::from_vec(vec![in alloc; 10, 255]?);
-    let lines = [
-        OutLine::Frame(frame),
-        OutLine::Up(18_446_744_073_709_551_615),
-        OutLine::Ended(12, SessionCause::ShortLength),
-        OutLine::Oper(true),
-        OutLine::Oper(false),
-    ];
-    printed(alloc, &lines)
+// Adds lines of a frame, of sessions, and of an operator.
+fn are_sessions_added(alloc: Global, out: &mut Vec<u8>) -> bool {
+    is_frame_added(alloc, out)
+        && is_added(alloc, out, OutLine::Up(18_446_744_073_709_551_615))
+        && is_added(alloc, out, OutLine::Ended(12, SessionCause::ShortLength))
+        && is_added(alloc, out, OutLine::Oper(true))
+        && is_added(alloc, out, OutLine::Oper(false))
 }
 
-#[test]
-fn lines_of_sessions_frames_and_operators_are_printed(rt: HostRuntime) -> Result<(), Fail> {
-    is_text(
-        sessions(rt.alloc())?.as_str(),
+fn tell_sessions(rt: &HostRuntime) -> bool {
+    let mut out = Vec::new(rt.alloc());
+    are_sessions_added(rt.alloc(), &mut out);
+    told_text(
+        rt,
+        "lines_of_sessions_frames_and_operators_are_printed",
+        out.as_slice(),
         "|> 0AFF\n|+ 18446744073709551615\n|- 12 ShortLength\n|= ok\n|= no\n",
     )
 }
 
-// The line of a command, number 7 of module 3.
-fn command(task: Task) -> OutLine {
+// Adds the line of a command, number 7 of module 3.
+fn is_command_added(alloc: Global, out: &mut Vec<u8>, task: Task) -> bool {
     let number = CmdNo(7);
-    OutLine::Command(ModuleId(3), Command { number, task })
-}
-
-fn substrate() -> Result<SubstrateId, Fail> {
-    match SubstrateId::read(Text80::read(b"CAR01.02")?) {
-        Some(substrate) => Ok(substrate),
-        None => Err(Fail::new("no name of a substrate")),
-    }
+    is_added(
+        alloc,
+        out,
+        OutLine::Command(ModuleId(3), Command { number, task }),
+    )
 }
 
 // A substrate is picked.
-fn pick(sub: SubstrateId, from: LocId) -> OutLine {
-    command(Task::Pick { sub, from })
+fn is_pick_added(alloc: Global, out: &mut Vec<u8>, sub: SubstrateId, from: LocId) -> bool {
+    is_command_added(alloc, out, Task::Pick { sub, from })
 }
 
 // A substrate is placed.
-fn place(sub: SubstrateId, to: LocId) -> OutLine {
-    command(Task::Place { sub, to })
+fn is_place_added(alloc: Global, out: &mut Vec<u8>, sub: SubstrateId, to: LocId) -> bool {
+    is_command_added(alloc, out, Task::Place { sub, to })
 }
 
-fn commands(alloc: Global) -> Result<String, Fail> {
-    let sub = substrate()?;
-    let recipe = Text80::read(b"R1")?;
-    let lines = [
-        pick(sub, LocId::Slot(PortNo(1), SlotNo(2))),
-        pick(sub, LocId::Aligner),
-        place(sub, LocId::Chamber(8)),
-        place(sub, LocId::Arm),
-        place(sub, LocId::Slot(PortNo(4), SlotNo(25))),
-        command(Task::Align { sub }),
-        command(Task::Process { sub, recipe }),
-    ];
-    printed(alloc, &lines)
+fn are_moves_added(alloc: Global, out: &mut Vec<u8>, sub: SubstrateId) -> bool {
+    is_pick_added(alloc, out, sub, LocId::Slot(PortNo(1), SlotNo(2)))
+        && is_pick_added(alloc, out, sub, LocId::Aligner)
+        && is_place_added(alloc, out, sub, LocId::Chamber(8))
+        && is_place_added(alloc, out, sub, LocId::Arm)
+        && is_place_added(alloc, out, sub, LocId::Slot(PortNo(4), SlotNo(25)))
+}
+
+fn are_commands_added(alloc: Global, out: &mut Vec<u8>, sub: SubstrateId, recipe: Text80) -> bool {
+    are_moves_added(alloc, out, sub)
+        && is_command_added(alloc, out, Task::Align { sub })
+        && is_command_added(alloc, out, Task::Process { sub, recipe })
+}
+
+fn text(bytes: &[u8]) -> Text80 {
+    Text80::read(bytes).unwrap_or(Text80::empty())
 }
 
 const COMMANDS: &str = "|! 3 7 pick CAR01.02 P1.02
@@ -143,32 +144,59 @@ const COMMANDS: &str = "|! 3 7 pick CAR01.02 P1.02
 |! 3 7 process CAR01.02 R1
 ";
 
-#[test]
-fn commands_are_printed(rt: HostRuntime) -> Result<(), Fail> {
-    is_text(commands(rt.alloc())?.as_str(), COMMANDS)
-}
-
-// The line of a frame of so many bytes, each 171, behind a byte that stood there.
-fn frame_line(alloc: Global, count: usize) -> Result<Vec<u8>, NoMemory> {
-    let mut line = Vec::from_slice(alloc, b"|> ")?;
-    for _ in 0..count {
-        line.extend_from_slice(b"AB")?;
+fn tell_commands(rt: &HostRuntime) -> bool {
+    let mut out = Vec::new(rt.alloc());
+    if let Some(sub) = SubstrateId::read(text(b"CAR01.02")) {
+        are_commands_added(rt.alloc(), &mut out, sub, text(b"R1"));
     }
-    line.push(b'\n')?;
-    Ok(line)
+    told_text(rt, "commands_are_printed", out.as_slice(), COMMANDS)
 }
 
-// How long the line of such a frame is, and whether it is printed so.
-fn long_frame(alloc: Global, count: usize) -> Result<(usize, bool), Fail> {
-    let frame = OutLine::Frame(Bytes::from_vec(vec![in alloc; 171; count]?));
-    let told = printed(alloc, &[frame])?;
-    let want = frame_line(alloc, count)?;
-    Ok((want.len(), told.as_bytes() == want.as_slice()))
+// Adds the line of a frame of so many bytes, each 171, behind a byte that stood there, as it is to be printed.
+fn is_frame_line(line: &mut Vec<u8>, count: usize) -> bool {
+    line.extend_from_slice(b"|> ").is_ok()
+        && are_bytes_added(line, count)
+        && line.push(b'\n').is_ok()
 }
 
-// A frame with the greatest text: 14 bytes stand before its 262,144.
-#[test]
-fn a_long_frame_is_printed(rt: HostRuntime) -> Result<(), Fail> {
-    assert!(rt; long_frame(rt.alloc(), 262_158)? == (524_320, true));
-    Ok(())
+fn are_bytes_added(line: &mut Vec<u8>, count: usize) -> bool {
+    for _ in 0..count {
+        if line.extend_from_slice(b"AB").is_err() {
+            return false;
+        }
+    }
+    true
+}
+
+// Adds it as it is printed.
+fn is_long_frame_added(alloc: Global, out: &mut Vec<u8>, count: usize) -> bool {
+    match vec![in alloc; 171; count] {
+        Ok(frame) => is_added(alloc, out, OutLine::Frame(Bytes::from_vec(frame))),
+        Err(_) => false,
+    }
+}
+
+// Whether a frame with the greatest text is printed so: 14 bytes stand before its 262,144.
+fn is_long_frame(alloc: Global) -> bool {
+    let mut out = Vec::new(alloc);
+    let mut want = Vec::new(alloc);
+    is_long_frame_added(alloc, &mut out, 262_158)
+        && is_frame_line(&mut want, 262_158)
+        && want.len() == 524_320
+        && out.as_slice() == want.as_slice()
+}
+
+fn tell_longest(rt: &HostRuntime) -> bool {
+    let mut line = Vec::new(rt.alloc());
+    let are_read = are_read(rt.alloc(), &mut line);
+    let longest = "a_line_of_six_hundred_thousand_bytes_is_read_and_no_longer_one";
+    told(rt, longest, are_read)
+}
+
+/// Tells how each of these tests went, and gives whether all went well.
+pub fn tell(rt: &HostRuntime) -> bool {
+    tell_longest(rt)
+        & tell_sessions(rt)
+        & tell_commands(rt)
+        & told(rt, "a_long_frame_is_printed", is_long_frame(rt.alloc()))
 }

@@ -2,11 +2,11 @@
 
 ghost use Rattle.std.specs.Prelude.{◌≡◌, length, IfOk};
 
+use crate::told::told;
 use hsms_frame::Bytes;
 use note_line::{Around, Fate, Kind, Note, NoteLine, SpooledKinds};
 use spool::{Load, Unload};
 use std::alloc::{AllocError, Global};
-use std::test::Fail;
 
 const NO_KINDS: SpooledKinds = SpooledKinds {
     events: false,
@@ -129,15 +129,11 @@ fn are_sent(alloc: Global, line: &mut NoteLine) -> bool {
 }
 
 // The same, of a line with room for three in its spool, in which none is spooled.
-fn thousand_are_sent(alloc: Global) -> Result<bool, Fail> {
-    let mut line = NoteLine::new(alloc, 3, NO_KINDS)?;
-    Ok(are_sent(alloc, &mut line))
-}
-
-#[test]
-fn a_thousand_notes_are_sent_and_answered(rt: HostRuntime) -> Result<(), Fail> {
-    assert!(rt; thousand_are_sent(rt.alloc())?);
-    Ok(())
+fn thousand_are_sent(alloc: Global) -> bool {
+    match NoteLine::new(alloc, 3, NO_KINDS) {
+        Ok(mut line) => are_sent(alloc, &mut line),
+        Err(_) => false,
+    }
 }
 
 // ---- the spool
@@ -176,9 +172,8 @@ fn not_unloaded(line: &mut NoteLine) -> u64 {
 }
 
 // Whether a thousand events are spooled and sent in order, and the spool is empty then.
-fn thousand_are_unloaded(alloc: Global) -> Result<bool, Fail> {
-    let mut line = NoteLine::new(alloc, 1000, EVENTS)?;
-    Ok(are_spooled(alloc, &mut line) && not_unloaded(&mut line) == 0 && is_empty(&line))
+fn are_unloaded(alloc: Global, line: &mut NoteLine) -> bool {
+    are_spooled(alloc, line) && not_unloaded(line) == 0 && is_empty(line)
 }
 
 // Whether the spool is empty, and counts no note.
@@ -186,8 +181,22 @@ fn is_empty(line: &NoteLine) -> bool {
     has(line, Load::Inactive, 0, 0) && line.spooled_total() == 0
 }
 
-#[test]
-fn a_thousand_notes_are_spooled_and_sent_in_order(rt: HostRuntime) -> Result<(), Fail> {
-    assert!(rt; thousand_are_unloaded(rt.alloc())?);
-    Ok(())
+// The same, of a line with room for a thousand.
+fn thousand_are_unloaded(alloc: Global) -> bool {
+    match NoteLine::new(alloc, 1000, EVENTS) {
+        Ok(mut line) => are_unloaded(alloc, &mut line),
+        Err(_) => false,
+    }
+}
+
+/// Tells how each of these tests went, and gives whether all went well.
+pub fn tell(rt: &HostRuntime) -> bool {
+    let are_sent = thousand_are_sent(rt.alloc());
+    let are_unloaded = thousand_are_unloaded(rt.alloc());
+    told(rt, "a_thousand_notes_are_sent_and_answered", are_sent)
+        & told(
+            rt,
+            "a_thousand_notes_are_spooled_and_sent_in_order",
+            are_unloaded,
+        )
 }

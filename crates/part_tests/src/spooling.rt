@@ -2,10 +2,10 @@
 
 ghost use Rattle.std.specs.Prelude.{◌≤◌};
 
+use crate::told::told_none;
 use hsms_frame::Bytes;
 use spool::{Kind, Note, Pushed, Spool};
 use std::alloc::{AllocError, Global};
-use std::test::Fail;
 
 // Which note a push or a put back dropped, by its number.
 #[derive(Clone, Copy, PartialEq, Eq)]
@@ -187,70 +187,62 @@ struct Turn {
     overwrite: bool,
 }
 
-// The first of ten thousand calls, drawn from a seed, that shows another thing of a spool than of a plain list, and 0 if none
-// does.
+// The first of ten thousand calls, drawn from a seed, that shows another thing of a spool than of a plain list.
 fn other_call(
     alloc: Global,
     spool: &mut Spool,
     plain: &mut Plain,
     overwrite: bool,
     mut seed: u64,
-) -> u64 {
-    for number in 1..10_001 {
+) -> Option<u32> {
+    for number in 1..10_001_u32 {
         seed = drawn(seed);
         let call = call_of(seed);
         let turn = Turn {
             call,
-            number,
+            number: u64::from(number),
             overwrite,
         };
         if !is_same(alloc, spool, plain, turn) {
-            return number;
+            return Some(number);
         }
     }
-    0
+    None
 }
 
-// The same of a spool and a list of this capacity.
-fn other_than_plain(alloc: Global, capacity: u32, overwrite: bool) -> Result<u64, Fail>
+// The same of a spool and a list of this capacity; 0 where there is no memory.
+fn other_than_plain(alloc: Global, capacity: u32, overwrite: bool) -> Option<u32>
     requires some_room { 1 ≤ capacity }
     requires limit { capacity ≤ 65536 }
 {
-    let mut spool = Spool::new(alloc, capacity)?;
+    match Spool::new(alloc, capacity) {
+        Ok(mut spool) => other_of(alloc, &mut spool, capacity, overwrite),
+        Err(_) => Some(0),
+    }
+}
+
+fn other_of(alloc: Global, spool: &mut Spool, capacity: u32, overwrite: bool) -> Option<u32> {
     let mut plain = Plain {
         notes: Vec::new(alloc),
         capacity: capacity as usize,
         total: 0,
     };
-    Ok(other_call(
-        alloc,
-        &mut spool,
-        &mut plain,
-        overwrite,
-        u64::from(capacity),
-    ))
+    other_call(alloc, spool, &mut plain, overwrite, u64::from(capacity))
 }
 
-// The same for the capacities 1, 2, 3 and 7.
-fn other_than_plain_lists(alloc: Global, overwrite: bool) -> Result<[u64; 4], Fail> {
-    Ok([
-        other_than_plain(alloc, 1, overwrite)?,
-        other_than_plain(alloc, 2, overwrite)?,
-        other_than_plain(alloc, 3, overwrite)?,
-        other_than_plain(alloc, 7, overwrite)?,
-    ])
+// The same for the capacities 1, 2, 3 and 7, the first first.
+fn other_than_plain_lists(alloc: Global, overwrite: bool) -> Option<u32> {
+    other_than_plain(alloc, 1, overwrite)
+        .or(other_than_plain(alloc, 2, overwrite))
+        .or(other_than_plain(alloc, 3, overwrite))
+        .or(other_than_plain(alloc, 7, overwrite))
 }
 
-#[test]
-fn ten_thousand_calls_are_those_of_a_plain_list_that_is_overwritten(
-    rt: HostRuntime,
-) -> Result<(), Fail> {
-    assert_eq!(rt; other_than_plain_lists(rt.alloc(), true)?, [0; 4]);
-    Ok(())
-}
-
-#[test]
-fn ten_thousand_calls_are_those_of_a_plain_list_that_is_kept(rt: HostRuntime) -> Result<(), Fail> {
-    assert_eq!(rt; other_than_plain_lists(rt.alloc(), false)?, [0; 4]);
-    Ok(())
+/// Tells how each of these tests went, and gives whether all went well.
+pub fn tell(rt: &HostRuntime) -> bool {
+    let overwritten = "ten_thousand_calls_are_those_of_a_plain_list_that_is_overwritten";
+    let kept = "ten_thousand_calls_are_those_of_a_plain_list_that_is_kept";
+    let alloc = rt.alloc();
+    told_none(rt, overwritten, other_than_plain_lists(alloc, true))
+        & told_none(rt, kept, other_than_plain_lists(alloc, false))
 }

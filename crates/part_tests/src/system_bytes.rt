@@ -1,6 +1,7 @@
 //! System bytes of the tool's own primaries (`transactions`).
 
-use std::test::Fail;
+use crate::told::told;
+use std::alloc::Global;
 use transactions::{Transactions, What};
 
 // The system bytes of a primary of stream 6, function 11, which is the note of this number; none where there is no room.
@@ -33,13 +34,15 @@ fn are_passed_over(table: &mut Transactions) -> bool {
         && at_the_ends(table) == [Some(0), Some(4_294_967_295), Some(1)]
 }
 
-#[test]
-fn open_system_bytes_are_passed_over_and_zero_follows_the_last(
-    rt: HostRuntime,
-) -> Result<(), Fail> {
-    let mut table = Transactions::new(rt.alloc())?;
-    let are_passed_over = are_passed_over(&mut table);
-    drop(table);
-    assert!(rt; are_passed_over);
-    Ok(())
+fn zero_follows(alloc: Global) -> bool {
+    match Transactions::new(alloc) {
+        Ok(mut table) => are_passed_over(&mut table),
+        Err(_) => false,
+    }
+}
+
+/// Tells how this test went, and gives whether it went well.
+pub fn tell(rt: &HostRuntime) -> bool {
+    let follows = "open_system_bytes_are_passed_over_and_zero_follows_the_last";
+    told(rt, follows, zero_follows(rt.alloc()))
 }

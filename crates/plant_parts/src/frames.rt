@@ -77,6 +77,15 @@ pub fn reply_text(alloc: Global, reply: &GemReply) -> Result<Bytes, AllocError>
     text_of(alloc, &item)
 }
 
+/// The text of a reply whose parts can be sent, which is let go.
+pub fn text_of_reply(alloc: Global, reply: GemReply) -> Result<Bytes, AllocError>
+    requires { HasSendableParts reply }
+    ensures text { IfOk result (λ text. text ≡ plain (reply_body reply)) }
+    ensures short { IfOk result (λ text. length text ≤ 2 ^ 31) }
+{
+    reply_text(alloc, &reply)
+}
+
 /// The text of a reply to a message of carriers, ports and jobs, whose parts can be sent.
 pub fn shop_text(alloc: Global, reply: &ShopReply) -> Result<Bytes, AllocError>
     requires { HasShopParts reply.now }

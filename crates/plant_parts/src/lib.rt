@@ -13,7 +13,8 @@ mod settings;
 
 pub use firsts::{first_comm, first_constants, first_control, first_kinds, first_switch};
 pub use frames::{
-    data_frame, data_header, header_frame, identity_text, part, reply_text, shop_text, stream9_text,
+    data_frame, data_header, header_frame, identity_text, part, reply_text, shop_text,
+    stream9_text, text_of_reply,
 };
 pub use listed::{at_ports, by_comm, mode_row, note_fails, unload_row};
 pub use notes::{alcd, message_of, text_of, text_of_alarm};

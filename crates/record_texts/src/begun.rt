@@ -1,4 +1,4 @@
-//! The subjects of the texts, and how they begin.
+//! What the host may set, and the bodies of messages, and how they begin.
 
 use crate::set_constants::SetConstants;
 use crate::shop_messages::ShopMessages;

@@ -21,8 +21,18 @@ pub(crate) fn counted(text: &str) -> Option<(&str, u32)> {
     }
 }
 
+// Puts the bytes of pieces behind others.
+pub(crate) fn add_pieces(alloc: Global, pieces: &str, text: &mut Vec<u8>) -> Option<()> {
+    for piece in pieces.split(' ') {
+        let Some(()) = add_piece(alloc, piece, text) else {
+            return None;
+        };
+    }
+    Some(())
+}
+
 // Puts the bytes of a piece behind others, as often as it stands.
-pub(crate) fn add_piece(alloc: Global, piece: &str, text: &mut Vec<u8>) -> Option<()> {
+fn add_piece(alloc: Global, piece: &str, text: &mut Vec<u8>) -> Option<()> {
     let Some((digits, count)) = counted(piece) else {
         return None;
     };

@@ -15,28 +15,49 @@ use test_lines::words;
 // The text of the tool's reply of a function. Its parts stand in the line behind it.
 pub(crate) fn add_reply(alloc: Global, stream: u8, said: &str, answer: &mut String) -> Option<()> {
     let (first, more) = said.split_once(';').unwrap_or((said, ""));
-    let Ok(words) = words(alloc, first) else {
-        return None;
-    };
-    if !has_numbers(stream, words.as_slice(), more) {
-        return None;
+    match words(alloc, first) {
+        Ok(words) => add_reply_of(alloc, stream, words.as_slice(), more, answer),
+        Err(_) => None,
     }
-    match reply(alloc, stream, words.as_slice(), more) {
-        Some(reply) => add_sendable(alloc, &reply, answer),
+}
+
+// The same, of these words and what stands behind them.
+fn add_reply_of(
+    alloc: Global,
+    stream: u8,
+    words: &[&str],
+    more: &str,
+    answer: &mut String,
+) -> Option<()> {
+    if has_numbers(stream, words, more) {
+        add_some(alloc, &reply(alloc, stream, words, more), answer)
+    } else {
+        None
+    }
+}
+
+// The text of a reply, where there is one.
+fn add_some(alloc: Global, reply: &Option<ShopReply>, answer: &mut String) -> Option<()> {
+    match reply {
+        Some(reply) => add_sendable(alloc, reply, answer),
         None => None,
     }
 }
 
 // Whether the words and parts of a reply that stand for numbers are numbers.
 fn has_numbers(stream: u8, words: &[&str], more: &str) -> bool {
-    let function = small(words, 0);
-    let is_number = match (stream, function) {
-        (3, _) => word_at(words, 1).parse::<u8>().is_ok(),
-        (14, _) => word_at(words, 2).parse::<u8>().is_ok(),
+    let name = (stream, small(words, 0));
+    is_number(name, words) && are_parts(more, matches!(name, (16, 20)))
+}
+
+// Whether the word of a reply that stands for a number is one; so it is where there is none.
+fn is_number(name: (u8, u8), words: &[&str]) -> bool {
+    match name {
+        (3, _) => said_words::small(words, 1).is_some(),
+        (14, _) => said_words::small(words, 2).is_some(),
         (16, 22) => word_at(words, 1).parse::<u16>().is_ok(),
         _ => true,
-    };
-    is_number && are_parts(more, stream == 16 && function == 20)
+    }
 }
 
 // Whether each part is an error, or else a job with its state.
@@ -155,35 +176,50 @@ fn told(alloc: Global, words: &[&str], place: usize, more: &str) -> JobAcknowled
 
 // The jobs stand behind the second word.
 fn dequeued(alloc: Global, words: &[&str], more: &str) -> ShopReply {
+    let names = words.get(2..).unwrap_or(&[]);
+    ShopReply::S16F18(jobs(alloc, names), told(alloc, words, 1, more))
+}
+
+fn jobs(alloc: Global, names: &[&str]) -> Listed<Text80> {
     let mut jobs = Listed::new(alloc);
-    for word in words.iter().skip(2) {
-        let _ = jobs.push(text(word));
+    for name in names {
+        let _ = jobs.push(text(*name));
     }
-    ShopReply::S16F18(jobs, told(alloc, words, 1, more))
+    jobs
 }
 
 // Errors, each its code and its text.
 fn errors(alloc: Global, more: &str) -> Listed<ErrorPart> {
     let mut errors = Listed::new(alloc);
     for part in more.split(';') {
-        if let Some((code, words)) = part.trim().split_once(' ') {
-            let code = code.parse::<u8>().unwrap_or(0);
-            let text = text(words);
-            let _ = errors.push(ErrorPart { code, text });
-        }
+        add_error(part.trim(), &mut errors);
     }
     errors
+}
+
+// An error, its code and its text, where there is one.
+fn add_error(part: &str, errors: &mut Listed<ErrorPart>) {
+    if let Some((code, words)) = part.split_once(' ') {
+        let code = code.parse::<u8>().unwrap_or(0);
+        let text = text(words);
+        let _ = errors.push(ErrorPart { code, text });
+    }
 }
 
 // Jobs, each its name and the number of its state.
 fn states(alloc: Global, more: &str) -> Listed<JobState> {
     let mut states = Listed::new(alloc);
     for part in more.split(';') {
-        if let Some((job, state)) = part.trim().split_once(' ') {
-            add_states(text(job), state, &mut states);
-        }
+        add_job(part.trim(), &mut states);
     }
     states
+}
+
+// A job and its state, where there is one.
+fn add_job(part: &str, states: &mut Listed<JobState>) {
+    if let Some((job, state)) = part.split_once(' ') {
+        add_states(text(job), state, states);
+    }
 }
 
 // So many jobs of a name and a state.

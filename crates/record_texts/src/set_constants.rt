@@ -11,10 +11,36 @@ ghost use Rattle.data_variables.specs.Values.{AreConstants};
 use crate::ids::{add_number, numbers_in};
 use crate::pieces::add_encoded;
 use data_variables::{Constants, Val, ids, item_of, set_of};
-use said_words::{LineSubject, add, add_count, add_gap, add_truth};
+use said_words::{LineSubject, add, add_count, add_gap, add_truth, of_name};
 use secs_items::read_one;
 use std::alloc::Global;
 use test_lines::bytes;
+
+// What is said to the constants.
+#[derive(Clone, Copy)]
+enum Asks {
+    Set,
+    Values,
+    Ids,
+    Names,
+    Item,
+    Bytes,
+    Value,
+    Number,
+    Truth,
+}
+
+const ASKS: [(&str, Asks); 9] = [
+    ("set", Asks::Set),
+    ("values", Asks::Values),
+    ("ids", Asks::Ids),
+    ("names", Asks::Names),
+    ("item", Asks::Item),
+    ("bytes", Asks::Bytes),
+    ("value", Asks::Value),
+    ("number", Asks::Number),
+    ("truth", Asks::Truth),
+];
 
 /// The equipment constants.
 #[derive(Drop)]
@@ -45,18 +71,10 @@ impl SetConstants {
 impl LineSubject for SetConstants {
     fn say(&mut self, alloc: Global, said: &str, answer: &mut String) -> Option<()> {
         let (word, rest) = said.split_once(' ').unwrap_or((said, ""));
-        match word {
-            "set" => set(alloc, &mut self.constants, rest, answer),
-            "values" => {
-                add_values(&self.constants, answer);
-                Some(())
-            }
-            "ids" => {
-                add_ids(answer);
-                Some(())
-            }
-            "names" => add_names(alloc, &self.constants, rest, answer),
-            _ => say(alloc, &self.constants, word, rest, answer),
+        match of_name(&ASKS, word) {
+            Some(Asks::Set) => set(alloc, &mut self.constants, rest, answer),
+            Some(asks) => say(alloc, &self.constants, asks, rest, answer),
+            None => None,
         }
     }
 }
@@ -65,30 +83,33 @@ impl LineSubject for SetConstants {
 fn say(
     alloc: Global,
     constants: &Constants,
-    word: &str,
+    asks: Asks,
     rest: &str,
     answer: &mut String,
 ) -> Option<()> {
-    match word {
-        "item" => add_item(alloc, rest, answer),
-        "bytes" => add_value_bytes(alloc, rest, answer),
-        _ => match rest.parse::<u32>() {
-            Ok(ecid) => show(constants, word, ecid, answer),
-            Err(_) => None,
-        },
+    match asks {
+        Asks::Values => add_values(constants, answer),
+        Asks::Ids => add_ids(answer),
+        Asks::Names => return add_names(alloc, constants, rest, answer),
+        Asks::Item => return add_item(alloc, rest, answer),
+        Asks::Bytes => return add_value_bytes(alloc, rest, answer),
+        _ => return show(constants, asks, rest, answer),
     }
+    Some(())
 }
+
+// What these words stand for.
+const VALUES: [(&str, Option<Val>); 3] = [
+    ("true", Some(Val::Truth(true))),
+    ("false", Some(Val::Truth(false))),
+    ("other", None),
+];
 
 // The value that a word stands for. None: it stands for an item that is no value of the constant.
 fn val(word: &str) -> Option<Option<Val>> {
-    match word {
-        "true" => Some(Some(Val::Truth(true))),
-        "false" => Some(Some(Val::Truth(false))),
-        "other" => Some(None),
-        _ => match word.parse::<u32>() {
-            Ok(number) => Some(Some(Val::Number(number))),
-            Err(_) => None,
-        },
+    match word.parse::<u32>() {
+        Ok(number) => Some(Some(Val::Number(number))),
+        Err(_) => of_name(&VALUES, word),
     }
 }
 
@@ -106,25 +127,30 @@ fn constant(text: &str) -> Option<(u32, Option<Val>)> {
 // The constants of a message, each with its new value.
 fn add_sets(sets: &mut Vec<(u32, Option<Val>)>, text: &str) -> Option<()> {
     for one in text.split(';') {
-        let Some(constant) = constant(one.trim()) else {
-            return None;
-        };
-        let Ok(()) = sets.push(constant) else {
+        let Some(()) = add_set(sets, one.trim()) else {
             return None;
         };
     }
     Some(())
 }
 
+fn add_set(sets: &mut Vec<(u32, Option<Val>)>, text: &str) -> Option<()> {
+    match constant(text) {
+        Some(constant) => sets.push(constant).ok(),
+        None => None,
+    }
+}
+
 fn set(alloc: Global, constants: &mut Constants, text: &str, answer: &mut String) -> Option<()> {
     let mut sets = Vec::new(alloc);
-    if text != "-" {
-        let Some(()) = add_sets(&mut sets, text) else {
-            return None;
-        };
+    let told = match text {
+        "-" => Some(()),
+        _ => add_sets(&mut sets, text),
+    };
+    if told.is_some() {
+        add_count(answer, u64::from(constants.set_all(sets.as_slice())));
     }
-    add_count(answer, u64::from(constants.set_all(sets.as_slice())));
-    Some(())
+    told
 }
 
 fn add_value(answer: &mut String, value: Option<Val>) {
@@ -150,12 +176,14 @@ fn add_ids(answer: &mut String) {
 }
 
 // What a constant is.
-fn show(constants: &Constants, word: &str, ecid: u32, answer: &mut String) -> Option<()> {
-    match word {
-        "value" => add_value(answer, constants.get(ecid)),
-        "number" => add_count(answer, u64::from(constants.number(ecid))),
-        "truth" => add_truth(answer, constants.truth(ecid)),
-        _ => return None,
+fn show(constants: &Constants, asks: Asks, ecid: &str, answer: &mut String) -> Option<()> {
+    let Ok(ecid) = ecid.parse::<u32>() else {
+        return None;
+    };
+    match asks {
+        Asks::Value => add_value(answer, constants.get(ecid)),
+        Asks::Number => add_count(answer, u64::from(constants.number(ecid))),
+        _ => add_truth(answer, constants.truth(ecid)),
     }
     Some(())
 }

@@ -14,8 +14,25 @@
 
 use crate::primaries::{add_each, add_read};
 use crate::replies::add_reply;
-use said_words::{LineSubject, add, add_gap};
+use said_words::{LineSubject, add, add_gap, of_name};
 use std::alloc::Global;
+
+// At what an answer is divided, by the word in front of the line.
+const GAPS: [(&str, &str); 3] = [("parts", ", "), ("words", " "), ("pairs", "0102")];
+
+// What is asked of a message.
+#[derive(Clone, Copy)]
+enum Asks {
+    Read,
+    Each,
+    Reply,
+}
+
+const ASKS: [(&str, Asks); 3] = [
+    ("read", Asks::Read),
+    ("each", Asks::Each),
+    ("reply", Asks::Reply),
+];
 
 /// The bodies of the messages of one stream.
 #[derive(Clone, Copy)]
@@ -26,25 +43,24 @@ pub(crate) struct ShopMessages {
 
 impl LineSubject for ShopMessages {
     fn say(&mut self, alloc: Global, said: &str, answer: &mut String) -> Option<()> {
-        let stream = self.stream;
-        match said.split_once(' ') {
-            Some(("parts", rest)) => add_counted(alloc, stream, rest, ", ", answer),
-            Some(("words", rest)) => add_counted(alloc, stream, rest, " ", answer),
-            Some(("pairs", rest)) => add_counted(alloc, stream, rest, "0102", answer),
-            _ => tell(alloc, stream, said, answer),
+        let (word, rest) = said.split_once(' ').unwrap_or(("", ""));
+        match of_name(&GAPS, word) {
+            Some(gap) => add_counted(alloc, self.stream, rest, gap, answer),
+            None => tell(alloc, self.stream, said, answer),
         }
     }
 }
 
 fn tell(alloc: Global, stream: u8, said: &str, answer: &mut String) -> Option<()> {
-    match said.split_once(' ') {
-        Some(("read", rest)) => add_read(alloc, stream, rest, answer),
-        Some(("each", rest)) => {
+    let (word, rest) = said.split_once(' ').unwrap_or(("", ""));
+    match of_name(&ASKS, word) {
+        Some(Asks::Read) => add_read(alloc, stream, rest, answer),
+        Some(Asks::Each) => {
             add_each(alloc, stream, rest, answer);
             Some(())
         }
-        Some(("reply", rest)) => add_reply(alloc, stream, rest, answer),
-        _ => None,
+        Some(Asks::Reply) => add_reply(alloc, stream, rest, answer),
+        None => None,
     }
 }
 

@@ -7,8 +7,38 @@ ghost use Rattle.std.specs.Prelude.{◌≤◌};
 
 use crate::ids::{add_number, close_list};
 use event_reports::Alarms;
-use said_words::{LineSubject, add_count, add_truth};
+use said_words::{LineSubject, add_count, add_truth, of_name};
 use std::alloc::Global;
+
+// What an alarm may be.
+#[derive(Clone, Copy)]
+enum Is {
+    Set,
+    Enabled,
+    Known,
+}
+
+// What is said to alarms.
+#[derive(Clone, Copy)]
+enum Asks {
+    Enable(bool),
+    Set,
+    Clear,
+    Is(Is),
+}
+
+const ASKS: [(&str, Asks); 10] = [
+    ("enable", Asks::Enable(true)),
+    ("disable", Asks::Enable(false)),
+    ("set", Asks::Set),
+    ("clear", Asks::Clear),
+    ("is_set", Asks::Is(Is::Set)),
+    ("are_set", Asks::Is(Is::Set)),
+    ("is_enabled", Asks::Is(Is::Enabled)),
+    ("are_enabled", Asks::Is(Is::Enabled)),
+    ("is_known", Asks::Is(Is::Known)),
+    ("alarms", Asks::Is(Is::Known)),
+];
 
 /// The alarms of a tool.
 #[derive(Drop)]
@@ -33,56 +63,58 @@ impl ToolAlarms {
 impl LineSubject for ToolAlarms {
     fn say(&mut self, _alloc: Global, said: &str, answer: &mut String) -> Option<()> {
         match said.split_once(' ') {
-            Some((word, "all")) => enable(&mut self.alarms, word, None, answer),
-            Some((word, alid)) => match alid.parse::<u32>() {
-                Ok(alid) => change(&mut self.alarms, word, alid, answer),
-                Err(_) => None,
+            Some((word, alid)) => match of_name(&ASKS, word) {
+                Some(asks) => say(&mut self.alarms, asks, alid, answer),
+                None => None,
             },
-            None => add_all(&self.alarms, said, answer),
+            None => match of_name(&ASKS, said) {
+                Some(Asks::Is(is)) => add_all(&self.alarms, is, answer),
+                _ => None,
+            },
         }
     }
 }
 
-// An alarm or all of them are enabled or disabled: ACKC5.
-fn enable(alarms: &mut Alarms, word: &str, alid: Option<u32>, answer: &mut String) -> Option<()> {
-    let code = match word {
-        "enable" => alarms.enable(true, alid),
-        "disable" => alarms.enable(false, alid),
-        _ => return None,
-    };
-    add_count(answer, u64::from(code));
-    Some(())
-}
-
-// Sets or clears an alarm, and tells whether it changed; or tells what it is.
-fn change(alarms: &mut Alarms, word: &str, alid: u32, answer: &mut String) -> Option<()> {
-    match word {
-        "set" => add_truth(answer, alarms.set(alid)),
-        "clear" => add_truth(answer, alarms.clear(alid)),
-        _ => match is_so(alarms, word, alid) {
-            Some(is) => add_truth(answer, is),
-            None => return enable(alarms, word, Some(alid), answer),
+// What is said to an alarm, or all of them are enabled or disabled.
+fn say(alarms: &mut Alarms, asks: Asks, alid: &str, answer: &mut String) -> Option<()> {
+    match alid.parse::<u32>() {
+        Ok(alid) => add_changed(alarms, asks, alid, answer),
+        Err(_) => match (asks, alid) {
+            (Asks::Enable(on), "all") => enable(alarms, on, None, answer),
+            _ => return None,
         },
     }
     Some(())
 }
 
-fn is_so(alarms: &Alarms, asked: &str, alid: u32) -> Option<bool> {
-    match asked {
-        "is_set" | "are_set" => Some(alarms.is_set(alid)),
-        "is_enabled" | "are_enabled" => Some(alarms.is_enabled(alid)),
-        "is_known" | "alarms" => Some(alarms.is_known(alid)),
-        _ => None,
+// One alarm or all of them are enabled or disabled: ACKC5.
+fn enable(alarms: &mut Alarms, on: bool, alid: Option<u32>, answer: &mut String) {
+    add_count(answer, u64::from(alarms.enable(on, alid)));
+}
+
+// Sets or clears an alarm, and tells whether it changed; or tells what it is.
+fn add_changed(alarms: &mut Alarms, asks: Asks, alid: u32, answer: &mut String) {
+    match asks {
+        Asks::Enable(on) => enable(alarms, on, Some(alid), answer),
+        Asks::Set => add_truth(answer, alarms.set(alid)),
+        Asks::Clear => add_truth(answer, alarms.clear(alid)),
+        Asks::Is(is) => add_truth(answer, is_so(alarms, is, alid)),
+    }
+}
+
+fn is_so(alarms: &Alarms, is: Is, alid: u32) -> bool {
+    match is {
+        Is::Set => alarms.is_set(alid),
+        Is::Enabled => alarms.is_enabled(alid),
+        Is::Known => alarms.is_known(alid),
     }
 }
 
 // All alarms of which it is so.
-fn add_all(alarms: &Alarms, asked: &str, answer: &mut String) -> Option<()> {
+fn add_all(alarms: &Alarms, is: Is, answer: &mut String) -> Option<()> {
     for line in alarms.lines() {
-        match is_so(alarms, asked, line.alid) {
-            Some(true) => add_number(answer, line.alid),
-            Some(false) => {}
-            None => return None,
+        if is_so(alarms, is, line.alid) {
+            add_number(answer, line.alid);
         }
     }
     close_list(answer);

@@ -14,8 +14,39 @@ use crate::ids::{add_number, close_list, numbers_in};
 use event_reports::{Reports, Values};
 use gem_ids::Ids;
 use item_model::{Item, Items, NoMemory};
-use said_words::{LineSubject, add_count};
+use said_words::{LineSubject, add_count, of_name};
 use std::alloc::Global;
+
+// What is shown of a report or an event.
+#[derive(Clone, Copy)]
+enum Shows {
+    Event,
+    Report,
+    Values,
+}
+
+// What is said to reports.
+#[derive(Clone, Copy)]
+enum Asks {
+    Define,
+    Many,
+    Link,
+    Enable(bool),
+    Enabled,
+    Show(Shows),
+}
+
+const ASKS: [(&str, Asks); 9] = [
+    ("define", Asks::Define),
+    ("many", Asks::Many),
+    ("link", Asks::Link),
+    ("enable", Asks::Enable(true)),
+    ("disable", Asks::Enable(false)),
+    ("enabled", Asks::Enabled),
+    ("event", Asks::Show(Shows::Event)),
+    ("report", Asks::Show(Shows::Report)),
+    ("values", Asks::Show(Shows::Values)),
+];
 
 /// The reports of a tool.
 #[derive(Drop)]
@@ -41,28 +72,28 @@ impl LineSubject for ToolReports {
         let Some((word, rest)) = said.split_once(' ') else {
             return None;
         };
-        match word {
-            "define" => define(alloc, &mut self.reports, entries(alloc, rest), answer),
-            "many" => define(alloc, &mut self.reports, many(alloc, rest), answer),
-            "link" => link(alloc, &mut self.reports, entries(alloc, rest), answer),
-            _ => say(alloc, &mut self.reports, word, rest, answer),
+        match of_name(&ASKS, word) {
+            Some(asks) => say(alloc, &mut self.reports, asks, rest, answer),
+            None => None,
         }
     }
 }
 
-// Events are enabled or not; or what the reports say.
+// Reports are defined or linked; or events are enabled or not; or what the reports say.
 fn say(
     alloc: Global,
     reports: &mut Reports,
-    word: &str,
+    asks: Asks,
     rest: &str,
     answer: &mut String,
 ) -> Option<()> {
-    match word {
-        "enable" => enable(alloc, reports, true, rest, answer),
-        "disable" => enable(alloc, reports, false, rest, answer),
-        "enabled" => add_enabled(alloc, reports, rest, answer),
-        _ => show(alloc, reports, word, rest, answer),
+    match asks {
+        Asks::Define => change(alloc, reports, false, entries(alloc, rest), answer),
+        Asks::Many => change(alloc, reports, false, many(alloc, rest), answer),
+        Asks::Link => change(alloc, reports, true, entries(alloc, rest), answer),
+        Asks::Enable(on) => enable(alloc, reports, on, rest, answer),
+        Asks::Enabled => add_enabled(alloc, reports, rest, answer),
+        Asks::Show(shows) => show(alloc, reports, shows, rest, answer),
     }
 }
 
@@ -86,28 +117,17 @@ const NUMBERS: Numbers = Numbers { but: 3 };
 
 // ---- what changes the reports
 
-// Defines reports.
-fn define(
+// Links reports to events, or defines reports.
+fn change(
     alloc: Global,
     reports: &mut Reports,
+    is_link: bool,
     entries: Option<Vec<(u32, Ids)>>,
     answer: &mut String,
 ) -> Option<()> {
     match &entries {
+        Some(entries) if is_link => add_code(answer, reports.link(alloc, entries.as_slice())),
         Some(entries) => add_code(answer, reports.define(alloc, entries.as_slice())),
-        None => None,
-    }
-}
-
-// Links reports to events.
-fn link(
-    alloc: Global,
-    reports: &mut Reports,
-    entries: Option<Vec<(u32, Ids)>>,
-    answer: &mut String,
-) -> Option<()> {
-    match &entries {
-        Some(entries) => add_code(answer, reports.link(alloc, entries.as_slice())),
         None => None,
     }
 }
@@ -214,22 +234,27 @@ fn add_those_enabled(answer: &mut String, reports: &Reports, ceids: &[u32]) {
 }
 
 // What a report or an event tells.
-fn show(alloc: Global, reports: &Reports, word: &str, id: &str, answer: &mut String) -> Option<()> {
+fn show(
+    alloc: Global,
+    reports: &Reports,
+    shows: Shows,
+    id: &str,
+    answer: &mut String,
+) -> Option<()> {
     let Ok(id) = id.parse::<u32>() else {
         return None;
     };
-    match items_of(alloc, reports, word == "event", id) {
-        Some(items) => add_items(answer, word, items.as_slice()),
+    match &items_of(alloc, reports, shows, id) {
+        Some(items) => add_items(answer, shows, items.as_slice()),
         None => None,
     }
 }
 
-fn items_of(alloc: Global, reports: &Reports, is_event: bool, id: u32) -> Option<Items> {
+fn items_of(alloc: Global, reports: &Reports, shows: Shows, id: u32) -> Option<Items> {
     let mut out = Items::new(alloc);
-    let told = if is_event {
-        reports.report(alloc, id, &NUMBERS, &mut out)
-    } else {
-        reports.one(alloc, id, &NUMBERS, &mut out)
+    let told = match shows {
+        Shows::Event => reports.report(alloc, id, &NUMBERS, &mut out),
+        _ => reports.one(alloc, id, &NUMBERS, &mut out),
     };
     match told {
         Ok(()) => Some(out),
@@ -237,12 +262,11 @@ fn items_of(alloc: Global, reports: &Reports, is_event: bool, id: u32) -> Option
     }
 }
 
-fn add_items(answer: &mut String, word: &str, items: &[Item]) -> Option<()> {
-    match word {
-        "event" => return add_reports(answer, items),
-        "report" => add_values(answer, items),
-        "values" => add_count(answer, items.len() as u64),
-        _ => return None,
+fn add_items(answer: &mut String, shows: Shows, items: &[Item]) -> Option<()> {
+    match shows {
+        Shows::Event => return add_reports(answer, items),
+        Shows::Report => add_values(answer, items),
+        Shows::Values => add_count(answer, items.len() as u64),
     }
     Some(())
 }

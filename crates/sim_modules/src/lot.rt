@@ -35,17 +35,31 @@ pub fn lot_line(
     ensures ok { OnOk result (out.new.items ≡ out.old.items ++ lot_line config.now k i) }
     ensures no_memory { OnErr result (out.new.items ≡ out.old.items) }
 {
-    let line = match i {
-        1 => placed(alloc, config.ports, k)?,
-        2 => proceed_line(alloc, config, k, 4 * k - 1)?,
-        3 => proceed_line(alloc, config, k, 4 * k)?,
-        4 => process_job_line(alloc, config, k, 4 * k + 1)?,
-        5 => control_job_line(alloc, config, k, 4 * k + 2)?,
-        6 => removed(alloc, config.ports, k)?,
-        _ => return Ok(false),
-    };
+    if i > 6 {
+        return Ok(false);
+    }
+    let line = line_of(alloc, config, k, i)?;
     out.extend_from_slice(line.as_slice())?;
     Ok(true)
+}
+
+// The i-th of the six lines of a carrier.
+fn line_of(alloc: Global, config: &Config, k: u32, i: u32) -> Result<Vec<u8>, NoMemory>
+    requires config { IsConfig config.now }
+    requires first { 1 ≤ k }
+    requires last { k ≤ 10000 }
+    requires line { 1 ≤ i }
+    requires end { i ≤ 6 }
+    ensures { IfOk result (λ line. line.items ≡ lot_line config.now k i) }
+{
+    match i {
+        1 => placed(alloc, config.ports, k),
+        2 => proceed_line(alloc, config, k, 4 * k - 1),
+        3 => proceed_line(alloc, config, k, 4 * k),
+        4 => process_job_line(alloc, config, k, 4 * k + 1),
+        5 => control_job_line(alloc, config, k, 4 * k + 2),
+        _ => removed(alloc, config.ports, k),
+    }
 }
 
 // ---- names and numbers

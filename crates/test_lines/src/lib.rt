@@ -11,4 +11,4 @@ mod line_words;
 mod said;
 
 pub use line_words::{bytes, header, nothing, number, small, word, words};
-pub use said::{Subject, Texts, answers, play_folder};
+pub use said::{Subject, Texts, answers, play_folder, play_lines};

@@ -93,8 +93,9 @@ struct Said<'t, T> {
     texts: &'t T,
 }
 
-/// Says the lines below the first to the subject that this names, as `Player::play` does for `Said`.
-fn play_lines<T: Texts>(
+/// Says the lines below the first to the subject that this names, and tells the first that is answered otherwise, or why nothing
+/// can be said. Some line has to say what is to be answered.
+pub fn play_lines<T: Texts>(
     alloc: Global,
     texts: &T,
     first: &Line<'_>,

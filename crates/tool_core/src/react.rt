@@ -13,6 +13,7 @@ ghost use Rattle.history_totals.specs.Counts.{completed_from, completed_by};
 ghost use Rattle.tool_core.specs.Steps.{done, StepsFrom, Steps};
 
 use core_host::header_of;
+use core_settling::follow;
 use core_shop::{Reaction, end_for, is_due};
 use core_state::Plant;
 use gem_ids::Moment;
@@ -162,7 +163,7 @@ fn step(
     if !act(plant, alloc, before, event, reaction)? {
         return Ok(false);
     }
-    *completed = core_shop::follow(plant, alloc)?;
+    *completed = follow(plant, alloc)?;
     Ok(true)
 }
 

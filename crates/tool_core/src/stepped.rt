@@ -1,5 +1,6 @@
 //! A step of the plant, with what the core keeps of it.
-ghost use Rattle.std.specs.Prelude.{◌≡◌, ◌+◌, ◌^◌, ◌<◌, ◌≤◌, None, IfOk, IfSome};
+ghost use Rattle.std.specs.Prelude.{◌≡◌, ◌+◌, ◌^◌, ◌<◌, ◌≤◌, ◌⊎◌, true, false, None, Ok, IfOk, IfErr, IfSome, IfNone, IsErr, IsErrOf};
+ghost use Rattle.tool_events.specs.declared.answer.PostFault.TheVariants as PostFault;
 ghost use Rattle.tool_events.specs.Sizes.{event_bytes};
 ghost use Rattle.gem_model.specs.State.{is_up};
 ghost use Rattle.gem_model.specs.Step.{step};
@@ -14,7 +15,7 @@ use core_state::Plant;
 use gem_ids::Moment;
 use history_totals::Totals;
 use std::alloc::{AllocError, Global};
-use tool_events::{Answer, Event, Signal};
+use tool_events::{Answer, Event, PostFault, Signal};
 
 /// How many commands an event ends by Done, 0 or 1.
 fn done_by(plant: &Plant, event: &Event) -> u64
@@ -56,34 +57,48 @@ pub struct Stepped {
     pub totals: Totals,
 }
 
-/// Does an event that is posted at a moment, behind these counts. None: it has to wait. After want of memory, and where it has to
-/// wait, nothing is said of the plant. The text of an event has at most 536,870,912 bytes.
+/// Does an event that is posted at a moment, behind these counts. `Again`: it has to wait. `NoMemory`: memory ran out. Then nothing
+/// is said of the plant. The text of an event has at most 536,870,912 bytes.
 pub fn take_event(
     plant: &mut Plant,
     alloc: Global,
     at: Moment,
     event: &Event,
     before: &Totals,
-) -> Result<Option<Stepped>, AllocError>
+) -> Result<Stepped, PostFault>
     requires room { plant.old.link.session + 1 < 2 ^ 64 }
     requires short { event_bytes event.now ≤ 2 ^ 29 }
-    ensures steps { IfOk result (λ found. IfSome found (λ s. Steps plant.old at.0 event.now s.reaction plant.new)) }
-    ensures sessions { IfOk result (λ found. IfSome found (λ s. s.sessions ≡ plant.new.link.session)) }
-    ensures up { IfOk result (λ found. IfSome found (λ s. s.is_up ≡ is_up plant.new)) }
-    ensures totals { IfOk result (λ found. IfSome found (λ s. s.totals
-        ≡ totals_at plant.new (before.now.done + done_by plant.old event.now) (before.now.completed + counted (completed_by plant.old at.0 event.now)))) }
-    ensures waits { IfOk result (λ found. found ≡ None → step plant.old at.0 event.now ≡ None) }
+    ensures steps { IfOk result (λ s. Steps plant.old at.0 event.now s.reaction plant.new) }
+    ensures sessions { IfOk result (λ s. s.sessions ≡ plant.new.link.session) }
+    ensures up { IfOk result (λ s. s.is_up ≡ is_up plant.new) }
+    ensures totals { IfOk result (λ s. s.totals
+        ≡ totals_at plant.new (before.now.done + done_by plant.old event.now) (before.now.completed + counted (completed_by plant.old at.0 event.now))) }
+    ensures waits { IsErrOf result PostFault.Again → step plant.old at.0 event.now ≡ None }
+    ensures fault { IfErr result (λ fault. (fault ≡ PostFault.Again) ⊎ (fault ≡ PostFault.NoMemory)) }
 {
     let mut reaction = Reaction::answered(Answer::Done);
     let done = done_by(plant, event);
     let mut completed = 0;
-    if !react(plant, alloc, at, event, &mut reaction, &mut completed)? {
-        return Ok(None);
+    let reacted = react(plant, alloc, at, event, &mut reaction, &mut completed);
+    if let Some(fault) = fault_of(reacted) {
+        return Err(fault);
     }
-    Ok(Some(Stepped {
+    Ok(Stepped {
         reaction,
         sessions: plant.session_count(),
         is_up: plant.is_up(),
         totals: totals_behind(before, plant, done, completed),
-    }))
+    })
+}
+
+/// Why an event is not taken: it has to wait, or memory ran out.
+fn fault_of(reacted: Result<bool, AllocError>) -> Option<PostFault>
+    ensures none { IfNone result (reacted ≡ Ok true) }
+    ensures some { IfSome result (λ fault. ((fault ≡ PostFault.Again) × (reacted ≡ Ok false)) ⊎ ((fault ≡ PostFault.NoMemory) × IsErr reacted)) }
+{
+    match reacted {
+        Ok(true) => None,
+        Ok(false) => Some(PostFault::Again),
+        Err(_) => Some(PostFault::NoMemory),
+    }
 }

@@ -1,5 +1,6 @@
 //! The core: the plant and the history that led to it.
-ghost use Rattle.std.specs.Prelude.{ℕ, ◌≡◌, ◌≤◌, ◌+◌, ◌^◌, ◌<◌, ◌↔◌, [], ◌∷◌, ◌++◌, length, IsTrue, true, false, ◌&&◌, ◌||◌, not, nat_le, nat_lt, Some, None, Err, OnOk, OnErr, IfOk, IfSome, IsErrOf, if◌then◌else◌};
+ghost use Rattle.std.specs.Prelude.{ℕ, ◌≡◌, ◌≤◌, ◌+◌, ◌^◌, ◌<◌, ◌↔◌, [], ◌∷◌, ◌++◌, length, IsTrue, true, false, ◌&&◌, ◌||◌, not, nat_le, nat_lt, Some, None, Err, OnOk, OnErr, IfOk, IfSome, IsErrOf, if◌then◌else◌, vec_len, vec_capacity};
+ghost use Rattle.core_view.specs.Counts.{count_of};
 ghost use Rattle.tool_events.specs.declared.answer.PostFault.TheVariants as PostFault;
 ghost use Rattle.tool_events.specs.declared.event.SessionEnd.{SessionEnd};
 ghost use Rattle.tool_events.specs.Configs.{IsConfig};
@@ -68,6 +69,25 @@ impl Model for Core {
     ghost view = { λ c. record { config = c.config; state = state_of c.config c.entries.items; history = c.entries.items; is_whole = c.is_whole } };
 
     ghost invariant = { λ c. Replays c.config c.boxed.plant.value c.entries.items c.ends.items c.written c.bytes c.sessions c.totals c.is_up c.is_whole };
+}
+
+/// Makes room for one more entry, for the end of a session, and for the count of the session that is up.
+fn make_space(
+    entries: &mut Vec<Entry>,
+    ends: &mut Vec<SessionEnd>,
+    written: &mut SessionCounts,
+    up: Option<u64>,
+) -> Result<(), AllocError>
+    ensures entries { entries.new.items ≡ entries.old.items }
+    ensures ends { ends.new.items ≡ ends.old.items }
+    ensures counts { (k : ℕ) → count_of written.new k ≡ count_of written.old k }
+    ensures for_entry { OnOk result (vec_len entries.new < vec_capacity entries.new) }
+    ensures for_end { OnOk result (vec_len ends.new < vec_capacity ends.new) }
+    ensures for_session { OnOk result (IfSome up (λ k. k ≤ length written.new)) }
+{
+    entries.reserve(1)?;
+    ends.reserve(1)?;
+    make_room(written, up)
 }
 
 impl Values for Core {
@@ -269,24 +289,13 @@ impl Core {
         if must_wait(&self.boxed.plant, at, &event) {
             return Err(PostFault::Again);
         }
-        let Ok(()) = self.entries.reserve(1) else {
-            return Err(PostFault::NoMemory);
-        };
-        let Ok(()) = self.ends.reserve(1) else {
-            return Err(PostFault::NoMemory);
-        };
         let up = self.session_up();
-        let Ok(()) = make_room(&mut self.written, up) else {
+        let Ok(()) = make_space(&mut self.entries, &mut self.ends, &mut self.written, up) else {
             return Err(PostFault::NoMemory);
         };
         // What an event that finds no memory leaves of the plant counts for nothing.
         self.is_whole = false;
-        let Ok(found) = take_event(&mut self.boxed.plant, alloc, at, &event, &self.totals) else {
-            return Err(PostFault::NoMemory);
-        };
-        let Some(told) = found else {
-            return Err(PostFault::Again);
-        };
+        let told = take_event(&mut self.boxed.plant, alloc, at, &event, &self.totals)?;
         add_taken(&mut self.written, &event, &told.reaction.answer);
         self.bytes += event_bytes(&event);
         self.sessions = told.sessions;

@@ -18,6 +18,7 @@ ghost use Rattle.floor_model.specs.Signals.{is_no_module};
 
 use crate::jobs::{CONTROL_JOB, PROCESS_JOB};
 use crate::naming::place_name;
+use crate::opening::{first_equipment, first_places, first_work};
 use crate::readiness::{ACCESSING, LOCATION, PROCESSING, TRANSPORT};
 use crate::rows::MOVES;
 use crate::tracking::Substrates;
@@ -76,15 +77,33 @@ impl ToolFloor {
         requires { ports ≤ most_ports }
         ensures { IfOk result (λ floor. floor ≡ opening ports chambers recipes.now) }
     {
-        // The borrow checker has to be told here of the types that a command holds.
-        let _: Option<(Command, Task)> = None;
-        let shop = ShopFloor::new(alloc, ports)?;
-        let modules = Modules::new(alloc, chambers)?;
-        let places = Places::new(alloc, ports, chambers)?;
-        let locations = vec![in alloc; LocationRecord::new(); places.location_count()]?;
-        let substrates = Substrates::new(alloc)?;
-        let jobs = Jobs::new(alloc, recipes)?;
-        Ok(ToolFloor {
+        let equipment = first_equipment(alloc, ports, chambers)?;
+        let places = first_places(alloc, ports, chambers)?;
+        let work = first_work(alloc, recipes)?;
+        Ok(ToolFloor::of(equipment, places, work))
+    }
+
+    // The floor of its parts, on which no command was given yet.
+    fn of(
+        equipment: (ShopFloor, Modules),
+        places: (Places, Vec<LocationRecord>),
+        work: (Substrates, Jobs),
+    ) -> ToolFloor
+        requires { work.0 ≡ [] }
+        ensures { result ≡ record {
+          shop = equipment.0;
+          modules = equipment.1;
+          places = places.0;
+          locations = places.1.items;
+          substrates = work.0;
+          commands = 0;
+          jobs = work.1;
+        } }
+    {
+        let (shop, modules) = equipment;
+        let (places, locations) = places;
+        let (substrates, jobs) = work;
+        ToolFloor {
             shop,
             modules,
             places,
@@ -92,7 +111,7 @@ impl ToolFloor {
             substrates,
             commands: 0,
             jobs,
-        })
+        }
     }
 
     // ---- what it says

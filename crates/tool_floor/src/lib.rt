@@ -12,6 +12,7 @@ mod jobs;
 mod members;
 mod moving;
 mod naming;
+mod opening;
 mod picking;
 mod planning;
 mod readiness;

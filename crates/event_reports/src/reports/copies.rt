@@ -1,9 +1,8 @@
 //! Copies of the reports, on which a message is tried.
 
-ghost use Rattle.std.specs.Prelude.{◌≡◌, IfOk};
+ghost use Rattle.std.specs.Prelude.{◌≡◌, ◌==◌, if◌then◌else◌, IfOk};
 
 use super::Reports;
-use crate::lines::{EventLine, Report};
 use item_model::NoMemory;
 use std::alloc::Global;
 
@@ -15,30 +14,16 @@ impl Reports {
         Ok(Reports {
             ports: self.ports,
             chambers: self.chambers,
-            reports: copy_reports(alloc, &self.reports)?,
-            events: copy_events(alloc, &self.events)?,
+            reports: Vec::from_clones(alloc, &self.reports)?,
+            events: Vec::from_clones(alloc, &self.events)?,
         })
     }
-}
-
-// The same reports.
-fn copy_reports(alloc: Global, reports: &[Report]) -> Result<Vec<Report>, NoMemory>
-    ensures { IfOk result (λ copies. copies.items ≡ reports.now) }
-{
-    let mut copies = Vec::new(alloc);
-    for report in reports {
-        copies.push(report.clone()?)?;
+    // The copy takes the place of these where nothing was refused on it; else it is let go.
+    pub(super) fn settle(&mut self, draft: Reports, code: u8)
+        ensures { self.new ≡ (if code == 0 then draft else self.old) }
+    {
+        if code == 0 {
+            *self = draft;
+        }
     }
-    Ok(copies)
-}
-
-// The same events.
-fn copy_events(alloc: Global, events: &[EventLine]) -> Result<Vec<EventLine>, NoMemory>
-    ensures { IfOk result (λ copies. copies.items ≡ events.now) }
-{
-    let mut copies = Vec::new(alloc);
-    for event in events {
-        copies.push(event.clone()?)?;
-    }
-    Ok(copies)
 }

@@ -1,6 +1,6 @@
 //! Which reports are defined (SEMI E5, S2F33).
 
-ghost use Rattle.std.specs.Prelude.{◌≡◌, ◌==◌, not, ◌<◌, ◌≤◌, ◌++◌, ◌∷◌, [], length, map, IfOk, OnOk, OnErr};
+ghost use Rattle.std.specs.Prelude.{◌≡◌, ◌==◌, if◌then◌else◌, not, ◌<◌, ◌≤◌, ◌++◌, ◌∷◌, [], length, map, IfOk, OnOk, OnErr};
 ghost use Rattle.std.specs.List.{filter, list_all};
 ghost use Rattle.gem_rows.specs.Variables.{is_vid};
 ghost use Rattle.event_reports.specs.Limits.{most_reports, most_vids};
@@ -34,11 +34,23 @@ impl Reports {
             self.delete_all(alloc);
             return Ok(0);
         }
-        let mut draft = self.copy(alloc)?;
+        let draft = self.copy(alloc)?;
+        self.define_on(draft, alloc, reports)
+    }
+
+    // Defines and deletes reports on a copy of these, which they become where none is refused.
+    fn define_on(
+        &mut self,
+        mut draft: Reports,
+        alloc: Global,
+        reports: &[(u32, Ids)],
+    ) -> Result<u8, NoMemory>
+        ensures code { IfOk result (λ code. code ≡ first_refusal report_code after_report reports.now draft) }
+        ensures after { IfOk result (λ code. self.new ≡ (if code == 0 then after_all after_report reports.now draft else self.old)) }
+        ensures no_memory { OnErr result (self.new ≡ self.old) }
+    {
         let code = draft.define_in_turn(alloc, reports)?;
-        if code == 0 {
-            *self = draft;
-        }
+        self.settle(draft, code);
         Ok(code)
     }
 

@@ -1,6 +1,6 @@
 //! To which reports events are linked (SEMI E5, S2F35).
 
-ghost use Rattle.std.specs.Prelude.{◌≡◌, ◌≤◌, length, map, IfOk, OnOk, OnErr};
+ghost use Rattle.std.specs.Prelude.{◌≡◌, ◌==◌, ◌≤◌, if◌then◌else◌, length, map, IfOk, OnOk, OnErr};
 ghost use Rattle.std.specs.List.{AllByRecursion, list_all};
 ghost use Rattle.event_reports.specs.Within.{HasShortLink};
 ghost use Rattle.event_reports.specs.Limits.{most_linked};
@@ -26,11 +26,18 @@ impl Reports {
         ensures after { OnOk result (self.new ≡ linked links.now self.old) }
         ensures no_memory { OnErr result (self.new ≡ self.old) }
     {
-        let mut draft = self.copy(alloc)?;
+        let draft = self.copy(alloc)?;
+        self.link_on(draft, links)
+    }
+
+    // Links events on a copy of these, which they become where no link is refused.
+    fn link_on(&mut self, mut draft: Reports, links: &[(u32, Ids)]) -> Result<u8, NoMemory>
+        ensures code { IfOk result (λ code. code ≡ first_refusal link_code after_link links.now draft) }
+        ensures after { IfOk result (λ code. self.new ≡ (if code == 0 then after_all after_link links.now draft else self.old)) }
+        ensures no_memory { OnErr result (self.new ≡ self.old) }
+    {
         let code = draft.link_in_turn(links)?;
-        if code == 0 {
-            *self = draft;
-        }
+        self.settle(draft, code);
         Ok(code)
     }
 

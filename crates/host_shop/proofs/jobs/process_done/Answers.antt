@@ -23,8 +23,8 @@ returns-clause-done c =
     let g = c.args.plant.now in
     let spec = asked_process c.args.job c.args.carriers.now c.args.recipe c.args.start in
     let same = c.process_error-error.ensures.error c.args.start ∙ ap (process_error c.is_local.result spec (view c.args.events.now)) c.jobs.ensures ∙ ap (λ local. process_error local spec (view c.args.events.now) (jobs_of g)) c.is_local.ensures in
-    let answered = ap (λ (a : JobAcknowledge). code.Shop (reply.S16F12 c.args.job a)) c.in_ok-acknowledged.ensures.told in
-    let told : Done = record { reply = code.Shop (reply.S16F12 c.args.job c.in_ok-acknowledged.field-0); rows = c.match-error.rows } in
+    let answered = ap (λ (a : JobAcknowledge). code.Shop (reply.S16F12 c.args.job a)) c.in_ok-told.ensures.told in
+    let told : Done = record { reply = code.Shop (reply.S16F12 c.args.job c.in_ok-told.told); rows = c.match-error.rows } in
     elim c.match-error.branch [
       | in-Some w ↦
           refused g c.match-error.plant (λ e. reply.S16F12 c.args.job (acknowledged e)) c.process_error-error.result _ w.in-Some.field-0 _ _ told w.in-Some.is same answered w.plant-is

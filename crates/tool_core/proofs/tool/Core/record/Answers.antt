@@ -11,26 +11,26 @@ use Rattle.history_totals.proofs.Summing.{totals-snoc}
 use Rattle.history_parts.proofs.Replaying.{GoesOn, goes-snoc, state-snoc, taker_fits}
 use Rattle.tool_core.proofs.tool.Core.record.Goals as goal
 
-pub invariant_of-self-3 : goal.invariant_of-self-3
-invariant_of-self-3 c =
+pub invariant_of-self-2 : goal.invariant_of-self-2
+invariant_of-self-2 c =
     let k = c.self.inside in
     let i = c.self.invariant in
-    let told = c.in-Some.told in
+    let told = c.in_ok-told.told in
     let new = c.take_event.new.plant in
     let old : State = state_of k.config k.entries.items in
     let whole : k.is_whole ≡ true = ap (λ (v : CoreView). v.is_whole) c.self.view_is ∙ c.requires.whole in
     let there : c.deref_mut.result.now ≡ old = c.deref_mut.ensures.value ∙ i.plant_is whole in
     let o : Outcome = record { answer = told.reaction.answer; ended = told.reaction.ended; after = new } in
-    let here : step old c.args.at.0 c.args.event ≡ Some o = subst (λ (g : State). step g c.args.at.0 c.args.event ≡ Some o) there (rw c.in-Some.is at c.in-Ok-take_event.ensures.steps) in
+    let here : step old c.args.at.0 c.args.event ≡ Some o = subst (λ (g : State). step g c.args.at.0 c.args.event ≡ Some o) there (c.in_ok-told.ensures.steps) in
     let before : GoesOn k.config k.entries.items k.ends.items k.written k.bytes = record { config = i.config; run = i.run; sessions = rw i.sessions_are at i.sessions; ended = i.ended; written = i.written; bytes_are = i.bytes_are; entries_fit = i.entries_fit; bytes_fit = i.bytes_fit } in
     let entry : Entry = record { seat = c.args.seat; at = c.args.at; event = c.args.event } in
     let after = state-snoc k.config k.entries.items entry o i.run here in
-    let sessions = rw c.in-Some.is at c.in-Ok-take_event.ensures.sessions in
-    let up = rw c.in-Some.is at c.in-Ok-take_event.ensures.up in
-    let counts = subst (λ (g : State). told.totals ≡ totals_at new (k.totals.done + done_by g c.args.event) (k.totals.completed + counted (completed_by g c.args.at.0 c.args.event))) there (rw c.in-Some.is at c.in-Ok-take_event.ensures.totals) in
+    let sessions = c.in_ok-told.ensures.sessions in
+    let up = c.in_ok-told.ensures.up in
+    let counts = subst (λ (g : State). told.totals ≡ totals_at new (k.totals.done + done_by g c.args.event) (k.totals.completed + counted (completed_by g c.args.at.0 c.args.event))) there c.in_ok-told.ensures.totals in
     let totals = totals-snoc k.config k.entries.items old entry o k.totals (done_by old c.args.event) (counted (completed_by old c.args.at.0 c.args.event)) i.run here i.totals_are refl refl in
-    let goes = goes-snoc k.config k.entries.items k.ends.items k.written c.add_taken.new.counts k.bytes entry o before (rw (← c.self.view_is) at c.requires.room) here (λ n count is. c.add_taken.ensures n count (c.in-Ok-make_room.ensures.counts n ∙ is)) in
-    rw (c.push_reserved.ensures.items, c.in-Ok.ensures.items, c.add_end.ensures, c.in-Ok-reserve.ensures.items, c.event_bytes.ensures.value, sessions, up) (record {
+    let goes = goes-snoc k.config k.entries.items k.ends.items k.written c.add_taken.new.counts k.bytes entry o before (rw (← c.self.view_is) at c.requires.room) here (λ n count is. c.add_taken.ensures n count (c.in-Ok.ensures.counts n ∙ is)) in
+    rw (c.push_reserved.ensures.items, c.in-Ok.ensures.entries, c.add_end.ensures, c.in-Ok.ensures.ends, c.event_bytes.ensures.value, sessions, up) (record {
       config = goes.config;
       run = goes.run;
       plant_is = λ _. sym after;
@@ -49,28 +49,28 @@ pub returns-clause-step : goal.returns-clause-step
 returns-clause-step c =
     let k = c.self.inside in
     let i = c.self.invariant in
-    let told = c.in-Some.told in
+    let told = c.in_ok-told.told in
     let whole : k.is_whole ≡ true = ap (λ (v : CoreView). v.is_whole) c.self.view_is ∙ c.requires.whole in
     let there : c.deref_mut.result.now ≡ state_of k.config k.entries.items = c.deref_mut.ensures.value ∙ i.plant_is whole in
     let o : Outcome = record { answer = told.reaction.answer; ended = told.reaction.ended; after = c.take_event.new.plant } in
-    let here : step (state_of k.config k.entries.items) c.args.at.0 c.args.event ≡ Some o = subst (λ (g : State). step g c.args.at.0 c.args.event ≡ Some o) there (rw c.in-Some.is at c.in-Ok-take_event.ensures.steps) in
+    let here : step (state_of k.config k.entries.items) c.args.at.0 c.args.event ≡ Some o = subst (λ (g : State). step g c.args.at.0 c.args.event ≡ Some o) there (c.in_ok-told.ensures.steps) in
     let entry : Entry = record { seat = c.args.seat; at = c.args.at; event = c.args.event } in (
       o,
       subst (λ (g : State). step g c.args.at.0 c.args.event ≡ Some o) (ap (λ (v : CoreView). v.state) c.self.view_is) here,
       refl,
-      rw (c.push_reserved.ensures.items, c.in-Ok.ensures.items) (state-snoc k.config k.entries.items entry o i.run here),
+      rw (c.push_reserved.ensures.items, c.in-Ok.ensures.entries) (state-snoc k.config k.entries.items entry o i.run here),
     )
 
 pub add_taken-requires : goal.add_taken-requires
 add_taken-requires c =
     let k = c.self.inside in
     let i = c.self.invariant in
-    let told = c.in-Some.told in
+    let told = c.in_ok-told.told in
     let old : State = state_of k.config k.entries.items in
-    let n = length c.make_room.new.counts in
+    let n = length c.make_space.new.written in
     let whole : k.is_whole ≡ true = ap (λ (v : CoreView). v.is_whole) c.self.view_is ∙ c.requires.whole in
     let there : c.deref_mut.result.now ≡ old = c.deref_mut.ensures.value ∙ i.plant_is whole in
     let o : Outcome = record { answer = told.reaction.answer; ended = told.reaction.ended; after = c.take_event.new.plant } in
-    let here : step old c.args.at.0 c.args.event ≡ Some o = subst (λ (g : State). step g c.args.at.0 c.args.event ≡ Some o) there (rw c.in-Some.is at c.in-Ok-take_event.ensures.steps) in
-    let room : IfSome (if is_up old then Some old.link.session else None) (λ k. k ≤ n) = rw (c.session_up-up.ensures.session, c.in-Ok.ensures.items) at c.in-Ok-make_room.ensures.room in
+    let here : step old c.args.at.0 c.args.event ≡ Some o = subst (λ (g : State). step g c.args.at.0 c.args.event ≡ Some o) there (c.in_ok-told.ensures.steps) in
+    let room : IfSome (if is_up old then Some old.link.session else None) (λ k. k ≤ n) = rw (c.session_up-up.ensures.session, ← c.self.view_is) at c.in-Ok.ensures.for_session in
     taker_fits k.config k.entries.items c.args.at.0 n c.args.event o i.run here room

@@ -8,30 +8,37 @@ use std::alloc::{AllocError, Global};
 use std::sync::Wait;
 use std::thread::Threads;
 
-/// The first read of the configuration, write of the log and call of the door that fail, counted from 1 (0: none does), and whether a
-/// door in memory is closed behind its links.
+/// The first read of the configuration and of the script, write of the log, call of the door, and read and write of a link that fail, counted
+/// from 1 (0: none does), and whether a door in memory is closed behind its links.
 #[derive(Clone, Copy)]
 pub struct Limits {
     pub config_fault: u64,
+    pub script_fault: u64,
     pub log_fault: u64,
     pub door_fault: u64,
+    pub peer_fault: u64,
+    pub answer_fault: u64,
     pub is_closed: bool,
 }
 
 /// Nothing fails, and the door is open.
 pub const UNLIMITED: Limits = Limits {
     config_fault: 0,
+    script_fault: 0,
     log_fault: 0,
     door_fault: 0,
+    peer_fault: 0,
+    answer_fault: 0,
     is_closed: false,
 };
 
-/// What a run is given: the words of the command, the bytes of the configuration and of the script, and what fails.
+/// What a run is given: the words of the command, the bytes of the configuration, of the script and of a peer, and what fails.
 #[derive(Drop)]
 pub struct Given {
     pub words: Vec<Text80>,
     pub config: Vec<u8>,
     pub script: Vec<u8>,
+    pub peer: Vec<u8>,
     pub limits: Limits,
 }
 
@@ -42,6 +49,7 @@ impl Given {
             words: Vec::new(alloc),
             config: Vec::new(alloc),
             script: Vec::new(alloc),
+            peer: Vec::new(alloc),
             limits: UNLIMITED,
         }
     }

@@ -1,5 +1,6 @@
 //! Both ends of a link whose peer sends bytes and then waits until the link was shut.
 
+use crate::calls::{Limits, fails_of, source_of};
 use crate::signs::LinkSigns;
 use outside::{Failed, LinkIn, LinkOut, MemSink, MemSource, Sink, Source};
 use std::alloc::{AllocError, Global};
@@ -87,20 +88,21 @@ impl LinkOut for TellingOut<'_> {
     }
 }
 
-/// Both ends of a link whose peer sends these bytes.
+/// Both ends of a link whose peer sends these bytes, with these limits.
 pub fn patient_link<'a, R: time::Clock>(
     rt: &'a R,
     alloc: Global,
     bytes: &[u8],
+    limits: Limits,
     signs: &'a LinkSigns,
 ) -> Result<(PatientIn<'a, R>, TellingOut<'a>), AllocError> {
     let link_in = PatientIn {
         rt,
-        bytes: MemSource::new(Vec::from_slice(alloc, bytes)?, Vec::new(alloc)),
+        bytes: source_of(alloc, bytes, limits.peer_fault)?,
         signs,
     };
     let link_out = TellingOut {
-        sink: MemSink::new(alloc, Vec::new(alloc)),
+        sink: MemSink::new(alloc, fails_of(alloc, limits.answer_fault)?),
         is_shut: false,
         signs,
     };

@@ -30,7 +30,7 @@ fn run_at<R: Threads + Wait + Sync + time::Clock>(
     given: &Given,
     door: &mut MemDoor,
 ) -> Result<String, AllocError> {
-    let mut script = source_of(alloc, &given.script, 0)?;
+    let mut script = source_of(alloc, &given.script, given.limits.script_fault)?;
     let mut clock = StepClock::new(rt, 0);
     let gate = SleepGate::new(rt);
     let mut told = run_serve(rt, alloc, given, door, &mut script, &mut clock, &gate)?;

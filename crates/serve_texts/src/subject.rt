@@ -1,12 +1,14 @@
 //! Runs, to which a text says what they are given, and which it asks what they leave.
 //!
-//! `words WORD ..` are the words of the command. `config` and `script` are what the configuration and the script of the operator have:
-//! behind them `line TEXT` adds a text and a line feed, `text |TEXT|` what stands between the bars. `config_fault 1`, `log_fault 1` and
-//! `door_fault 1` let that read, write or call of the door fail, and with `closed` a door in memory is closed behind its links.
+//! `words WORD ..` are the words of the command. `config`, `script` and `peer` are what the configuration, the script of the operator and a
+//! peer have: behind them `line TEXT` adds a text and a line feed, `text |TEXT|` what stands between the bars, and `bytes 23 7` these bytes so
+//! often. `config_fault 1`, `script_fault 1`, `log_fault 1`, `door_fault 1`, `peer_fault 1` and `answer_fault 1` let that read, write or call of
+//! the door fail, where the last two are a read and a write of the link; and with `closed` a door in memory is closed behind its links.
 //!
 //! `run` runs what was given at a door without links; `run hasty` at one with a link, whose peer selects and goes away; `run both` with
 //! a host that selects and is read once a line of the operator was answered, and an operator who says `O local`, and `O quit` once the
-//! host was answered; `run silent` with a peer that sends nothing, and an operator who ends the run once the link was shut;
+//! host was answered; `run sending` with a peer that sends what it has and then waits, and an operator who ends the run once the link was
+//! shut; `run silent` so with a clock that goes on, and a peer that sends nothing;
 //! `run visited 20000 7` over loopback, at a free port at most 5,000 above that number, with a host that asks 7 times 25 S1F1.
 //!
 //! Of the last run are asked `status`, `cause`, `entries`, `first seat` (of the first entry), `seat 0` to `seat 2` and `seats from 3` (to 9; what each posted),
@@ -17,54 +19,60 @@
 //! many windows were answered, and `ended by the tool` whether the tool ended the link.
 
 use crate::calls::{Given, words_of};
-use crate::links::{run_both, run_silent};
+use crate::links::{run_both, run_sending};
 use crate::loopback::run_visited;
 use crate::memory::{run_alone, run_hasty};
 use crate::peers::free_port;
 use crate::told::answer_of;
+use anyhow::{Result, bail};
 use std::alloc::{AllocError, Global};
 use std::net::{Net, TcpListener, TcpStream};
 use std::sync::Wait;
 use std::thread::Threads;
 use std::time;
+use test_lines::{Subject, bytes};
 
 /// What the next run is given, and what the last one told.
-pub struct Serves {
+pub struct Serves<'a, R> {
+    rt: &'a R,
     given: Given,
     told: String,
 }
 
 // Written out, so that it is proved once.
-impl Drop for Serves {
+impl<R> Drop for Serves<'_, R> {
     fn drop(self) {
         let Serves {
+            rt: _rt,
             given: _given,
             told: _told,
         } = self;
     }
 }
 
-impl Serves {
+impl<'a, R> Serves<'a, R> {
     /// Nothing is given, and nothing has run.
-    pub fn new(alloc: Global) -> Serves {
+    pub fn new(rt: &'a R, alloc: Global) -> Serves<'a, R> {
         Serves {
+            rt,
             given: Given::none(alloc),
             told: String::new(alloc),
         }
     }
 }
 
-/// What is answered to a line: where it asks, what the last run told, and else nothing, or why it says nothing.
-pub fn answer<
+impl<
     R: Net<Listener = TcpListener, Stream = TcpStream> + Threads + Wait + Sync + time::Clock,
->(rt: &R, alloc: Global, serves: &mut Serves, said: &str) -> Result<String, AllocError> {
-    if let Some(answer) = answer_of(serves.told.as_str(), said) {
-        return String::from_str(alloc, answer);
-    }
-    if take(rt, alloc, serves, said)? {
-        Ok(String::new(alloc))
-    } else {
-        String::from_str(alloc, "it says nothing")
+> Subject for Serves<'_, R> {
+    /// What is answered to a line: where it asks, what the last run told, and else nothing. The error: it says nothing.
+    fn answer(&mut self, alloc: Global, said: &str) -> Result<String> {
+        if let Some(answer) = answer_of(self.told.as_str(), said) {
+            return Ok(String::from_str(alloc, answer)?);
+        }
+        match take(self.rt, alloc, &mut self.given, &mut self.told, said) {
+            Ok(true) => Ok(String::new(alloc)),
+            _ => bail!("it says nothing, or there is no memory"),
+        }
     }
 }
 
@@ -72,14 +80,15 @@ pub fn answer<
 fn take<R: Net<Listener = TcpListener, Stream = TcpStream> + Threads + Wait + Sync + time::Clock>(
     rt: &R,
     alloc: Global,
-    serves: &mut Serves,
+    given: &mut Given,
+    told: &mut String,
     said: &str,
 ) -> Result<bool, AllocError> {
     let (first, rest) = said.split_once(' ').unwrap_or((said, ""));
     if first == "run" {
-        run(rt, alloc, serves, rest)
+        run(rt, alloc, given, told, rest)
     } else {
-        give(alloc, &mut serves.given, first, rest)
+        give(alloc, given, first, rest)
     }
 }
 
@@ -87,12 +96,13 @@ fn take<R: Net<Listener = TcpListener, Stream = TcpStream> + Threads + Wait + Sy
 fn run<R: Net<Listener = TcpListener, Stream = TcpStream> + Threads + Wait + Sync + time::Clock>(
     rt: &R,
     alloc: Global,
-    serves: &mut Serves,
+    given: &mut Given,
+    told: &mut String,
     way: &str,
 ) -> Result<bool, AllocError> {
-    match ran(rt, alloc, &mut serves.given, way)? {
-        Some(told) => {
-            serves.told = told;
+    match ran(rt, alloc, given, way)? {
+        Some(all) => {
+            *told = all;
             Ok(true)
         }
         None => Ok(false),
@@ -110,7 +120,8 @@ fn ran<R: Net<Listener = TcpListener, Stream = TcpStream> + Threads + Wait + Syn
         "" => run_alone(rt, alloc, given)?,
         "hasty" => run_hasty(rt, alloc, given)?,
         "both" => run_both(rt, alloc, given)?,
-        "silent" => run_silent(rt, alloc, given)?,
+        "sending" => run_sending(rt, alloc, given, 0)?,
+        "silent" => run_sending(rt, alloc, given, 100)?,
         _ => return visited(rt, alloc, given, way),
     };
     Ok(Some(told))
@@ -148,8 +159,9 @@ fn give(alloc: Global, given: &mut Given, first: &str, rest: &str) -> Result<boo
             given.words = words_of(alloc, rest)?;
             Ok(true)
         }
-        "config" => add(&mut given.config, rest),
-        "script" => add(&mut given.script, rest),
+        "config" => add(alloc, &mut given.config, rest),
+        "script" => add(alloc, &mut given.script, rest),
+        "peer" => add(alloc, &mut given.peer, rest),
         _ => Ok(limit(given, first, rest.parse::<u64>().unwrap_or(0))),
     }
 }
@@ -158,8 +170,11 @@ fn give(alloc: Global, given: &mut Given, first: &str, rest: &str) -> Result<boo
 fn limit(given: &mut Given, name: &str, n: u64) -> bool {
     match name {
         "config_fault" => given.limits.config_fault = n,
+        "script_fault" => given.limits.script_fault = n,
         "log_fault" => given.limits.log_fault = n,
         "door_fault" => given.limits.door_fault = n,
+        "peer_fault" => given.limits.peer_fault = n,
+        "answer_fault" => given.limits.answer_fault = n,
         "closed" => given.limits.is_closed = true,
         _ => return false,
     }
@@ -167,10 +182,11 @@ fn limit(given: &mut Given, name: &str, n: u64) -> bool {
 }
 
 // Adds a text. False: it says none.
-fn add(place: &mut Vec<u8>, said: &str) -> Result<bool, AllocError> {
+fn add(alloc: Global, place: &mut Vec<u8>, said: &str) -> Result<bool, AllocError> {
     match said.split_once(' ') {
         Some(("line", text)) => add_line(place, text),
         Some(("text", text)) => add_text(place, text),
+        Some(("bytes", words)) => add_bytes(alloc, place, words),
         _ => Ok(false),
     }
 }
@@ -183,5 +199,21 @@ fn add_text(place: &mut Vec<u8>, text: &str) -> Result<bool, AllocError> {
 fn add_line(place: &mut Vec<u8>, text: &str) -> Result<bool, AllocError> {
     place.extend_from_slice(text.as_bytes())?;
     place.push(b'\n')?;
+    Ok(true)
+}
+
+// Adds bytes, as hex digits, as often as stands behind them. False: these are none.
+fn add_bytes(alloc: Global, place: &mut Vec<u8>, words: &str) -> Result<bool, AllocError> {
+    let (digits, times) = words.split_once(' ').unwrap_or((words, "1"));
+    match (bytes(alloc, digits), times.parse::<u32>()) {
+        (Ok(once), Ok(times)) => repeat(place, once.as_slice(), times),
+        _ => Ok(false),
+    }
+}
+
+fn repeat(place: &mut Vec<u8>, once: &[u8], times: u32) -> Result<bool, AllocError> {
+    for _ in 0..times {
+        place.extend_from_slice(once)?;
+    }
     Ok(true)
 }

@@ -1,8 +1,7 @@
-//! What the subjects here share: numbers of a line, points of a gate, and how a line ends that says nothing.
+//! What the subjects here share: points of a gate, and how a line ends that says nothing.
 
 use anyhow::{Result, bail};
 use outside::Point;
-use std::alloc::Global;
 
 /// The answer that was put together, where the line said something.
 pub fn told(answer: String, said: Option<()>) -> Result<String> {
@@ -10,15 +9,6 @@ pub fn told(answer: String, said: Option<()>) -> Result<String> {
         Some(()) => Ok(answer),
         None => bail!("it says nothing, or there is no memory"),
     }
-}
-
-/// Numbers, parted by spaces.
-pub fn numbers(alloc: Global, words: &str) -> Option<Vec<u64>> {
-    let mut numbers = Vec::new(alloc);
-    for word in words.split_whitespace() {
-        numbers.push(word.parse::<u64>().ok()?).ok()?;
-    }
-    Some(numbers)
 }
 
 /// A point, by its word: `idle`, `accept`, `host`, `line`, `tick`, or the number of a module.

@@ -1,47 +1,16 @@
-//! Clocks and gates (`outside`). `to a clock of 3 1` is one in memory that gives these moments; `to the system's clock at .. after
-//! 7000` is at a date in milliseconds since 1970, so many behind some beginning, and `set 8509` is so many behind it. `now` reads it, `wait 25` waits hundredths, `reads`
-//! tells how often it was read, and `slept` how many milliseconds were slept.
+//! Clocks and gates (`outside`). `to the system's clock at .. after 7000` is at a date in milliseconds since 1970, so many behind some
+//! beginning, and `set 8509` is so many behind it. `now` reads it, `wait 25` waits hundredths, and `slept` tells how many milliseconds
+//! were slept.
 //!
-//! `to a gate that sleeps`, `to an open gate` and `to a gate that holds 3 until line` are gates over such a clock: `pass idle` passes
+//! `to a gate that sleeps`, `to a gate that is open` and `to a gate that holds 3 until line` are gates over such a clock: `pass idle` passes
 //! a point.
 
 use crate::set_clock::SetClock;
 use crate::words::{point, told};
 use anyhow::Result;
-use gem_ids::Moment;
-use outside::{Clock, Gate, ListClock, SystemClock};
+use outside::{Clock, Gate, SystemClock};
 use std::alloc::Global;
 use test_lines::Subject;
-
-/// A clock in memory.
-#[derive(Drop)]
-pub struct Listed {
-    clock: ListClock,
-}
-
-impl Listed {
-    /// One that gives these moments.
-    pub fn of(alloc: Global, numbers: &[u64]) -> Option<Listed> {
-        let mut moments = Vec::new(alloc);
-        for number in numbers {
-            moments.push(Moment(*number)).ok()?;
-        }
-        Some(Listed {
-            clock: ListClock::new(moments),
-        })
-    }
-}
-
-impl Subject for Listed {
-    fn answer(&mut self, alloc: Global, said: &str) -> Result<String> {
-        let mut answer = String::new(alloc);
-        let said = match said {
-            "reads" => write!(answer, "{}", self.clock.reads()).ok(),
-            _ => say(&mut self.clock, said, &mut answer),
-        };
-        told(answer, said)
-    }
-}
 
 // Reads a clock, or waits by it.
 fn say(clock: &mut impl Clock, said: &str, answer: &mut String) -> Option<()> {

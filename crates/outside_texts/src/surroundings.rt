@@ -1,0 +1,85 @@
+//! What lies outside of the tool, and how it begins.
+
+use crate::clocks::{Dated, Gated};
+use crate::loopback::Loopback;
+use crate::machine::Machine;
+use crate::set_clock::SetClock;
+use crate::words::point;
+use anyhow::{Result, bail};
+use conversation_files::Line;
+use outside::{HoldGate, OpenGate, Point, SleepGate};
+use std::alloc::Global;
+use std::net::{Net, TcpListener, TcpStream};
+use std::time::Clock;
+use test_lines::{Texts, answers};
+
+/// What lies outside of the tool.
+#[derive(Drop)]
+pub struct Outside<'a, R> {
+    pub host: &'a HostRuntime,
+    pub rt: &'a R,
+}
+
+// Whether lines go as they are written; the fault of the first that does not.
+type Played = Result<Option<String>>;
+
+impl<R: Net<Listener = TcpListener, Stream = TcpStream> + Clock> Texts for Outside<'_, R> {
+    fn play(&self, alloc: Global, begins: &str, lines: &[Line<'_>]) -> Result<Option<String>> {
+        match begins {
+            "to the machine" => answers(alloc, &mut Machine::new(self.host), lines),
+            "to a door of the machine" => answers(alloc, &mut Loopback::new(self.rt), lines),
+            _ => match begins.strip_prefix("to a gate that ") {
+                Some(words) => play_gate(alloc, words, lines),
+                None => play_date(alloc, begins, lines),
+            },
+        }
+    }
+}
+
+// Says lines to the system's clock, at a date in milliseconds since 1970, after so many milliseconds.
+fn play_date(alloc: Global, begins: &str, lines: &[Line<'_>]) -> Played {
+    let Some(system) = dated(begins) else {
+        bail!("there is no such subject");
+    };
+    answers(alloc, &mut Dated::new(&system), lines)
+}
+
+fn dated(begins: &str) -> Option<SetClock> {
+    let words = begins.strip_prefix("to the system's clock at ")?;
+    let (date, passed) = words.split_once(" after ").unwrap_or((words, "0"));
+    let system = SetClock::at(date.parse::<u64>().ok()?);
+    system.set(passed.parse::<u64>().ok()?);
+    Some(system)
+}
+
+// Says lines to a gate.
+fn play_gate(alloc: Global, words: &str, lines: &[Line<'_>]) -> Played {
+    let system = &SetClock::at(0);
+    match words {
+        "is open" => play_at(alloc, system, OpenGate, lines),
+        "sleeps" => play_at(alloc, system, SleepGate::new(system), lines),
+        _ => play_held(alloc, system, words, lines),
+    }
+}
+
+fn play_at<G: outside::Gate + Drop>(
+    alloc: Global,
+    system: &SetClock,
+    gate: G,
+    lines: &[Line<'_>],
+) -> Played {
+    answers(alloc, &mut Gated { system, gate }, lines)
+}
+
+// Says lines to a gate that holds who passes a point until another was passed.
+fn play_held(alloc: Global, system: &SetClock, words: &str, lines: &[Line<'_>]) -> Played {
+    let Some((held, until)) = points(words) else {
+        bail!("there is no such gate");
+    };
+    play_at(alloc, system, HoldGate::new(system, held, until), lines)
+}
+
+fn points(words: &str) -> Option<(Point, Point)> {
+    let (held, until) = words.strip_prefix("holds ")?.split_once(" until ")?;
+    Some((point(held)?, point(until)?))
+}

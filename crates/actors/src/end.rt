@@ -1,5 +1,5 @@
 /// How an actor ended.
-#[derive(Clone, Copy, Debug, PartialEq, Eq)]
+#[derive(Clone, Copy)]
 pub enum ActorEnd {
     /// Its last post was answered `Ended`, told that the link was lost, or was the accepted `Quit` of a script.
     Quit,

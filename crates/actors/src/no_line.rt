@@ -1,5 +1,5 @@
 /// Why a reader of a script gives no line.
-#[derive(Clone, Copy, Debug, PartialEq, Eq)]
+#[derive(Clone, Copy)]
 pub(crate) enum NoLine {
     /// The script is over. What came of a last line is a line too.
     End,

@@ -20,7 +20,7 @@ const AT_ONCE: Moment = Moment(0);
 const PIECE: usize = 4096;
 
 /// Why the reader reads no more.
-#[derive(Clone, Copy, Debug, PartialEq, Eq)]
+#[derive(Clone, Copy)]
 pub enum ReadStop {
     /// The session ends, for this cause.
     Down(SessionCause),

@@ -12,7 +12,7 @@ pub struct Batch {
 }
 
 /// Why a batch stops before its end.
-#[derive(Clone, Copy, Debug, PartialEq, Eq)]
+#[derive(Clone, Copy)]
 pub enum Stop {
     /// The next entry would not fit the history's limits.
     Full,

@@ -8,9 +8,9 @@ ghost use Rattle.batch_model.specs.Told.{arrival_bytes, bytes_told};
 ghost use Rattle.batching.specs.Counted.{numbered_bytes_in, numbered_bytes};
 
 use core_view::SessionCounts;
+use feeding::session_notes;
 use hsms_frame::Arrival;
 use line_feeding::Notes;
-use run_notes::session_notes;
 use std::alloc::{AllocError, Global};
 use tool_core::Core;
 use tool_events::{Entry, Event};

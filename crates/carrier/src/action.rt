@@ -4,7 +4,7 @@ use gem_ids::Text80;
 
 /// What the host asks of a carrier (SEMI E87, S3F17): Bind, CancelBind, ProceedWithCarrier, CancelCarrier,
 /// CarrierNotification, CancelCarrierNotification, or any other action.
-#[derive(Clone, Copy, Debug, PartialEq, Eq)]
+#[derive(Clone, Copy)]
 pub enum CarrierWord {
     Bind,
     CancelBind,
@@ -17,7 +17,7 @@ pub enum CarrierWord {
 
 /// An action on a carrier, as S3F17 says it: the name and the port's number as they stand in the message, the map of the
 /// attribute SlotMap, where it is given, and whether an attribute is faulty.
-#[derive(Clone, Copy, Debug, PartialEq, Eq)]
+#[derive(Clone, Copy)]
 pub struct CarrierAction {
     pub word: CarrierWord,
     pub id: Text80,

@@ -9,7 +9,7 @@ use gem_ids::{CarrierId, PortNo};
 /// A carrier: its number of creation, which is its own for good; its name and states; whether its id was read, and the map of its slots, where it came; the map that the host
 /// gave; the port that it is at or bound to; whether it is present there, and whether it is bound there; and whether it is marked
 /// stopped, as it is once a process job of it ended after a STOP or an ABORT (this tool's profile, tables 10 and 14).
-#[derive(Clone, Copy, Debug, PartialEq, Eq)]
+#[derive(Clone, Copy)]
 pub struct Carrier {
     pub number: u64,
     pub name: CarrierId,
@@ -25,7 +25,7 @@ pub struct Carrier {
 
 /// What is told of a carrier: the numbers of its states as the tables print them, its map (25 codes 0 before it came), the
 /// port that it is at or bound to, and whether it is present or bound there.
-#[derive(Clone, Copy, Debug, PartialEq, Eq)]
+#[derive(Clone, Copy)]
 pub struct CarrierView {
     pub id_state: u8,
     pub map_state: u8,

@@ -3,7 +3,7 @@
 use thiserror::Error;
 
 /// Why a carrier isn't created: its name is known, so many are known as can be, or there is no memory.
-#[derive(Clone, Copy, Debug, PartialEq, Eq, Error)]
+#[derive(Clone, Copy, Debug, Error)]
 pub enum CarrierFault {
     #[error("a carrier of this name is known")]
     NameTaken,

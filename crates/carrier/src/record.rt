@@ -7,7 +7,7 @@ ghost use Rattle.carrier.specs.Carriers.{is_finished};
 ghost use Rattle.carrier.specs.Record.{first_record, carrier_starts, carrier_fired, is_id_waiting, is_id_failed, is_map_waiting, is_map_verified, is_map_failed, is_not_accessed, is_done};
 
 /// The states of a carrier's id: ID NOT READ, WAITING FOR HOST, ID VERIFIED and ID VERIFICATION FAILED.
-#[derive(Clone, Copy, Debug, PartialEq, Eq)]
+#[derive(Clone, Copy)]
 pub enum IdState {
     NotRead,
     WaitingForHost,
@@ -16,7 +16,7 @@ pub enum IdState {
 }
 
 /// The states of its slot map: NOT READ, WAITING FOR HOST, VERIFIED and VERIFICATION FAILED.
-#[derive(Clone, Copy, Debug, PartialEq, Eq)]
+#[derive(Clone, Copy)]
 pub enum MapState {
     NotRead,
     WaitingForHost,
@@ -25,7 +25,7 @@ pub enum MapState {
 }
 
 /// How it is accessed: NOT ACCESSED, IN ACCESS, CARRIER COMPLETE and CARRIER STOPPED.
-#[derive(Clone, Copy, Debug, PartialEq, Eq)]
+#[derive(Clone, Copy)]
 pub enum Accessing {
     NotAccessed,
     InAccess,
@@ -34,7 +34,7 @@ pub enum Accessing {
 }
 
 /// The states of a carrier.
-#[derive(Clone, Copy, Debug, PartialEq, Eq)]
+#[derive(Clone, Copy)]
 pub struct CarrierRecord {
     pub id: IdState,
     pub map: MapState,

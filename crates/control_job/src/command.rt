@@ -4,7 +4,7 @@ ghost use Rattle.std.specs.Prelude.{◌≡◌};
 ghost use Rattle.control_job.specs.Commands.{act_of};
 
 /// What a command does: it fires a row of table 15, or it makes a job the first in the queue's order.
-#[derive(Clone, Copy, Debug, PartialEq, Eq)]
+#[derive(Clone, Copy)]
 pub enum CtlAct {
     Row(u8),
     Head,

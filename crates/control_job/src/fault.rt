@@ -4,7 +4,7 @@ use thiserror::Error;
 
 /// Why a control job isn't created: one of its name is kept that isn't COMPLETED, it names no process job or names one twice,
 /// so many are kept that aren't COMPLETED as can be, or there is no memory.
-#[derive(Clone, Copy, Debug, PartialEq, Eq, Error)]
+#[derive(Clone, Copy, Debug, Error)]
 pub enum CtlFault {
     #[error("a control job of this name isn't COMPLETED")]
     NameTaken,

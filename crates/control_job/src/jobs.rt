@@ -23,11 +23,21 @@ pub const MOST_JOBS: usize = 32;
 /// The control jobs that are kept, which contracts see as the list of them in the order in which they were created, the order of
 /// the queue as their numbers of creation, and the last number that was given. Each name is that of one job, and there are at most
 /// 32. Only `new` and `create` take memory.
-#[derive(Drop)]
 pub struct ControlJobs {
     jobs: Vec<ControlJob>,
     order: Vec<u64>,
     given: u64,
+}
+
+// Written out, so that it is one call wherever all of them is dropped.
+impl Drop for ControlJobs {
+    fn drop(self) {
+        let ControlJobs {
+            jobs: _jobs,
+            order: _order,
+            given: _given,
+        } = self;
+    }
 }
 
 impl Model for ControlJobs {

@@ -5,7 +5,7 @@ ghost use Rattle.control_job.specs.Tables.{state_number, not_ending, ending_by};
 ghost use Rattle.control_job.specs.Record.{first_record, control_starts, control_fired, is_queued, is_active, is_completed};
 
 /// The states of a control job: QUEUED, SELECTED, WAITING FOR START, EXECUTING, PAUSED and COMPLETED.
-#[derive(Clone, Copy, Debug, PartialEq, Eq)]
+#[derive(Clone, Copy)]
 pub enum ControlState {
     Queued,
     Selected,
@@ -16,7 +16,7 @@ pub enum ControlState {
 }
 
 /// Whether a control job is ending, and by what.
-#[derive(Clone, Copy, Debug, PartialEq, Eq)]
+#[derive(Clone, Copy)]
 pub enum Ending {
     No,
     ByStop,
@@ -24,7 +24,7 @@ pub enum Ending {
 }
 
 /// The states of a control job. Only one that is EXECUTING is ever ending.
-#[derive(Clone, Copy, Debug, PartialEq, Eq)]
+#[derive(Clone, Copy)]
 pub struct ControlJobRecord {
     pub state: ControlState,
     pub ending: Ending,

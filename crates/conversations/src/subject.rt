@@ -9,12 +9,14 @@
 //! full, and the cause has the number of its entries and of the bytes of text in it, and no byte of an input), `notes` (how many),
 //! of session 1 `note 1` (why it ended) and `bytes 1` (that came and went), and `printed`.
 //!
-//! Behind `text 3`, `cause` tells the text of the cause with this status: words at place 1, rule 0 with an empty key, 40 entries without text
+//! Behind `usage`, `help 3` and `version 1` tell a line of the text of `--help` and `--version`, counted from 1, and `help lines` how many
+//! there are. Behind `text 3`, `cause` tells the text of the cause with this status: words at place 1, rule 0 with an empty key, 40 entries without text
 //! and 500 bytes of the input, byte 5 of line 3.
 
 use crate::calls::{Given, run, run_narrow, words_of};
 use crate::places::{add, first_word};
 use crate::told::{answer_of, tell_cause, tell_whether};
+use crate::usage::tell_texts;
 use anyhow::{Result, bail};
 use gem_ids::Text80;
 use std::alloc::{AllocError, Global};
@@ -75,12 +77,20 @@ impl Runs {
         }
     }
 
+    // Tells the texts of `--help` and `--version`.
+    fn tell_usage(&mut self, alloc: Global) -> Result<bool, AllocError> {
+        self.told.clear();
+        tell_texts(alloc, &mut self.told)?;
+        Ok(true)
+    }
+
     // Does what is said. False: it says nothing.
     fn take(&mut self, alloc: Global, said: &str) -> Result<bool, AllocError> {
         let (first, rest) = first_word(said);
         match first {
             "run" => self.run(alloc, rest == "narrow"),
             "text" => self.tell_text(alloc, rest),
+            "usage" => self.tell_usage(alloc),
             _ => give(alloc, &mut self.given, first, rest),
         }
     }

@@ -30,8 +30,8 @@ pub fn tell_whether(told: &mut String, key: &str, is_so: bool) -> Result<(), All
     tell(told, key, if is_so { "true" } else { "false" })
 }
 
-// Tells a number.
-fn tell_number(alloc: Global, told: &mut String, key: &str, n: u64) -> Result<(), AllocError> {
+/// Tells a number.
+pub fn tell_number(alloc: Global, told: &mut String, key: &str, n: u64) -> Result<(), AllocError> {
     let words = format!(in alloc; "{n}")?;
     tell(told, key, words.as_str())
 }

@@ -27,7 +27,7 @@ use transactions::What;
 
 /// What a data message of the host was answered: a reply of this stream and function, a message of stream 9 of this
 /// function, or nothing.
-#[derive(Clone, Copy, Debug, PartialEq, Eq)]
+#[derive(Clone, Copy)]
 pub enum HostAct {
     Reply(u8, u8),
     Stream9(u8),

@@ -5,7 +5,7 @@ ghost use Rattle.std.specs.Prelude.{◌≡◌, Some, None};
 use tool_events::{Answer, SessionEnd};
 
 /// What an event is answered, and the session that it ended, if it ended one.
-#[derive(Debug, Drop)]
+#[derive(Drop)]
 pub struct Reaction {
     pub answer: Answer,
     pub ended: Option<SessionEnd>,

@@ -21,7 +21,7 @@ use plant_parts::{alcd, text_of_alarm, text_of_reply};
 use std::alloc::{AllocError, Global};
 
 /// A row that fired: the row, the name of its object, and whether control was ON-LINE before it.
-#[derive(Clone, Copy, Debug)]
+#[derive(Clone, Copy)]
 pub struct RowFiring {
     pub row: RowId,
     pub object: Text80,

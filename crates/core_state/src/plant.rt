@@ -34,7 +34,6 @@ const MAX_SPOOL_TRANSMIT: u32 = 202;
 const OVERWRITE_SPOOL: u32 = 203;
 
 /// What the tool is. Contracts see it as the state of the tables.
-#[derive(Drop)]
 pub struct Plant {
     pub(crate) config: Config,
     pub(crate) moment: Moment,
@@ -53,6 +52,30 @@ pub struct Plant {
     pub(crate) line: CountedLine,
     pub(crate) floor: ToolFloor,
     pub(crate) waiting: VecDeque<Bytes>,
+}
+
+// Written out, so that it is one call wherever a plant is dropped.
+impl Drop for Plant {
+    fn drop(self) {
+        let Plant {
+            config: _config,
+            moment: _moment,
+            shown: _shown,
+            shown_at: _shown_at,
+            quitting: _quitting,
+            link: _link,
+            comm: _comm,
+            control: _control,
+            switch_local: _switch_local,
+            transactions: _transactions,
+            constants: _constants,
+            reports: _reports,
+            alarms: _alarms,
+            line: _line,
+            floor: _floor,
+            waiting: _waiting,
+        } = self;
+    }
 }
 
 impl Model for Plant {

@@ -7,7 +7,7 @@ use std::marker::Model;
 
 /// A count for each session, which contracts see as the list of the counts: the first is that of session 1. A session
 /// for which no room was made counts 0.
-#[derive(Debug, Drop)]
+#[derive(Drop)]
 pub struct SessionCounts {
     counts: Vec<u64>,
 }

@@ -10,7 +10,7 @@ use std::alloc::Global;
 use std::marker::Model;
 
 /// An alarm: its ALID, whether its changes are reported, and whether it is set (SEMI E5, ALID, ALED, ALCD).
-#[derive(Clone, Copy, Debug, PartialEq, Eq)]
+#[derive(Clone, Copy)]
 pub struct AlarmLine {
     pub alid: u32,
     pub enabled: bool,

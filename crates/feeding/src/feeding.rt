@@ -13,10 +13,10 @@ ghost use Rattle.line_feeding.specs.Fed.{looked, Fed, Shown};
 ghost use Rattle.line_feeding.specs.CauseOf.{cause_after};
 
 use crate::input::read_lines;
+use crate::notes::session_notes;
 use crate::reader::Reader;
 use line_feeding::{Cause, Ended, Halt, InputEnd, InputRead, Notes};
 use outside::{Sink, Source};
-use run_notes::session_notes;
 use std::alloc::Global;
 use tool_core::Core;
 use tool_events::Config;

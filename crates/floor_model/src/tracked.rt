@@ -4,7 +4,7 @@ use substrate::SubstrateRecord;
 /// A substrate of a carrier that is here: its number of registration, which is its own for good; its name; the number of creation of
 /// its carrier; its slot; its states (SEMI E90); whether it is aligned; and the number of creation of the process job that it is a member
 /// of, 0 where it is in none.
-#[derive(Clone, Copy, Debug, PartialEq, Eq)]
+#[derive(Clone, Copy)]
 pub struct Substrate {
     pub number: u64,
     pub sub: SubstrateId,

@@ -7,7 +7,7 @@ use crate::names::{is_behind, name, numbered};
 use gem_ids::Text80;
 
 /// A status variable (this tool's profile, variables). Those of chambers and ports have the thing's number, counted from 1.
-#[derive(Clone, Copy, Debug, PartialEq, Eq)]
+#[derive(Clone, Copy)]
 pub enum StatusVariable {
     Clock,
     CommState,

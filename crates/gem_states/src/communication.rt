@@ -6,7 +6,7 @@ ghost use Rattle.gem_states.specs.Communication.{communication_table, comm_numbe
 ghost use Rattle.gem_states.specs.Triggers.{comm_rows};
 
 /// The states of communication. In `WaitDelay` the delay is over at the moment `until`, in hundredths of a second.
-#[derive(Clone, Copy, Debug, PartialEq, Eq)]
+#[derive(Clone, Copy, PartialEq, Eq)]
 pub enum Comm {
     Disabled,
     WaitDelay { until: u64 },
@@ -16,7 +16,7 @@ pub enum Comm {
 
 /// What fires a direct row of communication: the operator's `enable` and `disable`, an S1F14 with COMMACK 0, another
 /// answer to the tool's S1F13 (S1F14, S1F0, or none in T3), an S1F13 of the host, or the session's end.
-#[derive(Clone, Copy, Debug, PartialEq, Eq)]
+#[derive(Clone, Copy)]
 pub enum CommTrigger {
     Enable,
     Disable,

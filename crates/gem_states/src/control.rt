@@ -6,7 +6,7 @@ ghost use Rattle.gem_states.specs.Control.{control_table, control_number, contro
 ghost use Rattle.gem_states.specs.Triggers.{control_rows};
 
 /// The states of control: EQUIPMENT OFF-LINE, ATTEMPT ON-LINE, HOST OFF-LINE, ON-LINE LOCAL and ON-LINE REMOTE.
-#[derive(Clone, Copy, Debug, PartialEq, Eq)]
+#[derive(Clone, Copy)]
 pub enum Control {
     EquipmentOffline,
     Attempt,
@@ -18,7 +18,7 @@ pub enum Control {
 /// What fires a direct row of control: the operator's `online`, the failure of the tool's S1F1, an S1F2 of the host, the
 /// operator's `offline`, an S1F17 or S1F15 of the host, or the operator's `remote` or `local`, which is the host's
 /// GOLOCAL too.
-#[derive(Clone, Copy, Debug, PartialEq, Eq)]
+#[derive(Clone, Copy)]
 pub enum ControlTrigger {
     Online,
     Failed,

@@ -1,5 +1,5 @@
 /// What is counted over a history. The counts of commands and of control jobs stand still at the greatest number of 64 bits.
-#[derive(Clone, Copy, Debug, PartialEq, Eq)]
+#[derive(Clone, Copy)]
 pub struct Totals {
     /// The sessions that came up.
     pub sessions: u64,

@@ -1,5 +1,5 @@
 /// How many bytes the reader of a session read, and its writer wrote; each count stands still at the greatest number of 64 bits.
-#[derive(Clone, Copy, Debug, PartialEq, Eq)]
+#[derive(Clone, Copy)]
 pub struct SessionBytes {
     pub session: u64,
     pub read: u64,

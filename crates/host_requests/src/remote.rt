@@ -19,7 +19,7 @@ use tool_events::JobWord;
 use tool_jobs::Jobs;
 
 /// The remote commands: GOLOCAL, CLEARALARM, and those to a process job.
-#[derive(Clone, Copy, Debug, PartialEq, Eq)]
+#[derive(Clone, Copy, PartialEq, Eq)]
 enum RemoteCommand {
     GoLocal,
     ClearAlarm,
@@ -27,7 +27,7 @@ enum RemoteCommand {
 }
 
 /// HCACK of a command that is refused, as far as the tool uses it (SEMI E5, S2F42).
-#[derive(Clone, Copy, Debug, PartialEq, Eq)]
+#[derive(Clone, Copy)]
 pub enum Hcack {
     UnknownCommand,
     NotNow,

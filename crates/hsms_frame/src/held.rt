@@ -12,7 +12,7 @@ use std::alloc::Global;
 
 /// The bytes of a frame that isn't whole: at most fourteen and those of a text of `max` bytes. Of a longer text none
 /// is kept, but how many came.
-#[derive(Debug, Drop)]
+#[derive(Drop)]
 pub struct Held {
     pub max: u32,
     pub bytes: Vec<u8>,

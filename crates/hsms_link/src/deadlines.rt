@@ -8,7 +8,7 @@ use gem_ids::Moment;
 
 /// The times of a link in hundredths of a second: T6 and T7 (SEMI E37), and the linktest period, where 0 means that the
 /// tool asks no linktest.
-#[derive(Clone, Copy, Debug, PartialEq, Eq)]
+#[derive(Clone, Copy)]
 pub struct LinkTimes {
     pub t6: u32,
     pub t7: u32,
@@ -16,7 +16,7 @@ pub struct LinkTimes {
 }
 
 /// What is due on a link: its end by T7 or T6, or a linktest request of the tool.
-#[derive(Clone, Copy, Debug, PartialEq, Eq)]
+#[derive(Clone, Copy)]
 pub enum LinkDue {
     T7,
     T6,

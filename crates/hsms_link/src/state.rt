@@ -8,7 +8,7 @@ ghost use Rattle.hsms_link.specs.declared.state.Ping.TheVariants as ping;
 use gem_ids::Moment;
 
 /// The states of a link (SEMI E37, connection states): none, a link that isn't selected since it came up, a selected one.
-#[derive(Clone, Copy, Debug, PartialEq, Eq)]
+#[derive(Clone, Copy, PartialEq, Eq)]
 pub enum Phase {
     Down,
     NotSelected { since: Moment },
@@ -16,7 +16,7 @@ pub enum Phase {
 }
 
 /// The tool's linktests: not begun, none open since this moment, or one open that was asked at this moment.
-#[derive(Clone, Copy, Debug, PartialEq, Eq)]
+#[derive(Clone, Copy)]
 pub enum Ping {
     Off,
     Quiet { since: Moment },
@@ -24,7 +24,7 @@ pub enum Ping {
 }
 
 /// A link, with the number of its session.
-#[derive(Clone, Copy, Debug, PartialEq, Eq)]
+#[derive(Clone, Copy)]
 pub struct LinkState {
     pub session: u64,
     pub phase: Phase,

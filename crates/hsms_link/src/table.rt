@@ -9,7 +9,7 @@ use gem_ids::Moment;
 use hsms_frame::Header;
 
 /// What a header does: a header goes back, it belongs to a data message, it ends the session, or nothing.
-#[derive(Clone, Copy, Debug, PartialEq, Eq)]
+#[derive(Clone, Copy)]
 pub enum LinkAct {
     Reply(Header),
     Data,

@@ -6,7 +6,7 @@ use thiserror::Error;
 
 /// Why bytes give no item. A place is that of a byte, counted from 0. Of several faults the one of the least place is
 /// told, and of those at one place the one that stands first here.
-#[derive(Clone, Copy, Debug, PartialEq, Eq, Error)]
+#[derive(Clone, Copy, Debug, Error)]
 pub enum ItemFault {
     /// The bytes end at this place, and the item does not.
     #[error("the bytes end at {0}, within the item")]

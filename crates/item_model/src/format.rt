@@ -3,7 +3,7 @@ ghost use Rattle.item_model.specs.Format.{code as code_of, width as width_of};
 ghost use Rattle.item_model.specs.Reading.{format_with};
 
 /// The formats of items (SEMI E5, item format codes).
-#[derive(Clone, Copy, Debug, PartialEq, Eq)]
+#[derive(Clone, Copy)]
 pub enum Format {
     List,
     Binary,

@@ -14,7 +14,7 @@ use message_model::NamedValue;
 use std::alloc::{AllocError, Global};
 
 // The form in which the process jobs are named: each by its name alone, or by a list that begins with it.
-#[derive(Clone, Copy, Debug, PartialEq, Eq)]
+#[derive(Clone, Copy)]
 enum JobForm {
     Alone,
     WithMore,

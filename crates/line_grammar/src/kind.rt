@@ -1,5 +1,5 @@
 /// What a word of plain bytes names (this tool's profile, input lines).
-#[derive(Clone, Copy, Debug, PartialEq, Eq)]
+#[derive(Clone, Copy)]
 pub enum WordKind {
     /// A carrier or a job: 1 to 64 bytes, 33 to 126.
     Name,

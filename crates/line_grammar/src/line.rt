@@ -4,7 +4,7 @@ use thiserror::Error;
 use tool_events::{OperCmd, Signal};
 
 /// What an input line says (this tool's profile, input lines).
-#[derive(Debug, Drop)]
+#[derive(Drop)]
 pub enum Line {
     /// Nothing: it is empty, or a comment.
     Skip,
@@ -25,7 +25,7 @@ pub enum Line {
 }
 
 /// Why a line says nothing.
-#[derive(Clone, Copy, Debug, PartialEq, Eq, Error)]
+#[derive(Clone, Copy, Debug, Error)]
 pub enum LineFault {
     /// The line leaves the grammar at this byte, counted from 0: lines begin with the bytes before it, and none with
     /// this one behind them. It is the length of the line where more was wanted.

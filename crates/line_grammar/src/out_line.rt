@@ -3,7 +3,7 @@ use hsms_frame::Bytes;
 use tool_events::{Command, SessionCause};
 
 /// What an output line says (this tool's profile, output lines).
-#[derive(Debug, Drop)]
+#[derive(Drop)]
 pub enum OutLine {
     /// `+ k`: session k came up.
     Up(u64),

@@ -5,7 +5,7 @@ ghost use Rattle.load_port.specs.Caack.{caack_number, is_done_code};
 
 /// CAACK (SEMI E87, S3F18, S3F26 and S3F28; this tool's profile, S3F17, S3F25 and S3F27): the action is done; it is unknown; it
 /// can't be done now; a parameter is faulty; the states forbid it.
-#[derive(Clone, Copy, Debug, PartialEq, Eq)]
+#[derive(Clone, Copy)]
 pub enum Caack {
     Done,
     Unknown,

@@ -9,7 +9,7 @@ use gem_ids::CarrierId;
 
 /// A carrier that came to a port: its name, whether its id was read, and the codes of its 25 slots (SEMI E87, carrier id and
 /// slot map).
-#[derive(Clone, Copy, Debug, PartialEq, Eq)]
+#[derive(Clone, Copy)]
 pub struct Arrival {
     pub name: CarrierId,
     pub is_read: bool,
@@ -17,7 +17,7 @@ pub struct Arrival {
 }
 
 /// A port: its states, the carrier that belongs to it, and the carrier that came and isn't associated yet.
-#[derive(Clone, Copy, Debug, PartialEq, Eq)]
+#[derive(Clone, Copy)]
 pub struct Port {
     pub states: PortRecord,
     pub carrier: Option<CarrierId>,

@@ -6,7 +6,7 @@ ghost use Rattle.load_port.specs.Tables.{transfer_table, transfer_number, access
 ghost use Rattle.load_port.specs.Record.{first_record, port_starts, port_fired, is_occupied, is_in_service, is_reserved};
 
 /// The transfer states: OUT OF SERVICE, TRANSFER BLOCKED, READY TO LOAD and READY TO UNLOAD.
-#[derive(Clone, Copy, Debug, PartialEq, Eq)]
+#[derive(Clone, Copy)]
 pub enum Transfer {
     OutOfService,
     TransferBlocked,
@@ -15,28 +15,28 @@ pub enum Transfer {
 }
 
 /// The access modes: MANUAL and AUTO.
-#[derive(Clone, Copy, Debug, PartialEq, Eq)]
+#[derive(Clone, Copy)]
 pub enum Access {
     Manual,
     Auto,
 }
 
 /// The reservation states: NOT RESERVED and RESERVED.
-#[derive(Clone, Copy, Debug, PartialEq, Eq)]
+#[derive(Clone, Copy)]
 pub enum Reservation {
     NotReserved,
     Reserved,
 }
 
 /// The association states: NOT ASSOCIATED and ASSOCIATED.
-#[derive(Clone, Copy, Debug, PartialEq, Eq)]
+#[derive(Clone, Copy)]
 pub enum Association {
     NotAssociated,
     Associated,
 }
 
 /// The states of a port.
-#[derive(Clone, Copy, Debug, PartialEq, Eq)]
+#[derive(Clone, Copy)]
 pub struct PortRecord {
     pub transfer: Transfer,
     pub access: Access,

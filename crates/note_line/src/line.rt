@@ -22,13 +22,25 @@ const NOT_SPOOLED: Fate = Fate::Dropped(DropCause::NoSpool);
 
 /// The line of notes, which contracts see as the notes that wait, those that are spooled with the states of the spool, the
 /// open one, and what became of each that was made. Only `new` and `add` take memory.
-#[derive(Drop)]
 pub struct NoteLine {
     told: Vec<Told>,
     waiting: VecDeque<Note>,
     spool: Spool,
     opened: Option<Note>,
     kinds: SpooledKinds,
+}
+
+// Written out, so that it is one call wherever a line is dropped.
+impl Drop for NoteLine {
+    fn drop(self) {
+        let NoteLine {
+            told: _told,
+            waiting: _waiting,
+            spool: _spool,
+            opened: _opened,
+            kinds: _kinds,
+        } = self;
+    }
 }
 
 impl Model for NoteLine {

@@ -6,7 +6,7 @@ use crate::source::Failed;
 
 // How many calls of a source or a sink failed, and how many were answered 0 though they asked for bytes. A count stands
 // still at the greatest that a u64 holds.
-#[derive(Clone, Copy, Debug)]
+#[derive(Clone, Copy)]
 pub(crate) struct Counts {
     pub(crate) faults: u64,
     pub(crate) zeros: u64,

@@ -1,5 +1,5 @@
 /// A point that an actor passes.
-#[derive(Clone, Copy, Debug, PartialEq, Eq)]
+#[derive(Clone, Copy, PartialEq, Eq)]
 pub enum Point {
     /// Nothing is to be done just now.
     Idle,

@@ -4,7 +4,7 @@ use std::thread;
 use std::time::{self, Duration};
 
 /// A gate that holds nobody.
-#[derive(Clone, Copy, Debug)]
+#[derive(Clone, Copy)]
 pub struct OpenGate;
 
 impl Gate for OpenGate {

@@ -9,7 +9,7 @@ use std::marker::Model;
 
 /// A clock in memory, for tests and small programs. It gives the moments of its list, and then its last one again and
 /// again; of no moments it gives moment 0. It waits for nothing. Contracts see it as its list, with how often it was read.
-#[derive(Debug, Drop)]
+#[derive(Drop)]
 pub struct ListClock {
     moments: Vec<Moment>,
     reads: u64,

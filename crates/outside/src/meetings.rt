@@ -6,7 +6,7 @@ use crate::met::Met;
 
 // How many calls of a door failed, how many links it gave, and how often it answered `NotYet` and `Closed`. A count stands
 // still at the greatest that a u64 holds.
-#[derive(Clone, Copy, Debug)]
+#[derive(Clone, Copy)]
 pub(crate) struct Meetings {
     pub(crate) faults: u64,
     pub(crate) links: u64,

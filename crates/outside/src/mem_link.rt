@@ -16,7 +16,7 @@ impl LinkIn for MemSource {}
 
 /// The end of a link in memory at which bytes go out: a sink in memory, and whether it was shut. What it holds can be
 /// looked at when it was handed back.
-#[derive(Debug, Drop)]
+#[derive(Drop)]
 pub struct MemOut {
     pub sink: MemSink,
     pub is_shut: bool,

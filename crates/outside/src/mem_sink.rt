@@ -14,7 +14,7 @@ pub type NoMemory = AllocError;
 
 /// A sink that keeps its bytes in memory, for tests and small programs. Contracts see it as what it holds, with its
 /// counts.
-#[derive(Debug, Drop)]
+#[derive(Drop)]
 pub struct MemSink {
     held: Vec<u8>,
     limit: usize,

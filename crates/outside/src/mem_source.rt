@@ -8,7 +8,7 @@ use crate::source::{Failed, Source};
 use std::marker::Model;
 
 /// A source of bytes in memory, for tests and small programs. Contracts see it as what is left, with its counts.
-#[derive(Debug, Drop)]
+#[derive(Drop)]
 pub struct MemSource {
     bytes: Vec<u8>,
     at: usize,

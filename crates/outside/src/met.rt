@@ -1,5 +1,5 @@
 /// What a door answers.
-#[derive(Debug, Drop)]
+#[derive(Drop)]
 pub enum Met<I, O> {
     /// Both ends of a link that came up.
     Link(I, O),

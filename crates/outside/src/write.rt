@@ -6,7 +6,7 @@ ghost use Rattle.outside.specs.Told.{Written, WrittenFront};
 use crate::sink::Sink;
 
 /// A write failed, or took nothing of a piece.
-#[derive(Clone, Copy, Debug, PartialEq, Eq)]
+#[derive(Clone, Copy)]
 pub struct WriteFault {
     /// How many bytes were written before.
     pub written: usize,

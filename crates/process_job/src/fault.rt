@@ -4,7 +4,7 @@ use thiserror::Error;
 
 /// Why a process job isn't created: a job of its name is kept, the tool has no recipe of the name, its material is none, so many
 /// jobs are kept as can be, or there is no memory.
-#[derive(Clone, Copy, Debug, PartialEq, Eq, Error)]
+#[derive(Clone, Copy, Debug, Error)]
 pub enum JobFault {
     #[error("a process job of this name is kept")]
     NameTaken,

@@ -26,11 +26,21 @@ pub const MOST_JOBS: usize = 64;
 /// created, the tool's recipes, and the last number of creation that was given. Each name is that of one job, the
 /// numbers rise, and there are at most 64. Only `new`, `create` and `list` take memory. A job is found by its name without going
 /// through the others.
-#[derive(Drop)]
 pub struct ProcessJobs {
     jobs: ByName,
     recipes: Vec<Recipe>,
     given: u64,
+}
+
+// Written out, so that it is one call wherever all of them is dropped.
+impl Drop for ProcessJobs {
+    fn drop(self) {
+        let ProcessJobs {
+            jobs: _jobs,
+            recipes: _recipes,
+            given: _given,
+        } = self;
+    }
 }
 
 impl Model for ProcessJobs {

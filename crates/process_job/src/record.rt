@@ -7,7 +7,7 @@ ghost use Rattle.process_job.specs.Record.{first_record, job_starts, job_fired};
 
 /// The states of a process job: QUEUED, SETTING UP, WAITING FOR START, PROCESSING, PROCESS COMPLETE, PAUSING, PAUSED, STOPPING and
 /// ABORTING.
-#[derive(Clone, Copy, Debug, PartialEq, Eq)]
+#[derive(Clone, Copy)]
 pub enum JobState {
     Queued,
     SettingUp,
@@ -21,7 +21,7 @@ pub enum JobState {
 }
 
 /// The state of a process job.
-#[derive(Clone, Copy, Debug, PartialEq, Eq)]
+#[derive(Clone, Copy)]
 pub struct ProcessJobRecord {
     pub state: JobState,
 }

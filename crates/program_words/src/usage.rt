@@ -58,25 +58,42 @@ Standard error tells why the program ends. Its status is:
 
 docs/profile has all of it: words.md, configuration.md, lines.md.";
 
-// The program's commands, for its usage text.
-fn program<'a>(alloc: Global) -> Result<Command<'a>, AllocError> {
-    let feed = Command::new(alloc, "feed").about(
+// The commands.
+fn feed<'a>(alloc: Global) -> Command<'a> {
+    Command::new(alloc, "feed").about(
         "Reads lines from standard input and prints lines: feed CONFIG",
-    );
-    let serve = Command::new(alloc, "serve").about(
+    )
+}
+
+fn serve<'a>(alloc: Global) -> Command<'a> {
+    Command::new(alloc, "serve").about(
         "Listens on 127.0.0.1 and reads a script from standard input: serve CONFIG",
-    );
-    let batch = Command::new(alloc, "batch").about(
+    )
+}
+
+fn batch<'a>(alloc: Global) -> Command<'a> {
+    Command::new(alloc, "batch").about(
         "Processes carriers, reads no input and prints a summary: batch SEED CARRIERS CONFIG",
-    );
-    let help = Arg::new(alloc, "help")
+    )
+}
+
+// The options.
+fn help<'a>(alloc: Global) -> Arg<'a> {
+    Arg::new(alloc, "help")
         .long("help")
         .action(ArgAction::SetTrue)
-        .help("Prints this text");
-    let version = Arg::new(alloc, "version")
+        .help("Prints this text")
+}
+
+fn version<'a>(alloc: Global) -> Arg<'a> {
+    Arg::new(alloc, "version")
         .long("version")
         .action(ArgAction::SetTrue)
-        .help("Prints the name and the version");
+        .help("Prints the name and the version")
+}
+
+// The program, with what stands around its commands and options in its usage text.
+fn described<'a>(alloc: Global) -> Command<'a> {
     Command::new(alloc, "gem300_tool")
         .version("1.0.00")
         .about("A GEM300 equipment controller, after SEMI E5, E30, E37, E87, E90, E40 and E94")
@@ -84,14 +101,27 @@ fn program<'a>(alloc: Global) -> Result<Command<'a>, AllocError> {
             "gem300_tool feed CONFIG\n       gem300_tool serve CONFIG\n       gem300_tool batch SEED CARRIERS CONFIG\n       gem300_tool --help | --version",
         )
         .after_help(MORE)
+}
+
+// The same, with no option and no command that it does not name itself.
+fn bare<'a>(alloc: Global) -> Command<'a> {
+    described(alloc)
         .disable_help_flag(true)
         .disable_version_flag(true)
         .disable_help_subcommand(true)
-        .subcommand(feed)?
-        .subcommand(serve)?
-        .subcommand(batch)?
-        .arg(help)?
-        .arg(version)
+}
+
+// The program with its commands.
+fn commanded<'a>(alloc: Global) -> Result<Command<'a>, AllocError> {
+    bare(alloc)
+        .subcommand(feed(alloc))?
+        .subcommand(serve(alloc))?
+        .subcommand(batch(alloc))
+}
+
+// The program with its commands and options.
+fn program<'a>(alloc: Global) -> Result<Command<'a>, AllocError> {
+    commanded(alloc)?.arg(help(alloc))?.arg(version(alloc))
 }
 
 /// The text of `--help`: the commands, what each reads and writes, the statuses, and where the documentation is.

@@ -9,7 +9,7 @@ use gem_ids::Text80;
 /// profile, messages): a job isn't there, or a name is none; it can't be done at the job's state, or in ON-LINE LOCAL; a job of
 /// the name is there; the tool has no recipe of the name; the material is none; there are as many jobs as there can be; the command
 /// is none; or the tool doesn't offer it.
-#[derive(Clone, Copy, Debug, PartialEq, Eq)]
+#[derive(Clone, Copy)]
 pub enum JobError {
     UnknownObject,
     NotNow,

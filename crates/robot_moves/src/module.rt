@@ -7,7 +7,7 @@ use gem_ids::CmdNo;
 use tool_events::Command;
 
 /// The states of a module: Idle, Busy with one command, and Down.
-#[derive(Clone, Copy, Debug, PartialEq, Eq)]
+#[derive(Clone, Copy)]
 pub enum ModuleState {
     Idle,
     Busy,
@@ -15,7 +15,7 @@ pub enum ModuleState {
 }
 
 /// A module: the robot, the aligner or a chamber. It is Idle, Busy with one command, which was fetched or not, or Down.
-#[derive(Clone, Copy, Debug, PartialEq, Eq)]
+#[derive(Clone, Copy)]
 pub enum Module {
     Idle,
     Busy { command: Command, fetched: bool },

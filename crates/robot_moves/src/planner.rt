@@ -13,7 +13,7 @@ use std::alloc::AllocError;
 use tool_events::Task;
 
 /// Finds the next move of the tool.
-#[derive(Clone, Copy, Debug)]
+#[derive(Clone, Copy)]
 pub struct Planner {}
 
 impl Planner {

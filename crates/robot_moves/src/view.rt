@@ -6,7 +6,7 @@ use tool_events::Task;
 /// What the planner is told of a substrate that has a place: its name and its number of registration; where it is, and its own
 /// slot; whether it is aligned, finished, and IN PROCESS; whether it may leave its slot, which is so where its job is
 /// PROCESSING; the chambers of its recipe, bit c - 1 for chamber c; and the recipe.
-#[derive(Clone, Copy, Debug, PartialEq, Eq)]
+#[derive(Clone, Copy)]
 pub struct PlaceView {
     pub sub: SubstrateId,
     pub number: u64,
@@ -21,7 +21,7 @@ pub struct PlaceView {
 }
 
 /// A move: the module, the row of table 16 that fires at it, 1 to 4, and the task that the module is given.
-#[derive(Clone, Copy, Debug, PartialEq, Eq)]
+#[derive(Clone, Copy)]
 pub struct Move {
     pub module: ModuleId,
     pub row: u8,

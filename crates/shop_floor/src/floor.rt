@@ -27,11 +27,21 @@ use std::marker::Model;
 /// of the carriers in the order in which they were created, and the number that the next carrier gets. There are at most four
 /// ports and sixteen carriers. Ports are numbered from 1 on. So are the carriers, by creation: a number is never given again.
 /// Only `new`, `fire` and `write` take memory.
-#[derive(Drop)]
 pub struct ShopFloor {
     pub(crate) ports: Ports,
     pub(crate) carriers: Carriers,
     next_carrier: u64,
+}
+
+// Written out, so that it is one call wherever a floor is dropped.
+impl Drop for ShopFloor {
+    fn drop(self) {
+        let ShopFloor {
+            ports: _ports,
+            carriers: _carriers,
+            next_carrier: _next_carrier,
+        } = self;
+    }
 }
 
 impl Model for ShopFloor {

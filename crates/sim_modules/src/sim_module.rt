@@ -10,7 +10,7 @@ use std::marker::Model;
 use tool_events::{Command, Signal};
 
 /// A simulated robot, aligner or chamber. It does what it is told, but fails at the acts of its plan.
-#[derive(Debug, Drop)]
+#[derive(Drop)]
 pub struct SimModule {
     number: ModuleId,
     fails: Vec<u64>,

@@ -5,7 +5,7 @@ use thiserror::Error;
 
 /// Why a substrate isn't registered: another is at the place, its name is that of one that has a place, so many have a place
 /// as can, or there is no memory.
-#[derive(Clone, Copy, Debug, PartialEq, Eq, Error)]
+#[derive(Clone, Copy, Debug, Error)]
 pub enum PlaceFault {
     #[error("a substrate is there")]
     Taken(SubstrateId),

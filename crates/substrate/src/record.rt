@@ -7,14 +7,14 @@ ghost use Rattle.substrate.specs.Tables.{occupancy_table, occupancy_number, tran
 ghost use Rattle.substrate.specs.Record.{first_location, first_record, location_starts, location_fired, substrate_starts, substrate_fired, is_at_source, is_needing, is_in_process, is_finished};
 
 /// The states of a location: UNOCCUPIED and OCCUPIED.
-#[derive(Clone, Copy, Debug, PartialEq, Eq)]
+#[derive(Clone, Copy)]
 pub enum Occupancy {
     Unoccupied,
     Occupied,
 }
 
 /// The transport states of a substrate: AT SOURCE, AT WORK and AT DESTINATION.
-#[derive(Clone, Copy, Debug, PartialEq, Eq)]
+#[derive(Clone, Copy)]
 pub enum Transport {
     AtSource,
     AtWork,
@@ -23,7 +23,7 @@ pub enum Transport {
 
 /// The processing states of a substrate: NEEDS PROCESSING, IN PROCESS, PROCESSED, ABORTED, STOPPED, REJECTED (which this tool
 /// doesn't reach), LOST and SKIPPED.
-#[derive(Clone, Copy, Debug, PartialEq, Eq)]
+#[derive(Clone, Copy)]
 pub enum Processing {
     NeedsProcessing,
     InProcess,
@@ -36,13 +36,13 @@ pub enum Processing {
 }
 
 /// The state of a location.
-#[derive(Clone, Copy, Debug, PartialEq, Eq)]
+#[derive(Clone, Copy)]
 pub struct LocationRecord {
     pub occupancy: Occupancy,
 }
 
 /// The states of a substrate.
-#[derive(Clone, Copy, Debug, PartialEq, Eq)]
+#[derive(Clone, Copy)]
 pub struct SubstrateRecord {
     pub transport: Transport,
     pub processing: Processing,

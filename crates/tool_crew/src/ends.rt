@@ -3,7 +3,7 @@
 use actors::ActorEnd;
 
 /// How each actor ended; of the modules the first that didn't end with `Quit`, if any.
-#[derive(Clone, Copy, Debug, PartialEq, Eq)]
+#[derive(Clone, Copy)]
 pub struct Ends {
     pub host: ActorEnd,
     pub operator: ActorEnd,

@@ -99,7 +99,7 @@ pub enum OperCmd {
 pub const TEXT_BYTES: u32 = 262_144;
 
 /// What happens to the tool.
-#[derive(Debug, Drop)]
+#[derive(Debug)]
 pub enum Event {
     /// A link came up.
     LinkUp,
@@ -121,4 +121,28 @@ pub enum Event {
     Listen,
     /// A script waits until this port is ready to unload.
     Watch(PortNo),
+}
+
+// Written out, so that it is one call wherever an event is dropped.
+impl Drop for Event {
+    fn drop(self) {
+        match self {
+            Event::Host {
+                session: _session,
+                arrival: _arrival,
+            } => {}
+            Event::LinkUp
+            | Event::LinkDown {
+                session: _,
+                cause: _,
+            }
+            | Event::Take { session: _ }
+            | Event::Oper(_)
+            | Event::Signal(_)
+            | Event::Fetch(_)
+            | Event::Tick
+            | Event::Listen
+            | Event::Watch(_) => {}
+        }
+    }
 }

@@ -43,7 +43,6 @@ pub const MOST_CREATED: usize = 50;
 /// robot, 2 the aligner, and 2 + c chamber c; which substrate has which place; the states of the locations by their numbers; the
 /// substrates of the carriers that are here, in the order of their registration; and the process jobs and control jobs. Only `new`,
 /// `fire`, `write`, `create_process` and `create_control` take memory.
-#[derive(Drop)]
 pub struct ToolFloor {
     pub(crate) shop: ShopFloor,
     pub(crate) modules: Modules,
@@ -52,6 +51,21 @@ pub struct ToolFloor {
     pub(crate) substrates: Substrates,
     pub(crate) commands: u64,
     pub(crate) jobs: Jobs,
+}
+
+// Written out, so that it is one call wherever a floor is dropped.
+impl Drop for ToolFloor {
+    fn drop(self) {
+        let ToolFloor {
+            shop: _shop,
+            modules: _modules,
+            places: _places,
+            locations: _locations,
+            substrates: _substrates,
+            commands: _commands,
+            jobs: _jobs,
+        } = self;
+    }
 }
 
 impl Model for ToolFloor {

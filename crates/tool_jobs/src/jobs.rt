@@ -16,10 +16,19 @@ use tool_events::Recipe;
 
 /// The process jobs and the control jobs of the tool, which contracts see as both. A process job that is left in a control job is
 /// kept, and belongs to no other; one control job is active at most. Only `new` and the calls that create take memory.
-#[derive(Drop)]
 pub struct Jobs {
     pub(crate) process: ProcessJobs,
     pub(crate) control: ControlJobs,
+}
+
+// Written out, so that it is one call wherever all of them is dropped.
+impl Drop for Jobs {
+    fn drop(self) {
+        let Jobs {
+            process: _process,
+            control: _control,
+        } = self;
+    }
 }
 
 impl Model for Jobs {

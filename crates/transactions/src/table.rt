@@ -18,7 +18,7 @@ use std::marker::Model;
 pub type NoMemory = AllocError;
 
 /// No transaction can be started, since so many are open.
-#[derive(Clone, Copy, Debug, PartialEq, Eq)]
+#[derive(Clone, Copy)]
 pub struct Full(pub u32);
 
 // So many transactions are open at most.

@@ -7,7 +7,7 @@ use gem_ids::Moment;
 
 /// What a transaction is for: S1F13, which establishes communication; S1F1, which attempts to go on-line; or the note of
 /// a number, an S5F1 or S6F11.
-#[derive(Clone, Copy, Debug, PartialEq, Eq)]
+#[derive(Clone, Copy)]
 pub enum What {
     Establish,
     Attempt,
@@ -16,7 +16,7 @@ pub enum What {
 
 /// A primary of the tool that waits for its answer: the system bytes, stream and function that it was sent with, and the
 /// moment, in hundredths of a second, at which T3 is over.
-#[derive(Clone, Copy, Debug, PartialEq, Eq)]
+#[derive(Clone, Copy)]
 pub struct Open {
     pub system: u32,
     pub stream: u8,

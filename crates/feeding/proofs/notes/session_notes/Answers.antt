@@ -2,7 +2,7 @@ use Rattle.std.proofs.Common.{◌≡◌, ◌+◌, suc, List, [], ◌∷◌, leng
 use Rattle.line_feeding.specs.declared.ended.SessionNote.{SessionNote}
 use Rattle.line_feeding.specs.Notes.{note_of}
 use Rattle.line_feeding.proofs.Noting.{all_known}
-use Rattle.run_notes.proofs.notes.session_notes.Goals as goal
+use Rattle.feeding.proofs.notes.session_notes.Goals as goal
 
 pub loop-session-preserved : goal.loop-session-preserved
 loop-session-preserved c =

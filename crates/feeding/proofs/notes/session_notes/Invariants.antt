@@ -1,7 +1,7 @@
 use Rattle.std.proofs.Common.{◌≡◌, ℕ, suc, ◌<◌, length, Some, slice_get}
 use Rattle.line_feeding.specs.Reads.{AreCounts}
 use Rattle.line_feeding.specs.Notes.{note_of}
-use Rattle.run_notes.proofs.notes.session_notes.Given as goal
+use Rattle.feeding.proofs.notes.session_notes.Given as goal
 
 -- the sessions before this one have their notes
 abbrev pub invariant-loop-session : goal.invariant-loop-session

@@ -1,5 +1,5 @@
 use Rattle.std.proofs.Common.{refl}
-use Rattle.run_notes.proofs.notes.session_note.Goals as goal
+use Rattle.feeding.proofs.notes.session_note.Goals as goal
 
 pub returns : goal.returns
 returns c = λ read are. rw (c.unwrap_or.ensures, c.session_end.ensures, c.session_bytes.ensures, c.of.ensures, are c.args.session) refl

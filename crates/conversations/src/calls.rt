@@ -5,7 +5,7 @@ use crate::told::{tell_ended, tell_printed};
 use gem_ids::Text80;
 use outside::{MemSink, MemSource, Sink, Source};
 use std::alloc::{AllocError, Global};
-use top_calls::feed;
+use top_calls::{Ended, feed};
 
 /// The first read of the configuration, read of the input and write that fail, counted from 1 (0: none does), how many bytes a read of
 /// the input gives at most, and how many bytes the sink takes in all.
@@ -75,8 +75,19 @@ fn sink_of(alloc: Global, limits: Limits) -> Result<MemSink, AllocError> {
     Ok(MemSink::new(alloc, fails).with_limit(limits.limit))
 }
 
-// Calls `feed`, and tells how the run ended and how many entries it has. It tells nothing of the contract of `feed`, which is long, so
-// that all else is proved without it; and it alone calls `feed`, since each call takes a minute to prove.
+/// Calls `feed`. It tells nothing of the contract of `feed`, which is long, so that all else is proved without it; and it alone calls `feed`,
+/// since each call takes long to prove.
+pub fn fed<S: Source, K: Sink>(
+    alloc: Global,
+    words: &[Text80],
+    config: &mut MemSource,
+    input: &mut S,
+    out: &mut K,
+) -> Ended {
+    feed(alloc, words, config, input, out)
+}
+
+// Runs, and tells how the run ended and how many entries it has.
 fn call<S: Source, K: Sink>(
     alloc: Global,
     words: &[Text80],
@@ -85,7 +96,7 @@ fn call<S: Source, K: Sink>(
     out: &mut K,
     told: &mut String,
 ) -> Result<usize, AllocError> {
-    let ended = feed(alloc, words, config, input, out);
+    let ended = fed(alloc, words, config, input, out);
     tell_ended(alloc, told, &ended)?;
     Ok(ended.history.as_slice().len())
 }

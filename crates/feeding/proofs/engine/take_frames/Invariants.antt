@@ -7,8 +7,8 @@ use Rattle.line_feeding.specs.Going.{Goes, SinkView, seen}
 use Rattle.feeding.proofs.engine.take_frames.Given as goal
 
 -- the core is whole, and the session up; and whatever the rest does, with what was taken it does all
-abbrev pub invariant-loop-core : goal.invariant-loop-core
-invariant-loop-core g l =
+abbrev pub invariant-loop-alloc : goal.invariant-loop-alloc
+invariant-loop-alloc g l =
     let see = seen g.K.Sink.held g.K.Sink.faults g.K.Sink.refusals in
     record {
       whole : l.core.is_whole ≡ true;
@@ -16,5 +16,5 @@ invariant-loop-core g l =
       joined : (core : CoreView) (out : SinkView) (result : Result (Unit {0}) Halt) → Goes l.core core (see l.out) out (taken_all l.core.state) result → Goes l.fn.core core (see l.fn.out) out (taken_all l.fn.core.state) result;
     }
 
-abbrev pub decreases-loop-core : goal.decreases-loop-core
-decreases-loop-core g l = length l.core.state.waiting
+abbrev pub decreases-loop-alloc : goal.decreases-loop-alloc
+decreases-loop-alloc g l = length l.core.state.waiting

@@ -7,31 +7,31 @@ use Rattle.batch_model.specs.Batch.{Standing}
 use Rattle.batching.proofs.Taking.{Makes-take, Makes-take-stops, Makes-take-none}
 use Rattle.batching.proofs.engine.take_frames.Goals as goal
 
-pub loop-batch-preserved : goal.loop-batch-preserved
-loop-batch-preserved c =
-    let some : step c.loop-batch.batch.core.state 0 (Take c.args.session) ≢ None = search rules in
-    let takes = take_one c.loop-batch.batch.core.state c.args.session c.idle.ensures.valid c.loop-batch.invariant.up some in
-    let state : c.take_one.new.batch.core.state ≡ after c.loop-batch.batch.core.state 0 (Take c.args.session) = ap (λ (s : Standing). s.state) c.in-Ok.ensures.made.on.1 in
+pub loop-alloc-preserved : goal.loop-alloc-preserved
+loop-alloc-preserved c =
+    let some : step c.loop-alloc.batch.core.state 0 (Take c.args.session) ≢ None = search rules in
+    let takes = take_one c.loop-alloc.batch.core.state c.args.session c.idle.ensures.valid c.loop-alloc.invariant.up some in
+    let state : c.take_one.new.batch.core.state ≡ after c.loop-alloc.batch.core.state 0 (Take c.args.session) = ap (λ (s : Standing). s.state) c.in-Ok.ensures.made.on.1 in
     record {
       whole = c.in-Ok.ensures.whole;
       up = subst (λ (s : State). is_session_up s c.args.session ≡ true) (sym state) takes.up;
-      joined = λ b result rest. c.loop-batch.invariant.joined b result
-          (Makes-take c.loop-batch.batch c.take_one.new.batch b c.args.session tt result c.idle.ensures.valid c.loop-batch.invariant.up some c.in-Ok.ensures.made rest);
+      joined = λ b result rest. c.loop-alloc.invariant.joined b result
+          (Makes-take c.loop-alloc.batch c.take_one.new.batch b c.args.session tt result c.idle.ensures.valid c.loop-alloc.invariant.up some c.in-Ok.ensures.made rest);
     }
 
-pub loop-batch-smaller : goal.loop-batch-smaller
-loop-batch-smaller c =
-    let some : step c.loop-batch.batch.core.state 0 (Take c.args.session) ≢ None = search rules in
-    let takes = take_one c.loop-batch.batch.core.state c.args.session c.idle.ensures.valid c.loop-batch.invariant.up some in
-    let state : c.take_one.new.batch.core.state ≡ after c.loop-batch.batch.core.state 0 (Take c.args.session) = ap (λ (s : Standing). s.state) c.in-Ok.ensures.made.on.1 in
-    subst (λ (s : State). length s.waiting < length c.loop-batch.batch.core.state.waiting) (sym state) takes.fewer
+pub loop-alloc-smaller : goal.loop-alloc-smaller
+loop-alloc-smaller c =
+    let some : step c.loop-alloc.batch.core.state 0 (Take c.args.session) ≢ None = search rules in
+    let takes = take_one c.loop-alloc.batch.core.state c.args.session c.idle.ensures.valid c.loop-alloc.invariant.up some in
+    let state : c.take_one.new.batch.core.state ≡ after c.loop-alloc.batch.core.state 0 (Take c.args.session) = ap (λ (s : Standing). s.state) c.in-Ok.ensures.made.on.1 in
+    subst (λ (s : State). length s.waiting < length c.loop-alloc.batch.core.state.waiting) (sym state) takes.fewer
 
 pub returns-in-Err-clause-made : goal.returns-in-Err-clause-made
 returns-in-Err-clause-made c =
-    let some : step c.loop-batch.batch.core.state 0 (Take c.args.session) ≢ None = search rules in
-    c.loop-batch.invariant.joined _ _ (Makes-take-stops c.loop-batch.batch c.take_one.new.batch c.args.session c.in-Err.stop c.idle.ensures.valid c.loop-batch.invariant.up some c.in-Err.ensures.made)
+    let some : step c.loop-alloc.batch.core.state 0 (Take c.args.session) ≢ None = search rules in
+    c.loop-alloc.invariant.joined _ _ (Makes-take-stops c.loop-alloc.batch c.take_one.new.batch c.args.session c.in-Err.stop c.idle.ensures.valid c.loop-alloc.invariant.up some c.in-Err.ensures.made)
 
 pub returns-clause-made : goal.returns-clause-made
 returns-clause-made c =
-    let none : step c.loop-batch.batch.core.state 0 (Take c.args.session) ≡ None = search rules in
-    c.loop-batch.invariant.joined _ _ (Makes-take-none c.loop-batch.batch c.args.session c.idle.ensures.valid c.loop-batch.invariant.up none)
+    let none : step c.loop-alloc.batch.core.state 0 (Take c.args.session) ≡ None = search rules in
+    c.loop-alloc.invariant.joined _ _ (Makes-take-none c.loop-alloc.batch c.args.session c.idle.ensures.valid c.loop-alloc.invariant.up none)

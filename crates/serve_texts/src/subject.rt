@@ -24,55 +24,49 @@ use crate::loopback::run_visited;
 use crate::memory::{run_alone, run_hasty};
 use crate::peers::free_port;
 use crate::told::answer_of;
-use anyhow::{Result, bail};
 use std::alloc::{AllocError, Global};
 use std::net::{Net, TcpListener, TcpStream};
 use std::sync::Wait;
 use std::thread::Threads;
 use std::time;
-use test_lines::{Subject, bytes};
 
 /// What the next run is given, and what the last one told.
-pub struct Serves<'a, R> {
-    rt: &'a R,
+pub struct Serves {
     given: Given,
     told: String,
 }
 
 // Written out, so that it is proved once.
-impl<R> Drop for Serves<'_, R> {
+impl Drop for Serves {
     fn drop(self) {
         let Serves {
-            rt: _rt,
             given: _given,
             told: _told,
         } = self;
     }
 }
 
-impl<'a, R> Serves<'a, R> {
+impl Serves {
     /// Nothing is given, and nothing has run.
-    pub fn new(rt: &'a R, alloc: Global) -> Serves<'a, R> {
+    pub fn new(alloc: Global) -> Serves {
         Serves {
-            rt,
             given: Given::none(alloc),
             told: String::new(alloc),
         }
     }
 }
 
-impl<
+/// What is answered to a line: where it asks, what the last run told, and else nothing, or why it says nothing.
+pub fn answer<
     R: Net<Listener = TcpListener, Stream = TcpStream> + Threads + Wait + Sync + time::Clock,
-> Subject for Serves<'_, R> {
-    /// What is answered to a line: where it asks, what the last run told, and else nothing. The error: it says nothing.
-    fn answer(&mut self, alloc: Global, said: &str) -> Result<String> {
-        if let Some(answer) = answer_of(self.told.as_str(), said) {
-            return Ok(String::from_str(alloc, answer)?);
-        }
-        match take(self.rt, alloc, &mut self.given, &mut self.told, said) {
-            Ok(true) => Ok(String::new(alloc)),
-            _ => bail!("it says nothing, or there is no memory"),
-        }
+>(rt: &R, alloc: Global, serves: &mut Serves, said: &str) -> Result<String, AllocError> {
+    if let Some(answer) = answer_of(serves.told.as_str(), said) {
+        return String::from_str(alloc, answer);
+    }
+    if take(rt, alloc, serves, said)? {
+        Ok(String::new(alloc))
+    } else {
+        String::from_str(alloc, "it says nothing")
     }
 }
 
@@ -80,15 +74,14 @@ impl<
 fn take<R: Net<Listener = TcpListener, Stream = TcpStream> + Threads + Wait + Sync + time::Clock>(
     rt: &R,
     alloc: Global,
-    given: &mut Given,
-    told: &mut String,
+    serves: &mut Serves,
     said: &str,
 ) -> Result<bool, AllocError> {
     let (first, rest) = said.split_once(' ').unwrap_or((said, ""));
     if first == "run" {
-        run(rt, alloc, given, told, rest)
+        run(rt, alloc, serves, rest)
     } else {
-        give(alloc, given, first, rest)
+        give(alloc, &mut serves.given, first, rest)
     }
 }
 
@@ -96,13 +89,12 @@ fn take<R: Net<Listener = TcpListener, Stream = TcpStream> + Threads + Wait + Sy
 fn run<R: Net<Listener = TcpListener, Stream = TcpStream> + Threads + Wait + Sync + time::Clock>(
     rt: &R,
     alloc: Global,
-    given: &mut Given,
-    told: &mut String,
+    serves: &mut Serves,
     way: &str,
 ) -> Result<bool, AllocError> {
-    match ran(rt, alloc, given, way)? {
-        Some(all) => {
-            *told = all;
+    match ran(rt, alloc, &mut serves.given, way)? {
+        Some(told) => {
+            serves.told = told;
             Ok(true)
         }
         None => Ok(false),
@@ -205,7 +197,7 @@ fn add_line(place: &mut Vec<u8>, text: &str) -> Result<bool, AllocError> {
 // Adds bytes, as hex digits, as often as stands behind them. False: these are none.
 fn add_bytes(alloc: Global, place: &mut Vec<u8>, words: &str) -> Result<bool, AllocError> {
     let (digits, times) = words.split_once(' ').unwrap_or((words, "1"));
-    match (bytes(alloc, digits), times.parse::<u32>()) {
+    match (hex::decode(alloc, digits), times.parse::<u32>()) {
         (Ok(once), Ok(times)) => repeat(place, once.as_slice(), times),
         _ => Ok(false),
     }

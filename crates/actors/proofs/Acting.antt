@@ -6,7 +6,7 @@ use Rattle.tool_events.specs.declared.event.Event.TheVariants as event
 use Rattle.tool_events.specs.declared.event.Signal.{Signal}
 use Rattle.tool_events.specs.declared.answer.Answer.{Answer}
 use Rattle.tool_events.specs.declared.answer.Answer.TheVariants as answer
-use Rattle.tool_events.specs.declared.answer.Command.{Command}
+use Rattle.tool_tasks.specs.declared.task.Command.{Command}
 use Rattle.tool_events.specs.declared.answer.PostFault.{PostFault}
 use Rattle.sim_modules.specs.Acting.{Acting, answered, one_more}
 use Rattle.actors.specs.Ends.{NoneEnded, IsRefused}

@@ -3,7 +3,7 @@
 ghost use Rattle.std.specs.Prelude.{◌≡◌, ◌∷◌, [], codes, true, false, Some, None};
 ghost use Rattle.gem_ids.specs.declared.numbers.CmdNo.{CmdNo};
 ghost use Rattle.robot_moves.specs.declared.module.Module.TheVariants.{Idle, Busy};
-ghost use Rattle.tool_events.specs.declared.answer.Task.TheVariants as task;
+ghost use Rattle.tool_tasks.specs.declared.task.Task.TheVariants as task;
 ghost use Rattle.batch_model.specs.declared.primary.Primary.TheVariants as primary;
 ghost use Rattle.batch_model.specs.Host.{enable_request, primary_in, answer_to};
 ghost use Rattle.batch_model.specs.Modules.{fetched_from, chosen};

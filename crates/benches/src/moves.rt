@@ -8,7 +8,7 @@ use anyhow::{Result, bail};
 use gem_ids::{LocId, PortNo, SlotNo, SubstrateId, Text80};
 use robot_moves::{Modules, PlaceView, Planner};
 use std::alloc::Global;
-use tool_events::Task;
+use tool_tasks::Task;
 
 const CHAMBERS: u8 = 8;
 

@@ -14,7 +14,7 @@ use Rattle.hsms_link.specs.declared.table.LinkAct.{LinkAct}
 use Rattle.hsms_link.specs.declared.table.LinkAct.TheVariants as link
 use Rattle.hsms_link.specs.LinkTable.{link_act}
 use Rattle.item_model.specs.Data.{Data}
-use Rattle.gem_ids.specs.Civil.{moment_in}
+use Rattle.civil_time.specs.Civil.{moment_in}
 use Rattle.message_model.specs.declared.gem_primary.GemMsg.{GemMsg}
 use Rattle.message_model.specs.declared.gem_primary.GemMsg.TheVariants as msg
 use Rattle.message_model.specs.ShopPrimaries.{Message, S3F17, S3F25, S3F27, S14F9, S16F5, S16F11, S16F17, S16F19, S16F21, S16F27}
@@ -30,7 +30,7 @@ use Rattle.control_job.specs.declared.command.CtlAct.TheVariants.{Row, Head}
 use Rattle.tool_jobs.specs.Jobs.{Jobs}
 use Rattle.request_model.specs.declared.error.JobError.{JobError}
 use Rattle.request_model.specs.Requests.{command_named, command_error, asked_process, process_error, asked_control, request_error, cancel_error, control_command_error, control_after}
-use Rattle.tool_events.specs.declared.answer.Command.{Command}
+use Rattle.tool_tasks.specs.declared.task.Command.{Command}
 use Rattle.tool_events.specs.declared.event.Event.{Event}
 use Rattle.tool_events.specs.declared.event.Event.TheVariants as event
 use Rattle.tool_events.specs.declared.event.OperCmd.{OperCmd}

@@ -16,8 +16,8 @@ use Rattle.load_port.specs.Caack.{caack_number}
 use Rattle.message_model.specs.declared.shop_reply.ShopReply.TheVariants as reply
 use Rattle.shop_floor.specs.Floor.{Floor}
 use Rattle.shop_floor.specs.Requests.{at_port, creation_of, proceeding, cancelling, word_rows, carrier_rows}
-use Rattle.tool_events.specs.declared.answer.Task.{Task}
-use Rattle.tool_events.specs.declared.answer.Task.TheVariants as task
+use Rattle.tool_tasks.specs.declared.task.Task.{Task}
+use Rattle.tool_tasks.specs.declared.task.Task.TheVariants as task
 use Rattle.robot_moves.specs.declared.module.Module.{Module}
 use Rattle.robot_moves.specs.declared.module.Module.TheVariants.{Idle, Busy, Down}
 use Rattle.robot_moves.specs.Modules.{module_at}

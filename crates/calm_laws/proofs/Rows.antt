@@ -10,8 +10,8 @@ use Rattle.gem_tables.specs.Table.{firing, is_one_of, after}
 use Rattle.gem_tables.specs.declared.firing.Firing.{Firing}
 use Rattle.gem_tables.proofs.Machines.{starts_cases}
 use Rattle.gem_tables.proofs.Rows.{one_of_cases}
-use Rattle.tool_events.specs.declared.answer.Task.{Task}
-use Rattle.tool_events.specs.declared.answer.Task.TheVariants as task
+use Rattle.tool_tasks.specs.declared.task.Task.{Task}
+use Rattle.tool_tasks.specs.declared.task.Task.TheVariants as task
 use Rattle.robot_moves.specs.Modules.{module_at}
 use Rattle.carrier.specs.declared.carrier.Carrier.{Carrier}
 use Rattle.carrier.specs.Carriers.{carrier_numbered}

@@ -5,8 +5,8 @@ use Rattle.std.proofs.lemmas.Bool.{and_parts, and_from, or_left, or_right}
 use Rattle.std.proofs.lemmas.Bool.Decides.{nat_tests}
 use Rattle.toml.specs.Data.{Data, Items, no_items, item, Members, as_table, as_array, get_member}
 use Rattle.tool_events.specs.Configs.{is_usable, are_usable}
-use Rattle.tool_events.specs.declared.recipes.Recipe.{Recipe}
-use Rattle.tool_events.specs.declared.recipes.RecipeChambers.{RecipeChambers}
+use Rattle.tool_tasks.specs.declared.recipes.Recipe.{Recipe}
+use Rattle.tool_tasks.specs.declared.recipes.RecipeChambers.{RecipeChambers}
 use Rattle.configuration.specs.Values.{is_between, as_natural, number_in, text_of, has, numbers_behind, some_items, filled_list, has_other}
 use Rattle.configuration.specs.Recipes.{most_recipes, recipe_keys, chambers_in, recipe_in, has_name, with_recipe, recipes_behind, recipes_of}
 use Rattle.configuration.specs.Rules.{recipes, said_at, taken}

@@ -3,8 +3,8 @@ use Rattle.std.specs.Prelude.{ℕ, Bool, true, ◌||◌, nat_le, if◌then◌els
 use Rattle.std.specs.List.{list_any}
 use Rattle.std.specs.Str.{bytes_eq}
 use Rattle.toml.specs.Data.{Data, Items, no_items, item, Members, as_table, get_member}
-use Rattle.tool_events.specs.declared.recipes.Recipe.{Recipe}
-use Rattle.tool_events.specs.declared.recipes.RecipeChambers.{RecipeChambers}
+use Rattle.tool_tasks.specs.declared.recipes.Recipe.{Recipe}
+use Rattle.tool_tasks.specs.declared.recipes.RecipeChambers.{RecipeChambers}
 use Rattle.configuration.specs.Values.{text_of, has, numbers_behind, filled_list, has_other}
 
 -- the greatest number of recipes (this tool's profile, limits)

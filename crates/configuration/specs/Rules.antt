@@ -10,7 +10,7 @@ use Rattle.tool_events.specs.declared.config.CommStart.TheVariants as start
 use Rattle.tool_events.specs.declared.config.ControlStart.{ControlStart}
 use Rattle.tool_events.specs.declared.config.ControlStart.TheVariants as begin
 use Rattle.tool_events.specs.declared.config.SpoolStreams.{SpoolStreams}
-use Rattle.tool_events.specs.declared.recipes.Recipe.{Recipe}
+use Rattle.tool_tasks.specs.declared.recipes.Recipe.{Recipe}
 use Rattle.configuration.specs.declared.fault.ConfigFault.{ConfigFault}
 use Rattle.configuration.specs.declared.fault.ConfigFault.TheVariants as fault
 use Rattle.configuration.specs.Values.{number_in, text_of, word_of, streams_of, has_other}

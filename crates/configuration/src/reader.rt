@@ -11,7 +11,8 @@ use crate::recipes::{recipe_for_all, recipes_of, value_at};
 use crate::values::{communication_of, control_of, number_in, streams_of, text_of};
 use gem_ids::{Moment, Text80};
 use toml::Table;
-use tool_events::{CommStart, Config, ControlStart, Recipes, SpoolStreams};
+use tool_events::{CommStart, Config, ControlStart, SpoolStreams};
+use tool_tasks::Recipes;
 
 // No notes are spooled.
 const NO_STREAMS: SpoolStreams = SpoolStreams {

@@ -9,7 +9,7 @@ use crate::keys::has_other_key;
 use crate::values::{Numbers, filled_list, numbers_of, text_of};
 use gem_ids::Text80;
 use toml::{Table, Value};
-use tool_events::{Recipe, RecipeChambers, Recipes};
+use tool_tasks::{Recipe, RecipeChambers, Recipes};
 
 // The greatest number of recipes.
 const MOST_RECIPES: usize = 32;

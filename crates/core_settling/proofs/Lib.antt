@@ -1,1 +1,4 @@
+pub mod Sendings
+pub mod LineRows
+pub mod LeastRows
 pub mod Firings

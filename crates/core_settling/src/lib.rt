@@ -3,6 +3,8 @@
 //! Contracts see a `Plant` as the `State` of the definitions in `gem_model`. Begin with `follow`.
 #![tactic(auto)]
 
+mod least;
+mod line;
 mod settling;
 
 pub use settling::follow;

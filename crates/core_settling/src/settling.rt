@@ -5,6 +5,7 @@ ghost use Rattle.gem_model.specs.Sizes.{counted};
 ghost use Rattle.gem_model.specs.Settle.{settled, settling};
 ghost use Rattle.history_totals.specs.Counts.{completions};
 
+use crate::least::fire_least;
 use core_state::Plant;
 use std::alloc::{AllocError, Global};
 
@@ -27,7 +28,7 @@ pub fn follow(plant: &mut Plant, alloc: Global) -> Result<u64, AllocError>
     ensures completed { IfOk result (λ count. count ≡ counted (completions (settling plant.old))) }
 {
     let mut completed = 0;
-    while let Some(completes) = plant.fire_least(alloc)? {
+    while let Some(completes) = fire_least(plant, alloc)? {
         completed = one_more(completed, completes);
     }
     Ok(completed)

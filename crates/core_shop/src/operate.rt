@@ -25,7 +25,8 @@ use job_requests::{command_row, control_command};
 use plant_parts::by_comm;
 use request_model::QueueAct;
 use std::alloc::{AllocError, Global};
-use tool_events::{Answer, JobWord, OperCmd, SessionCause};
+use tool_events::{Answer, OperCmd, SessionCause};
+use tool_tasks::JobWord;
 
 // The numbers of the tables of a port's transfer and access and of moves, as the definitions have them.
 const TRANSFER: u8 = 4;

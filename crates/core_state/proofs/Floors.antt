@@ -1,31 +1,22 @@
 -- The rows of the load ports, the carriers and the modules, as the plant fires them.
-use Rattle.std.proofs.Common.{drop, get_or, drop-cons, add-one, ◌++◌, ◌+◌, ◌<◌, zero, suc, ◌≡◌, ℕ, ◌==◌, ◌≤◌, ◌&&◌, not, length, Bool, true, false, if◌then◌else◌, List, [], ◌∷◌, Option, Some, None, is_some, option_map, refl, sym, ◌∙◌, ap, subst, arith}
-use Rattle.std.specs.Option.{option_or}
+use Rattle.std.proofs.Common.{drop, get_or, drop-cons, add-one, ◌+◌, ◌<◌, zero, suc, ◌≡◌, ℕ, ◌==◌, ◌≤◌, length, Bool, true, false, List, [], ◌∷◌, Some, refl, sym, ◌∙◌, ap, subst, arith}
 use Rattle.std.specs.List.{AllByRecursion}
 use Rattle.std.proofs.lemmas.Bool.Decides.{nat_tests}
 use Rattle.gem_tables.specs.Table.{firing}
 use Rattle.gem_tables.specs.Machine.{starts_in}
 use Rattle.gem_tables.specs.declared.firing.Firing.{Firing}
 use Rattle.floor_model.specs.Floor.{ToolFloor}
-use Rattle.floor_model.specs.Machines.{floor_machines, floor_starts, floor_fired, creation_rows, is_creation, floor_least, object_name as floor_object}
+use Rattle.floor_model.specs.Machines.{floor_machines, floor_starts, floor_fired, creation_rows, floor_least, object_name as floor_object}
 use Rattle.floor_model.proofs.Keeping.{creation_same, creations as floor_creations, creations_start, AreCreations, not_table_3, least_starts}
-use Rattle.note_line.specs.Table3 as line
-use Rattle.history_totals.specs.Counts.{completes}
-use Rattle.gem_model.specs.State.{State, is_online, around}
+use Rattle.gem_model.specs.State.{State, is_online}
 use Rattle.gem_model.specs.Noting.{noted_as}
-use Rattle.gem_model.specs.Machines.{row_starts, takes_effect, creations, object_name, fire_floor}
-use Rattle.gem_model.specs.Fire.{fire, advanced, fire_listed}
+use Rattle.gem_model.specs.Machines.{row_starts, creations, object_name, fire_floor}
+use Rattle.gem_model.specs.Fire.{fire, fire_listed}
 use Rattle.gem_model.specs.Direct.{Are, IsListed}
-use Rattle.gem_model.specs.Ready.{ready_floor}
 use Rattle.gem_model.proofs.FloorRows.{IsFloorRow, effect_is, starts_is, creations_is, object_is}
 use Rattle.gem_model.proofs.OnFloor.{creations_as}
-use Rattle.gem_model.specs.State.{is_selected, can_ask}
-use Rattle.gem_model.specs.Wants.{delay_is_over, is_attempt}
-use Rattle.gem_model.specs.Machines.{least}
-use Rattle.gem_model.specs.Ready.{ready_line}
-use Rattle.gem_model.proofs.Effects.{gives_up, least_is}
 use Rattle.gem_model.proofs.FloorRows.{ready_is}
-use Rattle.core_state.specs.Firing.{fire_first, AreCreated}
+use Rattle.core_state.specs.Firing.{AreCreated}
 
 -- a row that starts on the floor is of tables 4 to 10 and 16
 pub starts_high : (x : Firing) (f : ToolFloor) → floor_starts x f ≡ true → IsFloorRow x
@@ -94,45 +85,6 @@ of_table_2 g x is = subst (λ (t : ℕ). fire g (firing 2 0 x.row.row) ≡ fire 
 
 pub of_table_3 : (g : State) (x : Firing) → x.row.table ≡ 3 → fire g (firing 3 0 x.row.row) ≡ fire g x
 of_table_3 g x is = subst (λ (t : ℕ). fire g (firing 3 0 x.row.row) ≡ fire g (firing t x.object x.row.row)) (sym is) refl
-
--- ---- the first of two that is ready
-
--- a row of the line of notes completes no control job
-pub line_none : (g : State) (y : Option Firing) → is_some (ready_line g) ≡ true → Some false ≡ option_map completes (option_or (ready_line g) y)
-line_none g y = of (line.least (around g) g.line) where
-  of : (row : Option ℕ) → is_some (option_map (firing 3 0) row) ≡ true → Some false ≡ option_map completes (option_or (option_map (firing 3 0) row) y)
-  of None is = absurd (cc)
-  of (Some row) is = refl
-
-pub or_first : (x y : Option Firing) (g : State) → is_some x ≡ true → fire_first x g ≡ fire_first (option_or x y) g
-or_first None y g is = absurd (cc)
-or_first (Some f) y g is = refl
-
-pub or_behind : (x y : Option Firing) → is_some x ≡ false → y ≡ option_or x y
-or_behind None y is = refl
-or_behind (Some f) y is = absurd (cc)
-
-pub or_stays : (x : Option Firing) (g : State) → is_some x ≡ false → fire_first x g ≡ g
-or_stays None g is = refl
-or_stays (Some f) g is = absurd (cc)
-
--- ---- the least row of all tables
-
-pub least_first : (g : State) → (delay_is_over g.moment g.comm && is_selected g) ≡ true → least g ≡ Some (firing 1 0 3)
-least_first g asks =
-    least_is g ∙ ap (λ (b : Bool). option_or (if b then Some (firing 1 0 3) else None) (option_or (gives_up g) (option_or (ready_line g) (ready_floor g)))) asks
-
-pub least_second : (g : State) → (delay_is_over g.moment g.comm && is_selected g) ≡ false → (is_attempt g.control && not (can_ask g)) ≡ true → least g ≡ Some (firing 2 0 2)
-least_second g quiet gives =
-    least_is g
-    ∙ ap (λ (b : Bool). option_or (if b then Some (firing 1 0 3) else None) (option_or (gives_up g) (option_or (ready_line g) (ready_floor g)))) quiet
-    ∙ ap (λ (b : Bool). option_or (if b then Some (firing 2 0 2) else None) (option_or (ready_line g) (ready_floor g))) gives
-
-pub least_rest : (g : State) → (delay_is_over g.moment g.comm && is_selected g) ≡ false → (is_attempt g.control && not (can_ask g)) ≡ false → least g ≡ option_or (ready_line g) (ready_floor g)
-least_rest g quiet stays =
-    least_is g
-    ∙ ap (λ (b : Bool). option_or (if b then Some (firing 1 0 3) else None) (option_or (gives_up g) (option_or (ready_line g) (ready_floor g)))) quiet
-    ∙ ap (λ (b : Bool). option_or (if b then Some (firing 2 0 2) else None) (option_or (ready_line g) (ready_floor g))) stays
 
 -- the least row of the floor is one that can be listed, and starts
 pub floor_listed : (g : State) (x : Firing) → floor_least g.floor ≡ Some x → IsListed x

@@ -2,5 +2,4 @@ pub mod NoteTexts
 pub mod Telling
 pub mod LineRows
 pub mod Floors
-pub mod Sendings
 pub mod ModuleRows

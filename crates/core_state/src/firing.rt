@@ -1,22 +1,20 @@
-//! Rows fire: those that an input lists, and those that are ready by themselves (this tool's profile, direct rows and settling).
-ghost use Rattle.std.specs.Prelude.{◌≡◌, ◌∷◌, [], ◌&&◌, not, true, OnOk, IfOk, option_map};
-ghost use Rattle.std.specs.Option.{option_or};
+//! Rows fire: those that an input lists, and those of the floor that are ready by themselves (this tool's profile, direct rows and
+//! settling). Which row is the least of all tables is told by `core_settling`.
+ghost use Rattle.std.specs.Prelude.{◌≡◌, ◌∷◌, [], true, OnOk, IfOk, option_map};
 ghost use Rattle.gem_tables.specs.Table.{firing};
 ghost use Rattle.gem_states.specs.Communication.{comm_starts};
 ghost use Rattle.gem_states.specs.Control.{control_starts};
 ghost use Rattle.note_line.specs.Table3.{line_starts, is_direct};
-ghost use Rattle.gem_model.specs.State.{around, can_ask, is_selected};
-ghost use Rattle.gem_model.specs.Wants.{delay_is_over, is_attempt};
-ghost use Rattle.gem_model.specs.Machines.{row_starts, creations, least};
+ghost use Rattle.gem_model.specs.State.{around};
+ghost use Rattle.gem_model.specs.Machines.{row_starts, creations};
 ghost use Rattle.gem_model.specs.Fire.{fire, fire_all, advanced, fire_listed};
 ghost use Rattle.gem_model.specs.Direct.{Are, IsListed};
-ghost use Rattle.gem_model.specs.Ready.{ready_line, ready_floor};
+ghost use Rattle.gem_model.specs.Ready.{ready_floor};
 ghost use Rattle.history_totals.specs.Counts.{completes};
 ghost use Rattle.core_state.specs.Firing.{fire_first, AreCreated};
 
 use crate::plant::Plant;
 use arrayvec::ArrayVec;
-use gem_states::Control;
 use gem_tables::Firing;
 use std::alloc::{AllocError, Global};
 use tool_floor::MOST_CREATED;
@@ -165,8 +163,8 @@ impl Plant {
     // ---- rows that are ready by themselves
 
     /// Fires the least row of the floor of the tool that is ready by itself, with those of what it creates, and tells whether it
-    /// completed a control job. `None` exactly where there was none.
-    fn fire_least_of_floor(&mut self, alloc: Global) -> Result<Option<bool>, AllocError>
+    /// completed a control job. `None` exactly where there was none. `AllocError`: memory ran out.
+    pub fn fire_least_of_floor(&mut self, alloc: Global) -> Result<Option<bool>, AllocError>
         ensures fired { IfOk result (λ fired. fired ≡ option_map completes (ready_floor self.old)) }
         ensures after { OnOk result (self.new ≡ fire_first (ready_floor self.old) self.old) }
     {
@@ -175,50 +173,5 @@ impl Plant {
         };
         self.advance(alloc, f)?;
         Ok(Some(completes(f)))
-    }
-
-    /// Fires the row of the line of notes that is ready, or else the least of the floor of the tool, and tells whether it
-    /// completed a control job. `None` exactly where there was none.
-    fn fire_line_or_floor(&mut self, alloc: Global) -> Result<Option<bool>, AllocError>
-        ensures fired { IfOk result (λ fired. fired ≡ option_map completes (option_or (ready_line self.old) (ready_floor self.old))) }
-        ensures after { OnOk result (self.new ≡ fire_first (option_or (ready_line self.old) (ready_floor self.old)) self.old) }
-    {
-        if self.line_row(alloc)? {
-            return Ok(Some(false));
-        }
-        let fired = self.fire_least_of_floor(alloc)?;
-        Ok(fired)
-    }
-
-    /// Whether row 3 of communication is ready: the delay is over, and the link is selected.
-    fn asks_host(&self) -> bool
-        ensures { result ≡ (delay_is_over self.now.moment self.now.comm && is_selected self.now) }
-    {
-        self.delay_is_over() && self.is_selected()
-    }
-
-    /// Whether row 2 of control is ready: it is ATTEMPT ON-LINE, and the tool cannot ask.
-    fn gives_up(&self) -> bool
-        ensures { result ≡ (is_attempt self.now.control && not (can_ask self.now)) }
-    {
-        matches!(self.control, Control::Attempt) && !self.can_ask()
-    }
-
-    /// Fires the least row that is ready by itself, with those of the objects that it creates, and tells whether it was row 8 of
-    /// table 15, by which a control job is COMPLETED (this tool's profile, settling). `None` exactly where no row was ready.
-    /// `AllocError`: memory ran out.
-    pub fn fire_least(&mut self, alloc: Global) -> Result<Option<bool>, AllocError>
-        ensures fired { IfOk result (λ fired. fired ≡ option_map completes (least self.old)) }
-        ensures after { OnOk result (self.new ≡ fire_first (least self.old) self.old) }
-    {
-        if self.asks_host() {
-            self.comm_row(alloc, 3)?;
-            return Ok(Some(false));
-        }
-        if self.gives_up() {
-            self.control_row(alloc, 2)?;
-            return Ok(Some(false));
-        }
-        self.fire_line_or_floor(alloc)
     }
 }

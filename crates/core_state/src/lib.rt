@@ -3,8 +3,8 @@
 //! It holds the link of the session with T6, T7 and the tool's linktest (SEMI E37), the states of communication and of
 //! control with the tool's transactions and T3 (SEMI E30), the load ports and the carriers (SEMI E87), and the frames that
 //! wait for the writer. It takes no events
-//! and keeps no history, which is for `tool_core`: each call here is one change that an event may make. It reads no
-//! clock, no file and no link. Contracts see a `Plant` as the `State` of the definitions in `gem_model`.
+//! and keeps no history, which is for `tool_core`: each call here is one change that an event may make. How the tool settles behind
+//! such changes is for `core_settling`. It reads no clock, no file and no link. Contracts see a `Plant` as the `State` of the definitions in `gem_model`.
 //!
 //! What its variables show is told by `plant_values`, of what `Plant::seen` gives, and what the host asks of its data by `host_asks`.
 //!

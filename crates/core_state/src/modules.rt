@@ -12,7 +12,7 @@ use crate::plant::Plant;
 use arrayvec::ArrayVec;
 use gem_ids::{CmdNo, ModuleId, SubstrateId};
 use gem_tables::Firing;
-use tool_events::Command;
+use tool_tasks::Command;
 
 impl Plant {
     /// Whether the tool has a module of this number.

@@ -1,52 +1,28 @@
-//! The rows of the line of notes and of the spool (table 3).
-ghost use Rattle.std.specs.Prelude.{true, ◌≡◌, ◌==◌, false, is_some, length, None, OnOk, IfOk, Some};
+//! The line of notes with its spool (table 3). Which of its rows is ready, and what that row sends, is told by `core_settling`.
+ghost use Rattle.std.specs.Prelude.{true, ◌≡◌, ◌==◌, false, length, None, OnOk, Some};
 ghost use Rattle.gem_tables.specs.Table.{firing};
 ghost use Rattle.spool.specs.Spool.{is_inactive, rsda};
-ghost use Rattle.note_line.specs.Line.{answered, fate_of, restated, with_kinds};
+ghost use Rattle.note_line.specs.Line.{answered, fate_of, open_head, open_oldest, restated, with_kinds};
 ghost use Rattle.note_line.specs.Table3.{least, head_in_kind, row_effect};
 ghost use Rattle.note_counts.specs.Counts.{answered_count, dropped_count};
 ghost use Rattle.gem_model.specs.State.{around};
-ghost use Rattle.gem_model.specs.Ready.{ready_line};
-ghost use Rattle.gem_model.specs.Effects.{asks_first};
 ghost use Rattle.gem_model.specs.Fire.{fire};
-ghost use Rattle.core_state.specs.Firing.{fire_first};
 
 use crate::noting::RowFiring;
 use crate::plant::Plant;
-use note_line::{Fate, SpooledKinds};
-use plant_parts::{message_of, text_of};
+use note_line::{Around, Fate, NoteLine, SpooledKinds};
 use spool::Load;
 use std::alloc::{AllocError, Global};
-use transactions::What;
 
 // The number of the table, as the definitions have it.
 const LINE: u8 = 3;
 
 impl Plant {
-    /// The first note that waits is sent, if one waits: its message waits for the writer, and its transaction is open.
-    fn send_head(&mut self, alloc: Global) -> Result<(), AllocError>
-        ensures { OnOk result (self.new ≡ asks_first self.old.line.waiting self.old) }
+    /// The line of notes, with its spool.
+    pub fn notes(&self) -> &NoteLine
+        ensures { result.now ≡ self.now.line }
     {
-        let Some(note) = self.line.notes().head() else {
-            return Ok(());
-        };
-        let (stream, function) = message_of(note.kind);
-        let what = What::Note(note.number);
-        let text = text_of(alloc, note)?;
-        self.ask(alloc, stream, function, what, text)
-    }
-
-    /// The oldest spooled note is sent in the same way, if one is spooled.
-    fn send_oldest(&mut self, alloc: Global) -> Result<(), AllocError>
-        ensures { OnOk result (self.new ≡ asks_first self.old.line.spool.notes self.old) }
-    {
-        let Some(note) = self.line.notes().oldest() else {
-            return Ok(());
-        };
-        let (stream, function) = message_of(note.kind);
-        let what = What::Note(note.number);
-        let kept = text_of(alloc, note)?;
-        self.ask(alloc, stream, function, what, kept)
+        self.line.notes()
     }
 
     /// The states of the spool change by a row.
@@ -56,9 +32,9 @@ impl Plant {
         self.line.restate(row);
     }
 
-    /// A row that changes the states of the spool alone, and makes its note.
+    /// A row fires that changes the states of the spool alone, and makes its note. `AllocError`: memory ran out.
     #[tactic(auto, using(crate::proofs::LineRows::restated_fires))]
-    fn restate(&mut self, alloc: Global, row: u8) -> Result<(), AllocError>
+    pub fn restate(&mut self, alloc: Global, row: u8) -> Result<(), AllocError>
         requires states { row_effect (around self.old) row self.old.line ≡ restated row self.old.line }
         requires not_12 { (row == 12) ≡ false }
         requires not_13 { (row == 13) ≡ false }
@@ -71,14 +47,14 @@ impl Plant {
     }
 
     /// Row 6: the oldest spooled note is dropped.
-    fn purge_oldest(&mut self)
+    pub fn purge_oldest(&mut self)
         ensures { self.new ≡ fire self.old (firing 3 0 6) }
     {
         self.line.purge_oldest();
     }
 
     /// Row 10: the head, which is spooled in kind, is pushed to the spool.
-    fn spool_head(&mut self)
+    pub fn spool_head(&mut self)
         requires { head_in_kind self.old.line ≡ true }
         ensures { self.new ≡ fire self.old (firing 3 0 10) }
     {
@@ -87,54 +63,26 @@ impl Plant {
     }
 
     /// Row 11: the head is dropped.
-    fn drop_head(&mut self)
+    pub fn drop_head(&mut self)
         ensures { self.new ≡ fire self.old (firing 3 0 11) }
     {
         self.line.drop_head();
     }
 
-    /// Row 12: the oldest spooled note is sent, and is open. No note is open before.
-    fn open_oldest(&mut self, alloc: Global) -> Result<(), AllocError>
+    /// The oldest spooled note is open, where one is spooled. No note is open before.
+    pub fn open_oldest(&mut self)
         requires { self.old.line.opened ≡ None }
-        ensures { OnOk result (self.new ≡ fire self.old (firing 3 0 12)) }
+        ensures { self.new ≡ record self.old { line = open_oldest self.old.line } }
     {
-        self.send_oldest(alloc)?;
         self.line.open_oldest();
-        Ok(())
     }
 
-    /// Row 13: the head is sent, and is open. It is ready.
-    fn open_head(&mut self, alloc: Global) -> Result<(), AllocError>
-        requires { least (around self.old) self.old.line ≡ Some 13 }
-        ensures { OnOk result (self.new ≡ fire self.old (firing 3 0 13)) }
+    /// The first note that waits is open. Row 13 is ready with this around it.
+    pub fn open_head(&mut self, around: Around)
+        requires { least around self.old.line ≡ Some 13 }
+        ensures { self.new ≡ record self.old { line = open_head self.old.line } }
     {
-        let around = self.around();
-        self.send_head(alloc)?;
         self.line.open_head(around);
-        Ok(())
-    }
-
-    /// Fires the row of the line of notes that is ready, and tells whether there was one.
-    pub(crate) fn line_row(&mut self, alloc: Global) -> Result<bool, AllocError>
-        ensures fired { IfOk result (λ fired. fired ≡ is_some (ready_line self.old)) }
-        ensures after { OnOk result (self.new ≡ fire_first (ready_line self.old) self.old) }
-    {
-        let around = self.around();
-        match self.line.notes().row_for(around) {
-            Some(1) => self.restate(alloc, 1)?,
-            Some(2) => self.restate(alloc, 2)?,
-            Some(3) => self.restate(alloc, 3)?,
-            Some(6) => self.purge_oldest(),
-            Some(7) => self.restate(alloc, 7)?,
-            Some(8) => self.restate(alloc, 8)?,
-            Some(9) => self.restate(alloc, 9)?,
-            Some(10) => self.spool_head(),
-            Some(11) => self.drop_head(),
-            Some(12) => self.open_oldest(alloc)?,
-            Some(_) => self.open_head(alloc)?,
-            None => return Ok(false),
-        }
-        Ok(true)
     }
 
     /// The open note is answered, where one is open.

@@ -199,7 +199,7 @@ impl Plant {
             &self.reports,
             &self.alarms,
             &self.line,
-            &self.floor,
+            self.floor.parts(),
             &self.waiting,
         )
     }
@@ -283,7 +283,7 @@ impl Plant {
 
     /// What the line of notes is told of the rest of the tool: whether host and tool communicate, and what the constants
     /// OverWriteSpool and MaxSpoolTransmit say.
-    pub(crate) fn around(&self) -> Around
+    pub fn around(&self) -> Around
         ensures { result ≡ around self.now }
     {
         Around {

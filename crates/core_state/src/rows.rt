@@ -78,8 +78,8 @@ impl Plant {
         self.control_effect(alloc, row)
     }
 
-    /// A row of communication fires, and makes its note.
-    pub(crate) fn comm_row(&mut self, alloc: Global, row: u8) -> Result<(), AllocError>
+    /// A row of communication fires, and makes its note. `AllocError`: memory ran out.
+    pub fn comm_row(&mut self, alloc: Global, row: u8) -> Result<(), AllocError>
         ensures { OnOk result (self.new ≡ fire self.old (firing 1 0 row)) }
     {
         let online_before = self.is_online();
@@ -87,8 +87,8 @@ impl Plant {
         self.note(alloc, RowFiring::unnamed(COMMUNICATION, row, online_before))
     }
 
-    /// A row of control fires, and makes its note.
-    pub(crate) fn control_row(&mut self, alloc: Global, row: u8) -> Result<(), AllocError>
+    /// A row of control fires, and makes its note. `AllocError`: memory ran out.
+    pub fn control_row(&mut self, alloc: Global, row: u8) -> Result<(), AllocError>
         ensures { OnOk result (self.new ≡ fire self.old (firing 2 0 row)) }
     {
         let online_before = self.is_online();
@@ -116,7 +116,7 @@ impl Plant {
     }
 
     /// Whether communication is in WAIT DELAY, and the delay is over.
-    pub(crate) fn delay_is_over(&self) -> bool
+    pub fn delay_is_over(&self) -> bool
         ensures { result ≡ delay_is_over self.now.moment self.now.comm }
     {
         match self.comm {

@@ -3,9 +3,9 @@
 use Rattle.std.proofs.Common.{◌≡◌, ◌⊎◌, inl, inr, ℕ, Bool, true, List, [], ◌∷◌, Option, Some, None, option_map, refl, sym, ◌∙◌, ap}
 use Rattle.gem_tables.specs.Table.{firing, is_one_of}
 use Rattle.gem_tables.proofs.Rows.{one_of_cases}
-use Rattle.tool_events.specs.declared.answer.Command.{Command as ToolCommand}
-use Rattle.tool_events.specs.declared.answer.Task.{Task as ToolTask}
-use Rattle.tool_events.specs.declared.answer.Task.TheVariants as task
+use Rattle.tool_tasks.specs.declared.task.Command.{Command as ToolCommand}
+use Rattle.tool_tasks.specs.declared.task.Task.{Task as ToolTask}
+use Rattle.tool_tasks.specs.declared.task.Task.TheVariants as task
 use Rattle.robot_moves.specs.declared.module.Module.{Module as ToolModule}
 use Rattle.robot_moves.specs.declared.module.Module.TheVariants.{Idle, Busy, Down}
 use Rattle.robot_moves.specs.declared.view.Move.{Move}

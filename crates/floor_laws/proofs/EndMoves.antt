@@ -3,9 +3,9 @@ use Rattle.std.proofs.Common.{◌≡◌, ℕ, Bool, true, false, List, Option, S
 use Rattle.gem_tables.specs.Table.{firing}
 use Rattle.gem_ids.specs.declared.numbers.LocId.{LocId}
 use Rattle.gem_ids.specs.declared.numbers.LocId.TheVariants.{Slot, Aligner, Arm, Chamber}
-use Rattle.tool_events.specs.declared.answer.Command.{Command as ToolCommand}
-use Rattle.tool_events.specs.declared.answer.Task.{Task as ToolTask}
-use Rattle.tool_events.specs.declared.answer.Task.TheVariants as task
+use Rattle.tool_tasks.specs.declared.task.Command.{Command as ToolCommand}
+use Rattle.tool_tasks.specs.declared.task.Task.{Task as ToolTask}
+use Rattle.tool_tasks.specs.declared.task.Task.TheVariants as task
 use Rattle.robot_moves.specs.declared.module.Module.{Module as ToolModule}
 use Rattle.robot_moves.specs.declared.module.Module.TheVariants.{Busy}
 use Rattle.robot_moves.specs.Modules.{module_at}

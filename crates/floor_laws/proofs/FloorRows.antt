@@ -19,7 +19,7 @@ use Rattle.robot_moves.specs.declared.module.Module.TheVariants.{Idle}
 use Rattle.robot_moves.specs.declared.view.Move.{Move}
 use Rattle.robot_moves.specs.Tables.{move_table, state_number}
 use Rattle.robot_moves.specs.Modules.{module_at, state_of}
-use Rattle.tool_events.specs.declared.recipes.Recipe.{Recipe}
+use Rattle.tool_tasks.specs.declared.recipes.Recipe.{Recipe}
 use Rattle.floor_model.specs.Floor.{ToolFloor, opening}
 use Rattle.floor_model.specs.Views.{planned}
 use Rattle.floor_model.specs.Modules.{move_wants, move_starts, move_ready}

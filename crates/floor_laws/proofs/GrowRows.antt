@@ -4,8 +4,8 @@ use Rattle.gem_tables.specs.Table.{firing, row_of}
 use Rattle.gem_tables.specs.declared.firing.Firing.{Firing}
 use Rattle.gem_tables.proofs.Machines.{starts_cases}
 use Rattle.gem_tables.proofs.Rows.{found_row}
-use Rattle.tool_events.specs.declared.answer.Task.{Task}
-use Rattle.tool_events.specs.declared.answer.Task.TheVariants as task
+use Rattle.tool_tasks.specs.declared.task.Task.{Task}
+use Rattle.tool_tasks.specs.declared.task.Task.TheVariants as task
 use Rattle.carrier.specs.Carriers.{carrier_numbered}
 use Rattle.process_job.specs.Tables as effect
 use Rattle.process_job.specs.Tables.{JobRow, JobEffect}

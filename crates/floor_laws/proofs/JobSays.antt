@@ -2,7 +2,7 @@
 use Rattle.std.proofs.Common.{◌≡◌, ◌≤◌, ℕ, Bool, true, false, ◌||◌, if◌then◌else◌, List, [], ◌∷◌, map, find, Option, Some, None, option_map, refl, sym, ◌∙◌, ap, subst, arith}
 use Rattle.std.specs.List.{list_any}
 use Rattle.std.proofs.lemmas.Bool.{true≢false, or_left, or_right}
-use Rattle.tool_events.specs.declared.recipes.Recipe.{Recipe}
+use Rattle.tool_tasks.specs.declared.recipes.Recipe.{Recipe}
 use Rattle.carrier.specs.declared.carrier.Carrier.{Carrier}
 use Rattle.carrier.specs.Record.{is_map_verified}
 use Rattle.carrier.specs.Tables.{access_number}

@@ -1,8 +1,8 @@
 -- How the places of substrates change over the rows of one input (this tool's profile, moves and operator words).
 use Rattle.std.specs.Prelude.{◌≡◌, ◌⊎◌, ℕ, List, Some, None}
 use Rattle.gem_ids.specs.declared.numbers.LocId.{LocId}
-use Rattle.tool_events.specs.declared.answer.Command.{Command}
-use Rattle.tool_events.specs.declared.answer.Task.TheVariants as task
+use Rattle.tool_tasks.specs.declared.task.Command.{Command}
+use Rattle.tool_tasks.specs.declared.task.Task.TheVariants as task
 use Rattle.floor_model.specs.Floor.{ToolFloor}
 use Rattle.floor_model.specs.Modules.{number_named}
 use Rattle.floor_moves.specs.Floor.{arm}

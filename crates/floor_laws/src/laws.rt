@@ -4,8 +4,8 @@ ghost use Rattle.std.specs.Prelude.{◌≡◌, ◌≤◌, ℕ, ◌*◌, ◌==◌
 ghost use Rattle.std.specs.List.{AllByRecursion};
 ghost use Rattle.gem_tables.specs.Table.{firing, is_one_of};
 ghost use Rattle.gem_tables.specs.declared.firing.Firing.{Firing};
-ghost use Rattle.tool_events.specs.declared.answer.Command.{Command};
-ghost use Rattle.tool_events.specs.declared.recipes.Recipe.{Recipe};
+ghost use Rattle.tool_tasks.specs.declared.task.Command.{Command};
+ghost use Rattle.tool_tasks.specs.declared.recipes.Recipe.{Recipe};
 ghost use Rattle.load_port.specs.Caack.{is_done_code};
 ghost use Rattle.load_port.specs.Ports.{most_ports, port_numbered};
 ghost use Rattle.carrier.specs.declared.action.CarrierAction.{CarrierAction};

@@ -40,9 +40,9 @@ use Rattle.floor_model.proofs.Tables.{least_floor, first_location as first_ready
 use Rattle.floor_model.proofs.Moves.{none_to_move}
 use Rattle.floor_model.specs.Views.{planned}
 use Rattle.floor_model.specs.Modules.{move_wants, move_starts, move_ready, issued, open_task, aligned_by, found_move}
-use Rattle.tool_events.specs.declared.answer.Task.{Task}
-use Rattle.tool_events.specs.declared.recipes.Recipe.{Recipe}
-use Rattle.tool_events.specs.declared.answer.Task.TheVariants as task
+use Rattle.tool_tasks.specs.declared.task.Task.{Task}
+use Rattle.tool_tasks.specs.declared.recipes.Recipe.{Recipe}
+use Rattle.tool_tasks.specs.declared.task.Task.TheVariants as task
 use Rattle.robot_moves.specs.Tables.{MoveRow, move_table, state_number}
 use Rattle.robot_moves.specs.declared.module.Module.{Module}
 use Rattle.robot_moves.specs.declared.view.Move.{Move}

@@ -8,7 +8,7 @@ use Rattle.gem_tables.specs.Machine.{first_ready}
 use Rattle.gem_tables.specs.Table.{firing, is_one_of, is_among, row_of, update_at}
 use Rattle.gem_tables.specs.declared.firing.Firing.{Firing}
 use Rattle.gem_tables.proofs.Rows.{one_of_cases, ready_row, ready_may_fire, looked_for}
-use Rattle.tool_events.specs.declared.answer.Command.{Command}
+use Rattle.tool_tasks.specs.declared.task.Command.{Command}
 use Rattle.robot_moves.specs.Tables.{MoveRow, move_table, state_number}
 use Rattle.robot_moves.specs.Tables as want
 use Rattle.robot_moves.specs.Modules.{module_at, change_module, is_idle, given, state_of}

@@ -15,9 +15,9 @@ use Rattle.substrate.specs.declared.record.Transport.TheVariants.{AtSource, AtWo
 use Rattle.substrate.specs.declared.record.Processing.{Processing}
 use Rattle.substrate.specs.declared.record.Processing.TheVariants.{NeedsProcessing, InProcess, Processed, Aborted, Stopped, Rejected, Lost, Skipped}
 use Rattle.substrate.proofs.Truth.{or_false}
-use Rattle.tool_events.specs.declared.answer.Command.{Command}
-use Rattle.tool_events.specs.declared.answer.Task.{Task}
-use Rattle.tool_events.specs.declared.answer.Task.TheVariants as task
+use Rattle.tool_tasks.specs.declared.task.Command.{Command}
+use Rattle.tool_tasks.specs.declared.task.Task.{Task}
+use Rattle.tool_tasks.specs.declared.task.Task.TheVariants as task
 use Rattle.floor_model.specs.declared.tracked.Substrate.{Substrate}
 use Rattle.floor_model.specs.Floor.{ToolFloor, substrate_numbered, number_of}
 use Rattle.floor_model.specs.Machines.{substrate_ready, floor_machines}

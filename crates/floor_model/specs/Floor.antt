@@ -13,7 +13,7 @@ use Rattle.substrate.specs.Places.{PlaceMap, no_places}
 use Rattle.substrate.specs.Board.{spot_count}
 use Rattle.substrate.specs.Record.{first_location}
 use Rattle.substrate.specs.declared.record.LocationRecord.{LocationRecord}
-use Rattle.tool_events.specs.declared.recipes.Recipe.{Recipe}
+use Rattle.tool_tasks.specs.declared.recipes.Recipe.{Recipe}
 use Rattle.tool_jobs.specs.Jobs.{Jobs, no_jobs}
 use Rattle.floor_model.specs.declared.tracked.Substrate.{Substrate}
 

@@ -1,15 +1,15 @@
 -- What the rows of the table of moves want and do (this tool's profile, table 16). The table is in robot_moves.
 use Rattle.std.specs.Prelude.{ℕ, ◌+◌, ◌==◌, ◌&&◌, if◌then◌else◌, Bool, true, false, List, Option, Some, None, option_map}
 use Rattle.gem_tables.specs.Table.{after, may_fire, first_itself}
-use Rattle.tool_events.specs.declared.answer.Task.{Task}
-use Rattle.tool_events.specs.declared.answer.Task.TheVariants as task
+use Rattle.tool_tasks.specs.declared.task.Task.{Task}
+use Rattle.tool_tasks.specs.declared.task.Task.TheVariants as task
 use Rattle.robot_moves.specs.Tables as want
 use Rattle.robot_moves.specs.Tables.{MoveWant, MoveEffect, MoveRow, move_table, state_number}
 use Rattle.robot_moves.specs.Modules.{state_of, given, module_at, change_module}
 use Rattle.robot_moves.specs.declared.view.Move.{Move}
 use Rattle.gem_ids.specs.declared.numbers.LocId.{LocId}
 use Rattle.gem_ids.specs.declared.numbers.LocId.TheVariants.{Arm}
-use Rattle.tool_events.specs.declared.answer.Command.{Command}
+use Rattle.tool_tasks.specs.declared.task.Command.{Command}
 use Rattle.substrate.specs.Locations.{is_location}
 use Rattle.substrate.specs.Places.{PlaceMap, substrate_named, shifted}
 use Rattle.floor_model.specs.declared.tracked.Substrate.{Substrate}

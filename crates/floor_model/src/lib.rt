@@ -8,6 +8,8 @@
 #![tactic(auto)]
 
 pub mod laws;
+mod parts;
 mod tracked;
 
+pub use parts::FloorParts;
 pub use tracked::Substrate;

@@ -2,4 +2,3 @@ pub mod Moments
 pub mod Texts
 pub mod Held
 pub mod Names
-pub mod Civil

@@ -15,8 +15,8 @@ pub struct ModuleId(pub u8);
 pub struct CmdNo(pub u64);
 
 /// A place for one substrate (SEMI E90, substrate location): a slot of the carrier at a port, the aligner, the arm
-/// of the robot, or a chamber by its number, counted from 1. They are ordered as they stand here, slots port by port.
-#[derive(Clone, Copy, Debug, PartialEq, Eq, PartialOrd, Ord)]
+/// of the robot, or a chamber by its number, counted from 1.
+#[derive(Clone, Copy, Debug, PartialEq, Eq)]
 pub enum LocId {
     Slot(PortNo, SlotNo),
     Aligner,

@@ -12,7 +12,7 @@ use Rattle.gem_model.specs.Fire.{fires}
 use Rattle.gem_model.specs.Direct.{operator_rows}
 use Rattle.gem_model.specs.Due.{all_done, dues_with, expired, timeouts, is_due}
 use Rattle.gem_model.specs.Settle.{settled}
-use Rattle.tool_events.specs.declared.answer.Command.{Command}
+use Rattle.tool_tasks.specs.declared.task.Command.{Command}
 use Rattle.robot_moves.specs.Modules.{unfetched}
 use Rattle.floor_model.specs.Floor.{module_numbers}
 use Rattle.gem_model.specs.Step.{Outcome, acts, after, answered, command_out, operated, quits, settles, step, step_from, switched, ticked}

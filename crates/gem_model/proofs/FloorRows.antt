@@ -19,8 +19,8 @@ use Rattle.load_port.specs.declared.action.PortAction.TheVariants as ask
 use Rattle.message_model.specs.ShopPrimaries.{Message, S3F17, S3F25, S3F27, S14F9, S16F5, S16F11, S16F17, S16F19, S16F21, S16F27}
 use Rattle.message_model.specs.declared.shop_reply.ShopReply.{ShopReply}
 use Rattle.message_model.specs.declared.shop_reply.ShopReply.TheVariants as reply
-use Rattle.tool_events.specs.declared.event.JobWord.{JobWord}
-use Rattle.tool_events.specs.declared.event.JobWord.TheVariants.{Cancel}
+use Rattle.tool_tasks.specs.declared.words.JobWord.{JobWord}
+use Rattle.tool_tasks.specs.declared.words.JobWord.TheVariants.{Cancel}
 use Rattle.process_job.specs.Commands.{row_of}
 use Rattle.process_job.specs.Jobs.{job_named as process_named}
 use Rattle.process_job.specs.declared.job.ProcessJob.{ProcessJob}
@@ -45,8 +45,8 @@ use Rattle.gem_model.specs.Direct.{Are}
 use Rattle.floor_model.specs.Floor.{substrate_numbered}
 use Rattle.floor_model.specs.Modules.{number_named}
 use Rattle.robot_moves.specs.Modules.{module_at}
-use Rattle.tool_events.specs.declared.answer.Task.{Task}
-use Rattle.tool_events.specs.declared.answer.Task.TheVariants as task
+use Rattle.tool_tasks.specs.declared.task.Task.{Task}
+use Rattle.tool_tasks.specs.declared.task.Task.TheVariants as task
 use Rattle.floor_model.specs.Signals.{at_module, at_processed, processed_rows, done_processing, at_done, done_processed, done_at, done_rows, done_row, closing_at, closing_rows, can_be_lost, lost_at, lost_rows}
 use Rattle.floor_model.specs.Machines.{floor_starts, creation_rows, is_creation, floor_least, object_name as floor_object}
 use Rattle.floor_model.proofs.Keeping as keeping

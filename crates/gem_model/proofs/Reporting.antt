@@ -22,7 +22,7 @@ use Rattle.request_model.specs.Requests.{command_named, command_error, asked_pro
 use Rattle.gem_model.specs.JobMessages.{jobs_of, asked_of_jobs}
 use Rattle.gem_model.specs.Spooling.{rspack, kinds_of, spools}
 use Rattle.message_model.specs.declared.gem_primary.GemMsg.TheVariants as msg
-use Rattle.gem_ids.specs.Civil.{moment_in}
+use Rattle.civil_time.specs.Civil.{moment_in}
 use Rattle.gem_tables.specs.declared.firing.Firing.{Firing}
 use Rattle.gem_rows.specs.Events.{ceid_of}
 use Rattle.event_reports.specs.Alarms.{is_alarm, is_set, set_alarm, clear_alarm}
@@ -34,7 +34,7 @@ use Rattle.shop_floor.specs.Requests.{carrier_written}
 use Rattle.load_port.specs.Caack.{is_done_code}
 use Rattle.gem_model.specs.Shop.{carrier_action, carrier_caack}
 use Rattle.gem_model.specs.Signals.{lacks_port, port_row_starts, port_alarm, with_arrival, placed, removed, lacks_module, module_of, module_alarm, answer_alarm, module_done, module_failed, module_down, signalled, is_ready_to_unload}
-use Rattle.tool_events.specs.declared.answer.Command.{Command}
+use Rattle.tool_tasks.specs.declared.task.Command.{Command}
 use Rattle.robot_moves.specs.Modules.{is_open, unfetched, is_up as is_up_module}
 use Rattle.floor_model.specs.Floor.{with_shop}
 use Rattle.floor_model.specs.Signals.{done_rows, closing_rows}

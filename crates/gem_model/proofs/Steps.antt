@@ -34,7 +34,7 @@ use Rattle.gem_model.specs.Settle.{settled}
 use Rattle.gem_model.specs.Step.{Outcome, step, step_from, answered, end_now, hosted, linked, handed_out, command_out, operated, is_accepted, switched, quits, ticked, ended_by, acts, settles}
 use Rattle.gem_model.proofs.Links.{link_after-keeps, due-down}
 use Rattle.gem_model.proofs.Tests.{went, none_some}
-use Rattle.tool_events.specs.declared.answer.Command.{Command}
+use Rattle.tool_tasks.specs.declared.task.Command.{Command}
 use Rattle.robot_moves.specs.Modules.{unfetched}
 use Rattle.floor_model.specs.Floor.{fetched}
 use Rattle.gem_model.specs.Signals.{signalled, module_of, is_ready_to_unload}

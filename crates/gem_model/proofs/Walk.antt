@@ -31,7 +31,7 @@ use Rattle.item_model.specs.Data.{Data}
 use Rattle.message_model.specs.declared.gem_primary.GemMsg.{GemMsg}
 use Rattle.message_model.specs.declared.gem_primary.GemMsg.TheVariants as msg
 use Rattle.message_model.specs.ShopPrimaries.{Message, S3F17, S3F25, S3F27, S14F9, S16F5, S16F11, S16F17, S16F19, S16F21, S16F27}
-use Rattle.gem_ids.specs.Civil.{moment_in}
+use Rattle.civil_time.specs.Civil.{moment_in}
 use Rattle.gem_ids.specs.declared.numbers.PortNo.{PortNo}
 use Rattle.gem_ids.specs.declared.numbers.ModuleId.{ModuleId}
 use Rattle.gem_ids.specs.declared.numbers.CmdNo.{CmdNo}
@@ -69,7 +69,7 @@ use Rattle.gem_model.specs.Messages.{done, gem_done, shop_done, remote_done, car
 use Rattle.gem_model.specs.Spooling.{rspack}
 use Rattle.gem_model.specs.Shop.{is_local, carrier_caack, carrier_action, port_word, port_caack}
 use Rattle.gem_model.specs.Signals.{lacks_port, port_row_starts, port_alarm, with_arrival, placed, removed, lacks_module, module_of, module_alarm, answer_alarm, module_done, module_failed, module_down, signalled, is_ready_to_unload}
-use Rattle.tool_events.specs.declared.answer.Command.{Command}
+use Rattle.tool_tasks.specs.declared.task.Command.{Command}
 use Rattle.robot_moves.specs.Modules.{is_open, unfetched, is_up as is_up_module}
 use Rattle.floor_model.specs.Floor.{with_shop, fetched}
 use Rattle.floor_model.specs.Machines.{is_creation}

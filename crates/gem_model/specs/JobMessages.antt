@@ -4,7 +4,7 @@
 use Rattle.std.specs.Prelude.{ℕ, Bool, not, if◌then◌else◌, List, [], ◌∷◌, map, Option, Some, None, is_some}
 use Rattle.gem_tables.specs.declared.firing.Firing.{Firing}
 use Rattle.item_model.specs.Data.{Data}
-use Rattle.tool_events.specs.declared.event.JobWord.{JobWord}
+use Rattle.tool_tasks.specs.declared.words.JobWord.{JobWord}
 use Rattle.process_job.specs.Jobs.{space}
 use Rattle.process_job.specs.Tables.{job_number}
 use Rattle.process_job.specs.declared.job.JobSpec.{JobSpec}

@@ -2,7 +2,7 @@
 -- E5, streams and functions; SEMI E87, S3F17, S3F25 and S3F27; this tool's profile, messages and direct rows). Each message is one
 -- line of `gem_done` or `shop_done`.
 use Rattle.std.specs.Prelude.{ℕ, Bool, nat_le, if◌then◌else◌, List, [], ◌∷◌, Option, Some, None, is_some, unwrap_or, map, filter}
-use Rattle.gem_ids.specs.Civil.{moment_in, time_digits}
+use Rattle.civil_time.specs.Civil.{moment_in, time_digits}
 use Rattle.gem_tables.specs.declared.firing.Firing.{Firing}
 use Rattle.gem_states.specs.declared.control.Control.{Control}
 use Rattle.gem_states.specs.declared.control.Control.TheVariants as control

@@ -7,8 +7,8 @@ use Rattle.gem_states.specs.declared.control.Control.TheVariants as control
 use Rattle.item_model.specs.Data.{Data}
 use Rattle.item_model.specs.Ids.{id_of}
 use Rattle.message_model.specs.Bodies.{text}
-use Rattle.tool_events.specs.declared.event.JobWord.{JobWord}
-use Rattle.tool_events.specs.declared.event.JobWord.TheVariants.{Start, Pause, Resume, Stop, Abort}
+use Rattle.tool_tasks.specs.declared.words.JobWord.{JobWord}
+use Rattle.tool_tasks.specs.declared.words.JobWord.TheVariants.{Start, Pause, Resume, Stop, Abort}
 use Rattle.process_job.specs.Commands.{command_answer}
 use Rattle.event_reports.specs.declared.alarms.AlarmLine.{AlarmLine}
 use Rattle.event_reports.specs.Alarms.{is_alarm, is_set}

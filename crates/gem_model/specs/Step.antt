@@ -28,7 +28,7 @@ use Rattle.gem_model.specs.Machines.{row_starts}
 use Rattle.gem_model.specs.Fire.{fires}
 use Rattle.gem_model.specs.Noting.{clears_alarm}
 use Rattle.gem_model.specs.Direct.{operator_rows}
-use Rattle.tool_events.specs.declared.answer.Command.{Command}
+use Rattle.tool_tasks.specs.declared.task.Command.{Command}
 use Rattle.robot_moves.specs.Modules.{is_down, unfetched}
 use Rattle.floor_model.specs.Floor.{fetched}
 use Rattle.gem_model.specs.Signals.{lacks_port, module_of, module_alarm, signalled, is_ready_to_unload}

@@ -2,7 +2,7 @@
 use Rattle.std.specs.Prelude.{ℕ, ◌==◌, if◌then◌else◌, List, [], ◌∷◌, length, filter, Option, Some, None, is_some, option_map, unwrap_or}
 use Rattle.gem_ids.specs.declared.numbers.LocId.{LocId}
 use Rattle.gem_ids.specs.declared.numbers.LocId.TheVariants as loc
-use Rattle.gem_ids.specs.Civil.{time_digits}
+use Rattle.civil_time.specs.Civil.{time_digits}
 use Rattle.gem_states.specs.Communication.{comm_number}
 use Rattle.gem_states.specs.Control.{control_number}
 use Rattle.item_model.specs.Data.{Data, ascii, u1, u2, u4}

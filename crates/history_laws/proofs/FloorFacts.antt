@@ -49,8 +49,8 @@ use Rattle.robot_moves.specs.declared.module.Module.{Module}
 use Rattle.robot_moves.specs.declared.module.Module.TheVariants.{Idle, Busy, Down}
 use Rattle.gem_ids.specs.declared.numbers.ModuleId.{ModuleId}
 use Rattle.gem_ids.specs.declared.numbers.CmdNo.{CmdNo}
-use Rattle.tool_events.specs.declared.answer.Task.{Task}
-use Rattle.tool_events.specs.declared.answer.Task.TheVariants as task
+use Rattle.tool_tasks.specs.declared.task.Task.{Task}
+use Rattle.tool_tasks.specs.declared.task.Task.TheVariants as task
 use Rattle.tool_events.specs.declared.event.OperCmd.TheVariants as oper
 use Rattle.gem_model.specs.State.{State, around}
 use Rattle.gem_model.specs.Noting.{sets_alarm}

@@ -31,8 +31,8 @@ use Rattle.robot_moves.specs.declared.view.Move.{Move}
 use Rattle.substrate.specs.Tables as place
 use Rattle.substrate.specs.Tables.{SubstrateRow, SubstrateEffect, processing_table}
 use Rattle.substrate.specs.declared.record.Processing.{Processing}
-use Rattle.tool_events.specs.declared.answer.Task.{Task}
-use Rattle.tool_events.specs.declared.answer.Task.TheVariants as task
+use Rattle.tool_tasks.specs.declared.task.Task.{Task}
+use Rattle.tool_tasks.specs.declared.task.Task.TheVariants as task
 use Rattle.queue_laws.proofs.Lists.{number_is, changed_back, without_back, more_back}
 use Rattle.queue_laws.proofs.Owners.{states_left}
 use Rattle.gem_model.proofs.Creating.{BecomesControl, one_added, one_headed}

@@ -2,7 +2,7 @@
 //! before it. Each message is one arm of `gem_done`.
 ghost use Rattle.std.specs.Prelude.{◌≡◌, IfOk};
 ghost use Rattle.gem_ids.specs.Texts.{IsText};
-ghost use Rattle.gem_ids.specs.Civil.{moment_in, time_digits};
+ghost use Rattle.civil_time.specs.Civil.{moment_in, time_digits};
 ghost use Rattle.message_model.specs.declared.gem_reply.GemReply.TheVariants as reply;
 ghost use Rattle.gem_model.specs.State.{clock_now};
 ghost use Rattle.message_model.specs.Few.{HasFewParts};

@@ -6,7 +6,7 @@ use Rattle.process_job.specs.Commands.{row_of, answer_at, command_answer}
 use Rattle.process_job.specs.declared.job.ProcessJob.{ProcessJob}
 use Rattle.process_job.proofs.Names.{same_name}
 use Rattle.process_job.proofs.Scans.{take_here}
-use Rattle.tool_events.specs.declared.event.JobWord.TheVariants.{Cancel}
+use Rattle.tool_tasks.specs.declared.words.JobWord.TheVariants.{Cancel}
 use Rattle.tool_jobs.specs.Jobs.{Jobs}
 use Rattle.message_model.specs.declared.shop_reply.JobState.{JobState}
 use Rattle.gem_model.specs.JobMessages.{listed_job}

@@ -12,8 +12,8 @@ use message_model::{ErrorPart, JobAcknowledge, JobState, ObjectAcknowledge};
 use process_job::{ProcessJob, ProcessJobs};
 use request_model::JobError;
 use std::alloc::{AllocError, Global};
-use tool_events::JobWord;
 use tool_jobs::Jobs;
+use tool_tasks::JobWord;
 
 // ---- rows
 

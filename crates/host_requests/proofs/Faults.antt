@@ -3,7 +3,7 @@ use Rattle.std.proofs.Common.{◌≡◌, ℕ, zero, suc, ◌+◌, ◌<◌, ◌�
 use Rattle.std.specs.Prelude.{codes}
 use Rattle.std.proofs.lemmas.List.Folds.{list_any_more}
 use Rattle.std.proofs.lemmas.Slice.Eq.{bytes_eq-Decides}
-use Rattle.tool_events.specs.declared.event.JobWord.{JobWord}
+use Rattle.tool_tasks.specs.declared.words.JobWord.{JobWord}
 use Rattle.event_reports.specs.declared.alarms.AlarmLine.{AlarmLine}
 use Rattle.message_model.specs.declared.gem_reply.ParameterAcknowledge.{ParameterAcknowledge}
 use Rattle.request_model.specs.declared.error.JobError.TheVariants.{UnknownObject, UnknownCommand, NotNow as error_NotNow}

@@ -2,7 +2,7 @@
 use Rattle.std.specs.Prelude.{ℕ, ◌≤◌, Bool, List, [], length, Option, Some, None}
 use Rattle.std.specs.List.{find, list_any}
 use Rattle.std.specs.Str.{bytes_eq}
-use Rattle.tool_events.specs.declared.event.JobWord.{JobWord}
+use Rattle.tool_tasks.specs.declared.words.JobWord.{JobWord}
 use Rattle.request_model.specs.declared.error.JobError.{JobError}
 use Rattle.request_model.specs.declared.error.JobError.TheVariants.{UnknownObject}
 use Rattle.gem_model.specs.Remote as model

@@ -1,9 +1,10 @@
 //! The moment that the host sets the clock to (SEMI E5, S2F31).
 ghost use Rattle.std.specs.Prelude.{◌≡◌, option_map};
-ghost use Rattle.gem_ids.specs.Civil.{moment_in};
+ghost use Rattle.civil_time.specs.Civil.{moment_in};
 ghost use Rattle.gem_model.specs.Messages.{tiack};
 
-use gem_ids::{Moment, moment_of};
+use civil_time::moment_of;
+use gem_ids::Moment;
 
 /// TIACK: 0 where the text is a moment, else 1.
 pub fn tiack(text: &[u8]) -> u8

@@ -15,8 +15,8 @@ use job_requests::command_error;
 use message_model::{Parameter, ParameterAcknowledge};
 use request_model::JobError;
 use std::alloc::{AllocError, Global};
-use tool_events::JobWord;
 use tool_jobs::Jobs;
+use tool_tasks::JobWord;
 
 /// The remote commands: GOLOCAL, CLEARALARM, and those to a process job.
 #[derive(Clone, Copy, PartialEq, Eq)]

@@ -28,7 +28,7 @@ use job_requests::{
 use message_model::{CarrierSlots, JobAcknowledge, NamedValue, ShopReply};
 use request_model::{ControlRequest, QueueAct};
 use std::alloc::{AllocError, Global};
-use tool_events::JobWord;
+use tool_tasks::JobWord;
 
 // ---- process jobs
 

@@ -11,7 +11,7 @@ use Rattle.process_job.specs.declared.job.ProcessJob.{ProcessJob}
 use Rattle.process_job.proofs.Scans.{take_here}
 use Rattle.gem_tables.specs.declared.firing.Firing.{Firing}
 use Rattle.process_job.proofs.Names.{same_name, turned}
-use Rattle.tool_events.specs.declared.event.JobWord.TheVariants.{Cancel}
+use Rattle.tool_tasks.specs.declared.words.JobWord.TheVariants.{Cancel}
 use Rattle.control_job.specs.Names.{is_in}
 use Rattle.tool_jobs.specs.Jobs.{Jobs}
 use Rattle.request_model.specs.Requests.{at_process, command_rows, is_queued, each_once, cancel_rows}

@@ -4,7 +4,7 @@ ghost use Rattle.std.specs.Prelude.{◌≡◌, ◌++◌, ◌∷◌, [], if◌the
 ghost use Rattle.std.specs.Str.{bytes_eq};
 ghost use Rattle.control_job.specs.Names.{is_in};
 ghost use Rattle.process_job.specs.Commands.{command_answer};
-ghost use Rattle.tool_events.specs.declared.event.JobWord.TheVariants.{Cancel};
+ghost use Rattle.tool_tasks.specs.declared.words.JobWord.TheVariants.{Cancel};
 ghost use Rattle.request_model.specs.Errors.{of_answer};
 ghost use Rattle.request_model.specs.Requests.{is_queued, names_error, cancel_error, each_once, cancelled, cancel_rows};
 
@@ -14,8 +14,8 @@ use gem_tables::Firing;
 use process_job::{ProcessJob, ProcessJobs};
 use request_model::JobError;
 use std::alloc::{AllocError, Global};
-use tool_events::JobWord;
 use tool_jobs::Jobs;
+use tool_tasks::JobWord;
 
 /// Why the process jobs of these names aren't taken out of the queue: `NotNow` in ON-LINE LOCAL; else the first name decides of which
 /// no process job is kept, `UnknownObject`, or whose job isn't QUEUED, `NotNow` (SEMI E40, S16F17; this tool's profile, messages).

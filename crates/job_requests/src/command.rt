@@ -9,8 +9,8 @@ use gem_ids::Text80;
 use gem_tables::Firing;
 use process_job::ProcessJobs;
 use request_model::JobError;
-use tool_events::JobWord;
 use tool_jobs::Jobs;
+use tool_tasks::JobWord;
 
 /// The command of a name: START, which is also called STARTPROCESS, PAUSE, RESUME, STOP, ABORT or CANCEL. `None` for any other name
 /// (SEMI E40, S16F5; this tool's profile, messages).

@@ -6,7 +6,8 @@ ghost use Rattle.gem_model.specs.Printed.{fetches, command_line, answer_line, en
 use gem_ids::ModuleId;
 use hsms_frame::Bytes;
 use std::alloc::{AllocError, Global};
-use tool_events::{Answer, Command, Event, SessionEnd};
+use tool_events::{Answer, Event, SessionEnd};
+use tool_tasks::Command;
 use tool_texts::{OutLine, print_out_line};
 
 /// Appends the line of a session that came up.

@@ -6,8 +6,8 @@ use Rattle.tool_events.specs.declared.event.OperCmd.{OperCmd}
 use Rattle.tool_events.specs.declared.event.OperCmd.TheVariants as oper
 use Rattle.tool_events.specs.declared.event.Signal.{Signal}
 use Rattle.tool_events.specs.declared.event.Signal.TheVariants as signal
-use Rattle.tool_events.specs.declared.event.JobWord.{JobWord}
-use Rattle.tool_events.specs.declared.event.JobWord.TheVariants as job
+use Rattle.tool_tasks.specs.declared.words.JobWord.{JobWord}
+use Rattle.tool_tasks.specs.declared.words.JobWord.TheVariants as job
 use Rattle.line_grammar.specs.Words.{number, run, hex}
 use Rattle.line_grammar.specs.Grammar.{Grammar, gives, anything, last, literal, word, says, mapped, ◌or◌, ◌>>=◌, ◌>>◌}
 use Rattle.line_grammar.specs.declared.kind.WordKind.TheVariants.{Name, Substrate, SlotMap}

@@ -4,9 +4,9 @@ use Rattle.std.specs.Fmt.{decimal}
 use Rattle.hex.specs.Hex.{encode_upper}
 use Rattle.gem_ids.specs.declared.numbers.LocId.{LocId}
 use Rattle.gem_ids.specs.declared.numbers.LocId.TheVariants as loc
-use Rattle.tool_events.specs.declared.answer.Command.{Command}
-use Rattle.tool_events.specs.declared.answer.Task.{Task}
-use Rattle.tool_events.specs.declared.answer.Task.TheVariants as task
+use Rattle.tool_tasks.specs.declared.task.Command.{Command}
+use Rattle.tool_tasks.specs.declared.task.Task.{Task}
+use Rattle.tool_tasks.specs.declared.task.Task.TheVariants as task
 use Rattle.tool_events.specs.declared.event.SessionCause.{SessionCause}
 use Rattle.tool_events.specs.declared.event.SessionCause.TheVariants as cause
 use Rattle.line_grammar.specs.declared.out_line.OutLine.{OutLine}

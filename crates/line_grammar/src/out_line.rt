@@ -1,6 +1,7 @@
 use gem_ids::ModuleId;
 use hsms_frame::Bytes;
-use tool_events::{Command, SessionCause};
+use tool_events::SessionCause;
+use tool_tasks::Command;
 
 /// What an output line says (this tool's profile, output lines).
 #[derive(Drop)]

@@ -4,9 +4,9 @@
 
 ghost use Rattle.std.specs.Prelude.{◌≡◌, codes, Some, None, Ok, Err, [], ◌∷◌, true};
 ghost use Rattle.gem_ids.specs.declared.numbers.LocId.TheVariants as loc;
-ghost use Rattle.tool_events.specs.declared.answer.Task.TheVariants as task;
+ghost use Rattle.tool_tasks.specs.declared.task.Task.TheVariants as task;
 ghost use Rattle.tool_events.specs.declared.event.OperCmd.TheVariants as oper;
-ghost use Rattle.tool_events.specs.declared.event.JobWord.TheVariants as job;
+ghost use Rattle.tool_tasks.specs.declared.words.JobWord.TheVariants as job;
 ghost use Rattle.tool_events.specs.declared.event.Signal.TheVariants as signal;
 ghost use Rattle.line_grammar.specs.declared.line.Line.TheVariants as line;
 ghost use Rattle.line_grammar.specs.declared.out_line.OutLine.TheVariants as out;

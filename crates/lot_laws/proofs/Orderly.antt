@@ -7,10 +7,10 @@ use Rattle.gem_tables.specs.declared.firing.Firing.{Firing}
 use Rattle.gem_tables.proofs.Rows.{ready_row, one_of_cases, found_row}
 use Rattle.gem_tables.proofs.Machines.{starts_cases, least_cases}
 use Rattle.gem_ids.specs.declared.numbers.LocId.{LocId}
-use Rattle.tool_events.specs.declared.recipes.Recipe.{Recipe}
-use Rattle.tool_events.specs.declared.answer.Command.{Command as ToolCommand}
-use Rattle.tool_events.specs.declared.answer.Task.{Task as ToolTask}
-use Rattle.tool_events.specs.declared.answer.Task.TheVariants as task
+use Rattle.tool_tasks.specs.declared.recipes.Recipe.{Recipe}
+use Rattle.tool_tasks.specs.declared.task.Command.{Command as ToolCommand}
+use Rattle.tool_tasks.specs.declared.task.Task.{Task as ToolTask}
+use Rattle.tool_tasks.specs.declared.task.Task.TheVariants as task
 use Rattle.load_port.specs.Ports.{most_ports, port_numbered}
 use Rattle.load_port.specs.Caack.{is_done_code}
 use Rattle.load_port.specs.Tables.{association_number, association_table}

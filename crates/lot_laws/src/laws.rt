@@ -2,8 +2,8 @@
 
 ghost use Rattle.std.specs.Prelude.{◌≡◌, ℕ, ◌*◌, Bool, true, false, List, [], ◌∷◌, Some, None};
 ghost use Rattle.gem_tables.specs.declared.firing.Firing.{Firing};
-ghost use Rattle.tool_events.specs.declared.answer.Command.{Command};
-ghost use Rattle.tool_events.specs.declared.answer.Task.TheVariants as task;
+ghost use Rattle.tool_tasks.specs.declared.task.Command.{Command};
+ghost use Rattle.tool_tasks.specs.declared.task.Task.TheVariants as task;
 ghost use Rattle.robot_moves.specs.declared.module.Module.TheVariants.{Busy};
 ghost use Rattle.robot_moves.specs.Modules.{module_at};
 ghost use Rattle.floor_model.specs.Signals.{done_row};
@@ -18,7 +18,7 @@ ghost use Rattle.control_job.specs.declared.job.ControlJob.{ControlJob};
 ghost use Rattle.tool_jobs.specs.Rows.{control_starts, control_ready};
 ghost use Rattle.tool_jobs.specs.Creating.{with_process, with_control, control_fault};
 ghost use Rattle.tool_jobs.specs.Together.{AreTogether};
-ghost use Rattle.tool_events.specs.declared.recipes.Recipe.{Recipe};
+ghost use Rattle.tool_tasks.specs.declared.recipes.Recipe.{Recipe};
 ghost use Rattle.floor_model.specs.Floor.{ToolFloor, opening, with_jobs, fetched};
 ghost use Rattle.floor_model.specs.Jobs.{is_first_here};
 ghost use Rattle.floor_model.specs.Machines.{floor_starts, floor_fired, floor_least};

@@ -3,7 +3,7 @@ use Rattle.std.proofs.Common.{◌≡◌, ℕ, zero, suc, ◌+◌, List, replicat
 use Rattle.robot_moves.specs.declared.module.Module.TheVariants.{Idle}
 use Rattle.robot_moves.specs.Modules.{module_at, first_modules}
 use Rattle.substrate.specs.Places.{no_places}
-use Rattle.tool_events.specs.declared.recipes.Recipe.{Recipe}
+use Rattle.tool_tasks.specs.declared.recipes.Recipe.{Recipe}
 use Rattle.floor_model.specs.Floor.{opening}
 use Rattle.floor_moves.specs.Floor.{idle, opening as opening_by_numbers}
 use Rattle.floor_moves.specs.Agree.{Agree}

@@ -17,7 +17,7 @@ ghost use Rattle.robot_moves.specs.Modules.{module_at};
 ghost use Rattle.robot_moves.specs.declared.module.Module.{Module};
 ghost use Rattle.robot_moves.specs.declared.module.Module.TheVariants.{Idle};
 ghost use Rattle.robot_moves.specs.declared.view.Move.{Move};
-ghost use Rattle.tool_events.specs.declared.recipes.Recipe.{Recipe};
+ghost use Rattle.tool_tasks.specs.declared.recipes.Recipe.{Recipe};
 ghost use Rattle.substrate.specs.Places.{registered as registered_there, ArePlaces, substrate_named, moved, removed};
 ghost use Rattle.gem_ids.specs.declared.numbers.LocId.{LocId};
 ghost use Rattle.substrate.specs.declared.registered.Registered.{Registered};

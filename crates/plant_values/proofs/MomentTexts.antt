@@ -5,8 +5,8 @@ use Rattle.std.proofs.lemmas.List.Folds.{list_all_at}
 use Rattle.std.specs.List.{list_all}
 use Rattle.gem_ids.specs.Texts.{IsText, IsPrintable}
 use Rattle.gem_ids.specs.Moments.{last_moment}
-use Rattle.gem_ids.specs.Civil.{time_digits, is_digit, civil_in, is_civil, moment_at}
-use Rattle.gem_ids.proofs.MomentTexts.{say_it}
+use Rattle.civil_time.specs.Civil.{time_digits, is_digit, civil_in, is_civil, moment_at}
+use Rattle.civil_time.proofs.MomentTexts.{say_it}
 use Rattle.gem_model.specs.State.{State, clock_now}
 
 all_digits : (a b v : Bool) (z moment : ℕ) → (if (a && b && v) then Some z else None) ≡ Some moment → b ≡ true

@@ -4,6 +4,7 @@ ghost use Rattle.gem_model.specs.State.{clock_now};
 
 use data_variables::Constants;
 use event_reports::{Alarms, Reports};
+use floor_model::FloorParts;
 use gem_ids::Moment;
 use gem_states::{Comm, Control};
 use hsms_frame::Bytes;
@@ -12,7 +13,6 @@ use note_counts::CountedLine;
 use std::collections::VecDeque;
 use std::marker::Model;
 use tool_events::Config;
-use tool_floor::ToolFloor;
 use transactions::Transactions;
 
 /// All that the tool is, borrowed. Contracts see it as the state of the tables.
@@ -33,7 +33,7 @@ pub struct Seen<'a> {
     pub(crate) reports: &'a Reports,
     pub(crate) alarms: &'a Alarms,
     pub(crate) line: &'a CountedLine,
-    pub(crate) floor: &'a ToolFloor,
+    pub(crate) floor: FloorParts<'a>,
     pub(crate) waiting: &'a VecDeque<Bytes>,
 }
 
@@ -56,7 +56,7 @@ impl<'a> Model for Seen<'a> {
       reports = p.reports.now;
       alarms = p.alarms.now;
       line = p.line.now;
-      floor = p.floor.now;
+      floor = p.floor;
       waiting = p.waiting.now.items;
     } };
 }
@@ -79,10 +79,10 @@ impl<'a> Seen<'a> {
         reports: &'a Reports,
         alarms: &'a Alarms,
         line: &'a CountedLine,
-        floor: &'a ToolFloor,
+        floor: FloorParts<'a>,
         waiting: &'a VecDeque<Bytes>,
     ) -> Seen<'a>
-        ensures { result ≡ record { config = config.now; moment = moment.0; clock = record { shown = shown.0; at = shown_at.0 }; quitting = quitting; link = link.now; comm = comm; control = control; switch_local = switch_local; transactions = transactions.now; constants = constants.now; reports = reports.now; alarms = alarms.now; line = line.now; floor = floor.now; waiting = waiting.now.items } }
+        ensures { result ≡ record { config = config.now; moment = moment.0; clock = record { shown = shown.0; at = shown_at.0 }; quitting = quitting; link = link.now; comm = comm; control = control; switch_local = switch_local; transactions = transactions.now; constants = constants.now; reports = reports.now; alarms = alarms.now; line = line.now; floor = floor.entry; waiting = waiting.now.items } }
     {
         Seen {
             config,

@@ -4,7 +4,7 @@ ghost use Rattle.item_model.specs.Data.{ascii, u1, u4};
 ghost use Rattle.item_model.specs.View.{view};
 ghost use Rattle.gem_ids.specs.Texts.{IsText};
 ghost use Rattle.event_reports.specs.Limits.{most_alarms};
-ghost use Rattle.gem_ids.specs.Civil.{time_digits};
+ghost use Rattle.civil_time.specs.Civil.{time_digits};
 ghost use Rattle.gem_ids.specs.declared.numbers.LocId.TheVariants.{Chamber};
 ghost use Rattle.event_reports.specs.Alarms.{set_alids};
 ghost use Rattle.gem_model.specs.State.{clock_now};
@@ -18,9 +18,10 @@ use crate::seen::Seen;
 use crate::shown::{
     carrier_text, count, load_number, name, prints, short_count, state_number, unload_number,
 };
+use civil_time::time16;
 use data_variables::item_of;
 use event_reports::Values;
-use gem_ids::{LocId, Text80, time16};
+use gem_ids::{LocId, Text80};
 use gem_rows::{StatusVariable, status_variable};
 use item_model::{Bytes, Item, NoMemory, U16s, U32s};
 use load_port::Port;

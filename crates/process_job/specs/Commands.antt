@@ -1,7 +1,7 @@
 -- What a command to a process job fires (after SEMI E40; this tool's profile, S16F5).
 use Rattle.std.specs.Prelude.{ℕ, if◌then◌else◌, List, Option, Some, None, Result, Ok, Err}
-use Rattle.tool_events.specs.declared.event.JobWord.{JobWord}
-use Rattle.tool_events.specs.declared.event.JobWord.TheVariants.{Start, Pause, Resume, Stop, Abort, Cancel}
+use Rattle.tool_tasks.specs.declared.words.JobWord.{JobWord}
+use Rattle.tool_tasks.specs.declared.words.JobWord.TheVariants.{Start, Pause, Resume, Stop, Abort, Cancel}
 use Rattle.process_job.specs.Record.{job_starts}
 use Rattle.process_job.specs.Jobs.{JobBook, job_named}
 use Rattle.process_job.specs.declared.job.ProcessJob.{ProcessJob}

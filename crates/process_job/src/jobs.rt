@@ -17,7 +17,7 @@ use gem_ids::{JobId, Text80};
 use item_model::{Items, NoMemory};
 use std::alloc::Global;
 use std::marker::Model;
-use tool_events::{JobWord, Recipe};
+use tool_tasks::{JobWord, Recipe};
 
 /// The most process jobs that are kept (this tool's profile, limits).
 pub const MOST_JOBS: usize = 64;

@@ -1,7 +1,7 @@
 -- What holds of process jobs that were started is kept by each row that starts, and as jobs are created.
 use Rattle.std.proofs.Common.{◌≡◌, ℕ, ◌+◌, ◌==◌, Bool, true, false, true≢false, cond, not, ◌&&◌, List, [], ◌∷◌, Option, Some, None, refl, sym, ap, ◌∙◌, subst, ◌⊎◌, inl, inr}
 use Rattle.gem_tables.specs.Table.{row_of, after, is_among}
-use Rattle.tool_events.specs.declared.recipes.Recipe.{Recipe}
+use Rattle.tool_tasks.specs.declared.recipes.Recipe.{Recipe}
 use Rattle.process_job.specs.Tables.{job_number, job_table}
 use Rattle.process_job.specs.Jobs as process
 use Rattle.process_job.specs.Jobs.{JobBook}

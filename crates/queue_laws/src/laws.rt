@@ -2,7 +2,7 @@
 
 ghost use Rattle.std.specs.Prelude.{◌≡◌, ℕ, Bool, true, false, if◌then◌else◌, List, [], ◌∷◌, Some, None};
 ghost use Rattle.gem_tables.specs.Table.{is_one_of};
-ghost use Rattle.tool_events.specs.declared.recipes.Recipe.{Recipe};
+ghost use Rattle.tool_tasks.specs.declared.recipes.Recipe.{Recipe};
 ghost use Rattle.process_job.specs.Jobs.{job_numbered as process_numbered, is_known};
 ghost use Rattle.process_job.specs.Creating.{create_fault as process_fault};
 ghost use Rattle.process_job.specs.declared.job.JobSpec.{JobSpec};

@@ -7,8 +7,8 @@ use Rattle.gem_tables.specs.Table.{firing}
 use Rattle.gem_tables.specs.declared.firing.Firing.{Firing}
 use Rattle.item_model.specs.Data.{Data, list, no_items}
 use Rattle.message_model.specs.declared.material.CarrierSlots.{CarrierSlots}
-use Rattle.tool_events.specs.declared.event.JobWord.{JobWord}
-use Rattle.tool_events.specs.declared.event.JobWord.TheVariants.{Start, Pause, Resume, Stop, Abort, Cancel}
+use Rattle.tool_tasks.specs.declared.words.JobWord.{JobWord}
+use Rattle.tool_tasks.specs.declared.words.JobWord.TheVariants.{Start, Pause, Resume, Stop, Abort, Cancel}
 use Rattle.process_job.specs.Jobs as process
 use Rattle.process_job.specs.Creating.{create_fault}
 use Rattle.process_job.specs.Commands as command

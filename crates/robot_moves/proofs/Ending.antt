@@ -1,7 +1,7 @@
 -- A module by its table, and commands that end.
 use Rattle.std.proofs.Common.{◌≡◌, ℕ, zero, suc, ◌==◌, Bool, true, false, true≢false, cond, List, [], ◌∷◌, Some, refl, sym}
 use Rattle.gem_tables.specs.Table.{starts, after}
-use Rattle.tool_events.specs.declared.answer.Command.{Command}
+use Rattle.tool_tasks.specs.declared.task.Command.{Command}
 use Rattle.robot_moves.specs.Tables.{move_table, state_number}
 use Rattle.robot_moves.specs.Modules.{state_of, given, closed, goes_down, comes_up, module_at, change_module, is_idle, is_down, is_up, is_open}
 use Rattle.robot_moves.specs.declared.module.Module.{Module}

@@ -2,7 +2,7 @@
 use Rattle.std.specs.Prelude.{ℕ, zero, suc, ◌+◌, min, ◌==◌, Bool, true, false, if◌then◌else◌, List, replicate, Option, Some, None, slice_get}
 use Rattle.gem_tables.specs.Table.{update_at}
 use Rattle.gem_ids.specs.declared.numbers.CmdNo.{CmdNo}
-use Rattle.tool_events.specs.declared.answer.Command.{Command}
+use Rattle.tool_tasks.specs.declared.task.Command.{Command}
 use Rattle.robot_moves.specs.declared.module.ModuleState.{ModuleState}
 use Rattle.robot_moves.specs.declared.module.ModuleState.TheVariants as state
 use Rattle.robot_moves.specs.declared.module.Module.{Module}

@@ -2,7 +2,7 @@
 
 ghost use Rattle.std.specs.Prelude.{◌≡◌, ◌∷◌, [], ℕ, List, Some, None, true, false};
 ghost use Rattle.gem_tables.specs.Table.{starts, after, is_one_of};
-ghost use Rattle.tool_events.specs.declared.answer.Command.{Command};
+ghost use Rattle.tool_tasks.specs.declared.task.Command.{Command};
 ghost use Rattle.robot_moves.specs.Tables.{move_table, state_number};
 ghost use Rattle.robot_moves.specs.Modules.{state_of, given, closed, goes_down, comes_up, module_at, change_module, is_idle, is_down, is_up, is_open};
 ghost use Rattle.robot_moves.specs.Moves.{best_pick, module_move};

@@ -4,7 +4,7 @@ ghost use Rattle.std.specs.Prelude.{◌≡◌};
 ghost use Rattle.robot_moves.specs.Modules.{state_of, stepped, given, taken, closed, goes_down, comes_up};
 
 use gem_ids::CmdNo;
-use tool_events::Command;
+use tool_tasks::Command;
 
 /// The states of a module: Idle, Busy with one command, and Down.
 #[derive(Clone, Copy)]

@@ -8,7 +8,7 @@ use crate::module::{Module, Step};
 use gem_ids::{CmdNo, ModuleId};
 use std::alloc::{AllocError, Global};
 use std::marker::Model;
-use tool_events::{Command, Task};
+use tool_tasks::{Command, Task};
 
 /// The modules of a tool by their numbers, which contracts see as the list of them: 1 is the robot, 2 the aligner, and 2 + c
 /// chamber c. Each has one open command at most. Only `new` takes memory. A module that isn't there is neither Idle nor Down,

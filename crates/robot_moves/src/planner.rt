@@ -10,7 +10,7 @@ use crate::view::{Move, PlaceView};
 use crate::whereabouts::{Picks, Whereabouts};
 use gem_ids::{LocId, ModuleId};
 use std::alloc::AllocError;
-use tool_events::Task;
+use tool_tasks::Task;
 
 /// Finds the next move of the tool.
 #[derive(Clone, Copy)]

@@ -1,7 +1,7 @@
 //! What the planner is told of a substrate, and what it answers.
 
 use gem_ids::{LocId, ModuleId, SubstrateId, Text80};
-use tool_events::Task;
+use tool_tasks::Task;
 
 /// What the planner is told of a substrate that has a place: its name and its number of registration; where it is, and its own
 /// slot; whether it is aligned, finished, and IN PROCESS; whether it may leave its slot, which is so where its job is

@@ -2,7 +2,7 @@
 
 ghost use Rattle.std.specs.Prelude.{◌≡◌, [], ◌∷◌, Some, None, codes};
 ghost use Rattle.gem_ids.specs.declared.numbers.LocId.TheVariants as loc;
-ghost use Rattle.tool_events.specs.declared.answer.Task.TheVariants as task;
+ghost use Rattle.tool_tasks.specs.declared.task.Task.TheVariants as task;
 ghost use Rattle.robot_moves.specs.Modules.{first_modules};
 ghost use Rattle.robot_moves.specs.Moves.{move_by, next_move};
 ghost use Rattle.robot_moves.specs.Worked.{slot, first_wafer, on_arm, at_aligner, in_chamber, finished_in, all_idle, aligner_down, first_chamber_busy};

@@ -1,42 +1,15 @@
 //! Runs in which one link comes up, whose peer is in memory and waits.
 
-use crate::calls::{Given, Limits, UNLIMITED, run_serve};
-use crate::clocks::StepClock;
-use crate::ends::{PatientIn, TellingOut, patient_link};
-use crate::frames::{SELECT, SELECTED};
-use crate::gates::RestingHold;
-use crate::scripts::{local_and_quit_at, quit_at};
-use crate::signs::LinkSigns;
-use crate::told::tell_whether;
-use outside::{MemDoor, Point, SleepGate};
+use crate::calls::run_serve;
+use outside::{Point, SleepGate};
 use std::alloc::{AllocError, Global};
 use std::sync::Wait;
 use std::thread::Threads;
 use std::time;
-
-// A door with one link, whose peer sends bytes and then waits.
-type PatientDoor<'a, R> = MemDoor<PatientIn<'a, R>, TellingOut<'a>>;
-
-// A door with one link of these limits, whose peer sends these bytes and then waits.
-fn patient_door<'a, R: time::Clock + Sync>(
-    rt: &'a R,
-    alloc: Global,
-    bytes: &[u8],
-    limits: Limits,
-    signs: &'a LinkSigns,
-) -> Result<PatientDoor<'a, R>, AllocError> {
-    let mut links = Vec::new(alloc);
-    links.push(patient_link(rt, alloc, bytes, limits, signs)?)?;
-    MemDoor::new(alloc, links, Vec::new(alloc))
-}
-
-// Whether the only link was handed back, and the select response went out over it.
-fn is_selected<R>(door: &PatientDoor<'_, R>) -> bool {
-    match door.backs() {
-        [(_, link_out)] => link_out.as_bytes() == SELECTED.as_slice(),
-        _ => false,
-    }
-}
+use test_peers::{
+    Given, LinkSigns, PatientDoor, RestingHold, SELECT, StepClock, UNLIMITED, is_selected,
+    local_and_quit_at, patient_door, quit_at, tell_whether,
+};
 
 // Runs what is given at this door. The host selects, but is read once a line of the operator was answered; the operator goes on once
 // the host was answered.

@@ -11,17 +11,9 @@
 #![tactic(auto)]
 
 mod calls;
-mod clocks;
-mod ends;
-mod frames;
-mod gates;
-mod histories;
 mod links;
 mod loopback;
 mod memory;
-mod peers;
-mod scripts;
-mod signs;
 mod subject;
 mod told;
 

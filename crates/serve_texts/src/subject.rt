@@ -18,17 +18,15 @@
 //! of the select response, and `race` whether seat 0 posted what it may. `selected` tells whether the select response came, `windows` how
 //! many windows were answered, and `ended by the tool` whether the tool ended the link.
 
-use crate::calls::{Given, words_of};
 use crate::links::{run_both, run_sending};
 use crate::loopback::run_visited;
 use crate::memory::{run_alone, run_hasty};
-use crate::peers::free_port;
-use crate::told::answer_of;
 use std::alloc::{AllocError, Global};
 use std::net::{Net, TcpListener, TcpStream};
 use std::sync::Wait;
 use std::thread::Threads;
 use std::time;
+use test_peers::{Given, add_line, answer_of, free_port, give};
 
 /// What the next run is given, and what the last one told.
 pub struct Serves {
@@ -142,70 +140,4 @@ fn visit_of(way: &str) -> Option<(u16, u32)> {
         (Ok(first), Ok(windows)) => Some((first, windows)),
         _ => None,
     }
-}
-
-// Gives the next run what is said. False: it says nothing.
-fn give(alloc: Global, given: &mut Given, first: &str, rest: &str) -> Result<bool, AllocError> {
-    match first {
-        "words" => {
-            given.words = words_of(alloc, rest)?;
-            Ok(true)
-        }
-        "config" => add(alloc, &mut given.config, rest),
-        "script" => add(alloc, &mut given.script, rest),
-        "peer" => add(alloc, &mut given.peer, rest),
-        _ => Ok(limit(given, first, rest.parse::<u64>().unwrap_or(0))),
-    }
-}
-
-// Sets a limit. False: it has no such name.
-fn limit(given: &mut Given, name: &str, n: u64) -> bool {
-    match name {
-        "config_fault" => given.limits.config_fault = n,
-        "script_fault" => given.limits.script_fault = n,
-        "log_fault" => given.limits.log_fault = n,
-        "door_fault" => given.limits.door_fault = n,
-        "peer_fault" => given.limits.peer_fault = n,
-        "answer_fault" => given.limits.answer_fault = n,
-        "closed" => given.limits.is_closed = true,
-        _ => return false,
-    }
-    true
-}
-
-// Adds a text. False: it says none.
-fn add(alloc: Global, place: &mut Vec<u8>, said: &str) -> Result<bool, AllocError> {
-    match said.split_once(' ') {
-        Some(("line", text)) => add_line(place, text),
-        Some(("text", text)) => add_text(place, text),
-        Some(("bytes", words)) => add_bytes(alloc, place, words),
-        _ => Ok(false),
-    }
-}
-
-fn add_text(place: &mut Vec<u8>, text: &str) -> Result<bool, AllocError> {
-    place.extend_from_slice(text.trim_matches('|').as_bytes())?;
-    Ok(true)
-}
-
-fn add_line(place: &mut Vec<u8>, text: &str) -> Result<bool, AllocError> {
-    place.extend_from_slice(text.as_bytes())?;
-    place.push(b'\n')?;
-    Ok(true)
-}
-
-// Adds bytes, as hex digits, as often as stands behind them. False: these are none.
-fn add_bytes(alloc: Global, place: &mut Vec<u8>, words: &str) -> Result<bool, AllocError> {
-    let (digits, times) = words.split_once(' ').unwrap_or((words, "1"));
-    match (hex::decode(alloc, digits), times.parse::<u32>()) {
-        (Ok(once), Ok(times)) => repeat(place, once.as_slice(), times),
-        _ => Ok(false),
-    }
-}
-
-fn repeat(place: &mut Vec<u8>, once: &[u8], times: u32) -> Result<bool, AllocError> {
-    for _ in 0..times {
-        place.extend_from_slice(once)?;
-    }
-    Ok(true)
 }

@@ -18,7 +18,7 @@ use Rattle.tool_events.specs.declared.event.OperCmd.TheVariants as oper
 use Rattle.tool_events.specs.declared.event.SessionCause.{SessionCause}
 use Rattle.tool_events.specs.declared.answer.Answer.{Answer}
 use Rattle.tool_events.specs.declared.answer.Answer.TheVariants as answer
-use Rattle.tool_events.specs.declared.answer.Command.{Command}
+use Rattle.tool_tasks.specs.declared.task.Command.{Command}
 use Rattle.robot_moves.specs.Modules.{unfetched}
 use Rattle.floor_model.specs.Floor.{fetched}
 use Rattle.gem_model.specs.State.{State, opening, is_up, is_session_up, raised, without_session}

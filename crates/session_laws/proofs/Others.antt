@@ -5,7 +5,7 @@ use Rattle.gem_ids.specs.declared.moment.Moment.{Moment}
 use Rattle.tool_events.specs.declared.entry.Post.{Post}
 use Rattle.tool_events.specs.declared.event.Event.{Event}
 use Rattle.tool_events.specs.declared.answer.Answer.{Answer}
-use Rattle.tool_events.specs.declared.answer.Command.{Command}
+use Rattle.tool_tasks.specs.declared.task.Command.{Command}
 use Rattle.line_grammar.specs.declared.line.Line.{Line}
 use Rattle.line_grammar.specs.declared.line.Line.TheVariants as line
 use Rattle.line_grammar.specs.Reading.{script_line_of}

@@ -9,7 +9,7 @@ use Rattle.hsms_frame.specs.Spelling.{message_bytes}
 use Rattle.hsms_frame.specs.declared.frame.Header.{Header}
 use Rattle.message_model.specs.Printed.{A, B, L, U1, U4}
 use Rattle.tool_events.specs.declared.config.Config.{Config}
-use Rattle.tool_events.specs.declared.recipes.Recipe.{Recipe}
+use Rattle.tool_tasks.specs.declared.recipes.Recipe.{Recipe}
 
 -- ---- carriers are counted from 1
 

@@ -1,8 +1,8 @@
 -- A module and its commands, for worked answers.
 use Rattle.std.specs.Prelude.{ℕ, codes}
 use Rattle.gem_ids.specs.declared.numbers.ModuleId.{ModuleId}
-use Rattle.tool_events.specs.declared.answer.Command.{Command}
-use Rattle.tool_events.specs.declared.answer.Task.TheVariants as task
+use Rattle.tool_tasks.specs.declared.task.Command.{Command}
+use Rattle.tool_tasks.specs.declared.task.Task.TheVariants as task
 
 -- the first chamber's module
 abbrev pub third : ModuleId

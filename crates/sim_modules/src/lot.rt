@@ -13,7 +13,8 @@ use hsms_frame::{Bytes, Frame, Header, NoMemory, write_frame};
 use item_model::Item;
 use secs_items::encode;
 use std::alloc::Global;
-use tool_events::{Config, Recipes};
+use tool_events::Config;
+use tool_tasks::Recipes;
 
 /// Appends the `i`-th of the six lines of carrier `k` in a batch, without a line end (this tool's profile, batch). Both are
 /// counted from 1. False exactly where `i` is over 6, and nothing is appended then. After `NoMemory` the output is as before.

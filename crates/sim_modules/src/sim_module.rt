@@ -7,7 +7,8 @@ use gem_ids::ModuleId;
 use hsms_frame::NoMemory;
 use std::alloc::Global;
 use std::marker::Model;
-use tool_events::{Command, Signal};
+use tool_events::Signal;
+use tool_tasks::Command;
 
 /// A simulated robot, aligner or chamber. It does what it is told, but fails at the acts of its plan.
 #[derive(Drop)]

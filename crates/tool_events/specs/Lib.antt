@@ -3,4 +3,3 @@ pub mod Posts
 pub mod Answering
 pub mod Scripted
 pub mod Configs
-pub mod Recipes

@@ -1,21 +1,5 @@
-use gem_ids::{CmdNo, LocId, SubstrateId, Text80};
 use hsms_frame::Bytes;
-
-/// What a module is to do.
-#[derive(Clone, Copy, Debug, PartialEq, Eq)]
-pub enum Task {
-    Pick { sub: SubstrateId, from: LocId },
-    Place { sub: SubstrateId, to: LocId },
-    Align { sub: SubstrateId },
-    Process { sub: SubstrateId, recipe: Text80 },
-}
-
-/// A command to a module. Commands are numbered from 1.
-#[derive(Clone, Copy, Debug, PartialEq, Eq)]
-pub struct Command {
-    pub number: CmdNo,
-    pub task: Task,
-}
+use tool_tasks::Command;
 
 /// What an event is answered.
 #[derive(Debug, Drop)]

@@ -1,5 +1,5 @@
-use crate::recipes::Recipes;
 use gem_ids::{Moment, Text80};
+use tool_tasks::Recipes;
 
 /// The first state of communication (SEMI E30, communication states): DISABLED, WAIT DELAY with the delay over, or
 /// COMMUNICATING.

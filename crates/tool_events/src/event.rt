@@ -1,5 +1,6 @@
 use gem_ids::{CarrierId, CmdNo, JobId, ModuleId, PortNo, SubstrateId};
 use hsms_frame::Arrival;
+use tool_tasks::JobWord;
 
 /// Why a session ended.
 #[derive(Clone, Copy, Debug, PartialEq, Eq)]
@@ -49,17 +50,6 @@ pub enum Signal {
     Failed(ModuleId, CmdNo),
     /// A module went down.
     Down(ModuleId),
-}
-
-/// What an operator tells a process job.
-#[derive(Clone, Copy, Debug, PartialEq, Eq)]
-pub enum JobWord {
-    Start,
-    Pause,
-    Resume,
-    Stop,
-    Abort,
-    Cancel,
 }
 
 /// What an operator wants.

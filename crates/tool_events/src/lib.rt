@@ -2,7 +2,7 @@
 //!
 //! These are the types that the core and the lines share; nothing here decides anything. Begin with `Event`,
 //! and with `Answer`, what it is answered. A `Desk` takes events one at a time; a test begins with `MemDesk::new`, a desk
-//! in memory. `Config` is what a configuration says.
+//! in memory. `Config` is what a configuration says. What modules are told to do, and recipes, are in `tool_tasks`, below.
 #![tactic(auto)]
 
 mod answer;
@@ -11,12 +11,10 @@ mod desk;
 mod entry;
 mod event;
 mod mem_desk;
-mod recipes;
 
-pub use answer::{Answer, Command, PostFault, Task};
+pub use answer::{Answer, PostFault};
 pub use config::{CommStart, Config, ControlStart, SpoolStreams};
 pub use desk::Desk;
 pub use entry::{Entry, Post};
-pub use event::{Event, JobWord, OperCmd, SessionCause, SessionEnd, Signal, TEXT_BYTES};
+pub use event::{Event, OperCmd, SessionCause, SessionEnd, Signal, TEXT_BYTES};
 pub use mem_desk::MemDesk;
-pub use recipes::{Recipe, RecipeChambers, Recipes};

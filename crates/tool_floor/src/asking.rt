@@ -17,7 +17,7 @@ use gem_ids::SubstrateId;
 use gem_tables::RowId;
 use robot_moves::Module;
 use substrate::is_work_place;
-use tool_events::Task;
+use tool_tasks::Task;
 
 // Whether a task processes the substrate of this name.
 fn task_processes(sub: SubstrateId, task: &Task) -> bool

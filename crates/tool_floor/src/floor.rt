@@ -24,7 +24,7 @@ use crate::rows::MOVES;
 use crate::tracking::Substrates;
 use arrayvec::ArrayVec;
 use carrier::{Carrier, CarrierAction};
-use floor_model::Substrate;
+use floor_model::{FloorParts, Substrate};
 use gem_ids::{CmdNo, LocId, ModuleId, PortNo, SubstrateId, Text80};
 use gem_tables::Firing;
 use load_port::{Arrival, Caack};
@@ -33,8 +33,8 @@ use shop_floor::ShopFloor;
 use std::alloc::{AllocError, Global};
 use std::marker::Model;
 use substrate::{LocationRecord, Places};
-use tool_events::{Command, Recipe, Task};
 use tool_jobs::Jobs;
+use tool_tasks::{Command, Recipe, Task};
 
 /// The most rows of objects that one row creates: two of each substrate of a carrier.
 pub const MOST_CREATED: usize = 50;
@@ -129,6 +129,21 @@ impl ToolFloor {
     }
 
     // ---- what it says
+
+    /// The floor by its parts, for those who read it and need not know who keeps it.
+    pub fn parts(&self) -> FloorParts<'_>
+        ensures { result ≡ self.now }
+    {
+        FloorParts::of(
+            &self.shop,
+            &self.modules,
+            &self.places,
+            self.locations.as_slice(),
+            self.substrates.as_slice(),
+            self.commands,
+            &self.jobs,
+        )
+    }
 
     /// The load ports and the carriers.
     pub fn shop(&self) -> &ShopFloor

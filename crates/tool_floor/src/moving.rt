@@ -13,7 +13,7 @@ use gem_ids::{CmdNo, LocId, ModuleId, SubstrateId};
 use gem_tables::Firing;
 use robot_moves::Module;
 use std::alloc::AllocError;
-use tool_events::{Command, Task};
+use tool_tasks::{Command, Task};
 
 impl ToolFloor {
     // A move is given to a module, under the next number, where there is one for it. `AllocError`: the last number was given; nothing

@@ -13,8 +13,8 @@ use robot_moves::Modules;
 use shop_floor::ShopFloor;
 use std::alloc::{AllocError, Global};
 use substrate::{LocationRecord, Places};
-use tool_events::{Command, Recipe, Task};
 use tool_jobs::Jobs;
+use tool_tasks::{Command, Recipe, Task};
 
 /// So many ports without a carrier, and the modules of a tool with so many chambers.
 pub(crate) fn first_equipment(

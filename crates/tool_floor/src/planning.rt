@@ -17,8 +17,8 @@ use gem_tables::Firing;
 use process_job::{JobState, ProcessJob};
 use robot_moves::{Module, Move, PlaceView, Planner};
 use substrate::Registered;
-use tool_events::{Recipe, RecipeChambers};
 use tool_jobs::Jobs;
+use tool_tasks::{Recipe, RecipeChambers};
 
 // The chambers of a recipe as a set of bits.
 fn chamber_bits(chambers: RecipeChambers) -> u8

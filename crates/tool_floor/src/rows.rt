@@ -9,7 +9,7 @@ ghost use Rattle.robot_moves.specs.declared.view.Move.{Move};
 
 use gem_ids::{CmdNo, ModuleId};
 use robot_moves::{Module, Modules};
-use tool_events::Task;
+use tool_tasks::Task;
 
 // The table of moves.
 pub(crate) const MOVES: u8 = 16;

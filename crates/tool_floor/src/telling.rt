@@ -16,7 +16,7 @@ use floor_model::Substrate;
 use gem_ids::{ModuleId, SubstrateId};
 use gem_tables::Firing;
 use robot_moves::Module;
-use tool_events::Task;
+use tool_tasks::Task;
 
 // The substrate that a task names.
 fn named_by(task: &Task) -> SubstrateId

@@ -44,6 +44,13 @@ impl Substrates {
         Ok(Substrates { list })
     }
 
+    // All of them.
+    pub(crate) fn as_slice(&self) -> &[Substrate]
+        ensures { result.now ≡ self.now }
+    {
+        self.list.as_slice()
+    }
+
     // How many there are.
     pub(crate) fn len(&self) -> usize
         ensures { result ≡ length self.now }

@@ -1,7 +1,7 @@
 -- The process jobs and the control jobs of the tool together: what belongs to what (after SEMI E40 and SEMI E94; this tool's profile,
 -- tables 14 and 15). The tables are in process_job and control_job.
 use Rattle.std.specs.Prelude.{ℕ, List, [], ◌∷◌, find, Option, Some, None}
-use Rattle.tool_events.specs.declared.recipes.Recipe.{Recipe}
+use Rattle.tool_tasks.specs.declared.recipes.Recipe.{Recipe}
 use Rattle.process_job.specs.Jobs as process
 use Rattle.process_job.specs.Jobs.{JobBook}
 use Rattle.process_job.specs.declared.job.ProcessJob.{ProcessJob}

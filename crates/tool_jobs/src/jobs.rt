@@ -12,7 +12,7 @@ use gem_ids::{JobId, Text80};
 use process_job::{ProcessJob, ProcessJobs};
 use std::alloc::{AllocError, Global};
 use std::marker::Model;
-use tool_events::Recipe;
+use tool_tasks::Recipe;
 
 /// The process jobs and the control jobs of the tool, which contracts see as both. A process job that is left in a control job is
 /// kept, and belongs to no other; one control job is active at most. Only `new` and the calls that create take memory.

@@ -7,7 +7,8 @@ ghost use Rattle.line_grammar.specs.Lines.{service_words, access_words, job_word
 use crate::cursor::Cursor;
 use gem_ids::{JobId, ModuleId, PortNo, SubstrateId};
 use line_grammar::WordKind;
-use tool_events::{JobWord, OperCmd};
+use tool_events::OperCmd;
+use tool_tasks::JobWord;
 
 // What one reading or the other gives, and the farther place where both fail.
 pub(crate) fn either<T: Drop>(one: Result<T, usize>, other: Result<T, usize>) -> Result<T, usize>

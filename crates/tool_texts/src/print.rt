@@ -8,7 +8,8 @@ use gem_ids::{LocId, ModuleId};
 use hsms_frame::NoMemory;
 use line_grammar::OutLine;
 use std::alloc::Global;
-use tool_events::{Command, SessionCause, Task};
+use tool_events::SessionCause;
+use tool_tasks::{Command, Task};
 
 /// Appends an output line, with its line feed (this tool's profile, output lines). After want of memory `out` is as
 /// before.

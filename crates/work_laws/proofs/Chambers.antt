@@ -4,7 +4,7 @@ use Rattle.std.specs.Str.{bytes_eq}
 use Rattle.std.proofs.lemmas.Bool.{and_parts}
 use Rattle.std.proofs.lemmas.Bool.Decides.{nat_tests}
 use Rattle.gem_tables.specs.Table.{is_one_of}
-use Rattle.tool_events.specs.declared.recipes.Recipe.{Recipe}
+use Rattle.tool_tasks.specs.declared.recipes.Recipe.{Recipe}
 use Rattle.process_job.specs.Creating.{is_recipe}
 use Rattle.process_job.specs.Jobs.{has_number, recipe_named}
 use Rattle.process_job.specs.declared.job.ProcessJob.{ProcessJob}

@@ -3,7 +3,7 @@
 use Rattle.std.specs.Prelude.{◌≡◌, ℕ, ◌+◌, true, List, length}
 use Rattle.std.specs.List.{AllByRecursion}
 use Rattle.tool_events.specs.Configs.{are_usable}
-use Rattle.tool_events.specs.declared.recipes.Recipe.{Recipe}
+use Rattle.tool_tasks.specs.declared.recipes.Recipe.{Recipe}
 use Rattle.process_job.specs.Creating.{is_recipe}
 use Rattle.process_job.specs.declared.job.ProcessJob.{ProcessJob}
 use Rattle.floor_model.specs.Floor.{ToolFloor}

@@ -2,7 +2,7 @@
 
 ghost use Rattle.std.specs.Prelude.{◌≡◌, ◌≤◌, ℕ, true, false, List, None};
 ghost use Rattle.gem_tables.specs.declared.firing.Firing.{Firing};
-ghost use Rattle.tool_events.specs.declared.recipes.Recipe.{Recipe};
+ghost use Rattle.tool_tasks.specs.declared.recipes.Recipe.{Recipe};
 ghost use Rattle.process_job.specs.Creating.{create_fault};
 ghost use Rattle.process_job.specs.Jobs.{with_created};
 ghost use Rattle.process_job.specs.declared.job.JobSpec.{JobSpec};

@@ -5,8 +5,8 @@ use Rattle.gem_tables.specs.Table.{firing}
 use Rattle.gem_tables.specs.declared.firing.Firing.{Firing}
 use Rattle.gem_ids.specs.declared.numbers.LocId.{LocId}
 use Rattle.gem_ids.specs.declared.numbers.LocId.TheVariants.{Slot, Aligner, Arm, Chamber}
-use Rattle.tool_events.specs.declared.answer.Task.{Task}
-use Rattle.tool_events.specs.declared.answer.Task.TheVariants as task
+use Rattle.tool_tasks.specs.declared.task.Task.{Task}
+use Rattle.tool_tasks.specs.declared.task.Task.TheVariants as task
 use Rattle.load_port.specs.declared.port.Port.{Port}
 use Rattle.load_port.specs.declared.record.Transfer.{Transfer}
 use Rattle.load_port.specs.declared.record.Transfer.TheVariants.{TransferBlocked, ReadyToUnload}
@@ -33,7 +33,7 @@ use Rattle.substrate.specs.declared.record.Processing.TheVariants.{NeedsProcessi
 use Rattle.substrate.specs.declared.record.LocationRecord.{LocationRecord}
 use Rattle.robot_moves.specs.Modules.{first_modules}
 use Rattle.robot_moves.specs.declared.module.Module.TheVariants.{Busy, Down}
-use Rattle.tool_events.specs.declared.recipes.Recipe.{Recipe}
+use Rattle.tool_tasks.specs.declared.recipes.Recipe.{Recipe}
 use Rattle.tool_jobs.specs.Jobs.{no_jobs}
 use Rattle.floor_model.specs.declared.tracked.Substrate.{Substrate}
 use Rattle.floor_model.specs.Floor.{ToolFloor, with_module, fetched, change_location, change_numbered}

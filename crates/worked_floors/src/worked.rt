@@ -3,7 +3,7 @@
 ghost use Rattle.std.specs.Prelude.{◌≡◌, [], ◌∷◌, Some, None, false, codes};
 ghost use Rattle.gem_tables.specs.Table.{firing};
 ghost use Rattle.gem_ids.specs.declared.numbers.LocId.TheVariants.{Aligner, Arm, Chamber};
-ghost use Rattle.tool_events.specs.declared.answer.Task.TheVariants as task;
+ghost use Rattle.tool_tasks.specs.declared.task.Task.TheVariants as task;
 ghost use Rattle.substrate.specs.declared.record.Processing.TheVariants.{InProcess, Aborted};
 ghost use Rattle.robot_moves.specs.Modules.{module_at};
 ghost use Rattle.robot_moves.specs.Moves.{move_by};

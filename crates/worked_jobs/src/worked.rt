@@ -3,7 +3,7 @@
 ghost use Rattle.std.specs.Prelude.{◌≡◌, [], ◌∷◌, true, false};
 ghost use Rattle.gem_tables.specs.Table.{firing};
 ghost use Rattle.gem_ids.specs.declared.numbers.LocId.TheVariants.{Arm};
-ghost use Rattle.tool_events.specs.declared.answer.Task.TheVariants as task;
+ghost use Rattle.tool_tasks.specs.declared.task.Task.TheVariants as task;
 ghost use Rattle.process_job.specs.declared.record.JobState.TheVariants as process;
 ghost use Rattle.work_laws.specs.Work.{is_work_left, is_any_open};
 ghost use Rattle.worked_floors.specs.Worked.{wafer, own_slot, is_given, in_slot, picking, placing, working, finished_at, returning, back, settling, settled, firings, behind, done, behind_dones};

@@ -1,6 +1,6 @@
 use Rattle.std.proofs.Common.{rules, ◌≡◌, sym, subst}
 use Rattle.gem_ids.specs.Texts.{IsText}
-use Rattle.gem_ids.specs.Civil.{time_digits}
+use Rattle.civil_time.specs.Civil.{time_digits}
 use Rattle.gem_model.specs.State.{clock_now}
 use Rattle.plant_values.proofs.MomentTexts.{clock_text}
 use Rattle.plant_values.proofs.seen.Seen.time_text.Goals as goal

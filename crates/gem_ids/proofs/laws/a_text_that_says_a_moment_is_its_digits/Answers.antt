@@ -1,8 +1,0 @@
-use Rattle.gem_ids.proofs.MomentTexts.{its_digits}
-use Rattle.gem_ids.proofs.laws.a_text_that_says_a_moment_is_its_digits.Goals as goal
-
-pub returns-clause-digits : goal.returns-clause-digits
-returns-clause-digits c text moment e = (its_digits text moment e).0
-
-pub returns-clause-last : goal.returns-clause-last
-returns-clause-last c text moment e = (its_digits text moment e).1

@@ -1,0 +1,95 @@
+//! What is told of a run that has ended, a line for each thing: its key, a colon, and what is answered to the key.
+
+use crate::histories::{add_seat, is_operator_first};
+use std::alloc::{AllocError, Global};
+use tool_events::Entry;
+
+/// What is answered to this key.
+pub fn answer_of<'a>(told: &'a str, key: &str) -> Option<&'a str> {
+    for line in told.lines() {
+        if let Some((first, words)) = line.split_once(": ") {
+            if first == key {
+                return Some(words);
+            }
+        }
+    }
+    None
+}
+
+/// Tells a thing.
+pub fn tell(told: &mut String, key: &str, words: &str) -> Result<(), AllocError> {
+    told.push_str(key)?;
+    told.push_str(": ")?;
+    told.push_str(words)?;
+    told.push_str("\n")
+}
+
+/// Tells whether something is so.
+pub fn tell_whether(told: &mut String, key: &str, is_so: bool) -> Result<(), AllocError> {
+    tell(told, key, if is_so { "true" } else { "false" })
+}
+
+/// Tells a number.
+pub fn tell_number(alloc: Global, told: &mut String, key: &str, n: u64) -> Result<(), AllocError> {
+    let words = format!(in alloc; "{n}")?;
+    tell(told, key, words.as_str())
+}
+
+/// Tells a text in quotes.
+pub fn tell_quoted(
+    alloc: Global,
+    told: &mut String,
+    key: &str,
+    text: &str,
+) -> Result<(), AllocError> {
+    let words = format!(in alloc; "{text:?}")?;
+    tell(told, key, words.as_str())
+}
+
+/// Tells a history: how many entries it has, the seat of the first, whether the operator was first, and what each seat posted.
+pub fn tell_history(alloc: Global, told: &mut String, entries: &[Entry]) -> Result<(), AllocError> {
+    tell_number(alloc, told, "entries", entries.len() as u64)?;
+    tell_first_seat(alloc, told, entries)?;
+    tell_whether(told, "operator first", is_operator_first(entries))?;
+    for seat in 0..3 {
+        tell_seat(alloc, told, entries, seat)?;
+    }
+    tell_others(alloc, told, entries)
+}
+
+// Tells the seat of the first entry.
+fn tell_first_seat(alloc: Global, told: &mut String, entries: &[Entry]) -> Result<(), AllocError> {
+    match entries {
+        [first, ..] => tell_number(alloc, told, "first seat", first.seat as u64),
+        [] => tell(told, "first seat", "none"),
+    }
+}
+
+// Tells what a seat posted.
+fn tell_seat(
+    alloc: Global,
+    told: &mut String,
+    entries: &[Entry],
+    seat: u32,
+) -> Result<(), AllocError> {
+    let key = format!(in alloc; "seat {seat}:")?;
+    told.push_str(key.as_str())?;
+    add_seat(alloc, told, entries, seat)?;
+    told.push_str("\n")
+}
+
+// Tells what the seats from 3 to 9 posted, a semicolon behind each.
+fn tell_others(alloc: Global, told: &mut String, entries: &[Entry]) -> Result<(), AllocError> {
+    told.push_str("seats from 3:")?;
+    for seat in 3..10 {
+        add_seat(alloc, told, entries, seat)?;
+        told.push_str(";")?;
+    }
+    told.push_str("\n")
+}
+
+/// Tells the log, in quotes.
+pub fn tell_log(alloc: Global, told: &mut String, log: &[u8]) -> Result<(), AllocError> {
+    let text = String::from_utf8_lossy(alloc, log)?;
+    tell_quoted(alloc, told, "log", text.as_str())
+}

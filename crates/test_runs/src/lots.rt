@@ -1,0 +1,241 @@
+//! How a lot of a seed begins: the carriers that come, and what the host asks. A truth value tells whether it goes as is wanted.
+
+use crate::played::Played;
+use crate::tool::Tool;
+use gem_ids::{CarrierId, PortNo, Text80};
+use sim_modules::draw;
+use std::alloc::Global;
+use tool_events::{Event, Signal};
+
+/// How the process jobs of a lot lie over its carriers. All of them are of one control job.
+#[derive(Clone, Copy)]
+pub(crate) enum Shape {
+    One,
+    Shared,
+    Each,
+    Both,
+}
+
+/// Draws a number from 1 to `most`, by the upper 32 bits of what comes behind the last that was drawn.
+pub(crate) fn up_to(last: &mut u64, most: u64) -> u64 {
+    *last = draw(*last);
+    (*last >> 32)
+        .checked_rem(most)
+        .unwrap_or(0)
+        .saturating_add(1)
+}
+
+/// How many ports a tool of this shape has; one or two is drawn where one does.
+pub(crate) fn ports_of(shape: Shape, last: &mut u64) -> u64 {
+    match shape {
+        Shape::One | Shape::Shared => up_to(last, 2),
+        Shape::Each | Shape::Both => 2,
+    }
+}
+
+// The map of a carrier with so many substrates, which stand in its first slots.
+fn map_of(substrates: u64) -> [u8; 25] {
+    let mut map = [1; 25];
+    for slot in 0..25 {
+        if (slot as u64) < substrates {
+            map[slot] = 3;
+        }
+    }
+    map
+}
+
+// Adds the slots behind this one to the last, in words of items.
+fn push_slots(words: &mut String, from: u64, last: u64) -> bool {
+    for slot in from.saturating_add(1)..last.saturating_add(1) {
+        if write!(words, ", U1 {slot}").is_err() {
+            return false;
+        }
+    }
+    true
+}
+
+// Adds the material of a job over these slots of the carrier of a port.
+fn push_material(words: &mut String, port: u64, from: u64, last: u64) -> bool {
+    write!(words, "L[A CAR{port}, L[U1 {from}").is_ok()
+        && push_slots(words, from, last)
+        && words.push_str("]]").is_ok()
+}
+
+// The name of the carrier of a port, 1 or 2.
+fn carrier_of(port: u64) -> &'static [u8] {
+    if port == 1 { b"CAR1" } else { b"CAR2" }
+}
+
+// The message by which the host proceeds with the carrier of a port.
+fn proceed_of(port: u64) -> &'static str {
+    if port == 1 {
+        "S3F17 W 3 L[U4 0, A ProceedWithCarrier, A CAR1, U1 1, L[]]"
+    } else {
+        "S3F17 W 3 L[U4 0, A ProceedWithCarrier, A CAR2, U1 2, L[]]"
+    }
+}
+
+// All of the carriers of a port, and of both, as the material of a job.
+const FIRST: &str = "L[A CAR1, L[]]";
+
+const SECOND: &str = "L[A CAR2, L[]]";
+
+const BOTH: &str = "L[A CAR1, L[]], L[A CAR2, L[]]";
+
+// The messages that create a process job over the material that stands between what begins and what ends them. It starts by itself.
+const FIRST_JOB: &str = "S16F11 W 4 L[U4 0, A PJ1, B 0D, L[";
+
+const SECOND_JOB: &str = "S16F11 W 4 L[U4 0, A PJ2, B 0D, L[";
+
+const JOB_END: &str = "], L[U1 1, A R1, L[]], BOOL true, L[]]";
+
+// The messages that create a control job of the first process job, and of both.
+const CONTROL_JOB: &str =
+    "S14F9 W 5 L[A Equipment, A ControlJob, L[L[A ObjID, A CJ1], L[A ProcessingCtrlSpec, L[A PJ1]]]]";
+
+const CONTROL_JOB_OF_BOTH: &str =
+    "S14F9 W 5 L[A Equipment, A ControlJob, L[L[A ObjID, A CJ1], L[A ProcessingCtrlSpec, L[A PJ1, A PJ2]]]]";
+
+fn control_job(shape: Shape) -> &'static str {
+    match shape {
+        Shape::One | Shape::Both => CONTROL_JOB,
+        Shape::Shared | Shape::Each => CONTROL_JOB_OF_BOTH,
+    }
+}
+
+// The signal by which a carrier of this name with so many substrates comes to a port, 1 or 2.
+fn placed(port: u64, name: Text80, substrates: u64) -> Event {
+    Event::Signal(Signal::Placed {
+        port: PortNo(if port == 1 { 1 } else { 2 }),
+        id: CarrierId::read(name),
+        map: map_of(substrates),
+    })
+}
+
+impl<T: Tool> Played<T> {
+    // A carrier with so many substrates comes to a port.
+    fn place(&mut self, alloc: Global, port: u64, substrates: u64) -> bool {
+        match Text80::read(carrier_of(port)) {
+            Ok(name) => self.post(alloc, placed(port, name, substrates)),
+            Err(_) => false,
+        }
+    }
+
+    // The host proceeds with the carrier of a port, for its id and for its slot map.
+    fn proceed(&mut self, alloc: Global, port: u64) -> bool {
+        let words = proceed_of(port);
+        self.send(alloc, words) && self.send(alloc, words)
+    }
+
+    // A carrier comes to a port, and the host proceeds with it. How many substrates it has is drawn, and given.
+    fn receive(&mut self, alloc: Global, port: u64) -> Option<u64> {
+        let substrates = up_to(&mut self.last, 25);
+        if self.place(alloc, port, substrates) && self.proceed(alloc, port) {
+            Some(substrates)
+        } else {
+            None
+        }
+    }
+
+    // The host creates a process job over this material, by a message that begins so.
+    fn create(&mut self, alloc: Global, job: &str, material: &str) -> bool {
+        match format!(in alloc; "{job}{material}{JOB_END}") {
+            Ok(words) => self.send(alloc, words.as_str()),
+            Err(_) => false,
+        }
+    }
+
+    // The same over these slots of the carrier of a port.
+    fn create_over(&mut self, alloc: Global, job: &str, port: u64, from: u64, last: u64) -> bool {
+        let mut material = String::new(alloc);
+        push_material(&mut material, port, from, last) && self.create(alloc, job, material.as_str())
+    }
+
+    fn begin_one(&mut self, alloc: Global) -> Option<u64> {
+        let port = up_to(&mut self.last, self.ports);
+        let material = if port == 1 { FIRST } else { SECOND };
+        match self.receive(alloc, port) {
+            Some(substrates) if self.create(alloc, FIRST_JOB, material) => Some(substrates),
+            _ => None,
+        }
+    }
+
+    // The first process job has the slots from the first on, the second those to the last, and one at least is of both.
+    fn create_shared(&mut self, alloc: Global, port: u64, substrates: u64) -> bool {
+        let end = up_to(&mut self.last, substrates);
+        let begin = up_to(&mut self.last, end);
+        self.create_over(alloc, FIRST_JOB, port, 1, end)
+            && self.create_over(alloc, SECOND_JOB, port, begin, substrates)
+    }
+
+    fn begin_shared(&mut self, alloc: Global) -> Option<u64> {
+        let port = up_to(&mut self.last, self.ports);
+        match self.receive(alloc, port) {
+            Some(substrates) if self.create_shared(alloc, port, substrates) => Some(substrates),
+            _ => None,
+        }
+    }
+
+    // Two carriers come, and give how many substrates they have.
+    fn receive_two(&mut self, alloc: Global) -> Option<u64> {
+        let Some(first) = self.receive(alloc, 1) else {
+            return None;
+        };
+        match self.receive(alloc, 2) {
+            Some(second) => Some(first.saturating_add(second)),
+            None => None,
+        }
+    }
+
+    fn create_each(&mut self, alloc: Global) -> bool {
+        self.create(alloc, FIRST_JOB, FIRST) && self.create(alloc, SECOND_JOB, SECOND)
+    }
+
+    fn begin_each(&mut self, alloc: Global) -> Option<u64> {
+        match self.receive_two(alloc) {
+            Some(substrates) if self.create_each(alloc) => Some(substrates),
+            _ => None,
+        }
+    }
+
+    fn begin_both(&mut self, alloc: Global) -> Option<u64> {
+        match self.receive_two(alloc) {
+            Some(substrates) if self.create(alloc, FIRST_JOB, BOTH) => Some(substrates),
+            _ => None,
+        }
+    }
+
+    // Carriers come, and process jobs of them are created. Gives how many substrates there are.
+    fn begin_jobs(&mut self, alloc: Global, shape: Shape) -> Option<u64> {
+        match shape {
+            Shape::One => self.begin_one(alloc),
+            Shape::Shared => self.begin_shared(alloc),
+            Shape::Each => self.begin_each(alloc),
+            Shape::Both => self.begin_both(alloc),
+        }
+    }
+
+    // A link comes up, on which the host has CEID 1508 alone told.
+    fn connect(&mut self, alloc: Global) -> bool {
+        self.post(alloc, Event::LinkUp)
+            && self.send(alloc, "Select.req 1")
+            && self.send(alloc, "S2F37 W 2 L[BOOL true, L[U4 1508]]")
+    }
+
+    // A control job of the process jobs is created, and what is to be fetched then is.
+    fn start(&mut self, alloc: Global, shape: Shape) -> bool {
+        self.send(alloc, control_job(shape)) && self.fetch_all(alloc)
+    }
+
+    /// A link comes up, on which the host has CEID 1508 alone told, carriers come, and process jobs and a control job of them are
+    /// created. Gives how many substrates there are.
+    pub(crate) fn begin(&mut self, alloc: Global, shape: Shape) -> Option<u64> {
+        if !self.connect(alloc) {
+            return None;
+        }
+        match self.begin_jobs(alloc, shape) {
+            Some(substrates) if self.start(alloc, shape) => Some(substrates),
+            _ => None,
+        }
+    }
+}

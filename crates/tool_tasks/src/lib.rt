@@ -1,0 +1,13 @@
+//! What the modules of a tool are told to do, and by which recipes; and what the operator tells a process job.
+//!
+//! These are the types that the records of the floor and of the jobs share with the events of the tool; nothing here decides
+//! anything. Begin with `Task`, and with `Recipes`, of which a configuration has a list.
+#![tactic(auto)]
+
+mod recipes;
+mod task;
+mod words;
+
+pub use recipes::{Recipe, RecipeChambers, Recipes};
+pub use task::{Command, Task};
+pub use words::JobWord;

@@ -1,0 +1,10 @@
+/// What an operator tells a process job.
+#[derive(Clone, Copy, Debug, PartialEq, Eq)]
+pub enum JobWord {
+    Start,
+    Pause,
+    Resume,
+    Stop,
+    Abort,
+    Cancel,
+}

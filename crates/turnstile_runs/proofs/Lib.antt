@@ -1,2 +1,0 @@
-mod Raises
-mod TwoPasses

@@ -6,7 +6,8 @@ use hsms_frame::Arrival;
 use outside::{MemSource, Sink, Source};
 use program_words::{help_text, version_text};
 use std::alloc::{AllocError, Global};
-use test_runs::{Noted, Ran, Tools};
+use test_lines::Noted;
+use test_runs::{Ran, Tools};
 use tool_events::{Entry, Event};
 use top_calls::{Cause, Ended, SessionNote, feed};
 

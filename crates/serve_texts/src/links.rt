@@ -6,9 +6,10 @@ use std::alloc::{AllocError, Global};
 use std::sync::Wait;
 use std::thread::Threads;
 use std::time;
+use test_lines::tell_whether;
 use test_peers::{
     Given, LinkSigns, PatientDoor, RestingHold, SELECT, StepClock, UNLIMITED, is_selected,
-    local_and_quit_at, patient_door, quit_at, tell_whether,
+    local_and_quit_at, patient_door, quit_at,
 };
 
 // Runs what is given at this door. The host selects, but is read once a line of the operator was answered; the operator goes on once

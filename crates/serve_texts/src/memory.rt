@@ -6,10 +6,8 @@ use std::alloc::{AllocError, Global};
 use std::sync::Wait;
 use std::thread::Threads;
 use std::time;
-use test_peers::{
-    Given, StepClock, answer_of, door_of, hasty_links, holds_a_front, is_race, source_of,
-    tell_number, tell_whether,
-};
+use test_lines::{answer_of, tell_number, tell_whether};
+use test_peers::{Given, StepClock, door_of, hasty_links, holds_a_front, is_race, source_of};
 
 // Runs what is given at this door, and tells how many bytes are left of the script, and how often the door was asked too early.
 fn run_at<R: Threads + Wait + Sync + time::Clock>(

@@ -26,7 +26,8 @@ use std::net::{Net, TcpListener, TcpStream};
 use std::sync::Wait;
 use std::thread::Threads;
 use std::time;
-use test_peers::{Given, add_line, answer_of, free_port, give};
+use test_lines::{add_line, answer_of};
+use test_peers::{Given, free_port, give};
 
 /// What the next run is given, and what the last one told.
 pub struct Serves {

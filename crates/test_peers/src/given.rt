@@ -3,6 +3,7 @@
 use gem_ids::Text80;
 use outside::MemSource;
 use std::alloc::{AllocError, Global};
+use test_lines::{add, texts_of};
 
 /// The first read of the configuration and of the script, write of the log, call of the door, and read and write of a link that fail, counted
 /// from 1 (0: none does), and whether a door in memory is closed behind its links.
@@ -51,15 +52,6 @@ impl Given {
     }
 }
 
-/// Words of a command. One that is no text of at most 80 bytes that print is an empty one.
-pub fn words_of(alloc: Global, typed: &str) -> Result<Vec<Text80>, AllocError> {
-    let mut words = Vec::new(alloc);
-    for word in typed.split_whitespace() {
-        words.push(Text80::read(word.as_bytes()).unwrap_or(Text80::empty()))?;
-    }
-    Ok(words)
-}
-
 /// The numbers of what fails: this one alone.
 pub fn fails_of(alloc: Global, fault: u64) -> Result<Vec<u64>, AllocError> {
     let mut fails = Vec::new(alloc);
@@ -78,7 +70,7 @@ pub fn source_of(alloc: Global, bytes: &[u8], fault: u64) -> Result<MemSource, A
 pub fn give(alloc: Global, given: &mut Given, first: &str, rest: &str) -> Result<bool, AllocError> {
     match first {
         "words" => {
-            given.words = words_of(alloc, rest)?;
+            given.words = texts_of(alloc, rest)?;
             Ok(true)
         }
         "config" => add(alloc, &mut given.config, rest),
@@ -101,42 +93,4 @@ fn limit(given: &mut Given, name: &str, n: u64) -> bool {
         _ => return false,
     }
     true
-}
-
-// Adds a text. False: it says none.
-fn add(alloc: Global, place: &mut Vec<u8>, said: &str) -> Result<bool, AllocError> {
-    match said.split_once(' ') {
-        Some(("line", text)) => add_line(place, text),
-        Some(("text", text)) => add_text(place, text),
-        Some(("bytes", words)) => add_bytes(alloc, place, words),
-        _ => Ok(false),
-    }
-}
-
-fn add_text(place: &mut Vec<u8>, text: &str) -> Result<bool, AllocError> {
-    place.extend_from_slice(text.trim_matches('|').as_bytes())?;
-    Ok(true)
-}
-
-/// Adds a text and a line feed.
-pub fn add_line(place: &mut Vec<u8>, text: &str) -> Result<bool, AllocError> {
-    place.extend_from_slice(text.as_bytes())?;
-    place.push(b'\n')?;
-    Ok(true)
-}
-
-// Adds bytes, as hex digits, as often as stands behind them. False: these are none.
-fn add_bytes(alloc: Global, place: &mut Vec<u8>, words: &str) -> Result<bool, AllocError> {
-    let (digits, times) = words.split_once(' ').unwrap_or((words, "1"));
-    match (hex::decode(alloc, digits), times.parse::<u32>()) {
-        (Ok(once), Ok(times)) => repeat(place, once.as_slice(), times),
-        _ => Ok(false),
-    }
-}
-
-fn repeat(place: &mut Vec<u8>, once: &[u8], times: u32) -> Result<bool, AllocError> {
-    for _ in 0..times {
-        place.extend_from_slice(once)?;
-    }
-    Ok(true)
 }

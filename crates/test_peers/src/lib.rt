@@ -25,9 +25,9 @@ pub use doors::{
 pub use ends::{PatientIn, TellingOut};
 pub use frames::SELECT;
 pub use gates::RestingHold;
-pub use given::{Given, Limits, UNLIMITED, add_line, fails_of, give, source_of};
+pub use given::{Given, Limits, UNLIMITED, fails_of, give, source_of};
 pub use peers::free_port;
 pub use scripts::{WaitingScript, local_and_quit_at, quit_at};
 pub use signs::{LinkSigns, Sign};
-pub use told::{answer_of, tell, tell_history, tell_log, tell_number, tell_quoted, tell_whether};
+pub use told::{tell_history, tell_log};
 pub use visits::{HostTold, tell_host, visit};

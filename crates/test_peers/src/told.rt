@@ -1,50 +1,9 @@
-//! What is told of a run that has ended, a line for each thing: its key, a colon, and what is answered to the key.
+//! What is told of a run of a tool that serves.
 
 use crate::histories::{add_seat, is_operator_first};
 use std::alloc::{AllocError, Global};
+use test_lines::{tell, tell_number, tell_quoted, tell_whether};
 use tool_events::Entry;
-
-/// What is answered to this key.
-pub fn answer_of<'a>(told: &'a str, key: &str) -> Option<&'a str> {
-    for line in told.lines() {
-        if let Some((first, words)) = line.split_once(": ") {
-            if first == key {
-                return Some(words);
-            }
-        }
-    }
-    None
-}
-
-/// Tells a thing.
-pub fn tell(told: &mut String, key: &str, words: &str) -> Result<(), AllocError> {
-    told.push_str(key)?;
-    told.push_str(": ")?;
-    told.push_str(words)?;
-    told.push_str("\n")
-}
-
-/// Tells whether something is so.
-pub fn tell_whether(told: &mut String, key: &str, is_so: bool) -> Result<(), AllocError> {
-    tell(told, key, if is_so { "true" } else { "false" })
-}
-
-/// Tells a number.
-pub fn tell_number(alloc: Global, told: &mut String, key: &str, n: u64) -> Result<(), AllocError> {
-    let words = format!(in alloc; "{n}")?;
-    tell(told, key, words.as_str())
-}
-
-/// Tells a text in quotes.
-pub fn tell_quoted(
-    alloc: Global,
-    told: &mut String,
-    key: &str,
-    text: &str,
-) -> Result<(), AllocError> {
-    let words = format!(in alloc; "{text:?}")?;
-    tell(told, key, words.as_str())
-}
 
 /// Tells a history: how many entries it has, the seat of the first, whether the operator was first, and what each seat posted.
 pub fn tell_history(alloc: Global, told: &mut String, entries: &[Entry]) -> Result<(), AllocError> {

@@ -2,10 +2,10 @@
 
 use crate::peers::{connected, is_ended_by_tool, selects, windows_answered};
 use crate::signs::Sign;
-use crate::told::{tell_number, tell_whether};
 use std::alloc::{AllocError, Global};
 use std::net::{Net, TcpListener, TcpStream};
 use std::time;
+use test_lines::{tell_number, tell_whether};
 
 /// What a host was told: whether it was selected, how many windows of S1F1 were answered, and whether the tool ended the link.
 #[derive(Clone, Copy)]

@@ -2,7 +2,7 @@
 
 use crate::narrow::Narrow;
 use crate::told::{tell_printed, tell_ran};
-use crate::tool::Tools;
+use crate::tool::{Ran, Tools};
 use gem_ids::Text80;
 use outside::{MemSink, MemSource, Sink};
 use std::alloc::{AllocError, Global};
@@ -51,15 +51,6 @@ impl Given {
     }
 }
 
-/// Words of a command. One that is no text of at most 80 bytes that print is an empty one.
-pub fn words_of(alloc: Global, typed: &str) -> Result<Vec<Text80>, AllocError> {
-    let mut words = Vec::new(alloc);
-    for word in typed.split_whitespace() {
-        words.push(Text80::read(word.as_bytes()).unwrap_or(Text80::empty()))?;
-    }
-    Ok(words)
-}
-
 // A source of these bytes, of which this read fails.
 fn source_of(alloc: Global, bytes: &[u8], fault: usize) -> Result<MemSource, AllocError> {
     let bytes = Vec::from_slice(alloc, bytes)?;
@@ -75,6 +66,24 @@ fn sink_of(alloc: Global, limits: Limits) -> Result<MemSink, AllocError> {
     Ok(MemSink::new(alloc, fails).with_limit(limits.limit))
 }
 
+// The input that is given, which comes in pieces.
+fn input_of(alloc: Global, given: &Given) -> Result<MemSource, AllocError> {
+    let input = source_of(alloc, &given.input, given.limits.read_fault)?;
+    Ok(input.with_piece(given.limits.piece.max(1)))
+}
+
+// Runs what is given over this input into a sink.
+fn run_over<O: Tools, K: Sink>(
+    tools: &O,
+    alloc: Global,
+    given: &Given,
+    input: &mut MemSource,
+    out: &mut K,
+) -> Result<Ran, AllocError> {
+    let mut config = source_of(alloc, &given.config, given.limits.config_fault)?;
+    tools.run(alloc, &given.words, &mut config, input, out)
+}
+
 // Runs what is given into a sink, and tells how the run ended. How many entries it has.
 fn run_into<O: Tools, K: Sink>(
     tools: &O,
@@ -83,10 +92,8 @@ fn run_into<O: Tools, K: Sink>(
     out: &mut K,
     told: &mut String,
 ) -> Result<usize, AllocError> {
-    let mut config = source_of(alloc, &given.config, given.limits.config_fault)?;
-    let input = source_of(alloc, &given.input, given.limits.read_fault)?;
-    let mut input = input.with_piece(given.limits.piece.max(1));
-    let ran = tools.run(alloc, &given.words, &mut config, &mut input, out)?;
+    let mut input = input_of(alloc, given)?;
+    let ran = run_over(tools, alloc, given, &mut input, out)?;
     tell_ran(alloc, told, &ran)?;
     Ok(ran.entries)
 }

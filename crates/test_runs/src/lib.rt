@@ -15,7 +15,6 @@ mod events;
 mod given;
 mod lots;
 mod narrow;
-mod places;
 mod play;
 mod played;
 mod spoken;
@@ -28,4 +27,4 @@ mod trial;
 mod usage;
 
 pub use tested::Tested;
-pub use tool::{Noted, Ran, Tool, Tools};
+pub use tool::{Ran, Tool, Tools};

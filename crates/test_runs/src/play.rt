@@ -8,7 +8,7 @@
 ghost use Rattle.std.specs.Prelude.{◌<◌};
 
 use crate::steps::{Counting, Printed, Stepped};
-use crate::tool::{Noted, Ran, Tools};
+use crate::tool::{Ran, Tools};
 use conversation_files::{
     Kind, Line, Section, configuration_of, input_of, otherwise, otherwise_ended, otherwise_noted,
     words_of,
@@ -16,6 +16,7 @@ use conversation_files::{
 use gem_ids::Text80;
 use outside::{MemSink, MemSource, Sink, Source};
 use std::alloc::{AllocError, Global};
+use test_lines::{Noted, text_of};
 
 /// How the tool is called: the words, and the text of the configuration.
 #[derive(Drop)]
@@ -206,6 +207,17 @@ fn stepped_otherwise(
     Ok(String::new(alloc))
 }
 
+/// All lines as bytes, beside what is printed.
+fn stepped<'a>(
+    alloc: Global,
+    lines: &[Line<'_>],
+    printed: &'a Printed,
+) -> Result<Stepped<'a>, AllocError> {
+    let text = input_of(alloc, lines)?;
+    let bytes = Vec::from_slice(alloc, text.as_bytes())?;
+    Ok(Stepped::new(alloc, bytes, printed))
+}
+
 /// Plays all lines byte by byte, and tells the first in front of which something else was printed than stands above it, and what is otherwise in all.
 fn play_steps<O: Tools>(
     tools: &O,
@@ -214,13 +226,30 @@ fn play_steps<O: Tools>(
     lines: &[Line<'_>],
 ) -> Result<String, AllocError> {
     let printed = Printed::nothing();
-    let text = input_of(alloc, lines)?;
-    let bytes = Vec::from_slice(alloc, text.as_bytes())?;
-    let mut input = Stepped::new(alloc, bytes, &printed);
+    let mut input = stepped(alloc, lines, &printed)?;
     let mut out = Counting::new(alloc, &printed);
     let finished = run(tools, alloc, call, &mut input, &mut out)?;
-    match told_otherwise(alloc, lines, out.as_bytes(), &finished) {
-        Ok(told) if told.is_empty() => told_marked(alloc, lines, input.marks(), printed.count()),
+    told_stepped(
+        alloc,
+        lines,
+        &finished,
+        out.as_bytes(),
+        &input,
+        printed.count(),
+    )
+}
+
+/// Tells what is otherwise in all, or the first line in front of which something else was printed than stands above it.
+fn told_stepped(
+    alloc: Global,
+    lines: &[Line<'_>],
+    finished: &Finished,
+    out: &[u8],
+    input: &Stepped<'_>,
+    all: u64,
+) -> Result<String, AllocError> {
+    match told_otherwise(alloc, lines, out, finished) {
+        Ok(told) if told.is_empty() => told_marked(alloc, lines, input.marks(), all),
         told => told,
     }
 }
@@ -268,14 +297,6 @@ fn play_pieces<O: Tools>(
     match play_whole(tools, alloc, call, lines, piece) {
         Ok(told) if !told.is_empty() => format!(in alloc; "{told}, in pieces of {piece}"),
         told => told,
-    }
-}
-
-/// A word as the program hands it in: one that is no text of at most 80 bytes that print is an empty one.
-fn text_of(typed: &str) -> Text80 {
-    match Text80::read(typed.as_bytes()) {
-        Ok(text) => text,
-        Err(_) => Text80::empty(),
     }
 }
 

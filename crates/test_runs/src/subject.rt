@@ -1,7 +1,7 @@
 //! Runs, to which a text says what they are given, and which it asks what they leave.
 //!
-//! `words WORD ..` are the words of the command. `config`, `input` and `wanted`, and what is added to it behind that (`places`), are the
-//! bytes of the configuration, of the input, and of what the run is to print. `config_fault 1`, `read_fault 2` and `write_fault 1` let that
+//! `words WORD ..` are the words of the command. `config`, `input` and `wanted`, and what is added to it behind that, are the
+//! bytes of the configuration, of the input, and of what the run is to print (`places` of `test_lines`). `config_fault 1`, `read_fault 2` and `write_fault 1` let that
 //! read or write fail, 0 none; `piece 4` is how many bytes a read of the input gives at most, and `limit 10` how many the sink takes in
 //! all. `run` runs what was given, `run narrow` into a sink that takes one byte at a time; what was given stays.
 //!
@@ -13,14 +13,12 @@
 //! there are. Behind `text 3`, `cause` tells the text of the cause with this status: words at place 1, rule 0 with an empty key, 40 entries without text
 //! and 500 bytes of the input, byte 5 of line 3.
 
-use crate::given::{Given, run, run_narrow, words_of};
-use crate::places::{add, first_word};
-use crate::told::{answer_of, tell_cause, tell_whether};
+use crate::given::{Given, run, run_narrow};
 use crate::tool::Tools;
 use crate::usage::tell_texts;
 use anyhow::{Result, bail};
 use std::alloc::{AllocError, Global};
-use test_lines::Subject;
+use test_lines::{Subject, add, answer_of, first_word, tell_cause, tell_whether, texts_of};
 
 /// What the next run is given, what the last one told, and how many entries it had.
 pub struct Runs<'a, O> {
@@ -120,7 +118,7 @@ impl<O: Tools> Subject for Runs<'_, O> {
 fn give(alloc: Global, given: &mut Given, first: &str, rest: &str) -> Result<bool, AllocError> {
     match first {
         "words" => {
-            given.words = words_of(alloc, rest)?;
+            given.words = texts_of(alloc, rest)?;
             Ok(true)
         }
         "config" => add(alloc, &mut given.config, rest),

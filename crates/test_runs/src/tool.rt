@@ -4,7 +4,8 @@ use gem_ids::{Moment, Text80};
 use item_model::Item;
 use outside::{MemSource, Sink, Source};
 use std::alloc::{AllocError, Global};
-use tool_events::{Answer, Event, PostFault, SessionCause};
+use test_lines::Noted;
+use tool_events::{Answer, Event, PostFault};
 
 /// A tool that is told events one at a time, and asked.
 pub trait Tool {
@@ -25,19 +26,6 @@ pub trait Tool {
 
     /// Takes the tool apart. How many entries it hands out.
     fn close(self) -> usize;
-}
-
-/// The note of a session of a run: why it ended, and how many bytes came and went.
-#[derive(Clone, Copy)]
-pub struct Noted {
-    /// Its number.
-    pub session: u64,
-    /// Why it ended.
-    pub cause: SessionCause,
-    /// How many bytes came.
-    pub read: u64,
-    /// How many went.
-    pub written: u64,
 }
 
 /// How a run over lines ended, and what it leaves.

@@ -1,7 +1,7 @@
 //! Bytes that lines of a text put together: a configuration, an input, and what is to be printed.
 //!
-//! `line TEXT` adds a text and a line feed, `text |TEXT|` what stands between the bars, `bytes HEX` bytes, and `many COUNT BYTE` so many of
-//! a byte. `asks FIRST LAST` adds lines of S1F1 with the W-bit under these system bytes, and `answered FIRST LAST` the lines of S1F2
+//! `line TEXT` adds a text and a line feed, `text |TEXT|` what stands between the bars, `bytes HEX` bytes, `bytes HEX 7` the same seven times,
+//! and `many COUNT BYTE` so many of a byte. `asks FIRST LAST` adds lines of S1F1 with the W-bit under these system bytes, and `answered FIRST LAST` the lines of S1F2
 //! that are printed. `none` takes all away.
 
 use std::alloc::{AllocError, Global};
@@ -32,7 +32,8 @@ fn add_text(place: &mut Vec<u8>, text: &str) -> Result<bool, AllocError> {
     Ok(true)
 }
 
-fn add_line(place: &mut Vec<u8>, text: &str) -> Result<bool, AllocError> {
+/// Adds a text and a line feed.
+pub fn add_line(place: &mut Vec<u8>, text: &str) -> Result<bool, AllocError> {
     place.extend_from_slice(text.as_bytes())?;
     place.push(b'\n')?;
     Ok(true)
@@ -55,14 +56,20 @@ fn add_bytes(
     }
 }
 
-fn add_hex(alloc: Global, place: &mut Vec<u8>, digits: &str) -> Result<bool, AllocError> {
-    match hex::decode(alloc, digits) {
-        Ok(bytes) => {
-            place.extend_from_slice(bytes.as_slice())?;
-            Ok(true)
-        }
-        Err(_) => Ok(false),
+// Bytes, as often as stands behind them.
+fn add_hex(alloc: Global, place: &mut Vec<u8>, text: &str) -> Result<bool, AllocError> {
+    let (digits, times) = text.split_once(' ').unwrap_or((text, "1"));
+    match (hex::decode(alloc, digits), times.parse::<u32>()) {
+        (Ok(bytes), Ok(times)) => repeat(place, bytes.as_slice(), times),
+        _ => Ok(false),
     }
+}
+
+fn repeat(place: &mut Vec<u8>, bytes: &[u8], times: u32) -> Result<bool, AllocError> {
+    for _ in 0..times {
+        place.extend_from_slice(bytes)?;
+    }
+    Ok(true)
 }
 
 fn add_many(place: &mut Vec<u8>, text: &str) -> Result<bool, AllocError> {

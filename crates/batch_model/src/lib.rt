@@ -2,7 +2,7 @@
 //! tool, and its functions are statements that hold of the definitions.
 //!
 //! A batch is a host with its modules. What an input gives stands in `gem_model`, the lines of a carrier in `sim_modules`, and the
-//! counts in `history_totals`. Begin with `specs/Batch.antt`.
+//! counts in `history_parts`. Begin with `specs/Batch.antt`.
 #![tactic(auto)]
 
 mod fetched;

@@ -6,7 +6,7 @@ use Rattle.tool_events.specs.declared.event.Event.{Event}
 use Rattle.tool_events.specs.declared.event.Event.TheVariants as event
 use Rattle.tool_events.specs.declared.event.Signal.TheVariants as signal
 use Rattle.sim_modules.specs.Drawing.{drawn}
-use Rattle.core_view.specs.CoreView.{CoreView}
+use Rattle.history_parts.specs.CoreView.{CoreView}
 use Rattle.batch_model.specs.declared.primary.Primary.{Primary}
 use Rattle.batch_model.specs.declared.fetched.Fetched.{Fetched}
 use Rattle.batch_model.specs.Host.{answer_to}

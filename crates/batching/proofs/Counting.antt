@@ -2,7 +2,7 @@
 use Rattle.std.proofs.Common.{◌≡◌, ℕ, zero, suc, ◌+◌, ◌<◌, List, [], ◌∷◌, take, length, get_or, refl, sym, ◌∙◌, ap, arith}
 use Rattle.tool_events.specs.declared.entry.Entry.{Entry}
 use Rattle.gem_model.specs.Sizes.{counted}
-use Rattle.core_view.specs.Counts.{count_of}
+use Rattle.history_parts.specs.Counts.{count_of}
 use Rattle.line_feeding.specs.Reads.{AreCounts}
 use Rattle.batch_model.specs.Told.{event_bytes_in, bytes_told}
 use Rattle.batching.specs.Counted.{numbered_bytes_in, numbered_bytes}

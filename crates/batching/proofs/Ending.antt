@@ -7,7 +7,7 @@ use Rattle.tool_events.specs.declared.entry.Entry.{Entry}
 use Rattle.tool_events.specs.Configs.{IsConfig}
 use Rattle.gem_model.specs.State.{opening}
 use Rattle.gem_model.specs.Sizes.{bytes_of}
-use Rattle.core_view.specs.CoreView.{CoreView}
+use Rattle.history_parts.specs.CoreView.{CoreView}
 use Rattle.history_laws.specs.Recorded.{Recorded}
 use Rattle.history_laws.proofs.Recording.{recorded-none, recorded-after}
 use Rattle.line_feeding.specs.declared.ended.Cause.{Cause}

@@ -9,7 +9,7 @@ use Rattle.floor_model.specs.Floor.{module_numbers}
 use Rattle.gem_model.specs.State.{State}
 use Rattle.gem_model.specs.Step.{Outcome, step}
 use Rattle.gem_model.specs.Feed.{nothing, entered, fetched_one, fetched_by}
-use Rattle.core_view.specs.CoreView.{CoreView}
+use Rattle.history_parts.specs.CoreView.{CoreView}
 use Rattle.batch_model.specs.declared.fetched.Fetched.{Fetched}
 use Rattle.batch_model.specs.Modules.{fetched_as, fetched_from}
 use Rattle.batch_model.specs.Batch.{Standing, Made, nothing_made}

@@ -1,7 +1,7 @@
 -- What a part of a batch does.
 use Rattle.std.specs.Prelude.{◌≡◌, ◌++◌, Result, Ok, Err}
 use Rattle.line_grammar.specs.Texts.{IsFront}
-use Rattle.core_view.specs.CoreView.{CoreView}
+use Rattle.history_parts.specs.CoreView.{CoreView}
 use Rattle.line_feeding.specs.Limits.{IsFullAt}
 use Rattle.batch_model.specs.Batch.{Standing, Made}
 use Rattle.batching.specs.declared.batch.Batch.{Batch}

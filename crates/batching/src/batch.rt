@@ -1,6 +1,6 @@
 use batch_model::Primary;
+use feeding::Core;
 use std::collections::VecDeque;
-use tool_core::Core;
 
 /// The core, the messages of the tool that were taken and are not answered yet, the oldest first, and the number that was drawn
 /// last, which is the seed at first.

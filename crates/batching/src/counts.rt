@@ -1,18 +1,17 @@
 //! The bytes that the host told in each session.
 ghost use Rattle.std.specs.Prelude.{◌≡◌, ◌+◌, ℕ, IfOk, OnOk};
 ghost use Rattle.gem_model.specs.Sizes.{counted};
-ghost use Rattle.core_view.specs.Counts.{count_of};
+ghost use Rattle.history_parts.specs.Counts.{count_of};
 ghost use Rattle.line_feeding.specs.Reads.{AreCounts};
 ghost use Rattle.line_feeding.specs.Notes.{AreNotes};
 ghost use Rattle.batch_model.specs.Told.{arrival_bytes, bytes_told};
 ghost use Rattle.batching.specs.Counted.{numbered_bytes_in, numbered_bytes};
 
-use core_view::SessionCounts;
-use feeding::session_notes;
+use feeding::{Core, session_notes};
+use history_parts::SessionCounts;
 use hsms_frame::Arrival;
 use line_feeding::Notes;
 use std::alloc::{AllocError, Global};
-use tool_core::Core;
 use tool_events::{Entry, Event};
 
 // The bytes of a message of the host.

@@ -6,10 +6,10 @@ ghost use Rattle.batch_model.specs.Batch.{busy};
 
 use crate::batch::Batch;
 use batch_model::Fetched;
+use feeding::Core;
 use gem_ids::ModuleId;
 use sim_modules::draw;
 use std::alloc::{AllocError, Global};
-use tool_core::Core;
 
 /// A drawn number has so many low bits that choose nothing.
 const LOW_BITS: u64 = 8_589_934_592;

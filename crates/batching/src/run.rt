@@ -13,11 +13,11 @@ use crate::carriers::carry_all;
 use crate::counts::notes_of;
 use crate::summary::finish;
 use crate::turns::{answer_all, begin};
+use feeding::Core;
 use line_feeding::{Cause, Ended, Notes};
 use outside::Sink;
 use std::alloc::Global;
 use std::collections::VecDeque;
-use tool_core::Core;
 use tool_events::Config;
 
 // The carriers come, and last what the tool asked is answered.

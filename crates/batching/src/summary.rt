@@ -7,11 +7,11 @@ ghost use Rattle.batching.specs.Batched.{Summed};
 ghost use Rattle.batching.specs.Ending.{EndsAs};
 
 use crate::batch::Stop;
-use history_totals::Totals;
+use feeding::Core;
+use history_parts::Totals;
 use line_feeding::Cause;
 use outside::{Sink, write_all};
 use std::alloc::{AllocError, Global};
-use tool_core::Core;
 
 // Appends a line: a word and a number.
 fn push_line(alloc: Global, word: &str, n: u64, text: &mut Vec<u8>) -> Result<(), AllocError>

@@ -12,6 +12,7 @@ use tool_events::{Entry, Event};
 use top_calls::{Cause, Ended, SessionNote, feed};
 
 /// The program.
+#[derive(Drop)]
 pub struct Program;
 
 impl Tools for Program {
@@ -68,8 +69,8 @@ fn ran_of(alloc: Global, ended: &Ended) -> Result<Ran, AllocError> {
     })
 }
 
-// The notes of its sessions.
-fn notes_of(alloc: Global, sessions: &[SessionNote]) -> Result<Vec<Noted>, AllocError> {
+/// The notes of the sessions of a run.
+pub fn notes_of(alloc: Global, sessions: &[SessionNote]) -> Result<Vec<Noted>, AllocError> {
     let mut notes = Vec::new(alloc);
     for note in sessions {
         notes.push(Noted {

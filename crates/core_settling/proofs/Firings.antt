@@ -7,8 +7,8 @@ use Rattle.gem_model.specs.Measure.{left}
 use Rattle.gem_model.specs.Settle.{settled, settling}
 use Rattle.gem_model.specs.Sizes.{counted}
 use Rattle.gem_model.proofs.Settling.{settled_none, settled_some, left_falls}
-use Rattle.history_totals.specs.Counts.{completes, completions}
-use Rattle.history_totals.proofs.Completions.{first_completes, none_completes}
+use Rattle.history_parts.specs.Additions.{completes, completions}
+use Rattle.history_parts.proofs.Completions.{first_completes, none_completes}
 use Rattle.core_state.specs.Firing.{fire_first}
 
 -- one firing more settles alike

@@ -4,7 +4,7 @@ use Rattle.std.specs.Option.{option_or}
 use Rattle.gem_tables.specs.Table.{firing}
 use Rattle.gem_tables.specs.declared.firing.Firing.{Firing}
 use Rattle.note_line.specs.Table3 as line
-use Rattle.history_totals.specs.Counts.{completes}
+use Rattle.history_parts.specs.Additions.{completes}
 use Rattle.gem_model.specs.State.{State, around, is_selected, can_ask}
 use Rattle.gem_model.specs.Wants.{delay_is_over, is_attempt}
 use Rattle.gem_model.specs.Machines.{least}

@@ -5,7 +5,7 @@ ghost use Rattle.gem_model.specs.State.{can_ask, is_selected};
 ghost use Rattle.gem_model.specs.Wants.{delay_is_over, is_attempt};
 ghost use Rattle.gem_model.specs.Machines.{least};
 ghost use Rattle.gem_model.specs.Ready.{ready_line, ready_floor};
-ghost use Rattle.history_totals.specs.Counts.{completes};
+ghost use Rattle.history_parts.specs.Additions.{completes};
 ghost use Rattle.core_state.specs.Firing.{fire_first};
 
 use crate::line::line_row;

@@ -3,7 +3,7 @@
 ghost use Rattle.std.specs.Prelude.{◌≡◌, ◌+◌, IfOk, OnOk, if◌then◌else◌};
 ghost use Rattle.gem_model.specs.Sizes.{counted};
 ghost use Rattle.gem_model.specs.Settle.{settled, settling};
-ghost use Rattle.history_totals.specs.Counts.{completions};
+ghost use Rattle.history_parts.specs.Additions.{completions};
 
 use crate::least::fire_least;
 use core_state::Plant;

@@ -10,7 +10,7 @@ ghost use Rattle.gem_model.specs.Machines.{row_starts, creations};
 ghost use Rattle.gem_model.specs.Fire.{fire, fire_all, advanced, fire_listed};
 ghost use Rattle.gem_model.specs.Direct.{Are, IsListed};
 ghost use Rattle.gem_model.specs.Ready.{ready_floor};
-ghost use Rattle.history_totals.specs.Counts.{completes};
+ghost use Rattle.history_parts.specs.Additions.{completes};
 ghost use Rattle.core_state.specs.Firing.{fire_first, AreCreated};
 
 use crate::plant::Plant;

@@ -2,7 +2,7 @@
 use Rattle.std.proofs.Common.{◌≡◌, ◌≢◌, ℕ, List, [], Option, Err, inl, inr, refl, sym, subst, length, arith}
 use Rattle.tool_events.specs.declared.entry.Entry.{Entry}
 use Rattle.tool_events.specs.declared.config.Config.{Config}
-use Rattle.core_view.specs.CoreView.{CoreView}
+use Rattle.history_parts.specs.CoreView.{CoreView}
 use Rattle.line_feeding.specs.declared.halt.Halt.TheVariants as halt
 use Rattle.line_feeding.specs.declared.ended.Cause.{Cause}
 use Rattle.line_feeding.specs.declared.ended.Cause.TheVariants as cause

@@ -3,7 +3,7 @@ use Rattle.std.proofs.Common.{◌≡◌, ℕ, zero, suc, ◌+◌, ◌<◌, ◌�
 use Rattle.robot_moves.specs.declared.module.Module.{Module}
 use Rattle.floor_model.specs.Floor.{module_numbers}
 use Rattle.gem_model.specs.Feed.{fetched_one, fetched_by}
-use Rattle.core_view.specs.CoreView.{CoreView}
+use Rattle.history_parts.specs.CoreView.{CoreView}
 use Rattle.line_feeding.specs.declared.halt.Halt.{Halt}
 use Rattle.line_feeding.specs.Going.{Goes, SinkView}
 use Rattle.line_feeding.proofs.Parts.{Goes-and_then-halts}

@@ -16,7 +16,7 @@ use Rattle.line_grammar.specs.declared.line.Line.TheVariants as line
 use Rattle.gem_model.specs.Feed.{Given, Reading, input, messages, nothing, bytes_given, line_given, reading_after}
 use Rattle.tool_events.specs.Sizes.{text_bytes}
 use Rattle.line_grammar.specs.Texts.{is_quit}
-use Rattle.core_view.specs.CoreView.{CoreView}
+use Rattle.history_parts.specs.CoreView.{CoreView}
 use Rattle.line_feeding.specs.declared.halt.Halt.{Halt}
 use Rattle.line_feeding.specs.declared.halt.Halt.TheVariants as halt
 use Rattle.feeding.specs.declared.feeder.Feeder.{Feeder}

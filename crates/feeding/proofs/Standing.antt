@@ -13,8 +13,8 @@ use Rattle.gem_model.specs.Feed.{Given, Reading, Told, AllRead, OutsideGrammar, 
 use Rattle.gem_model.specs.Sizes.{counted}
 use Rattle.gem_model.specs.SessionBytes.{line_and_more, line_bytes_in, lines_bytes_in, session_in}
 use Rattle.line_grammar.proofs.Texts.{lines-line, whole-feed, whole-none, first-long}
-use Rattle.core_view.specs.Counts.{count_of}
-use Rattle.core_view.specs.CoreView.{CoreView}
+use Rattle.history_parts.specs.Counts.{count_of}
+use Rattle.history_parts.specs.CoreView.{CoreView}
 use Rattle.line_feeding.specs.declared.halt.Halt.{Halt}
 use Rattle.line_feeding.specs.declared.halt.Halt.TheVariants as halt
 use Rattle.feeding.specs.declared.feeder.Feeder.{Feeder}

@@ -5,7 +5,7 @@ use Rattle.gem_model.specs.State.{is_up}
 use Rattle.line_grammar.specs.declared.line.Line.{Line}
 use Rattle.gem_model.specs.Feed.{Reading, line_given, reading_after}
 use Rattle.tool_events.specs.Sizes.{text_bytes}
-use Rattle.core_view.specs.CoreView.{CoreView}
+use Rattle.history_parts.specs.CoreView.{CoreView}
 use Rattle.line_feeding.specs.declared.halt.Halt.{Halt}
 use Rattle.line_feeding.specs.declared.halt.Halt.TheVariants as halt
 use Rattle.feeding.specs.declared.feeder.Feeder.{Feeder}

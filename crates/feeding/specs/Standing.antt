@@ -6,7 +6,7 @@ use Rattle.tool_events.specs.declared.config.Config.{Config}
 use Rattle.line_grammar.specs.Texts.{IsFront, lines_of, whole_lines}
 use Rattle.gem_model.specs.SessionBytes.{lines_bytes_in, session_in}
 use Rattle.gem_model.specs.Feed.{Reading, Told, AllRead, OutsideGrammar, QuitAt, feed_lines, feed_entries, told_behind}
-use Rattle.core_view.specs.CoreView.{CoreView}
+use Rattle.history_parts.specs.CoreView.{CoreView}
 use Rattle.line_feeding.specs.declared.halt.Halt.{Halt}
 use Rattle.line_feeding.specs.declared.halt.Halt.TheVariants as halt
 use Rattle.feeding.specs.declared.reader.Reader.{Reader}

@@ -11,8 +11,8 @@ ghost use Rattle.line_feeding.specs.Going.{seen};
 ghost use Rattle.line_feeding.specs.Reads.{AddsLine};
 
 use crate::engine::{AT_ONCE, input, take_messages};
-use core_view::{Entries, SessionCounts};
 use gem_ids::Moment;
+use history_parts::{Entries, SessionCounts};
 use hsms_frame::Cutter;
 use line_feeding::{Halt, cut_bytes, ends_run, quit_behind};
 use outside::Sink;

@@ -3,7 +3,7 @@ ghost use Rattle.std.specs.Prelude.{◌≡◌, ℕ, IfOk};
 ghost use Rattle.line_feeding.specs.Reads.{AreCounts};
 ghost use Rattle.line_feeding.specs.Notes.{note_of, AreNotes};
 
-use core_view::SessionCounts;
+use history_parts::SessionCounts;
 use line_feeding::{Notes, SessionNote};
 use std::alloc::{AllocError, Global};
 use tool_core::Core;

@@ -4,7 +4,7 @@ use std::alloc::{AllocError, Global};
 use std::marker::Model;
 
 /// A list of elements, which contracts see as the list. It keeps the allocator of its constructor.
-#[derive(Debug, Drop)]
+#[derive(Drop)]
 pub struct Listed<T> {
     elements: Vec<T>,
 }

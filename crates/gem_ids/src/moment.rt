@@ -1,5 +1,5 @@
 /// A moment, in hundredths of a second since 2000-01-01 00:00:00, at most `Moment::LAST`.
-#[derive(Clone, Copy, Debug, PartialEq, Eq, PartialOrd, Ord)]
+#[derive(Clone, Copy, PartialEq, Eq, PartialOrd, Ord)]
 pub struct Moment(pub u64);
 
 impl Moment {

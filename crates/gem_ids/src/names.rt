@@ -61,11 +61,11 @@ impl<K, const LEAST: usize, const MOST: usize> Name<K, LEAST, MOST> {
 }
 
 /// The kind of `CarrierId`.
-#[derive(Clone, Copy, Debug, PartialEq, Eq)]
+#[derive(Clone, Copy, PartialEq, Eq)]
 pub struct CarrierKind;
 
 /// The kind of `JobId`.
-#[derive(Clone, Copy, Debug, PartialEq, Eq)]
+#[derive(Clone, Copy, PartialEq, Eq)]
 pub struct JobKind;
 
 /// The kind of `SubstrateId`.

@@ -6,7 +6,7 @@ use std::marker::Model;
 use thiserror::Error;
 
 /// Why bytes are no text.
-#[derive(Clone, Copy, Debug, PartialEq, Eq, Error)]
+#[derive(Clone, Copy, Debug, Error)]
 pub enum TextFault {
     /// There are so many bytes, which is over 80.
     #[error("a text of {0} bytes")]

@@ -4,7 +4,7 @@ ghost use Rattle.std.specs.Prelude.{◌≡◌};
 ghost use Rattle.gem_tables.specs.Table.{firing};
 
 /// A row of a transition table, by the numbers of both.
-#[derive(Clone, Copy, Debug, Default, PartialEq, Eq)]
+#[derive(Clone, Copy, Default)]
 pub struct RowId {
     pub table: u8,
     pub row: u8,
@@ -12,7 +12,7 @@ pub struct RowId {
 
 /// A firing: a row, at an object of its table. An object is told by a number that is its own as long as it is there: a load
 /// port by the number of the port, a carrier by its number of creation. A table with one object calls it 0.
-#[derive(Clone, Copy, Debug, Default, PartialEq, Eq)]
+#[derive(Clone, Copy, Default)]
 pub struct Firing {
     pub row: RowId,
     pub object: u64,

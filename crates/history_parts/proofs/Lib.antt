@@ -1,1 +1,4 @@
+pub mod Summing
+pub mod Completions
+pub mod Registrations
 pub mod Replaying

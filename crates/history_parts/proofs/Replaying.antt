@@ -22,7 +22,7 @@ use Rattle.gem_model.proofs.Steps.{step_keeps}
 use Rattle.gem_model.proofs.Ends.{up-numbered}
 use Rattle.gem_model.proofs.Out.{session_out-snoc, frame-up}
 use Rattle.gem_model.proofs.Taking.{up_is}
-use Rattle.core_view.specs.Counts.{count_of, taker}
+use Rattle.history_parts.specs.Counts.{count_of, taker}
 use Rattle.history_parts.specs.CoreInside.{state_of}
 
 pub bytes_of-snoc : (history : List Entry) (entry : Entry) → bytes_of (history ++ entry ∷ []) ≡ bytes_of history + event_bytes entry.event

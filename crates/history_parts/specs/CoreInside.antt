@@ -8,9 +8,9 @@ use Rattle.gem_model.specs.State.{State, opening, is_up}
 use Rattle.gem_model.specs.Run.{Run, after_all}
 use Rattle.gem_model.specs.Sessions.{ends_of, session_out}
 use Rattle.gem_model.specs.Sizes.{bytes_of, counted}
-use Rattle.core_view.specs.Counts.{count_of}
-use Rattle.history_totals.specs.declared.totals.Totals.{Totals}
-use Rattle.history_totals.specs.Totals.{totals_of}
+use Rattle.history_parts.specs.Counts.{count_of}
+use Rattle.history_parts.specs.declared.totals.Totals.{Totals}
+use Rattle.history_parts.specs.Totals.{totals_of}
 
 -- the state that a history leads to
 abbrev pub state_of : Config → List Entry → State

@@ -5,9 +5,9 @@ ghost use Rattle.tool_events.specs.declared.event.SessionEnd.{SessionEnd};
 ghost use Rattle.tool_events.specs.Sizes.{event_bytes};
 ghost use Rattle.gem_model.specs.Sessions.{frame_taken};
 ghost use Rattle.gem_model.specs.Sizes.{counted};
-ghost use Rattle.core_view.specs.Counts.{count_of, taker};
+ghost use Rattle.history_parts.specs.Counts.{count_of, taker};
 
-use core_view::SessionCounts;
+use crate::counts::SessionCounts;
 use hsms_frame::Arrival;
 use std::alloc::AllocError;
 use tool_events::{Answer, Event, SessionCause, SessionEnd};

@@ -11,8 +11,8 @@ use Rattle.line_grammar.specs.declared.line.Line.TheVariants as line
 use Rattle.gem_model.specs.Feed.{Reading}
 use Rattle.gem_model.specs.Sizes.{counted}
 use Rattle.gem_model.specs.SessionBytes.{line_bytes_in}
-use Rattle.core_view.specs.Counts.{count_of}
-use Rattle.core_view.specs.CoreView.{CoreView}
+use Rattle.history_parts.specs.Counts.{count_of}
+use Rattle.history_parts.specs.CoreView.{CoreView}
 use Rattle.line_feeding.specs.declared.halt.Halt.{Halt}
 use Rattle.line_feeding.specs.declared.halt.Halt.TheVariants as halt
 use Rattle.line_feeding.specs.Reads.{AddsLine, CountsLine}

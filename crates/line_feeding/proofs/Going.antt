@@ -22,7 +22,7 @@ use Rattle.gem_model.proofs.Printing.{printed-snoc}
 use Rattle.gem_ids.specs.declared.numbers.ModuleId.{ModuleId}
 use Rattle.tool_events.specs.declared.answer.Answer.{Answer}
 use Rattle.tool_events.specs.declared.event.SessionEnd.{SessionEnd}
-use Rattle.core_view.specs.CoreView.{CoreView}
+use Rattle.history_parts.specs.CoreView.{CoreView}
 use Rattle.line_feeding.specs.declared.halt.Halt.{Halt}
 use Rattle.line_feeding.specs.declared.halt.Halt.TheVariants as halt
 use Rattle.line_feeding.specs.Going.{SinkView, WentOn, Shows, Goes}

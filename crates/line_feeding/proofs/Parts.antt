@@ -7,7 +7,7 @@ use Rattle.gem_model.specs.State.{State, is_session_up}
 use Rattle.gem_model.specs.Step.{after}
 use Rattle.gem_model.specs.Feed.{Given, nothing, entered, taken_all, takes, entry_of, message, messages, and_then}
 use Rattle.gem_model.proofs.Taking.{TakesOne}
-use Rattle.core_view.specs.CoreView.{CoreView}
+use Rattle.history_parts.specs.CoreView.{CoreView}
 use Rattle.line_feeding.specs.declared.halt.Halt.{Halt}
 use Rattle.line_feeding.specs.Going.{Goes, SinkView}
 use Rattle.line_feeding.proofs.Going.{Goes-then, Goes-halts, Goes-nothing}

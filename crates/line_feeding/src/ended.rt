@@ -1,11 +1,11 @@
 //! How a run ended.
-use core_view::Entries;
 use gem_ids::{Listed, Text80};
+use history_parts::Entries;
 use std::alloc::{AllocError, Global};
 use tool_events::SessionCause;
 
 /// Why a run ended. Each cause has a status, with which the program ends.
-#[derive(Clone, Copy, Debug, PartialEq, Eq)]
+#[derive(Clone, Copy, Debug)]
 pub enum Cause {
     /// Status 0: the input was read to its end, and all was written.
     Done,
@@ -110,7 +110,7 @@ fn line_text(alloc: Global, number: u64, place: u64) -> Result<String, AllocErro
 
 /// A session: its number, the bytes that the lines gave to it, the bytes of its frames that went out, and why it ended;
 /// `Stopped` where it was up at the end of the run. A count stands still at the greatest number of 64 bits.
-#[derive(Clone, Copy, Debug, PartialEq, Eq)]
+#[derive(Clone, Copy)]
 pub struct SessionNote {
     pub session: u64,
     pub read: u64,
@@ -126,7 +126,7 @@ pub type Panels = Listed<[u64; 7]>;
 
 /// How a run ended: its status and cause, the history, a note for each session, and, once they are built, the panels that
 /// were read. Until then that list is empty.
-#[derive(Debug, Drop)]
+#[derive(Drop)]
 pub struct Ended {
     pub status: u8,
     pub cause: Cause,

@@ -1,7 +1,7 @@
 //! Why a run of lines stops before its end, and how the reading of an input ended.
 
 /// Why a run of lines stops before its end.
-#[derive(Clone, Copy, Debug, PartialEq, Eq)]
+#[derive(Clone, Copy)]
 pub enum Halt {
     /// A write failed, or took nothing of a piece.
     Write,
@@ -16,7 +16,7 @@ pub enum Halt {
 }
 
 /// How the reading of an input ended.
-#[derive(Clone, Copy, Debug, PartialEq, Eq)]
+#[derive(Clone, Copy)]
 pub enum InputEnd {
     /// It was read to its end.
     Whole,
@@ -29,7 +29,7 @@ pub enum InputEnd {
 }
 
 /// What was read of an input: how the reading ended, and how many bytes were read.
-#[derive(Clone, Copy, Debug, PartialEq, Eq)]
+#[derive(Clone, Copy)]
 pub struct InputRead {
     pub end: InputEnd,
     pub count: u64,

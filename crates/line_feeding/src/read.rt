@@ -7,7 +7,7 @@ use outside::{Source, front, read_front};
 use std::alloc::Global;
 
 /// Why a text was not read.
-#[derive(Clone, Copy, Debug, PartialEq, Eq)]
+#[derive(Clone, Copy)]
 pub enum TextFault {
     /// A read failed.
     Read,

@@ -9,7 +9,7 @@ use gem_ids::Text80;
 use program_words::{Words, WordsFault, command_of};
 
 /// What words ask of the call `feed`.
-#[derive(Clone, Copy, Debug, PartialEq, Eq)]
+#[derive(Clone, Copy)]
 pub enum FeedWords {
     /// `feed CONFIG`: lines are read, and lines are written.
     Feed,

@@ -7,7 +7,7 @@ use gem_ids::Text80;
 use std::alloc::{AllocError, Global};
 
 /// What words may ask for beside a command.
-#[derive(Clone, Copy, Debug, PartialEq, Eq)]
+#[derive(Clone, Copy)]
 pub enum Question {
     /// `--help`: how the program is called.
     Help,

@@ -15,7 +15,7 @@ const MOST_SEED: u64 = u64::MAX;
 const MOST_CARRIERS: u64 = 10_000;
 
 /// A command of the program.
-#[derive(Clone, Copy, Debug, PartialEq, Eq)]
+#[derive(Clone, Copy)]
 pub enum Words {
     /// `feed CONFIG`: reads lines from standard input, under the configuration in this file.
     Feed(Text80),
@@ -28,7 +28,7 @@ pub enum Words {
 }
 
 /// Why words are no command.
-#[derive(Clone, Copy, Debug, PartialEq, Eq)]
+#[derive(Clone, Copy)]
 pub enum WordsFault {
     /// The first word, counted from 0, that fits no command. A word that is missing has the place where it is wanted.
     Place(u64),

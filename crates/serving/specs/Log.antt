@@ -3,8 +3,8 @@ use Rattle.std.specs.Prelude.{ℕ, List, [], ◌∷◌, ◌++◌, length, codes}
 use Rattle.std.specs.Fmt.{decimal}
 use Rattle.tool_events.specs.declared.config.Config.{Config}
 use Rattle.tool_events.specs.declared.entry.Entry.{Entry}
-use Rattle.history_totals.specs.declared.totals.Totals.{Totals}
-use Rattle.history_totals.specs.Totals.{totals_of}
+use Rattle.history_parts.specs.declared.totals.Totals.{Totals}
+use Rattle.history_parts.specs.Totals.{totals_of}
 
 -- a line: a word and a number
 abbrev pub log_line : List ℕ → ℕ → List ℕ

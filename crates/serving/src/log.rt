@@ -4,7 +4,7 @@ ghost use Rattle.line_feeding.specs.Going.{seen};
 ghost use Rattle.serving.specs.Log.{log_line, log_lines};
 ghost use Rattle.serving.specs.Served.{LoggedText};
 
-use history_totals::Totals;
+use history_parts::Totals;
 use outside::{Sink, write_all};
 use std::alloc::{AllocError, Global};
 

@@ -16,7 +16,7 @@ use crate::cause::{cause_of, told_end};
 use crate::log::{log_text, write_log};
 use crate::notes::session_notes;
 use gem_ids::Text80;
-use history_totals::Totals;
+use history_parts::Totals;
 use line_feeding::{Cause, Ended, Notes, check_serve_words, read_configuration};
 use outside::{Clock, Door, Gate, Sink, Source};
 use std::alloc::Global;

@@ -8,7 +8,7 @@ use Rattle.tool_events.specs.declared.event.Event.{Event}
 use Rattle.tool_events.specs.declared.answer.Answer.{Answer}
 use Rattle.tool_events.specs.declared.answer.PostFault.{PostFault}
 use Rattle.tool_events.specs.Configs.{IsConfig}
-use Rattle.core_view.specs.CoreView.{CoreView}
+use Rattle.history_parts.specs.CoreView.{CoreView}
 use Rattle.gem_model.specs.State.{State, opening}
 use Rattle.gem_model.specs.Step.{Outcome, step}
 use Rattle.gem_model.specs.Run.{Run, after_all}

@@ -1,7 +1,7 @@
 -- What a clause says of the tool and of its chairs.
 use Rattle.std.specs.Prelude.{ℕ, List}
 use Rattle.tool_events.specs.declared.config.Config.{Config}
-use Rattle.core_view.specs.CoreView.{CoreView}
+use Rattle.history_parts.specs.CoreView.{CoreView}
 use Rattle.tool_lock.specs.declared.kept.Kept.{Ghosts}
 use Rattle.tool_lock.specs.declared.pass.Pass.{Pass}
 use Rattle.tool_lock.specs.Passes.{pass_count, start, IsPassOf}

@@ -7,7 +7,7 @@ use Rattle.tool_events.specs.declared.answer.Answer.{Answer}
 use Rattle.gem_model.specs.State.{State, opening}
 use Rattle.gem_model.specs.Step.{Outcome, step}
 use Rattle.gem_model.specs.Run as run
-use Rattle.core_view.specs.CoreView.{CoreView}
+use Rattle.history_parts.specs.CoreView.{CoreView}
 use Rattle.shared_tool.specs.declared.posted.Posted.{Posted}
 
 -- an event that a seat posted at a moment, with its answer

@@ -10,7 +10,7 @@ use Rattle.tool_lock.specs.declared.kept.Kept.{Ghosts}
 use Rattle.tool_lock.specs.declared.pass.Pass.{Pass}
 use Rattle.tool_lock.specs.Turned.{Starts}
 use Rattle.gem_model.specs.Sizes.{bytes_of}
-use Rattle.core_view.specs.CoreView.{CoreView}
+use Rattle.history_parts.specs.CoreView.{CoreView}
 use Rattle.shared_tool.specs.declared.held.Held.{Held}
 use Rattle.shared_tool.specs.declared.posted.Posted.{Posted}
 use Rattle.shared_tool.specs.declared.shared.Shared.{Shared}

@@ -1,13 +1,35 @@
 //! Histories in words.
 
 use std::alloc::{AllocError, Global};
-use tool_events::{Entry, Event};
+use tool_events::{Entry, Event, OperCmd, Signal};
 
-// An event: a message of the host by its name alone, any other as it is printed.
+// An event: a message of the host by its name alone.
 fn event_words(alloc: Global, event: &Event) -> Result<String, AllocError> {
     match event {
-        Event::Host { .. } => String::from_str(alloc, "Host"),
-        other => format!(in alloc; "{other:?}"),
+        Event::LinkDown { session, cause } => {
+            format!(in alloc; "LinkDown {{ session: {session}, cause: {cause:?} }}")
+        }
+        Event::Take { session } => format!(in alloc; "Take {{ session: {session} }}"),
+        Event::Fetch(m) => format!(in alloc; "Fetch(ModuleId({}))", m.0),
+        Event::Watch(p) => format!(in alloc; "Watch(PortNo({}))", p.0),
+        Event::Signal(Signal::Removed(p)) => {
+            format!(in alloc; "Signal(Removed(PortNo({})))", p.0)
+        }
+        other => String::from_str(alloc, word_of(other)),
+    }
+}
+
+// An event in one word.
+fn word_of(event: &Event) -> &'static str {
+    match event {
+        Event::LinkUp => "LinkUp",
+        Event::Host { .. } => "Host",
+        Event::Tick => "Tick",
+        Event::Listen => "Listen",
+        Event::Oper(OperCmd::Local) => "Oper(Local)",
+        Event::Oper(OperCmd::Remote) => "Oper(Remote)",
+        Event::Oper(OperCmd::Quit) => "Oper(Quit)",
+        _ => "other",
     }
 }
 

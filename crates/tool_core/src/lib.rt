@@ -14,5 +14,5 @@ mod react;
 mod stepped;
 mod tool;
 
-pub use history_totals::Totals;
+pub use history_parts::Totals;
 pub use tool::Core;

@@ -9,7 +9,7 @@ ghost use Rattle.gem_model.specs.Step.{acts, step, step_from, hosted, linked};
 ghost use Rattle.host_requests.specs.Short.{IsShort};
 ghost use Rattle.core_shop.specs.Reactions.{Acts, IsLinkEvent, outcome_of};
 ghost use Rattle.gem_model.specs.Sizes.{counted};
-ghost use Rattle.history_totals.specs.Counts.{completed_from, completed_by};
+ghost use Rattle.history_parts.specs.Additions.{completed_from, completed_by};
 ghost use Rattle.tool_core.specs.Steps.{done, StepsFrom, Steps};
 
 use core_host::header_of;

@@ -5,15 +5,15 @@ ghost use Rattle.tool_events.specs.Sizes.{event_bytes};
 ghost use Rattle.gem_model.specs.State.{is_up};
 ghost use Rattle.gem_model.specs.Step.{step};
 ghost use Rattle.gem_model.specs.Sizes.{counted};
-ghost use Rattle.history_totals.specs.Counts.{done_by, completed_by};
-ghost use Rattle.history_totals.specs.Totals.{totals_at};
+ghost use Rattle.history_parts.specs.Additions.{done_by, completed_by};
+ghost use Rattle.history_parts.specs.Totals.{totals_at};
 ghost use Rattle.tool_core.specs.Steps.{Steps};
 
 use crate::react::react;
 use core_shop::Reaction;
 use core_state::Plant;
 use gem_ids::Moment;
-use history_totals::Totals;
+use history_parts::Totals;
 use std::alloc::{AllocError, Global};
 use tool_events::{Answer, Event, PostFault, Signal};
 

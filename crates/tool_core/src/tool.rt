@@ -1,6 +1,6 @@
 //! The core: the plant and the history that led to it.
 ghost use Rattle.std.specs.Prelude.{ℕ, ◌≡◌, ◌≤◌, ◌+◌, ◌^◌, ◌<◌, ◌↔◌, [], ◌∷◌, ◌++◌, length, IsTrue, true, false, ◌&&◌, ◌||◌, not, nat_le, nat_lt, Some, None, Err, OnOk, OnErr, IfOk, IfSome, IsErrOf, if◌then◌else◌, vec_len, vec_capacity};
-ghost use Rattle.core_view.specs.Counts.{count_of};
+ghost use Rattle.history_parts.specs.Counts.{count_of};
 ghost use Rattle.tool_events.specs.declared.answer.PostFault.TheVariants as PostFault;
 ghost use Rattle.tool_events.specs.declared.event.SessionEnd.{SessionEnd};
 ghost use Rattle.tool_events.specs.Configs.{IsConfig};
@@ -15,16 +15,16 @@ ghost use Rattle.robot_moves.specs.Modules.{fetched_number};
 ghost use Rattle.history_laws.specs.Recorded.{Recorded};
 ghost use Rattle.gem_model.specs.Sessions.{session_count, session_end, session_out};
 ghost use Rattle.gem_model.specs.Sizes.{bytes_of, counted, is_full};
-ghost use Rattle.history_totals.specs.Totals.{totals_of};
+ghost use Rattle.history_parts.specs.Totals.{totals_of};
 
 use crate::react::must_wait;
 use crate::stepped::take_event;
 use core_state::Plant;
-use core_view::{Entries, SessionCounts};
 use event_reports::Values;
 use gem_ids::{CmdNo, ModuleId, Moment, Text80};
-use history_parts::{add_end, add_taken, cause_at, event_bytes, make_room};
-use history_totals::Totals;
+use history_parts::{
+    Entries, SessionCounts, Totals, add_end, add_taken, cause_at, event_bytes, make_room,
+};
 use item_model::{Item, NoMemory};
 use note_line::Fate;
 use std::alloc::{AllocError, Global};
@@ -60,7 +60,7 @@ pub struct Core {
 }
 
 impl Model for Core {
-    ghost use Rattle.core_view.specs.CoreView.{CoreView};
+    ghost use Rattle.history_parts.specs.CoreView.{CoreView};
 
     ghost Value = { CoreView };
 

@@ -7,7 +7,7 @@ use Rattle.tool_events.specs.declared.entry.Post.{Post}
 use Rattle.gem_model.specs.State.{State}
 use Rattle.gem_model.specs.Sizes.{bytes_of}
 use Rattle.history_laws.specs.Recorded.{Recorded}
-use Rattle.core_view.specs.CoreView.{CoreView}
+use Rattle.history_parts.specs.CoreView.{CoreView}
 use Rattle.tool_lock.specs.declared.pass.Pass.{Pass}
 use Rattle.tool_lock.specs.Passes.{pass_number, mine, IsPassOf}
 use Rattle.tool_lock.specs.Turned.{own}

@@ -1,7 +1,7 @@
 -- Chairs in their seats.
 use Rattle.std.specs.Prelude.{◌≡◌, ◌≢◌, ℕ, suc, ⊤, Option, Some, None, List, [], ◌∷◌}
 use Rattle.tool_events.specs.declared.entry.Post.{Post}
-use Rattle.core_view.specs.CoreView.{CoreView}
+use Rattle.history_parts.specs.CoreView.{CoreView}
 use Rattle.tool_lock.specs.declared.kept.Kept.{Ghosts}
 use Rattle.tool_lock.specs.declared.pass.Pass.{Pass}
 use Rattle.tool_lock.specs.Passes.{pass_number, mine}

@@ -1,5 +1,4 @@
 pub mod Sizes
 pub mod Posts
 pub mod Answering
-pub mod Scripted
 pub mod Configs

@@ -2,7 +2,7 @@ use hsms_frame::Bytes;
 use tool_tasks::Command;
 
 /// What an event is answered.
-#[derive(Debug, Drop)]
+#[derive(Drop)]
 pub enum Answer {
     /// It was done.
     Done,

@@ -3,7 +3,7 @@ use tool_tasks::Recipes;
 
 /// The first state of communication (SEMI E30, communication states): DISABLED, WAIT DELAY with the delay over, or
 /// COMMUNICATING.
-#[derive(Clone, Copy, Debug, PartialEq, Eq)]
+#[derive(Clone, Copy)]
 pub enum CommStart {
     Disabled,
     Enabled,
@@ -12,7 +12,7 @@ pub enum CommStart {
 
 /// The first state of control (SEMI E30, control states). The operator's switch begins at local exactly for
 /// `OnlineLocal`.
-#[derive(Clone, Copy, Debug, PartialEq, Eq)]
+#[derive(Clone, Copy, PartialEq, Eq)]
 pub enum ControlStart {
     EquipmentOffline,
     HostOffline,
@@ -22,7 +22,7 @@ pub enum ControlStart {
 
 /// Which notes are spooled at the start, by their stream (SEMI E30, spooling; this tool's profile, configuration): the
 /// key `spool_streams`, a list of distinct 5 and 6. A stream of the list is true here. The host may set others.
-#[derive(Clone, Copy, Debug, PartialEq, Eq)]
+#[derive(Clone, Copy)]
 pub struct SpoolStreams {
     /// The notes of stream 5, which tell of alarms.
     pub five: bool,
@@ -32,7 +32,7 @@ pub struct SpoolStreams {
 
 /// What a configuration says (this tool's profile, configuration). Times are in hundredths of a second. `overwrite`, `max_transmit` and the five times are the first values of equipment constants,
 /// which the host may change.
-#[derive(Clone, Copy, Debug, PartialEq, Eq)]
+#[derive(Clone, Copy)]
 pub struct Config {
     /// The version of the configuration's keys, 1.
     pub version: u8,

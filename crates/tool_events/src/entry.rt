@@ -3,7 +3,6 @@ use crate::event::Event;
 use gem_ids::Moment;
 
 /// An entry of the history: who posted what, and the moment that was given with it.
-#[derive(Debug)]
 pub struct Entry {
     pub seat: u32,
     pub at: Moment,
@@ -22,7 +21,7 @@ impl Drop for Entry {
 }
 
 /// A post that a desk answered `Ok`: the moment that was given with it, the event, and its answer.
-#[derive(Debug, Drop)]
+#[derive(Drop)]
 pub struct Post {
     pub at: Moment,
     pub event: Event,

@@ -26,14 +26,14 @@ pub enum SessionCause {
 }
 
 /// A session that ended, and why. Sessions are numbered from 1.
-#[derive(Clone, Copy, Debug, PartialEq, Eq)]
+#[derive(Clone, Copy)]
 pub struct SessionEnd {
     pub session: u64,
     pub cause: SessionCause,
 }
 
 /// What the equipment tells.
-#[derive(Clone, Copy, Debug, PartialEq, Eq)]
+#[derive(Clone, Copy)]
 pub enum Signal {
     /// A carrier was placed at a port. The id is there where it was read; the map has a code from 0 to 5 for each of the
     /// slots 1 to 25.
@@ -53,7 +53,7 @@ pub enum Signal {
 }
 
 /// What an operator wants.
-#[derive(Clone, Copy, Debug, PartialEq, Eq)]
+#[derive(Clone, Copy)]
 pub enum OperCmd {
     /// Communication is enabled (SEMI E30, communication states).
     Enable,
@@ -89,7 +89,6 @@ pub enum OperCmd {
 pub const TEXT_BYTES: u32 = 262_144;
 
 /// What happens to the tool.
-#[derive(Debug)]
 pub enum Event {
     /// A link came up.
     LinkUp,

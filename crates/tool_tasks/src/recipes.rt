@@ -5,7 +5,7 @@ use std::marker::Model;
 
 /// The chambers of a recipe (this tool's profile, configuration): the key `chambers` of a recipe, a list of distinct
 /// numbers of the tool's chambers. A chamber of the list is true here.
-#[derive(Clone, Copy, Debug, PartialEq, Eq)]
+#[derive(Clone, Copy)]
 pub struct RecipeChambers {
     /// Chamber 1.
     pub one: bool,
@@ -14,7 +14,7 @@ pub struct RecipeChambers {
 }
 
 /// A recipe (this tool's profile, configuration).
-#[derive(Clone, Copy, Debug, PartialEq, Eq)]
+#[derive(Clone, Copy)]
 pub struct Recipe {
     /// Its name, 1 to 64 bytes.
     pub name: Text80,
@@ -23,7 +23,7 @@ pub struct Recipe {
 }
 
 /// The recipes of a tool, at most 32, in the order of the configuration. Contracts see them as a list.
-#[derive(Clone, Copy, Debug, PartialEq, Eq)]
+#[derive(Clone, Copy)]
 pub struct Recipes {
     // Blank places stand behind the recipes, so that equal lists have equal fields.
     recipes: [Recipe; 32],

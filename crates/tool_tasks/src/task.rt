@@ -1,7 +1,7 @@
 use gem_ids::{CmdNo, LocId, SubstrateId, Text80};
 
 /// What a module is to do.
-#[derive(Clone, Copy, Debug, PartialEq, Eq)]
+#[derive(Clone, Copy)]
 pub enum Task {
     Pick { sub: SubstrateId, from: LocId },
     Place { sub: SubstrateId, to: LocId },
@@ -10,7 +10,7 @@ pub enum Task {
 }
 
 /// A command to a module. Commands are numbered from 1.
-#[derive(Clone, Copy, Debug, PartialEq, Eq)]
+#[derive(Clone, Copy)]
 pub struct Command {
     pub number: CmdNo,
     pub task: Task,

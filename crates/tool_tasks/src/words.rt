@@ -1,5 +1,5 @@
 /// What an operator tells a process job.
-#[derive(Clone, Copy, Debug, PartialEq, Eq)]
+#[derive(Clone, Copy, PartialEq, Eq)]
 pub enum JobWord {
     Start,
     Pause,

@@ -1,7 +1,7 @@
 use Rattle.std.proofs.Common.{◌≡◌, ◌∙◌, ap, sym, Err}
 use Rattle.tool_events.specs.declared.answer.PostFault.{PostFault}
 use Rattle.tool_events.specs.Posts as posts
-use Rattle.core_view.specs.CoreView.{CoreView}
+use Rattle.history_parts.specs.CoreView.{CoreView}
 use Rattle.batching.proofs.Making.{Makes-posted, Makes-full, Makes-no_memory}
 use Rattle.batching.proofs.engine.apply.Goals as goal
 

@@ -1,6 +1,6 @@
 use Rattle.std.proofs.Common.{◌≡◌, ℕ, List, ◌∙◌, ap, subst}
 use Rattle.outside.specs.Told.{WrittenFront}
-use Rattle.history_totals.specs.declared.totals.Totals.{Totals}
+use Rattle.history_parts.specs.declared.totals.Totals.{Totals}
 use Rattle.batch_model.specs.Summary.{summary, summary_of}
 use Rattle.batching.proofs.summary.write_summary.Goals as goal
 

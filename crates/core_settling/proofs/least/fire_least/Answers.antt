@@ -1,6 +1,6 @@
 use Rattle.std.proofs.Common.{◌≡◌, false, IfOk, OnOk, option_map, Option, Bool, sym, ◌∙◌, subst}
 use Rattle.gem_tables.specs.declared.firing.Firing.{Firing}
-use Rattle.history_totals.specs.Counts.{completes}
+use Rattle.history_parts.specs.Additions.{completes}
 use Rattle.core_state.specs.Firing.{fire_first}
 use Rattle.core_settling.proofs.LeastRows.{least_rest}
 use Rattle.core_settling.proofs.least.fire_least.Goals as goal

@@ -1,7 +1,7 @@
 use Rattle.std.proofs.Common.{◌≡◌, false, sym, ap, ◌∙◌, is_some, option_map}
 use Rattle.gem_model.specs.State.{State}
 use Rattle.gem_model.specs.Ready.{ready_line, ready_floor}
-use Rattle.history_totals.specs.Counts.{completes}
+use Rattle.history_parts.specs.Additions.{completes}
 use Rattle.core_state.specs.Firing.{fire_first}
 use Rattle.core_settling.proofs.LeastRows.{line_none, or_first, or_behind, or_stays}
 use Rattle.core_settling.proofs.least.fire_line_or_floor.Goals as goal

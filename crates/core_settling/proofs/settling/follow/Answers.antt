@@ -3,7 +3,7 @@ use Rattle.gem_model.specs.State.{State}
 use Rattle.gem_model.specs.Machines.{least}
 use Rattle.gem_model.specs.Settle.{settled, settling}
 use Rattle.gem_model.specs.Sizes.{counted}
-use Rattle.history_totals.specs.Counts.{completes, completions}
+use Rattle.history_parts.specs.Additions.{completes, completions}
 use Rattle.core_settling.proofs.Firings.{fired_settles, fired_falls, none_settled, fired_counts, none_counts}
 use Rattle.core_settling.proofs.settling.follow.Goals as goal
 

@@ -2,7 +2,7 @@ use Rattle.std.proofs.Common.{◌≡◌, ◌+◌}
 use Rattle.gem_model.specs.Measure.{left}
 use Rattle.gem_model.specs.Settle.{settled, settling}
 use Rattle.gem_model.specs.Sizes.{counted}
-use Rattle.history_totals.specs.Counts.{completions}
+use Rattle.history_parts.specs.Additions.{completions}
 use Rattle.core_settling.proofs.settling.follow.Given as goal
 
 -- the plant settles to the same state as the one that the call began with, and as many control jobs are completed in all

@@ -1,5 +1,5 @@
 use Rattle.std.proofs.Common.{◌≡◌, true, Result, drop}
-use Rattle.core_view.specs.CoreView.{CoreView}
+use Rattle.history_parts.specs.CoreView.{CoreView}
 use Rattle.floor_model.specs.Floor.{module_numbers}
 use Rattle.gem_model.specs.Feed.{fetched_by}
 use Rattle.line_feeding.specs.declared.halt.Halt.{Halt}

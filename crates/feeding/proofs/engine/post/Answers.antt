@@ -2,7 +2,7 @@ use Rattle.std.proofs.Common.{[], Err, ◌∙◌, ap, refl, sym}
 use Rattle.tool_events.specs.declared.answer.PostFault.{PostFault}
 use Rattle.tool_events.specs.Posts as posts
 use Rattle.gem_model.specs.Feed.{entry_of}
-use Rattle.core_view.specs.CoreView.{CoreView}
+use Rattle.history_parts.specs.CoreView.{CoreView}
 use Rattle.line_feeding.proofs.Going.{Added, Goes-unmoved, Goes-full, Goes-added, Goes-added-write, Goes-added-memory, outcome_shown}
 use Rattle.feeding.proofs.engine.post.Goals as goal
 

@@ -1,5 +1,5 @@
 use Rattle.std.proofs.Common.{◌≡◌, true, Result, length}
-use Rattle.core_view.specs.CoreView.{CoreView}
+use Rattle.history_parts.specs.CoreView.{CoreView}
 use Rattle.gem_model.specs.State.{is_session_up}
 use Rattle.gem_model.specs.Feed.{taken_all}
 use Rattle.line_feeding.specs.declared.halt.Halt.{Halt}

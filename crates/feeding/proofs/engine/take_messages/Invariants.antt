@@ -1,6 +1,6 @@
 use Rattle.std.proofs.Common.{◌≡◌, true, Result}
 use Rattle.std.specs.Vec.Iter.{into_iter_items}
-use Rattle.core_view.specs.CoreView.{CoreView}
+use Rattle.history_parts.specs.CoreView.{CoreView}
 use Rattle.gem_model.specs.Feed.{messages}
 use Rattle.line_feeding.specs.declared.halt.Halt.{Halt}
 use Rattle.line_feeding.specs.Going.{Goes, SinkView, seen}

@@ -1,5 +1,5 @@
 use Rattle.std.proofs.Common.{◌≡◌, ◌+◌, ◌∙◌, sym, ap, length, arith}
-use Rattle.core_view.specs.CoreView.{CoreView}
+use Rattle.history_parts.specs.CoreView.{CoreView}
 use Rattle.tool_crew.specs.Ran.{modules_of}
 use Rattle.tool_crew.proofs.Closing.{seats_new, all_of_new, crew_all, are_of, all_known, same_length, run_left}
 use Rattle.tool_crew.proofs.run.run_tool.Goals as goal

@@ -1,5 +1,5 @@
 use Rattle.std.proofs.Common.{refl, ap}
-use Rattle.core_view.specs.CoreView.{CoreView}
+use Rattle.history_parts.specs.CoreView.{CoreView}
 use Rattle.feeding.proofs.Standing.{Stands-open}
 use Rattle.feeding.proofs.reader.Reader.open.Goals as goal
 

@@ -3,11 +3,11 @@ use Rattle.tool_events.specs.declared.entry.Entry.{Entry}
 use Rattle.gem_model.specs.State.{State, is_up}
 use Rattle.gem_model.specs.Step.{Outcome, step}
 use Rattle.gem_model.specs.Sizes.{counted}
-use Rattle.history_totals.specs.Counts.{done_by, completed_by}
-use Rattle.history_totals.specs.Totals.{totals_at}
+use Rattle.history_parts.specs.Additions.{done_by, completed_by}
+use Rattle.history_parts.specs.Totals.{totals_at}
 use Rattle.history_parts.specs.CoreInside.{state_of}
-use Rattle.core_view.specs.CoreView.{CoreView}
-use Rattle.history_totals.proofs.Summing.{totals-snoc}
+use Rattle.history_parts.specs.CoreView.{CoreView}
+use Rattle.history_parts.proofs.Summing.{totals-snoc}
 use Rattle.history_parts.proofs.Replaying.{GoesOn, goes-snoc, state-snoc, taker_fits}
 use Rattle.tool_core.proofs.tool.Core.record.Goals as goal
 

@@ -1,4 +1,9 @@
-//! Runs, to which a text says what they are given, and which it asks what they leave.
+//! Runs of `serve`, to which the conversations of `served_runs.txt` say what they are given, and which they ask what they leave. They
+//! begin with `to runs of serve`. What works on threads can't be called through a trait, so they are said here (`said`), and not by
+//! `conversation_files`, which reads and counts them alone.
+//!
+//! Each run has all its actors on threads of their own: what is expected holds for every order of their turns, and whatever waits
+//! gives up after 60,000 turns of a millisecond, so that each run ends.
 //!
 //! `words WORD ..` are the words of the command. `config`, `script` and `peer` are what the configuration, the script of the operator and a
 //! peer have: behind them `line TEXT` adds a text and a line feed, `text |TEXT|` what stands between the bars, and `bytes 23 7` these bytes so
@@ -18,9 +23,17 @@
 //! of the select response, and `race` whether seat 0 posted what it may. `selected` tells whether the select response came, `windows` how
 //! many windows were answered, and `ended by the tool` whether the tool ended the link.
 
-use crate::links::{run_both, run_sending};
-use crate::loopback::run_visited;
-use crate::memory::{run_alone, run_hasty};
+mod calls;
+mod links;
+mod loopback;
+mod memory;
+mod said;
+mod told;
+
+use crate::served::links::{run_both, run_sending};
+use crate::served::loopback::run_visited;
+use crate::served::memory::{run_alone, run_hasty};
+pub use said::{BEGINS, is_well_served};
 use std::alloc::{AllocError, Global};
 use std::net::{Net, TcpListener, TcpStream};
 use std::sync::Wait;

@@ -1,6 +1,6 @@
 //! Runs at a door in memory at which no link comes up, or one whose peer goes away. The clock stays at 0, so that nothing is ever due.
 
-use crate::calls::run_serve;
+use crate::served::calls::run_serve;
 use outside::{MemDoor, SleepGate};
 use std::alloc::{AllocError, Global};
 use std::sync::Wait;

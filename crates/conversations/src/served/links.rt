@@ -1,6 +1,6 @@
 //! Runs in which one link comes up, whose peer is in memory and waits.
 
-use crate::calls::run_serve;
+use crate::served::calls::run_serve;
 use outside::{Point, SleepGate};
 use std::alloc::{AllocError, Global};
 use std::sync::Wait;

@@ -1,6 +1,6 @@
 //! How a run is called.
 
-use crate::told::tell_ended;
+use crate::served::told::tell_ended;
 use gem_ids::Text80;
 use outside::{Clock, Door, Gate, MemSink, MemSource, Sink, Source};
 use serving::serve;

@@ -39,7 +39,7 @@ use Rattle.floor_model.specs.Views.{planned}
 use Rattle.process_job.specs.Jobs.{job_numbered as process_numbered}
 use Rattle.shop_floor.specs.Machines.{transfer_machine, access_machine, reservation_machine, id_machine}
 use Rattle.gem_tables.specs.Machine.{Machine}
-use Rattle.history_totals.specs.Counts.{is_registration, registrations}
+use Rattle.history_parts.specs.Additions.{is_registration, registrations}
 
 -- ---- counts
 

@@ -1,9 +1,9 @@
 //! What is told of a run that has ended.
 
-use line_feeding::SessionNote;
+use crate::runs::notes_of;
 use serving::Ended;
 use std::alloc::{AllocError, Global};
-use test_lines::{Noted, tell_cause, tell_notes, tell_number};
+use test_lines::{tell_cause, tell_notes, tell_number};
 use test_peers::tell_history;
 
 /// Tells how a run ended, and what it leaves: its status, the text of its cause in quotes, how many entries and notes there are, what
@@ -14,18 +14,4 @@ pub fn tell_ended(alloc: Global, told: &mut String, ended: &Ended) -> Result<(),
     tell_history(alloc, told, ended.history.as_slice())?;
     let notes = notes_of(alloc, ended.sessions.as_slice())?;
     tell_notes(alloc, told, notes.as_slice())
-}
-
-// The notes of the sessions.
-fn notes_of(alloc: Global, sessions: &[SessionNote]) -> Result<Vec<Noted>, AllocError> {
-    let mut notes = Vec::new(alloc);
-    for note in sessions {
-        notes.push(Noted {
-            session: note.session,
-            cause: note.cause,
-            read: note.read,
-            written: note.written,
-        })?;
-    }
-    Ok(notes)
 }

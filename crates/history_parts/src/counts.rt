@@ -1,6 +1,6 @@
 ghost use Rattle.std.specs.Prelude.{ℕ, ◌≡◌, ◌≤◌, ◌<◌, ◌+◌, ◌==◌, max, [], length, OnOk, OnErr, if◌then◌else◌};
 ghost use Rattle.gem_model.specs.Sizes.{counted};
-ghost use Rattle.core_view.specs.Counts.{count_of};
+ghost use Rattle.history_parts.specs.Counts.{count_of};
 
 use std::alloc::{AllocError, Global};
 use std::marker::Model;

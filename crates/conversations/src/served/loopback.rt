@@ -1,6 +1,6 @@
 //! Runs in which a host connects over loopback.
 
-use crate::calls::run_serve;
+use crate::served::calls::run_serve;
 use outside::{SleepGate, TcpDoor};
 use std::alloc::{AllocError, Global};
 use std::net::{Net, TcpListener, TcpStream};

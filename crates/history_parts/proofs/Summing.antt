@@ -7,9 +7,9 @@ use Rattle.gem_model.specs.Step.{Outcome}
 use Rattle.gem_model.specs.Sizes.{counted}
 use Rattle.gem_model.specs.Run.{Run, entry_step, entry_after, after_all}
 use Rattle.gem_model.proofs.Runs.{after-step, Run-snoc, after_all-run}
-use Rattle.history_totals.specs.declared.totals.Totals.{Totals}
-use Rattle.history_totals.specs.Totals.{told_at, totals_at, totals_of}
-use Rattle.history_totals.specs.Counts.{done_by, done_in, completed_by, completed_in, summed}
+use Rattle.history_parts.specs.declared.totals.Totals.{Totals}
+use Rattle.history_parts.specs.Totals.{told_at, totals_at, totals_of}
+use Rattle.history_parts.specs.Additions.{done_by, done_in, completed_by, completed_in, summed}
 
 -- an entry more adds what it does in the state before it
 pub summed-snoc : (count : State → Entry → ℕ) (g : State) (entries : List Entry) (h : State) (entry : Entry) → Run g entries h → summed count g (entries ++ entry ∷ []) ≡ summed count g entries + count h entry

@@ -14,7 +14,7 @@ use Rattle.gem_model.specs.Measure.{one_if}
 use Rattle.gem_model.specs.Settle.{Path, Settles, settling, settled}
 use Rattle.gem_model.proofs.FloorRows.{created_are, creates_no_more}
 use Rattle.gem_model.proofs.Settling.{settles_so, settles_only}
-use Rattle.history_totals.specs.Counts.{completes, completions}
+use Rattle.history_parts.specs.Additions.{completes, completions}
 
 first_of_both : (a b : Bool) → (a && b) ≡ true → a ≡ true
 first_of_both true b e = refl

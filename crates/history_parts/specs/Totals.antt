@@ -6,8 +6,8 @@ use Rattle.note_counts.specs.Counts.{answered_count, dropped_count}
 use Rattle.gem_model.specs.State.{State, opening}
 use Rattle.gem_model.specs.Run.{after_all}
 use Rattle.gem_model.specs.Sizes.{counted}
-use Rattle.history_totals.specs.declared.totals.Totals.{Totals}
-use Rattle.history_totals.specs.Counts.{done_in, completed_in}
+use Rattle.history_parts.specs.declared.totals.Totals.{Totals}
+use Rattle.history_parts.specs.Additions.{done_in, completed_in}
 
 -- The counts that a state tells, and these two. Sessions and substrates are numbered as they come, from 1, so that the last number is
 -- their count; each note has one fate, and one that has ended keeps it.

@@ -1,3 +1,0 @@
-pub mod Summing
-pub mod Completions
-pub mod Registrations

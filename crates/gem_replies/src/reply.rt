@@ -11,7 +11,7 @@ ghost use Rattle.message_model.specs.Printed.{L, U1, code as code_data, each};
 ghost use Rattle.message_model.specs.GemReplies.{alarm as alarm_data, alarm_code as alarm_code_data, alarm_part, event as event_data, identity, parameter_acknowledge, reply_body, spooling, stream_refusal as stream_refusal_data, variable_name};
 ghost use Rattle.message_model.specs.GemSendable.{AreFew, HasSendableParts};
 
-use body_parts::writing::{ascii, binary, code, elements, text, u1, u4, u8};
+use body_parts::writing::{ascii, binary, code, elements, list, text, u1, u4, u8};
 use gem_ids::Text80;
 use item_model::{Bytes, Item, Items, NoMemory};
 use message_model::{
@@ -43,37 +43,37 @@ fn item_of(alloc: Global, reply: &GemReply) -> Result<Item, NoMemory>
     ensures bounded { HasSendableParts reply.now → IfOk result (λ item. IsBounded 5 (2 ^ 31) (view item)) }
 {
     match reply {
-        GemReply::S1F2(mdln, softrev) => model_and_revision(alloc, mdln, softrev),
-        GemReply::S1F4(values) => elements(values),
+        GemReply::S1F2(mdln, softrev) | GemReply::S1F13(mdln, softrev) => {
+            model_and_revision(alloc, mdln, softrev)
+        }
+        GemReply::S1F4(values) | GemReply::S2F14(values) | GemReply::S6F20(values) => elements(
+            values,
+        ),
         GemReply::S1F12(names) => list_of(alloc, names.as_slice()),
-        GemReply::S1F13(mdln, softrev) => model_and_revision(alloc, mdln, softrev),
         GemReply::S1F14(tool) => established(alloc, tool),
         GemReply::S1F16 => code(alloc, 0),
-        GemReply::S1F18(onlack) => code(alloc, *onlack),
-        GemReply::S2F14(values) => elements(values),
-        GemReply::S2F16(eac) => code(alloc, *eac),
+        GemReply::S1F18(ack)
+        | GemReply::S2F16(ack)
+        | GemReply::S2F32(ack)
+        | GemReply::S2F34(ack)
+        | GemReply::S2F36(ack)
+        | GemReply::S2F38(ack)
+        | GemReply::S5F4(ack)
+        | GemReply::S6F24(ack) => code(alloc, *ack),
         GemReply::S2F18(time) => ascii(time),
         GemReply::S2F30(constants) => elements(constants),
-        GemReply::S2F32(tiack) => code(alloc, *tiack),
-        GemReply::S2F34(drack) => code(alloc, *drack),
-        GemReply::S2F36(lrack) => code(alloc, *lrack),
-        GemReply::S2F38(erack) => code(alloc, *erack),
         GemReply::S2F42(hcack, parameters) => commanded(alloc, *hcack, parameters.as_slice()),
         GemReply::S2F44(rspack, refusals) => spooled(alloc, *rspack, refusals.as_slice()),
         GemReply::S5F1(alcd, alid, text) => alarm(alloc, Some(*alcd), *alid, text),
-        GemReply::S5F4(ackc5) => code(alloc, *ackc5),
-        GemReply::S5F6(alarms) => list_of(alloc, alarms.as_slice()),
-        GemReply::S5F8(alarms) => list_of(alloc, alarms.as_slice()),
+        GemReply::S5F6(alarms) | GemReply::S5F8(alarms) => list_of(alloc, alarms.as_slice()),
         GemReply::S6F11(note, ceid, reports) => event(alloc, *note, *ceid, reports),
         GemReply::S6F16(ceid, reports) => event(alloc, 0, *ceid, reports),
-        GemReply::S6F20(values) => elements(values),
-        GemReply::S6F24(rsda) => code(alloc, *rsda),
-        GemReply::S9F1(header) => binary(header),
-        GemReply::S9F3(header) => binary(header),
-        GemReply::S9F5(header) => binary(header),
-        GemReply::S9F7(header) => binary(header),
-        GemReply::S9F9(header) => binary(header),
-        GemReply::S9F11(header) => binary(header),
+        GemReply::S9F1(header)
+        | GemReply::S9F3(header)
+        | GemReply::S9F5(header)
+        | GemReply::S9F7(header)
+        | GemReply::S9F9(header)
+        | GemReply::S9F11(header) => binary(header),
     }
 }
 
@@ -91,11 +91,9 @@ impl Printed for VariableName {
     ghost body = { variable_name };
 
     fn item(&self, alloc: Global) -> Result<Item, NoMemory> {
-        let mut parts = Items::new(alloc);
-        parts.push(u4(alloc, self.svid)?)?;
-        parts.push(text(alloc, &self.name)?)?;
-        parts.push(text(alloc, &Text80::empty())?)?;
-        Ok(Item::List(parts))
+        let svid = u4(alloc, self.svid)?;
+        let name = text(alloc, &self.name)?;
+        list(alloc, [svid, name, Item::Ascii(Bytes::new(alloc))])
     }
 }
 
@@ -103,10 +101,7 @@ impl Printed for ParameterAcknowledge {
     ghost body = { parameter_acknowledge };
 
     fn item(&self, alloc: Global) -> Result<Item, NoMemory> {
-        let mut parts = Items::new(alloc);
-        parts.push(text(alloc, &self.name)?)?;
-        parts.push(code(alloc, self.cpack)?)?;
-        Ok(Item::List(parts))
+        list(alloc, [text(alloc, &self.name)?, code(alloc, self.cpack)?])
     }
 }
 
@@ -131,11 +126,9 @@ fn alarm(alloc: Global, alcd: Option<u8>, alid: u32, altx: &Text80) -> Result<It
     ensures exact { IfOk result (λ item. view item ≡ alarm_data alcd alid altx.now) }
     ensures bounded { IfOk result (λ item. IsBounded 1 110 (view item)) }
 {
-    let mut parts = Items::new(alloc);
-    parts.push(alarm_code(alloc, alcd)?)?;
-    parts.push(u4(alloc, alid)?)?;
-    parts.push(text(alloc, altx)?)?;
-    Ok(Item::List(parts))
+    let alcd = alarm_code(alloc, alcd)?;
+    let alid = u4(alloc, alid)?;
+    list(alloc, [alcd, alid, text(alloc, altx)?])
 }
 
 fn alarm_code(alloc: Global, alcd: Option<u8>) -> Result<Item, NoMemory>
@@ -152,11 +145,9 @@ fn event(alloc: Global, note: u64, ceid: u32, reports: &Items) -> Result<Item, N
     ensures exact { IfOk result (λ item. view item ≡ event_data note ceid reports.now) }
     ensures bounded { AreFew 16 3 5392 reports.now → IfOk result (λ item. IsBounded 5 (2 ^ 31) (view item)) }
 {
-    let mut parts = Items::new(alloc);
-    parts.push(u8(alloc, note)?)?;
-    parts.push(u4(alloc, ceid)?)?;
-    parts.push(elements(reports)?)?;
-    Ok(Item::List(parts))
+    let note = u8(alloc, note)?;
+    let ceid = u4(alloc, ceid)?;
+    list(alloc, [note, ceid, elements(reports)?])
 }
 
 // What the host's choice of streams is answered.
@@ -164,10 +155,10 @@ fn spooled(alloc: Global, rspack: u8, refusals: &[StreamRefusal]) -> Result<Item
     ensures exact { IfOk result (λ item. view item ≡ spooling rspack refusals.now) }
     ensures bounded { AreFewFunctions (map (λ r. r.functions) refusals.now) → IfOk result (λ item. IsBounded 5 (2 ^ 31) (view item)) }
 {
-    let mut parts = Items::new(alloc);
-    parts.push(code(alloc, rspack)?)?;
-    parts.push(stream_refusals(alloc, refusals)?)?;
-    Ok(Item::List(parts))
+    list(
+        alloc,
+        [code(alloc, rspack)?, stream_refusals(alloc, refusals)?],
+    )
 }
 
 // A list of an item for each stream that is refused. How long one is depends on its functions, so it is no `Printed`.
@@ -184,11 +175,10 @@ fn stream_refusals(alloc: Global, refusals: &[StreamRefusal]) -> Result<Item, No
 fn stream_refusal(alloc: Global, refusal: &StreamRefusal) -> Result<Item, NoMemory>
     ensures { IfOk result (λ item. view item ≡ stream_refusal_data refusal.now) }
 {
-    let mut parts = Items::new(alloc);
-    parts.push(u1(alloc, refusal.stream)?)?;
-    parts.push(code(alloc, refusal.strack)?)?;
-    parts.push(list_of(alloc, refusal.functions.as_slice())?)?;
-    Ok(Item::List(parts))
+    let stream = u1(alloc, refusal.stream)?;
+    let strack = code(alloc, refusal.strack)?;
+    let functions = list_of(alloc, refusal.functions.as_slice())?;
+    list(alloc, [stream, strack, functions])
 }
 
 // A list of an item for each part.
@@ -206,20 +196,20 @@ fn list_of<T: Printed>(alloc: Global, parts: &[T]) -> Result<Item, NoMemory>
 fn model_and_revision(alloc: Global, mdln: &Bytes, softrev: &Bytes) -> Result<Item, NoMemory>
     ensures { IfOk result (λ item. view item ≡ identity mdln.now softrev.now) }
 {
-    let mut parts = Items::new(alloc);
-    parts.push(ascii(mdln)?)?;
-    parts.push(ascii(softrev)?)?;
-    Ok(Item::List(parts))
+    list(alloc, [ascii(mdln)?, ascii(softrev)?])
 }
 
 // That communication is established, and what the tool tells of itself.
 fn established(alloc: Global, tool: &Identity) -> Result<Item, NoMemory>
     ensures { IfOk result (λ item. view item ≡ L (code_data 0 ∷ (identity tool.now.mdln tool.now.softrev ∷ []))) }
 {
-    let mut parts = Items::new(alloc);
-    parts.push(code(alloc, 0)?)?;
-    parts.push(model_and_revision(alloc, &tool.mdln, &tool.softrev)?)?;
-    Ok(Item::List(parts))
+    list(
+        alloc,
+        [
+            code(alloc, 0)?,
+            model_and_revision(alloc, &tool.mdln, &tool.softrev)?,
+        ],
+    )
 }
 
 // What a remote command is answered.
@@ -231,8 +221,5 @@ fn commanded(
     ensures exact { IfOk result (λ item. view item ≡ L (code_data hcack ∷ (each parameter_acknowledge parameters.now ∷ []))) }
     ensures bounded { length parameters.now < 2 ^ 24 → IfOk result (λ item. IsBounded 5 (2 ^ 31) (view item)) }
 {
-    let mut parts = Items::new(alloc);
-    parts.push(code(alloc, hcack)?)?;
-    parts.push(list_of(alloc, parameters)?)?;
-    Ok(Item::List(parts))
+    list(alloc, [code(alloc, hcack)?, list_of(alloc, parameters)?])
 }

@@ -1,7 +1,13 @@
+use Rattle.std.proofs.Common.{◌≡◌, ◌^◌}
+use Rattle.std.proofs.lemmas.Result.{IfOk-weaker}
+use Rattle.item_model.specs.View.{view}
+use Rattle.item_model.specs.Weight.{IsBounded}
+use Rattle.message_model.specs.GemReplies.{event as event_data}
 use Rattle.gem_replies.proofs.Bounds.{event_bounded}
 use Rattle.gem_replies.proofs.reply.event.Goals as goal
 
 pub returns-clause-bounded : goal.returns-clause-bounded
 returns-clause-bounded c few =
-    rw (c.in_ok-push-3.ensures.ok, c.in_ok-push-2.ensures.ok, c.in_ok-push.ensures.ok, c.in_ok-u8.ensures, c.in_ok-u4.ensures, c.in_ok-elements.ensures, c.new-parts.ensures)
-    (event_bounded c.args.note c.args.ceid c.args.reports.now few)
+    IfOk-weaker c.list.result (λ item. view item ≡ event_data c.args.note c.args.ceid c.args.reports.now) (λ item. IsBounded 5 (2 ^ 31) (view item))
+    (λ item is. rw is (event_bounded c.args.note c.args.ceid c.args.reports.now few))
+    (rw (c.in_ok-note.ensures, c.in_ok-ceid.ensures, c.in_ok-elements.ensures) at c.list.ensures)

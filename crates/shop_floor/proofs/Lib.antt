@@ -22,3 +22,4 @@ pub mod Falls
 pub mod Quiet
 pub mod Fires
 pub mod Marked
+pub mod Started

@@ -1,9 +1,9 @@
 -- What rows of ports want and do besides the states of their port (after SEMI E87; this tool's profile, tables 4 to 7). Their
 -- tables name it by a word, in load_port.
-use Rattle.std.specs.Prelude.{ℕ, ◌==◌, Bool, true, false, not, ◌&&◌, if◌then◌else◌, List, [], ◌∷◌, find, Option, Some, None, is_some}
+use Rattle.std.specs.Prelude.{ℕ, Bool, true, false, not, ◌&&◌, if◌then◌else◌, List, [], ◌∷◌, find, Option, Some, None, is_some}
 use Rattle.std.specs.List.{list_any}
 use Rattle.std.specs.Str.{bytes_eq}
-use Rattle.gem_tables.specs.Table.{row_of, firing}
+use Rattle.gem_tables.specs.Table.{firing}
 use Rattle.gem_tables.specs.declared.firing.Firing.{Firing}
 use Rattle.load_port.specs.Tables as word
 use Rattle.load_port.specs.Tables.{PortWant, PortEffect, PortRow, association_table}

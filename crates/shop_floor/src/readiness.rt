@@ -1,9 +1,10 @@
 //! Which rows of tables 4 to 10 start, and which are ready by themselves (after SEMI E87; this tool's profile, tables 4 to 10).
 
-ghost use Rattle.std.specs.Prelude.{◌≡◌, true, [], ◌∷◌, map, Some};
+ghost use Rattle.std.specs.Prelude.{◌≡◌, ◌==◌, ◌&&◌, ◌||◌, true, [], ◌∷◌, map, Some};
 ghost use Rattle.load_port.specs.Tables.{transfer_number, transfer_table, access_table, reservation_number, reservation_table, association_number, association_table};
 ghost use Rattle.carrier.specs.Tables.{id_number, id_table, map_number, map_table, access_number, accessing_table};
 ghost use Rattle.carrier.specs.Wants.{carrier_wants, is_verified};
+ghost use Rattle.carrier.specs.Record.{carrier_starts};
 ghost use Rattle.carrier.specs.Carriers.{carrier_numbered};
 ghost use Rattle.gem_tables.specs.Table.{first_itself, row_of, wants_found, is_one_of};
 ghost use Rattle.gem_tables.specs.Machine.{first_ready, ready_in};
@@ -13,7 +14,7 @@ ghost use Rattle.shop_floor.specs.Machines.{floor_machines, floor_starts};
 
 use crate::asking::{directed, has_finished, is_elsewhere, is_own, port_no};
 use crate::floor::ShopFloor;
-use carrier::{Carrier, Carriers, IdState, MapState};
+use carrier::{Carrier, CarrierRecord, Carriers, IdState, MapState};
 use gem_ids::PortNo;
 use gem_tables::{Firing, RowId};
 use load_port::{Association, Port, Transfer};
@@ -151,6 +152,13 @@ fn carrier_wants(row: RowId, carrier: &Carrier) -> bool
     }
 }
 
+// Whether a row of a table of carriers starts at these states, or is the one that creates a carrier.
+fn starts_or_creates(row: RowId, mut states: CarrierRecord) -> bool
+    ensures { result ≡ (((row.table == 8) && (row.row == 1)) || carrier_starts row.table row.row states) }
+{
+    (row.table == 8 && row.row == 1) || states.fire(row.table, row.row)
+}
+
 // ---- the floor
 
 impl ShopFloor {
@@ -177,9 +185,7 @@ impl ShopFloor {
     {
         match self.carriers.numbered(x.object) {
             Some(carrier) => {
-                let creates = x.row.table == 8 && x.row.row == 1;
-                let mut states = carrier.states;
-                (creates || states.fire(x.row.table, x.row.row)) && carrier_wants(x.row, &carrier)
+                starts_or_creates(x.row, carrier.states) && carrier_wants(x.row, &carrier)
             }
             None => false,
         }

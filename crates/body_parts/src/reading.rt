@@ -184,6 +184,14 @@ impl Part for u8 {
     }
 }
 
+impl Part for Text80 {
+    ghost form = { text_form };
+
+    fn of_item(_alloc: Global, item: &Item) -> Result<Text80, BodyFault> {
+        text(item)
+    }
+}
+
 impl Part for (u32, Ids) {
     ghost form = { group };
 

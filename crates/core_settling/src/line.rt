@@ -1,7 +1,7 @@
 //! The rows of the line of notes and of the spool that are ready by themselves (table 3).
-ghost use Rattle.std.specs.Prelude.{◌≡◌, is_some, None, OnOk, IfOk, Some};
+ghost use Rattle.std.specs.Prelude.{◌≡◌, true, is_some, None, OnOk, IfOk, Some};
 ghost use Rattle.gem_tables.specs.Table.{firing};
-ghost use Rattle.note_line.specs.Table3.{least};
+ghost use Rattle.note_line.specs.Table3.{least, head_in_kind};
 ghost use Rattle.gem_model.specs.State.{around};
 ghost use Rattle.gem_model.specs.Ready.{ready_line};
 ghost use Rattle.gem_model.specs.Effects.{asks_first};
@@ -60,25 +60,34 @@ fn open_head(plant: &mut Plant, alloc: Global) -> Result<(), AllocError>
     Ok(())
 }
 
+/// The row of a number fires, which is ready: the one that `row_for` tells.
+fn fire_row(plant: &mut Plant, alloc: Global, row: u8) -> Result<(), AllocError>
+    requires ready { least (around plant.old) plant.old.line ≡ Some row }
+    requires in_kind { row ≡ 10 → head_in_kind plant.old.line ≡ true }
+    requires none_open { row ≡ 12 → plant.old.line.opened ≡ None }
+    ensures { OnOk result (plant.new ≡ fire plant.old (firing 3 0 row)) }
+{
+    match row {
+        6 => plant.purge_oldest(),
+        10 => plant.spool_head(),
+        11 => plant.drop_head(),
+        12 => open_oldest(plant, alloc)?,
+        13 => open_head(plant, alloc)?,
+        // the others change the states of the spool alone
+        _ => plant.restate(alloc, row)?,
+    }
+    Ok(())
+}
+
 /// Fires the row of the line of notes that is ready, and tells whether there was one.
 pub fn line_row(plant: &mut Plant, alloc: Global) -> Result<bool, AllocError>
     ensures fired { IfOk result (λ fired. fired ≡ is_some (ready_line plant.old)) }
     ensures after { OnOk result (plant.new ≡ fire_first (ready_line plant.old) plant.old) }
 {
     let around = plant.around();
-    match plant.notes().row_for(around) {
-        Some(1) => plant.restate(alloc, 1)?,
-        Some(2) => plant.restate(alloc, 2)?,
-        Some(3) => plant.restate(alloc, 3)?,
-        Some(6) => plant.purge_oldest(),
-        Some(7) => plant.restate(alloc, 7)?,
-        Some(8) => plant.restate(alloc, 8)?,
-        Some(9) => plant.restate(alloc, 9)?,
-        Some(10) => plant.spool_head(),
-        Some(11) => plant.drop_head(),
-        Some(12) => open_oldest(plant, alloc)?,
-        Some(_) => open_head(plant, alloc)?,
-        None => return Ok(false),
-    }
+    let Some(row) = plant.notes().row_for(around) else {
+        return Ok(false);
+    };
+    fire_row(plant, alloc, row)?;
     Ok(true)
 }

@@ -1,14 +1,15 @@
 //! What a message of streams 1, 2, 5 and 6 does that is taken: its reply, what it writes, and its direct rows, all by the plant
-//! before it. Each message is one arm of `gem_done`.
-ghost use Rattle.std.specs.Prelude.{◌≡◌, IfOk};
+//! before it. Each message is one arm: of `asked`, `set` or `fired`, by what it does, and S2F41 of `gem_done`.
+ghost use Rattle.std.specs.Prelude.{◌≡◌, true, IfOk};
 ghost use Rattle.gem_ids.specs.Texts.{IsText};
 ghost use Rattle.civil_time.specs.Civil.{moment_in, time_digits};
 ghost use Rattle.message_model.specs.declared.gem_reply.GemReply.TheVariants as reply;
 ghost use Rattle.gem_model.specs.State.{clock_now};
 ghost use Rattle.message_model.specs.Few.{HasFewParts};
 ghost use Rattle.message_model.specs.GemSendable.{HasSendableParts};
-ghost use Rattle.gem_model.specs.Messages.{onlack, tiack, is_enabling, clock_set, gem_done};
+ghost use Rattle.gem_model.specs.Messages.{onlack, tiack, is_enabling, clock_set, answers, writes, gem_done};
 ghost use Rattle.host_replies.specs.Dones.{done_view, CanBeSent};
+ghost use Rattle.host_gem.specs.Groups.{only_asks, sets, fires};
 
 use crate::remote::command;
 use crate::replies::{
@@ -88,63 +89,117 @@ fn date_and_time(plant: &Plant, alloc: Global) -> Result<GemReply, AllocError>
     Ok(GemReply::S2F18(plant.seen().time_text(alloc)?))
 }
 
+/// What a message is answered that only asks.
+fn asked(plant: &Plant, alloc: Global, message: &GemMsg) -> Result<GemReply, AllocError>
+    requires few { HasFewParts message.now }
+    requires asks { only_asks message.now ≡ true }
+    ensures reply { IfOk result (λ r. gem_done plant.now message.now ≡ answers r plant.now) }
+    ensures sendable { IfOk result HasSendableParts }
+{
+    match message {
+        GemMsg::S1F1 => on_line_data(plant, alloc),
+        GemMsg::S1F3(ids) => status_data(plant, alloc, ids.as_slice()),
+        GemMsg::S1F11(ids) => status_namelist(plant, alloc, ids.as_slice()),
+        GemMsg::S2F13(ids) => constant_data(plant, alloc, ids.as_slice()),
+        GemMsg::S2F17 => date_and_time(plant, alloc),
+        GemMsg::S2F29(ids) => constant_namelist(plant, alloc, ids.as_slice()),
+        GemMsg::S5F5(ids) => alarm_data(plant, alloc, ids.as_slice()),
+        GemMsg::S5F7 => enabled_alarm_data(plant, alloc),
+        GemMsg::S6F15(ceid) => event_data(plant, alloc, *ceid),
+        GemMsg::S6F19(rptid) => report_data(plant, alloc, *rptid),
+        _ => unreachable!(),
+    }
+}
+
+/// A message that sets something: it is set, where it can be. Gives what the message is answered.
+fn set(plant: &mut Plant, alloc: Global, message: &GemMsg) -> Result<GemReply, AllocError>
+    requires few { HasFewParts message.now }
+    requires sets { sets message.now ≡ true }
+    ensures reply { IfOk result (λ r. gem_done plant.old message.now ≡ writes r plant.new) }
+    ensures sendable { IfOk result HasSendableParts }
+{
+    match message {
+        GemMsg::S2F15(settings) => Ok(GemReply::S2F16(plant.set_constants(
+            alloc,
+            settings.as_slice(),
+        )?)),
+        GemMsg::S2F31(text) => Ok(GemReply::S2F32(set_clock(plant, text.as_slice()))),
+        GemMsg::S2F33(_, reports) => Ok(GemReply::S2F34(plant.define_reports(
+            alloc,
+            reports.as_slice(),
+        )?)),
+        GemMsg::S2F35(_, events) => {
+            Ok(GemReply::S2F36(plant.link_reports(alloc, events.as_slice())?))
+        }
+        GemMsg::S2F37(on, ceids) => {
+            Ok(GemReply::S2F38(plant.enable_events(*on, ceids.as_slice())))
+        }
+        GemMsg::S2F43(entries) => spool_streams(plant, alloc, entries.as_slice()),
+        GemMsg::S5F3(aled, alid) => {
+            Ok(GemReply::S5F4(plant.enable_alarms(is_enabling(*aled), *alid)))
+        }
+        _ => unreachable!(),
+    }
+}
+
+/// A message whose row fires: what it is answered, and the row, by the plant before it.
+fn fired(plant: &Plant, alloc: Global, message: &GemMsg) -> Result<Done, AllocError>
+    requires fires { fires message.now ≡ true }
+    ensures done { IfOk result (λ told. done_view told plant.now ≡ gem_done plant.now message.now) }
+    ensures sendable { IfOk result (λ told. CanBeSent told.reply) }
+{
+    match message {
+        GemMsg::S1F13 => fires_row(
+            alloc,
+            established(plant, alloc)?,
+            by_comm(CommTrigger::HostS1F13),
+        ),
+        GemMsg::S1F15 => fires_row(
+            alloc,
+            GemReply::S1F16,
+            plant.by_control(ControlTrigger::HostS1F15),
+        ),
+        GemMsg::S1F17 => fires_row(
+            alloc,
+            GemReply::S1F18(onlack(plant.control())),
+            plant.by_control(ControlTrigger::HostS1F17),
+        ),
+        GemMsg::S6F23(rsdc) => fires_row(alloc, GemReply::S6F24(plant.rsda()), unload_row(*rsdc)),
+        _ => unreachable!(),
+    }
+}
+
 /// A message of streams 1, 2, 5 and 6: what it is answered, and the rows that it fires, by the plant before it; and what it writes
-/// is written. Most are answered, and no row fires; the others return what they do.
+/// is written.
 pub fn gem_done(plant: &mut Plant, alloc: Global, message: &GemMsg) -> Result<Done, AllocError>
     requires { HasFewParts message.now }
     ensures done { IfOk result (λ told. done_view told plant.new ≡ gem_done plant.old message.now) }
     ensures sendable { IfOk result (λ told. CanBeSent told.reply) }
 {
     let reply = match message {
-        GemMsg::S1F1 => on_line_data(plant, alloc)?,
-        GemMsg::S1F3(ids) => status_data(plant, alloc, ids.as_slice())?,
-        GemMsg::S1F11(ids) => status_namelist(plant, alloc, ids.as_slice())?,
-        GemMsg::S1F13 => return fires_row(
-            alloc,
-            established(plant, alloc)?,
-            by_comm(CommTrigger::HostS1F13),
-        ),
-        GemMsg::S1F15 => return fires_row(
-            alloc,
-            GemReply::S1F16,
-            plant.by_control(ControlTrigger::HostS1F15),
-        ),
-        GemMsg::S1F17 => return fires_row(
-            alloc,
-            GemReply::S1F18(onlack(plant.control())),
-            plant.by_control(ControlTrigger::HostS1F17),
-        ),
-        GemMsg::S2F13(ids) => constant_data(plant, alloc, ids.as_slice())?,
-        GemMsg::S2F15(settings) => GemReply::S2F16(plant.set_constants(
-            alloc,
-            settings.as_slice(),
-        )?),
-        GemMsg::S2F17 => date_and_time(plant, alloc)?,
-        GemMsg::S2F29(ids) => constant_namelist(plant, alloc, ids.as_slice())?,
-        GemMsg::S2F31(text) => GemReply::S2F32(set_clock(plant, text.as_slice())),
-        GemMsg::S2F33(_, reports) => GemReply::S2F34(plant.define_reports(
-            alloc,
-            reports.as_slice(),
-        )?),
-        GemMsg::S2F35(_, events) => GemReply::S2F36(plant.link_reports(alloc, events.as_slice())?),
-        GemMsg::S2F37(on, ceids) => GemReply::S2F38(plant.enable_events(*on, ceids.as_slice())),
-        GemMsg::S2F41(name, parameters) => return command(
-            plant,
-            alloc,
-            name.as_bytes(),
-            parameters.as_slice(),
-        ),
-        GemMsg::S2F43(entries) => spool_streams(plant, alloc, entries.as_slice())?,
-        GemMsg::S5F3(aled, alid) => GemReply::S5F4(plant.enable_alarms(is_enabling(*aled), *alid)),
-        GemMsg::S5F5(ids) => alarm_data(plant, alloc, ids.as_slice())?,
-        GemMsg::S5F7 => enabled_alarm_data(plant, alloc)?,
-        GemMsg::S6F15(ceid) => event_data(plant, alloc, *ceid)?,
-        GemMsg::S6F19(rptid) => report_data(plant, alloc, *rptid)?,
-        GemMsg::S6F23(rsdc) => return fires_row(
-            alloc,
-            GemReply::S6F24(plant.rsda()),
-            unload_row(*rsdc),
-        ),
+        GemMsg::S1F1
+        | GemMsg::S1F3(_)
+        | GemMsg::S1F11(_)
+        | GemMsg::S2F13(_)
+        | GemMsg::S2F17
+        | GemMsg::S2F29(_)
+        | GemMsg::S5F5(_)
+        | GemMsg::S5F7
+        | GemMsg::S6F15(_)
+        | GemMsg::S6F19(_) => asked(plant, alloc, message)?,
+        GemMsg::S2F15(_)
+        | GemMsg::S2F31(_)
+        | GemMsg::S2F33(_, _)
+        | GemMsg::S2F35(_, _)
+        | GemMsg::S2F37(_, _)
+        | GemMsg::S2F43(_)
+        | GemMsg::S5F3(_, _) => set(plant, alloc, message)?,
+        GemMsg::S1F13 | GemMsg::S1F15 | GemMsg::S1F17 | GemMsg::S6F23(_) => {
+            return fired(plant, alloc, message);
+        }
+        GemMsg::S2F41(name, parameters) => {
+            return command(plant, alloc, name.as_bytes(), parameters.as_slice());
+        }
     };
     Ok(answered(alloc, reply))
 }

@@ -58,38 +58,25 @@ Standard error tells why the program ends. Its status is:
 
 docs/profile has all of it: words.md, configuration.md, lines.md.";
 
-// The commands.
-fn feed<'a>(alloc: Global) -> Command<'a> {
-    Command::new(alloc, "feed").about(
-        "Reads lines from standard input and prints lines: feed CONFIG",
-    )
+// What each command does.
+const FEED: &str = "Reads lines from standard input and prints lines: feed CONFIG";
+
+const SERVE: &str = "Listens on 127.0.0.1 and reads a script from standard input: serve CONFIG";
+
+const BATCH: &str =
+    "Processes carriers, reads no input and prints a summary: batch SEED CARRIERS CONFIG";
+
+// A command of this name, with what it does.
+fn command<'a>(alloc: Global, name: &'a str, about: &'a str) -> Command<'a> {
+    Command::new(alloc, name).about(about)
 }
 
-fn serve<'a>(alloc: Global) -> Command<'a> {
-    Command::new(alloc, "serve").about(
-        "Listens on 127.0.0.1 and reads a script from standard input: serve CONFIG",
-    )
-}
-
-fn batch<'a>(alloc: Global) -> Command<'a> {
-    Command::new(alloc, "batch").about(
-        "Processes carriers, reads no input and prints a summary: batch SEED CARRIERS CONFIG",
-    )
-}
-
-// The options.
-fn help<'a>(alloc: Global) -> Arg<'a> {
-    Arg::new(alloc, "help")
-        .long("help")
+// An option of this name, which has no value, with what it does.
+fn option<'a>(alloc: Global, name: &'a str, about: &'a str) -> Arg<'a> {
+    Arg::new(alloc, name)
+        .long(name)
         .action(ArgAction::SetTrue)
-        .help("Prints this text")
-}
-
-fn version<'a>(alloc: Global) -> Arg<'a> {
-    Arg::new(alloc, "version")
-        .long("version")
-        .action(ArgAction::SetTrue)
-        .help("Prints the name and the version")
+        .help(about)
 }
 
 // The program, with what stands around its commands and options in its usage text.
@@ -114,22 +101,38 @@ fn bare<'a>(alloc: Global) -> Command<'a> {
 // The program with its commands.
 fn commanded<'a>(alloc: Global) -> Result<Command<'a>, AllocError> {
     bare(alloc)
-        .subcommand(feed(alloc))?
-        .subcommand(serve(alloc))?
-        .subcommand(batch(alloc))
+        .subcommand(command(alloc, "feed", FEED))?
+        .subcommand(command(alloc, "serve", SERVE))?
+        .subcommand(command(alloc, "batch", BATCH))
 }
 
 // The program with its commands and options.
 fn program<'a>(alloc: Global) -> Result<Command<'a>, AllocError> {
-    commanded(alloc)?.arg(help(alloc))?.arg(version(alloc))
+    commanded(alloc)?
+        .arg(option(alloc, "help", "Prints this text"))?
+        .arg(option(alloc, "version", "Prints the name and the version"))
+}
+
+// What the program tells where this is asked.
+fn told(program: &mut Command<'_>, question: Question) -> Result<String, AllocError> {
+    match question {
+        Question::Help => program.render_help(),
+        Question::Version => program.render_version(),
+    }
+}
+
+// The text that is asked for.
+fn text_of(alloc: Global, question: Question) -> Result<String, AllocError> {
+    let mut program = program(alloc)?;
+    told(&mut program, question)
 }
 
 /// The text of `--help`: the commands, what each reads and writes, the statuses, and where the documentation is.
 pub fn help_text(alloc: Global) -> Result<String, AllocError> {
-    program(alloc)?.render_help()
+    text_of(alloc, Question::Help)
 }
 
 /// The text of `--version`: the program's name and version.
 pub fn version_text(alloc: Global) -> Result<String, AllocError> {
-    program(alloc)?.render_version()
+    text_of(alloc, Question::Version)
 }

@@ -6,13 +6,17 @@ ghost use Rattle.tool_events.specs.Configs.{IsConfig};
 ghost use Rattle.tool_events.specs.Posts as posts;
 ghost use Rattle.gem_model.specs.State.{opening};
 ghost use Rattle.gem_model.specs.Step.{Outcome, step};
+ghost use Rattle.gem_model.specs.Sessions.{session_end};
 ghost use Rattle.gem_model.specs.Sizes.{bytes_of, is_full};
-ghost use Rattle.core_view.specs.CoreView.{CoreView};
+ghost use Rattle.history_parts.specs.Totals.{totals_of};
+ghost use Rattle.history_parts.specs.CoreView.{CoreView};
 ghost use Rattle.history_laws.specs.Recorded.{Recorded};
 
+use history_parts::Entries;
 use gem_ids::Moment;
+use history_parts::Totals;
 use std::alloc::{AllocError, Global};
-use tool_events::{Answer, Config, Entry, Event, PostFault};
+use tool_events::{Answer, Config, Entry, Event, PostFault, SessionCause};
 
 /// Takes events one at a time, answers each by the tables, and keeps them as its history. Contracts see what it is to its callers:
 /// its configuration, the state that its history leads to, the history, and whether it can go on.
@@ -31,6 +35,13 @@ pub trait Recorder: Drop + Sized {
         ensures entries_fit { length (view self.now).history ≤ (view self.now).config.max_entries }
         ensures bytes_fit { bytes_of (view self.now).history ≤ (view self.now).config.max_bytes };
 
+    /// Hands out the history, of which the same holds as of `history`.
+    fn close(self) -> Entries
+        ensures history { result ≡ (view self).history }
+        ensures recorded { Recorded (view self).config (view self).history (view self).state }
+        ensures entries_fit { length (view self).history ≤ (view self).config.max_entries }
+        ensures bytes_fit { bytes_of (view self).history ≤ (view self).config.max_bytes };
+
     /// Whether it can go on: false exactly where an event was answered `NoMemory`.
     fn is_whole(&self) -> bool
         ensures whole { result ≡ (view self.now).is_whole };
@@ -40,6 +51,18 @@ pub trait Recorder: Drop + Sized {
         requires { (view self.now).is_whole ≡ true }
         ensures count { result ≡ length (view self.now).state.floor.modules }
         ensures few { result ≤ 255 };
+
+    /// Why a session ended. None: it is up, or never came.
+    fn session_end(&self, session: u64) -> Option<SessionCause>
+        ensures { result ≡ session_end (opening (view self.now).config) (view self.now).history session };
+
+    /// What is counted over the history. Takes no memory.
+    fn totals(&self) -> Totals
+        ensures { result ≡ totals_of (view self.now).config (view self.now).history };
+
+    /// How much text the history holds, in bytes.
+    fn bytes(&self) -> u64
+        ensures { result ≡ bytes_of (view self.now).history };
 
     /// Takes an event that this seat posts at this moment, answers it, and adds it to the history. `Full`: the history
     /// takes no more entries, or not so much text. `Again`: the event has to wait, which takes no memory. After want of

@@ -97,6 +97,12 @@ pub as_long : (c : Config) (history : List Entry) (g : State) (front : List Post
     → front ≡ posted_in c history → length front ≡ length history
 as_long c history g front legal there here = ap length here ∙ posted_length (opening c) history g (run_of c history g legal there)
 
+-- it is the one entry that the history has more, where there is one
+pub appends : (old new : List Posted) (r : Result Answer PostFault) (seat at : ℕ) (event : Event) → IfOk r (λ a. new ≡ old ++ posted seat at event a ∷ []) → OnErr r (new ≡ old)
+    → (new ≡ old) ⊎ ((entry : Posted) × (entry.seat ≡ seat) × (new ≡ old ++ entry ∷ []))
+appends old new (Ok a) seat at event grew same = inr (posted seat at event a, refl, grew)
+appends old new (Err x) seat at event grew same = inl same
+
 -- ---- the chair's own entries
 
 -- the entry that is behind a list is the one that was put there

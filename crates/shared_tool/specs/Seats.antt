@@ -1,9 +1,7 @@
 -- What a chair is to its desk.
-use Rattle.std.specs.Prelude.{◌≡◌, ◌⊎◌, ◌+◌, ℕ, Bool, true, false, ◌||◌, nat_le, nat_lt, List, [], length, map}
+use Rattle.std.specs.Prelude.{◌≡◌, ◌⊎◌, ◌+◌, ℕ, Bool, true, ◌||◌, nat_le, nat_lt, List, length, map}
 use Rattle.atomic_table.specs.Seated.{TableId}
 use Rattle.tool_events.specs.declared.config.Config.{Config}
-use Rattle.tool_events.specs.declared.config.CommStart.TheVariants as comm
-use Rattle.tool_events.specs.declared.config.ControlStart.TheVariants as control
 use Rattle.tool_events.specs.declared.entry.Entry.{Entry}
 use Rattle.tool_events.specs.declared.entry.Post.{Post}
 use Rattle.tool_lock.specs.declared.kept.Kept.{Ghosts}
@@ -11,7 +9,6 @@ use Rattle.tool_lock.specs.declared.pass.Pass.{Pass}
 use Rattle.tool_lock.specs.Turned.{Starts}
 use Rattle.gem_model.specs.Sizes.{bytes_of}
 use Rattle.history_parts.specs.CoreView.{CoreView}
-use Rattle.shared_tool.specs.declared.held.Held.{Held}
 use Rattle.shared_tool.specs.declared.posted.Posted.{Posted}
 use Rattle.shared_tool.specs.declared.shared.Shared.{Shared}
 use Rattle.shared_tool.specs.Posts.{entries_of, begun}
@@ -26,12 +23,12 @@ pub record Seated : Type 0 where
   pub full_bytes : ℕ
 
 -- the table of its turnstile, by which the chairs of a tool are known
-abbrev pub table_of : Shared → TableId
+abbrev pub table_of : {V : Type 0} → Shared V Posted CoreView → TableId
 table_of t = t.lock.table.shared.table_id
 
 -- a chair of the tool with this table, whose history began under this configuration
-module _ {K : Ghosts Held Posted CoreView} where
-  abbrev pub IsChairAt : TableId → Config → Pass Held Posted CoreView K → Type 0
+module _ {V : Type 0} {K : Ghosts V Posted CoreView} where
+  abbrev pub IsChairAt : TableId → Config → Pass V Posted CoreView K → Type 0
   IsChairAt table c chair = (chair.seat.table_id ≡ table) × Starts chair.seat.me.0.claims (begun c)
 
 -- what was posted, without its seat
@@ -49,34 +46,3 @@ is_full_for c history bytes = nat_le c.max_entries (length history) || nat_lt c.
 -- nothing was refused as Full, or the front takes no event with as much text as the last that was
 abbrev pub MayBeFull : Config → ℕ → ℕ → List Posted → Type 0
 MayBeFull c fulls bytes front = (fulls ≡ 0) ⊎ (is_full_for c (entries_of front) bytes ≡ true)
-
--- ---- a place that no call picked
-
-abbrev pub no_table : TableId
-no_table = record { words = 0; slots = 0; views_name = 0; atom = 0; block = 0; offset = 0; slot_names = [] }
-
-abbrev pub no_config : Config
-no_config = record {
-  version = 0;
-  device = 0;
-  mdln = [];
-  softrev = [];
-  communication = comm.Disabled;
-  control = control.EquipmentOffline;
-  chambers = 0;
-  ports = 0;
-  spool_capacity = 0;
-  spool_streams = record { five = false; six = false };
-  overwrite = false;
-  max_transmit = 0;
-  t3 = 0;
-  t6 = 0;
-  t7 = 0;
-  establish = 0;
-  linktest = 0;
-  max_entries = 0;
-  max_bytes = 0;
-  start_moment = record { 0 = 0 };
-  recipes = [];
-  tcp_port = 0;
-}

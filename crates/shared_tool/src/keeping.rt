@@ -4,23 +4,24 @@ ghost use Rattle.std.specs.Prelude.{◌≡◌};
 
 use crate::held::Held;
 use crate::posted::Posted;
-use tool_core::Core;
+use crate::standing::Standing;
+use history_laws::Recorder;
 use tool_lock::Kept;
 
-impl Kept for Held {
+impl<C: Recorder> Kept for Held<C> {
     ghost use Rattle.gem_model.specs.State.{opening};
     ghost use Rattle.shared_tool.specs.Posts.{posted_in, begun, standing, Follows};
     ghost use Rattle.shared_tool.specs.Laws.{leads};
 
     type Entry = Posted;
 
-    type State = Core;
+    type State = Standing;
 
-    ghost history = { λ h. posted_in h.core.config h.core.history };
+    ghost history = { λ h. posted_in (C.view h.core).config (C.view h.core).history };
 
     ghost number = { λ e. e.seat };
 
-    ghost opening = { λ h. begun h.core.config };
+    ghost opening = { λ h. begun (C.view h.core).config };
 
     ghost follows = { Follows };
 
@@ -28,5 +29,8 @@ impl Kept for Held {
         self.core.history().len() as u64
     }
 
-    ghost runs = { λ h. (standing h.core.config h.core.state, leads h.core.config h.core.history h.core.state h.legal h.there) };
+    ghost runs = { λ h. (
+      standing (C.view h.core).config (C.view h.core).state,
+      leads (C.view h.core).config (C.view h.core).history (C.view h.core).state h.legal h.there,
+    ) };
 }

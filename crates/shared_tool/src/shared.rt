@@ -17,48 +17,52 @@ ghost use Rattle.shared_tool.specs.declared.posted.Posted.{Posted};
 
 use crate::held::Held;
 use gem_ids::Moment;
+use history_laws::Recorder;
 use std::alloc::{AllocError, Global};
 use std::sync::Wait;
-use tool_core::Core;
 use tool_events::{Answer, Event, PostFault};
-use tool_lock::{Pass, Turnstile};
+use tool_lock::{Kept, Pass, Turnstile};
 
 /// Memory ran out.
 pub type NoMemory = AllocError;
 
 /// The right to post. Contracts see its number, which is the seat of its entries; its front, which is the history with its answers
 /// as it was at the end of the chair's last turn, and empty before the first; and `mine`, those of it that the chair posted.
-pub type Chair = Pass<Held>;
+pub type Chair<C> = Pass<Held<C>>;
 
-/// The tool, shared by chairs.
+/// The tool, shared by chairs: `Shared<Held<C>>`. What stands under the turnstile is a parameter, as in `Sitting`.
 #[derive(Drop)]
-pub struct Shared {
-    pub lock: Turnstile<Held>,
+pub struct Shared<V: Kept + Drop> {
+    pub lock: Turnstile<V>,
 }
 
-impl Shared {
+impl<C: Recorder> Shared<Held<C>> {
     /// Shares a core whose history is empty among so many chairs, at least one, numbered from 0 in the order in which they are
     /// given. `NoMemory` where there is no room for them; the core is dropped then.
-    pub fn open(alloc: Global, core: Core, seats: u32) -> Result<(Shared, Vec<Chair>), NoMemory>
+    pub fn open(
+        alloc: Global,
+        core: C,
+        seats: u32,
+    ) -> Result<(Shared<Held<C>>, Vec<Chair<C>>), NoMemory>
         requires seats { 0 < seats }
-        requires fresh { core.history ≡ [] }
-        requires bounds { IsConfig core.config }
+        requires fresh { (C.view core).history ≡ [] }
+        requires bounds { IsConfig (C.view core).config }
         ensures seats { IfOk result (λ t. (seats_of t.0 ≡ seats) × (length t.1.items ≡ seats)) }
-        ensures config { IfOk result (λ t. config_of t.0 ≡ core.config) }
+        ensures config { IfOk result (λ t. config_of t.0 ≡ (C.view core).config) }
         ensures chairs { IfOk result (λ t. AreSeated t.0 t.1.items) }
     {
         let (lock, chairs) = Turnstile::open(alloc, Held::new(core), seats)?;
         Ok((Shared { lock }, chairs))
     }
 
-    /// Posts an event, with this moment, in one turn of the chair, for which it waits. It is answered as by `Core::apply` in the state
+    /// Posts an event, with this moment, in one turn of the chair, for which it waits. It is answered as by `Recorder::apply` in the state
     /// of that turn: the answer, `Again` where the event has no step there, `Full` where the history takes it no more. `NoMemory`
     /// where there was no memory, and at every later post of any chair.
     pub fn post<W: Wait>(
         &self,
         rt: &W,
         alloc: Global,
-        chair: &mut Chair,
+        chair: &mut Chair<C>,
         at: Moment,
         event: Event,
     ) -> Result<Answer, PostFault>
@@ -92,13 +96,13 @@ impl Shared {
     /// Gives the core, once all chairs are handed in, in any order. Its history begins with each chair's front, the entries of each
     /// chair's number there are those that it posted, and no entry has a number that no chair has. Takes no memory, and refuses
     /// nothing.
-    pub fn close(self, chairs: Vec<Chair>) -> Core
+    pub fn close(self, chairs: Vec<Chair<C>>) -> C
         requires all { length chairs.items ≡ seats_of self }
         requires own { AreChairsOf self chairs.items }
-        ensures config { result.config ≡ config_of self }
-        ensures recorded { Recorded result.config result.history result.state }
-        ensures known { AreKnown (λ e. e.seat) (posted_in result.config result.history) chairs.items }
-        ensures others { (k : ℕ) → seats_of self ≤ k → own (λ e. e.seat) k (posted_in result.config result.history) ≡ [] }
+        ensures config { (C.view result).config ≡ config_of self }
+        ensures recorded { Recorded (C.view result).config (C.view result).history (C.view result).state }
+        ensures known { AreKnown (λ e. e.seat) (posted_in (C.view result).config (C.view result).history) chairs.items }
+        ensures others { (k : ℕ) → seats_of self ≤ k → own (λ e. e.seat) k (posted_in (C.view result).config (C.view result).history) ≡ [] }
     {
         let Held { core } = self.lock.close(chairs);
         core

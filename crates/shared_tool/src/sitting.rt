@@ -7,15 +7,21 @@ ghost use Rattle.atomic_table.specs.Seated.{TableId};
 ghost use Rattle.tool_events.specs.declared.config.Config.{Config};
 ghost use Rattle.tool_events.specs.Sizes.{event_bytes};
 ghost use Rattle.shared_tool.specs.Chairs.{config_of};
-ghost use Rattle.shared_tool.specs.Seats.{table_of, IsChairAt, MayBeFull, no_table, no_config};
+ghost use Rattle.shared_tool.specs.Seats.{table_of, IsChairAt, MayBeFull};
+ghost use Rattle.shared_tool.specs.Nowhere.{no_table, no_config};
 
+use crate::held::Held;
+use crate::posted::Posted;
 use crate::shared::{Chair, Shared};
+use crate::standing::Standing;
 use gem_ids::Moment;
+use history_laws::Recorder;
 use hsms_frame::Arrival;
 use std::alloc::Global;
 use std::marker::{Brand, Model, PhantomData};
 use std::sync::Wait;
 use tool_events::{Answer, Desk, Event, PostFault};
+use tool_lock::{Kept, Pass};
 
 /// Which chair of which tool: the table by which the chairs of the tool are known, the chair's number, and the configuration
 /// under which the history began. An actor that is written for any desk forgets all of its desk but what `Desk` says; the type
@@ -37,23 +43,24 @@ impl Place for Brand {
 }
 
 /// A chair with all that it needs to post: a desk. Contracts see the chair's front, the entries that are its own, and how many
-/// posts were refused: as `Full`, with the bytes of text of the last of these, and for want of memory.
+/// posts were refused: as `Full`, with the bytes of text of the last of these, and for want of memory. What stands under the turnstile
+/// is a parameter here, since a field can't have the type of a pass to what is generic itself; there is a desk for `Held` alone.
 #[derive(Drop)]
-pub struct Sitting<'a, W: Wait, J: Place> {
+pub struct Sitting<'a, W: Wait, J: Place, V: Kept<Entry = Posted, State = Standing> + Drop> {
     rt: &'a W,
     alloc: Global,
-    shared: &'a Shared,
-    chair: Chair,
+    shared: &'a Shared<V>,
+    chair: Pass<V>,
     fulls: u64,
     wants: u64,
     full_bytes: u64,
     of: PhantomData<J>,
 }
 
-impl<'a, W: Wait, J: Place> Model for Sitting<'a, W, J> {
+impl<'a, W: Wait, J: Place, V: Kept<Entry = Posted, State = Standing> + Drop> Model
+    for Sitting<'a, W, J, V> {
     ghost use Rattle.std.specs.Prelude.{◌≡◌};
-    ghost use Rattle.tool_lock.specs.Passes.{pass_number, front, mine};
-    ghost use Rattle.shared_tool.specs.Chairs.{config_of};
+    ghost use Rattle.tool_lock.specs.Passes.{pass_number, start, front, mine};
     ghost use Rattle.shared_tool.specs.Seats.{Seated, table_of, IsChairAt, MayBeFull};
 
     ghost Value = { Seated };
@@ -66,14 +73,19 @@ impl<'a, W: Wait, J: Place> Model for Sitting<'a, W, J> {
       full_bytes = s.full_bytes;
     } };
 
-    ghost invariant = { λ s. (table_of s.shared.now ≡ J.table) × (config_of s.shared.now ≡ J.config)
+    ghost invariant = { λ s. (table_of s.shared.now ≡ J.table) × ((V.opening (start s.shared.now.lock)).config ≡ J.config)
         × (pass_number s.chair ≡ J.number) × IsChairAt J.table J.config s.chair
         × MayBeFull J.config s.fulls s.full_bytes (front s.chair) };
 }
 
-impl<'a, W: Wait, J: Place> Sitting<'a, W, J> {
+impl<'a, W: Wait, J: Place, C: Recorder> Sitting<'a, W, J, Held<C>> {
     /// Sits on a chair of this tool. What it posts takes its memory from this allocator.
-    pub fn sit(rt: &'a W, alloc: Global, shared: &'a Shared, chair: Chair) -> Sitting<'a, W, J>
+    pub fn sit(
+        rt: &'a W,
+        alloc: Global,
+        shared: &'a Shared<Held<C>>,
+        chair: Chair<C>,
+    ) -> Sitting<'a, W, J, Held<C>>
         requires tool { (table_of shared.now ≡ J.table) × (config_of shared.now ≡ J.config) }
         requires chair { IsChairAt J.table J.config chair }
         requires number { pass_number chair ≡ J.number }
@@ -92,7 +104,7 @@ impl<'a, W: Wait, J: Place> Sitting<'a, W, J> {
     }
 
     /// Gives the chair back.
-    pub fn into_chair(self) -> Chair
+    pub fn into_chair(self) -> Chair<C>
         ensures chair { IsChairAt J.table J.config result }
         ensures number { pass_number result ≡ J.number }
         ensures mine { mine result ≡ self.entry.mine }
@@ -104,7 +116,7 @@ impl<'a, W: Wait, J: Place> Sitting<'a, W, J> {
     }
 }
 
-impl<W: Wait, J: Place> Desk for Sitting<'_, W, J> {
+impl<W: Wait, J: Place, C: Recorder> Desk for Sitting<'_, W, J, Held<C>> {
     ghost use Rattle.shared_tool.specs.Seats.{posts_of};
 
     ghost posts = { λ s. posts_of s.mine };

@@ -8,7 +8,7 @@ use Rattle.shared_tool.specs.Posts.{entries_of}
 use Rattle.shared_tool.specs.Chairs.{config_of}
 use Rattle.shared_tool.proofs.Answering.{answered_in, step_waits}
 use Rattle.shared_tool.proofs.Filling.{may_be_on}
-use Rattle.shared_tool.proofs.sitting.SittingDesk.post.Goals as goal
+use Rattle.shared_tool.proofs.sitting.SittingHeldDesk.post.Goals as goal
 
 pub invariant_of-self-in-Ok-2 : goal.invariant_of-self-in-Ok-2
 invariant_of-self-in-Ok-2 g c =

@@ -1,20 +1,22 @@
 //! What takes events, and keeps them as its history.
 
-ghost use Rattle.std.specs.Prelude.{◌≡◌, ◌≤◌, ℕ, [], ◌∷◌, ◌++◌, length, true, false, ◌&&◌, not, Some, None, Err, OnOk, OnErr, IfOk, IsErrOf};
+ghost use Rattle.std.specs.Prelude.{◌≡◌, ◌≤◌, ◌<◌, ◌↔◌, ℕ, [], ◌∷◌, ◌++◌, length, true, false, ◌&&◌, not, Some, None, Err, OnOk, OnErr, IfOk, IfSome, IsErrOf, IsTrue, if◌then◌else◌};
 ghost use Rattle.tool_events.specs.declared.answer.PostFault.TheVariants as PostFault;
 ghost use Rattle.tool_events.specs.Configs.{IsConfig};
 ghost use Rattle.tool_events.specs.Posts as posts;
-ghost use Rattle.gem_model.specs.State.{opening};
+ghost use Rattle.gem_model.specs.State.{opening, is_up, is_session_up};
 ghost use Rattle.gem_model.specs.Step.{Outcome, step};
-ghost use Rattle.gem_model.specs.Sessions.{session_end};
-ghost use Rattle.gem_model.specs.Sizes.{bytes_of, is_full};
+ghost use Rattle.gem_model.specs.Valid.{Valid};
+ghost use Rattle.gem_model.specs.Signals.{module_of};
+ghost use Rattle.robot_moves.specs.Modules.{fetched_number};
+ghost use Rattle.gem_model.specs.Sessions.{session_count, session_end, session_out};
+ghost use Rattle.gem_model.specs.Sizes.{bytes_of, counted, is_full};
 ghost use Rattle.history_parts.specs.Totals.{totals_of};
 ghost use Rattle.history_parts.specs.CoreView.{CoreView};
 ghost use Rattle.history_laws.specs.Recorded.{Recorded};
 
-use history_parts::Entries;
-use gem_ids::Moment;
-use history_parts::Totals;
+use gem_ids::{CmdNo, ModuleId, Moment};
+use history_parts::{Entries, Totals};
 use std::alloc::{AllocError, Global};
 use tool_events::{Answer, Config, Entry, Event, PostFault, SessionCause};
 
@@ -63,6 +65,42 @@ pub trait Recorder: Drop + Sized {
     /// How much text the history holds, in bytes.
     fn bytes(&self) -> u64
         ensures { result ≡ bytes_of (view self.now).history };
+
+    /// The session that is up. Sessions are numbered from 1.
+    fn session_up(&self) -> Option<u64>
+        ensures session { result ≡ (if is_up (view self.now).state then Some (view self.now).state.link.session else None) }
+        ensures numbered { IfSome result (λ session. 0 < session) };
+
+    /// Whether this session is up.
+    fn is_session_up(&self, session: u64) -> bool
+        ensures { result ≡ is_session_up (view self.now).state session };
+
+    /// Whether the operator ended the run. It can go on.
+    fn is_quitting(&self) -> bool
+        requires { (view self.now).is_whole ≡ true }
+        ensures { result ≡ (view self.now).state.quitting };
+
+    /// The number of the open command of a module that was fetched. `None` exactly where it has none, or is no module of the
+    /// tool. It can go on.
+    fn fetched_number(&self, m: ModuleId) -> Option<CmdNo>
+        requires { (view self.now).is_whole ≡ true }
+        ensures { result ≡ fetched_number (module_of m.0 (view self.now).state) };
+
+    /// How many sessions came. They are numbered from 1.
+    fn session_count(&self) -> u64
+        ensures { result ≡ session_count (opening (view self.now).config) (view self.now).history };
+
+    /// How many bytes went out in a session: those of the frames that its writer took. The count stands still at the
+    /// greatest number of 64 bits. 0: nothing went out, or the session never came.
+    fn session_bytes(&self, session: u64) -> u64
+        ensures { result ≡ counted (length (session_out (opening (view self.now).config) (view self.now).history session)) };
+
+    /// Whether an event has to wait that is posted at this moment. It can go on.
+    fn idle(&self, at: Moment, event: &Event) -> bool
+        requires { (view self.now).is_whole ≡ true }
+        ensures waits { IsTrue result ↔ (step (view self.now).state at.0 event.now ≡ None) }
+        // The state keeps what is true of each state that a history leads to.
+        ensures valid { Valid (view self.now).state };
 
     /// Takes an event that this seat posts at this moment, answers it, and adds it to the history. `Full`: the history
     /// takes no more entries, or not so much text. `Again`: the event has to wait, which takes no memory. After want of

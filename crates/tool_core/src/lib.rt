@@ -11,6 +11,7 @@
 #![tactic(auto)]
 
 mod react;
+mod recorder;
 mod stepped;
 mod tool;
 

@@ -30,10 +30,10 @@ pub fn is_due(plant: &Plant, before: Moment, at: Moment) -> bool
         || has_come(before, HEARTBEAT, at)
 }
 
-/// T3 of a transaction is over, which was taken out: S9F9 tells its header, and its rows fire.
-fn time_out(plant: &mut Plant, alloc: Global, one: Open) -> Result<(), AllocError>
-    ensures { OnOk result (plant.new ≡ fires (timeout_rows one.what)
-        (sends_stream9 9 (data_header plant.old.config.device true one.stream one.function one.system) plant.old)) }
+/// S9F9 tells the header of a transaction whose T3 is over.
+fn tell_timeout(plant: &mut Plant, alloc: Global, one: &Open) -> Result<(), AllocError>
+    ensures { OnOk result (plant.new
+        ≡ sends_stream9 9 (data_header plant.old.config.device true one.now.stream one.now.function one.now.system) plant.old) }
 {
     let header = data_header(
         plant.config().device,
@@ -42,7 +42,15 @@ fn time_out(plant: &mut Plant, alloc: Global, one: Open) -> Result<(), AllocErro
         one.function,
         one.system,
     );
-    plant.send_stream9(alloc, 9, header)?;
+    plant.send_stream9(alloc, 9, header)
+}
+
+/// T3 of a transaction is over, which was taken out: S9F9 tells its header, and its rows fire.
+fn time_out(plant: &mut Plant, alloc: Global, one: Open) -> Result<(), AllocError>
+    ensures { OnOk result (plant.new ≡ fires (timeout_rows one.what)
+        (sends_stream9 9 (data_header plant.old.config.device true one.stream one.function one.system) plant.old)) }
+{
+    tell_timeout(plant, alloc, &one)?;
     let row = timeout_row(plant, one.what);
     plant.fire_listed(alloc, &[row])
 }
@@ -89,16 +97,11 @@ pub fn look(plant: &mut Plant, alloc: Global) -> Result<Option<SessionEnd>, Allo
     ensures ended { IfOk result (λ ended. ended ≡ ended_by (dues plant.old) plant.old) }
 {
     match plant.link_due(plant.moment()) {
-        Some(LinkDue::T7) => Ok(Some(end_for(plant, alloc, SessionCause::T7)?)),
-        Some(LinkDue::T6) => Ok(Some(end_for(plant, alloc, SessionCause::T6)?)),
-        Some(LinkDue::AskLinktest) => {
-            plant.ask_linktest(alloc)?;
-            time_out_all(plant, alloc)?;
-            Ok(None)
-        }
-        None => {
-            time_out_all(plant, alloc)?;
-            Ok(None)
-        }
+        Some(LinkDue::T7) => return Ok(Some(end_for(plant, alloc, SessionCause::T7)?)),
+        Some(LinkDue::T6) => return Ok(Some(end_for(plant, alloc, SessionCause::T6)?)),
+        Some(LinkDue::AskLinktest) => plant.ask_linktest(alloc)?,
+        None => {}
     }
+    time_out_all(plant, alloc)?;
+    Ok(None)
 }

@@ -7,7 +7,7 @@ ghost use Rattle.gem_model.specs.Fire.{fire_listed};
 ghost use Rattle.robot_moves.specs.Modules.{is_open, is_up};
 ghost use Rattle.floor_model.specs.Signals.{done_rows, closing_rows};
 ghost use Rattle.gem_model.specs.Noting.{sets_alarm};
-ghost use Rattle.gem_model.specs.Signals.{lacks_port, port_row_starts, with_arrival, placed, removed, module_of, module_alarm, module_done, module_failed, module_down, signalled};
+ghost use Rattle.gem_model.specs.Signals.{lacks_port, port_row_starts, port_alarm, with_arrival, placed, removed, module_of, module_alarm, module_done, module_failed, module_down, signalled};
 
 use core_state::Plant;
 use gem_ids::{CarrierId, CmdNo, ModuleId, PortNo};
@@ -43,6 +43,13 @@ fn transfer_starts(plant: &Plant, row: u8, port: PortNo) -> bool
     plant.row_starts(at_port(TRANSFER, row, port))
 }
 
+/// A port doesn't expect what is told of it: its alarm is set.
+fn unexpected(plant: &mut Plant, alloc: Global, port: PortNo) -> Result<(), AllocError>
+    ensures { OnOk result (plant.new ≡ sets_alarm (port_alarm port.0) plant.old) }
+{
+    plant.set_alarm(alloc, UNEXPECTED + u32::from(port.0))
+}
+
 /// What came to a port that the tool has, which is READY TO LOAD, is written, and its row fires.
 fn place_there(
     plant: &mut Plant,
@@ -72,7 +79,7 @@ fn place(
     ensures { OnOk result (plant.new ≡ placed port.0 id map plant.old) }
 {
     if !transfer_starts(plant, 3, port) {
-        return plant.set_alarm(alloc, UNEXPECTED + u32::from(port.0));
+        return unexpected(plant, alloc, port);
     }
     place_there(plant, alloc, port, id, map)
 }
@@ -95,7 +102,7 @@ fn remove(plant: &mut Plant, alloc: Global, port: PortNo) -> Result<(), AllocErr
     ensures { OnOk result (plant.new ≡ removed port.0 plant.old) }
 {
     if !transfer_starts(plant, 5, port) {
-        return plant.set_alarm(alloc, UNEXPECTED + u32::from(port.0));
+        return unexpected(plant, alloc, port);
     }
     remove_there(plant, alloc, port)
 }

@@ -2,8 +2,8 @@
 ghost use Rattle.std.specs.Prelude.{◌≡◌, ◌+◌, ◌≤◌, ◌<◌, ◌^◌, length, OnOk, IfOk};
 ghost use Rattle.transactions.specs.Endings.{answered};
 ghost use Rattle.message_model.specs.Acknowledge.{accepts};
-ghost use Rattle.gem_model.specs.Direct.{Are, IsListed, answer_rows, attempt_answer, establish_answer};
-ghost use Rattle.gem_model.specs.Fire.{fires};
+ghost use Rattle.gem_model.specs.Direct.{Are, IsListed, by_comm, by_control, answer_rows, attempt_answer, establish_answer};
+ghost use Rattle.gem_model.specs.Fire.{fire_listed, fires};
 ghost use Rattle.gem_model.specs.Verdict.{header_of, item_of, stream_of, function_of};
 ghost use Rattle.gem_model.specs.Messages.{done};
 ghost use Rattle.gem_model.specs.Act.{replied, taken, taken_as, closed_by, note_answered, data_act, data_done};
@@ -177,7 +177,6 @@ fn close(
 }
 
 /// The answer to what the tool asked: its rows fire, and a note is answered.
-#[tactic(auto, using(crate::proofs::Listed::comm_listed, crate::proofs::Listed::control_listed))]
 fn take_answer(
     plant: &mut Plant,
     alloc: Global,
@@ -188,19 +187,36 @@ fn take_answer(
     ensures { OnOk result (plant.new ≡ fires (answer_rows what (function_of header.now) (item_of arrival.now)) (note_answered what plant.old)) }
 {
     match what {
-        What::Establish => {
-            let trigger = establish_answer(alloc, header, arrival)?;
-            plant.fire_listed(alloc, &[by_comm(trigger)])
-        }
-        What::Attempt => {
-            let row = plant.by_control(attempt_answer(header.byte3));
-            plant.fire_listed(alloc, &[row])
-        }
+        What::Establish => take_establish(plant, alloc, header, arrival),
+        What::Attempt => take_attempt(plant, alloc, header.byte3),
         What::Note(_) => {
             plant.answer_note();
             Ok(())
         }
     }
+}
+
+/// The answer to the tool's S1F13: its row fires.
+#[tactic(auto, using(crate::proofs::Listed::comm_listed))]
+fn take_establish(
+    plant: &mut Plant,
+    alloc: Global,
+    header: &Header,
+    arrival: &Arrival,
+) -> Result<(), AllocError>
+    ensures { OnOk result (plant.new ≡ fire_listed (by_comm (establish_answer (function_of header.now) (item_of arrival.now))) plant.old) }
+{
+    let trigger = establish_answer(alloc, header, arrival)?;
+    plant.fire_listed(alloc, &[by_comm(trigger)])
+}
+
+/// The answer of this function to the tool's S1F1: its row fires.
+#[tactic(auto, using(crate::proofs::Listed::control_listed))]
+fn take_attempt(plant: &mut Plant, alloc: Global, function: u8) -> Result<(), AllocError>
+    ensures { OnOk result (plant.new ≡ fire_listed (by_control (attempt_answer function) plant.old) plant.old) }
+{
+    let row = plant.by_control(attempt_answer(function));
+    plant.fire_listed(alloc, &[row])
 }
 
 /// What an answer to the tool's S1F1 does: S1F2, and S1F0 by which it fails.

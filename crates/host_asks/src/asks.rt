@@ -1,5 +1,5 @@
 //! What the host asks of the tool's data (SEMI E5, streams 1, 2, 5 and 6).
-ghost use Rattle.std.specs.Prelude.{◌≡◌, ◌≤◌, length, map, IfOk};
+ghost use Rattle.std.specs.Prelude.{◌≡◌, ◌≤◌, ℕ, length, map, filter, is_some, IfOk};
 ghost use Rattle.data_variables.specs.Bodies.{name_item};
 ghost use Rattle.data_variables.specs.Table.{constant_ids};
 ghost use Rattle.item_model.specs.Data.{DataList, list};
@@ -59,18 +59,25 @@ fn or_all<'a>(all: &'a [u32], ids: &'a [u32]) -> &'a [u32]
     if ids.is_empty() { all } else { ids }
 }
 
-// The numbers of the status variables that are built, rising.
-fn svids(seen: &Seen<'_>, alloc: Global) -> Result<Vec<u32>, AllocError>
-    ensures { IfOk result (λ vids. vids.items ≡ svids seen.now) }
+// Those of these numbers that are of a status variable that is built. (The list of all numbers is handed in: so no step of the loop
+// is proved for each of them.)
+fn built(seen: &Seen<'_>, alloc: Global, all: &[u32]) -> Result<Vec<u32>, AllocError>
+    ensures { IfOk result (λ vids. vids.items ≡ filter (λ (vid : ℕ). is_some (status_value seen.now vid)) all.now) }
 {
-    let all = status_vids();
     let mut vids = Vec::new(alloc);
-    for vid in all.as_slice() {
+    for vid in all {
         if seen.is_status(*vid) {
             vids.push(*vid)?;
         }
     }
     Ok(vids)
+}
+
+// The numbers of the status variables that are built, rising.
+fn svids(seen: &Seen<'_>, alloc: Global) -> Result<Vec<u32>, AllocError>
+    ensures { IfOk result (λ vids. vids.items ≡ svids seen.now) }
+{
+    built(seen, alloc, status_vids().as_slice())
 }
 
 /// The values of these status variables, or of all where none is named (SEMI E5, S1F4): an empty list for a number that

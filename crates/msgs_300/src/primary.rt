@@ -1,15 +1,16 @@
 //! The host's primaries.
 
-ghost use Rattle.std.specs.Prelude.{◌≡◌, option_map};
-ghost use Rattle.message_model.specs.Bodies.{any, byte, each, fixed, flag as flag_form, id as id_form, l2, l3, l5, named_value, of, small_id as small_id_form, text as text_form};
+ghost use Rattle.std.specs.Prelude.{◌≡◌, ◌∷◌, [], option_map};
+ghost use Rattle.message_model.specs.Bodies.{any, byte, each, five, fixed, flag as flag_form, id as id_form, l2, l3, l5, named_value, of, small_id as small_id_form, text as text_form, three};
 ghost use Rattle.body_parts.specs.Given.{AnswersAs, Gives};
 ghost use Rattle.message_model.specs.ShopParts.{any_list as any_list_form, carrier_slots, l4, l7, recipe_part as recipe_part_form};
+ghost use Rattle.message_model.specs.Printed.{items};
 ghost use Rattle.message_model.specs.ShopPrimaries.{S3F17, S3F25, S3F27, S14F9, S16F5, S16F17, S16F27, is_shop_stream as is_stream_of_table, job_creation as job_creation_said, reading, said};
 ghost use Rattle.item_model.specs.View.{view};
 
 use crate::material::{any_list, material_format, recipe_part};
-use body_parts::reading::{copied, elements, flag, id, list_of, one, parts, small_id, text};
-use gem_ids::{Listed, Text80};
+use body_parts::reading::{copied, flag, id, list_of, one, parts, small_id, text};
+use gem_ids::Text80;
 use item_model::Item;
 use message_model::{BodyFault, ShopMsg};
 use std::alloc::Global;
@@ -78,9 +79,26 @@ fn carrier_action(alloc: Global, item: &Item) -> Result<ShopMsg, BodyFault>
     ensures { Gives said result (l5 S3F17 id_form text_form text_form small_id_form (each named_value) (view item.now)) }
 {
     let [dataid, action, carrier, port, attributes] = parts::<5>(item)?;
+    let dataid = id(dataid)?;
+    let action = text(action)?;
+    carrier_acted(alloc, dataid, action, carrier, port, attributes)
+}
+
+// The same, where the action was read.
+fn carrier_acted(
+    alloc: Global,
+    dataid: u32,
+    action: Text80,
+    carrier: &Item,
+    port: &Item,
+    attributes: &Item,
+) -> Result<ShopMsg, BodyFault>
+    ensures { Gives said result (three (S3F17 dataid action) text_form small_id_form (each named_value)
+        (items (view carrier.now ∷ (view port.now ∷ (view attributes.now ∷ []))))) }
+{
     Ok(ShopMsg::S3F17(
-        id(dataid)?,
-        text(action)?,
+        dataid,
+        action,
         text(carrier)?,
         small_id(port)?,
         list_of(alloc, attributes)?,
@@ -126,6 +144,23 @@ fn job_creation(alloc: Global, item: &Item) -> Result<ShopMsg, BodyFault>
     let [dataid, job, format, material, recipe, start, events] = parts::<7>(item)?;
     let dataid = id(dataid)?;
     let job = text(job)?;
+    job_created(alloc, dataid, job, format, material, recipe, start, events)
+}
+
+// The same, where the job's name was read.
+fn job_created(
+    alloc: Global,
+    dataid: u32,
+    job: Text80,
+    format: &Item,
+    material: &Item,
+    recipe: &Item,
+    start: &Item,
+    events: &Item,
+) -> Result<ShopMsg, BodyFault>
+    ensures { Gives said result (five (job_creation_said dataid job) (fixed 13 byte) (each carrier_slots) recipe_part_form flag_form any_list_form
+        (items (view format.now ∷ (view material.now ∷ (view recipe.now ∷ (view start.now ∷ (view events.now ∷ []))))))) }
+{
     material_format(format)?;
     Ok(ShopMsg::S16F11(
         dataid,
@@ -141,18 +176,7 @@ fn job_creation(alloc: Global, item: &Item) -> Result<ShopMsg, BodyFault>
 fn jobs_dequeued(alloc: Global, item: &Item) -> Result<ShopMsg, BodyFault>
     ensures { Gives said result (of S16F17 (each text_form) (view item.now)) }
 {
-    Ok(ShopMsg::S16F17(texts(alloc, item)?))
-}
-
-// The texts of a list of texts.
-fn texts(alloc: Global, item: &Item) -> Result<Listed<Text80>, BodyFault>
-    ensures { Gives (λ texts. texts) result (each text_form (view item.now)) }
-{
-    let mut texts = Listed::new(alloc);
-    for part in elements(item)? {
-        texts.push(text(part)?)?;
-    }
-    Ok(texts)
+    Ok(ShopMsg::S16F17(list_of(alloc, item)?))
 }
 
 // What a command to a control job says.

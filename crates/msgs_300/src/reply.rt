@@ -60,11 +60,9 @@ fn object_created(alloc: Global, id: &Text80, told: &ObjectAcknowledge) -> Resul
     ensures exact { IfOk result (λ item. view item ≡ L (A id.now ∷ (L [] ∷ (object_acknowledge_data told.now ∷ [])))) }
     ensures bounded { length told.now.errors ≤ 1024 → IfOk result (λ item. IsBounded 5 (2 ^ 31) (view item)) }
 {
-    let mut parts = Items::new(alloc);
-    parts.push(text(alloc, id)?)?;
-    parts.push(list(alloc, [])?)?;
-    parts.push(object_acknowledge(alloc, told)?)?;
-    Ok(Item::List(parts))
+    let id = text(alloc, id)?;
+    let told = object_acknowledge(alloc, told)?;
+    list(alloc, [id, Item::List(Items::new(alloc)), told])
 }
 
 fn object_acknowledge(alloc: Global, told: &ObjectAcknowledge) -> Result<Item, NoMemory>

@@ -1,6 +1,9 @@
 -- What all actors did in their seats.
 use Rattle.std.specs.Prelude.{◌≡◌, ◌≢◌, ℕ, Option, List, [], ◌∷◌, map}
 use Rattle.gem_ids.specs.declared.moment.Moment.{Moment}
+use Rattle.history_parts.specs.CoreView.{CoreView}
+use Rattle.tool_lock.specs.declared.kept.Kept.{Ghosts}
+use Rattle.shared_tool.specs.declared.posted.Posted.{Posted}
 use Rattle.shared_tool.specs.declared.shared.Shared.{Shared}
 use Rattle.actors.specs.declared.end.ActorEnd.{ActorEnd}
 use Rattle.actors.specs.declared.end.ActorEnd.TheVariants as end
@@ -25,7 +28,7 @@ outside door script moments = record { door = door; script = script; moments = m
 
 -- The actors did what they do, each in its seat: the host actor in those of reader and writer, the operator, the clock, and the
 -- modules, the first of which has number 1. How the host actor ended stands in the reader's seat.
-pub record SeatsDid {L : Type 0} (told : L → LinkTold) (t : Shared) (out out' : Outside L) (bytes bytes' : List SessionBytes) (count : ℕ) (r w o k r' w' o' k' : Seat) (ms ms' : List Seat) : Type 0 where
+pub record SeatsDid {V : Type 0} {K : Ghosts V Posted CoreView} {L : Type 0} (told : L → LinkTold) (t : Shared V Posted CoreView) (out out' : Outside L) (bytes bytes' : List SessionBytes) (count : ℕ) (r w o k r' w' o' k' : Seat V Posted CoreView K) (ms ms' : List (Seat V Posted CoreView K)) : Type 0 where
   pub hosted : HostWorked told t out.door out'.door r r' w w' bytes bytes'
   pub operator_same : Stays t o.chair o'.chair
   pub operated : Operated out.script out'.script (posts_in o.chair) (posts_in o'.chair) count o'.end
@@ -35,7 +38,8 @@ pub record SeatsDid {L : Type 0} (told : L → LinkTold) (t : Shared) (out out' 
   -- at no other end did a read of the script fail
   pub script_unfailed : o'.end ≢ end.ReadFault → out'.script.faults ≡ out.script.faults
 
-abbrev pub CrewDid : {L : Type 0} → (L → LinkTold) → Shared → Outside L → Outside L → List SessionBytes → List SessionBytes → ℕ → List Seat → List Seat → Type 0
+abbrev pub CrewDid : {V : Type 0} {K : Ghosts V Posted CoreView} {L : Type 0} → (L → LinkTold) → Shared V Posted CoreView → Outside L → Outside L → List SessionBytes → List SessionBytes → ℕ
+    → List (Seat V Posted CoreView K) → List (Seat V Posted CoreView K) → Type 0
 CrewDid told t out out' bytes bytes' count (r ∷ w ∷ o ∷ k ∷ ms) (r' ∷ w' ∷ o' ∷ k' ∷ ms') = SeatsDid told t out out' bytes bytes' count r w o k r' w' o' k' ms ms'
 CrewDid told t out out' bytes bytes' count _ _ = ⊥
 
@@ -46,6 +50,6 @@ first_end (end.Quit ∷ ends) = first_end ends
 first_end (e ∷ ends) = e
 
 -- how the actors in these seats ended
-abbrev pub AreEnds : List Seat → Ends → Type 0
-AreEnds (r ∷ w ∷ o ∷ k ∷ ms) ends = (ends.host ≡ r.end) × (ends.operator ≡ o.end) × (ends.clock ≡ k.end) × (ends.modules ≡ first_end (map (λ (s : Seat). s.end) ms))
+abbrev pub AreEnds : {V : Type 0} {K : Ghosts V Posted CoreView} → List (Seat V Posted CoreView K) → Ends → Type 0
+AreEnds {V} {K} (r ∷ w ∷ o ∷ k ∷ ms) ends = (ends.host ≡ r.end) × (ends.operator ≡ o.end) × (ends.clock ≡ k.end) × (ends.modules ≡ first_end (map (λ (s : Seat V Posted CoreView K). s.end) ms))
 AreEnds _ ends = ⊥

@@ -11,20 +11,20 @@ use crate::crew::run_all;
 use crate::ends::Ends;
 use crate::seat::Seat;
 use crate::seating::{ends_of, seat_all, unseat_all};
+use history_laws::Recorder;
 use host_actor::SessionBytes;
 use outside::{Clock, Door, Gate, Source};
-use shared_tool::{NoMemory, Shared};
+use shared_tool::{Held, NoMemory, Shared};
 use std::alloc::Global;
 use std::sync::Wait;
 use std::thread::Threads;
-use tool_core::Core;
 use tool_events::Config;
 
 /// What a run left: the core with the history, how the actors ended, the bytes of each session of the host, in order, and how many
 /// bytes of the script were read.
 #[derive(Drop)]
-pub struct Ran {
-    pub core: Core,
+pub struct Ran<C: Recorder> {
+    pub core: C,
     pub ends: Ends,
     pub sessions: Vec<SessionBytes>,
     pub script_bytes: u64,
@@ -32,6 +32,7 @@ pub struct Ran {
 
 // All actors in their seats.
 fn run_crew<
+    C: Recorder + Send,
     R: Threads + Wait + Sync,
     X: Door + Send,
     S: Source + Send,
@@ -40,13 +41,13 @@ fn run_crew<
 >(
     rt: &R,
     alloc: Global,
-    shared: &Shared,
+    shared: &Shared<Held<C>>,
     door: &mut X,
     bytes: &mut Vec<SessionBytes>,
     script: &mut S,
     clock: &mut T,
     gate: &G,
-    seats: &mut [Seat],
+    seats: &mut [Seat<Held<C>>],
 ) -> u64
     requires four { 4 ≤ length seats.old }
     requires few { length seats.old ≤ 259 }
@@ -76,6 +77,7 @@ fn run_crew<
 
 // The same, of a list of seats, and how the actors in them ended.
 fn run_seats<
+    C: Recorder + Send,
     R: Threads + Wait + Sync,
     X: Door + Send,
     S: Source + Send,
@@ -84,14 +86,14 @@ fn run_seats<
 >(
     rt: &R,
     alloc: Global,
-    shared: &Shared,
+    shared: &Shared<Held<C>>,
     door: &mut X,
     bytes: &mut Vec<SessionBytes>,
     script: &mut S,
     clock: &mut T,
     gate: &G,
-    seats: Vec<Seat>,
-) -> (Vec<Seat>, (Ends, u64))
+    seats: Vec<Seat<Held<C>>>,
+) -> (Vec<Seat<Held<C>>>, (Ends, u64))
     requires four { 4 ≤ length seats.items }
     requires few { length seats.items ≤ 259 }
     requires all { AllOf shared.now seats.items }
@@ -121,6 +123,7 @@ fn run_seats<
 ///
 /// `NoMemory`: there was no memory for the core, for the chairs or for their seats; then no actor ran.
 pub fn run_tool<
+    C: Recorder + Send,
     R: Threads + Wait + Sync,
     X: Door + Send,
     S: Source + Send,
@@ -134,20 +137,20 @@ pub fn run_tool<
     script: &mut S,
     clock: &mut T,
     gate: &G,
-) -> Result<Ran, NoMemory>
+) -> Result<Ran<C>, NoMemory>
     requires { IsConfig config.now }
-    ensures config { IfOk result (λ ran. ran.core.config ≡ config.now) }
+    ensures config { IfOk result (λ ran. (C.view ran.core).config ≡ config.now) }
     // What all actors did, and what the history has of it.
     ensures did { IfOk result (λ ran. RunDid (link_told X.In.left X.In.faults X.In.ends X.Out.held X.Out.faults X.Out.refusals X.Out.is_shut)
         (outside (door_told X.left X.backs X.faults X.links X.waits X.closings door.old) (source_told S.left S.faults S.ends script.old) (T.given clock.old))
         (outside (door_told X.left X.backs X.faults X.links X.waits X.closings door.new) (source_told S.left S.faults S.ends script.new) (T.given clock.new))
-        config.now ran.core.history ran.sessions.items ran.script_bytes ran.ends) }
+        config.now (C.view ran.core).history ran.sessions.items ran.script_bytes ran.ends) }
     // Where there was no memory, no actor ran.
     ensures door { OnErr result (door.new ≡ door.old) }
     ensures script { OnErr result (script.new ≡ script.old) }
     ensures time { OnErr result (clock.new ≡ clock.old) }
 {
-    let core = Core::open(alloc, config)?;
+    let core = C::open(alloc, config)?;
     let count = core.module_count();
     let (shared, chairs) = Shared::open(alloc, core, 4 + count as u32)?;
     let room = Vec::with_capacity(alloc, chairs.len())?;

@@ -1,11 +1,11 @@
 //! A chair that an actor takes and gives back, and how the actor ended.
 
 use actors::ActorEnd;
-use shared_tool::Chair;
+use tool_lock::{Kept, Pass};
 
 /// Where an actor sits. Its chair is out while the actor has it.
 #[derive(Drop)]
-pub struct Seat {
-    pub chair: Option<Chair>,
+pub struct Seat<V: Kept> {
+    pub chair: Option<Pass<V>>,
     pub end: ActorEnd,
 }

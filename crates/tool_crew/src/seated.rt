@@ -9,23 +9,24 @@ ghost use Rattle.tool_crew.specs.Seating.{IsOf, Stays, posts_in, HostWorked};
 
 use crate::seat::Seat;
 use crate::seats::{host_seated, module_seated, operate_seated, time_seated};
+use history_laws::Recorder;
 use host_actor::SessionBytes;
 use outside::{Clock, Door, Gate, Source};
-use shared_tool::Shared;
+use shared_tool::{Held, Shared};
 use std::alloc::Global;
 use std::sync::Wait;
 use std::thread::Threads;
 
 /// The host actor takes the chairs of two seats, and gives them back. How it ended stands in the reader's seat.
-pub fn host_in<R: Threads + Wait + Sync, X: Door, G: Gate + Sync>(
+pub fn host_in<C: Recorder + Send, R: Threads + Wait + Sync, X: Door, G: Gate + Sync>(
     rt: &R,
     alloc: Global,
-    shared: &Shared,
+    shared: &Shared<Held<C>>,
     door: &mut X,
     bytes: &mut Vec<SessionBytes>,
     gate: &G,
-    reader: &mut Seat,
-    writer: &mut Seat,
+    reader: &mut Seat<Held<C>>,
+    writer: &mut Seat<Held<C>>,
 )
     requires { IsOf shared.now reader.old.chair × IsOf shared.now writer.old.chair }
     ensures { HostWorked (link_told X.In.left X.In.faults X.In.ends X.Out.held X.Out.faults X.Out.refusals X.Out.is_shut) shared.now
@@ -45,13 +46,13 @@ pub fn host_in<R: Threads + Wait + Sync, X: Door, G: Gate + Sync>(
 }
 
 /// The operator takes the chair of its seat, and gives it back; beside that it gives how many bytes of the script were read.
-pub fn operate_in<W: Wait, S: Source, G: Gate>(
+pub fn operate_in<C: Recorder, W: Wait, S: Source, G: Gate>(
     rt: &W,
     alloc: Global,
-    shared: &Shared,
+    shared: &Shared<Held<C>>,
     script: &mut S,
     gate: &G,
-    seat: &mut Seat,
+    seat: &mut Seat<Held<C>>,
 ) -> u64
     requires { IsOf shared.now seat.old.chair }
     ensures same { Stays shared.now seat.old.chair seat.new.chair }
@@ -69,13 +70,13 @@ pub fn operate_in<W: Wait, S: Source, G: Gate>(
 }
 
 /// The clock takes the chair of its seat, and gives it back.
-pub fn time_in<W: Wait, T: Clock, G: Gate>(
+pub fn time_in<C: Recorder, W: Wait, T: Clock, G: Gate>(
     rt: &W,
     alloc: Global,
-    shared: &Shared,
+    shared: &Shared<Held<C>>,
     clock: &mut T,
     gate: &G,
-    seat: &mut Seat,
+    seat: &mut Seat<Held<C>>,
 )
     requires { IsOf shared.now seat.old.chair }
     ensures same { Stays shared.now seat.old.chair seat.new.chair }
@@ -90,13 +91,13 @@ pub fn time_in<W: Wait, T: Clock, G: Gate>(
 }
 
 /// The module of this number takes the chair of its seat, and gives it back.
-pub fn module_in<W: Wait, G: Gate>(
+pub fn module_in<C: Recorder, W: Wait, G: Gate>(
     rt: &W,
     alloc: Global,
-    shared: &Shared,
+    shared: &Shared<Held<C>>,
     number: u8,
     gate: &G,
-    seat: &mut Seat,
+    seat: &mut Seat<Held<C>>,
 )
     requires { IsOf shared.now seat.old.chair }
     ensures same { Stays shared.now seat.old.chair seat.new.chair }

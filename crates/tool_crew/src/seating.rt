@@ -6,10 +6,11 @@ ghost use Rattle.tool_crew.specs.Crews.{first_end, AreEnds};
 use crate::ends::Ends;
 use crate::seat::Seat;
 use actors::ActorEnd;
-use shared_tool::{Chair, Shared};
+use history_laws::Recorder;
+use shared_tool::{Chair, Held, Shared};
 use std::alloc::{AllocError, Global};
 
-fn seat_of(chair: Chair) -> Seat
+fn seat_of<C: Recorder>(chair: Chair<C>) -> Seat<Held<C>>
     ensures { result.chair ≡ Some chair }
 {
     Seat {
@@ -19,7 +20,10 @@ fn seat_of(chair: Chair) -> Seat
 }
 
 /// A seat for each chair, in order.
-pub fn seat_all(alloc: Global, chairs: Vec<Chair>) -> Result<Vec<Seat>, AllocError>
+pub fn seat_all<C: Recorder>(
+    alloc: Global,
+    chairs: Vec<Chair<C>>,
+) -> Result<Vec<Seat<Held<C>>>, AllocError>
     ensures { IfOk result (λ seats. map (λ s. s.chair) seats.items ≡ map Some chairs.items) }
 {
     let mut seats = Vec::with_capacity(alloc, chairs.len())?;
@@ -30,7 +34,11 @@ pub fn seat_all(alloc: Global, chairs: Vec<Chair>) -> Result<Vec<Seat>, AllocErr
 }
 
 /// The chairs of all seats, in order, put into a list that has room for them.
-pub fn unseat_all(shared: &Shared, seats: Vec<Seat>, room: Vec<Chair>) -> Vec<Chair>
+pub fn unseat_all<C: Recorder>(
+    shared: &Shared<Held<C>>,
+    seats: Vec<Seat<Held<C>>>,
+    room: Vec<Chair<C>>,
+) -> Vec<Chair<C>>
     requires empty { vec_len room ≡ 0 }
     requires room { vec_len seats ≤ vec_capacity room }
     requires all { AllOf shared.now seats.items }
@@ -46,7 +54,7 @@ pub fn unseat_all(shared: &Shared, seats: Vec<Seat>, room: Vec<Chair>) -> Vec<Ch
 }
 
 // The first end that isn't `Quit`.
-fn first_end(seats: &[Seat]) -> ActorEnd
+fn first_end<C: Recorder>(seats: &[Seat<Held<C>>]) -> ActorEnd
     ensures { result ≡ first_end (map (λ s. s.end) seats.now) }
 {
     match seats {
@@ -59,7 +67,7 @@ fn first_end(seats: &[Seat]) -> ActorEnd
 }
 
 /// How the actors in these seats ended.
-pub fn ends_of(seats: &[Seat]) -> Ends
+pub fn ends_of<C: Recorder>(seats: &[Seat<Held<C>>]) -> Ends
     requires { 4 ≤ length seats.now }
     ensures { AreEnds seats.now result }
 {

@@ -12,9 +12,10 @@ ghost use Rattle.tool_crew.specs.Doings.{Hosted, Operated, Worked};
 
 use actors::{ActorEnd, keep_time, operate, run_module};
 use gem_ids::ModuleId;
+use history_laws::Recorder;
 use host_actor::{SessionBytes, run_host};
 use outside::{Clock, Door, Gate, Source};
-use shared_tool::{Chair, Place, Shared, Sitting};
+use shared_tool::{Chair, Held, Place, Shared, Sitting};
 use sim_modules::SimModule;
 use std::alloc::Global;
 use std::marker::Brand;
@@ -22,16 +23,23 @@ use std::sync::Wait;
 use std::thread::Threads;
 
 // At the places that the caller picks.
-fn host_at<J: Place + Send, L: Place + Send, R: Threads + Wait + Sync, X: Door, G: Gate + Sync>(
+fn host_at<
+    J: Place + Send,
+    L: Place + Send,
+    C: Recorder + Send,
+    R: Threads + Wait + Sync,
+    X: Door,
+    G: Gate + Sync,
+>(
     rt: &R,
     alloc: Global,
-    shared: &Shared,
-    first: Chair,
-    second: Chair,
+    shared: &Shared<Held<C>>,
+    first: Chair<C>,
+    second: Chair<C>,
     door: &mut X,
     bytes: &mut Vec<SessionBytes>,
     gate: &G,
-) -> ((Chair, Chair), ActorEnd)
+) -> ((Chair<C>, Chair<C>), ActorEnd)
     requires first { (table_of shared.now ≡ J.table) × (config_of shared.now ≡ J.config) × IsChairAt J.table J.config first × (pass_number first ≡ J.number) }
     requires second { (table_of shared.now ≡ L.table) × (config_of shared.now ≡ L.config) × IsChairAt L.table L.config second × (pass_number second ≡ L.number) }
     ensures first { IsChairAt J.table J.config result.0.0 × (pass_number result.0.0 ≡ J.number) }
@@ -41,23 +49,23 @@ fn host_at<J: Place + Send, L: Place + Send, R: Threads + Wait + Sync, X: Door, 
         (posts_of (mine first)) (posts_of (mine result.0.0)) (posts_of (mine second)) (posts_of (mine result.0.1)) bytes.old.items bytes.new.items result.1 }
     ensures unfailed { result.1 ≢ end.Door → X.faults door.new ≡ X.faults door.old }
 {
-    let mut reader: Sitting<R, J> = Sitting::sit(rt, alloc, shared, first);
-    let mut writer: Sitting<R, L> = Sitting::sit(rt, alloc, shared, second);
+    let mut reader: Sitting<R, J, Held<C>> = Sitting::sit(rt, alloc, shared, first);
+    let mut writer: Sitting<R, L, Held<C>> = Sitting::sit(rt, alloc, shared, second);
     let end = run_host(rt, alloc, &mut reader, &mut writer, door, bytes, gate);
     ((reader.into_chair(), writer.into_chair()), end)
 }
 
 /// The host actor, at the chairs of reader and writer.
-pub fn host_seated<R: Threads + Wait + Sync, X: Door, G: Gate + Sync>(
+pub fn host_seated<C: Recorder + Send, R: Threads + Wait + Sync, X: Door, G: Gate + Sync>(
     rt: &R,
     alloc: Global,
-    shared: &Shared,
-    first: Chair,
-    second: Chair,
+    shared: &Shared<Held<C>>,
+    first: Chair<C>,
+    second: Chair<C>,
     door: &mut X,
     bytes: &mut Vec<SessionBytes>,
     gate: &G,
-) -> ((Chair, Chair), ActorEnd)
+) -> ((Chair<C>, Chair<C>), ActorEnd)
     requires { IsChairOf shared.now first × IsChairOf shared.now second }
     ensures first { IsChairOf shared.now result.0.0 × (pass_number result.0.0 ≡ pass_number first) }
     ensures second { IsChairOf shared.now result.0.1 × (pass_number result.0.1 ≡ pass_number second) }
@@ -66,18 +74,18 @@ pub fn host_seated<R: Threads + Wait + Sync, X: Door, G: Gate + Sync>(
         (posts_of (mine first)) (posts_of (mine result.0.0)) (posts_of (mine second)) (posts_of (mine result.0.1)) bytes.old.items bytes.new.items result.1 }
     ensures unfailed { result.1 ≢ end.Door → X.faults door.new ≡ X.faults door.old }
 {
-    host_at::<Brand, Brand, R, X, G>(rt, alloc, shared, first, second, door, bytes, gate)
+    host_at::<Brand, Brand, C, R, X, G>(rt, alloc, shared, first, second, door, bytes, gate)
 }
 
 // At the place that the caller picks.
-fn operate_at<J: Place, W: Wait, S: Source, G: Gate>(
+fn operate_at<J: Place, C: Recorder, W: Wait, S: Source, G: Gate>(
     rt: &W,
     alloc: Global,
-    shared: &Shared,
-    chair: Chair,
+    shared: &Shared<Held<C>>,
+    chair: Chair<C>,
     script: &mut S,
     gate: &G,
-) -> (Chair, (ActorEnd, u64))
+) -> (Chair<C>, (ActorEnd, u64))
     requires tool { (table_of shared.now ≡ J.table) × (config_of shared.now ≡ J.config) }
     requires chair { IsChairAt J.table J.config chair × (pass_number chair ≡ J.number) }
     ensures chair { IsChairAt J.table J.config result.0 × (pass_number result.0 ≡ J.number) }
@@ -85,96 +93,96 @@ fn operate_at<J: Place, W: Wait, S: Source, G: Gate>(
         (posts_of (mine chair)) (posts_of (mine result.0)) result.1.1 result.1.0 }
     ensures unfailed { result.1.0 ≢ end.ReadFault → S.faults script.new ≡ S.faults script.old }
 {
-    let mut desk: Sitting<W, J> = Sitting::sit(rt, alloc, shared, chair);
+    let mut desk: Sitting<W, J, Held<C>> = Sitting::sit(rt, alloc, shared, chair);
     let ended = operate(rt, alloc, &mut desk, script, gate);
     (desk.into_chair(), ended)
 }
 
 /// The operator at its chair. Its end comes with the count of the bytes of the script that were read.
-pub fn operate_seated<W: Wait, S: Source, G: Gate>(
+pub fn operate_seated<C: Recorder, W: Wait, S: Source, G: Gate>(
     rt: &W,
     alloc: Global,
-    shared: &Shared,
-    chair: Chair,
+    shared: &Shared<Held<C>>,
+    chair: Chair<C>,
     script: &mut S,
     gate: &G,
-) -> (Chair, (ActorEnd, u64))
+) -> (Chair<C>, (ActorEnd, u64))
     requires { IsChairOf shared.now chair }
     ensures chair { IsChairOf shared.now result.0 × (pass_number result.0 ≡ pass_number chair) }
     ensures did { Operated (source_told S.left S.faults S.ends script.old) (source_told S.left S.faults S.ends script.new)
         (posts_of (mine chair)) (posts_of (mine result.0)) result.1.1 result.1.0 }
     ensures unfailed { result.1.0 ≢ end.ReadFault → S.faults script.new ≡ S.faults script.old }
 {
-    operate_at::<Brand, W, S, G>(rt, alloc, shared, chair, script, gate)
+    operate_at::<Brand, C, W, S, G>(rt, alloc, shared, chair, script, gate)
 }
 
 // At the place that the caller picks.
-fn time_at<J: Place, W: Wait, T: Clock, G: Gate>(
+fn time_at<J: Place, C: Recorder, W: Wait, T: Clock, G: Gate>(
     rt: &W,
     alloc: Global,
-    shared: &Shared,
-    chair: Chair,
+    shared: &Shared<Held<C>>,
+    chair: Chair<C>,
     clock: &mut T,
     gate: &G,
-) -> (Chair, ActorEnd)
+) -> (Chair<C>, ActorEnd)
     requires tool { (table_of shared.now ≡ J.table) × (config_of shared.now ≡ J.config) }
     requires chair { IsChairAt J.table J.config chair × (pass_number chair ≡ J.number) }
     ensures chair { IsChairAt J.table J.config result.0 × (pass_number result.0 ≡ J.number) }
     ensures did { TimeDid (T.given clock.old) (T.given clock.new) (posts_of (mine chair)) (posts_of (mine result.0)) result.1 }
 {
-    let mut desk: Sitting<W, J> = Sitting::sit(rt, alloc, shared, chair);
+    let mut desk: Sitting<W, J, Held<C>> = Sitting::sit(rt, alloc, shared, chair);
     let end = keep_time(rt, &mut desk, clock, gate);
     (desk.into_chair(), end)
 }
 
 /// The clock at its chair.
-pub fn time_seated<W: Wait, T: Clock, G: Gate>(
+pub fn time_seated<C: Recorder, W: Wait, T: Clock, G: Gate>(
     rt: &W,
     alloc: Global,
-    shared: &Shared,
-    chair: Chair,
+    shared: &Shared<Held<C>>,
+    chair: Chair<C>,
     clock: &mut T,
     gate: &G,
-) -> (Chair, ActorEnd)
+) -> (Chair<C>, ActorEnd)
     requires { IsChairOf shared.now chair }
     ensures chair { IsChairOf shared.now result.0 × (pass_number result.0 ≡ pass_number chair) }
     ensures did { TimeDid (T.given clock.old) (T.given clock.new) (posts_of (mine chair)) (posts_of (mine result.0)) result.1 }
 {
-    time_at::<Brand, W, T, G>(rt, alloc, shared, chair, clock, gate)
+    time_at::<Brand, C, W, T, G>(rt, alloc, shared, chair, clock, gate)
 }
 
 // At the place that the caller picks.
-fn module_at<J: Place, W: Wait, G: Gate>(
+fn module_at<J: Place, C: Recorder, W: Wait, G: Gate>(
     rt: &W,
     alloc: Global,
-    shared: &Shared,
-    chair: Chair,
+    shared: &Shared<Held<C>>,
+    chair: Chair<C>,
     number: u8,
     gate: &G,
-) -> (Chair, ActorEnd)
+) -> (Chair<C>, ActorEnd)
     requires tool { (table_of shared.now ≡ J.table) × (config_of shared.now ≡ J.config) }
     requires chair { IsChairAt J.table J.config chair × (pass_number chair ≡ J.number) }
     ensures chair { IsChairAt J.table J.config result.0 × (pass_number result.0 ≡ J.number) }
     ensures did { Worked number (posts_of (mine chair)) (posts_of (mine result.0)) result.1 }
 {
-    let mut desk: Sitting<W, J> = Sitting::sit(rt, alloc, shared, chair);
+    let mut desk: Sitting<W, J, Held<C>> = Sitting::sit(rt, alloc, shared, chair);
     let mut module = SimModule::without_failures(alloc, ModuleId(number));
     let end = run_module(rt, &mut desk, &mut module, gate);
     (desk.into_chair(), end)
 }
 
 /// The module of this number at its chair. It answers each command by Done.
-pub fn module_seated<W: Wait, G: Gate>(
+pub fn module_seated<C: Recorder, W: Wait, G: Gate>(
     rt: &W,
     alloc: Global,
-    shared: &Shared,
-    chair: Chair,
+    shared: &Shared<Held<C>>,
+    chair: Chair<C>,
     number: u8,
     gate: &G,
-) -> (Chair, ActorEnd)
+) -> (Chair<C>, ActorEnd)
     requires { IsChairOf shared.now chair }
     ensures chair { IsChairOf shared.now result.0 × (pass_number result.0 ≡ pass_number chair) }
     ensures did { Worked number (posts_of (mine chair)) (posts_of (mine result.0)) result.1 }
 {
-    module_at::<Brand, W, G>(rt, alloc, shared, chair, number, gate)
+    module_at::<Brand, C, W, G>(rt, alloc, shared, chair, number, gate)
 }

@@ -9,3 +9,9 @@ returns-clause-hosted g c =
     let r : f.6.now ≡ c.reader-1.given.0 = search rules in
     let w : f.7.now ≡ c.writer-1.given.0 = search rules in
     rw (sym d, sym b, sym r, sym w) c.join_mut-count.ensures.0.met.1
+
+pub returns-clause-worked : goal.returns-clause-worked
+returns-clause-worked g c =
+    let h = c.join_mut-count.new.g in
+    let m : h.8.now ≡ c.modules-1.given.0 = search rules in
+    rw (sym m) c.join_mut-count.ensures.1.met.1.1.1.1.1.1

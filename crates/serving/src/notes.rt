@@ -2,15 +2,15 @@
 ghost use Rattle.std.specs.Prelude.{◌≡◌, IfOk};
 ghost use Rattle.serving.specs.Ending.{note_of, notes_of};
 
+use history_laws::Recorder;
 use host_actor::SessionBytes;
 use line_feeding::{Notes, SessionNote};
 use std::alloc::{AllocError, Global};
-use tool_core::Core;
 use tool_events::SessionCause;
 
 // The note of a session of this core.
-fn session_note(core: &Core, session: &SessionBytes) -> SessionNote
-    ensures { result ≡ note_of core.now.config core.now.history session.now }
+fn session_note<C: Recorder>(core: &C, session: &SessionBytes) -> SessionNote
+    ensures { result ≡ note_of (C.view core.now).config (C.view core.now).history session.now }
 {
     SessionNote {
         session: session.session,
@@ -23,12 +23,12 @@ fn session_note(core: &Core, session: &SessionBytes) -> SessionNote
 }
 
 /// A note for each of these sessions of this core, in order.
-pub fn session_notes(
+pub fn session_notes<C: Recorder>(
     alloc: Global,
-    core: &Core,
+    core: &C,
     sessions: &[SessionBytes],
 ) -> Result<Notes, AllocError>
-    ensures { IfOk result (λ notes. notes ≡ notes_of core.now.config core.now.history sessions.now) }
+    ensures { IfOk result (λ notes. notes ≡ notes_of (C.view core.now).config (C.view core.now).history sessions.now) }
 {
     let mut notes = Vec::new(alloc);
     for session in sessions {

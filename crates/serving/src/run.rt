@@ -16,12 +16,14 @@ use crate::cause::{cause_of, told_end};
 use crate::log::{log_text, write_log};
 use crate::notes::session_notes;
 use gem_ids::Text80;
+use history_laws::Recorder;
 use history_parts::Totals;
 use line_feeding::{Cause, Ended, Notes, check_serve_words, read_configuration};
 use outside::{Clock, Door, Gate, Sink, Source};
 use std::alloc::Global;
 use std::sync::Wait;
 use std::thread::Threads;
+use tool_core::Core;
 use tool_crew::{Ran, run_tool};
 use tool_events::Config;
 
@@ -48,9 +50,9 @@ fn close_unopened<K: Sink>(alloc: Global, log: &mut K) -> Ended
 }
 
 // The run is over: its sessions are noted, its log is written, and its cause is told.
-fn close_run<K: Sink>(alloc: Global, ran: Ran, log: &mut K) -> Ended
-    ensures history { result.history ≡ ran.core.history }
-    ensures closed { Closed ran.core.config ran.core.history ran.sessions.items ran.script_bytes ran.ends result.cause
+fn close_run<C: Recorder, K: Sink>(alloc: Global, ran: Ran<C>, log: &mut K) -> Ended
+    ensures history { result.history ≡ (C.view ran.core).history }
+    ensures closed { Closed (C.view ran.core).config (C.view ran.core).history ran.sessions.items ran.script_bytes ran.ends result.cause
         (seen K.held K.faults K.refusals log.old) (seen K.held K.faults K.refusals log.new) result.sessions }
     ensures status { result.status ≡ status_of result.cause }
     ensures no_panels { result.panels ≡ [] }
@@ -71,6 +73,42 @@ fn close_run<K: Sink>(alloc: Global, ran: Ran, log: &mut K) -> Ended
     let logged = write_log(log, text.as_slice());
     let cause = cause_of(told_end(&ends), logged, entries, core.bytes(), script_bytes);
     Ended::with_history(alloc, cause, core.close(), notes)
+}
+
+// Does what `serve_config` does, over any core.
+fn serve_over<
+    C: Recorder + Send,
+    R: Threads + Wait + Sync,
+    X: Door + Send,
+    S: Source + Send,
+    T: Clock + Send,
+    K: Sink,
+    G: Gate + Sync,
+>(
+    rt: &R,
+    alloc: Global,
+    config: &Config,
+    door: &mut X,
+    script: &mut S,
+    clock: &mut T,
+    log: &mut K,
+    gate: &G,
+) -> Ended
+    requires { IsConfig config.now }
+    ensures served { ServedUnder (link_told X.In.left X.In.faults X.In.ends X.Out.held X.Out.faults X.Out.refusals X.Out.is_shut) config.now result.cause
+        (outside (door_told X.left X.backs X.faults X.links X.waits X.closings door.old) (source_told S.left S.faults S.ends script.old) (T.given clock.old))
+        (outside (door_told X.left X.backs X.faults X.links X.waits X.closings door.new) (source_told S.left S.faults S.ends script.new) (T.given clock.new))
+        (seen K.held K.faults K.refusals log.old) (seen K.held K.faults K.refusals log.new) result.history result.sessions }
+    ensures status { result.status ≡ status_of result.cause }
+    ensures no_panels { result.panels ≡ [] }
+{
+    let Ok(()) = door.open(config.tcp_port) else {
+        return close_unopened(alloc, log);
+    };
+    match run_tool::<C, R, X, S, T, G>(rt, alloc, config, door, script, clock, gate) {
+        Ok(ran) => close_run(alloc, ran, log),
+        Err(_) => Ended::without_history(alloc, Cause::NoMemory),
+    }
 }
 
 /// Does what `serve` does once the configuration was read: listens at its port, runs all actors over the core until they have ended, and
@@ -104,13 +142,7 @@ pub fn serve_config<
     // Until they are built.
     ensures no_panels { result.panels ≡ [] }
 {
-    let Ok(()) = door.open(config.tcp_port) else {
-        return close_unopened(alloc, log);
-    };
-    match run_tool(rt, alloc, config, door, script, clock, gate) {
-        Ok(ran) => close_run(alloc, ran, log),
-        Err(_) => Ended::without_history(alloc, Cause::NoMemory),
-    }
+    serve_over::<Core, R, X, S, T, K, G>(rt, alloc, config, door, script, clock, log, gate)
 }
 
 /// Does the command `serve`: reads the configuration, listens at its port, runs the host actor, the operator, the clock and the modules

@@ -1,7 +1,7 @@
 use Rattle.std.proofs.Common.{refl, inl, inr, ◌∙◌}
 use Rattle.host_actor.specs.Links.{door_told}
 use Rattle.serving.proofs.Serving.{door_stays, door_same, ran_from}
-use Rattle.serving.proofs.run.serve_config.Goals as goal
+use Rattle.serving.proofs.run.serve_over.Goals as goal
 
 pub returns-in_default-clause-served : goal.returns-in_default-clause-served
 returns-in_default-clause-served g c =

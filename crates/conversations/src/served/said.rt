@@ -39,7 +39,7 @@ fn add_fault(faults: &mut String, line: &str, got: &str) -> Result<(), AllocErro
 
 // Whether a line is for the reader alone, or is the last one.
 fn is_silent(line: &str) -> bool {
-    line.is_empty() || line.starts_with('#') || line == BEGINS
+    line.is_empty() || line.starts_with('#') || line == BEGINS || line == "end"
 }
 
 // Says all lines of a text, and tells those that are answered otherwise. How many conversations it has.

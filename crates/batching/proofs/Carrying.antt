@@ -6,9 +6,8 @@ use Rattle.tool_events.specs.declared.config.Config.{Config}
 use Rattle.tool_events.specs.declared.event.Event.{Event}
 use Rattle.line_grammar.specs.declared.line.Line.{Line}
 use Rattle.batch_model.specs.Batch.{Standing, Made, nothing_made, then_made, lot_turn, lot_turns, carrier_made, carriers_made}
-use Rattle.batching.specs.declared.batch.Batch.{Batch}
 use Rattle.batching.specs.declared.batch.Stop.{Stop}
-use Rattle.batching.specs.Making.{standing, Makes}
+use Rattle.batching.specs.Making.{BatchView, standing, Makes}
 use Rattle.batching.proofs.Making.{Makes-nothing, Makes-then, Makes-stops}
 
 -- the lines that come before the modules work
@@ -32,39 +31,39 @@ pub lines-end : (i : ℕ) → 6 ≤ i → i ≤ 6 → lines_from i ≡ []
 lines-end i least most = let is : i ≡ 6 = omega (arith, least, most) in ap lines_from is
 
 -- one line, and then the others
-pub Makes-lines : (config : Config) (k : ℕ) (a b c : Batch) (lines : List ℕ) (i : ℕ) (is : List ℕ) (result : Result (Unit {0}) Stop) → lines ≡ i ∷ is → Makes {A = Unit {0}} a.core b (lot_turn config k i (standing a)) (Ok tt) → Makes b.core c (lot_turns config k is (standing b)) result → Makes a.core c (lot_turns config k lines (standing a)) result
+pub Makes-lines : (config : Config) (k : ℕ) (a b c : BatchView) (lines : List ℕ) (i : ℕ) (is : List ℕ) (result : Result (Unit {0}) Stop) → lines ≡ i ∷ is → Makes {A = Unit {0}} a.core b (lot_turn config k i (standing a)) (Ok tt) → Makes b.core c (lot_turns config k is (standing b)) result → Makes a.core c (lot_turns config k lines (standing a)) result
 Makes-lines config k a b c lines i is result same first rest =
     subst (λ (ns : List ℕ). Makes a.core c (lot_turns config k ns (standing a)) result) (sym same)
     (Makes-then a.core b c (lot_turn config k i (standing a)) (lot_turns config k is) tt result first rest)
 
-pub Makes-lines-stops : (config : Config) (k : ℕ) (a b : Batch) (lines : List ℕ) (i : ℕ) (is : List ℕ) (why : Stop) → lines ≡ i ∷ is → Makes {A = Unit {0}} a.core b (lot_turn config k i (standing a)) (Err why) → Makes {A = Unit {0}} a.core b (lot_turns config k lines (standing a)) (Err why)
+pub Makes-lines-stops : (config : Config) (k : ℕ) (a b : BatchView) (lines : List ℕ) (i : ℕ) (is : List ℕ) (why : Stop) → lines ≡ i ∷ is → Makes {A = Unit {0}} a.core b (lot_turn config k i (standing a)) (Err why) → Makes {A = Unit {0}} a.core b (lot_turns config k lines (standing a)) (Err why)
 Makes-lines-stops config k a b lines i is why same first =
     subst (λ (ns : List ℕ). Makes {A = Unit {0}} a.core b (lot_turns config k ns (standing a)) (Err why)) (sym same)
     (Makes-stops a.core b (lot_turn config k i (standing a)) (lot_turns config k is) why first)
 
-pub Makes-lines-none : (config : Config) (k : ℕ) (a : Batch) (lines : List ℕ) → lines ≡ [] → Makes {A = Unit {0}} a.core a (lot_turns config k lines (standing a)) (Ok tt)
+pub Makes-lines-none : (config : Config) (k : ℕ) (a : BatchView) (lines : List ℕ) → lines ≡ [] → Makes {A = Unit {0}} a.core a (lot_turns config k lines (standing a)) (Ok tt)
 Makes-lines-none config k a lines none =
     subst (λ (ns : List ℕ). Makes {A = Unit {0}} a.core a (lot_turns config k ns (standing a)) (Ok tt)) (sym none) (Makes-nothing a tt)
 
 -- ---- carriers
 
 -- one carrier, and then the others
-pub Makes-carrier : (config : Config) (a b c : Batch) (left next k : ℕ) (result : Result (Unit {0}) Stop) → left ≡ suc next → Makes {A = Unit {0}} a.core b (carrier_made config k (standing a)) (Ok tt) → Makes b.core c (carriers_made next config (k + 1) (standing b)) result → Makes a.core c (carriers_made left config k (standing a)) result
+pub Makes-carrier : (config : Config) (a b c : BatchView) (left next k : ℕ) (result : Result (Unit {0}) Stop) → left ≡ suc next → Makes {A = Unit {0}} a.core b (carrier_made config k (standing a)) (Ok tt) → Makes b.core c (carriers_made next config (k + 1) (standing b)) result → Makes a.core c (carriers_made left config k (standing a)) result
 Makes-carrier config a b c left next k result left_is first rest =
     subst (λ (n : ℕ). Makes a.core c (carriers_made n config k (standing a)) result) (sym left_is)
     (Makes-then a.core b c (carrier_made config k (standing a)) (carriers_made next config (k + 1)) tt result first rest)
 
-pub Makes-carrier-stops : (config : Config) (a b : Batch) (left next k : ℕ) (why : Stop) → left ≡ suc next → Makes {A = Unit {0}} a.core b (carrier_made config k (standing a)) (Err why) → Makes {A = Unit {0}} a.core b (carriers_made left config k (standing a)) (Err why)
+pub Makes-carrier-stops : (config : Config) (a b : BatchView) (left next k : ℕ) (why : Stop) → left ≡ suc next → Makes {A = Unit {0}} a.core b (carrier_made config k (standing a)) (Err why) → Makes {A = Unit {0}} a.core b (carriers_made left config k (standing a)) (Err why)
 Makes-carrier-stops config a b left next k why left_is first =
     subst (λ (n : ℕ). Makes {A = Unit {0}} a.core b (carriers_made n config k (standing a)) (Err why)) (sym left_is)
     (Makes-stops a.core b (carrier_made config k (standing a)) (carriers_made next config (k + 1)) why first)
 
-pub Makes-carriers-end : (config : Config) (a : Batch) (left k : ℕ) → left ≡ 0 → Makes {A = Unit {0}} a.core a (carriers_made left config k (standing a)) (Ok tt)
+pub Makes-carriers-end : (config : Config) (a : BatchView) (left k : ℕ) → left ≡ 0 → Makes {A = Unit {0}} a.core a (carriers_made left config k (standing a)) (Ok tt)
 Makes-carriers-end config a left k end =
     subst (λ (n : ℕ). Makes {A = Unit {0}} a.core a (carriers_made n config k (standing a)) (Ok tt)) (sym end) (Makes-nothing a tt)
 
 -- before the first carrier all are left
-pub Makes-carriers-all : (config : Config) (a b : Batch) (carriers : ℕ) (result : Result (Unit {0}) Stop) → Makes a.core b (carriers_made (carriers - 0) config (0 + 1) (standing a)) result → Makes a.core b (carriers_made carriers config 1 (standing a)) result
+pub Makes-carriers-all : (config : Config) (a b : BatchView) (carriers : ℕ) (result : Result (Unit {0}) Stop) → Makes a.core b (carriers_made (carriers - 0) config (0 + 1) (standing a)) result → Makes a.core b (carriers_made carriers config 1 (standing a)) result
 Makes-carriers-all config a b carriers result h =
     let all : carriers - 0 ≡ carriers = omega arith in
     subst (λ (n : ℕ). Makes a.core b (carriers_made n config 1 (standing a)) result) all h

@@ -19,10 +19,9 @@ use Rattle.batch_model.specs.declared.primary.Primary.{Primary}
 use Rattle.batch_model.specs.Batch.{Standing, Made, answers, begun, carriers_made, then_made, first_standing, batch_made, batch_entries}
 use Rattle.batch_model.specs.Summary.{summary}
 use Rattle.batch_model.specs.Told.{bytes_told}
-use Rattle.batching.specs.declared.batch.Batch.{Batch}
 use Rattle.batching.specs.declared.batch.Stop.{Stop}
 use Rattle.batching.specs.declared.batch.Stop.TheVariants as stop
-use Rattle.batching.specs.Making.{standing, Makes}
+use Rattle.batching.specs.Making.{BatchView, standing, Makes}
 use Rattle.batching.specs.Ending.{EndsAs}
 use Rattle.batching.specs.Batched.{BatchedUnder, MadeBy, Summed}
 
@@ -35,17 +34,17 @@ abbrev pub batch_from : Config → ℕ → Standing → Made
 batch_from c carriers s = then_made (begun c s) (λ t. then_made (carriers_made carriers c 1 t) (answers c))
 
 -- it made what a batch makes
-pub Makes-batch : (c : Config) (seed carriers : ℕ) (a b : Batch) (ran : Result (Unit {0}) Stop) → a.core ≡ opened c → a.asked.items ≡ [] → a.drawn ≡ seed → Makes a.core b (batch_from c carriers (standing a)) ran → Makes (opened c) b (batch_made c seed carriers) ran
+pub Makes-batch : (c : Config) (seed carriers : ℕ) (a b : BatchView) (ran : Result (Unit {0}) Stop) → a.core ≡ opened c → a.asked ≡ [] → a.drawn ≡ seed → Makes a.core b (batch_from c carriers (standing a)) ran → Makes (opened c) b (batch_made c seed carriers) ran
 Makes-batch c seed carriers a b ran core asked drawn h =
     let first : standing a ≡ first_standing c seed =
-    ap (λ (k : CoreView). record { state = k.state; asked = a.asked.items; drawn_last = a.drawn }) core
+    ap (λ (k : CoreView). record { state = k.state; asked = a.asked; drawn_last = a.drawn }) core
     ∙ ap (λ (ps : List Primary). record { state = opening c; asked = ps; drawn_last = a.drawn }) asked
     ∙ ap (λ (n : ℕ). record { state = opening c; asked = []; drawn_last = n }) drawn in
     subst (λ (s : Standing). Makes (opened c) b (batch_from c carriers s) ran) first
     (subst (λ (k : CoreView). Makes k b (batch_from c carriers (standing a)) ran) core h)
 
 -- however it ran, its history is a front of what a batch makes
-pub front_of : (c : Config) (seed carriers : ℕ) (b : Batch) (ran : Result (Unit {0}) Stop) → Makes (opened c) b (batch_made c seed carriers) ran → MadeBy c seed carriers cause.NoMemory b.core.history
+pub front_of : (c : Config) (seed carriers : ℕ) (b : BatchView) (ran : Result (Unit {0}) Stop) → Makes (opened c) b (batch_made c seed carriers) ran → MadeBy c seed carriers cause.NoMemory b.core.history
 front_of c seed carriers b (Ok done) h = IsFront-same b.core.history (batch_entries c seed carriers) (sym h.on.0)
 front_of c seed carriers b (Err stop.Full) h = record { behind = h.on.next ∷ h.on.behind; joined = h.on.joined }
 front_of c seed carriers b (Err stop.NoMemory) h = h.on
@@ -77,7 +76,7 @@ no_door (Err stop.Full) history ends = ends
 no_door (Err stop.NoMemory) history ends = ends
 
 -- the history of a batch, by why it ended
-pub MadeBy-end : (c : Config) (seed carriers : ℕ) (b : Batch) (ran : Result (Unit {0}) Stop) (why : Cause) → Makes (opened c) b (batch_made c seed carriers) ran → EndsAs ran why b.core.history → MadeBy c seed carriers why b.core.history
+pub MadeBy-end : (c : Config) (seed carriers : ℕ) (b : BatchView) (ran : Result (Unit {0}) Stop) (why : Cause) → Makes (opened c) b (batch_made c seed carriers) ran → EndsAs ran why b.core.history → MadeBy c seed carriers why b.core.history
 MadeBy-end c seed carriers b (Ok done) cause.Done h ends = h.on.0
 MadeBy-end c seed carriers b (Ok done) cause.WriteFault h ends = h.on.0
 MadeBy-end c seed carriers b ran cause.NoMemory h ends = front_of c seed carriers b ran h
@@ -111,7 +110,7 @@ pub Summed-nothing : (c : Config) (carriers : ℕ) (held : Option (List ℕ)) (h
 Summed-nothing c carriers held history = ([], (summary c carriers history, refl), Written-nothing held)
 
 -- what a batch did of which all is told
-pub batched : (c : Config) (seed carriers : ℕ) (b : Batch) (ran : Result (Unit {0}) Stop) (why : Cause) (held held' : Option (List ℕ)) (notes : List SessionNote) → Makes (opened c) b (batch_made c seed carriers) ran → EndsAs ran why b.core.history
+pub batched : (c : Config) (seed carriers : ℕ) (b : BatchView) (ran : Result (Unit {0}) Stop) (why : Cause) (held held' : Option (List ℕ)) (notes : List SessionNote) → Makes (opened c) b (batch_made c seed carriers) ran → EndsAs ran why b.core.history
     → Summed b.core.config carriers why held held' b.core.history → Recorded b.core.config b.core.history b.core.state → length b.core.history ≤ b.core.config.max_entries → bytes_of b.core.history ≤ b.core.config.max_bytes
     → AreNotes b.core.config b.core.history (bytes_told b.core.history) notes → BatchedUnder c seed carriers why held held' b.core.history notes
 batched c seed carriers b ran why held held' notes made ends summed recorded entries bytes are = record {
@@ -124,7 +123,7 @@ batched c seed carriers b ran why held held' notes made ends summed recorded ent
 }
 
 -- the same where there was no memory for the notes
-pub batched-unnoted : (c : Config) (seed carriers : ℕ) (b : Batch) (ran : Result (Unit {0}) Stop) (why : Cause) (held held' : Option (List ℕ)) → Makes (opened c) b (batch_made c seed carriers) ran
+pub batched-unnoted : (c : Config) (seed carriers : ℕ) (b : BatchView) (ran : Result (Unit {0}) Stop) (why : Cause) (held held' : Option (List ℕ)) → Makes (opened c) b (batch_made c seed carriers) ran
     → Summed b.core.config carriers why held held' b.core.history → Recorded b.core.config b.core.history b.core.state → length b.core.history ≤ b.core.config.max_entries → bytes_of b.core.history ≤ b.core.config.max_bytes
     → BatchedUnder c seed carriers cause.NoMemory held held' b.core.history []
 batched-unnoted c seed carriers b ran why held held' made summed recorded entries bytes = record {

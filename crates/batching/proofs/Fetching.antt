@@ -13,9 +13,8 @@ use Rattle.history_parts.specs.CoreView.{CoreView}
 use Rattle.batch_model.specs.declared.fetched.Fetched.{Fetched}
 use Rattle.batch_model.specs.Modules.{fetched_as, fetched_from}
 use Rattle.batch_model.specs.Batch.{Standing, Made, nothing_made}
-use Rattle.batching.specs.declared.batch.Batch.{Batch}
 use Rattle.batching.specs.declared.batch.Stop.{Stop}
-use Rattle.batching.specs.Making.{standing, Makes}
+use Rattle.batching.specs.Making.{BatchView, standing, Makes}
 use Rattle.batching.specs.Parts.{given_by, posted, fetched}
 use Rattle.batching.proofs.Making.{Makes-nothing, Makes-then, Makes-stops}
 
@@ -38,7 +37,7 @@ numbers_end first (m ∷ ms) zero past = absurd (omega (arith, past))
 numbers_end first (m ∷ ms) (suc i) past = numbers_end (first + 1) ms i (omega (arith, past))
 
 -- a module that has no command to fetch
-pub Makes-idle : (a : Batch) (m : ModuleId) → step a.core.state 0 (Fetch m) ≡ None → Makes {A = Unit {0}} a.core a (given_by (fetched_one m.0 a.core.state) (standing a)) (Ok tt)
+pub Makes-idle : (a : BatchView) (m : ModuleId) → step a.core.state 0 (Fetch m) ≡ None → Makes {A = Unit {0}} a.core a (given_by (fetched_one m.0 a.core.state) (standing a)) (Ok tt)
 Makes-idle a m none =
     let g : State = a.core.state in
     let nothing_is : given_by (fetched_one m.0 g) (standing a) ≡ nothing_made (standing a) = ap (λ (o : Option Outcome). given_by (if is_some o then entered g 0 (Fetch m) else nothing g) (standing a)) none in
@@ -49,7 +48,7 @@ some_is None some = absurd (some refl)
 some_is (Some o) some = refl
 
 -- one that has
-pub Makes-fetched : (a b : Batch) (m : ModuleId) (result : Result (Unit {0}) Stop) → step a.core.state 0 (Fetch m) ≢ None → Makes a.core b (posted (Fetch m) (standing a)) result → Makes a.core b (given_by (fetched_one m.0 a.core.state) (standing a)) result
+pub Makes-fetched : (a b : BatchView) (m : ModuleId) (result : Result (Unit {0}) Stop) → step a.core.state 0 (Fetch m) ≢ None → Makes a.core b (posted (Fetch m) (standing a)) result → Makes a.core b (given_by (fetched_one m.0 a.core.state) (standing a)) result
 Makes-fetched a b m result some h =
     let g : State = a.core.state in
     let is : given_by (fetched_one m.0 g) (standing a) ≡ posted (Fetch m) (standing a) = ap (λ (b : Bool). given_by (if b then entered g 0 (Fetch m) else nothing g) (standing a)) (some_is (step g 0 (Fetch m)) some) in
@@ -60,22 +59,22 @@ abbrev pub fetching : List ℕ → Standing → Made
 fetching numbers s = given_by (fetched_by numbers s.state) s
 
 -- one of them fetches, and then the others
-pub Makes-fetch : (a b c : Batch) (numbers : List ℕ) (m : ℕ) (ms : List ℕ) (result : Result (Unit {0}) Stop) → numbers ≡ m ∷ ms → Makes {A = Unit {0}} a.core b (given_by (fetched_one m a.core.state) (standing a)) (Ok tt) → Makes b.core c (fetching ms (standing b)) result → Makes a.core c (fetching numbers (standing a)) result
+pub Makes-fetch : (a b c : BatchView) (numbers : List ℕ) (m : ℕ) (ms : List ℕ) (result : Result (Unit {0}) Stop) → numbers ≡ m ∷ ms → Makes {A = Unit {0}} a.core b (given_by (fetched_one m a.core.state) (standing a)) (Ok tt) → Makes b.core c (fetching ms (standing b)) result → Makes a.core c (fetching numbers (standing a)) result
 Makes-fetch a b c numbers m ms result is first rest =
     subst (λ (ns : List ℕ). Makes a.core c (fetching ns (standing a)) result) (sym is)
     (Makes-then a.core b c (given_by (fetched_one m a.core.state) (standing a)) (fetching ms) tt result first rest)
 
-pub Makes-fetch-stops : (a b : Batch) (numbers : List ℕ) (m : ℕ) (ms : List ℕ) (why : Stop) → numbers ≡ m ∷ ms → Makes {A = Unit {0}} a.core b (given_by (fetched_one m a.core.state) (standing a)) (Err why) → Makes {A = Unit {0}} a.core b (fetching numbers (standing a)) (Err why)
+pub Makes-fetch-stops : (a b : BatchView) (numbers : List ℕ) (m : ℕ) (ms : List ℕ) (why : Stop) → numbers ≡ m ∷ ms → Makes {A = Unit {0}} a.core b (given_by (fetched_one m a.core.state) (standing a)) (Err why) → Makes {A = Unit {0}} a.core b (fetching numbers (standing a)) (Err why)
 Makes-fetch-stops a b numbers m ms why is first =
     subst (λ (ns : List ℕ). Makes {A = Unit {0}} a.core b (fetching ns (standing a)) (Err why)) (sym is)
     (Makes-stops a.core b (given_by (fetched_one m a.core.state) (standing a)) (fetching ms) why first)
 
-pub Makes-fetch-none : (a : Batch) (numbers : List ℕ) → numbers ≡ [] → Makes {A = Unit {0}} a.core a (fetching numbers (standing a)) (Ok tt)
+pub Makes-fetch-none : (a : BatchView) (numbers : List ℕ) → numbers ≡ [] → Makes {A = Unit {0}} a.core a (fetching numbers (standing a)) (Ok tt)
 Makes-fetch-none a numbers none =
     subst (λ (ns : List ℕ). Makes {A = Unit {0}} a.core a (fetching ns (standing a)) (Ok tt)) (sym none) (Makes-nothing a tt)
 
 -- once the operator ended the run no module fetches
-pub Makes-quit : (a : Batch) → a.core.state.quitting ≡ true → Makes {A = Unit {0}} a.core a (fetched (standing a)) (Ok tt)
+pub Makes-quit : (a : BatchView) → a.core.state.quitting ≡ true → Makes {A = Unit {0}} a.core a (fetched (standing a)) (Ok tt)
 Makes-quit a quits =
     let g : State = a.core.state in
     let none : fetched (standing a) ≡ nothing_made (standing a) = ap (λ b. given_by (if b then nothing g else fetched_by (module_numbers 1 g.floor.modules) g) (standing a)) quits in

@@ -20,10 +20,9 @@ use Rattle.line_feeding.proofs.Going.{IsFront-same}
 use Rattle.batch_model.specs.declared.primary.Primary.{Primary}
 use Rattle.batch_model.specs.Host.{primary_in}
 use Rattle.batch_model.specs.Batch.{Standing, Made, nothing_made, then_made, primaries_in, frames_waiting}
-use Rattle.batching.specs.declared.batch.Batch.{Batch}
 use Rattle.batching.specs.declared.batch.Stop.{Stop}
 use Rattle.batching.specs.declared.batch.Stop.TheVariants as stop
-use Rattle.batching.specs.Making.{standing, Makes}
+use Rattle.batching.specs.Making.{BatchView, standing, Makes}
 use Rattle.batching.specs.Parts.{primaries_told, taken_one, taken}
 use Rattle.batching.proofs.Making.{Makes-then, Makes-stops, Makes-nothing}
 
@@ -119,35 +118,35 @@ none_wait g (frame ∷ frames) session valid is up none = absurd (let here : ste
 
 -- ---- what a batch makes of them
 
-pub Makes-take : {A : Type 0} (a b c : Batch) (session : ℕ) (x : A) (result : Result (Unit {0}) Stop) → Valid a.core.state → is_session_up a.core.state session ≡ true → step a.core.state 0 (Take session) ≢ None
+pub Makes-take : {A : Type 0} (a b c : BatchView) (session : ℕ) (x : A) (result : Result (Unit {0}) Stop) → Valid a.core.state → is_session_up a.core.state session ≡ true → step a.core.state 0 (Take session) ≢ None
     → Makes a.core b (taken_one session (standing a)) (Ok x) → Makes b.core c (taken (standing b)) result → Makes a.core c (taken (standing a)) result
 Makes-take a b c session x result valid up some first second =
     subst (λ (made : Made). Makes a.core c made result)
     (sym (taken-next (standing a) session (up_is a.core.state session up).0 (take_one a.core.state session valid up some) (hands_out a.core.state a.core.state.waiting session valid refl up some)))
     (Makes-then a.core b c (taken_one session (standing a)) taken x result first second)
 
-pub Makes-take-stops : {A : Type 0} (a b : Batch) (session : ℕ) (why : Stop) → Valid a.core.state → is_session_up a.core.state session ≡ true → step a.core.state 0 (Take session) ≢ None
+pub Makes-take-stops : {A : Type 0} (a b : BatchView) (session : ℕ) (why : Stop) → Valid a.core.state → is_session_up a.core.state session ≡ true → step a.core.state 0 (Take session) ≢ None
     → Makes {A = A} a.core b (taken_one session (standing a)) (Err why) → Makes {A = Unit {0}} a.core b (taken (standing a)) (Err why)
 Makes-take-stops a b session why valid up some first =
     subst (λ (made : Made). Makes {A = Unit {0}} a.core b made (Err why))
     (sym (taken-next (standing a) session (up_is a.core.state session up).0 (take_one a.core.state session valid up some) (hands_out a.core.state a.core.state.waiting session valid refl up some)))
     (Makes-stops a.core b (taken_one session (standing a)) taken why first)
 
-pub Makes-take-none : (a : Batch) (session : ℕ) → Valid a.core.state → is_session_up a.core.state session ≡ true → step a.core.state 0 (Take session) ≡ None → Makes {A = Unit {0}} a.core a (taken (standing a)) (Ok tt)
+pub Makes-take-none : (a : BatchView) (session : ℕ) → Valid a.core.state → is_session_up a.core.state session ≡ true → step a.core.state 0 (Take session) ≡ None → Makes {A = Unit {0}} a.core a (taken (standing a)) (Ok tt)
 Makes-take-none a session valid up none =
     let waits : frames_waiting a.core.state ≡ [] = waiting_up a.core.state (up_is a.core.state session up).0 ∙ none_wait a.core.state a.core.state.waiting session valid refl up none in
     subst (λ (made : Made). Makes {A = Unit {0}} a.core a made (Ok tt)) (sym (taken-none (standing a) (take_none a.core.state session valid up none) waits)) (Makes-nothing a tt)
 
-pub Makes-take-down : (a : Batch) → is_up a.core.state ≡ false → Makes {A = Unit {0}} a.core a (taken (standing a)) (Ok tt)
+pub Makes-take-down : (a : BatchView) → is_up a.core.state ≡ false → Makes {A = Unit {0}} a.core a (taken (standing a)) (Ok tt)
 Makes-take-down a down =
     subst (λ (made : Made). Makes {A = Unit {0}} a.core a made (Ok tt)) (sym (taken-none (standing a) (take_down a.core.state down) (waiting_down a.core.state down))) (Makes-nothing a tt)
 
 -- the message of the frame is kept
-pub Makes-kept : (a : CoreView) (b c : Batch) (s : Standing) (session : ℕ) (o : Outcome) (ps : List Primary) → c.core ≡ b.core → c.drawn ≡ b.drawn → c.asked.items ≡ b.asked.items ++ ps → step s.state 0 (Take session) ≡ Some o → primaries_told (Some o) ≡ ps
+pub Makes-kept : (a : CoreView) (b c : BatchView) (s : Standing) (session : ℕ) (o : Outcome) (ps : List Primary) → c.core ≡ b.core → c.drawn ≡ b.drawn → c.asked ≡ b.asked ++ ps → step s.state 0 (Take session) ≡ Some o → primaries_told (Some o) ≡ ps
     → b.core.config ≡ a.config → b.core.history ≡ a.history ++ entry_of 0 (Take session) ∷ [] → standing b ≡ record s { state = after s.state 0 (Take session) }
     → Makes {A = Unit {0}} a c (taken_one session s) (Ok tt)
 Makes-kept a b c s session o ps core drawn asked here told config history stands =
-    let all : c.asked.items ≡ s.asked ++ primaries_told (step s.state 0 (Take session)) =
+    let all : c.asked ≡ s.asked ++ primaries_told (step s.state 0 (Take session)) =
     asked ∙ ap (λ (qs : List Primary). qs ++ ps) (ap (λ (t : Standing). t.asked) stands)
     ∙ ap (λ (qs : List Primary). s.asked ++ qs) (sym told ∙ ap primaries_told (sym here)) in
     let state : c.core.state ≡ after s.state 0 (Take session) = ap (λ (k : CoreView). k.state) core ∙ ap (λ (t : Standing). t.state) stands in
@@ -164,7 +163,7 @@ Makes-kept a b c s session o ps core drawn asked here told config history stands
         ∙ ap (λ (n : ℕ). record { state = t.state; asked = t.asked; drawn_last = n }) last
 
 -- there is no memory to keep it
-pub Makes-unkept : (a : CoreView) (b c : Batch) (s : Standing) (session : ℕ) → c.core ≡ b.core → b.core.config ≡ a.config → b.core.history ≡ a.history ++ entry_of 0 (Take session) ∷ [] → Makes {A = Unit {0}} a c (taken_one session s) (Err stop.NoMemory)
+pub Makes-unkept : (a : CoreView) (b c : BatchView) (s : Standing) (session : ℕ) → c.core ≡ b.core → b.core.config ≡ a.config → b.core.history ≡ a.history ++ entry_of 0 (Take session) ∷ [] → Makes {A = Unit {0}} a c (taken_one session s) (Err stop.NoMemory)
 Makes-unkept a b c s session core config history = record {
   config = ap (λ (k : CoreView). k.config) core ∙ config;
   on = IsFront-same c.core.history _ (sym (ap (λ (k : CoreView). k.history) core ∙ history));

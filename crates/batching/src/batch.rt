@@ -1,12 +1,12 @@
 use batch_model::Primary;
-use feeding::Core;
+use history_laws::Recorder;
 use std::collections::VecDeque;
 
 /// The core, the messages of the tool that were taken and are not answered yet, the oldest first, and the number that was drawn
 /// last, which is the seed at first.
 #[derive(Drop)]
-pub struct Batch {
-    pub core: Core,
+pub struct Batch<C: Recorder> {
+    pub core: C,
     pub asked: VecDeque<Primary>,
     pub drawn: u64,
 }

@@ -7,10 +7,11 @@ ghost use Rattle.hsms_frame.specs.Cut.{arrivals_of};
 ghost use Rattle.line_grammar.specs.Reading.{feed_line_of};
 ghost use Rattle.sim_modules.specs.Lot.{lot_line};
 ghost use Rattle.batch_model.specs.Batch.{inputs_of, lot_turn, lot_turns, carrier_made, carriers_made, dones_by, most_dones, then_made};
-ghost use Rattle.batching.specs.Making.{standing, Makes};
+ghost use Rattle.batching.specs.Making.{batch_seen, standing, Makes};
 
 use crate::batch::{Batch, Stop};
 use crate::turns::{SESSION, only, turn, work};
+use history_laws::Recorder;
 use hsms_frame::{Arrival, Cutter};
 use line_feeding::cut_bytes;
 use sim_modules::lot_line;
@@ -82,14 +83,20 @@ fn lot_inputs(alloc: Global, config: &Config, k: u32, i: u32) -> Result<Vec<Even
 // ---- carriers
 
 // A line of carrier `k`, behind the answers.
-fn lot_turn(alloc: Global, batch: &mut Batch, config: &Config, k: u32, i: u32) -> Result<(), Stop>
+fn lot_turn<C: Recorder>(
+    alloc: Global,
+    batch: &mut Batch<C>,
+    config: &Config,
+    k: u32,
+    i: u32,
+) -> Result<(), Stop>
     requires config { IsConfig config.now }
     requires first { 1 ≤ k }
     requires last { k ≤ 10000 }
     requires line { 1 ≤ i }
-    requires whole { batch.old.core.is_whole ≡ true }
-    ensures made { Makes batch.old.core batch.new (lot_turn config.now k i (standing batch.old)) result }
-    ensures whole { OnOk result (batch.new.core.is_whole ≡ true) }
+    requires whole { (C.view batch.old.core).is_whole ≡ true }
+    ensures made { Makes (C.view batch.old.core) (batch_seen C.view batch.new) (lot_turn config.now k i (standing (batch_seen C.view batch.old))) result }
+    ensures whole { OnOk result ((C.view batch.new.core).is_whole ≡ true) }
 {
     let Ok(events) = lot_inputs(alloc, config, k, i) else {
         return Err(Stop::NoMemory);
@@ -98,13 +105,18 @@ fn lot_turn(alloc: Global, batch: &mut Batch, config: &Config, k: u32, i: u32) -
 }
 
 // The first lines of carrier `k`, one after another.
-fn bring(alloc: Global, batch: &mut Batch, config: &Config, k: u32) -> Result<(), Stop>
+fn bring<C: Recorder>(
+    alloc: Global,
+    batch: &mut Batch<C>,
+    config: &Config,
+    k: u32,
+) -> Result<(), Stop>
     requires config { IsConfig config.now }
     requires first { 1 ≤ k }
     requires last { k ≤ 10000 }
-    requires whole { batch.old.core.is_whole ≡ true }
-    ensures made { Makes batch.old.core batch.new (lot_turns config.now k (1 ∷ 2 ∷ 3 ∷ 4 ∷ 5 ∷ []) (standing batch.old)) result }
-    ensures whole { OnOk result (batch.new.core.is_whole ≡ true) }
+    requires whole { (C.view batch.old.core).is_whole ≡ true }
+    ensures made { Makes (C.view batch.old.core) (batch_seen C.view batch.new) (lot_turns config.now k (1 ∷ 2 ∷ 3 ∷ 4 ∷ 5 ∷ []) (standing (batch_seen C.view batch.old))) result }
+    ensures whole { OnOk result ((C.view batch.new.core).is_whole ≡ true) }
 {
     for i in 1..LAST_LINE {
         match lot_turn(alloc, batch, config, k, i) {
@@ -116,13 +128,18 @@ fn bring(alloc: Global, batch: &mut Batch, config: &Config, k: u32) -> Result<()
 }
 
 // The modules work on carrier `k`, and then it is taken away.
-fn work_and_remove(alloc: Global, batch: &mut Batch, config: &Config, k: u32) -> Result<(), Stop>
+fn work_and_remove<C: Recorder>(
+    alloc: Global,
+    batch: &mut Batch<C>,
+    config: &Config,
+    k: u32,
+) -> Result<(), Stop>
     requires config { IsConfig config.now }
     requires first { 1 ≤ k }
     requires last { k ≤ 10000 }
-    requires whole { batch.old.core.is_whole ≡ true }
-    ensures made { Makes batch.old.core batch.new (then_made (dones_by most_dones config.now (standing batch.old)) (lot_turn config.now k 6)) result }
-    ensures whole { OnOk result (batch.new.core.is_whole ≡ true) }
+    requires whole { (C.view batch.old.core).is_whole ≡ true }
+    ensures made { Makes (C.view batch.old.core) (batch_seen C.view batch.new) (then_made (dones_by most_dones config.now (standing (batch_seen C.view batch.old))) (lot_turn config.now k 6)) result }
+    ensures whole { OnOk result ((C.view batch.new.core).is_whole ≡ true) }
 {
     match work(alloc, batch, config) {
         Ok(()) => lot_turn(alloc, batch, config, k, LAST_LINE),
@@ -131,13 +148,18 @@ fn work_and_remove(alloc: Global, batch: &mut Batch, config: &Config, k: u32) ->
 }
 
 // Carrier `k`: its first five lines, then its modules work, and then its sixth line.
-fn carry(alloc: Global, batch: &mut Batch, config: &Config, k: u32) -> Result<(), Stop>
+fn carry<C: Recorder>(
+    alloc: Global,
+    batch: &mut Batch<C>,
+    config: &Config,
+    k: u32,
+) -> Result<(), Stop>
     requires config { IsConfig config.now }
     requires first { 1 ≤ k }
     requires last { k ≤ 10000 }
-    requires whole { batch.old.core.is_whole ≡ true }
-    ensures made { Makes batch.old.core batch.new (carrier_made config.now k (standing batch.old)) result }
-    ensures whole { OnOk result (batch.new.core.is_whole ≡ true) }
+    requires whole { (C.view batch.old.core).is_whole ≡ true }
+    ensures made { Makes (C.view batch.old.core) (batch_seen C.view batch.new) (carrier_made config.now k (standing (batch_seen C.view batch.old))) result }
+    ensures whole { OnOk result ((C.view batch.new.core).is_whole ≡ true) }
 {
     match bring(alloc, batch, config, k) {
         Ok(()) => work_and_remove(alloc, batch, config, k),
@@ -146,17 +168,17 @@ fn carry(alloc: Global, batch: &mut Batch, config: &Config, k: u32) -> Result<()
 }
 
 /// So many carriers, 10,000 at most, from the first on.
-pub fn carry_all(
+pub fn carry_all<C: Recorder>(
     alloc: Global,
-    batch: &mut Batch,
+    batch: &mut Batch<C>,
     config: &Config,
     carriers: u32,
 ) -> Result<(), Stop>
     requires config { IsConfig config.now }
     requires few { carriers ≤ 10000 }
-    requires whole { batch.old.core.is_whole ≡ true }
-    ensures made { Makes batch.old.core batch.new (carriers_made carriers config.now 1 (standing batch.old)) result }
-    ensures whole { OnOk result (batch.new.core.is_whole ≡ true) }
+    requires whole { (C.view batch.old.core).is_whole ≡ true }
+    ensures made { Makes (C.view batch.old.core) (batch_seen C.view batch.new) (carriers_made carriers config.now 1 (standing (batch_seen C.view batch.old))) result }
+    ensures whole { OnOk result ((C.view batch.new.core).is_whole ≡ true) }
 {
     for before in 0..carriers {
         match carry(alloc, batch, config, before + 1) {

@@ -7,7 +7,8 @@ ghost use Rattle.line_feeding.specs.Notes.{AreNotes};
 ghost use Rattle.batch_model.specs.Told.{arrival_bytes, bytes_told};
 ghost use Rattle.batching.specs.Counted.{numbered_bytes_in, numbered_bytes};
 
-use feeding::{Core, session_notes};
+use feeding::session_notes;
+use history_laws::Recorder;
 use history_parts::SessionCounts;
 use hsms_frame::Arrival;
 use line_feeding::Notes;
@@ -51,8 +52,8 @@ fn counts_of(alloc: Global, history: &[Entry]) -> Result<SessionCounts, AllocErr
 }
 
 /// A note for each session of this core, with the bytes of the messages that the history has of it.
-pub fn notes_of(alloc: Global, core: &Core) -> Result<Notes, AllocError>
-    ensures { IfOk result (λ notes. AreNotes core.now.config core.now.history (bytes_told core.now.history) notes) }
+pub fn notes_of<C: Recorder>(alloc: Global, core: &C) -> Result<Notes, AllocError>
+    ensures { IfOk result (λ notes. AreNotes (C.view core.now).config (C.view core.now).history (bytes_told (C.view core.now).history) notes) }
 {
     let counts = counts_of(alloc, core.history())?;
     session_notes(alloc, core, &counts)

@@ -5,12 +5,13 @@ ghost use Rattle.gem_model.specs.State.{is_session_up};
 ghost use Rattle.gem_model.specs.Step.{Outcome, step};
 ghost use Rattle.gem_model.specs.Feed.{fetched_one, fetched_by};
 ghost use Rattle.batch_model.specs.Batch.{then_made, entered, all_entered};
-ghost use Rattle.batching.specs.Making.{standing, Makes};
+ghost use Rattle.batching.specs.Making.{batch_seen, standing, Makes};
 ghost use Rattle.batching.specs.Parts.{given_by, posted, primaries_of, taken_one, taken, fetched};
 
 use crate::batch::{Batch, Stop};
 use crate::host::primary_in;
 use gem_ids::{ModuleId, Moment};
+use history_laws::Recorder;
 use std::alloc::{AllocError, Global};
 use tool_events::{Answer, Event, PostFault};
 
@@ -18,11 +19,11 @@ use tool_events::{Answer, Event, PostFault};
 const AT_ONCE: Moment = Moment(0);
 
 /// Posts an event, and hands out its answer.
-fn apply(alloc: Global, batch: &mut Batch, event: Event) -> Result<Answer, Stop>
-    requires whole { batch.old.core.is_whole ≡ true }
-    ensures made { Makes batch.old.core batch.new (posted event (standing batch.old)) result }
-    ensures answer { IfOk result (λ answer. (o : Outcome) × (step batch.old.core.state 0 event ≡ Some o) × (o.answer ≡ answer)) }
-    ensures whole { OnOk result (batch.new.core.is_whole ≡ true) }
+fn apply<C: Recorder>(alloc: Global, batch: &mut Batch<C>, event: Event) -> Result<Answer, Stop>
+    requires whole { (C.view batch.old.core).is_whole ≡ true }
+    ensures made { Makes (C.view batch.old.core) (batch_seen C.view batch.new) (posted event (standing (batch_seen C.view batch.old))) result }
+    ensures answer { IfOk result (λ answer. (o : Outcome) × (step (C.view batch.old.core).state 0 event ≡ Some o) × (o.answer ≡ answer)) }
+    ensures whole { OnOk result ((C.view batch.new.core).is_whole ≡ true) }
 {
     match batch.core.apply(alloc, 0, AT_ONCE, event) {
         Ok(answer) => Ok(answer),
@@ -33,10 +34,10 @@ fn apply(alloc: Global, batch: &mut Batch, event: Event) -> Result<Answer, Stop>
 }
 
 /// Posts an event, whatever it is answered.
-fn post(alloc: Global, batch: &mut Batch, event: Event) -> Result<(), Stop>
-    requires whole { batch.old.core.is_whole ≡ true }
-    ensures made { Makes batch.old.core batch.new (posted event (standing batch.old)) result }
-    ensures whole { OnOk result (batch.new.core.is_whole ≡ true) }
+fn post<C: Recorder>(alloc: Global, batch: &mut Batch<C>, event: Event) -> Result<(), Stop>
+    requires whole { (C.view batch.old.core).is_whole ≡ true }
+    ensures made { Makes (C.view batch.old.core) (batch_seen C.view batch.new) (posted event (standing (batch_seen C.view batch.old))) result }
+    ensures whole { OnOk result ((C.view batch.new.core).is_whole ≡ true) }
 {
     match apply(alloc, batch, event) {
         Ok(_) => Ok(()),
@@ -45,7 +46,7 @@ fn post(alloc: Global, batch: &mut Batch, event: Event) -> Result<(), Stop>
 }
 
 /// Keeps the message of a frame that was taken, where it is one that is answered.
-fn keep_asked(batch: &mut Batch, answer: Answer) -> Result<(), AllocError>
+fn keep_asked<C: Recorder>(batch: &mut Batch<C>, answer: Answer) -> Result<(), AllocError>
     ensures asked { OnOk result (batch.new.asked.items ≡ batch.old.asked.items ++ primaries_of answer) }
     ensures core { batch.new.core ≡ batch.old.core }
     ensures drawn { batch.new.drawn ≡ batch.old.drawn }
@@ -63,10 +64,10 @@ fn keep_asked(batch: &mut Batch, answer: Answer) -> Result<(), AllocError>
 }
 
 /// The writer of this session takes the oldest frame that waits.
-fn take_one(alloc: Global, batch: &mut Batch, session: u64) -> Result<(), Stop>
-    requires whole { batch.old.core.is_whole ≡ true }
-    ensures made { Makes batch.old.core batch.new (taken_one session (standing batch.old)) result }
-    ensures whole { OnOk result (batch.new.core.is_whole ≡ true) }
+fn take_one<C: Recorder>(alloc: Global, batch: &mut Batch<C>, session: u64) -> Result<(), Stop>
+    requires whole { (C.view batch.old.core).is_whole ≡ true }
+    ensures made { Makes (C.view batch.old.core) (batch_seen C.view batch.new) (taken_one session (standing (batch_seen C.view batch.old))) result }
+    ensures whole { OnOk result ((C.view batch.new.core).is_whole ≡ true) }
 {
     let answer = match apply(alloc, batch, Event::Take { session }) {
         Ok(answer) => answer,
@@ -79,11 +80,11 @@ fn take_one(alloc: Global, batch: &mut Batch, session: u64) -> Result<(), Stop>
 }
 
 /// The writer of this session takes each frame that waits.
-fn take_frames(alloc: Global, batch: &mut Batch, session: u64) -> Result<(), Stop>
-    requires up { is_session_up batch.old.core.state session ≡ true }
-    requires whole { batch.old.core.is_whole ≡ true }
-    ensures made { Makes batch.old.core batch.new (taken (standing batch.old)) result }
-    ensures whole { OnOk result (batch.new.core.is_whole ≡ true) }
+fn take_frames<C: Recorder>(alloc: Global, batch: &mut Batch<C>, session: u64) -> Result<(), Stop>
+    requires up { is_session_up (C.view batch.old.core).state session ≡ true }
+    requires whole { (C.view batch.old.core).is_whole ≡ true }
+    ensures made { Makes (C.view batch.old.core) (batch_seen C.view batch.new) (taken (standing (batch_seen C.view batch.old))) result }
+    ensures whole { OnOk result ((C.view batch.new.core).is_whole ≡ true) }
 {
     while !batch.core.idle(AT_ONCE, &Event::Take { session }) {
         match take_one(alloc, batch, session) {
@@ -95,10 +96,10 @@ fn take_frames(alloc: Global, batch: &mut Batch, session: u64) -> Result<(), Sto
 }
 
 /// The writer takes each frame that waits.
-fn take_waiting(alloc: Global, batch: &mut Batch) -> Result<(), Stop>
-    requires whole { batch.old.core.is_whole ≡ true }
-    ensures made { Makes batch.old.core batch.new (taken (standing batch.old)) result }
-    ensures whole { OnOk result (batch.new.core.is_whole ≡ true) }
+fn take_waiting<C: Recorder>(alloc: Global, batch: &mut Batch<C>) -> Result<(), Stop>
+    requires whole { (C.view batch.old.core).is_whole ≡ true }
+    ensures made { Makes (C.view batch.old.core) (batch_seen C.view batch.new) (taken (standing (batch_seen C.view batch.old))) result }
+    ensures whole { OnOk result ((C.view batch.new.core).is_whole ≡ true) }
 {
     match batch.core.session_up() {
         Some(session) => take_frames(alloc, batch, session),
@@ -107,10 +108,10 @@ fn take_waiting(alloc: Global, batch: &mut Batch) -> Result<(), Stop>
 }
 
 /// A module fetches, where it has a command that was not fetched.
-fn fetch_one(alloc: Global, batch: &mut Batch, m: ModuleId) -> Result<(), Stop>
-    requires whole { batch.old.core.is_whole ≡ true }
-    ensures made { Makes batch.old.core batch.new (given_by (fetched_one m.0 batch.old.core.state) (standing batch.old)) result }
-    ensures whole { OnOk result (batch.new.core.is_whole ≡ true) }
+fn fetch_one<C: Recorder>(alloc: Global, batch: &mut Batch<C>, m: ModuleId) -> Result<(), Stop>
+    requires whole { (C.view batch.old.core).is_whole ≡ true }
+    ensures made { Makes (C.view batch.old.core) (batch_seen C.view batch.new) (given_by (fetched_one m.0 (C.view batch.old.core).state) (standing (batch_seen C.view batch.old))) result }
+    ensures whole { OnOk result ((C.view batch.new.core).is_whole ≡ true) }
 {
     if batch.core.idle(AT_ONCE, &Event::Fetch(m)) {
         return Ok(());
@@ -119,11 +120,11 @@ fn fetch_one(alloc: Global, batch: &mut Batch, m: ModuleId) -> Result<(), Stop>
 }
 
 /// Each module fetches, in the order of their numbers.
-fn fetch_each(alloc: Global, batch: &mut Batch) -> Result<(), Stop>
-    requires whole { batch.old.core.is_whole ≡ true }
-    ensures made { Makes batch.old.core batch.new
-        (given_by (fetched_by (module_numbers 1 batch.old.core.state.floor.modules) batch.old.core.state) (standing batch.old)) result }
-    ensures whole { OnOk result (batch.new.core.is_whole ≡ true) }
+fn fetch_each<C: Recorder>(alloc: Global, batch: &mut Batch<C>) -> Result<(), Stop>
+    requires whole { (C.view batch.old.core).is_whole ≡ true }
+    ensures made { Makes (C.view batch.old.core) (batch_seen C.view batch.new)
+        (given_by (fetched_by (module_numbers 1 (C.view batch.old.core).state.floor.modules) (C.view batch.old.core).state) (standing (batch_seen C.view batch.old))) result }
+    ensures whole { OnOk result ((C.view batch.new.core).is_whole ≡ true) }
 {
     let count = batch.core.module_count();
     for index in 0..count {
@@ -136,10 +137,10 @@ fn fetch_each(alloc: Global, batch: &mut Batch) -> Result<(), Stop>
 }
 
 /// All modules fetch.
-fn fetch_all(alloc: Global, batch: &mut Batch) -> Result<(), Stop>
-    requires whole { batch.old.core.is_whole ≡ true }
-    ensures made { Makes batch.old.core batch.new (fetched (standing batch.old)) result }
-    ensures whole { OnOk result (batch.new.core.is_whole ≡ true) }
+fn fetch_all<C: Recorder>(alloc: Global, batch: &mut Batch<C>) -> Result<(), Stop>
+    requires whole { (C.view batch.old.core).is_whole ≡ true }
+    ensures made { Makes (C.view batch.old.core) (batch_seen C.view batch.new) (fetched (standing (batch_seen C.view batch.old))) result }
+    ensures whole { OnOk result ((C.view batch.new.core).is_whole ≡ true) }
 {
     if batch.core.is_quitting() {
         return Ok(());
@@ -148,10 +149,10 @@ fn fetch_all(alloc: Global, batch: &mut Batch) -> Result<(), Stop>
 }
 
 /// Posts an event, and then the writer takes each frame that waits.
-fn post_and_take(alloc: Global, batch: &mut Batch, event: Event) -> Result<(), Stop>
-    requires whole { batch.old.core.is_whole ≡ true }
-    ensures made { Makes batch.old.core batch.new (then_made (posted event (standing batch.old)) taken) result }
-    ensures whole { OnOk result (batch.new.core.is_whole ≡ true) }
+fn post_and_take<C: Recorder>(alloc: Global, batch: &mut Batch<C>, event: Event) -> Result<(), Stop>
+    requires whole { (C.view batch.old.core).is_whole ≡ true }
+    ensures made { Makes (C.view batch.old.core) (batch_seen C.view batch.new) (then_made (posted event (standing (batch_seen C.view batch.old))) taken) result }
+    ensures whole { OnOk result ((C.view batch.new.core).is_whole ≡ true) }
 {
     match post(alloc, batch, event) {
         Ok(()) => take_waiting(alloc, batch),
@@ -160,10 +161,10 @@ fn post_and_take(alloc: Global, batch: &mut Batch, event: Event) -> Result<(), S
 }
 
 /// Posts an event; then the writer takes each frame that waits, and the modules fetch their commands.
-pub fn enter(alloc: Global, batch: &mut Batch, event: Event) -> Result<(), Stop>
-    requires whole { batch.old.core.is_whole ≡ true }
-    ensures made { Makes batch.old.core batch.new (entered event (standing batch.old)) result }
-    ensures whole { OnOk result (batch.new.core.is_whole ≡ true) }
+pub fn enter<C: Recorder>(alloc: Global, batch: &mut Batch<C>, event: Event) -> Result<(), Stop>
+    requires whole { (C.view batch.old.core).is_whole ≡ true }
+    ensures made { Makes (C.view batch.old.core) (batch_seen C.view batch.new) (entered event (standing (batch_seen C.view batch.old))) result }
+    ensures whole { OnOk result ((C.view batch.new.core).is_whole ≡ true) }
 {
     match post_and_take(alloc, batch, event) {
         Ok(()) => fetch_all(alloc, batch),
@@ -172,10 +173,14 @@ pub fn enter(alloc: Global, batch: &mut Batch, event: Event) -> Result<(), Stop>
 }
 
 /// Enters events, one after another.
-pub fn enter_all(alloc: Global, batch: &mut Batch, events: Vec<Event>) -> Result<(), Stop>
-    requires whole { batch.old.core.is_whole ≡ true }
-    ensures made { Makes batch.old.core batch.new (all_entered events.items (standing batch.old)) result }
-    ensures whole { OnOk result (batch.new.core.is_whole ≡ true) }
+pub fn enter_all<C: Recorder>(
+    alloc: Global,
+    batch: &mut Batch<C>,
+    events: Vec<Event>,
+) -> Result<(), Stop>
+    requires whole { (C.view batch.old.core).is_whole ≡ true }
+    ensures made { Makes (C.view batch.old.core) (batch_seen C.view batch.new) (all_entered events.items (standing (batch_seen C.view batch.old))) result }
+    ensures whole { OnOk result ((C.view batch.new.core).is_whole ≡ true) }
 {
     for event in events {
         match enter(alloc, batch, event) {

@@ -3,7 +3,7 @@
 //! commands of the modules in an order that is drawn from a seed.
 //!
 //! It does no input of its own, and its output goes to a sink that is handed in. What a batch makes is defined in `batch_model`.
-//! The one call is `batch_config`, whose contract is the promise of the whole.
+//! The one call is `batch_over`, whose contract is the promise of the whole.
 #![tactic(auto)]
 
 mod batch;
@@ -16,4 +16,4 @@ mod run;
 mod summary;
 mod turns;
 
-pub use run::batch_config;
+pub use run::batch_over;

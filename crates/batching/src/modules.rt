@@ -6,8 +6,8 @@ ghost use Rattle.batch_model.specs.Batch.{busy};
 
 use crate::batch::Batch;
 use batch_model::Fetched;
-use feeding::Core;
 use gem_ids::ModuleId;
+use history_laws::Recorder;
 use sim_modules::draw;
 use std::alloc::{AllocError, Global};
 
@@ -15,9 +15,9 @@ use std::alloc::{AllocError, Global};
 const LOW_BITS: u64 = 8_589_934_592;
 
 // The modules that have an open command that was fetched, in the order of their numbers.
-fn busy(alloc: Global, core: &Core) -> Result<Vec<Fetched>, AllocError>
-    requires whole { core.now.is_whole ≡ true }
-    ensures { IfOk result (λ found. found.items ≡ busy core.now.state) }
+fn busy<C: Recorder>(alloc: Global, core: &C) -> Result<Vec<Fetched>, AllocError>
+    requires whole { (C.view core.now).is_whole ≡ true }
+    ensures { IfOk result (λ found. found.items ≡ busy (C.view core.now).state) }
 {
     let mut found = Vec::new(alloc);
     let count = core.module_count();
@@ -43,9 +43,12 @@ fn choose(drawn: u64, found: &[Fetched]) -> Option<Fetched>
 
 /// The module that is done next: the one that the next number chooses of those that have a command that was fetched. `None`: no
 /// module has one.
-pub fn next_done(alloc: Global, batch: &Batch) -> Result<Option<Fetched>, AllocError>
-    requires whole { batch.now.core.is_whole ≡ true }
-    ensures { IfOk result (λ next. next ≡ chosen (drawn batch.now.drawn) (busy batch.now.core.state)) }
+pub fn next_done<C: Recorder>(
+    alloc: Global,
+    batch: &Batch<C>,
+) -> Result<Option<Fetched>, AllocError>
+    requires whole { (C.view batch.now.core).is_whole ≡ true }
+    ensures { IfOk result (λ next. next ≡ chosen (drawn batch.now.drawn) (busy (C.view batch.now.core).state)) }
 {
     let found = busy(alloc, &batch.core)?;
     Ok(choose(draw(batch.drawn), &found))

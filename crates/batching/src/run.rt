@@ -6,14 +6,14 @@ ghost use Rattle.line_feeding.specs.declared.ended.Cause.TheVariants as cause;
 ghost use Rattle.line_feeding.specs.Status.{status_of};
 ghost use Rattle.batch_model.specs.Batch.{answers, begun, carriers_made, then_made};
 ghost use Rattle.batching.specs.Batched.{BatchedUnder};
-ghost use Rattle.batching.specs.Making.{standing, Makes};
+ghost use Rattle.batching.specs.Making.{batch_seen, standing, Makes};
 
 use crate::batch::{Batch, Stop};
 use crate::carriers::carry_all;
 use crate::counts::notes_of;
 use crate::summary::finish;
 use crate::turns::{answer_all, begin};
-use feeding::Core;
+use history_laws::Recorder;
 use line_feeding::{Cause, Ended, Notes};
 use outside::Sink;
 use std::alloc::Global;
@@ -21,18 +21,18 @@ use std::collections::VecDeque;
 use tool_events::Config;
 
 // The carriers come, and last what the tool asked is answered.
-fn carry_and_answer(
+fn carry_and_answer<C: Recorder>(
     alloc: Global,
-    batch: &mut Batch,
+    batch: &mut Batch<C>,
     config: &Config,
     carriers: u32,
 ) -> Result<(), Stop>
     requires config { IsConfig config.now }
     requires few { carriers ≤ 10000 }
-    requires whole { batch.old.core.is_whole ≡ true }
-    ensures made { Makes batch.old.core batch.new
-        (then_made (carriers_made carriers config.now 1 (standing batch.old)) (answers config.now)) result }
-    ensures whole { OnOk result (batch.new.core.is_whole ≡ true) }
+    requires whole { (C.view batch.old.core).is_whole ≡ true }
+    ensures made { Makes (C.view batch.old.core) (batch_seen C.view batch.new)
+        (then_made (carriers_made carriers config.now 1 (standing (batch_seen C.view batch.old))) (answers config.now)) result }
+    ensures whole { OnOk result ((C.view batch.new.core).is_whole ≡ true) }
 {
     match carry_all(alloc, batch, config, carriers) {
         Ok(()) => answer_all(alloc, batch, config),
@@ -41,13 +41,18 @@ fn carry_and_answer(
 }
 
 // The link comes up, and then the carriers come.
-fn run(alloc: Global, batch: &mut Batch, config: &Config, carriers: u32) -> Result<(), Stop>
+fn run<C: Recorder>(
+    alloc: Global,
+    batch: &mut Batch<C>,
+    config: &Config,
+    carriers: u32,
+) -> Result<(), Stop>
     requires config { IsConfig config.now }
     requires few { carriers ≤ 10000 }
-    requires whole { batch.old.core.is_whole ≡ true }
-    ensures made { Makes batch.old.core batch.new
-        (then_made (begun config.now (standing batch.old)) (λ s. then_made (carriers_made carriers config.now 1 s) (answers config.now))) result }
-    ensures whole { OnOk result (batch.new.core.is_whole ≡ true) }
+    requires whole { (C.view batch.old.core).is_whole ≡ true }
+    ensures made { Makes (C.view batch.old.core) (batch_seen C.view batch.new)
+        (then_made (begun config.now (standing (batch_seen C.view batch.old))) (λ s. then_made (carriers_made carriers config.now 1 s) (answers config.now))) result }
+    ensures whole { OnOk result ((C.view batch.new.core).is_whole ≡ true) }
 {
     match begin(alloc, batch, config) {
         Ok(()) => carry_and_answer(alloc, batch, config, carriers),
@@ -55,13 +60,13 @@ fn run(alloc: Global, batch: &mut Batch, config: &Config, carriers: u32) -> Resu
     }
 }
 
-/// Does a batch of so many carriers, from this seed, and writes its summary.
+/// Does a batch of so many carriers, from this seed, over any `Recorder`, and writes its summary.
 ///
 /// The configuration keeps its bounds (this tool's profile, docs/profile/configuration.md). There are 10,000 carriers at most. The
 /// returned value has the history and a note of each session, and says by its status and cause why the batch ended: `Done` where
 /// all was done and the summary is written, `Full` at the limits of the history, `WriteFault` where the summary could not be
 /// written, and `NoMemory`.
-pub fn batch_config<K: Sink>(
+pub fn batch_over<C: Recorder, K: Sink>(
     alloc: Global,
     config: &Config,
     seed: u64,
@@ -84,7 +89,7 @@ pub fn batch_config<K: Sink>(
     // Until they are built.
     ensures no_panels { result.panels ≡ [] }
 {
-    let Ok(core) = Core::open(alloc, config) else {
+    let Ok(core) = C::open(alloc, config) else {
         return Ended::without_history(alloc, Cause::NoMemory);
     };
     let mut batch = Batch {

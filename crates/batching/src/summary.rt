@@ -7,7 +7,7 @@ ghost use Rattle.batching.specs.Batched.{Summed};
 ghost use Rattle.batching.specs.Ending.{EndsAs};
 
 use crate::batch::Stop;
-use feeding::Core;
+use history_laws::Recorder;
 use history_parts::Totals;
 use line_feeding::Cause;
 use outside::{Sink, write_all};
@@ -34,9 +34,9 @@ fn summary_text(alloc: Global, carriers: u32, totals: &Totals) -> Result<Vec<u8>
 }
 
 // Writes the summary of a batch that was done.
-fn write_summary<K: Sink>(alloc: Global, core: &Core, carriers: u32, out: &mut K) -> Cause
-    ensures ends { EndsAs (Ok tt) result core.now.history }
-    ensures summed { Summed core.now.config carriers result (K.held out.old) (K.held out.new) core.now.history }
+fn write_summary<C: Recorder, K: Sink>(alloc: Global, core: &C, carriers: u32, out: &mut K) -> Cause
+    ensures ends { EndsAs (Ok tt) result (C.view core.now).history }
+    ensures summed { Summed (C.view core.now).config carriers result (K.held out.old) (K.held out.new) (C.view core.now).history }
     ensures write_fault { result ≡ cause.WriteFault → Failed (K.faults out.old) (K.faults out.new) (K.refusals out.old) (K.refusals out.new) }
     ensures no_write_failed { result ≢ cause.WriteFault → (K.faults out.new ≡ K.faults out.old) × (K.refusals out.new ≡ K.refusals out.old) }
 {
@@ -50,15 +50,15 @@ fn write_summary<K: Sink>(alloc: Global, core: &Core, carriers: u32, out: &mut K
 }
 
 /// Ends a batch of this core, which ran so: where all was done, its summary is written. Says why the batch ended.
-pub fn finish<K: Sink>(
+pub fn finish<C: Recorder, K: Sink>(
     alloc: Global,
-    core: &Core,
+    core: &C,
     ran: Result<(), Stop>,
     carriers: u32,
     out: &mut K,
 ) -> Cause
-    ensures ends { EndsAs ran result core.now.history }
-    ensures summed { Summed core.now.config carriers result (K.held out.old) (K.held out.new) core.now.history }
+    ensures ends { EndsAs ran result (C.view core.now).history }
+    ensures summed { Summed (C.view core.now).config carriers result (K.held out.old) (K.held out.new) (C.view core.now).history }
     ensures write_fault { result ≡ cause.WriteFault → Failed (K.faults out.old) (K.faults out.new) (K.refusals out.old) (K.refusals out.new) }
     ensures no_write_failed { result ≢ cause.WriteFault → (K.faults out.new ≡ K.faults out.old) × (K.refusals out.new ≡ K.refusals out.old) }
 {

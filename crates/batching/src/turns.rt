@@ -5,13 +5,14 @@ ghost use Rattle.tool_events.specs.declared.event.Signal.TheVariants as signal;
 ghost use Rattle.sim_modules.specs.Drawing.{drawn};
 ghost use Rattle.batch_model.specs.Host.{answer_to, select_request, enable_request};
 ghost use Rattle.batch_model.specs.Batch.{entered, told, answers, turn, begun, dones_by, most_dones, then_made};
-ghost use Rattle.batching.specs.Making.{standing, Makes};
+ghost use Rattle.batching.specs.Making.{batch_seen, standing, Makes};
 
 use crate::batch::{Batch, Stop};
 use crate::engine::{enter, enter_all};
 use crate::host::{answer_to, enable_request, select_request};
 use crate::modules::next_done;
 use batch_model::{Fetched, Primary};
+use history_laws::Recorder;
 use hsms_frame::{Arrival, Frame};
 use sim_modules::draw;
 use std::alloc::{AllocError, Global};
@@ -39,10 +40,15 @@ fn told(frame: Frame) -> Event
 }
 
 // Answers a message of the tool.
-fn answer(alloc: Global, batch: &mut Batch, config: &Config, primary: Primary) -> Result<(), Stop>
-    requires whole { batch.old.core.is_whole ≡ true }
-    ensures made { Makes batch.old.core batch.new (entered (told (answer_to config.now.device primary)) (standing batch.old)) result }
-    ensures whole { OnOk result (batch.new.core.is_whole ≡ true) }
+fn answer<C: Recorder>(
+    alloc: Global,
+    batch: &mut Batch<C>,
+    config: &Config,
+    primary: Primary,
+) -> Result<(), Stop>
+    requires whole { (C.view batch.old.core).is_whole ≡ true }
+    ensures made { Makes (C.view batch.old.core) (batch_seen C.view batch.new) (entered (told (answer_to config.now.device primary)) (standing (batch_seen C.view batch.old))) result }
+    ensures whole { OnOk result ((C.view batch.new.core).is_whole ≡ true) }
 {
     let Ok(frame) = answer_to(alloc, config.device, primary) else {
         return Err(Stop::NoMemory);
@@ -51,10 +57,14 @@ fn answer(alloc: Global, batch: &mut Batch, config: &Config, primary: Primary) -
 }
 
 /// Answers each message that was taken, the oldest first, until none is left.
-pub fn answer_all(alloc: Global, batch: &mut Batch, config: &Config) -> Result<(), Stop>
-    requires whole { batch.old.core.is_whole ≡ true }
-    ensures made { Makes batch.old.core batch.new (answers config.now (standing batch.old)) result }
-    ensures whole { OnOk result (batch.new.core.is_whole ≡ true) }
+pub fn answer_all<C: Recorder>(
+    alloc: Global,
+    batch: &mut Batch<C>,
+    config: &Config,
+) -> Result<(), Stop>
+    requires whole { (C.view batch.old.core).is_whole ≡ true }
+    ensures made { Makes (C.view batch.old.core) (batch_seen C.view batch.new) (answers config.now (standing (batch_seen C.view batch.old))) result }
+    ensures whole { OnOk result ((C.view batch.new.core).is_whole ≡ true) }
 {
     let mut left = MOST_ANSWERS;
     'answers: while left > 0 {
@@ -80,15 +90,15 @@ pub fn only(alloc: Global, event: Event) -> Result<Vec<Event>, AllocError>
 }
 
 /// Answers what the tool asked, and then enters these inputs.
-pub fn turn(
+pub fn turn<C: Recorder>(
     alloc: Global,
-    batch: &mut Batch,
+    batch: &mut Batch<C>,
     config: &Config,
     events: Vec<Event>,
 ) -> Result<(), Stop>
-    requires whole { batch.old.core.is_whole ≡ true }
-    ensures made { Makes batch.old.core batch.new (turn config.now events.items (standing batch.old)) result }
-    ensures whole { OnOk result (batch.new.core.is_whole ≡ true) }
+    requires whole { (C.view batch.old.core).is_whole ≡ true }
+    ensures made { Makes (C.view batch.old.core) (batch_seen C.view batch.new) (turn config.now events.items (standing (batch_seen C.view batch.old))) result }
+    ensures whole { OnOk result ((C.view batch.new.core).is_whole ≡ true) }
 {
     match answer_all(alloc, batch, config) {
         Ok(()) => enter_all(alloc, batch, events),
@@ -97,10 +107,15 @@ pub fn turn(
 }
 
 // The same for one input.
-fn turn_one(alloc: Global, batch: &mut Batch, config: &Config, event: Event) -> Result<(), Stop>
-    requires whole { batch.old.core.is_whole ≡ true }
-    ensures made { Makes batch.old.core batch.new (turn config.now (event ∷ []) (standing batch.old)) result }
-    ensures whole { OnOk result (batch.new.core.is_whole ≡ true) }
+fn turn_one<C: Recorder>(
+    alloc: Global,
+    batch: &mut Batch<C>,
+    config: &Config,
+    event: Event,
+) -> Result<(), Stop>
+    requires whole { (C.view batch.old.core).is_whole ≡ true }
+    ensures made { Makes (C.view batch.old.core) (batch_seen C.view batch.new) (turn config.now (event ∷ []) (standing (batch_seen C.view batch.old))) result }
+    ensures whole { OnOk result ((C.view batch.new.core).is_whole ≡ true) }
 {
     let Ok(events) = only(alloc, event) else {
         return Err(Stop::NoMemory);
@@ -111,19 +126,19 @@ fn turn_one(alloc: Global, batch: &mut Batch, config: &Config, event: Event) -> 
 // ---- the beginning
 
 // The session is selected.
-fn select(alloc: Global, batch: &mut Batch, config: &Config) -> Result<(), Stop>
-    requires whole { batch.old.core.is_whole ≡ true }
-    ensures made { Makes batch.old.core batch.new (turn config.now (told select_request ∷ []) (standing batch.old)) result }
-    ensures whole { OnOk result (batch.new.core.is_whole ≡ true) }
+fn select<C: Recorder>(alloc: Global, batch: &mut Batch<C>, config: &Config) -> Result<(), Stop>
+    requires whole { (C.view batch.old.core).is_whole ≡ true }
+    ensures made { Makes (C.view batch.old.core) (batch_seen C.view batch.new) (turn config.now (told select_request ∷ []) (standing (batch_seen C.view batch.old))) result }
+    ensures whole { OnOk result ((C.view batch.new.core).is_whole ≡ true) }
 {
     turn_one(alloc, batch, config, told(select_request(alloc)))
 }
 
 // All events are enabled.
-fn enable(alloc: Global, batch: &mut Batch, config: &Config) -> Result<(), Stop>
-    requires whole { batch.old.core.is_whole ≡ true }
-    ensures made { Makes batch.old.core batch.new (turn config.now (told (enable_request config.now.device) ∷ []) (standing batch.old)) result }
-    ensures whole { OnOk result (batch.new.core.is_whole ≡ true) }
+fn enable<C: Recorder>(alloc: Global, batch: &mut Batch<C>, config: &Config) -> Result<(), Stop>
+    requires whole { (C.view batch.old.core).is_whole ≡ true }
+    ensures made { Makes (C.view batch.old.core) (batch_seen C.view batch.new) (turn config.now (told (enable_request config.now.device) ∷ []) (standing (batch_seen C.view batch.old))) result }
+    ensures whole { OnOk result ((C.view batch.new.core).is_whole ≡ true) }
 {
     let Ok(frame) = enable_request(alloc, config.device) else {
         return Err(Stop::NoMemory);
@@ -132,11 +147,15 @@ fn enable(alloc: Global, batch: &mut Batch, config: &Config) -> Result<(), Stop>
 }
 
 // The session is selected, and all events are enabled.
-fn select_and_enable(alloc: Global, batch: &mut Batch, config: &Config) -> Result<(), Stop>
-    requires whole { batch.old.core.is_whole ≡ true }
-    ensures made { Makes batch.old.core batch.new
-        (then_made (turn config.now (told select_request ∷ []) (standing batch.old)) (turn config.now (told (enable_request config.now.device) ∷ []))) result }
-    ensures whole { OnOk result (batch.new.core.is_whole ≡ true) }
+fn select_and_enable<C: Recorder>(
+    alloc: Global,
+    batch: &mut Batch<C>,
+    config: &Config,
+) -> Result<(), Stop>
+    requires whole { (C.view batch.old.core).is_whole ≡ true }
+    ensures made { Makes (C.view batch.old.core) (batch_seen C.view batch.new)
+        (then_made (turn config.now (told select_request ∷ []) (standing (batch_seen C.view batch.old))) (turn config.now (told (enable_request config.now.device) ∷ []))) result }
+    ensures whole { OnOk result ((C.view batch.new.core).is_whole ≡ true) }
 {
     match select(alloc, batch, config) {
         Ok(()) => enable(alloc, batch, config),
@@ -145,10 +164,10 @@ fn select_and_enable(alloc: Global, batch: &mut Batch, config: &Config) -> Resul
 }
 
 /// A link comes up and is selected, and all events are enabled.
-pub fn begin(alloc: Global, batch: &mut Batch, config: &Config) -> Result<(), Stop>
-    requires whole { batch.old.core.is_whole ≡ true }
-    ensures made { Makes batch.old.core batch.new (begun config.now (standing batch.old)) result }
-    ensures whole { OnOk result (batch.new.core.is_whole ≡ true) }
+pub fn begin<C: Recorder>(alloc: Global, batch: &mut Batch<C>, config: &Config) -> Result<(), Stop>
+    requires whole { (C.view batch.old.core).is_whole ≡ true }
+    ensures made { Makes (C.view batch.old.core) (batch_seen C.view batch.new) (begun config.now (standing (batch_seen C.view batch.old))) result }
+    ensures whole { OnOk result ((C.view batch.new.core).is_whole ≡ true) }
 {
     match turn_one(alloc, batch, config, Event::LinkUp) {
         Ok(()) => select_and_enable(alloc, batch, config),
@@ -159,11 +178,11 @@ pub fn begin(alloc: Global, batch: &mut Batch, config: &Config) -> Result<(), St
 // ---- modules
 
 // A number is drawn, and a module does its command.
-fn do_one(alloc: Global, batch: &mut Batch, done: Fetched) -> Result<(), Stop>
-    requires whole { batch.old.core.is_whole ≡ true }
-    ensures made { Makes batch.old.core batch.new
-        (entered (event.Signal (signal.Done done.number done.command)) (record (standing batch.old) { drawn_last = drawn batch.old.drawn })) result }
-    ensures whole { OnOk result (batch.new.core.is_whole ≡ true) }
+fn do_one<C: Recorder>(alloc: Global, batch: &mut Batch<C>, done: Fetched) -> Result<(), Stop>
+    requires whole { (C.view batch.old.core).is_whole ≡ true }
+    ensures made { Makes (C.view batch.old.core) (batch_seen C.view batch.new)
+        (entered (event.Signal (signal.Done done.number done.command)) (record (standing (batch_seen C.view batch.old)) { drawn_last = drawn batch.old.drawn })) result }
+    ensures whole { OnOk result ((C.view batch.new.core).is_whole ≡ true) }
 {
     batch.drawn = draw(batch.drawn);
     enter(
@@ -175,10 +194,10 @@ fn do_one(alloc: Global, batch: &mut Batch, done: Fetched) -> Result<(), Stop>
 
 /// While a module has an open command that was fetched, a number is drawn, and the module that it chooses does its command. What
 /// the tool asks is answered first. So many commands are done at most.
-pub fn work(alloc: Global, batch: &mut Batch, config: &Config) -> Result<(), Stop>
-    requires whole { batch.old.core.is_whole ≡ true }
-    ensures made { Makes batch.old.core batch.new (dones_by most_dones config.now (standing batch.old)) result }
-    ensures whole { OnOk result (batch.new.core.is_whole ≡ true) }
+pub fn work<C: Recorder>(alloc: Global, batch: &mut Batch<C>, config: &Config) -> Result<(), Stop>
+    requires whole { (C.view batch.old.core).is_whole ≡ true }
+    ensures made { Makes (C.view batch.old.core) (batch_seen C.view batch.new) (dones_by most_dones config.now (standing (batch_seen C.view batch.old))) result }
+    ensures whole { OnOk result ((C.view batch.new.core).is_whole ≡ true) }
 {
     let mut left = MOST_DONES;
     'dones: while left > 0 {

@@ -11,34 +11,34 @@ use Rattle.line_grammar.specs.Lines.{service_words, access_words, job_word, job_
 use Rattle.gem_model.specs.Feed.{Reading, line_given, Told, QuitAt, AllRead, reading_after, line_told, told_behind, feed_lines, feed_entries}
 use Rattle.gem_model.specs.SessionBytes.{line_bytes_in, line_and_more, lines_bytes_in, session_in}
 use Rattle.line_grammar.proofs.Texts.{lines-last}
-use Rattle.feeding.specs.declared.reader.Reader.{Reader}
+use Rattle.feeding.specs.Views.{ReaderView}
 use Rattle.feeding.specs.Standing.{IsOneLine, Stands}
 
 -- the text and whatever follows it goes on from the part of a line
-pub text_goes : (text : List ℕ) (reader : Reader) (stands : Stands text reader) (more : List ℕ) → feed_entries reader.feeder.core.config (text ++ more) ≡ told_behind reader.feeder.core.history (feed_lines reader.number stands.reading (lines_of (reader.line.items ++ more)))
+pub text_goes : (text : List ℕ) (reader : ReaderView) (stands : Stands text reader) (more : List ℕ) → feed_entries reader.feeder.core.config (text ++ more) ≡ told_behind reader.feeder.core.history (feed_lines reader.number stands.reading (lines_of (reader.line ++ more)))
 text_goes text reader stands more =
     ap (λ (t : List ℕ). feed_entries reader.feeder.core.config (t ++ more)) stands.text_is
-    ∙ ap (feed_entries reader.feeder.core.config) (append_assoc stands.whole reader.line.items more)
-    ∙ stands.goes_on (reader.line.items ++ more)
+    ∙ ap (feed_entries reader.feeder.core.config) (append_assoc stands.whole reader.line more)
+    ∙ stands.goes_on (reader.line ++ more)
 
-pub at_end : (text : List ℕ) (reader : Reader) (stands : Stands text reader) → feed_entries reader.feeder.core.config text ≡ told_behind reader.feeder.core.history (feed_lines reader.number stands.reading (lines_of reader.line.items))
+pub at_end : (text : List ℕ) (reader : ReaderView) (stands : Stands text reader) → feed_entries reader.feeder.core.config text ≡ told_behind reader.feeder.core.history (feed_lines reader.number stands.reading (lines_of reader.line))
 at_end text reader stands =
     ap (feed_entries reader.feeder.core.config) (sym (append-nil text)) ∙ text_goes text reader stands []
-    ∙ ap (λ (t : List ℕ). told_behind reader.feeder.core.history (feed_lines reader.number stands.reading (lines_of t))) (append-nil reader.line.items)
+    ∙ ap (λ (t : List ℕ). told_behind reader.feeder.core.history (feed_lines reader.number stands.reading (lines_of t))) (append-nil reader.line)
 
 pub last_line : (line : List ℕ) → IsOneLine line → line ≢ [] → lines_of line ≡ line ∷ []
 last_line [] one some = absurd (some refl)
 last_line (b ∷ line) one some = lines-last b line one
 
 -- the same of the bytes that it gives to a session
-pub text_in : (text : List ℕ) (reader : Reader) (stands : Stands text reader) (more : List ℕ) (session : ℕ) → session_in reader.feeder.core.config (text ++ more) session ≡ session_in reader.feeder.core.config stands.whole session + lines_bytes_in stands.reading (lines_of (reader.line.items ++ more)) session
+pub text_in : (text : List ℕ) (reader : ReaderView) (stands : Stands text reader) (more : List ℕ) (session : ℕ) → session_in reader.feeder.core.config (text ++ more) session ≡ session_in reader.feeder.core.config stands.whole session + lines_bytes_in stands.reading (lines_of (reader.line ++ more)) session
 text_in text reader stands more session =
     ap (λ (t : List ℕ). session_in reader.feeder.core.config (t ++ more) session) stands.text_is
-    ∙ ap (λ (t : List ℕ). session_in reader.feeder.core.config t session) (append_assoc stands.whole reader.line.items more)
-    ∙ stands.reads_on (reader.line.items ++ more) session
+    ∙ ap (λ (t : List ℕ). session_in reader.feeder.core.config t session) (append_assoc stands.whole reader.line more)
+    ∙ stands.reads_on (reader.line ++ more) session
 
 -- the whole lines up to there gave the history
-pub whole_told : (text : List ℕ) (reader : Reader) (stands : Stands text reader) → (feed_entries reader.feeder.core.config stands.whole).entries ≡ reader.feeder.core.history
+pub whole_told : (text : List ℕ) (reader : ReaderView) (stands : Stands text reader) → (feed_entries reader.feeder.core.config stands.whole).entries ≡ reader.feeder.core.history
 whole_told text reader stands =
     ap (λ (t : List ℕ). (feed_entries reader.feeder.core.config t).entries) (sym (append-nil stands.whole))
     ∙ ap (λ (told : Told). told.entries) (stands.goes_on [])
@@ -84,14 +84,14 @@ line_in r (b ∷ line) says session one is =
     ∙ omega arith
 
 -- the part of a line, taken as a line, gives what it says
-pub text_entries : (text : List ℕ) (reader : Reader) (stands : Stands text reader) (says : Line) → feed_line_of reader.line.items ≡ Ok says → (feed_entries reader.feeder.core.config text).entries ≡ reader.feeder.core.history ++ (line_given stands.reading says).entries
+pub text_entries : (text : List ℕ) (reader : ReaderView) (stands : Stands text reader) (says : Line) → feed_line_of reader.line ≡ Ok says → (feed_entries reader.feeder.core.config text).entries ≡ reader.feeder.core.history ++ (line_given stands.reading says).entries
 text_entries text reader stands says is =
     ap (λ (told : Told). told.entries) (at_end text reader stands)
-    ∙ ap (λ (es : List Entry). reader.feeder.core.history ++ es) (line_entries reader.number stands.reading reader.line.items says stands.line is)
+    ∙ ap (λ (es : List Entry). reader.feeder.core.history ++ es) (line_entries reader.number stands.reading reader.line says stands.line is)
 
-pub text_bytes_in : (text : List ℕ) (reader : Reader) (stands : Stands text reader) (says : Line) (session : ℕ) → feed_line_of reader.line.items ≡ Ok says → session_in reader.feeder.core.config text session ≡ session_in reader.feeder.core.config stands.whole session + line_bytes_in stands.reading says session
+pub text_bytes_in : (text : List ℕ) (reader : ReaderView) (stands : Stands text reader) (says : Line) (session : ℕ) → feed_line_of reader.line ≡ Ok says → session_in reader.feeder.core.config text session ≡ session_in reader.feeder.core.config stands.whole session + line_bytes_in stands.reading says session
 text_bytes_in text reader stands says session is =
     ap (λ (t : List ℕ). session_in reader.feeder.core.config t session) (sym (append-nil text))
     ∙ text_in text reader stands [] session
-    ∙ ap (λ (t : List ℕ). session_in reader.feeder.core.config stands.whole session + lines_bytes_in stands.reading (lines_of t) session) (append-nil reader.line.items)
-    ∙ ap (λ (n : ℕ). session_in reader.feeder.core.config stands.whole session + n) (line_in stands.reading reader.line.items says session stands.line is)
+    ∙ ap (λ (t : List ℕ). session_in reader.feeder.core.config stands.whole session + lines_bytes_in stands.reading (lines_of t) session) (append-nil reader.line)
+    ∙ ap (λ (n : ℕ). session_in reader.feeder.core.config stands.whole session + n) (line_in stands.reading reader.line says session stands.line is)

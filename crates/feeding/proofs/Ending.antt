@@ -7,7 +7,7 @@ use Rattle.line_feeding.specs.declared.halt.Halt.TheVariants as halt
 use Rattle.line_feeding.specs.declared.ended.Cause.{Cause}
 use Rattle.line_feeding.specs.declared.ended.Cause.TheVariants as cause
 use Rattle.line_feeding.specs.declared.ended.SessionNote.{SessionNote}
-use Rattle.feeding.specs.declared.reader.Reader.{Reader}
+use Rattle.feeding.specs.Views.{ReaderView}
 use Rattle.line_feeding.specs.declared.halt.InputEnd.{InputEnd}
 use Rattle.line_feeding.specs.declared.halt.InputEnd.TheVariants as input
 use Rattle.line_feeding.specs.CauseOf.{cause_after, Refuses}
@@ -23,7 +23,7 @@ use Rattle.line_feeding.specs.Noted.{NotedBy}
 use Rattle.line_feeding.proofs.Reading.{Taken-nothing}
 use Rattle.outside.proofs.Writing.{Written-nothing, WrittenFront-all}
 
-pub FedBy-end : (end : InputEnd) (text : List ℕ) (count : ℕ) (reader : Reader) (source source' : SourceView) → length text ≡ count → InputEnds end text reader source source' → FedBy reader.feeder.core.config (cause_after end count reader.feeder.core.history reader.number) (ReadToEnd source source') text reader.feeder.core.history
+pub FedBy-end : (end : InputEnd) (text : List ℕ) (count : ℕ) (reader : ReaderView) (source source' : SourceView) → length text ≡ count → InputEnds end text reader source source' → FedBy reader.feeder.core.config (cause_after end count reader.feeder.core.history reader.number) (ReadToEnd source source') text reader.feeder.core.history
 FedBy-end input.Whole text count reader source source' size h = inl (h.0.told, h.1)
 FedBy-end input.Fault text count reader source source' size h = h.0.told
 FedBy-end input.Bound text count reader source source' size h = (inl (h.0.told, h.1), refl, refl, sym size)
@@ -45,7 +45,7 @@ not_write (input.Halted halt.Write) count history number other is = other refl
 not_write (input.Halted halt.NoMemory) count history number other is = absurd (cc)
 
 -- these are the notes, whatever bytes the counts are of
-abbrev pub NotesFrom : Reader → List SessionNote → Type 0
+abbrev pub NotesFrom : ReaderView → List SessionNote → Type 0
 NotesFrom reader notes = (read : ℕ → ℕ) → AreCounts reader.feeder.reads read → AreNotes reader.feeder.core.config reader.feeder.core.history read notes
 
 -- where the cause isn't that a read failed, none did
@@ -55,7 +55,7 @@ not_read input.Fault count history number other is = other refl
 not_read input.Bound count history number other is = absurd (cc)
 not_read (input.Halted h) count history number other is = absurd (cc)
 
-pub NotedBy-end : (end : InputEnd) (text : List ℕ) (count : ℕ) (reader : Reader) (notes : List SessionNote) (source source' : SourceView) → NotesFrom reader notes → InputEnds end text reader source source' → NotedBy reader.feeder.core.config (cause_after end count reader.feeder.core.history reader.number) (ReadToEnd source source') text reader.feeder.core.history notes
+pub NotedBy-end : (end : InputEnd) (text : List ℕ) (count : ℕ) (reader : ReaderView) (notes : List SessionNote) (source source' : SourceView) → NotesFrom reader notes → InputEnds end text reader source source' → NotedBy reader.feeder.core.config (cause_after end count reader.feeder.core.history reader.number) (ReadToEnd source source') text reader.feeder.core.history notes
 NotedBy-end input.Whole text count reader notes source source' are h = are _ h.0.read
 NotedBy-end input.Fault text count reader notes source source' are h = are _ h.0.read
 NotedBy-end input.Bound text count reader notes source source' are h = inl ((h.0.told, h.1), are _ h.0.read)

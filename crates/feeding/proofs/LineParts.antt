@@ -19,7 +19,7 @@ use Rattle.line_grammar.specs.Texts.{is_quit}
 use Rattle.history_parts.specs.CoreView.{CoreView}
 use Rattle.line_feeding.specs.declared.halt.Halt.{Halt}
 use Rattle.line_feeding.specs.declared.halt.Halt.TheVariants as halt
-use Rattle.feeding.specs.declared.feeder.Feeder.{Feeder}
+use Rattle.feeding.specs.Views.{FeederView}
 use Rattle.line_feeding.specs.Cuts.{Cuts}
 use Rattle.line_feeding.specs.Going.{SinkView, Goes, WentOn}
 use Rattle.feeding.specs.Reading.{IsReading, TakesLine, TreatsLine}
@@ -37,7 +37,7 @@ memory_told : (quits : Bool) → failed halt.NoMemory ≡ (if quits then quit_be
 memory_told true = refl
 memory_told false = refl
 
-pub TreatsLine-no_memory : (r : Reading) (line : Result Line ℕ) (feeder : Feeder) (out : SinkView) → TreatsLine r line feeder feeder out out (Err halt.NoMemory)
+pub TreatsLine-no_memory : (r : Reading) (line : Result Line ℕ) (feeder : FeederView) (out : SinkView) → TreatsLine r line feeder feeder out out (Err halt.NoMemory)
 TreatsLine-no_memory r (Err place) feeder out = record { refused = inr refl; core_stays = refl; reads_stay = refl; out_stays = refl }
 TreatsLine-no_memory r (Ok line) feeder out = (Err halt.NoMemory, memory_told (is_quit line), record { goes = Goes-unmoved feeder.core feeder.core out (line_given r line) (record { config = refl; history = refl }); reading = tt; counts = inr (refl, refl) })
 
@@ -51,7 +51,7 @@ reading_at r given core' cutter' stream (Ok done) core went max cut = record { s
 reading_at r given core' cutter' stream (Err why) core went max cut = tt
 
 -- a line that does nothing
-pub TreatsLine-skip : (r : Reading) (feeder : Feeder) (out : SinkView) → IsReading r feeder.core feeder.cutter → TreatsLine r (Ok line.Skip) feeder feeder out out (Ok tt)
+pub TreatsLine-skip : (r : Reading) (feeder : FeederView) (out : SinkView) → IsReading r feeder.core feeder.cutter → TreatsLine r (Ok line.Skip) feeder feeder out out (Ok tt)
 TreatsLine-skip r feeder out reading = (
   Ok tt,
   refl,
@@ -62,7 +62,7 @@ TreatsLine-skip r feeder out reading = (
   },
 )
 
-pub TreatsLine-watch : (r : Reading) (port : PortNo) (feeder : Feeder) (out : SinkView) → IsReading r feeder.core feeder.cutter → TreatsLine r (Ok (line.Watch port)) feeder feeder out out (Ok tt)
+pub TreatsLine-watch : (r : Reading) (port : PortNo) (feeder : FeederView) (out : SinkView) → IsReading r feeder.core feeder.cutter → TreatsLine r (Ok (line.Watch port)) feeder feeder out out (Ok tt)
 TreatsLine-watch r port feeder out reading = (
   Ok tt,
   refl,
@@ -102,7 +102,7 @@ up_anew r core core' (Ok done) down went =
     (record { state = went.1; max = λ _. refl; cut = λ _. none_cut })
 up_anew r core core' (Err why) down went = tt
 
-pub TakesLine-up : (r : Reading) (old : Feeder) (core' : CoreView) (cutter' : Kept) (out out' : SinkView) (result : Result (Unit {0}) Halt) → IsReading r old.core old.cutter → is_up old.core.state ≡ false → cutter' ≡ record { max = text_bytes; bytes = []; skipped = 0 } → Goes old.core core' out out' (input old.core.state 0 event.LinkUp) result → TakesLine r line.Up old (record { core = core'; cutter = cutter'; reads = old.reads }) out out' result
+pub TakesLine-up : (r : Reading) (old : FeederView) (core' : CoreView) (cutter' : Kept) (out out' : SinkView) (result : Result (Unit {0}) Halt) → IsReading r old.core old.cutter → is_up old.core.state ≡ false → cutter' ≡ record { max = text_bytes; bytes = []; skipped = 0 } → Goes old.core core' out out' (input old.core.state 0 event.LinkUp) result → TakesLine r line.Up old (record { core = core'; cutter = cutter'; reads = old.reads }) out out' result
 TakesLine-up r old core' cutter' out out' result reading down new goes =
     let all = subst (λ (given : Given). Goes old.core core' out out' given result) (ap (λ (g : State). input g 0 event.LinkUp) reading.state) goes in
     record {
@@ -115,7 +115,7 @@ some_is : (x : Option Outcome) → x ≢ None → is_some x ≡ true
 some_is None some = absurd (some refl)
 some_is (Some o) some = refl
 
-pub TakesLine-look : (r : Reading) (at : Moment) (old : Feeder) (core' : CoreView) (out out' : SinkView) (result : Result (Unit {0}) Halt) → IsReading r old.core old.cutter → step old.core.state at.0 Tick ≢ None → Goes old.core core' out out' (input old.core.state at.0 Tick) result → TakesLine r (line.Moment at) old (record { core = core'; cutter = old.cutter; reads = old.reads }) out out' result
+pub TakesLine-look : (r : Reading) (at : Moment) (old : FeederView) (core' : CoreView) (out out' : SinkView) (result : Result (Unit {0}) Halt) → IsReading r old.core old.cutter → step old.core.state at.0 Tick ≢ None → Goes old.core core' out out' (input old.core.state at.0 Tick) result → TakesLine r (line.Moment at) old (record { core = core'; cutter = old.cutter; reads = old.reads }) out out' result
 TakesLine-look r at old core' out out' result reading some goes =
     let due : is_some (step r.state at.0 Tick) ≡ true = some_is (step r.state at.0 Tick) (subst (λ (g : State). step g at.0 Tick ≢ None) reading.state some) in
     let given : line_given r (line.Moment at) ≡ input r.state at.0 Tick = ap (λ (b : Bool). if b then input r.state at.0 Tick else nothing r.state) due in
@@ -126,7 +126,7 @@ TakesLine-look r at old core' out out' result reading some goes =
       counts = counts_time r at old.reads old.core core' result;
     }
 
-pub TreatsLine-oper : (r : Reading) (command : OperCmd) (old : Feeder) (core' : CoreView) (out out' : SinkView) (quits : Bool) (taken : Result (Unit {0}) Halt) → IsReading r old.core old.cutter → quits ≡ is_quit (line.Oper command) → Goes old.core core' out out' (input old.core.state 0 (Oper command)) taken → TreatsLine r (Ok (line.Oper command)) old (record { core = core'; cutter = old.cutter; reads = old.reads }) out out' (if quits then quit_behind taken else taken)
+pub TreatsLine-oper : (r : Reading) (command : OperCmd) (old : FeederView) (core' : CoreView) (out out' : SinkView) (quits : Bool) (taken : Result (Unit {0}) Halt) → IsReading r old.core old.cutter → quits ≡ is_quit (line.Oper command) → Goes old.core core' out out' (input old.core.state 0 (Oper command)) taken → TreatsLine r (Ok (line.Oper command)) old (record { core = core'; cutter = old.cutter; reads = old.reads }) out out' (if quits then quit_behind taken else taken)
 TreatsLine-oper r command old core' out out' quits taken reading is goes =
     let all = subst (λ (given : Given). Goes old.core core' out out' given taken) (ap (λ (g : State). input g 0 (Oper command)) reading.state) goes in (
       taken,
@@ -138,7 +138,7 @@ TreatsLine-oper r command old core' out out' quits taken reading is goes =
       },
     )
 
-pub TakesLine-signal : (r : Reading) (signal : Signal) (old : Feeder) (core' : CoreView) (out out' : SinkView) (result : Result (Unit {0}) Halt) → IsReading r old.core old.cutter → Goes old.core core' out out' (input old.core.state 0 (event.Signal signal)) result → TakesLine r (line.Signal signal) old (record { core = core'; cutter = old.cutter; reads = old.reads }) out out' result
+pub TakesLine-signal : (r : Reading) (signal : Signal) (old : FeederView) (core' : CoreView) (out out' : SinkView) (result : Result (Unit {0}) Halt) → IsReading r old.core old.cutter → Goes old.core core' out out' (input old.core.state 0 (event.Signal signal)) result → TakesLine r (line.Signal signal) old (record { core = core'; cutter = old.cutter; reads = old.reads }) out out' result
 TakesLine-signal r signal old core' out out' result reading goes =
     let all = subst (λ (given : Given). Goes old.core core' out out' given result) (ap (λ (g : State). input g 0 (event.Signal signal)) reading.state) goes in
     record {
@@ -147,7 +147,7 @@ TakesLine-signal r signal old core' out out' result reading goes =
       counts = counts_signal r signal old.reads old.core core' result;
     }
 
-pub TakesLine-bytes : (r : Reading) (bytes : List ℕ) (old : Feeder) (core' : CoreView) (cutter' : Kept) (reads' : List ℕ) (out out' : SinkView) (arrivals : List Arrival) (short : Bool) (session : ℕ) (result : Result (Unit {0}) Halt) → IsReading r old.core old.cutter → (if is_up old.core.state then Some old.core.state.link.session else None) ≡ Some session → cutter'.max ≡ old.cutter.max → ((stream : List ℕ) → old.cutter.max ≡ text_bytes → IsCutOf stream (arrivals_of text_bytes stream) old.cutter → Cuts bytes old.cutter cutter' arrivals short stream) → Goes old.core core' out out' (messages old.core.state session arrivals short) result → AddsLine r (line.Bytes bytes) old.reads reads' → TakesLine r (line.Bytes bytes) old (record { core = core'; cutter = cutter'; reads = reads' }) out out' result
+pub TakesLine-bytes : (r : Reading) (bytes : List ℕ) (old : FeederView) (core' : CoreView) (cutter' : Kept) (reads' : List ℕ) (out out' : SinkView) (arrivals : List Arrival) (short : Bool) (session : ℕ) (result : Result (Unit {0}) Halt) → IsReading r old.core old.cutter → (if is_up old.core.state then Some old.core.state.link.session else None) ≡ Some session → cutter'.max ≡ old.cutter.max → ((stream : List ℕ) → old.cutter.max ≡ text_bytes → IsCutOf stream (arrivals_of text_bytes stream) old.cutter → Cuts bytes old.cutter cutter' arrivals short stream) → Goes old.core core' out out' (messages old.core.state session arrivals short) result → AddsLine r (line.Bytes bytes) old.reads reads' → TakesLine r (line.Bytes bytes) old (record { core = core'; cutter = cutter'; reads = reads' }) out out' result
 TakesLine-bytes r bytes old core' cutter' reads' out out' arrivals short session result reading told same cuts goes adds =
     let told_up = session_is (is_up old.core.state) old.core.state.link.session session told in
     let up : is_up r.state ≡ true = ap is_up (sym reading.state) ∙ told_up.0 in

@@ -17,8 +17,7 @@ use Rattle.history_parts.specs.Counts.{count_of}
 use Rattle.history_parts.specs.CoreView.{CoreView}
 use Rattle.line_feeding.specs.declared.halt.Halt.{Halt}
 use Rattle.line_feeding.specs.declared.halt.Halt.TheVariants as halt
-use Rattle.feeding.specs.declared.feeder.Feeder.{Feeder}
-use Rattle.feeding.specs.declared.reader.Reader.{Reader}
+use Rattle.feeding.specs.Views.{FeederView, ReaderView}
 use Rattle.line_feeding.specs.Limits.{IsFullAt}
 use Rattle.line_feeding.specs.Going.{SinkView, WentOn, Shows, ShowsAtEnd, Goes}
 use Rattle.line_feeding.specs.Reads.{AreCounts, HaveRead}
@@ -75,7 +74,7 @@ Prints-told core core' out out' true (Ok done) h = Prints-quit core core' out ou
 Prints-told core core' out out' true (Err why) h = h
 Prints-told core core' out out' false taken h = h
 
-pub Prints-line : (r : Reading) (line : Result Line ℕ) (old new : Feeder) (out out' : SinkView) (result : Result (Unit {0}) Halt) → TreatsLine r line old new out out' result → Prints old.core new.core out out' result
+pub Prints-line : (r : Reading) (line : Result Line ℕ) (old new : FeederView) (out out' : SinkView) (result : Result (Unit {0}) Halt) → TreatsLine r line old new out out' result → Prints old.core new.core out out' result
 Prints-line r (Err place) old new out out' result h =
     rw (h.core_stays, h.out_stays) (Prints-stays old.core out result (refused_not_write place result h.refused))
 Prints-line r (Ok line) old new out out' result h =
@@ -85,7 +84,7 @@ Prints-line r (Ok line) old new out out' result h =
 -- ---- one line
 
 -- the configuration stays
-line_config : (r : Reading) (line : Result Line ℕ) (old new : Feeder) (out out' : SinkView) (result : Result (Unit {0}) Halt) → TreatsLine r line old new out out' result → new.core.config ≡ old.core.config
+line_config : (r : Reading) (line : Result Line ℕ) (old new : FeederView) (out out' : SinkView) (result : Result (Unit {0}) Halt) → TreatsLine r line old new out out' result → new.core.config ≡ old.core.config
 line_config r (Err place) old new out out' result h = ap (λ (c : CoreView). c.config) h.core_stays
 line_config r (Ok line) old new out out' result h = h.2.goes.config
 
@@ -93,7 +92,7 @@ abbrev done_all : Result (Unit {0}) Halt
 done_all = Ok tt
 
 -- after a line the history has what it gave, its bytes are counted, and the next line goes on
-pub record Took (number : ℕ) (r : Reading) (line : List ℕ) (old new : Feeder) : Type 0 where
+pub record Took (number : ℕ) (r : Reading) (line : List ℕ) (old new : FeederView) : Type 0 where
   pub next : Reading
   pub bytes : ℕ → ℕ
   pub reads_on : (lines : List (List ℕ)) (session : ℕ) → lines_bytes_in r (line ∷ lines) session ≡ bytes session + lines_bytes_in next lines session
@@ -119,7 +118,7 @@ goes_on_cases false taken e = (refl, sym e)
 line_begins : (number : ℕ) (r : Reading) (line : Line) (more : Reading → Told) → IsFront (line_given r line).entries (line_told number r (Ok line) more).entries
 line_begins number r line more = record { behind = (if is_quit line then told_quit number else more (reading_after r line)).entries; joined = refl }
 
-took_on : (number : ℕ) (r : Reading) (line : List ℕ) (says : Line) → feed_line_of line ≡ Ok says → is_quit says ≡ false → (old new : Feeder) (out out' : SinkView) → TakesLine r says old new out out' (Ok tt) → Took number r line old new
+took_on : (number : ℕ) (r : Reading) (line : List ℕ) (says : Line) → feed_line_of line ≡ Ok says → is_quit says ≡ false → (old new : FeederView) (out out' : SinkView) → TakesLine r says old new out out' (Ok tt) → Took number r line old new
 took_on number r line says is on old new out out' h = record {
   next = reading_after r says;
   bytes = line_bytes_in r says;
@@ -134,13 +133,13 @@ took_on number r line says is on old new out out' h = record {
   is = h.reading;
 }
 
-took_by : (number : ℕ) (r : Reading) (line : List ℕ) (says : Result Line ℕ) → feed_line_of line ≡ says → (old new : Feeder) (out out' : SinkView) → TreatsLine r says old new out out' (Ok tt) → Took number r line old new
+took_by : (number : ℕ) (r : Reading) (line : List ℕ) (says : Result Line ℕ) → feed_line_of line ≡ says → (old new : FeederView) (out out' : SinkView) → TreatsLine r says old new out out' (Ok tt) → Took number r line old new
 took_by number r line (Err place) is old new out out' h = absurd (elim h.refused [ inl e ↦ cc | inr e ↦ cc ])
 took_by number r line (Ok says) is old new out out' h =
     let cases = goes_on_cases (is_quit says) h.0 h.1 in
     took_on number r line says is cases.0 old new out out' (subst (λ (taken : Result (Unit {0}) Halt). TakesLine r says old new out out' taken) cases.1 h.2)
 
-pub took : (number : ℕ) (r : Reading) (line : List ℕ) (old new : Feeder) (out out' : SinkView) → TreatsLine r (feed_line_of line) old new out out' (Ok tt) → Took number r line old new
+pub took : (number : ℕ) (r : Reading) (line : List ℕ) (old new : FeederView) (out out' : SinkView) → TreatsLine r (feed_line_of line) old new out out' (Ok tt) → Took number r line old new
 took number r line old new out out' h = took_by number r line (feed_line_of line) refl old new out out' h
 
 abbrev more_lines : ℕ → List (List ℕ) → Reading → Told
@@ -201,7 +200,7 @@ quit_stops number r says more core core' quits went =
     ∙ ap (λ (es : List Entry). record { entries = es; stop = QuitAt number })
     (ap (λ (es : List Entry). core.history ++ es) (append-nil (line_given r says).entries) ∙ sym went.0)
 
-stopped_by : (number : ℕ) (r : Reading) (line : List ℕ) (says : Result Line ℕ) → feed_line_of line ≡ says → (old new : Feeder) (out out' : SinkView) (why : Halt) → TreatsLine r says old new out out' (Err why) → (lines : List (List ℕ)) → StoppedAs old.core.config (told_behind old.core.history (feed_lines number r (line ∷ lines))) new.core.history number why
+stopped_by : (number : ℕ) (r : Reading) (line : List ℕ) (says : Result Line ℕ) → feed_line_of line ≡ says → (old new : FeederView) (out out' : SinkView) (why : Halt) → TreatsLine r says old new out out' (Err why) → (lines : List (List ℕ)) → StoppedAs old.core.config (told_behind old.core.history (feed_lines number r (line ∷ lines))) new.core.history number why
 stopped_by number r line (Err place) is old new out out' why h lines =
     refused_stops old.core.config number place old.core.history new.core.history why (feed_lines number r (line ∷ lines)) h.refused (ap (λ (c : CoreView). c.history) h.core_stays) (said number r line lines (Err place) is)
 stopped_by number r line (Ok says) is old new out out' why h lines =
@@ -211,7 +210,7 @@ stopped_by number r line (Ok says) is old new out out' why h lines =
           (quit_stops number r says (more_lines number lines) old.core new.core quits.0 (subst (λ (taken : Result (Unit {0}) Halt). TakesLine r says old new out out' taken) quits.1 h.2).goes.went)
     ])
 
-pub stopped : (number : ℕ) (r : Reading) (line : List ℕ) (old new : Feeder) (out out' : SinkView) (why : Halt) → TreatsLine r (feed_line_of line) old new out out' (Err why) → (lines : List (List ℕ)) → StoppedAs old.core.config (told_behind old.core.history (feed_lines number r (line ∷ lines))) new.core.history number why
+pub stopped : (number : ℕ) (r : Reading) (line : List ℕ) (old new : FeederView) (out out' : SinkView) (why : Halt) → TreatsLine r (feed_line_of line) old new out out' (Err why) → (lines : List (List ℕ)) → StoppedAs old.core.config (told_behind old.core.history (feed_lines number r (line ∷ lines))) new.core.history number why
 stopped number r line old new out out' why h lines = stopped_by number r line (feed_line_of line) refl old new out out' why h lines
 
 -- ---- the text
@@ -219,7 +218,7 @@ stopped number r line old new out out' why h lines = stopped_by number r line (f
 no_count : (session : ℕ) → count_of [] session ≡ 0
 no_count session = grind arith
 
-pub Stands-open : (c : Config) (reader : Reader) → reader.line.items ≡ [] → reader.number ≡ 1 → reader.feeder.core.history ≡ [] → reader.feeder.core.config ≡ c → IsReading (first_reading c) reader.feeder.core reader.feeder.cutter → reader.feeder.reads ≡ [] → Stands [] reader
+pub Stands-open : (c : Config) (reader : ReaderView) → reader.line ≡ [] → reader.number ≡ 1 → reader.feeder.core.history ≡ [] → reader.feeder.core.config ≡ c → IsReading (first_reading c) reader.feeder.core reader.feeder.cutter → reader.feeder.reads ≡ [] → Stands [] reader
 Stands-open c reader line number history config is none = record {
   whole = [];
   reading = first_reading c;
@@ -241,25 +240,25 @@ IsOneLine-both (b ∷ front) part none one =
     let others : IsOneLine front = grind (arith, nat_tests) in
     rw here (IsOneLine-both front part others one)
 
-pub Stands-push : (text : List ℕ) (part : List ℕ) (old new : Reader) → IsOneLine part → Stands text old → new.line.items ≡ old.line.items ++ part → new.feeder ≡ old.feeder → new.number ≡ old.number → Stands (text ++ part) new
+pub Stands-push : (text : List ℕ) (part : List ℕ) (old new : ReaderView) → IsOneLine part → Stands text old → new.line ≡ old.line ++ part → new.feeder ≡ old.feeder → new.number ≡ old.number → Stands (text ++ part) new
 Stands-push text part old new one stands line feeder number = record {
   whole = stands.whole;
   reading = stands.reading;
-  text_is = ap (λ (t : List ℕ). t ++ part) stands.text_is ∙ append_assoc stands.whole old.line.items part ∙ ap (λ (l : List ℕ). stands.whole ++ l) (sym line);
-  line = rw line (IsOneLine-both old.line.items part stands.line one);
+  text_is = ap (λ (t : List ℕ). t ++ part) stands.text_is ∙ append_assoc stands.whole old.line part ∙ ap (λ (l : List ℕ). stands.whole ++ l) (sym line);
+  line = rw line (IsOneLine-both old.line part stands.line one);
   ends = stands.ends;
   count = λ more. rw number (stands.count more);
-  goes_on = λ more. ap (λ (f : Feeder). feed_entries f.core.config (stands.whole ++ more)) feeder ∙ stands.goes_on more ∙ ap (λ (n : ℕ). told_behind old.feeder.core.history (feed_lines n stands.reading (lines_of more))) (sym number) ∙ ap (λ (f : Feeder). told_behind f.core.history (feed_lines new.number stands.reading (lines_of more))) (sym feeder);
-  is = subst (λ (f : Feeder). IsReading stands.reading f.core f.cutter) (sym feeder) stands.is;
-  read = subst (λ (f : Feeder). HaveRead f.core.config stands.whole f.reads) (sym feeder) stands.read;
-  reads_on = λ more session. subst (λ (f : Feeder). session_in f.core.config (stands.whole ++ more) session ≡ session_in f.core.config stands.whole session + lines_bytes_in stands.reading (lines_of more) session) (sym feeder) (stands.reads_on more session);
+  goes_on = λ more. ap (λ (f : FeederView). feed_entries f.core.config (stands.whole ++ more)) feeder ∙ stands.goes_on more ∙ ap (λ (n : ℕ). told_behind old.feeder.core.history (feed_lines n stands.reading (lines_of more))) (sym number) ∙ ap (λ (f : FeederView). told_behind f.core.history (feed_lines new.number stands.reading (lines_of more))) (sym feeder);
+  is = subst (λ (f : FeederView). IsReading stands.reading f.core f.cutter) (sym feeder) stands.is;
+  read = subst (λ (f : FeederView). HaveRead f.core.config stands.whole f.reads) (sym feeder) stands.read;
+  reads_on = λ more session. subst (λ (f : FeederView). session_in f.core.config (stands.whole ++ more) session ≡ session_in f.core.config stands.whole session + lines_bytes_in stands.reading (lines_of more) session) (sym feeder) (stands.reads_on more session);
 }
 
 -- the text, and what follows it, goes on from the text
 front_of : (text bytes more : List ℕ) → IsFront text ((text ++ bytes) ++ more)
 front_of text bytes more = record { behind = bytes ++ more; joined = append_assoc text bytes more }
 
-pub Stands-memory : (text bytes more : List ℕ) (reader : Reader) → Stands text reader → StopsAt ⊥ ((text ++ bytes) ++ more) reader halt.NoMemory
+pub Stands-memory : (text bytes more : List ℕ) (reader : ReaderView) → Stands text reader → StopsAt ⊥ ((text ++ bytes) ++ more) reader halt.NoMemory
 Stands-memory text bytes more reader stands =
     let goes = ap (feed_entries reader.feeder.core.config) (append_assoc text bytes more) ∙ text_goes text reader stands (bytes ++ more) in
     record {
@@ -279,7 +278,7 @@ long_text number r history (b ∷ front) text one long =
     let f = first-long b front text one in
     ap (λ (ls : List (List ℕ)). told_behind history (feed_lines number r ls)) f.lines ∙ long_told number r history f.first f.rest (omega (arith, f.long, long))
 
-long_counts : (text all : List ℕ) (front rest : List ℕ) (reader : Reader) (stands : Stands text reader) → IsOneLine front → line_bytes < length front → ((session : ℕ) → session_in reader.feeder.core.config all session ≡ session_in reader.feeder.core.config stands.whole session + lines_bytes_in stands.reading (lines_of (front ++ rest)) session) → CountsTo (halt.Line line_bytes) ⊥ reader.feeder.core.config all reader.feeder.core.history reader.feeder.reads
+long_counts : (text all : List ℕ) (front rest : List ℕ) (reader : ReaderView) (stands : Stands text reader) → IsOneLine front → line_bytes < length front → ((session : ℕ) → session_in reader.feeder.core.config all session ≡ session_in reader.feeder.core.config stands.whole session + lines_bytes_in stands.reading (lines_of (front ++ rest)) session) → CountsTo (halt.Line line_bytes) ⊥ reader.feeder.core.config all reader.feeder.core.history reader.feeder.reads
 long_counts text all [] rest reader stands one long goes = absurd (omega (arith, long))
 long_counts text all (b ∷ front) rest reader stands one long goes =
     let f = first-long b front rest one in
@@ -287,61 +286,61 @@ long_counts text all (b ∷ front) rest reader stands one long goes =
     (λ session. goes session ∙ ap (λ (ls : List (List ℕ)). session_in reader.feeder.core.config stands.whole session + lines_bytes_in stands.reading ls session) f.lines)
     line_bytes (too-long f.first (omega (arith, f.long, long))) refl
 
-long_text_is : (text : List ℕ) (part : List ℕ) (reader : Reader) (stands : Stands text reader) → text ++ part ≡ stands.whole ++ (reader.line.items ++ part)
-long_text_is text part reader stands = ap (λ (t : List ℕ). t ++ part) stands.text_is ∙ append_assoc stands.whole reader.line.items part
+long_text_is : (text : List ℕ) (part : List ℕ) (reader : ReaderView) (stands : Stands text reader) → text ++ part ≡ stands.whole ++ (reader.line ++ part)
+long_text_is text part reader stands = ap (λ (t : List ℕ). t ++ part) stands.text_is ∙ append_assoc stands.whole reader.line part
 
-long_line : (text : List ℕ) (part : List ℕ) (more : List ℕ) (reader : Reader) (stands : Stands text reader) → IsOneLine (reader.line.items ++ part) → line_bytes < length (reader.line.items ++ part) → IsLong ((text ++ part) ++ more) (text ++ part)
+long_line : (text : List ℕ) (part : List ℕ) (more : List ℕ) (reader : ReaderView) (stands : Stands text reader) → IsOneLine (reader.line ++ part) → line_bytes < length (reader.line ++ part) → IsLong ((text ++ part) ++ more) (text ++ part)
 long_line text part more reader stands one size =
     let is = long_text_is text part reader stands in
     record {
       front = record { behind = more; joined = refl };
-      line = reader.line.items ++ part;
-      is = is ∙ ap (λ (t : List ℕ). t ++ (reader.line.items ++ part)) (sym (ap whole_lines is ∙ stands.ends (reader.line.items ++ part) one));
+      line = reader.line ++ part;
+      is = is ∙ ap (λ (t : List ℕ). t ++ (reader.line ++ part)) (sym (ap whole_lines is ∙ stands.ends (reader.line ++ part) one));
       long = size;
     }
 
-long_number : (text : List ℕ) (part : List ℕ) (reader : Reader) (stands : Stands text reader) → IsOneLine (reader.line.items ++ part) → line_bytes < length (reader.line.items ++ part) → length (lines_of (text ++ part)) ≡ reader.number
+long_number : (text : List ℕ) (part : List ℕ) (reader : ReaderView) (stands : Stands text reader) → IsOneLine (reader.line ++ part) → line_bytes < length (reader.line ++ part) → length (lines_of (text ++ part)) ≡ reader.number
 long_number text part reader stands one size =
     let all = ap (λ (t : List ℕ). length (lines_of t)) (long_text_is text part reader stands) in
-    let last = ap length (last_line (reader.line.items ++ part) one (λ e. absurd (omega (arith, ap length e, size)))) in
-    omega (arith, all, last, stands.count (reader.line.items ++ part))
+    let last = ap length (last_line (reader.line ++ part) one (λ e. absurd (omega (arith, ap length e, size)))) in
+    omega (arith, all, last, stands.count (reader.line ++ part))
 
-pub Stands-long : (text : List ℕ) (part : List ℕ) (more : List ℕ) (reader : Reader) → IsOneLine part → line_bytes < length reader.line.items + length part → Stands text reader → StopsAt ⊥ ((text ++ part) ++ more) reader (halt.Line line_bytes)
+pub Stands-long : (text : List ℕ) (part : List ℕ) (more : List ℕ) (reader : ReaderView) → IsOneLine part → line_bytes < length reader.line + length part → Stands text reader → StopsAt ⊥ ((text ++ part) ++ more) reader (halt.Line line_bytes)
 Stands-long text part more reader one-part long stands =
     let goes = ap (feed_entries reader.feeder.core.config) (append_assoc text part more) ∙ text_goes text reader stands (part ++ more) in
-    let regrouped = ap (λ (t : List ℕ). told_behind reader.feeder.core.history (feed_lines reader.number stands.reading (lines_of t))) (sym (append_assoc reader.line.items part more)) in
-    let size : line_bytes < length (reader.line.items ++ part) = omega (arith, length-append reader.line.items part, long) in
-    let one = IsOneLine-both reader.line.items part stands.line one-part in
+    let regrouped = ap (λ (t : List ℕ). told_behind reader.feeder.core.history (feed_lines reader.number stands.reading (lines_of t))) (sym (append_assoc reader.line part more)) in
+    let size : line_bytes < length (reader.line ++ part) = omega (arith, length-append reader.line part, long) in
+    let one = IsOneLine-both reader.line part stands.line one-part in
     record {
-      told = goes ∙ regrouped ∙ long_text reader.number stands.reading reader.feeder.core.history (reader.line.items ++ part) more one size;
+      told = goes ∙ regrouped ∙ long_text reader.number stands.reading reader.feeder.core.history (reader.line ++ part) more one size;
       at_line = (text ++ part, inr (inl (long_line text part more reader stands one size)), long_number text part reader stands one size);
       given = given_before ⊥ text ((text ++ part) ++ more) reader reader.feeder.core.history stands (front_of text part more) refl;
-      counts = long_counts text ((text ++ part) ++ more) (reader.line.items ++ part) more reader stands one size
+      counts = long_counts text ((text ++ part) ++ more) (reader.line ++ part) more reader stands one size
           (λ session. ap (λ (t : List ℕ). session_in reader.feeder.core.config t session) (append_assoc text part more)
           ∙ text_in text reader stands (part ++ more) session
-          ∙ ap (λ (t : List ℕ). session_in reader.feeder.core.config stands.whole session + lines_bytes_in stands.reading (lines_of t) session) (sym (append_assoc reader.line.items part more)));
+          ∙ ap (λ (t : List ℕ). session_in reader.feeder.core.config stands.whole session + lines_bytes_in stands.reading (lines_of t) session) (sym (append_assoc reader.line part more)));
     }
 
 -- a line feed comes
-line_goes : (text more : List ℕ) (reader : Reader) (stands : Stands text reader) → feed_entries reader.feeder.core.config ((text ++ 10 ∷ []) ++ more) ≡ told_behind reader.feeder.core.history (feed_lines reader.number stands.reading (reader.line.items ∷ lines_of more))
+line_goes : (text more : List ℕ) (reader : ReaderView) (stands : Stands text reader) → feed_entries reader.feeder.core.config ((text ++ 10 ∷ []) ++ more) ≡ told_behind reader.feeder.core.history (feed_lines reader.number stands.reading (reader.line ∷ lines_of more))
 line_goes text more reader stands =
     ap (feed_entries reader.feeder.core.config) (append_assoc text (10 ∷ []) more) ∙ text_goes text reader stands ((10 ∷ []) ++ more)
-    ∙ ap (λ (ls : List (List ℕ)). told_behind reader.feeder.core.history (feed_lines reader.number stands.reading ls)) (lines-line reader.line.items more stands.line)
+    ∙ ap (λ (ls : List (List ℕ)). told_behind reader.feeder.core.history (feed_lines reader.number stands.reading ls)) (lines-line reader.line more stands.line)
 
-line_feed_in : (text more : List ℕ) (reader : Reader) (stands : Stands text reader) (session : ℕ) → session_in reader.feeder.core.config ((text ++ 10 ∷ []) ++ more) session ≡ session_in reader.feeder.core.config stands.whole session + lines_bytes_in stands.reading (reader.line.items ∷ lines_of more) session
+line_feed_in : (text more : List ℕ) (reader : ReaderView) (stands : Stands text reader) (session : ℕ) → session_in reader.feeder.core.config ((text ++ 10 ∷ []) ++ more) session ≡ session_in reader.feeder.core.config stands.whole session + lines_bytes_in stands.reading (reader.line ∷ lines_of more) session
 line_feed_in text more reader stands session =
     ap (λ (t : List ℕ). session_in reader.feeder.core.config t session) (append_assoc text (10 ∷ []) more)
     ∙ text_in text reader stands ((10 ∷ []) ++ more) session
-    ∙ ap (λ (ls : List (List ℕ)). session_in reader.feeder.core.config stands.whole session + lines_bytes_in stands.reading ls session) (lines-line reader.line.items more stands.line)
+    ∙ ap (λ (ls : List (List ℕ)). session_in reader.feeder.core.config stands.whole session + lines_bytes_in stands.reading ls session) (lines-line reader.line more stands.line)
 
 -- with its line feed the line is counted
-line_feed_read : (text : List ℕ) (old : Reader) (new : Feeder) (stands : Stands text old) (one : Took old.number stands.reading old.line.items old.feeder new) (session : ℕ) → session_in old.feeder.core.config (text ++ 10 ∷ []) session ≡ session_in old.feeder.core.config stands.whole session + one.bytes session
+line_feed_read : (text : List ℕ) (old : ReaderView) (new : FeederView) (stands : Stands text old) (one : Took old.number stands.reading old.line old.feeder new) (session : ℕ) → session_in old.feeder.core.config (text ++ 10 ∷ []) session ≡ session_in old.feeder.core.config stands.whole session + one.bytes session
 line_feed_read text old new stands one session =
     ap (λ (t : List ℕ). session_in old.feeder.core.config t session) (sym (append-nil (text ++ 10 ∷ [])))
     ∙ line_feed_in text [] old stands session
     ∙ ap (λ (n : ℕ). session_in old.feeder.core.config stands.whole session + n) (one.reads_on [] session ∙ omega arith)
 
-line_reads_on : (text more : List ℕ) (old : Reader) (new : Feeder) (stands : Stands text old) (one : Took old.number stands.reading old.line.items old.feeder new) (session : ℕ) → session_in old.feeder.core.config ((text ++ 10 ∷ []) ++ more) session ≡ session_in old.feeder.core.config (text ++ 10 ∷ []) session + lines_bytes_in one.next (lines_of more) session
+line_reads_on : (text more : List ℕ) (old : ReaderView) (new : FeederView) (stands : Stands text old) (one : Took old.number stands.reading old.line old.feeder new) (session : ℕ) → session_in old.feeder.core.config ((text ++ 10 ∷ []) ++ more) session ≡ session_in old.feeder.core.config (text ++ 10 ∷ []) session + lines_bytes_in one.next (lines_of more) session
 line_reads_on text more old new stands one session =
     let all = line_feed_in text more old stands session in
     let here = line_feed_read text old new stands one session in
@@ -349,15 +348,15 @@ line_reads_on text more old new stands one session =
     omega (arith, all, here, next)
 
 -- the line counts as one
-line_count : (text more : List ℕ) (old : Reader) (stands : Stands text old) → length (lines_of ((text ++ 10 ∷ []) ++ more)) + 1 ≡ (old.number + 1) + length (lines_of more)
+line_count : (text more : List ℕ) (old : ReaderView) (stands : Stands text old) → length (lines_of ((text ++ 10 ∷ []) ++ more)) + 1 ≡ (old.number + 1) + length (lines_of more)
 line_count text more old stands =
-    let all = ap (λ (t : List ℕ). length (lines_of t)) (append_assoc text (10 ∷ []) more ∙ ap (λ (t : List ℕ). t ++ 10 ∷ more) stands.text_is ∙ append_assoc stands.whole old.line.items (10 ∷ more)) in
-    let one = ap length (lines-line old.line.items more stands.line) in
-    omega (arith, all, one, stands.count (old.line.items ++ 10 ∷ more))
+    let all = ap (λ (t : List ℕ). length (lines_of t)) (append_assoc text (10 ∷ []) more ∙ ap (λ (t : List ℕ). t ++ 10 ∷ more) stands.text_is ∙ append_assoc stands.whole old.line (10 ∷ more)) in
+    let one = ap length (lines-line old.line more stands.line) in
+    omega (arith, all, one, stands.count (old.line ++ 10 ∷ more))
 
-pub Stands-line : (text : List ℕ) (old new : Reader) (out out' : SinkView) (stands : Stands text old) → TreatsLine stands.reading (feed_line_of old.line.items) old.feeder new.feeder out out' (Ok tt) → new.line.items ≡ [] → new.number ≡ old.number + 1 → Stands (text ++ 10 ∷ []) new
+pub Stands-line : (text : List ℕ) (old new : ReaderView) (out out' : SinkView) (stands : Stands text old) → TreatsLine stands.reading (feed_line_of old.line) old.feeder new.feeder out out' (Ok tt) → new.line ≡ [] → new.number ≡ old.number + 1 → Stands (text ++ 10 ∷ []) new
 Stands-line text old new out out' stands treats line number =
-    let one = took old.number stands.reading old.line.items old.feeder new.feeder out out' treats in
+    let one = took old.number stands.reading old.line old.feeder new.feeder out out' treats in
     record {
       whole = text ++ 10 ∷ [];
       reading = one.next;
@@ -365,20 +364,20 @@ Stands-line text old new out out' stands treats line number =
       line = rw line refl;
       ends = λ part none. ap whole_lines (append_assoc text (10 ∷ []) part) ∙ whole-feed text part ∙ ap (λ (bs : List ℕ). text ++ 10 ∷ bs) (whole-none part none);
       count = λ more. rw number (line_count text more old stands);
-      goes_on = λ more. ap (λ (c : Config). feed_entries c ((text ++ 10 ∷ []) ++ more)) (line_config stands.reading (feed_line_of old.line.items) old.feeder new.feeder out out' (Ok tt) treats) ∙ line_goes text more old stands ∙ one.goes_on (lines_of more) ∙ ap (λ (n : ℕ). told_behind new.feeder.core.history (feed_lines n one.next (lines_of more))) (sym number);
+      goes_on = λ more. ap (λ (c : Config). feed_entries c ((text ++ 10 ∷ []) ++ more)) (line_config stands.reading (feed_line_of old.line) old.feeder new.feeder out out' (Ok tt) treats) ∙ line_goes text more old stands ∙ one.goes_on (lines_of more) ∙ ap (λ (n : ℕ). told_behind new.feeder.core.history (feed_lines n one.next (lines_of more))) (sym number);
       is = one.is;
-      read = subst (λ (c : Config). HaveRead c (text ++ 10 ∷ []) new.feeder.reads) (sym (line_config stands.reading (feed_line_of old.line.items) old.feeder new.feeder out out' (Ok tt) treats))
+      read = subst (λ (c : Config). HaveRead c (text ++ 10 ∷ []) new.feeder.reads) (sym (line_config stands.reading (feed_line_of old.line) old.feeder new.feeder out out' (Ok tt) treats))
           (λ session. one.counts (session_in old.feeder.core.config stands.whole) stands.read session ∙ ap counted (sym (line_feed_read text old new.feeder stands one session)));
-      reads_on = λ more session. subst (λ (c : Config). session_in c ((text ++ 10 ∷ []) ++ more) session ≡ session_in c (text ++ 10 ∷ []) session + lines_bytes_in one.next (lines_of more) session) (sym (line_config stands.reading (feed_line_of old.line.items) old.feeder new.feeder out out' (Ok tt) treats))
+      reads_on = λ more session. subst (λ (c : Config). session_in c ((text ++ 10 ∷ []) ++ more) session ≡ session_in c (text ++ 10 ∷ []) session + lines_bytes_in one.next (lines_of more) session) (sym (line_config stands.reading (feed_line_of old.line) old.feeder new.feeder out out' (Ok tt) treats))
           (line_reads_on text more old new.feeder stands one session);
     }
 
-pub Stands-line-stopped : (text more : List ℕ) (old new : Reader) (out out' : SinkView) (why : Halt) (stands : Stands text old) → TreatsLine stands.reading (feed_line_of old.line.items) old.feeder new.feeder out out' (Err why) → new.number ≡ old.number → StopsAt ⊥ ((text ++ 10 ∷ []) ++ more) new why
+pub Stands-line-stopped : (text more : List ℕ) (old new : ReaderView) (out out' : SinkView) (why : Halt) (stands : Stands text old) → TreatsLine stands.reading (feed_line_of old.line) old.feeder new.feeder out out' (Err why) → new.number ≡ old.number → StopsAt ⊥ ((text ++ 10 ∷ []) ++ more) new why
 Stands-line-stopped text more old new out out' why stands treats number =
-    let same = sym (line_config stands.reading (feed_line_of old.line.items) old.feeder new.feeder out out' (Err why) treats) in
+    let same = sym (line_config stands.reading (feed_line_of old.line) old.feeder new.feeder out out' (Err why) treats) in
     record {
       told = subst (λ (c : Config). StoppedAs c (feed_entries c ((text ++ 10 ∷ []) ++ more)) new.feeder.core.history new.number why) same
-          (rw (line_goes text more old stands, number) (stopped old.number stands.reading old.line.items old.feeder new.feeder out out' why treats (lines_of more)));
+          (rw (line_goes text more old stands, number) (stopped old.number stands.reading old.line old.feeder new.feeder out out' why treats (lines_of more)));
       at_line = rw number (line_at ⊥ text ((text ++ 10 ∷ []) ++ more) old new.feeder out out' why stands (inl (more, append_assoc text (10 ∷ []) more)) treats);
       given = subst (λ (c : Config). GivenBy ⊥ c ((text ++ 10 ∷ []) ++ more) new.feeder.core.history) same
           (line_gives ⊥ text ((text ++ 10 ∷ []) ++ more) old new.feeder out out' why stands (inl (more, append_assoc text (10 ∷ []) more)) treats);
@@ -389,7 +388,7 @@ Stands-line-stopped text more old new out out' why stands treats number =
 -- ---- the end of the text
 
 -- nothing came of a last line
-pub ends-empty : (text : List ℕ) (reader : Reader) → Stands text reader → reader.line.items ≡ [] → AllTaken text reader
+pub ends-empty : (text : List ℕ) (reader : ReaderView) → Stands text reader → reader.line ≡ [] → AllTaken text reader
 ends-empty text reader stands none =
     let is : text ≡ stands.whole = stands.text_is ∙ ap (λ (t : List ℕ). stands.whole ++ t) none ∙ append-nil stands.whole in
     record {
@@ -400,21 +399,21 @@ ends-empty text reader stands none =
     }
 
 -- the last line, which has no line feed, gives its bytes too
-last_in : (text : List ℕ) (old : Reader) (stands : Stands text old) → old.line.items ≢ [] → (session : ℕ) → session_in old.feeder.core.config text session ≡ session_in old.feeder.core.config stands.whole session + lines_bytes_in stands.reading (old.line.items ∷ []) session
+last_in : (text : List ℕ) (old : ReaderView) (stands : Stands text old) → old.line ≢ [] → (session : ℕ) → session_in old.feeder.core.config text session ≡ session_in old.feeder.core.config stands.whole session + lines_bytes_in stands.reading (old.line ∷ []) session
 last_in text old stands some session =
     ap (λ (t : List ℕ). session_in old.feeder.core.config t session) (sym (append-nil text))
     ∙ text_in text old stands [] session
-    ∙ ap (λ (t : List ℕ). session_in old.feeder.core.config stands.whole session + lines_bytes_in stands.reading (lines_of t) session) (append-nil old.line.items)
-    ∙ ap (λ (ls : List (List ℕ)). session_in old.feeder.core.config stands.whole session + lines_bytes_in stands.reading ls session) (last_line old.line.items stands.line some)
+    ∙ ap (λ (t : List ℕ). session_in old.feeder.core.config stands.whole session + lines_bytes_in stands.reading (lines_of t) session) (append-nil old.line)
+    ∙ ap (λ (ls : List (List ℕ)). session_in old.feeder.core.config stands.whole session + lines_bytes_in stands.reading ls session) (last_line old.line stands.line some)
 
-pub ends-line : (text : List ℕ) (old : Reader) (new : Feeder) (out out' : SinkView) (result : Result (Unit {0}) Halt) (stands : Stands text old) → old.line.items ≢ [] → TreatsLine stands.reading (feed_line_of old.line.items) old.feeder new out out' result → AllOrStopped text (record { feeder = new; line = old.line; number = old.number }) result
+pub ends-line : (text : List ℕ) (old : ReaderView) (new : FeederView) (out out' : SinkView) (result : Result (Unit {0}) Halt) (stands : Stands text old) → old.line ≢ [] → TreatsLine stands.reading (feed_line_of old.line) old.feeder new out out' result → AllOrStopped text (record { feeder = new; line = old.line; number = old.number }) result
 ends-line text old new out out' (Ok done) stands some treats =
-    let one = took old.number stands.reading old.line.items old.feeder new out out' treats in
-    let same = line_config stands.reading (feed_line_of old.line.items) old.feeder new out out' (Ok tt) treats in
+    let one = took old.number stands.reading old.line old.feeder new out out' treats in
+    let same = line_config stands.reading (feed_line_of old.line) old.feeder new out out' (Ok tt) treats in
     record {
       told = ap (λ (c : Config). feed_entries c text) same
           ∙ at_end text old stands
-          ∙ ap (λ (ls : List (List ℕ)). told_behind old.feeder.core.history (feed_lines old.number stands.reading ls)) (last_line old.line.items stands.line some)
+          ∙ ap (λ (ls : List (List ℕ)). told_behind old.feeder.core.history (feed_lines old.number stands.reading ls)) (last_line old.line stands.line some)
           ∙ one.goes_on []
           ∙ ap (λ (es : List Entry). record { entries = es; stop = AllRead }) (append-nil new.core.history);
       read = subst (λ (c : Config). HaveRead c text new.reads) (sym same)
@@ -422,11 +421,11 @@ ends-line text old new out out' (Ok done) stands some treats =
           ∙ ap counted (sym (last_in text old stands some session ∙ ap (λ (n : ℕ). session_in old.feeder.core.config stands.whole session + n) (one.reads_on [] session ∙ omega arith))));
     }
 ends-line text old new out out' (Err why) stands some treats =
-    let same = sym (line_config stands.reading (feed_line_of old.line.items) old.feeder new out out' (Err why) treats) in
+    let same = sym (line_config stands.reading (feed_line_of old.line) old.feeder new out out' (Err why) treats) in
     record {
       told = subst (λ (c : Config). StoppedAs c (feed_entries c text) new.core.history old.number why) same
-          (rw (at_end text old stands ∙ ap (λ (ls : List (List ℕ)). told_behind old.feeder.core.history (feed_lines old.number stands.reading ls)) (last_line old.line.items stands.line some))
-          (stopped old.number stands.reading old.line.items old.feeder new out out' why treats []));
+          (rw (at_end text old stands ∙ ap (λ (ls : List (List ℕ)). told_behind old.feeder.core.history (feed_lines old.number stands.reading ls)) (last_line old.line stands.line some))
+          (stopped old.number stands.reading old.line old.feeder new out out' why treats []));
       at_line = line_at ⊤ text text old new out out' why stands (inr (inr (refl, tt))) treats;
       given = subst (λ (c : Config). GivenBy ⊤ c text new.core.history) same (line_gives ⊤ text text old new out out' why stands (inr (inr (refl, tt))) treats);
       counts = subst (λ (c : Config). CountsTo why ⊤ c text new.core.history new.reads) same
@@ -445,17 +444,17 @@ Prints-then a b c o1 o2 o3 result h i = record {
   refusals_stay = omega (arith, h.refusals_stay, i.refusals_stay);
 }
 
-stands_regrouped : (text front bytes : List ℕ) (reader : Reader) (result : Result (Unit {0}) Halt) → StandsOrStopped ((text ++ front) ++ bytes) reader result → StandsOrStopped (text ++ (front ++ bytes)) reader result
+stands_regrouped : (text front bytes : List ℕ) (reader : ReaderView) (result : Result (Unit {0}) Halt) → StandsOrStopped ((text ++ front) ++ bytes) reader result → StandsOrStopped (text ++ (front ++ bytes)) reader result
 stands_regrouped text front bytes reader result h = subst (λ (t : List ℕ). StandsOrStopped t reader result) (append_assoc text front bytes) h
 
-pub Takes-then : (text front bytes : List ℕ) (a b c : Reader) (o1 o2 o3 : SinkView) (result : Result (Unit {0}) Halt) → Takes text front a b o1 o2 (Ok tt) → Takes (text ++ front) bytes b c o2 o3 result → Takes text (front ++ bytes) a c o1 o3 result
+pub Takes-then : (text front bytes : List ℕ) (a b c : ReaderView) (o1 o2 o3 : SinkView) (result : Result (Unit {0}) Halt) → Takes text front a b o1 o2 (Ok tt) → Takes (text ++ front) bytes b c o2 o3 result → Takes text (front ++ bytes) a c o1 o3 result
 Takes-then text front bytes a b c o1 o2 o3 result h i = record {
   stands = stands_regrouped text front bytes c result i.stands;
   prints = Prints-then a.feeder.core b.feeder.core c.feeder.core o1 o2 o3 result h.prints i.prints;
 }
 
 -- a reader that stopped has stopped whatever follows
-pub Takes-stopped : (text front bytes : List ℕ) (a c : Reader) (o1 o3 : SinkView) (why : Halt) → Takes text front a c o1 o3 (Err why) → Takes text (front ++ bytes) a c o1 o3 (Err why)
+pub Takes-stopped : (text front bytes : List ℕ) (a c : ReaderView) (o1 o3 : SinkView) (why : Halt) → Takes text front a c o1 o3 (Err why) → Takes text (front ++ bytes) a c o1 o3 (Err why)
 Takes-stopped text front bytes a c o1 o3 why h = record {
   stands = λ more. subst (λ (t : List ℕ). StopsAt ⊥ t c why)
       (sym (append_assoc (text ++ front) bytes more) ∙ ap (λ (t : List ℕ). t ++ more) (append_assoc text front bytes))
@@ -463,16 +462,16 @@ Takes-stopped text front bytes a c o1 o3 why h = record {
   prints = h.prints;
 }
 
-pub Takes-nothing : (text : List ℕ) (reader : Reader) (out : SinkView) → Stands text reader → Takes text [] reader reader out out (Ok tt)
+pub Takes-nothing : (text : List ℕ) (reader : ReaderView) (out : SinkView) → Stands text reader → Takes text [] reader reader out out (Ok tt)
 Takes-nothing text reader out stands = record {
   stands = subst (λ (t : List ℕ). Stands t reader) (sym (append-nil text)) stands;
   prints = Prints-stays reader.feeder.core out (Ok tt) (λ e. cc);
 }
 
 -- the whole lines of the text gave the history, and are counted
-pub Stands-whole : (text : List ℕ) (reader : Reader) → Stands text reader → AllTaken (whole_lines text) reader
+pub Stands-whole : (text : List ℕ) (reader : ReaderView) → Stands text reader → AllTaken (whole_lines text) reader
 Stands-whole text reader stands =
-    let is : whole_lines text ≡ stands.whole = ap whole_lines stands.text_is ∙ stands.ends reader.line.items stands.line in
+    let is : whole_lines text ≡ stands.whole = ap whole_lines stands.text_is ∙ stands.ends reader.line stands.line in
     record {
       told = ap (feed_entries reader.feeder.core.config) (is ∙ sym (append-nil stands.whole))
           ∙ stands.goes_on []
@@ -481,5 +480,5 @@ Stands-whole text reader stands =
     }
 
 -- the whole lines gave the history
-pub Stands-given : (Over : Type 0) (text : List ℕ) (reader : Reader) → Stands text reader → GivenBy Over reader.feeder.core.config text reader.feeder.core.history
+pub Stands-given : (Over : Type 0) (text : List ℕ) (reader : ReaderView) → Stands text reader → GivenBy Over reader.feeder.core.config text reader.feeder.core.history
 Stands-given Over text reader stands = given_before Over text text reader reader.feeder.core.history stands (record { behind = []; joined = sym (append-nil text) }) refl

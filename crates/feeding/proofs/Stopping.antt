@@ -14,8 +14,7 @@ use Rattle.history_parts.specs.Counts.{count_of}
 use Rattle.history_parts.specs.CoreView.{CoreView}
 use Rattle.line_feeding.specs.declared.halt.Halt.{Halt}
 use Rattle.line_feeding.specs.declared.halt.Halt.TheVariants as halt
-use Rattle.feeding.specs.declared.feeder.Feeder.{Feeder}
-use Rattle.feeding.specs.declared.reader.Reader.{Reader}
+use Rattle.feeding.specs.Views.{FeederView, ReaderView}
 use Rattle.line_feeding.specs.Going.{SinkView, WentOn}
 use Rattle.line_feeding.specs.Reads.{HaveRead, AddsLine}
 use Rattle.feeding.specs.Reading.{TakesLine, TreatsLine}
@@ -26,29 +25,29 @@ use Rattle.line_feeding.proofs.Going.{IsFront-same, IsFront-then}
 use Rattle.feeding.proofs.AtText.{last_line, whole_told, text_entries, text_bytes_in, empty_line, said_so}
 
 -- the whole lines before the part of a line
-whole_of : (text : List ℕ) (reader : Reader) (stands : Stands text reader) → whole_lines text ≡ stands.whole
-whole_of text reader stands = ap whole_lines stands.text_is ∙ stands.ends reader.line.items stands.line
+whole_of : (text : List ℕ) (reader : ReaderView) (stands : Stands text reader) → whole_lines text ≡ stands.whole
+whole_of text reader stands = ap whole_lines stands.text_is ∙ stands.ends reader.line stands.line
 
-whole_whole : (text : List ℕ) (reader : Reader) (stands : Stands text reader) → whole_lines stands.whole ≡ stands.whole
+whole_whole : (text : List ℕ) (reader : ReaderView) (stands : Stands text reader) → whole_lines stands.whole ≡ stands.whole
 whole_whole text reader stands = ap whole_lines (sym (append-nil stands.whole)) ∙ stands.ends [] refl
 
-whole_front : (text all : List ℕ) (reader : Reader) (stands : Stands text reader) → IsFront text all → IsFront stands.whole all
-whole_front text all reader stands front = IsFront-then stands.whole text all (record { behind = reader.line.items; joined = stands.text_is }) front
+whole_front : (text all : List ℕ) (reader : ReaderView) (stands : Stands text reader) → IsFront text all → IsFront stands.whole all
+whole_front text all reader stands front = IsFront-then stands.whole text all (record { behind = reader.line; joined = stands.text_is }) front
 
 -- the whole lines have ended
-whole_ended : (Over : Type 0) (text all : List ℕ) (reader : Reader) (stands : Stands text reader) → IsFront text all → EndedLines Over all stands.whole
+whole_ended : (Over : Type 0) (text all : List ℕ) (reader : ReaderView) (stands : Stands text reader) → IsFront text all → EndedLines Over all stands.whole
 whole_ended Over text all reader stands front = record { front = whole_front text all reader stands front; ends = inl (sym (whole_whole text reader stands)) }
 
-whole_within : (text : List ℕ) (reader : Reader) (history' : List Entry) (stands : Stands text reader) → history' ≡ reader.feeder.core.history → IsFront history' (feed_entries reader.feeder.core.config stands.whole).entries
+whole_within : (text : List ℕ) (reader : ReaderView) (history' : List Entry) (stands : Stands text reader) → history' ≡ reader.feeder.core.history → IsFront history' (feed_entries reader.feeder.core.config stands.whole).entries
 whole_within text reader history' stands history = IsFront-same history' (feed_entries reader.feeder.core.config stands.whole).entries (whole_told text reader stands ∙ sym history)
 
 -- the whole lines before the part of a line gave the history
-pub given_before : (Over : Type 0) (text all : List ℕ) (reader : Reader) (history' : List Entry) → Stands text reader → IsFront text all → history' ≡ reader.feeder.core.history → GivenBy Over reader.feeder.core.config all history'
+pub given_before : (Over : Type 0) (text all : List ℕ) (reader : ReaderView) (history' : List Entry) → Stands text reader → IsFront text all → history' ≡ reader.feeder.core.history → GivenBy Over reader.feeder.core.config all history'
 given_before Over text all reader history' stands front history =
     (stands.whole, whole_ended Over text all reader stands front, whole_within text reader history' stands history)
 
 -- Nothing was done with the last line: the whole lines before it count.
-pub stopped_before : (Over : Type 0) (text all : List ℕ) (reader : Reader) (history' : List Entry) (counts' : List ℕ) → Stands text reader → IsFront text all → history' ≡ reader.feeder.core.history → counts' ≡ reader.feeder.reads → CountsTo halt.NoMemory Over reader.feeder.core.config all history' counts'
+pub stopped_before : (Over : Type 0) (text all : List ℕ) (reader : ReaderView) (history' : List Entry) (counts' : List ℕ) → Stands text reader → IsFront text all → history' ≡ reader.feeder.core.history → counts' ≡ reader.feeder.reads → CountsTo halt.NoMemory Over reader.feeder.core.config all history' counts'
 stopped_before Over text all reader history' counts' stands front history counts =
     let c = reader.feeder.core.config in
     let told = whole_told text reader stands in
@@ -63,7 +62,7 @@ stopped_before Over text all reader history' counts' stands front history counts
     }
 
 -- a line outside the grammar gives nothing, and neither does what is behind it
-pub stopped_outside : (Over : Type 0) (text all : List ℕ) (number : ℕ) (reader : Reader) (history' : List Entry) (counts' : List ℕ) (stands : Stands text reader) (line : List ℕ) (lines : List (List ℕ)) → ((session : ℕ) → session_in reader.feeder.core.config all session ≡ session_in reader.feeder.core.config stands.whole session + lines_bytes_in stands.reading (line ∷ lines) session) → (place : ℕ) → feed_line_of line ≡ Err place → counts' ≡ reader.feeder.reads → CountsTo (halt.Line number) Over reader.feeder.core.config all history' counts'
+pub stopped_outside : (Over : Type 0) (text all : List ℕ) (number : ℕ) (reader : ReaderView) (history' : List Entry) (counts' : List ℕ) (stands : Stands text reader) (line : List ℕ) (lines : List (List ℕ)) → ((session : ℕ) → session_in reader.feeder.core.config all session ≡ session_in reader.feeder.core.config stands.whole session + lines_bytes_in stands.reading (line ∷ lines) session) → (place : ℕ) → feed_line_of line ≡ Err place → counts' ≡ reader.feeder.reads → CountsTo (halt.Line number) Over reader.feeder.core.config all history' counts'
 stopped_outside Over text all number reader history' counts' stands line lines goes place outside counts = record {
   taken = all;
   marks = refl;
@@ -75,7 +74,7 @@ stopped_outside Over text all number reader history' counts' stands line lines g
 }
 
 -- the last line counts
-line_read : (text : List ℕ) (reader : Reader) (stands : Stands text reader) (says : Line) (counts' : List ℕ) → feed_line_of reader.line.items ≡ Ok says → AddsLine stands.reading says reader.feeder.reads counts' → HaveRead reader.feeder.core.config text counts'
+line_read : (text : List ℕ) (reader : ReaderView) (stands : Stands text reader) (says : Line) (counts' : List ℕ) → feed_line_of reader.line ≡ Ok says → AddsLine stands.reading says reader.feeder.reads counts' → HaveRead reader.feeder.core.config text counts'
 line_read text reader stands says counts' is adds = λ session.
     adds (session_in reader.feeder.core.config stands.whole) stands.read session ∙ ap counted (sym (text_bytes_in text reader stands says session is))
 
@@ -89,11 +88,11 @@ line_ended : (Over : Type 0) (text all : List ℕ) → LineEnded Over all text �
 line_ended Over text all ends = record { front = ends_front Over text all ends; ends = inr ends }
 
 -- the history has no more than the last line and those before it give
-line_within : (text : List ℕ) (reader : Reader) (history' : List Entry) (stands : Stands text reader) (says : Line) → feed_line_of reader.line.items ≡ Ok says → IsFront history' (reader.feeder.core.history ++ (line_given stands.reading says).entries) → IsFront history' (feed_entries reader.feeder.core.config text).entries
+line_within : (text : List ℕ) (reader : ReaderView) (history' : List Entry) (stands : Stands text reader) (says : Line) → feed_line_of reader.line ≡ Ok says → IsFront history' (reader.feeder.core.history ++ (line_given stands.reading says).entries) → IsFront history' (feed_entries reader.feeder.core.config text).entries
 line_within text reader history' stands says is within = subst (λ (es : List Entry). IsFront history' es) (sym (text_entries text reader stands says is)) within
 
 -- it stopped in the last line
-line_stopped : (Over : Type 0) (text all : List ℕ) (reader : Reader) (new : CoreView) (stands : Stands text reader) (says : Line) → feed_line_of reader.line.items ≡ Ok says → LineEnded Over all text → IsFront reader.feeder.core.history new.history → IsFront new.history (reader.feeder.core.history ++ (line_given stands.reading says).entries) → StoppedIn Over reader.feeder.core.config all new.history text
+line_stopped : (Over : Type 0) (text all : List ℕ) (reader : ReaderView) (new : CoreView) (stands : Stands text reader) (says : Line) → feed_line_of reader.line ≡ Ok says → LineEnded Over all text → IsFront reader.feeder.core.history new.history → IsFront new.history (reader.feeder.core.history ++ (line_given stands.reading says).entries) → StoppedIn Over reader.feeder.core.config all new.history text
 line_stopped Over text all reader new stands says is ends grows within =
     let c = reader.feeder.core.config in record {
       lines = line_ended Over text all ends;
@@ -102,11 +101,11 @@ line_stopped Over text all reader new stands says is ends grows within =
     }
 
 -- how many entries the lines before it gave
-before_count : (text : List ℕ) (reader : Reader) (stands : Stands text reader) → length (feed_entries reader.feeder.core.config (whole_lines text)).entries ≡ length reader.feeder.core.history
+before_count : (text : List ℕ) (reader : ReaderView) (stands : Stands text reader) → length (feed_entries reader.feeder.core.config (whole_lines text)).entries ≡ length reader.feeder.core.history
 before_count text reader stands = ap (λ (t : List ℕ). length (feed_entries reader.feeder.core.config t).entries) (whole_of text reader stands) ∙ ap length (whole_told text reader stands)
 
 -- a line that is taken stopped the reader
-taken_counts : (Over : Type 0) (text all : List ℕ) (old : Reader) (new : Feeder) (out out' : SinkView) (why : Halt) (stands : Stands text old) (says : Line) → feed_line_of old.line.items ≡ Ok says → LineEnded Over all text → TakesLine stands.reading says old.feeder new out out' (Err why) → CountsTo why Over old.feeder.core.config all new.core.history new.reads
+taken_counts : (Over : Type 0) (text all : List ℕ) (old : ReaderView) (new : FeederView) (out out' : SinkView) (why : Halt) (stands : Stands text old) (says : Line) → feed_line_of old.line ≡ Ok says → LineEnded Over all text → TakesLine stands.reading says old.feeder new out out' (Err why) → CountsTo why Over old.feeder.core.config all new.core.history new.reads
 taken_counts Over text all old new out out' (halt.Line place) stands says is ends h = absurd h.goes.went
 taken_counts Over text all old new out out' halt.Quit stands says is ends h = absurd h.goes.went
 taken_counts Over text all old new out out' halt.Full stands says is ends h =
@@ -152,21 +151,21 @@ stopped_cases true (Err w) why e = inl (sym e)
 stopped_cases false taken why e = inl (sym e)
 
 -- behind the line that ends the run nothing is read
-quit_counts : (Over : Type 0) (text all : List ℕ) (old : Reader) (new : Feeder) (out out' : SinkView) (stands : Stands text old) (lines : List (List ℕ)) (says : Line) → feed_line_of old.line.items ≡ Ok says → is_quit says ≡ true → ((session : ℕ) → session_in old.feeder.core.config all session ≡ session_in old.feeder.core.config stands.whole session + lines_bytes_in stands.reading (old.line.items ∷ lines) session) → TakesLine stands.reading says old.feeder new out out' (Ok tt) → CountsTo halt.Quit Over old.feeder.core.config all new.core.history new.reads
+quit_counts : (Over : Type 0) (text all : List ℕ) (old : ReaderView) (new : FeederView) (out out' : SinkView) (stands : Stands text old) (lines : List (List ℕ)) (says : Line) → feed_line_of old.line ≡ Ok says → is_quit says ≡ true → ((session : ℕ) → session_in old.feeder.core.config all session ≡ session_in old.feeder.core.config stands.whole session + lines_bytes_in stands.reading (old.line ∷ lines) session) → TakesLine stands.reading says old.feeder new out out' (Ok tt) → CountsTo halt.Quit Over old.feeder.core.config all new.core.history new.reads
 quit_counts Over text all old new out out' stands lines says is quits goes h = record {
   taken = all;
   marks = refl;
   read = λ session.
-      let here : lines_bytes_in stands.reading (old.line.items ∷ lines) session ≡ line_bytes_in stands.reading says session + 0 =
+      let here : lines_bytes_in stands.reading (old.line ∷ lines) session ≡ line_bytes_in stands.reading says session + 0 =
       ap (λ (o : Result Line ℕ). line_and_more stands.reading o session (λ next. lines_bytes_in next lines session)) is
       ∙ ap (λ (b : Bool). line_bytes_in stands.reading says session + (if b then 0 else lines_bytes_in (reading_after stands.reading says) lines session)) quits in
       let same : session_in old.feeder.core.config stands.whole session + line_bytes_in stands.reading says session ≡ session_in old.feeder.core.config all session = omega (arith, goes session, here) in
       h.counts (session_in old.feeder.core.config stands.whole) stands.read session ∙ ap counted same;
 }
 
-refused_counts : (Over : Type 0) (text all : List ℕ) (old : Reader) (new : Feeder) (why : Halt) (stands : Stands text old) (lines : List (List ℕ)) → LineEnded Over all text → ((session : ℕ) → session_in old.feeder.core.config all session ≡ session_in old.feeder.core.config stands.whole session + lines_bytes_in stands.reading (old.line.items ∷ lines) session) → (place : ℕ) → feed_line_of old.line.items ≡ Err place → (failed why ≡ failed (halt.Line place)) ⊎ (failed why ≡ failed halt.NoMemory) → new.core.history ≡ old.feeder.core.history → new.reads ≡ old.feeder.reads → CountsTo why Over old.feeder.core.config all new.core.history new.reads
+refused_counts : (Over : Type 0) (text all : List ℕ) (old : ReaderView) (new : FeederView) (why : Halt) (stands : Stands text old) (lines : List (List ℕ)) → LineEnded Over all text → ((session : ℕ) → session_in old.feeder.core.config all session ≡ session_in old.feeder.core.config stands.whole session + lines_bytes_in stands.reading (old.line ∷ lines) session) → (place : ℕ) → feed_line_of old.line ≡ Err place → (failed why ≡ failed (halt.Line place)) ⊎ (failed why ≡ failed halt.NoMemory) → new.core.history ≡ old.feeder.core.history → new.reads ≡ old.feeder.reads → CountsTo why Over old.feeder.core.config all new.core.history new.reads
 refused_counts Over text all old new (halt.Line here) stands lines ends goes place outside refused history reads =
-    stopped_outside Over text all here old new.core.history new.reads stands old.line.items lines goes place outside reads
+    stopped_outside Over text all here old new.core.history new.reads stands old.line lines goes place outside reads
 refused_counts Over text all old new halt.NoMemory stands lines ends goes place outside refused history reads =
     stopped_before Over text all old new.core.history new.reads stands (ends_front Over text all ends) history reads
 refused_counts Over text all old new halt.Full stands lines ends goes place outside refused history reads =
@@ -176,7 +175,7 @@ refused_counts Over text all old new halt.Quit stands lines ends goes place outs
 refused_counts Over text all old new halt.Write stands lines ends goes place outside refused history reads =
     absurd (elim refused [ inl e ↦ cc | inr e ↦ cc ])
 
-counts_by : (Over : Type 0) (text all : List ℕ) (old : Reader) (new : Feeder) (out out' : SinkView) (why : Halt) (stands : Stands text old) (lines : List (List ℕ)) (says : Result Line ℕ) → feed_line_of old.line.items ≡ says → LineEnded Over all text → ((session : ℕ) → session_in old.feeder.core.config all session ≡ session_in old.feeder.core.config stands.whole session + lines_bytes_in stands.reading (old.line.items ∷ lines) session) → TreatsLine stands.reading says old.feeder new out out' (Err why) → CountsTo why Over old.feeder.core.config all new.core.history new.reads
+counts_by : (Over : Type 0) (text all : List ℕ) (old : ReaderView) (new : FeederView) (out out' : SinkView) (why : Halt) (stands : Stands text old) (lines : List (List ℕ)) (says : Result Line ℕ) → feed_line_of old.line ≡ says → LineEnded Over all text → ((session : ℕ) → session_in old.feeder.core.config all session ≡ session_in old.feeder.core.config stands.whole session + lines_bytes_in stands.reading (old.line ∷ lines) session) → TreatsLine stands.reading says old.feeder new out out' (Err why) → CountsTo why Over old.feeder.core.config all new.core.history new.reads
 counts_by Over text all old new out out' why stands lines (Err place) is ends goes h =
     refused_counts Over text all old new why stands lines ends goes place is h.refused (ap (λ (v : CoreView). v.history) h.core_stays) h.reads_stay
 counts_by Over text all old new out out' why stands lines (Ok says) is ends goes h = elim (stopped_cases (is_quit says) h.0 why h.1) [
@@ -186,9 +185,9 @@ counts_by Over text all old new out out' why stands lines (Ok says) is ends goes
 ]
 
 -- The last line stopped the reader, whatever follows it.
-pub line_counts : (Over : Type 0) (text all : List ℕ) (old : Reader) (new : Feeder) (out out' : SinkView) (why : Halt) (stands : Stands text old) (lines : List (List ℕ)) → LineEnded Over all text → ((session : ℕ) → session_in old.feeder.core.config all session ≡ session_in old.feeder.core.config stands.whole session + lines_bytes_in stands.reading (old.line.items ∷ lines) session) → TreatsLine stands.reading (feed_line_of old.line.items) old.feeder new out out' (Err why) → CountsTo why Over old.feeder.core.config all new.core.history new.reads
+pub line_counts : (Over : Type 0) (text all : List ℕ) (old : ReaderView) (new : FeederView) (out out' : SinkView) (why : Halt) (stands : Stands text old) (lines : List (List ℕ)) → LineEnded Over all text → ((session : ℕ) → session_in old.feeder.core.config all session ≡ session_in old.feeder.core.config stands.whole session + lines_bytes_in stands.reading (old.line ∷ lines) session) → TreatsLine stands.reading (feed_line_of old.line) old.feeder new out out' (Err why) → CountsTo why Over old.feeder.core.config all new.core.history new.reads
 line_counts Over text all old new out out' why stands lines ends goes h =
-    counts_by Over text all old new out out' why stands lines (feed_line_of old.line.items) refl ends goes h
+    counts_by Over text all old new out out' why stands lines (feed_line_of old.line) refl ends goes h
 
 -- ---- what the lines gave that have ended
 
@@ -199,7 +198,7 @@ went_within core core' given halt.Full went = record { behind = went.next ∷ we
 went_within core core' given halt.Write went = went
 went_within core core' given halt.NoMemory went = went
 
-gives_by : (Over : Type 0) (text all : List ℕ) (old : Reader) (new : Feeder) (out out' : SinkView) (why : Halt) (stands : Stands text old) (says : Result Line ℕ) → feed_line_of old.line.items ≡ says → LineEnded Over all text → TreatsLine stands.reading says old.feeder new out out' (Err why) → GivenBy Over old.feeder.core.config all new.core.history
+gives_by : (Over : Type 0) (text all : List ℕ) (old : ReaderView) (new : FeederView) (out out' : SinkView) (why : Halt) (stands : Stands text old) (says : Result Line ℕ) → feed_line_of old.line ≡ says → LineEnded Over all text → TreatsLine stands.reading says old.feeder new out out' (Err why) → GivenBy Over old.feeder.core.config all new.core.history
 gives_by Over text all old new out out' why stands (Err place) is ends h =
     given_before Over text all old new.core.history stands (ends_front Over text all ends) (ap (λ (v : CoreView). v.history) h.core_stays)
 gives_by Over text all old new out out' why stands (Ok says) is ends h = (
@@ -211,8 +210,8 @@ gives_by Over text all old new out out' why stands (Ok says) is ends h = (
   ]),
 )
 
-pub line_gives : (Over : Type 0) (text all : List ℕ) (old : Reader) (new : Feeder) (out out' : SinkView) (why : Halt) (stands : Stands text old) → LineEnded Over all text → TreatsLine stands.reading (feed_line_of old.line.items) old.feeder new out out' (Err why) → GivenBy Over old.feeder.core.config all new.core.history
-line_gives Over text all old new out out' why stands ends h = gives_by Over text all old new out out' why stands (feed_line_of old.line.items) refl ends h
+pub line_gives : (Over : Type 0) (text all : List ℕ) (old : ReaderView) (new : FeederView) (out out' : SinkView) (why : Halt) (stands : Stands text old) → LineEnded Over all text → TreatsLine stands.reading (feed_line_of old.line) old.feeder new out out' (Err why) → GivenBy Over old.feeder.core.config all new.core.history
+line_gives Over text all old new out out' why stands ends h = gives_by Over text all old new out out' why stands (feed_line_of old.line) refl ends h
 
 -- an empty line skips
 empty_skips : (line : List ℕ) → line ≡ [] → feed_line_of line ≡ Ok Skip
@@ -229,14 +228,14 @@ other_quit : (says : Line) → is_quit says ≡ true → said_so says ≢ Ok Ski
 other_quit says quits = λ e. let same : says ≡ Skip = cc e in let no : false ≡ true = sym (ap is_quit same) ∙ quits in cc no
 
 -- so it is the last
-last_number : (text : List ℕ) (reader : Reader) (stands : Stands text reader) → reader.line.items ≢ [] → length (lines_of text) ≡ reader.number
+last_number : (text : List ℕ) (reader : ReaderView) (stands : Stands text reader) → reader.line ≢ [] → length (lines_of text) ≡ reader.number
 last_number text reader stands some =
     let all = ap (λ (t : List ℕ). length (lines_of t)) stands.text_is in
-    let last = ap length (last_line reader.line.items stands.line some) in
-    omega (arith, all, last, stands.count reader.line.items)
+    let last = ap length (last_line reader.line stands.line some) in
+    omega (arith, all, last, stands.count reader.line)
 
-at_by : (Over : Type 0) (text all : List ℕ) (old : Reader) (new : Feeder) (out out' : SinkView) (why : Halt) (stands : Stands text old) (says : Result Line ℕ) → feed_line_of old.line.items ≡ says → LineEnded Over all text → TreatsLine stands.reading says old.feeder new out out' (Err why) → AtLine why Over all old.number
-at_by Over text all old new out out' (halt.Line here) stands (Err place) is ends h = (text, ends, last_number text old stands (not_empty old.line.items (Err place) is (other_place place)))
+at_by : (Over : Type 0) (text all : List ℕ) (old : ReaderView) (new : FeederView) (out out' : SinkView) (why : Halt) (stands : Stands text old) (says : Result Line ℕ) → feed_line_of old.line ≡ says → LineEnded Over all text → TreatsLine stands.reading says old.feeder new out out' (Err why) → AtLine why Over all old.number
+at_by Over text all old new out out' (halt.Line here) stands (Err place) is ends h = (text, ends, last_number text old stands (not_empty old.line (Err place) is (other_place place)))
 at_by Over text all old new out out' (halt.Line here) stands (Ok says) is ends h = absurd (elim (stopped_cases (is_quit says) h.0 (halt.Line here) h.1) [
   | inl halts ↦ (subst (λ (taken : Result (Unit {0}) Halt). TakesLine stands.reading says old.feeder new out out' taken) halts h.2).goes.went
   | inr quits ↦ cc (quits.2)
@@ -244,15 +243,15 @@ at_by Over text all old new out out' (halt.Line here) stands (Ok says) is ends h
 at_by Over text all old new out out' halt.Quit stands (Err place) is ends h = absurd (elim h.refused [ inl e ↦ cc | inr e ↦ cc ])
 at_by Over text all old new out out' halt.Quit stands (Ok says) is ends h = elim (stopped_cases (is_quit says) h.0 halt.Quit h.1) [
   | inl halts ↦ absurd ((subst (λ (taken : Result (Unit {0}) Halt). TakesLine stands.reading says old.feeder new out out' taken) halts h.2).goes.went)
-  | inr quits ↦ (text, ends, last_number text old stands (not_empty old.line.items (Ok says) is (other_quit says quits.0)))
+  | inr quits ↦ (text, ends, last_number text old stands (not_empty old.line (Ok says) is (other_quit says quits.0)))
 ]
 at_by Over text all old new out out' halt.Full stands says is ends h = tt
 at_by Over text all old new out out' halt.Write stands says is ends h = tt
 at_by Over text all old new out out' halt.NoMemory stands says is ends h = tt
 
 -- where the last line is outside the grammar it has ended, and its number is told
-pub line_at : (Over : Type 0) (text all : List ℕ) (old : Reader) (new : Feeder) (out out' : SinkView) (why : Halt) (stands : Stands text old) → LineEnded Over all text → TreatsLine stands.reading (feed_line_of old.line.items) old.feeder new out out' (Err why) → AtLine why Over all old.number
-line_at Over text all old new out out' why stands ends h = at_by Over text all old new out out' why stands (feed_line_of old.line.items) refl ends h
+pub line_at : (Over : Type 0) (text all : List ℕ) (old : ReaderView) (new : FeederView) (out out' : SinkView) (why : Halt) (stands : Stands text old) → LineEnded Over all text → TreatsLine stands.reading (feed_line_of old.line) old.feeder new out out' (Err why) → AtLine why Over all old.number
+line_at Over text all old new out out' why stands ends h = at_by Over text all old new out out' why stands (feed_line_of old.line) refl ends h
 
 -- ---- what is known of the end of the text
 
@@ -284,7 +283,7 @@ at_known P Q known halt.Full text number h = tt
 at_known P Q known halt.Write text number h = tt
 at_known P Q known halt.NoMemory text number h = tt
 
-pub StopsAt-known : (P Q : Type 0) → (P → Q) → (text : List ℕ) (reader : Reader) (why : Halt) → StopsAt P text reader why → StopsAt Q text reader why
+pub StopsAt-known : (P Q : Type 0) → (P → Q) → (text : List ℕ) (reader : ReaderView) (why : Halt) → StopsAt P text reader why → StopsAt Q text reader why
 StopsAt-known P Q known text reader why h = record {
   told = h.told;
   at_line = at_known P Q known why text reader.number h.at_line;

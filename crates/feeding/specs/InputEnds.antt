@@ -5,14 +5,14 @@ use Rattle.line_grammar.specs.Texts.{whole_lines}
 use Rattle.line_feeding.specs.declared.halt.Halt.{Halt}
 use Rattle.line_feeding.specs.declared.halt.InputEnd.{InputEnd}
 use Rattle.line_feeding.specs.declared.halt.InputEnd.TheVariants as input
-use Rattle.feeding.specs.declared.reader.Reader.{Reader}
+use Rattle.feeding.specs.Views.{ReaderView}
 use Rattle.line_feeding.specs.Fed.{SourceView, ReadToEnd}
 use Rattle.line_feeding.specs.Limits.{input_bytes}
 use Rattle.feeding.specs.Standing.{AllTaken, StopsAt}
 
 -- What a text was that was read, by how its reading ended: all of it was taken; its whole lines were; or the reader
 -- stopped in it.
-abbrev pub InputEnds : InputEnd → List ℕ → Reader → SourceView → SourceView → Type 0
+abbrev pub InputEnds : InputEnd → List ℕ → ReaderView → SourceView → SourceView → Type 0
 InputEnds input.Whole text reader source source' = AllTaken text reader × ReadToEnd source source'
 InputEnds input.Fault text reader source source' = AllTaken (whole_lines text) reader × Rose source.faults source'.faults
 InputEnds input.Bound text reader source source' = AllTaken (whole_lines text) reader × (length text ≡ input_bytes)

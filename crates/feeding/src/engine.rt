@@ -8,29 +8,29 @@ ghost use Rattle.gem_model.specs.Feed.{and_then, entered, taken_all, fetched_one
 ghost use Rattle.line_feeding.specs.Going.{Goes, seen};
 
 use gem_ids::{ModuleId, Moment};
+use history_laws::Recorder;
 use hsms_frame::Arrival;
 use line_feeding::{Halt, fetches, outcome_text};
 use outside::{Sink, write_all};
 use std::alloc::Global;
-use tool_core::Core;
 use tool_events::{Event, PostFault, SessionCause, SessionEnd};
 
 /// The moment of what isn't a look at the clock: it raises no moment.
 pub const AT_ONCE: Moment = Moment(0);
 
 /// Posts an event at a moment, and writes its lines.
-fn post<K: Sink>(
+fn post<C: Recorder, K: Sink>(
     alloc: Global,
-    core: &mut Core,
+    core: &mut C,
     at: Moment,
     event: Event,
     out: &mut K,
 ) -> Result<(), Halt>
-    requires step { step core.old.state at.0 event ≢ None }
-    requires whole { core.old.is_whole ≡ true }
-    ensures goes { Goes core.old core.new (seen K.held K.faults K.refusals out.old) (seen K.held K.faults K.refusals out.new)
-        (entered core.old.state at.0 event) result }
-    ensures whole { OnOk result (core.new.is_whole ≡ true) }
+    requires step { step (C.view core.old).state at.0 event ≢ None }
+    requires whole { (C.view core.old).is_whole ≡ true }
+    ensures goes { Goes (C.view core.old) (C.view core.new) (seen K.held K.faults K.refusals out.old) (seen K.held K.faults K.refusals out.new)
+        (entered (C.view core.old).state at.0 event) result }
+    ensures whole { OnOk result ((C.view core.new).is_whole ≡ true) }
 {
     let before = core.session_up();
     let fetching = fetches(&event);
@@ -51,8 +51,8 @@ fn post<K: Sink>(
 }
 
 /// The session that was up before and has ended now, with its cause.
-fn ended_now(core: &Core, before: Option<u64>) -> Option<SessionEnd>
-    ensures { result ≡ option_and_then (λ k. option_map (λ cause. record { session = k; cause = cause }) (session_end (opening core.now.config) core.now.history k)) before }
+fn ended_now<C: Recorder>(core: &C, before: Option<u64>) -> Option<SessionEnd>
+    ensures { result ≡ option_and_then (λ k. option_map (λ cause. record { session = k; cause = cause }) (session_end (opening (C.view core.now).config) (C.view core.now).history k)) before }
 {
     let session = before?;
     let cause = core.session_end(session)?;
@@ -60,17 +60,17 @@ fn ended_now(core: &Core, before: Option<u64>) -> Option<SessionEnd>
 }
 
 /// The writer of this session takes each frame that waits.
-fn take_frames<K: Sink>(
+fn take_frames<C: Recorder, K: Sink>(
     alloc: Global,
-    core: &mut Core,
+    core: &mut C,
     session: u64,
     out: &mut K,
 ) -> Result<(), Halt>
-    requires up { is_session_up core.old.state session ≡ true }
-    requires whole { core.old.is_whole ≡ true }
-    ensures goes { Goes core.old core.new (seen K.held K.faults K.refusals out.old) (seen K.held K.faults K.refusals out.new)
-        (taken_all core.old.state) result }
-    ensures whole { OnOk result (core.new.is_whole ≡ true) }
+    requires up { is_session_up (C.view core.old).state session ≡ true }
+    requires whole { (C.view core.old).is_whole ≡ true }
+    ensures goes { Goes (C.view core.old) (C.view core.new) (seen K.held K.faults K.refusals out.old) (seen K.held K.faults K.refusals out.new)
+        (taken_all (C.view core.old).state) result }
+    ensures whole { OnOk result ((C.view core.new).is_whole ≡ true) }
 {
     while !core.idle(AT_ONCE, &Event::Take { session }) {
         match post(alloc, core, AT_ONCE, Event::Take { session }, out) {
@@ -82,11 +82,11 @@ fn take_frames<K: Sink>(
 }
 
 /// The writer takes each frame that waits.
-fn take_waiting<K: Sink>(alloc: Global, core: &mut Core, out: &mut K) -> Result<(), Halt>
-    requires { core.old.is_whole ≡ true }
-    ensures goes { Goes core.old core.new (seen K.held K.faults K.refusals out.old) (seen K.held K.faults K.refusals out.new)
-        (taken_all core.old.state) result }
-    ensures whole { OnOk result (core.new.is_whole ≡ true) }
+fn take_waiting<C: Recorder, K: Sink>(alloc: Global, core: &mut C, out: &mut K) -> Result<(), Halt>
+    requires { (C.view core.old).is_whole ≡ true }
+    ensures goes { Goes (C.view core.old) (C.view core.new) (seen K.held K.faults K.refusals out.old) (seen K.held K.faults K.refusals out.new)
+        (taken_all (C.view core.old).state) result }
+    ensures whole { OnOk result ((C.view core.new).is_whole ≡ true) }
 {
     match core.session_up() {
         Some(session) => take_frames(alloc, core, session, out),
@@ -95,18 +95,18 @@ fn take_waiting<K: Sink>(alloc: Global, core: &mut Core, out: &mut K) -> Result<
 }
 
 /// Posts an event at a moment, and then the writer takes each frame that waits.
-fn post_and_take<K: Sink>(
+fn post_and_take<C: Recorder, K: Sink>(
     alloc: Global,
-    core: &mut Core,
+    core: &mut C,
     at: Moment,
     event: Event,
     out: &mut K,
 ) -> Result<(), Halt>
-    requires step { step core.old.state at.0 event ≢ None }
-    requires whole { core.old.is_whole ≡ true }
-    ensures goes { Goes core.old core.new (seen K.held K.faults K.refusals out.old) (seen K.held K.faults K.refusals out.new)
-        (and_then (entered core.old.state at.0 event) taken_all) result }
-    ensures whole { OnOk result (core.new.is_whole ≡ true) }
+    requires step { step (C.view core.old).state at.0 event ≢ None }
+    requires whole { (C.view core.old).is_whole ≡ true }
+    ensures goes { Goes (C.view core.old) (C.view core.new) (seen K.held K.faults K.refusals out.old) (seen K.held K.faults K.refusals out.new)
+        (and_then (entered (C.view core.old).state at.0 event) taken_all) result }
+    ensures whole { OnOk result ((C.view core.new).is_whole ≡ true) }
 {
     match post(alloc, core, at, event, out) {
         Ok(()) => take_waiting(alloc, core, out),
@@ -115,11 +115,16 @@ fn post_and_take<K: Sink>(
 }
 
 /// A module fetches, where it has a command that was not fetched.
-fn fetch_one<K: Sink>(alloc: Global, core: &mut Core, m: ModuleId, out: &mut K) -> Result<(), Halt>
-    requires whole { core.old.is_whole ≡ true }
-    ensures goes { Goes core.old core.new (seen K.held K.faults K.refusals out.old) (seen K.held K.faults K.refusals out.new)
-        (fetched_one m.0 core.old.state) result }
-    ensures whole { OnOk result (core.new.is_whole ≡ true) }
+fn fetch_one<C: Recorder, K: Sink>(
+    alloc: Global,
+    core: &mut C,
+    m: ModuleId,
+    out: &mut K,
+) -> Result<(), Halt>
+    requires whole { (C.view core.old).is_whole ≡ true }
+    ensures goes { Goes (C.view core.old) (C.view core.new) (seen K.held K.faults K.refusals out.old) (seen K.held K.faults K.refusals out.new)
+        (fetched_one m.0 (C.view core.old).state) result }
+    ensures whole { OnOk result ((C.view core.new).is_whole ≡ true) }
 {
     if core.idle(AT_ONCE, &Event::Fetch(m)) {
         return Ok(());
@@ -128,11 +133,11 @@ fn fetch_one<K: Sink>(alloc: Global, core: &mut Core, m: ModuleId, out: &mut K) 
 }
 
 /// All modules fetch, in the order of their numbers; none does once the operator ended the run.
-fn fetch_all<K: Sink>(alloc: Global, core: &mut Core, out: &mut K) -> Result<(), Halt>
-    requires { core.old.is_whole ≡ true }
-    ensures goes { Goes core.old core.new (seen K.held K.faults K.refusals out.old) (seen K.held K.faults K.refusals out.new)
-        (fetched_all core.old.state) result }
-    ensures whole { OnOk result (core.new.is_whole ≡ true) }
+fn fetch_all<C: Recorder, K: Sink>(alloc: Global, core: &mut C, out: &mut K) -> Result<(), Halt>
+    requires { (C.view core.old).is_whole ≡ true }
+    ensures goes { Goes (C.view core.old) (C.view core.new) (seen K.held K.faults K.refusals out.old) (seen K.held K.faults K.refusals out.new)
+        (fetched_all (C.view core.old).state) result }
+    ensures whole { OnOk result ((C.view core.new).is_whole ≡ true) }
 {
     if core.is_quitting() {
         return Ok(());
@@ -141,11 +146,11 @@ fn fetch_all<K: Sink>(alloc: Global, core: &mut Core, out: &mut K) -> Result<(),
 }
 
 /// Each module fetches, in the order of their numbers.
-fn fetch_each<K: Sink>(alloc: Global, core: &mut Core, out: &mut K) -> Result<(), Halt>
-    requires { core.old.is_whole ≡ true }
-    ensures goes { Goes core.old core.new (seen K.held K.faults K.refusals out.old) (seen K.held K.faults K.refusals out.new)
-        (fetched_by (module_numbers 1 core.old.state.floor.modules) core.old.state) result }
-    ensures whole { OnOk result (core.new.is_whole ≡ true) }
+fn fetch_each<C: Recorder, K: Sink>(alloc: Global, core: &mut C, out: &mut K) -> Result<(), Halt>
+    requires { (C.view core.old).is_whole ≡ true }
+    ensures goes { Goes (C.view core.old) (C.view core.new) (seen K.held K.faults K.refusals out.old) (seen K.held K.faults K.refusals out.new)
+        (fetched_by (module_numbers 1 (C.view core.old).state.floor.modules) (C.view core.old).state) result }
+    ensures whole { OnOk result ((C.view core.new).is_whole ≡ true) }
 {
     let count = core.module_count();
     for index in 0..count {
@@ -158,18 +163,18 @@ fn fetch_each<K: Sink>(alloc: Global, core: &mut Core, out: &mut K) -> Result<()
 }
 
 /// Posts an event at a moment; then the writer takes each frame that waits, and the modules fetch their commands.
-pub fn input<K: Sink>(
+pub fn input<C: Recorder, K: Sink>(
     alloc: Global,
-    core: &mut Core,
+    core: &mut C,
     at: Moment,
     event: Event,
     out: &mut K,
 ) -> Result<(), Halt>
-    requires step { step core.old.state at.0 event ≢ None }
-    requires whole { core.old.is_whole ≡ true }
-    ensures goes { Goes core.old core.new (seen K.held K.faults K.refusals out.old) (seen K.held K.faults K.refusals out.new)
-        (input core.old.state at.0 event) result }
-    ensures whole { OnOk result (core.new.is_whole ≡ true) }
+    requires step { step (C.view core.old).state at.0 event ≢ None }
+    requires whole { (C.view core.old).is_whole ≡ true }
+    ensures goes { Goes (C.view core.old) (C.view core.new) (seen K.held K.faults K.refusals out.old) (seen K.held K.faults K.refusals out.new)
+        (input (C.view core.old).state at.0 event) result }
+    ensures whole { OnOk result ((C.view core.new).is_whole ≡ true) }
 {
     match post_and_take(alloc, core, at, event, out) {
         Ok(()) => fetch_all(alloc, core, out),
@@ -178,35 +183,35 @@ pub fn input<K: Sink>(
 }
 
 /// One message of the session that is up.
-fn take_message<K: Sink>(
+fn take_message<C: Recorder, K: Sink>(
     alloc: Global,
-    core: &mut Core,
+    core: &mut C,
     session: u64,
     arrival: Arrival,
     out: &mut K,
 ) -> Result<(), Halt>
-    requires up { is_session_up core.old.state session ≡ true }
-    requires whole { core.old.is_whole ≡ true }
-    ensures goes { Goes core.old core.new (seen K.held K.faults K.refusals out.old) (seen K.held K.faults K.refusals out.new)
-        (message core.old.state session arrival) result }
-    ensures whole { OnOk result (core.new.is_whole ≡ true) }
+    requires up { is_session_up (C.view core.old).state session ≡ true }
+    requires whole { (C.view core.old).is_whole ≡ true }
+    ensures goes { Goes (C.view core.old) (C.view core.new) (seen K.held K.faults K.refusals out.old) (seen K.held K.faults K.refusals out.new)
+        (message (C.view core.old).state session arrival) result }
+    ensures whole { OnOk result ((C.view core.new).is_whole ≡ true) }
 {
     input(alloc, core, AT_ONCE, Event::Host { session, arrival }, out)
 }
 
 /// The messages of a session, in order, and then its end where a length below 10 follows them.
-pub fn take_messages<K: Sink>(
+pub fn take_messages<C: Recorder, K: Sink>(
     alloc: Global,
-    core: &mut Core,
+    core: &mut C,
     session: u64,
     arrivals: Vec<Arrival>,
     short: bool,
     out: &mut K,
 ) -> Result<(), Halt>
-    requires { core.old.is_whole ≡ true }
-    ensures goes { Goes core.old core.new (seen K.held K.faults K.refusals out.old) (seen K.held K.faults K.refusals out.new)
-        (messages core.old.state session arrivals.items short) result }
-    ensures whole { OnOk result (core.new.is_whole ≡ true) }
+    requires { (C.view core.old).is_whole ≡ true }
+    ensures goes { Goes (C.view core.old) (C.view core.new) (seen K.held K.faults K.refusals out.old) (seen K.held K.faults K.refusals out.new)
+        (messages (C.view core.old).state session arrivals.items short) result }
+    ensures whole { OnOk result ((C.view core.new).is_whole ≡ true) }
 {
     for arrival in arrivals {
         if !core.is_session_up(session) {
@@ -221,17 +226,17 @@ pub fn take_messages<K: Sink>(
 }
 
 /// Behind the messages of a session, its end, where a length below 10 follows them.
-fn end_messages<K: Sink>(
+fn end_messages<C: Recorder, K: Sink>(
     alloc: Global,
-    core: &mut Core,
+    core: &mut C,
     session: u64,
     short: bool,
     out: &mut K,
 ) -> Result<(), Halt>
-    requires { core.old.is_whole ≡ true }
-    ensures goes { Goes core.old core.new (seen K.held K.faults K.refusals out.old) (seen K.held K.faults K.refusals out.new)
-        (messages core.old.state session [] short) result }
-    ensures whole { OnOk result (core.new.is_whole ≡ true) }
+    requires { (C.view core.old).is_whole ≡ true }
+    ensures goes { Goes (C.view core.old) (C.view core.new) (seen K.held K.faults K.refusals out.old) (seen K.held K.faults K.refusals out.new)
+        (messages (C.view core.old).state session [] short) result }
+    ensures whole { OnOk result ((C.view core.new).is_whole ≡ true) }
 {
     if short && core.is_session_up(session) {
         let cause = SessionCause::ShortLength;

@@ -12,36 +12,37 @@ ghost use Rattle.line_feeding.specs.Reads.{AddsLine};
 
 use crate::engine::{AT_ONCE, input, take_messages};
 use gem_ids::Moment;
+use history_laws::Recorder;
 use history_parts::{Entries, SessionCounts};
 use hsms_frame::Cutter;
 use line_feeding::{Halt, cut_bytes, ends_run, quit_behind};
 use outside::Sink;
 use std::alloc::{AllocError, Global};
-use tool_core::Core;
 use tool_events::{Config, Event, OperCmd, SessionCause, Signal, TEXT_BYTES};
 use tool_texts::{Line, LineFault, read_feed_line};
 
 /// The core, the cutter of the session that is up, and the bytes that came in each session.
 #[derive(Drop)]
-pub struct Feeder {
-    pub core: Core,
+pub struct Feeder<C: Recorder> {
+    pub core: C,
     pub cutter: Cutter,
     pub reads: SessionCounts,
 }
 
-impl Feeder {
+impl<C: Recorder> Feeder<C> {
+    ghost use Rattle.feeding.specs.Views.{feeder_seen};
     ghost use Rattle.feeding.specs.Reading.{IsReading, TakesLine, TreatsLine};
 
     /// The core in its first state.
-    pub fn open(alloc: Global, config: &Config) -> Result<Feeder, AllocError>
+    pub fn open(alloc: Global, config: &Config) -> Result<Feeder<C>, AllocError>
         requires { IsConfig config.now }
-        ensures core { IfOk result (λ feeder. feeder.core ≡ record { config = config.now; state = opening config.now; history = []; is_whole = true }) }
-        ensures reading { IfOk result (λ feeder. IsReading (first_reading config.now) feeder.core feeder.cutter) }
+        ensures core { IfOk result (λ feeder. C.view feeder.core ≡ record { config = config.now; state = opening config.now; history = []; is_whole = true }) }
+        ensures reading { IfOk result (λ feeder. IsReading (first_reading config.now) (C.view feeder.core) feeder.cutter) }
         ensures reads { IfOk result (λ feeder. feeder.reads ≡ []) }
     {
         let cutter = Cutter::new(alloc, TEXT_BYTES)?;
         Ok(Feeder {
-            core: Core::open(alloc, config)?,
+            core: C::open(alloc, config)?,
             cutter,
             reads: SessionCounts::none(alloc),
         })
@@ -49,10 +50,10 @@ impl Feeder {
 
     /// Hands out the history.
     pub fn into_history(self) -> Entries
-        ensures history { result ≡ self.core.history }
-        ensures recorded { Recorded self.core.config self.core.history self.core.state }
-        ensures entries_fit { length self.core.history ≤ self.core.config.max_entries }
-        ensures bytes_fit { bytes_of self.core.history ≤ self.core.config.max_bytes }
+        ensures history { result ≡ (C.view self.core).history }
+        ensures recorded { Recorded (C.view self.core).config (C.view self.core).history (C.view self.core).state }
+        ensures entries_fit { length (C.view self.core).history ≤ (C.view self.core).config.max_entries }
+        ensures bytes_fit { bytes_of (C.view self.core).history ≤ (C.view self.core).config.max_bytes }
     {
         let Feeder { core, .. } = self;
         core.close()
@@ -60,10 +61,10 @@ impl Feeder {
 
     /// A link comes up. A new session begins with no bytes.
     fn link_up<K: Sink>(&mut self, alloc: Global, out: &mut K) -> Result<(), Halt>
-        requires whole { self.old.core.is_whole ≡ true }
-        ensures takes { (r : Reading) → IsReading r self.old.core self.old.cutter
-            → TakesLine r line.Up self.old self.new (seen K.held K.faults K.refusals out.old) (seen K.held K.faults K.refusals out.new) result }
-        ensures whole { OnOk result (self.new.core.is_whole ≡ true) }
+        requires whole { (C.view self.old.core).is_whole ≡ true }
+        ensures takes { (r : Reading) → IsReading r (C.view self.old.core) self.old.cutter
+            → TakesLine r line.Up (feeder_seen C.view self.old) (feeder_seen C.view self.new) (seen K.held K.faults K.refusals out.old) (seen K.held K.faults K.refusals out.new) result }
+        ensures whole { OnOk result ((C.view self.new.core).is_whole ≡ true) }
     {
         if self.core.session_up().is_some() {
             return input(alloc, &mut self.core, AT_ONCE, Event::LinkUp, out);
@@ -77,10 +78,10 @@ impl Feeder {
 
     /// The peer closes the link. Without a session nothing happens.
     fn link_down<K: Sink>(&mut self, alloc: Global, out: &mut K) -> Result<(), Halt>
-        requires whole { self.old.core.is_whole ≡ true }
-        ensures takes { (r : Reading) → IsReading r self.old.core self.old.cutter
-            → TakesLine r line.Down self.old self.new (seen K.held K.faults K.refusals out.old) (seen K.held K.faults K.refusals out.new) result }
-        ensures whole { OnOk result (self.new.core.is_whole ≡ true) }
+        requires whole { (C.view self.old.core).is_whole ≡ true }
+        ensures takes { (r : Reading) → IsReading r (C.view self.old.core) self.old.cutter
+            → TakesLine r line.Down (feeder_seen C.view self.old) (feeder_seen C.view self.new) (seen K.held K.faults K.refusals out.old) (seen K.held K.faults K.refusals out.new) result }
+        ensures whole { OnOk result ((C.view self.new.core).is_whole ≡ true) }
     {
         let Some(session) = self.core.session_up() else {
             return Ok(());
@@ -97,10 +98,10 @@ impl Feeder {
 
     /// The clock is looked at, at this moment. Where nothing is due nothing happens.
     fn look<K: Sink>(&mut self, alloc: Global, at: Moment, out: &mut K) -> Result<(), Halt>
-        requires whole { self.old.core.is_whole ≡ true }
-        ensures takes { (r : Reading) → IsReading r self.old.core self.old.cutter
-            → TakesLine r (line.Moment at) self.old self.new (seen K.held K.faults K.refusals out.old) (seen K.held K.faults K.refusals out.new) result }
-        ensures whole { OnOk result (self.new.core.is_whole ≡ true) }
+        requires whole { (C.view self.old.core).is_whole ≡ true }
+        ensures takes { (r : Reading) → IsReading r (C.view self.old.core) self.old.cutter
+            → TakesLine r (line.Moment at) (feeder_seen C.view self.old) (feeder_seen C.view self.new) (seen K.held K.faults K.refusals out.old) (seen K.held K.faults K.refusals out.new) result }
+        ensures whole { OnOk result ((C.view self.new.core).is_whole ≡ true) }
     {
         if self.core.idle(at, &Event::Tick) {
             return Ok(());
@@ -110,11 +111,12 @@ impl Feeder {
 
     /// Counts bytes that came in the session that is up.
     fn count_bytes(&mut self, session: u64, bytes: &[u8]) -> Result<(), AllocError>
-        requires up { is_session_up self.old.core.state session ≡ true }
+        requires up { is_session_up (C.view self.old.core).state session ≡ true }
         requires numbered { 0 < session }
-        ensures counts { OnOk result ((r : Reading) → r.state ≡ self.old.core.state
+        ensures counts { OnOk result ((r : Reading) → r.state ≡ (C.view self.old.core).state
             → AddsLine r (line.Bytes bytes.now) self.old.reads self.new.reads) }
-        ensures unchanged { self.new ≡ record self.old { reads = self.new.reads } }
+        ensures core { self.new.core ≡ self.old.core }
+        ensures cutter { self.new.cutter ≡ self.old.cutter }
         ensures none { OnErr result (self.new ≡ self.old) }
     {
         self.reads.make_room(session)?;
@@ -124,10 +126,10 @@ impl Feeder {
 
     /// Bytes of the host come. Without a session they are dropped.
     fn take_bytes<K: Sink>(&mut self, alloc: Global, bytes: &[u8], out: &mut K) -> Result<(), Halt>
-        requires whole { self.old.core.is_whole ≡ true }
-        ensures takes { (r : Reading) → IsReading r self.old.core self.old.cutter
-            → TakesLine r (line.Bytes bytes.now) self.old self.new (seen K.held K.faults K.refusals out.old) (seen K.held K.faults K.refusals out.new) result }
-        ensures whole { OnOk result (self.new.core.is_whole ≡ true) }
+        requires whole { (C.view self.old.core).is_whole ≡ true }
+        ensures takes { (r : Reading) → IsReading r (C.view self.old.core) self.old.cutter
+            → TakesLine r (line.Bytes bytes.now) (feeder_seen C.view self.old) (feeder_seen C.view self.new) (seen K.held K.faults K.refusals out.old) (seen K.held K.faults K.refusals out.new) result }
+        ensures whole { OnOk result ((C.view self.new.core).is_whole ≡ true) }
     {
         let Some(session) = self.core.session_up() else {
             return Ok(());
@@ -144,10 +146,10 @@ impl Feeder {
 
     /// An operator wants something. The command that ends the run halts it.
     fn operate<K: Sink>(&mut self, alloc: Global, command: OperCmd, out: &mut K) -> Result<(), Halt>
-        requires whole { self.old.core.is_whole ≡ true }
-        ensures takes { (r : Reading) → IsReading r self.old.core self.old.cutter
-            → TreatsLine r (Ok (line.Oper command)) self.old self.new (seen K.held K.faults K.refusals out.old) (seen K.held K.faults K.refusals out.new) result }
-        ensures whole { OnOk result (self.new.core.is_whole ≡ true) }
+        requires whole { (C.view self.old.core).is_whole ≡ true }
+        ensures takes { (r : Reading) → IsReading r (C.view self.old.core) self.old.cutter
+            → TreatsLine r (Ok (line.Oper command)) (feeder_seen C.view self.old) (feeder_seen C.view self.new) (seen K.held K.faults K.refusals out.old) (seen K.held K.faults K.refusals out.new) result }
+        ensures whole { OnOk result ((C.view self.new.core).is_whole ≡ true) }
     {
         let quits = ends_run(&command);
         let taken = input(alloc, &mut self.core, AT_ONCE, Event::Oper(command), out);
@@ -156,10 +158,10 @@ impl Feeder {
 
     /// The equipment tells something.
     fn signal<K: Sink>(&mut self, alloc: Global, signal: Signal, out: &mut K) -> Result<(), Halt>
-        requires whole { self.old.core.is_whole ≡ true }
-        ensures takes { (r : Reading) → IsReading r self.old.core self.old.cutter
-            → TakesLine r (line.Signal signal) self.old self.new (seen K.held K.faults K.refusals out.old) (seen K.held K.faults K.refusals out.new) result }
-        ensures whole { OnOk result (self.new.core.is_whole ≡ true) }
+        requires whole { (C.view self.old.core).is_whole ≡ true }
+        ensures takes { (r : Reading) → IsReading r (C.view self.old.core) self.old.cutter
+            → TakesLine r (line.Signal signal) (feeder_seen C.view self.old) (feeder_seen C.view self.new) (seen K.held K.faults K.refusals out.old) (seen K.held K.faults K.refusals out.new) result }
+        ensures whole { OnOk result ((C.view self.new.core).is_whole ≡ true) }
     {
         input(alloc, &mut self.core, AT_ONCE, Event::Signal(signal), out)
     }
@@ -171,10 +173,10 @@ impl Feeder {
         line: &[u8],
         out: &mut K,
     ) -> Result<(), Halt>
-        requires whole { self.old.core.is_whole ≡ true }
-        ensures takes { (r : Reading) → IsReading r self.old.core self.old.cutter
-            → TreatsLine r (feed_line_of line.now) self.old self.new (seen K.held K.faults K.refusals out.old) (seen K.held K.faults K.refusals out.new) result }
-        ensures whole { OnOk result (self.new.core.is_whole ≡ true) }
+        requires whole { (C.view self.old.core).is_whole ≡ true }
+        ensures takes { (r : Reading) → IsReading r (C.view self.old.core) self.old.cutter
+            → TreatsLine r (feed_line_of line.now) (feeder_seen C.view self.old) (feeder_seen C.view self.new) (seen K.held K.faults K.refusals out.old) (seen K.held K.faults K.refusals out.new) result }
+        ensures whole { OnOk result ((C.view self.new.core).is_whole ≡ true) }
     {
         match read_feed_line(alloc, line) {
             Ok(Line::Skip) => Ok(()),

@@ -15,15 +15,15 @@ ghost use Rattle.line_feeding.specs.CauseOf.{cause_after};
 use crate::input::read_lines;
 use crate::notes::session_notes;
 use crate::reader::Reader;
+use history_laws::Recorder;
 use line_feeding::{Cause, Ended, Halt, InputEnd, InputRead, Notes};
 use outside::{Sink, Source};
 use std::alloc::Global;
-use tool_core::Core;
 use tool_events::Config;
 
 /// Why a run ended whose reading ended so, with this core, in the line of this number.
-fn cause_of(read: InputRead, core: &Core, number: u64) -> Cause
-    ensures { result ≡ cause_after read.end read.count core.now.history number }
+fn cause_of<C: Recorder>(read: InputRead, core: &C, number: u64) -> Cause
+    ensures { result ≡ cause_after read.end read.count (C.view core.now).history number }
 {
     match read.end {
         InputEnd::Whole | InputEnd::Halted(Halt::Quit) => Cause::Done,
@@ -37,12 +37,12 @@ fn cause_of(read: InputRead, core: &Core, number: u64) -> Cause
     }
 }
 
-/// Does what `feed` does once the configuration was read: reads lines of the input, and writes the lines of what happens.
+/// Does what `feed` does once the configuration was read, over any `Recorder`: reads lines of the input, and writes the lines of what happens.
 ///
 /// The configuration keeps its bounds (this tool's profile, docs/profile/configuration.md). The returned value has the
 /// history and a note of each session, and says by its status and cause why the run ended (docs/profile/lines.md).
 #[tactic(auto, using(crate::proofs::NothingHappened::recorded_none))]
-pub fn feed_config<S: Source, K: Sink>(
+pub fn feed_over<C: Recorder, S: Source, K: Sink>(
     alloc: Global,
     config: &Config,
     input: &mut S,
@@ -76,7 +76,7 @@ pub fn feed_config<S: Source, K: Sink>(
     // Until they are built.
     ensures no_panels { result.panels ≡ [] }
 {
-    let Ok(mut reader) = Reader::open(alloc, config) else {
+    let Ok(mut reader) = Reader::<C>::open(alloc, config) else {
         return Ended::without_history(alloc, Cause::NoMemory);
     };
     let read = read_lines(alloc, &mut reader, input, out);

@@ -2,9 +2,9 @@
 //! are written.
 //!
 //! It does no input or output of its own, and so can be called by any program (this tool's profile, docs/profile/lines.md). Begin with
-//! `feed_config`, which returns how the run ended: `Ended`, with its status and cause, the history, and a note of each session.
+//! `feed_over`, which returns how the run ended: `Ended`, with its status and cause, the history, and a note of each session.
 //! `session_notes` makes these notes, a note for each session that came to a core, with the bytes that came in it and those that went out,
-//! and why it ended (this tool's profile, sessions), where one caller drives the run. The `Core` is that of `tool_core`.
+//! and why it ended (this tool's profile, sessions), where one caller drives the run. What keeps the history is any `Recorder`.
 #![tactic(auto)]
 
 mod engine;
@@ -14,6 +14,5 @@ mod input;
 mod notes;
 mod reader;
 
-pub use feeding::feed_config;
+pub use feeding::feed_over;
 pub use notes::session_notes;
-pub use tool_core::Core;

@@ -5,6 +5,7 @@ ghost use Rattle.tool_events.specs.Configs.{IsConfig};
 ghost use Rattle.line_feeding.specs.Going.{seen};
 
 use crate::feeder::Feeder;
+use history_laws::Recorder;
 use line_feeding::Halt;
 use memchr::memchr;
 use outside::Sink;
@@ -14,25 +15,26 @@ use tool_texts::LINE_BYTES;
 
 /// Gathers bytes to lines, and takes each.
 #[derive(Drop)]
-pub struct Reader {
-    pub feeder: Feeder,
+pub struct Reader<C: Recorder> {
+    pub feeder: Feeder<C>,
     /// What came of the line that isn't whole.
     pub line: Vec<u8>,
     /// The number of that line, the first being 1.
     pub number: u64,
 }
 
-impl Reader {
+impl<C: Recorder> Reader<C> {
+    ghost use Rattle.feeding.specs.Views.{reader_seen};
     ghost use Rattle.feeding.specs.Standing.{IsOneLine, Stands, StandsOrStopped, Takes, Finishes};
 
     /// A reader before the first byte.
-    pub fn open(alloc: Global, config: &Config) -> Result<Reader, AllocError>
+    pub fn open(alloc: Global, config: &Config) -> Result<Reader<C>, AllocError>
         requires { IsConfig config.now }
-        ensures stands { IfOk result (Stands []) }
+        ensures stands { IfOk result (λ reader. Stands [] (reader_seen C.view reader)) }
         ensures number { IfOk result (λ reader. reader.number ≡ 1) }
-        ensures history { IfOk result (λ reader. reader.feeder.core.history ≡ []) }
-        ensures config { IfOk result (λ reader. reader.feeder.core.config ≡ config.now) }
-        ensures whole { IfOk result (λ reader. reader.feeder.core.is_whole ≡ true) }
+        ensures history { IfOk result (λ reader. (C.view reader.feeder.core).history ≡ []) }
+        ensures config { IfOk result (λ reader. (C.view reader.feeder.core).config ≡ config.now) }
+        ensures whole { IfOk result (λ reader. (C.view reader.feeder.core).is_whole ≡ true) }
     {
         let feeder = Feeder::open(alloc, config)?;
         Ok(Reader {
@@ -45,11 +47,11 @@ impl Reader {
     /// The line is whole: it is taken, and the next begins.
     fn end_line<K: Sink>(&mut self, alloc: Global, out: &mut K) -> Result<(), Halt>
         requires number { self.old.number + 1 < 2 ^ 64 }
-        requires whole { self.old.feeder.core.is_whole ≡ true }
-        ensures takes { (text : List ℕ) → Stands text self.old
-            → Takes text (10 ∷ []) self.old self.new (seen K.held K.faults K.refusals out.old) (seen K.held K.faults K.refusals out.new) result }
+        requires whole { (C.view self.old.feeder.core).is_whole ≡ true }
+        ensures takes { (text : List ℕ) → Stands text (reader_seen C.view self.old)
+            → Takes text (10 ∷ []) (reader_seen C.view self.old) (reader_seen C.view self.new) (seen K.held K.faults K.refusals out.old) (seen K.held K.faults K.refusals out.new) result }
         ensures number { self.new.number ≤ self.old.number + 1 }
-        ensures whole { OnOk result (self.new.feeder.core.is_whole ≡ true) }
+        ensures whole { OnOk result ((C.view self.new.feeder.core).is_whole ≡ true) }
     {
         match self.feeder.take_line(alloc, &self.line, out) {
             Ok(()) => {}
@@ -63,7 +65,7 @@ impl Reader {
     /// Bytes of the line that isn't whole come, of which none is a line feed. A line of over 600,000 bytes is refused.
     fn push_part(&mut self, part: &[u8]) -> Result<(), Halt>
         requires { IsOneLine part.now }
-        ensures stands { (text : List ℕ) → Stands text self.old → StandsOrStopped (text ++ part.now) self.new result }
+        ensures stands { (text : List ℕ) → Stands text (reader_seen C.view self.old) → StandsOrStopped (text ++ part.now) (reader_seen C.view self.new) result }
         ensures core_stays { self.new.feeder.core ≡ self.old.feeder.core }
         ensures fault { result ≢ Err Halt.Write }
         ensures number { self.new.number ≡ self.old.number }
@@ -80,12 +82,12 @@ impl Reader {
     /// What was left of the line comes, and its line feed.
     fn take_rest<K: Sink>(&mut self, alloc: Global, rest: &[u8], out: &mut K) -> Result<(), Halt>
         requires number { self.old.number + 1 < 2 ^ 64 }
-        requires whole { self.old.feeder.core.is_whole ≡ true }
+        requires whole { (C.view self.old.feeder.core).is_whole ≡ true }
         requires line { IsOneLine rest.now }
-        ensures takes { (text : List ℕ) → Stands text self.old
-            → Takes text (rest.now ++ 10 ∷ []) self.old self.new (seen K.held K.faults K.refusals out.old) (seen K.held K.faults K.refusals out.new) result }
+        ensures takes { (text : List ℕ) → Stands text (reader_seen C.view self.old)
+            → Takes text (rest.now ++ 10 ∷ []) (reader_seen C.view self.old) (reader_seen C.view self.new) (seen K.held K.faults K.refusals out.old) (seen K.held K.faults K.refusals out.new) result }
         ensures number { self.new.number ≤ self.old.number + 1 }
-        ensures whole { OnOk result (self.new.feeder.core.is_whole ≡ true) }
+        ensures whole { OnOk result ((C.view self.new.feeder.core).is_whole ≡ true) }
     {
         match self.push_part(rest) {
             Ok(()) => self.end_line(alloc, out),
@@ -101,11 +103,11 @@ impl Reader {
         out: &mut K,
     ) -> Result<(), Halt>
         requires number { self.old.number + length piece.now < 2 ^ 64 }
-        requires whole { self.old.feeder.core.is_whole ≡ true }
-        ensures takes { (text : List ℕ) → Stands text self.old
-            → Takes text piece.now self.old self.new (seen K.held K.faults K.refusals out.old) (seen K.held K.faults K.refusals out.new) result }
+        requires whole { (C.view self.old.feeder.core).is_whole ≡ true }
+        ensures takes { (text : List ℕ) → Stands text (reader_seen C.view self.old)
+            → Takes text piece.now (reader_seen C.view self.old) (reader_seen C.view self.new) (seen K.held K.faults K.refusals out.old) (seen K.held K.faults K.refusals out.new) result }
         ensures number { self.new.number ≤ self.old.number + length piece.now }
-        ensures whole { OnOk result (self.new.feeder.core.is_whole ≡ true) }
+        ensures whole { OnOk result ((C.view self.new.feeder.core).is_whole ≡ true) }
     {
         let mut left = piece;
         while let Some(end) = line_end(left) {
@@ -120,9 +122,9 @@ impl Reader {
 
     /// The text ends: what came of its last line is a line too.
     pub fn finish<K: Sink>(&mut self, alloc: Global, out: &mut K) -> Result<(), Halt>
-        requires { self.old.feeder.core.is_whole ≡ true }
-        ensures finishes { (text : List ℕ) → Stands text self.old
-            → Finishes text self.old self.new (seen K.held K.faults K.refusals out.old) (seen K.held K.faults K.refusals out.new) result }
+        requires { (C.view self.old.feeder.core).is_whole ≡ true }
+        ensures finishes { (text : List ℕ) → Stands text (reader_seen C.view self.old)
+            → Finishes text (reader_seen C.view self.old) (reader_seen C.view self.new) (seen K.held K.faults K.refusals out.old) (seen K.held K.faults K.refusals out.new) result }
         ensures number { self.new.number ≡ self.old.number }
     {
         if self.line.is_empty() {

@@ -10,8 +10,7 @@ ghost use Rattle.line_feeding.specs.Going.{seen};
 ghost use Rattle.line_feeding.specs.Words.{refused_at};
 ghost use Rattle.top_calls.specs.Ran.{FeedRan, BatchRan, Untouched};
 
-use batching::batch_config;
-use feeding::feed_config;
+use crate::configured::{batch_config, feed_config};
 use gem_ids::Text80;
 use line_feeding::{Cause, Ended, FeedWords, check_words, read_configuration};
 use outside::{Sink, Source};

@@ -8,8 +8,8 @@
 #![tactic(auto)]
 
 mod commands;
+mod configured;
 
-pub use batching::batch_config;
 pub use commands::feed;
-pub use feeding::feed_config;
+pub use configured::{batch_config, feed_config};
 pub use line_feeding::{Cause, Ended, Notes, Panels, SessionNote};

@@ -1,14 +1,14 @@
 use Rattle.std.proofs.Common.{refl, subst, List}
 use Rattle.tool_events.specs.declared.event.Event.{Event}
 use Rattle.batch_model.specs.Batch.{lot_turn, turn}
-use Rattle.batching.specs.Making.{standing, Makes}
+use Rattle.batching.specs.Making.{batch_seen, standing, Makes}
 use Rattle.batching.proofs.Making.{Makes-unmade}
 use Rattle.batching.proofs.carriers.lot_turn.Goals as goal
 
 pub returns-in_default-clause-made : goal.returns-in_default-clause-made
-returns-in_default-clause-made c =
-    Makes-unmade c.args.batch.now.core c.args.batch.now (lot_turn c.args.config.now c.args.k c.args.i (standing c.args.batch.now)) refl
+returns-in_default-clause-made g c =
+    Makes-unmade (g.C.Recorder.view c.args.batch.now.core) (batch_seen g.C.Recorder.view c.args.batch.now) (lot_turn c.args.config.now c.args.k c.args.i (standing (batch_seen g.C.Recorder.view c.args.batch.now))) refl
 
 pub returns-clause-made : goal.returns-clause-made
-returns-clause-made c =
-    subst (λ (es : List Event). Makes c.args.batch.now.core c.turn.new.batch (turn c.args.config.now es (standing c.args.batch.now)) c.turn.result) c.in-Ok.ensures c.turn.ensures.made
+returns-clause-made g c =
+    subst (λ (es : List Event). Makes (g.C.Recorder.view c.args.batch.now.core) (batch_seen g.C.Recorder.view c.turn.new.batch) (turn c.args.config.now es (standing (batch_seen g.C.Recorder.view c.args.batch.now))) c.turn.result) c.in-Ok.ensures c.turn.ensures.made

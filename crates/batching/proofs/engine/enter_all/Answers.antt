@@ -1,22 +1,23 @@
 use Rattle.std.proofs.Common.{◌≡◌, [], arith}
 use Rattle.std.proofs.lemmas.List.{nil_from_length}
 use Rattle.std.specs.Vec.Iter.{into_iter_items}
+use Rattle.batching.specs.Making.{batch_seen}
 use Rattle.batching.proofs.Answering.{Makes-enter, Makes-enter-stops, Makes-enter-none}
 use Rattle.batching.proofs.engine.enter_all.Goals as goal
 
 pub loop-event-preserved : goal.loop-event-preserved
-loop-event-preserved c = record {
+loop-event-preserved g c = record {
   whole = c.in-Ok.ensures.whole;
   joined = λ b result rest. c.loop-event.invariant.joined b result
-      (Makes-enter c.loop-event.batch c.enter.new.batch b (into_iter_items c.loop-event.event-iterator) c.in-Some.event (into_iter_items c.next.new.self) result c.in-Some.ensures.steps.0 c.in-Ok.ensures.made rest);
+      (Makes-enter (batch_seen g.C.Recorder.view c.loop-event.batch) (batch_seen g.C.Recorder.view c.enter.new.batch) b (into_iter_items c.loop-event.event-iterator) c.in-Some.event (into_iter_items c.next.new.self) result c.in-Some.ensures.steps.0 c.in-Ok.ensures.made rest);
 }
 
 pub returns-in-Err-clause-made : goal.returns-in-Err-clause-made
-returns-in-Err-clause-made c =
+returns-in-Err-clause-made g c =
     c.loop-event.invariant.joined _ _
-    (Makes-enter-stops c.loop-event.batch c.enter.new.batch (into_iter_items c.loop-event.event-iterator) c.in-Some.event (into_iter_items c.next.new.self) c.in-Err.stop c.in-Some.ensures.steps.0 c.in-Err.ensures.made)
+    (Makes-enter-stops (batch_seen g.C.Recorder.view c.loop-event.batch) (batch_seen g.C.Recorder.view c.enter.new.batch) (into_iter_items c.loop-event.event-iterator) c.in-Some.event (into_iter_items c.next.new.self) c.in-Err.stop c.in-Some.ensures.steps.0 c.in-Err.ensures.made)
 
 pub returns-clause-made : goal.returns-clause-made
-returns-clause-made c =
+returns-clause-made g c =
     let none : into_iter_items c.loop-event.event-iterator ≡ [] = nil_from_length _ (omega (arith, c.loop-event.event-iterator.rest.ok.0, c.in-None.ensures.steps.0)) in
-    c.loop-event.invariant.joined _ _ (Makes-enter-none c.loop-event.batch (into_iter_items c.loop-event.event-iterator) none)
+    c.loop-event.invariant.joined _ _ (Makes-enter-none (batch_seen g.C.Recorder.view c.loop-event.batch) (into_iter_items c.loop-event.event-iterator) none)

@@ -1,15 +1,14 @@
 use Rattle.std.proofs.Common.{◌≡◌, true, Result}
 use Rattle.std.specs.Vec.Iter.{into_iter_items}
 use Rattle.batch_model.specs.Batch.{all_entered}
-use Rattle.batching.specs.declared.batch.Batch.{Batch}
 use Rattle.batching.specs.declared.batch.Stop.{Stop}
-use Rattle.batching.specs.Making.{standing, Makes}
+use Rattle.batching.specs.Making.{BatchView, batch_seen, standing, Makes}
 use Rattle.batching.proofs.engine.enter_all.Given as goal
 
 -- the core is whole; and whatever the events that are left make, with those before them it is what all make
 abbrev pub invariant-loop-event : goal.invariant-loop-event
-invariant-loop-event l = record {
-  whole : l.batch.core.is_whole ≡ true;
-  joined : (b : Batch) (result : Result (Unit {0}) Stop) → Makes l.batch.core b (all_entered (into_iter_items l.event-iterator) (standing l.batch)) result
-      → Makes l.fn.batch.core b (all_entered l.fn.events.items (standing l.fn.batch)) result;
+invariant-loop-event g l = record {
+  whole : (g.C.Recorder.view l.batch.core).is_whole ≡ true;
+  joined : (b : BatchView) (result : Result (Unit {0}) Stop) → Makes (g.C.Recorder.view l.batch.core) b (all_entered (into_iter_items l.event-iterator) (standing (batch_seen g.C.Recorder.view l.batch))) result
+      → Makes (g.C.Recorder.view l.fn.batch.core) b (all_entered l.fn.events.items (standing (batch_seen g.C.Recorder.view l.fn.batch))) result;
 }

@@ -8,9 +8,9 @@ use Rattle.batching.proofs.modules.busy.Goals.{in-Some+in_ok-push, in_default}
 use Rattle.batching.proofs.modules.busy.Goals as goal
 
 pub loop-index-preserved : goal.loop-index-preserved
-loop-index-preserved c =
-    let ms : List Module = c.args.core.now.state.floor.modules in
-    let all : List Fetched = busy c.args.core.now.state in
+loop-index-preserved g c =
+    let ms : List Module = (g.C.Recorder.view c.args.core.now).state.floor.modules in
+    let all : List Fetched = busy (g.C.Recorder.view c.args.core.now).state in
     let within : c.loop-index.index < length ms = omega (arith, c.loop-index-test.true, c.module_count-count.ensures.count) in
     elim c.match-fetched_number.branch [
       | in-Some+in_ok-push w ↦
@@ -20,5 +20,5 @@ loop-index-preserved c =
     ]
 
 pub returns : goal.returns
-returns c =
-    busy-all (busy c.args.core.now.state) c.args.core.now.state.floor.modules c.loop-index.index c.loop-index.found.items (omega (arith, c.loop-index-test.false, c.module_count-count.ensures.count)) c.loop-index.invariant
+returns g c =
+    busy-all (busy (g.C.Recorder.view c.args.core.now).state) (g.C.Recorder.view c.args.core.now).state.floor.modules c.loop-index.index c.loop-index.found.items (omega (arith, c.loop-index-test.false, c.module_count-count.ensures.count)) c.loop-index.invariant

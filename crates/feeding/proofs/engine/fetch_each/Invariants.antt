@@ -11,6 +11,6 @@ abbrev pub invariant-loop-index : goal.invariant-loop-index
 invariant-loop-index g l =
     let see = seen g.K.Sink.held g.K.Sink.faults g.K.Sink.refusals in
     record {
-      whole : l.core.is_whole ≡ true;
-      joined : (core : CoreView) (out : SinkView) (result : Result (Unit {0}) Halt) → Goes l.core core (see l.out) out (fetched_by (drop l.index (module_numbers 1 l.fn.core.state.floor.modules)) l.core.state) result → Goes l.fn.core core (see l.fn.out) out (fetched_by (module_numbers 1 l.fn.core.state.floor.modules) l.fn.core.state) result;
+      whole : (g.C.Recorder.view l.core).is_whole ≡ true;
+      joined : (core : CoreView) (out : SinkView) (result : Result (Unit {0}) Halt) → Goes (g.C.Recorder.view l.core) core (see l.out) out (fetched_by (drop l.index (module_numbers 1 (g.C.Recorder.view l.fn.core).state.floor.modules)) (g.C.Recorder.view l.core).state) result → Goes (g.C.Recorder.view l.fn.core) core (see l.fn.out) out (fetched_by (module_numbers 1 (g.C.Recorder.view l.fn.core).state.floor.modules) (g.C.Recorder.view l.fn.core).state) result;
     }

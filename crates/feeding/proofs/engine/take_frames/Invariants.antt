@@ -11,10 +11,10 @@ abbrev pub invariant-loop-alloc : goal.invariant-loop-alloc
 invariant-loop-alloc g l =
     let see = seen g.K.Sink.held g.K.Sink.faults g.K.Sink.refusals in
     record {
-      whole : l.core.is_whole ≡ true;
-      up : is_session_up l.core.state l.session ≡ true;
-      joined : (core : CoreView) (out : SinkView) (result : Result (Unit {0}) Halt) → Goes l.core core (see l.out) out (taken_all l.core.state) result → Goes l.fn.core core (see l.fn.out) out (taken_all l.fn.core.state) result;
+      whole : (g.C.Recorder.view l.core).is_whole ≡ true;
+      up : is_session_up (g.C.Recorder.view l.core).state l.session ≡ true;
+      joined : (core : CoreView) (out : SinkView) (result : Result (Unit {0}) Halt) → Goes (g.C.Recorder.view l.core) core (see l.out) out (taken_all (g.C.Recorder.view l.core).state) result → Goes (g.C.Recorder.view l.fn.core) core (see l.fn.out) out (taken_all (g.C.Recorder.view l.fn.core).state) result;
     }
 
 abbrev pub decreases-loop-alloc : goal.decreases-loop-alloc
-decreases-loop-alloc g l = length l.core.state.waiting
+decreases-loop-alloc g l = length (g.C.Recorder.view l.core).state.waiting

@@ -11,6 +11,6 @@ abbrev pub invariant-loop-arrival : goal.invariant-loop-arrival
 invariant-loop-arrival g l =
     let see = seen g.K.Sink.held g.K.Sink.faults g.K.Sink.refusals in
     record {
-      whole : l.core.is_whole ≡ true;
-      joined : (core : CoreView) (out : SinkView) (result : Result (Unit {0}) Halt) → Goes l.core core (see l.out) out (messages l.core.state l.session (into_iter_items l.arrival-iterator) l.short) result → Goes l.fn.core core (see l.fn.out) out (messages l.fn.core.state l.session l.fn.arrivals.items l.short) result;
+      whole : (g.C.Recorder.view l.core).is_whole ≡ true;
+      joined : (core : CoreView) (out : SinkView) (result : Result (Unit {0}) Halt) → Goes (g.C.Recorder.view l.core) core (see l.out) out (messages (g.C.Recorder.view l.core).state l.session (into_iter_items l.arrival-iterator) l.short) result → Goes (g.C.Recorder.view l.fn.core) core (see l.fn.out) out (messages (g.C.Recorder.view l.fn.core).state l.session l.fn.arrivals.items l.short) result;
     }

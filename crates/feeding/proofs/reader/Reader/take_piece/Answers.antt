@@ -1,11 +1,12 @@
 use Rattle.std.proofs.Common.{ℕ, ◌+◌, ◌-◌, ◌≡◌, List, [], ◌∷◌, ◌++◌, length, take, drop, take_all, length-drop, length-append, append_assoc, arith, refl, sym, ◌∙◌, ap, subst, Err}
 use Rattle.line_feeding.specs.Going.{seen}
+use Rattle.feeding.specs.Views.{reader_seen}
 use Rattle.feeding.specs.Standing.{Takes}
 use Rattle.feeding.proofs.Standing.{Prints-stays, Takes-nothing, Takes-then, Takes-stopped}
 use Rattle.feeding.proofs.reader.Reader.take_piece.Goals as goal
 
 pub loop-end-init : goal.loop-end-init
-loop-end-init g c = record { whole = c.requires.whole; number = omega arith; taken = ([], refl, λ text stands. Takes-nothing text c.args.self.now _ stands) }
+loop-end-init g c = record { whole = c.requires.whole; number = omega arith; taken = ([], refl, λ text stands. Takes-nothing text (reader_seen g.C.Recorder.view c.args.self.now) _ stands) }
 
 pub returns-in-Err-clause-takes : goal.returns-in-Err-clause-takes
 returns-in-Err-clause-takes g c = λ text stands.
@@ -17,7 +18,7 @@ returns-in-Err-clause-takes g c = λ text stands.
     let cut : left ≡ line ++ rest = c.in-Some.ensures.feed ∙ sym (append_assoc (take c.in-Some.end left) (10 ∷ []) rest) in
     let before = taken text stands in
     let both = Takes-then text front line _ _ _ _ _ _ _ before (c.in-Err.ensures.takes (text ++ front) before.stands) in
-    subst (λ (bytes : List ℕ). Takes text bytes c.args.self.now c.take_rest.new.self (see c.args.out.now) (see c.take_rest.new.out) (Err c.in-Err.halt))
+    subst (λ (bytes : List ℕ). Takes text bytes (reader_seen g.C.Recorder.view c.args.self.now) (reader_seen g.C.Recorder.view c.take_rest.new.self) (see c.args.out.now) (see c.take_rest.new.out) (Err c.in-Err.halt))
     (sym (is ∙ ap (λ (bytes : List ℕ). front ++ bytes) cut ∙ sym (append_assoc front line rest)))
     (Takes-stopped text (front ++ line) rest _ _ _ _ c.in-Err.halt both)
 
@@ -50,9 +51,9 @@ returns-clause-takes g c = λ text stands.
     let (front, is, taken) = c.loop-end.invariant.taken in
     let left : List ℕ = c.loop-end.left.now in
     let before = taken text stands in
-    let last : Takes (text ++ front) left c.loop-end.self c.push_part.new.self (see c.loop-end.out) (see c.loop-end.out) c.push_part.result = record {
+    let last : Takes (text ++ front) left (reader_seen g.C.Recorder.view c.loop-end.self) (reader_seen g.C.Recorder.view c.push_part.new.self) (see c.loop-end.out) (see c.loop-end.out) c.push_part.result = record {
       stands = c.push_part.ensures.stands (text ++ front) before.stands;
       prints = rw c.push_part.ensures.core_stays (Prints-stays _ _ _ c.push_part.ensures.fault);
     } in
-    subst (λ (bytes : List ℕ). Takes text bytes c.args.self.now c.push_part.new.self (see c.args.out.now) (see c.loop-end.out) c.push_part.result)
+    subst (λ (bytes : List ℕ). Takes text bytes (reader_seen g.C.Recorder.view c.args.self.now) (reader_seen g.C.Recorder.view c.push_part.new.self) (see c.args.out.now) (see c.loop-end.out) c.push_part.result)
     (sym is) (Takes-then text front left _ _ _ _ _ _ c.push_part.result before last)

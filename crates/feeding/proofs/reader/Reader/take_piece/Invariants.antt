@@ -1,5 +1,6 @@
 use Rattle.std.proofs.Common.{◌≡◌, true, ℕ, ◌+◌, ◌≤◌, List, ◌++◌, length, Ok}
 use Rattle.line_feeding.specs.Going.{seen}
+use Rattle.feeding.specs.Views.{reader_seen}
 use Rattle.feeding.specs.Standing.{Stands, Takes}
 use Rattle.feeding.proofs.reader.Reader.take_piece.Given as goal
 
@@ -8,9 +9,9 @@ abbrev pub invariant-loop-end : goal.invariant-loop-end
 invariant-loop-end g l =
     let see = seen g.K.Sink.held g.K.Sink.faults g.K.Sink.refusals in
     record {
-      whole : l.self.feeder.core.is_whole ≡ true;
+      whole : (g.C.Recorder.view l.self.feeder.core).is_whole ≡ true;
       number : l.self.number + length l.left ≤ l.fn.self.number + length l.piece;
-      taken : (front : List ℕ) × (l.piece ≡ front ++ l.left) × ((text : List ℕ) → Stands text l.fn.self → Takes text front l.fn.self l.self (see l.fn.out) (see l.out) (Ok tt));
+      taken : (front : List ℕ) × (l.piece ≡ front ++ l.left) × ((text : List ℕ) → Stands text (reader_seen g.C.Recorder.view l.fn.self) → Takes text front (reader_seen g.C.Recorder.view l.fn.self) (reader_seen g.C.Recorder.view l.self) (see l.fn.out) (see l.out) (Ok tt));
     }
 
 abbrev pub decreases-loop-end : goal.decreases-loop-end

@@ -5,14 +5,15 @@ use Rattle.line_feeding.specs.CauseOf.{cause_after}
 use Rattle.line_feeding.specs.Fed.{looked, FedBy, ReadToEnd, Shown}
 use Rattle.line_feeding.specs.Noted.{NotedBy}
 use Rattle.line_feeding.specs.Stopping.{GivenBy}
+use Rattle.feeding.specs.Views.{reader_seen}
 use Rattle.feeding.proofs.Ending.{not_read, not_write, FedBy-end, NotedBy-end, Shown-end, Shown-memory}
 use Rattle.history_laws.proofs.Recording.{recorded-after}
 use Rattle.feeding.proofs.NothingHappened.{recorded_none}
-use Rattle.feeding.proofs.feeding.feed_config.Goals as goal
+use Rattle.feeding.proofs.feeding.feed_over.Goals as goal
 
 pub returns-in_default-session_notes-clause-printed : goal.returns-in_default-session_notes-clause-printed
 returns-in_default-session_notes-clause-printed g c =
-    let core = c.read_lines-read.new.reader.feeder.core in
+    let core = g.C.Recorder.view c.read_lines-read.new.reader.feeder.core in
     let same : core.config ≡ c.args.config.now = c.read_lines-read.ensures.prints.config ∙ c.in-Ok.ensures.config in
     rw (c.with_history.ensures, c.into_history-history.ensures.history)
     (subst (λ (k : Config). Shown k cause.NoMemory (g.K.Sink.held c.args.out.now) (g.K.Sink.held c.read_lines-read.new.out) core.history) same
@@ -20,7 +21,7 @@ returns-in_default-session_notes-clause-printed g c =
 
 pub returns-clause-fed : goal.returns-clause-fed
 returns-clause-fed g c =
-    let reader = c.read_lines-read.new.reader in
+    let reader = reader_seen g.C.Recorder.view c.read_lines-read.new.reader in
     let core = reader.feeder.core in
     let end = c.read_lines-read.result.end in
     let count = c.read_lines-read.result.count in
@@ -37,7 +38,7 @@ returns-clause-fed g c =
 
 pub returns-clause-printed : goal.returns-clause-printed
 returns-clause-printed g c =
-    let core = c.read_lines-read.new.reader.feeder.core in
+    let core = g.C.Recorder.view c.read_lines-read.new.reader.feeder.core in
     let same : core.config ≡ c.args.config.now = c.read_lines-read.ensures.prints.config ∙ c.in-Ok.ensures.config in
     rw (c.with_history-2.ensures, c.cause_of-cause.ensures, c.into_history.ensures.history)
     (subst (λ (k : Config). Shown k (cause_after c.read_lines-read.result.end c.read_lines-read.result.count core.history c.read_lines-read.new.reader.number) (g.K.Sink.held c.args.out.now) (g.K.Sink.held c.read_lines-read.new.out) core.history) same
@@ -46,7 +47,7 @@ returns-clause-printed g c =
 -- without memory for the notes there are none
 pub returns-in_default-session_notes-clause-fed : goal.returns-in_default-session_notes-clause-fed
 returns-in_default-session_notes-clause-fed g c =
-    let core = c.read_lines-read.new.reader.feeder.core in
+    let core = g.C.Recorder.view c.read_lines-read.new.reader.feeder.core in
     let same : core.config ≡ c.args.config.now = c.read_lines-read.ensures.prints.config ∙ c.in-Ok.ensures.config in
     let look = looked g.S.Source.left g.S.Source.faults g.S.Source.ends in
     let over = ReadToEnd (look c.args.input.now) (look c.read_lines-read.new.input) in

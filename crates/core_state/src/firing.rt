@@ -14,10 +14,8 @@ ghost use Rattle.history_parts.specs.Additions.{completes};
 ghost use Rattle.core_state.specs.Firing.{fire_first, AreCreated};
 
 use crate::plant::Plant;
-use arrayvec::ArrayVec;
 use gem_tables::Firing;
 use std::alloc::{AllocError, Global};
-use tool_floor::MOST_CREATED;
 
 // The numbers of the row by which a control job is COMPLETED, as the definitions have them.
 const CONTROL_JOB: u8 = 15;
@@ -72,7 +70,7 @@ impl Plant {
             1 => self.comm_starts(f.row.row),
             2 => self.control_starts(f.row.row),
             3 => self.line_starts(f.row.row),
-            _ => self.floor.starts(f),
+            _ => self.floor.floor().starts(f),
         }
     }
 
@@ -97,11 +95,7 @@ impl Plant {
     }
 
     /// A row fires that an input lists or that is created, and that starts, and makes its note; with the rows of what it creates.
-    fn fire(
-        &mut self,
-        alloc: Global,
-        f: Firing,
-    ) -> Result<ArrayVec<Firing, MOST_CREATED>, AllocError>
+    fn fire(&mut self, alloc: Global, f: Firing) -> Result<Vec<Firing>, AllocError>
         requires listed { IsListed f }
         requires starts { row_starts self.old f ≡ true }
         ensures fired { OnOk result (self.new ≡ fire self.old f) }
@@ -113,7 +107,7 @@ impl Plant {
             3 => self.line_direct(f.row.row),
             _ => return self.floor_row(alloc, f),
         }
-        Ok(ArrayVec::new())
+        Ok(Vec::new(alloc))
     }
 
     /// The rows of created objects fire, one after another.

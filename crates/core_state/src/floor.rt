@@ -13,79 +13,75 @@ ghost use Rattle.gem_model.specs.Signals.{lacks_port, with_arrival, is_ready_to_
 
 use crate::noting::RowFiring;
 use crate::plant::Plant;
-use arrayvec::ArrayVec;
 use carrier::CarrierAction;
 use gem_ids::{CarrierId, PortNo, Text80};
 use gem_tables::Firing;
 use std::alloc::{AllocError, Global};
-use tool_floor::{MOST_CREATED, ToolFloor};
+use tool_floor::ToolFloor;
 
 impl Plant {
     /// The floor of the tool.
     pub fn floor(&self) -> &ToolFloor
         ensures { result.now ≡ self.now.floor }
     {
-        &self.floor
+        self.floor.floor()
     }
 
     /// How many substrates were registered since the first state.
     pub fn registrations(&self) -> u64
         ensures { result ≡ self.now.floor.places.given }
     {
-        self.floor.registrations()
+        self.floor.floor().registrations()
     }
 
     /// Whether the tool has a port of this number.
     pub fn has_port(&self, port: PortNo) -> bool
         ensures has { result ≡ not (lacks_port port.0 self.now) }
     {
-        self.floor.shop().has_port(port)
+        self.floor.floor().shop().has_port(port)
     }
 
     /// Whether the port of this number is READY TO UNLOAD.
     pub fn is_ready_to_unload(&self, port: PortNo) -> bool
         ensures { result ≡ is_ready_to_unload port.0 self.now }
     {
-        self.floor.shop().is_ready_to_unload(port)
+        self.floor.floor().shop().is_ready_to_unload(port)
     }
 
     /// What a row of the floor of the tool does, which starts, but for its note; with the rows of what it creates.
-    fn fire_floor(&mut self, f: Firing) -> Result<ArrayVec<Firing, MOST_CREATED>, AllocError>
+    fn fire_floor(&mut self, alloc: Global, f: Firing) -> Result<Vec<Firing>, AllocError>
         requires { floor_starts f self.old.floor ≡ true }
         ensures fired { OnOk result (self.new ≡ fire_floor f self.old) }
         ensures created { IfOk result (λ rows. rows.items ≡ creation_rows f self.old.floor) }
     {
-        self.floor.fire(f)
+        self.floor.fire(alloc, f)
     }
 
     /// The name of the object of a row of a port, a carrier or a module.
     fn floor_object(&self, f: Firing) -> Text80
         ensures { result ≡ object_name f self.now.floor }
     {
-        self.floor.object_name(f)
+        self.floor.floor().object_name(f)
     }
 
     /// The least row of the load ports, the carriers and the modules that is ready by itself.
-    pub(crate) fn least_of_floor(&self) -> Option<Firing>
-        ensures { result ≡ ready_floor self.now }
+    pub(crate) fn least_of_floor(&mut self) -> Option<Firing>
+        ensures least { result ≡ ready_floor self.old }
+        ensures unchanged { self.new ≡ self.old }
     {
         self.floor.least()
     }
 
     /// A row of the floor of the tool fires, which starts, and makes its note; with the rows of what it creates.
     #[tactic(auto, using(crate::proofs::Floors::row_fires))]
-    pub(crate) fn floor_row(
-        &mut self,
-        alloc: Global,
-        f: Firing,
-    ) -> Result<ArrayVec<Firing, MOST_CREATED>, AllocError>
+    pub(crate) fn floor_row(&mut self, alloc: Global, f: Firing) -> Result<Vec<Firing>, AllocError>
         requires { floor_starts f self.old.floor ≡ true }
         ensures fired { OnOk result (self.new ≡ fire self.old f) }
         ensures created { IfOk result (λ rows. rows.items ≡ creation_rows f self.old.floor) }
     {
         let online_before = self.is_online();
         let object = self.floor_object(f);
-        let created = self.fire_floor(f)?;
+        let created = self.fire_floor(alloc, f)?;
         let noted = RowFiring {
             row: f.row,
             object,
@@ -100,7 +96,7 @@ impl Plant {
         requires { lacks_port port.0 self.old ≡ false }
         ensures { self.new ≡ with_arrival port.0 id map self.old }
     {
-        let arrival = self.floor.shop().arrival(port, id, map);
+        let arrival = self.floor.floor().shop().arrival(port, id, map);
         self.floor.come(port, arrival);
     }
 

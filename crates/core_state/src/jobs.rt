@@ -17,7 +17,7 @@ impl Plant {
     pub fn jobs(&self) -> &Jobs
         ensures { result.now ≡ jobs_of self.now }
     {
-        self.floor.jobs()
+        self.floor.floor().jobs()
     }
 
     /// Creates a process job that can be created (SEMI E40, S16F11). Its row of creation is for the caller.

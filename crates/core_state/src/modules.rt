@@ -19,35 +19,35 @@ impl Plant {
     pub fn has_module(&self, m: ModuleId) -> bool
         ensures { result ≡ not (lacks_module m.0 self.now) }
     {
-        self.floor.has_module(m)
+        self.floor.floor().has_module(m)
     }
 
     /// Whether the command of this number is the open one of the module.
     pub fn is_open(&self, m: ModuleId, n: CmdNo) -> bool
         ensures { result ≡ is_open n.0 (module_of m.0 self.now) }
     {
-        self.floor.is_open(m, n)
+        self.floor.floor().is_open(m, n)
     }
 
     /// Whether the tool has a module of this number that is not Down.
     pub fn is_module_up(&self, m: ModuleId) -> bool
         ensures { result ≡ is_up (module_of m.0 self.now) }
     {
-        self.floor.is_up(m)
+        self.floor.floor().is_up(m)
     }
 
     /// Whether the tool has a module of this number that is Down.
     pub fn can_come_up(&self, m: ModuleId) -> bool
         ensures { result ≡ can_come_up m.0 self.now }
     {
-        self.floor.is_down(m)
+        self.floor.floor().is_down(m)
     }
 
     /// Whether a module has an open command that was not fetched.
     pub fn has_command(&self, m: ModuleId) -> bool
         ensures { result ≡ is_some (unfetched (module_of m.0 self.now)) }
     {
-        self.floor.has_command(m)
+        self.floor.floor().has_command(m)
     }
 
     /// The open command of a module that was not fetched yet; it is fetched then, and stays open. `None` exactly where there is
@@ -64,14 +64,14 @@ impl Plant {
         ensures count { result ≡ length self.now.floor.modules }
         ensures few { result ≤ 255 }
     {
-        self.floor.module_count()
+        self.floor.floor().module_count()
     }
 
     /// The number of the open command of a module that was fetched.
     pub fn fetched_number(&self, m: ModuleId) -> Option<CmdNo>
         ensures { result ≡ fetched_number (module_of m.0 self.now) }
     {
-        self.floor.fetched_number(m)
+        self.floor.floor().fetched_number(m)
     }
 
     /// The rows that Done of the open command of a module fires. There are none exactly where it has none.
@@ -79,7 +79,7 @@ impl Plant {
         ensures rows { result.items ≡ done_rows m.0 self.now.floor }
         ensures listed { Are IsListed result.items }
     {
-        self.floor.done_rows(m)
+        self.floor.floor().done_rows(m)
     }
 
     /// The rows by which a module goes down: this row of table 16, 8 or 9, and row 4 of processing where a Process was open.
@@ -87,7 +87,7 @@ impl Plant {
         ensures rows { result.items ≡ closing_rows row m.0 self.now.floor }
         ensures listed { Are IsListed result.items }
     {
-        self.floor.closing_rows(row, m)
+        self.floor.floor().closing_rows(row, m)
     }
 
     /// The row by which a substrate is lost. `None` exactly where it cannot be.
@@ -95,6 +95,6 @@ impl Plant {
         ensures row { option_to_list result ≡ lost_rows sub self.now.floor }
         ensures listed { Are IsListed (option_to_list result) }
     {
-        self.floor.lost_row(sub)
+        self.floor.floor().lost_row(sub)
     }
 }

@@ -25,7 +25,7 @@ use std::alloc::{AllocError, Global};
 use std::collections::VecDeque;
 use std::marker::Model;
 use tool_events::Config;
-use tool_floor::ToolFloor;
+use tool_floor::{RestingFloor, ToolFloor};
 use transactions::Transactions;
 
 // The ECIDs of how many spooled notes are sent at the host's request, and of what a full spool drops.
@@ -50,7 +50,7 @@ pub struct Plant {
     pub(crate) reports: Reports,
     pub(crate) alarms: Alarms,
     pub(crate) line: CountedLine,
-    pub(crate) floor: ToolFloor,
+    pub(crate) floor: RestingFloor,
     pub(crate) waiting: VecDeque<Bytes>,
 }
 
@@ -160,7 +160,7 @@ impl Plant {
             reports,
             alarms,
             line,
-            floor,
+            floor: RestingFloor::new(floor),
             waiting: VecDeque::new(alloc),
         }
     }
@@ -199,7 +199,7 @@ impl Plant {
             &self.reports,
             &self.alarms,
             &self.line,
-            self.floor.parts(),
+            self.floor.floor().parts(),
             &self.waiting,
         )
     }

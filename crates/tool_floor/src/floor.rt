@@ -22,7 +22,6 @@ use crate::opening::{first_equipment, first_places, first_work};
 use crate::readiness::{ACCESSING, LOCATION, PROCESSING, TRANSPORT};
 use crate::rows::MOVES;
 use crate::tracking::Substrates;
-use arrayvec::ArrayVec;
 use carrier::{Carrier, CarrierAction};
 use floor_model::{FloorParts, Substrate};
 use gem_ids::{CmdNo, LocId, ModuleId, PortNo, SubstrateId, Text80};
@@ -35,9 +34,6 @@ use std::marker::Model;
 use substrate::{LocationRecord, Places};
 use tool_jobs::Jobs;
 use tool_tasks::{Command, Recipe, Task};
-
-/// The most rows of objects that one row creates: two of each substrate of a carrier.
-pub const MOST_CREATED: usize = 50;
 
 /// The floor of the tool, which contracts see as the load ports with the carriers; the list of the modules by their numbers: 1 is the
 /// robot, 2 the aligner, and 2 + c chamber c; which substrate has which place; the states of the locations by their numbers; the
@@ -404,54 +400,54 @@ impl ToolFloor {
     /// the objects that it creates, which are to be fired straight behind it (this tool's profile, settling): of a carrier, or of
     /// the substrates that it registers. `AllocError`: there is no memory for what it creates, or the last number was given, of
     /// a carrier, a substrate or a command; but for a row of the slot map, nothing has changed.
-    pub fn fire(&mut self, x: Firing) -> Result<ArrayVec<Firing, MOST_CREATED>, AllocError>
+    pub fn fire(&mut self, alloc: Global, x: Firing) -> Result<Vec<Firing>, AllocError>
         requires { floor_starts x self.old ≡ true }
         ensures ok { IfOk result (λ _. self.new ≡ floor_fired x self.old) }
         ensures follow { IfOk result (λ rows. rows.items ≡ creation_rows x self.old) }
         ensures err { (x.row.table == 9) ≡ false → IfErr result (λ _. self.new ≡ self.old) }
     {
         match x.row.table {
-            7 => return self.fire_association(x),
-            9 => return self.fire_map(x),
+            7 => return self.fire_association(alloc, x),
+            9 => return self.fire_map(alloc, x),
             ACCESSING => self.shop.fire_accessing(x.object, x.row.row),
             LOCATION => self.fire_location(x),
             TRANSPORT | PROCESSING => self.fire_substrate(x),
             PROCESS_JOB => self.fire_process(x.object, x.row.row),
             CONTROL_JOB => self.fire_control(x),
             MOVES => self.fire_move(x)?,
-            _ => return self.fire_shop(x),
+            _ => return self.fire_shop(alloc, x),
         }
-        Ok(ArrayVec::new())
+        Ok(Vec::new(alloc))
     }
 
     // A row of tables 4 to 6 or 8 fires that starts.
-    fn fire_shop(&mut self, x: Firing) -> Result<ArrayVec<Firing, MOST_CREATED>, AllocError>
+    fn fire_shop(&mut self, alloc: Global, x: Firing) -> Result<Vec<Firing>, AllocError>
         requires other { is_one_of (7 ∷ 9 ∷ 10 ∷ 11 ∷ 12 ∷ 13 ∷ 14 ∷ 15 ∷ 16 ∷ []) x.row.table ≡ false }
         requires starts { floor_starts x self.old ≡ true }
         ensures ok { IfOk result (λ _. self.new ≡ floor_fired x self.old) }
         ensures follow { IfOk result (λ rows. rows.items ≡ creation_rows x self.old) }
         ensures err { IfErr result (λ _. self.new ≡ self.old) }
     {
-        let created = self.shop.creations(x);
+        let created = Vec::from_slice(alloc, self.shop.creations(x).as_slice())?;
         self.shop.fire(x)?;
-        Ok(widened(created.as_slice()))
+        Ok(created)
     }
 
     // A row of table 7 fires that starts.
-    fn fire_association(&mut self, x: Firing) -> Result<ArrayVec<Firing, MOST_CREATED>, AllocError>
+    fn fire_association(&mut self, alloc: Global, x: Firing) -> Result<Vec<Firing>, AllocError>
         requires table { x.row.table ≡ 7 }
         requires starts { floor_starts x self.old ≡ true }
         ensures ok { IfOk result (λ _. self.new ≡ floor_fired x self.old) }
         ensures follow { IfOk result (λ rows. rows.items ≡ creation_rows x self.old) }
         ensures err { IfErr result (λ _. self.new ≡ self.old) }
     {
-        let created = self.shop.creations(x);
+        let created = Vec::from_slice(alloc, self.shop.creations(x).as_slice())?;
         let owner = self.shop.owner_number(x.object);
         self.shop.fire(x)?;
         if x.row.row == 6 {
             self.take_owned(owner);
         }
-        Ok(widened(created.as_slice()))
+        Ok(created)
     }
 
     // The substrates of a carrier are removed and forgotten, where one is given.
@@ -464,7 +460,7 @@ impl ToolFloor {
     }
 
     // A row of table 9 fires that starts.
-    fn fire_map(&mut self, x: Firing) -> Result<ArrayVec<Firing, MOST_CREATED>, AllocError>
+    fn fire_map(&mut self, alloc: Global, x: Firing) -> Result<Vec<Firing>, AllocError>
         requires table { x.row.table ≡ 9 }
         requires starts { floor_starts x self.old ≡ true }
         ensures ok { IfOk result (λ _. self.new ≡ floor_fired x self.old) }
@@ -473,7 +469,8 @@ impl ToolFloor {
         let known = self.substrates.len();
         self.register_by(x)?;
         self.shop.fire(x)?;
-        Ok(self.registration_rows(known))
+        let rows = self.registration_rows(alloc, known)?;
+        Ok(rows)
     }
 
     // What a row of table 9 registers.
@@ -572,16 +569,4 @@ impl ToolFloor {
     {
         self.modules.fetch(m)
     }
-}
-
-// The rows that one row of the load ports creates, in a list for more.
-fn widened(created: &[Firing]) -> ArrayVec<Firing, MOST_CREATED>
-    requires { length created.now ≤ 1 }
-    ensures { result.items ≡ created.now }
-{
-    let mut rows = ArrayVec::new();
-    if let Some(x) = created.get(0) {
-        rows.push(*x);
-    }
-    rows
 }

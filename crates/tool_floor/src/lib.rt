@@ -17,9 +17,11 @@ mod picking;
 mod planning;
 mod readiness;
 mod registering;
+mod resting;
 mod rows;
 mod telling;
 mod tracking;
 mod whereabouts;
 
-pub use floor::{MOST_CREATED, ToolFloor};
+pub use floor::ToolFloor;
+pub use resting::RestingFloor;

@@ -1,17 +1,17 @@
 //! Substrates are registered with the map of their carrier, and go with it (this tool's profile, carriers and substrates).
 
-ghost use Rattle.std.specs.Prelude.{◌≡◌, ◌+◌, ◌≤◌, [], true, false, drop, length, slice_get, IfOk, Some};
+ghost use Rattle.std.specs.Prelude.{◌≡◌, ◌≤◌, ◌++◌, ◌∷◌, [], true, false, drop, length, slice_get, IfOk, OnOk, Some};
 ghost use Rattle.gem_ids.specs.Names.{name_in_slot};
+ghost use Rattle.gem_tables.specs.Table.{firing};
 ghost use Rattle.floor_model.specs.Substrates.{registers_at, registers_slot, registers_slots, registers_at_port, registration_rows, emptied, removed_of, without_carrier};
 
-use crate::floor::{MOST_CREATED, ToolFloor};
+use crate::floor::ToolFloor;
 use crate::readiness::{PROCESSING, TRANSPORT};
-use arrayvec::ArrayVec;
 use carrier::Carrier;
 use floor_model::Substrate;
 use gem_ids::{LocId, PortNo, SlotNo, SubstrateId, substrate_id};
 use gem_tables::Firing;
-use std::alloc::AllocError;
+use std::alloc::{AllocError, Global};
 use substrate::{PlaceFault, SubstrateRecord};
 
 // The code of a slot, by its place, counted from 0.
@@ -19,6 +19,15 @@ fn code_at(slots: &[u8], place: usize) -> Option<u8>
     ensures { result ≡ slice_get slots.now place }
 {
     slots.get(place).copied()
+}
+
+// The rows of the substrate of a number come behind these.
+fn push_rows(number: u64, rows: &mut Vec<Firing>) -> Result<(), AllocError>
+    ensures { OnOk result (rows.new.items ≡ (rows.old.items ++ firing 12 number 1 ∷ []) ++ firing 13 number 1 ∷ []) }
+{
+    rows.push(Firing::new(TRANSPORT, number, 1))?;
+    rows.push(Firing::new(PROCESSING, number, 1))?;
+    Ok(())
 }
 
 impl ToolFloor {
@@ -92,18 +101,20 @@ impl ToolFloor {
     }
 
     // The rows of the substrates behind so many.
-    pub(crate) fn registration_rows(&self, known: usize) -> ArrayVec<Firing, MOST_CREATED>
-        requires { length self.now.substrates ≤ known + 25 }
-        ensures { result.items ≡ registration_rows (drop known self.now.substrates) }
+    pub(crate) fn registration_rows(
+        &self,
+        alloc: Global,
+        known: usize,
+    ) -> Result<Vec<Firing>, AllocError>
+        ensures { IfOk result (λ rows. rows.items ≡ registration_rows (drop known self.now.substrates)) }
     {
-        let mut rows = ArrayVec::new();
+        let mut rows = Vec::new(alloc);
         for place in known..self.substrate_count() {
             if let Some(substrate) = self.substrate_at(place) {
-                rows.push(Firing::new(TRANSPORT, substrate.number, 1));
-                rows.push(Firing::new(PROCESSING, substrate.number, 1));
+                push_rows(substrate.number, &mut rows)?;
             }
         }
-        rows
+        Ok(rows)
     }
 
     // ---- removal

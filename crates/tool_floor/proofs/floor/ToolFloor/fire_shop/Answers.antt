@@ -19,6 +19,6 @@ returns-clause-ok c =
 
 pub returns-clause-follow : goal.returns-clause-follow
 returns-clause-follow c =
-    c.widened.ensures ∙ c.as_slice.ensures.value ∙ c.creations-created.ensures
+    c.in_ok-created.ensures.items ∙ c.as_slice.ensures.value ∙ c.creations.ensures
     ∙ sym (creates_shop c.args.x (kept_floor c.self.inside) c.requires.other)
     ∙ ap (creation_rows c.args.x) c.self.view_is

@@ -1,6 +1,6 @@
-use Rattle.std.proofs.Common.{◌≡◌, ◌+◌, ◌*◌, ◌≤◌, ◌++◌, length, drop}
+use Rattle.std.proofs.Common.{◌≡◌, ◌++◌, drop}
 use Rattle.floor_model.specs.Substrates.{registration_rows}
 use Rattle.tool_floor.proofs.floor.ToolFloor.registration_rows.Given as goal
 
 abbrev pub invariant-loop-place : goal.invariant-loop-place
-invariant-loop-place l = (l.rows.items ++ registration_rows (drop l.place l.self.substrates) ≡ registration_rows (drop l.known l.self.substrates)) × (length l.rows.items + 2 * l.known ≤ 2 * l.place)
+invariant-loop-place l = l.rows.items ++ registration_rows (drop l.place l.self.substrates) ≡ registration_rows (drop l.known l.self.substrates)

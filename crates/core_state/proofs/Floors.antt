@@ -1,5 +1,5 @@
 -- The rows of the load ports, the carriers and the modules, as the plant fires them.
-use Rattle.std.proofs.Common.{drop, get_or, drop-cons, add-one, ◌+◌, ◌<◌, zero, suc, ◌≡◌, ℕ, ◌==◌, ◌≤◌, length, Bool, true, false, List, [], ◌∷◌, Some, refl, sym, ◌∙◌, ap, subst, arith}
+use Rattle.std.proofs.Common.{drop, get_or, drop-cons, add-one, ◌+◌, ◌*◌, ◌<◌, zero, suc, ◌≡◌, ℕ, ◌==◌, ◌≤◌, length, Bool, true, false, List, [], ◌∷◌, Option, Some, None, if◌then◌else◌, refl, sym, ◌∙◌, ap, subst, arith}
 use Rattle.std.specs.List.{AllByRecursion}
 use Rattle.std.proofs.lemmas.Bool.Decides.{nat_tests}
 use Rattle.gem_tables.specs.Table.{firing}
@@ -9,7 +9,9 @@ use Rattle.floor_model.specs.Floor.{ToolFloor}
 use Rattle.floor_model.specs.Machines.{floor_machines, floor_starts, floor_fired, creation_rows, floor_least, object_name as floor_object}
 use Rattle.floor_model.proofs.Keeping.{creation_same, creations as floor_creations, creations_start, AreCreations, not_table_3, least_starts}
 use Rattle.gem_model.specs.State.{State, is_online}
-use Rattle.gem_model.specs.Noting.{noted_as}
+use Rattle.gem_rows.specs.Events.{ceid_of}
+use Rattle.gem_model.specs.Values.{Occasion}
+use Rattle.gem_model.specs.Noting.{is_event_reported, line_with_event, line_behind, noted_as}
 use Rattle.gem_model.specs.Machines.{row_starts, creations, object_name, fire_floor}
 use Rattle.gem_model.specs.Fire.{fire, fire_listed}
 use Rattle.gem_model.specs.Direct.{Are, IsListed}
@@ -17,6 +19,7 @@ use Rattle.gem_model.proofs.FloorRows.{IsFloorRow, effect_is, starts_is, creatio
 use Rattle.gem_model.proofs.OnFloor.{creations_as}
 use Rattle.gem_model.proofs.FloorRows.{ready_is}
 use Rattle.core_state.specs.Firing.{AreCreated}
+use Rattle.core_state.specs.Reported.{is_reported_of, is_row_reported}
 
 -- a row that starts on the floor is of tables 4 to 10 and 16
 pub starts_high : (x : Firing) (f : ToolFloor) → floor_starts x f ≡ true → IsFloorRow x
@@ -44,6 +47,18 @@ row_fires g h x object online starts named on is =
     ap (λ (o : List ℕ). noted_as x.row.table x.row.row o online h) (named ∙ sym (object_is g x high))
     ∙ ap (λ (b : Bool). noted_as x.row.table x.row.row (object_name g x) b h) on
     ∙ ap (λ (k : State). noted_as x.row.table x.row.row (object_name g x) (is_online g.control) k) (is ∙ sym (effect_is g x high))
+
+-- one that is not reported makes no note
+unnoted : (event : Option ℕ) (o : Occasion) (g h : State) (x : Firing) → is_reported_of event g ≡ false → h ≡ fire_floor x g → h ≡ record h { line = line_behind event o (is_online g.control) h }
+unnoted None o g h x untold is = refl
+unnoted (Some ceid) o g h x untold is =
+    let behind : is_event_reported ceid (is_online g.control) h ≡ false = ap (is_event_reported ceid (is_online g.control)) is ∙ untold in
+    ap (λ (b : Bool). record h { line = if b then line_with_event ceid o h else h.line }) (sym behind)
+
+pub untold_fires : (g h : State) (x : Firing) → floor_starts x g.floor ≡ true → is_row_reported x.row.table x.row.row g ≡ false → h ≡ fire_floor x g → h ≡ fire g x
+untold_fires g h x starts untold is =
+    unnoted (ceid_of x.row.table x.row.row) (record { object = floor_object x g.floor; row = 100 * x.row.table + x.row.row }) g h x untold is
+    ∙ row_fires g h x (floor_object x g.floor) (is_online g.control) starts refl refl is
 
 -- the floor behind it
 pub row_floor : (g : State) (x : Firing) → floor_starts x g.floor ≡ true → (fire g x).floor ≡ floor_fired x g.floor

@@ -101,13 +101,19 @@ impl Plant {
         ensures fired { OnOk result (self.new ≡ fire self.old f) }
         ensures created { IfOk result (λ rows. rows.items ≡ creations self.old f) }
     {
-        match f.row.table {
-            1 => self.comm_row(alloc, f.row.row)?,
-            2 => self.control_row(alloc, f.row.row)?,
-            3 => self.line_direct(f.row.row),
-            _ => return self.floor_row(alloc, f),
+        if f.row.table == 1 {
+            self.comm_row(alloc, f.row.row)?;
+            return Ok(Vec::new(alloc));
         }
-        Ok(Vec::new(alloc))
+        if f.row.table == 2 {
+            self.control_row(alloc, f.row.row)?;
+            return Ok(Vec::new(alloc));
+        }
+        if f.row.table == 3 {
+            self.line_direct(f.row.row);
+            return Ok(Vec::new(alloc));
+        }
+        self.floor_row(alloc, f)
     }
 
     /// The rows of created objects fire, one after another.

@@ -72,9 +72,23 @@ impl Plant {
         self.floor.least()
     }
 
-    /// A row of the floor of the tool fires, which starts, and makes its note; with the rows of what it creates.
-    #[tactic(auto, using(crate::proofs::Floors::row_fires))]
+    /// A row of the floor of the tool fires, which starts, and makes its note, where it is reported; with the rows of what it creates.
     pub(crate) fn floor_row(&mut self, alloc: Global, f: Firing) -> Result<Vec<Firing>, AllocError>
+        requires { floor_starts f self.old.floor ≡ true }
+        ensures fired { OnOk result (self.new ≡ fire self.old f) }
+        ensures created { IfOk result (λ rows. rows.items ≡ creation_rows f self.old.floor) }
+    {
+        if self.is_row_reported(f.row) {
+            return self.told_row(alloc, f);
+        }
+        let created = self.fire_floor(alloc, f)?;
+        Ok(created)
+    }
+
+    /// A row of the floor of the tool fires, which starts, and makes its note, with the name that its object has before it; with the rows
+    /// of what it creates.
+    #[tactic(auto, using(crate::proofs::Floors::row_fires))]
+    fn told_row(&mut self, alloc: Global, f: Firing) -> Result<Vec<Firing>, AllocError>
         requires { floor_starts f self.old.floor ≡ true }
         ensures fired { OnOk result (self.new ≡ fire self.old f) }
         ensures created { IfOk result (λ rows. rows.items ≡ creation_rows f self.old.floor) }

@@ -8,6 +8,7 @@ ghost use Rattle.event_reports.specs.Alarms.{is_set};
 ghost use Rattle.note_line.specs.Limits.{most_text};
 ghost use Rattle.note_line.specs.Line.{next};
 ghost use Rattle.gem_model.specs.Values.{value_of};
+ghost use Rattle.core_state.specs.Reported.{is_row_reported};
 ghost use Rattle.gem_model.specs.Noting.{is_event_reported, event_text, line_with_event, line_behind, noted_as, is_alarm_reported, alcd, text_of_alarm, alarm_line, line_with_alarm, sets_alarm, clears_alarm};
 
 use crate::plant::Plant;
@@ -50,6 +51,16 @@ impl Plant {
         self.reports.is_enabled(ceid)
             && self.comm != Comm::Disabled
             && (online_before || self.is_online())
+    }
+
+    /// Whether a row makes its note that leaves communication, control and the reports as they are.
+    pub(crate) fn is_row_reported(&self, row: RowId) -> bool
+        ensures { result ≡ is_row_reported row.table row.row self.now }
+    {
+        match ceid_of(row) {
+            Some(ceid) => self.is_event_reported(ceid, self.is_online()),
+            None => false,
+        }
     }
 
     /// The text of S6F11 of the next note, with the values of the event's reports in a firing.

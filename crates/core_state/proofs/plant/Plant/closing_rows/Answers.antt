@@ -7,4 +7,4 @@ use Rattle.core_state.proofs.plant.Plant.closing_rows.Goals as goal
 
 pub returns-clause-listed : goal.returns-clause-listed
 returns-clause-listed c =
-    subst (Are IsListed) (sym c.closing_rows.ensures) (listed_floor (closing_rows c.args.row c.args.m.0 c.self.inside.floor) (closing_are c.args.row c.args.m.0 c.self.inside.floor))
+    subst (Are IsListed) (sym c.closing_rows.ensures) (listed_floor (closing_rows c.args.row c.args.m.0 c.floor.result.now) (closing_are c.args.row c.args.m.0 c.floor.result.now))

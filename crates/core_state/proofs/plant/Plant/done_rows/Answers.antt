@@ -7,4 +7,4 @@ use Rattle.core_state.proofs.plant.Plant.done_rows.Goals as goal
 
 pub returns-clause-listed : goal.returns-clause-listed
 returns-clause-listed c =
-    subst (Are IsListed) (sym c.done_rows.ensures) (listed_floor (done_rows c.args.m.0 c.self.inside.floor) (done_are c.args.m.0 c.self.inside.floor))
+    subst (Are IsListed) (sym c.done_rows.ensures) (listed_floor (done_rows c.args.m.0 c.floor.result.now) (done_are c.args.m.0 c.floor.result.now))

@@ -7,4 +7,4 @@ use Rattle.core_state.proofs.plant.Plant.lost_row.Goals as goal
 
 pub returns-clause-listed : goal.returns-clause-listed
 returns-clause-listed c =
-    subst (Are IsListed) (sym c.lost_row.ensures) (listed_floor (lost_rows c.args.sub c.self.inside.floor) (lost_are c.args.sub c.self.inside.floor))
+    subst (Are IsListed) (sym c.lost_row.ensures) (listed_floor (lost_rows c.args.sub c.floor.result.now) (lost_are c.args.sub c.floor.result.now))

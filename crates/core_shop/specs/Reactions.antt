@@ -1,10 +1,15 @@
 -- What an event did, as the outcome of the tables.
-use Rattle.std.specs.Prelude.{◌≡◌, ℕ, Some}
+use Rattle.std.specs.Prelude.{◌≡◌, ℕ, Some, None}
+use Rattle.tool_events.specs.declared.answer.Answer.TheVariants.{Done}
 use Rattle.tool_events.specs.declared.event.Event.{Event}
 use Rattle.tool_events.specs.declared.event.Event.TheVariants as event
 use Rattle.core_shop.specs.declared.reaction.Reaction.{Reaction}
 use Rattle.gem_model.specs.State.{State}
 use Rattle.gem_model.specs.Step.{Outcome, acts}
+
+-- the event was done, and no session ended
+abbrev pub done : Reaction
+done = record { answer = Done; ended = None }
 
 -- what a reaction is, with the state that it leads to
 abbrev pub outcome_of : Reaction → State → Outcome

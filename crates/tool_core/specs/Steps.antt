@@ -1,15 +1,10 @@
 -- What an event did, as the step of the tables.
-use Rattle.std.specs.Prelude.{◌≡◌, ℕ, Some, None}
-use Rattle.tool_events.specs.declared.answer.Answer.TheVariants.{Done}
+use Rattle.std.specs.Prelude.{◌≡◌, ℕ, Some}
 use Rattle.tool_events.specs.declared.event.Event.{Event}
 use Rattle.core_shop.specs.declared.reaction.Reaction.{Reaction}
 use Rattle.core_shop.specs.Reactions.{outcome_of}
 use Rattle.gem_model.specs.State.{State}
 use Rattle.gem_model.specs.Step.{step, step_from}
-
--- the event was done, and no session ended
-abbrev pub done : Reaction
-done = record { answer = Done; ended = None }
 
 -- in a state whose moment was raised from this one, the event's step is this reaction, and leads to this state
 abbrev pub StepsFrom : ℕ → State → Event → Reaction → State → Type 0

@@ -7,14 +7,14 @@ ghost use Rattle.gem_model.specs.State.{is_up};
 ghost use Rattle.gem_model.specs.Verdict.{header_of};
 ghost use Rattle.gem_model.specs.Step.{acts, step, step_from, hosted, linked};
 ghost use Rattle.host_requests.specs.Short.{IsShort};
-ghost use Rattle.core_shop.specs.Reactions.{Acts, IsLinkEvent, outcome_of};
+ghost use Rattle.core_shop.specs.Reactions.{done, Acts, outcome_of};
 ghost use Rattle.gem_model.specs.Sizes.{counted};
 ghost use Rattle.history_parts.specs.Additions.{completed_from, completed_by};
-ghost use Rattle.tool_core.specs.Steps.{done, StepsFrom, Steps};
+ghost use Rattle.tool_core.specs.Steps.{StepsFrom, Steps};
 
 use core_host::header_of;
 use core_settling::follow;
-use core_shop::{Reaction, end_for, is_due};
+use core_shop::{Reaction, end_for, is_due, link_event};
 use core_state::Plant;
 use gem_ids::Moment;
 use hsms_frame::Arrival;
@@ -85,28 +85,6 @@ fn operate(
 {
     *reaction = core_shop::operator(plant, alloc, command)?;
     Ok(())
-}
-
-/// The link changes, its writer takes a frame, a module fetches, or the clock is looked at. False: the event has to wait.
-fn link_event(
-    plant: &mut Plant,
-    alloc: Global,
-    before: Moment,
-    event: &Event,
-    reaction: &mut Reaction,
-) -> Result<bool, AllocError>
-    requires room { plant.old.link.session + 1 < 2 ^ 64 }
-    requires link { IsLinkEvent event.now }
-    ensures acts { IfOk result (λ goes. goes ≡ true → Acts before.0 plant.old event.now reaction.new plant.new) }
-    ensures waits { IfOk result (λ goes. goes ≡ false → acts before.0 plant.old event.now ≡ None) }
-{
-    match core_shop::link_event(plant, alloc, before, event)? {
-        Some(told) => {
-            *reaction = told;
-            Ok(true)
-        }
-        None => Ok(false),
-    }
 }
 
 /// What an event does before the tool settles, where the moment was raised from this one. False: it has to wait.

@@ -1,5 +1,5 @@
 //! A step of the plant, with what the core keeps of it.
-ghost use Rattle.std.specs.Prelude.{◌≡◌, ◌+◌, ◌^◌, ◌<◌, ◌≤◌, ◌⊎◌, true, false, None, Ok, IfOk, IfErr, IfSome, IfNone, IsErr, IsErrOf};
+ghost use Rattle.std.specs.Prelude.{◌≡◌, ◌+◌, ◌^◌, ◌<◌, ◌≤◌, ◌⊎◌, true, false, None, Ok, IfOk, OnOk, IfErr, IfSome, IfNone, IsErr, IsErrOf};
 ghost use Rattle.tool_events.specs.declared.answer.PostFault.TheVariants as PostFault;
 ghost use Rattle.tool_events.specs.Sizes.{event_bytes};
 ghost use Rattle.gem_model.specs.State.{is_up};
@@ -7,6 +7,7 @@ ghost use Rattle.gem_model.specs.Step.{step};
 ghost use Rattle.gem_model.specs.Sizes.{counted};
 ghost use Rattle.history_parts.specs.Additions.{done_by, completed_by};
 ghost use Rattle.history_parts.specs.Totals.{totals_at};
+ghost use Rattle.core_shop.specs.Reactions.{done};
 ghost use Rattle.tool_core.specs.Steps.{Steps};
 
 use crate::react::react;
@@ -15,7 +16,7 @@ use core_state::Plant;
 use gem_ids::Moment;
 use history_parts::Totals;
 use std::alloc::{AllocError, Global};
-use tool_events::{Answer, Event, PostFault, Signal};
+use tool_events::{Event, PostFault, Signal};
 
 /// How many commands an event ends by Done, 0 or 1.
 fn done_by(plant: &Plant, event: &Event) -> u64
@@ -48,27 +49,29 @@ fn totals_behind(before: &Totals, plant: &Plant, done: u64, completed: u64) -> T
     }
 }
 
-/// What an event did, and what the plant tells behind it: how many sessions came, whether one is up, and the counts.
-#[derive(Drop)]
+/// What the plant tells behind an event: how many sessions came, whether one is up, and the counts.
+#[derive(Clone, Copy)]
 pub struct Stepped {
-    pub reaction: Reaction,
     pub sessions: u64,
     pub is_up: bool,
     pub totals: Totals,
 }
 
-/// Does an event that is posted at a moment, behind these counts. `Again`: it has to wait. `NoMemory`: memory ran out. Then nothing
-/// is said of the plant. The text of an event has at most 536,870,912 bytes.
+/// Does an event that is posted at a moment, behind these counts. What it did is told in the reaction, which says before that it was done.
+/// `Again`: it has to wait. `NoMemory`: memory ran out. Then nothing is said of the plant. The text of an event has at most
+/// 536,870,912 bytes.
 pub fn take_event(
     plant: &mut Plant,
     alloc: Global,
     at: Moment,
     event: &Event,
     before: &Totals,
+    reaction: &mut Reaction,
 ) -> Result<Stepped, PostFault>
     requires room { plant.old.link.session + 1 < 2 ^ 64 }
     requires short { event_bytes event.now ≤ 2 ^ 29 }
-    ensures steps { IfOk result (λ s. Steps plant.old at.0 event.now s.reaction plant.new) }
+    requires fresh { reaction.old ≡ done }
+    ensures steps { OnOk result (Steps plant.old at.0 event.now reaction.new plant.new) }
     ensures sessions { IfOk result (λ s. s.sessions ≡ plant.new.link.session) }
     ensures up { IfOk result (λ s. s.is_up ≡ is_up plant.new) }
     ensures totals { IfOk result (λ s. s.totals
@@ -76,15 +79,13 @@ pub fn take_event(
     ensures waits { IsErrOf result PostFault.Again → step plant.old at.0 event.now ≡ None }
     ensures fault { IfErr result (λ fault. (fault ≡ PostFault.Again) ⊎ (fault ≡ PostFault.NoMemory)) }
 {
-    let mut reaction = Reaction::answered(Answer::Done);
     let done = done_by(plant, event);
     let mut completed = 0;
-    let reacted = react(plant, alloc, at, event, &mut reaction, &mut completed);
+    let reacted = react(plant, alloc, at, event, reaction, &mut completed);
     if let Some(fault) = fault_of(reacted) {
         return Err(fault);
     }
     Ok(Stepped {
-        reaction,
         sessions: plant.session_count(),
         is_up: plant.is_up(),
         totals: totals_behind(before, plant, done, completed),

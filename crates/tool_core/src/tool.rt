@@ -19,6 +19,7 @@ ghost use Rattle.history_parts.specs.Totals.{totals_of};
 
 use crate::react::must_wait;
 use crate::stepped::take_event;
+use core_shop::Reaction;
 use core_state::Plant;
 use event_reports::Values;
 use gem_ids::{CmdNo, ModuleId, Moment, Text80};
@@ -295,16 +296,24 @@ impl Core {
         };
         // What an event that finds no memory leaves of the plant counts for nothing.
         self.is_whole = false;
-        let told = take_event(&mut self.boxed.plant, alloc, at, &event, &self.totals)?;
-        add_taken(&mut self.written, &event, &told.reaction.answer);
+        let mut reaction = Reaction::answered(Answer::Done);
+        let told = take_event(
+            &mut self.boxed.plant,
+            alloc,
+            at,
+            &event,
+            &self.totals,
+            &mut reaction,
+        )?;
+        add_taken(&mut self.written, &event, &reaction.answer);
         self.bytes += event_bytes(&event);
         self.sessions = told.sessions;
         self.totals = told.totals;
         self.is_up = told.is_up;
         self.entries.push_reserved(Entry { seat, at, event });
-        add_end(&mut self.ends, told.reaction.ended);
+        add_end(&mut self.ends, reaction.ended);
         self.is_whole = true;
-        Ok(told.reaction.answer)
+        Ok(reaction.answer)
     }
 
     /// What became of the note of this number: it waits, is open, or has ended, and how. `None`: no note has the number. The

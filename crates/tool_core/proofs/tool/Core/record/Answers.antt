@@ -16,11 +16,12 @@ invariant_of-self-2 c =
     let k = c.self.inside in
     let i = c.self.invariant in
     let told = c.in_ok-told.told in
+    let reaction = c.take_event.new.reaction in
     let new = c.take_event.new.plant in
     let old : State = state_of k.config k.entries.items in
     let whole : k.is_whole ≡ true = ap (λ (v : CoreView). v.is_whole) c.self.view_is ∙ c.requires.whole in
     let there : c.deref_mut.result.now ≡ old = c.deref_mut.ensures.value ∙ i.plant_is whole in
-    let o : Outcome = record { answer = told.reaction.answer; ended = told.reaction.ended; after = new } in
+    let o : Outcome = record { answer = reaction.answer; ended = reaction.ended; after = new } in
     let here : step old c.args.at.0 c.args.event ≡ Some o = subst (λ (g : State). step g c.args.at.0 c.args.event ≡ Some o) there (c.in_ok-told.ensures.steps) in
     let before : GoesOn k.config k.entries.items k.ends.items k.written k.bytes = record { config = i.config; run = i.run; sessions = rw i.sessions_are at i.sessions; ended = i.ended; written = i.written; bytes_are = i.bytes_are; entries_fit = i.entries_fit; bytes_fit = i.bytes_fit } in
     let entry : Entry = record { seat = c.args.seat; at = c.args.at; event = c.args.event } in
@@ -50,9 +51,10 @@ returns-clause-step c =
     let k = c.self.inside in
     let i = c.self.invariant in
     let told = c.in_ok-told.told in
+    let reaction = c.take_event.new.reaction in
     let whole : k.is_whole ≡ true = ap (λ (v : CoreView). v.is_whole) c.self.view_is ∙ c.requires.whole in
     let there : c.deref_mut.result.now ≡ state_of k.config k.entries.items = c.deref_mut.ensures.value ∙ i.plant_is whole in
-    let o : Outcome = record { answer = told.reaction.answer; ended = told.reaction.ended; after = c.take_event.new.plant } in
+    let o : Outcome = record { answer = reaction.answer; ended = reaction.ended; after = c.take_event.new.plant } in
     let here : step (state_of k.config k.entries.items) c.args.at.0 c.args.event ≡ Some o = subst (λ (g : State). step g c.args.at.0 c.args.event ≡ Some o) there (c.in_ok-told.ensures.steps) in
     let entry : Entry = record { seat = c.args.seat; at = c.args.at; event = c.args.event } in (
       o,
@@ -66,11 +68,12 @@ add_taken-requires c =
     let k = c.self.inside in
     let i = c.self.invariant in
     let told = c.in_ok-told.told in
+    let reaction = c.take_event.new.reaction in
     let old : State = state_of k.config k.entries.items in
     let n = length c.make_space.new.written in
     let whole : k.is_whole ≡ true = ap (λ (v : CoreView). v.is_whole) c.self.view_is ∙ c.requires.whole in
     let there : c.deref_mut.result.now ≡ old = c.deref_mut.ensures.value ∙ i.plant_is whole in
-    let o : Outcome = record { answer = told.reaction.answer; ended = told.reaction.ended; after = c.take_event.new.plant } in
+    let o : Outcome = record { answer = reaction.answer; ended = reaction.ended; after = c.take_event.new.plant } in
     let here : step old c.args.at.0 c.args.event ≡ Some o = subst (λ (g : State). step g c.args.at.0 c.args.event ≡ Some o) there (c.in_ok-told.ensures.steps) in
     let room : IfSome (if is_up old then Some old.link.session else None) (λ k. k ≤ n) = rw (c.session_up-up.ensures.session, ← c.self.view_is) at c.in-Ok.ensures.for_session in
     taker_fits k.config k.entries.items c.args.at.0 n c.args.event o i.run here room

@@ -1,3 +1,5 @@
+pub mod HexDigits
 pub mod Letters
 pub mod Literals
+pub mod OperatorLetters
 pub mod ScriptLines

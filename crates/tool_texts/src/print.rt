@@ -19,8 +19,18 @@ pub fn print_out_line(alloc: Global, o: &OutLine, out: &mut Vec<u8>) -> Result<(
 {
     match o {
         OutLine::Frame(frame) => print_frame(alloc, frame.as_slice(), out),
-        _ => {
-            let line = line_bytes(alloc, o)?;
+        OutLine::Oper(true) => out.extend_from_slice(b"= ok\n"),
+        OutLine::Oper(false) => out.extend_from_slice(b"= no\n"),
+        OutLine::Up(session) => {
+            let line = up_bytes(alloc, *session)?;
+            out.extend_from_slice(line.as_slice())
+        }
+        OutLine::Ended(session, cause) => {
+            let line = end_bytes(alloc, *session, cause_text(*cause))?;
+            out.extend_from_slice(line.as_slice())
+        }
+        OutLine::Command(module, command) => {
+            let line = command_bytes(alloc, *module, command)?;
             out.extend_from_slice(line.as_slice())
         }
     }
@@ -40,21 +50,11 @@ pub fn print_frame(alloc: Global, frame: &[u8], out: &mut Vec<u8>) -> Result<(),
     out.extend_from_slice(b"\n")
 }
 
-// The line, with its line feed.
-fn line_bytes(alloc: Global, line: &OutLine) -> Result<Vec<u8>, NoMemory>
-    ensures { IfOk result (λ bytes. bytes.items ≡ out_line_bytes line.now) }
+// The line of a session that came up.
+fn up_bytes(alloc: Global, session: u64) -> Result<Vec<u8>, NoMemory>
+    ensures { IfOk result (λ bytes. bytes.items ≡ up_line session) }
 {
-    match line {
-        OutLine::Up(session) => Ok(format!(in alloc; "+ {session}\n")?.into_bytes()),
-        OutLine::Ended(session, cause) => end_bytes(alloc, *session, cause_text(*cause)),
-        OutLine::Frame(frame) => {
-            let digits = hex::encode_upper(alloc, frame.as_slice())?;
-            Ok(format!(in alloc; "> {digits}\n")?.into_bytes())
-        }
-        OutLine::Command(module, command) => command_bytes(alloc, *module, command),
-        OutLine::Oper(true) => Vec::from_slice(alloc, b"= ok\n"),
-        OutLine::Oper(false) => Vec::from_slice(alloc, b"= no\n"),
-    }
+    Ok(format!(in alloc; "+ {session}\n")?.into_bytes())
 }
 
 // The word of a cause.

@@ -1,55 +1,13 @@
 -- The first letter of an operator's words tells which of them they may be.
-use Rattle.std.proofs.Common.{◌≡◌, ℕ, zero, suc, ◌-◌, List, [], ◌∷◌, length, max, codes, Some, None, slice_get, Result, Ok, Err, refl, ap, ◌∙◌, arith}
+use Rattle.std.proofs.Common.{◌≡◌, ℕ, ◌-◌, List, [], ◌∷◌, length, codes, Some, None, slice_get, Result, Err, ap, ◌∙◌, arith}
 use Rattle.std.proofs.lemmas.Bool.{ne_eqb}
 use Rattle.tool_events.specs.declared.event.OperCmd.{OperCmd}
 use Rattle.tool_events.specs.declared.event.OperCmd.TheVariants as oper
 use Rattle.line_grammar.specs.Grammar.{says}
 use Rattle.line_grammar.specs.Lines.{operator_words, service_words, access_words, job_words, control_job_words, up_words, clear_words, lost_words}
 use Rattle.line_grammar.specs.Reading.{read, either_of, end_at, literal_at}
-use Rattle.tool_texts.proofs.Letters.{same, behind}
-
--- ---- words that begin with other letters leave at the first byte
-
--- so many of them behind a reading
-abbrev then_leave : {V : Type 0} → ℕ → ℕ → Result V ℕ → Result V ℕ
-then_leave zero e r = r
-then_leave (suc n) e r = either_of (then_leave n e r) (Err e)
-
-leave : {V : Type 0} (n e : ℕ) → then_leave {V = V} n e (Err e) ≡ Err e
-leave zero e = refl
-leave {V = V} (suc n) e = ap (λ (r : Result V ℕ). either_of r (Err e)) (leave n e) ∙ ap (λ (k : ℕ). Err k) (same e)
-
--- a reading leaves no earlier, so that they add nothing
-abbrev Reaches : {V : Type 0} → ℕ → Result V ℕ → Type 0
-Reaches e r = either_of r (Err e) ≡ r
-
-reaches_more : {V : Type 0} (e : ℕ) (r s : Result V ℕ) → Reaches e r → Reaches e (either_of r s)
-reaches_more e (Ok x) s reaches = refl
-reaches_more e (Err p) (Ok y) reaches = refl
-reaches_more e (Err p) (Err q) reaches =
-    let farther : max p e ≡ p = cc in
-    let known : max (max p q) e ≡ max p q = omega arith in
-    ap (λ (n : ℕ). Err n) known
-
-then_nothing : {V : Type 0} (n e : ℕ) (r : Result V ℕ) → Reaches e r → then_leave n e r ≡ r
-then_nothing zero e r reaches = refl
-then_nothing {V = V} (suc n) e r reaches = ap (λ (s : Result V ℕ). either_of s (Err e)) (then_nothing n e r reaches) ∙ reaches
-
-again : {V : Type 0} (e : ℕ) (r : Result V ℕ) → Reaches e (either_of r (Err e))
-again e (Ok x) = refl
-again e (Err q) = let known : max (max q e) e ≡ max q e = omega arith in ap (λ (n : ℕ). Err n) known
-
--- one word among others
-alone : {V : Type 0} (before after e : ℕ) (r : Result V ℕ) → then_leave after e (either_of (then_leave before e (Err e)) r) ≡ either_of (Err e) r
-alone {V = V} before after e r = ap (λ (s : Result V ℕ). then_leave after e (either_of s r)) (leave before e) ∙ then_nothing after e (either_of (Err e) r) (behind e r)
-
--- two of them, one after the other
-both : {V : Type 0} (before after e : ℕ) (r s : Result V ℕ) → then_leave after e (either_of (either_of (then_leave before e (Err e)) r) s) ≡ either_of (either_of (Err e) r) s
-both {V = V} before after e r s =
-    ap (λ (t : Result V ℕ). then_leave after e (either_of (either_of t r) s)) (leave before e)
-    ∙ then_nothing after e (either_of (either_of (Err e) r) s) (reaches_more e (either_of (Err e) r) s (behind e r))
-
--- ---- the words, by their first letter
+use Rattle.tool_texts.proofs.Letters.{behind}
+use Rattle.tool_texts.proofs.Leaving.{leave, reaches_more, then_nothing, again, alone, both}
 
 pub enable_word : (total : ℕ) (text : List ℕ) → slice_get text 0 ≡ Some 101 → read operator_words total text ≡ either_of (read (says (codes "enable") oper.Enable) total text) (Err (total - length text))
 unfolding operator_words service_words access_words job_words control_job_words up_words clear_words lost_words end_at literal_at

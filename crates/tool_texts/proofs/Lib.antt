@@ -5,3 +5,4 @@ pub mod Literals
 pub mod OperatorLetters
 pub mod ScriptLines
 pub mod SignalLetters
+pub mod UpperCase

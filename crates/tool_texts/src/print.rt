@@ -1,5 +1,6 @@
 //! The printer of output lines.
-ghost use Rattle.std.specs.Prelude.{◌≡◌, ◌++◌, OnOk, OnErr, IfOk, codes};
+ghost use Rattle.std.specs.Prelude.{◌≡◌, ◌++◌, ◌*◌, length, take, OnOk, OnErr, IfOk, codes};
+ghost use Rattle.hex.specs.Hex.{encode_upper};
 ghost use Rattle.std.specs.Fmt.{decimal};
 ghost use Rattle.std.specs.String.{string_bytes};
 ghost use Rattle.line_grammar.specs.OutLines.{cause_word, ended_line, up_line, end_line, frame_line, oper_line, two_digits, location_name, task_words, command_line, out_line_bytes};
@@ -7,7 +8,7 @@ ghost use Rattle.line_grammar.specs.OutLines.{cause_word, ended_line, up_line, e
 use gem_ids::{LocId, ModuleId};
 use hsms_frame::NoMemory;
 use line_grammar::OutLine;
-use std::alloc::Global;
+use std::alloc::{AllocError, Global};
 use tool_events::SessionCause;
 use tool_tasks::{Command, Task};
 
@@ -18,7 +19,7 @@ pub fn print_out_line(alloc: Global, o: &OutLine, out: &mut Vec<u8>) -> Result<(
     ensures err { OnErr result (out.new.items ≡ out.old.items) }
 {
     match o {
-        OutLine::Frame(frame) => print_frame(alloc, frame.as_slice(), out),
+        OutLine::Frame(frame) => print_frame(frame.as_slice(), out),
         OutLine::Oper(true) => out.extend_from_slice(b"= ok\n"),
         OutLine::Oper(false) => out.extend_from_slice(b"= no\n"),
         OutLine::Up(session) => {
@@ -38,16 +39,56 @@ pub fn print_out_line(alloc: Global, o: &OutLine, out: &mut Vec<u8>) -> Result<(
 
 /// Appends the line of a frame that was taken, with its line feed (this tool's profile, output lines). After want of memory
 /// `out` is as before.
-pub fn print_frame(alloc: Global, frame: &[u8], out: &mut Vec<u8>) -> Result<(), NoMemory>
+pub fn print_frame(frame: &[u8], out: &mut Vec<u8>) -> Result<(), NoMemory>
     ensures ok { OnOk result (out.new.items ≡ out.old.items ++ frame_line frame.now) }
     ensures err { OnErr result (out.new.items ≡ out.old.items) }
 {
-    let digits = hex::encode_upper(alloc, frame)?;
-    let digits = digits.as_bytes();
-    out.reserve(digits.len() + 3)?;
+    let start = out.len();
+    match push_frame(frame, out) {
+        Ok(()) => Ok(()),
+        Err(no_memory) => {
+            out.truncate(start);
+            Err(no_memory)
+        }
+    }
+}
+
+// Puts the line of a frame behind what stands there, or, after want of memory, a part of it.
+fn push_frame(frame: &[u8], out: &mut Vec<u8>) -> Result<(), NoMemory>
+    ensures ok { OnOk result (out.new.items ≡ out.old.items ++ frame_line frame.now) }
+    ensures front { take (length out.old.items) out.new.items ≡ out.old.items }
+{
     out.extend_from_slice(b"> ")?;
-    out.extend_from_slice(digits)?;
+    push_digits(frame, out)?;
     out.extend_from_slice(b"\n")
+}
+
+// Puts the digits of bytes behind what stands there. After want of memory `out` is as before.
+fn push_digits(bytes: &[u8], out: &mut Vec<u8>) -> Result<(), NoMemory>
+    ensures ok { OnOk result (out.new.items ≡ out.old.items ++ encode_upper bytes.now) }
+    ensures err { OnErr result (out.new.items ≡ out.old.items) }
+{
+    let start = out.len();
+    let Some(count) = bytes.len().checked_mul(2) else {
+        return Err(AllocError);
+    };
+    let Some(len) = start.checked_add(count) else {
+        return Err(AllocError);
+    };
+    out.resize(len, b'0')?;
+    write_digits(bytes, &mut out[start..]);
+    Ok(())
+}
+
+// Writes the digits of bytes.
+#[tactic(auto, using(crate::proofs::UpperCase::upper))]
+fn write_digits(bytes: &[u8], digits: &mut [u8])
+    requires { length digits.old ≡ 2 * length bytes.now }
+    ensures { digits.new ≡ encode_upper bytes.now }
+{
+    if hex::encode_to_slice(bytes, digits).is_ok() {
+        digits.make_ascii_uppercase();
+    }
 }
 
 // The line of a session that came up.

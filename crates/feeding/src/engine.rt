@@ -1,5 +1,5 @@
 //! One input after another: events are posted to the core, and the lines of their answers are written.
-ghost use Rattle.std.specs.Prelude.{◌≡◌, ◌≢◌, [], Some, None, true, OnOk, option_map, option_and_then};
+ghost use Rattle.std.specs.Prelude.{◌≡◌, ◌≢◌, [], Some, None, true, OnOk, option_map, option_and_then, reverse};
 ghost use Rattle.floor_model.specs.Floor.{module_numbers};
 ghost use Rattle.gem_model.specs.State.{opening, is_session_up};
 ghost use Rattle.gem_model.specs.Sessions.{session_end};
@@ -18,12 +18,13 @@ use tool_events::{Event, PostFault, SessionCause, SessionEnd};
 /// The moment of what isn't a look at the clock: it raises no moment.
 pub const AT_ONCE: Moment = Moment(0);
 
-/// Posts an event at a moment, and writes its lines.
+/// Posts an event at a moment, and writes its lines, which are put together in `text`.
 fn post<C: Recorder, K: Sink>(
     alloc: Global,
     core: &mut C,
     at: Moment,
     event: Event,
+    text: &mut Vec<u8>,
     out: &mut K,
 ) -> Result<(), Halt>
     requires step { step (C.view core.old).state at.0 event ≢ None }
@@ -41,10 +42,10 @@ fn post<C: Recorder, K: Sink>(
         Err(PostFault::Again | PostFault::NoMemory) => return Err(Halt::NoMemory),
     };
     let ended = ended_now(core, before);
-    let Ok(text) = outcome_text(alloc, fetching, answer, ended) else {
+    let Ok(()) = outcome_text(alloc, fetching, answer, ended, text) else {
         return Err(Halt::NoMemory);
     };
-    match write_all(out, &text) {
+    match write_all(out, text.as_slice()) {
         Ok(()) => Ok(()),
         Err(_) => Err(Halt::Write),
     }
@@ -64,6 +65,7 @@ fn take_frames<C: Recorder, K: Sink>(
     alloc: Global,
     core: &mut C,
     session: u64,
+    text: &mut Vec<u8>,
     out: &mut K,
 ) -> Result<(), Halt>
     requires up { is_session_up (C.view core.old).state session ≡ true }
@@ -73,7 +75,7 @@ fn take_frames<C: Recorder, K: Sink>(
     ensures whole { OnOk result ((C.view core.new).is_whole ≡ true) }
 {
     while !core.idle(AT_ONCE, &Event::Take { session }) {
-        match post(alloc, core, AT_ONCE, Event::Take { session }, out) {
+        match post(alloc, core, AT_ONCE, Event::Take { session }, text, out) {
             Ok(()) => {}
             Err(halt) => return Err(halt),
         }
@@ -82,14 +84,19 @@ fn take_frames<C: Recorder, K: Sink>(
 }
 
 /// The writer takes each frame that waits.
-fn take_waiting<C: Recorder, K: Sink>(alloc: Global, core: &mut C, out: &mut K) -> Result<(), Halt>
+fn take_waiting<C: Recorder, K: Sink>(
+    alloc: Global,
+    core: &mut C,
+    text: &mut Vec<u8>,
+    out: &mut K,
+) -> Result<(), Halt>
     requires { (C.view core.old).is_whole ≡ true }
     ensures goes { Goes (C.view core.old) (C.view core.new) (seen K.held K.faults K.refusals out.old) (seen K.held K.faults K.refusals out.new)
         (taken_all (C.view core.old).state) result }
     ensures whole { OnOk result ((C.view core.new).is_whole ≡ true) }
 {
     match core.session_up() {
-        Some(session) => take_frames(alloc, core, session, out),
+        Some(session) => take_frames(alloc, core, session, text, out),
         None => Ok(()),
     }
 }
@@ -100,6 +107,7 @@ fn post_and_take<C: Recorder, K: Sink>(
     core: &mut C,
     at: Moment,
     event: Event,
+    text: &mut Vec<u8>,
     out: &mut K,
 ) -> Result<(), Halt>
     requires step { step (C.view core.old).state at.0 event ≢ None }
@@ -108,8 +116,8 @@ fn post_and_take<C: Recorder, K: Sink>(
         (and_then (entered (C.view core.old).state at.0 event) taken_all) result }
     ensures whole { OnOk result ((C.view core.new).is_whole ≡ true) }
 {
-    match post(alloc, core, at, event, out) {
-        Ok(()) => take_waiting(alloc, core, out),
+    match post(alloc, core, at, event, text, out) {
+        Ok(()) => take_waiting(alloc, core, text, out),
         Err(halt) => Err(halt),
     }
 }
@@ -119,6 +127,7 @@ fn fetch_one<C: Recorder, K: Sink>(
     alloc: Global,
     core: &mut C,
     m: ModuleId,
+    text: &mut Vec<u8>,
     out: &mut K,
 ) -> Result<(), Halt>
     requires whole { (C.view core.old).is_whole ≡ true }
@@ -129,11 +138,16 @@ fn fetch_one<C: Recorder, K: Sink>(
     if core.idle(AT_ONCE, &Event::Fetch(m)) {
         return Ok(());
     }
-    post(alloc, core, AT_ONCE, Event::Fetch(m), out)
+    post(alloc, core, AT_ONCE, Event::Fetch(m), text, out)
 }
 
 /// All modules fetch, in the order of their numbers; none does once the operator ended the run.
-fn fetch_all<C: Recorder, K: Sink>(alloc: Global, core: &mut C, out: &mut K) -> Result<(), Halt>
+fn fetch_all<C: Recorder, K: Sink>(
+    alloc: Global,
+    core: &mut C,
+    text: &mut Vec<u8>,
+    out: &mut K,
+) -> Result<(), Halt>
     requires { (C.view core.old).is_whole ≡ true }
     ensures goes { Goes (C.view core.old) (C.view core.new) (seen K.held K.faults K.refusals out.old) (seen K.held K.faults K.refusals out.new)
         (fetched_all (C.view core.old).state) result }
@@ -142,11 +156,16 @@ fn fetch_all<C: Recorder, K: Sink>(alloc: Global, core: &mut C, out: &mut K) -> 
     if core.is_quitting() {
         return Ok(());
     }
-    fetch_each(alloc, core, out)
+    fetch_each(alloc, core, text, out)
 }
 
 /// Each module fetches, in the order of their numbers.
-fn fetch_each<C: Recorder, K: Sink>(alloc: Global, core: &mut C, out: &mut K) -> Result<(), Halt>
+fn fetch_each<C: Recorder, K: Sink>(
+    alloc: Global,
+    core: &mut C,
+    text: &mut Vec<u8>,
+    out: &mut K,
+) -> Result<(), Halt>
     requires { (C.view core.old).is_whole ≡ true }
     ensures goes { Goes (C.view core.old) (C.view core.new) (seen K.held K.faults K.refusals out.old) (seen K.held K.faults K.refusals out.new)
         (fetched_by (module_numbers 1 (C.view core.old).state.floor.modules) (C.view core.old).state) result }
@@ -154,7 +173,7 @@ fn fetch_each<C: Recorder, K: Sink>(alloc: Global, core: &mut C, out: &mut K) ->
 {
     let count = core.module_count();
     for index in 0..count {
-        match fetch_one(alloc, core, ModuleId(index as u8 + 1), out) {
+        match fetch_one(alloc, core, ModuleId(index as u8 + 1), text, out) {
             Ok(()) => {}
             Err(halt) => return Err(halt),
         }
@@ -168,6 +187,7 @@ pub fn input<C: Recorder, K: Sink>(
     core: &mut C,
     at: Moment,
     event: Event,
+    text: &mut Vec<u8>,
     out: &mut K,
 ) -> Result<(), Halt>
     requires step { step (C.view core.old).state at.0 event ≢ None }
@@ -176,8 +196,8 @@ pub fn input<C: Recorder, K: Sink>(
         (input (C.view core.old).state at.0 event) result }
     ensures whole { OnOk result ((C.view core.new).is_whole ≡ true) }
 {
-    match post_and_take(alloc, core, at, event, out) {
-        Ok(()) => fetch_all(alloc, core, out),
+    match post_and_take(alloc, core, at, event, text, out) {
+        Ok(()) => fetch_all(alloc, core, text, out),
         Err(halt) => Err(halt),
     }
 }
@@ -188,6 +208,7 @@ fn take_message<C: Recorder, K: Sink>(
     core: &mut C,
     session: u64,
     arrival: Arrival,
+    text: &mut Vec<u8>,
     out: &mut K,
 ) -> Result<(), Halt>
     requires up { is_session_up (C.view core.old).state session ≡ true }
@@ -196,33 +217,49 @@ fn take_message<C: Recorder, K: Sink>(
         (message (C.view core.old).state session arrival) result }
     ensures whole { OnOk result ((C.view core.new).is_whole ≡ true) }
 {
-    input(alloc, core, AT_ONCE, Event::Host { session, arrival }, out)
+    input(
+        alloc,
+        core,
+        AT_ONCE,
+        Event::Host { session, arrival },
+        text,
+        out,
+    )
 }
 
-/// The messages of a session, in order, and then its end where a length below 10 follows them.
+// Turns messages round, so that the first is taken from the end.
+fn turn(arrivals: &mut Vec<Arrival>)
+    ensures { arrivals.new.items ≡ reverse arrivals.old.items }
+{
+    arrivals.reverse();
+}
+
+/// The messages of a session, in order, and then its end where a length below 10 follows them. The messages are taken out of the list.
 pub fn take_messages<C: Recorder, K: Sink>(
     alloc: Global,
     core: &mut C,
     session: u64,
-    arrivals: Vec<Arrival>,
+    arrivals: &mut Vec<Arrival>,
     short: bool,
+    text: &mut Vec<u8>,
     out: &mut K,
 ) -> Result<(), Halt>
     requires { (C.view core.old).is_whole ≡ true }
     ensures goes { Goes (C.view core.old) (C.view core.new) (seen K.held K.faults K.refusals out.old) (seen K.held K.faults K.refusals out.new)
-        (messages (C.view core.old).state session arrivals.items short) result }
+        (messages (C.view core.old).state session arrivals.old.items short) result }
     ensures whole { OnOk result ((C.view core.new).is_whole ≡ true) }
 {
-    for arrival in arrivals {
+    turn(arrivals);
+    'messages: while let Some(arrival) = arrivals.pop() {
         if !core.is_session_up(session) {
             return Ok(());
         }
-        match take_message(alloc, core, session, arrival, out) {
+        match take_message(alloc, core, session, arrival, text, out) {
             Ok(()) => {}
             Err(halt) => return Err(halt),
         }
     }
-    end_messages(alloc, core, session, short, out)
+    end_messages(alloc, core, session, short, text, out)
 }
 
 /// Behind the messages of a session, its end, where a length below 10 follows them.
@@ -231,6 +268,7 @@ fn end_messages<C: Recorder, K: Sink>(
     core: &mut C,
     session: u64,
     short: bool,
+    text: &mut Vec<u8>,
     out: &mut K,
 ) -> Result<(), Halt>
     requires { (C.view core.old).is_whole ≡ true }
@@ -245,6 +283,7 @@ fn end_messages<C: Recorder, K: Sink>(
             core,
             AT_ONCE,
             Event::LinkDown { session, cause },
+            text,
             out,
         );
     }

@@ -1,5 +1,5 @@
 //! One line after another: what each says is put in, in the session that is up.
-ghost use Rattle.std.specs.Prelude.{◌≡◌, ◌<◌, ◌≤◌, [], length, true, Ok, IfOk, OnOk, OnErr};
+ghost use Rattle.std.specs.Prelude.{◌≡◌, ◌<◌, ◌≤◌, [], length, slice_get, true, Some, Ok, IfOk, OnOk, OnErr};
 ghost use Rattle.tool_events.specs.Configs.{IsConfig};
 ghost use Rattle.gem_model.specs.State.{opening, is_session_up};
 ghost use Rattle.history_laws.specs.Recorded.{Recorded};
@@ -14,12 +14,13 @@ use crate::engine::{AT_ONCE, input, take_messages};
 use gem_ids::Moment;
 use history_laws::Recorder;
 use history_parts::{Entries, SessionCounts};
-use hsms_frame::Cutter;
+use hsms_frame::{Arrival, Cutter};
 use line_feeding::{Halt, cut_bytes, ends_run, quit_behind};
 use outside::Sink;
 use std::alloc::{AllocError, Global};
+use std::mem::replace;
 use tool_events::{Config, Event, OperCmd, SessionCause, Signal, TEXT_BYTES};
-use tool_texts::{Line, LineFault, read_feed_line};
+use tool_texts::{Line, LineFault, read_feed_line, read_host_line};
 
 /// The core, the cutter of the session that is up, and the bytes that came in each session.
 #[derive(Drop)]
@@ -27,6 +28,10 @@ pub struct Feeder<C: Recorder> {
     pub core: C,
     pub cutter: Cutter,
     pub reads: SessionCounts,
+    // Room that is used again from line to line: for the bytes of the host, for what arrives with them, and for the lines that go out.
+    bytes: Vec<u8>,
+    arrivals: Vec<Arrival>,
+    text: Vec<u8>,
 }
 
 impl<C: Recorder> Feeder<C> {
@@ -45,6 +50,9 @@ impl<C: Recorder> Feeder<C> {
             core: C::open(alloc, config)?,
             cutter,
             reads: SessionCounts::none(alloc),
+            bytes: Vec::new(alloc),
+            arrivals: Vec::new(alloc),
+            text: Vec::new(alloc),
         })
     }
 
@@ -67,13 +75,27 @@ impl<C: Recorder> Feeder<C> {
         ensures whole { OnOk result ((C.view self.new.core).is_whole ≡ true) }
     {
         if self.core.session_up().is_some() {
-            return input(alloc, &mut self.core, AT_ONCE, Event::LinkUp, out);
+            return input(
+                alloc,
+                &mut self.core,
+                AT_ONCE,
+                Event::LinkUp,
+                &mut self.text,
+                out,
+            );
         }
         let Ok(cutter) = Cutter::new(alloc, TEXT_BYTES) else {
             return Err(Halt::NoMemory);
         };
         self.cutter = cutter;
-        input(alloc, &mut self.core, AT_ONCE, Event::LinkUp, out)
+        input(
+            alloc,
+            &mut self.core,
+            AT_ONCE,
+            Event::LinkUp,
+            &mut self.text,
+            out,
+        )
     }
 
     /// The peer closes the link. Without a session nothing happens.
@@ -92,6 +114,7 @@ impl<C: Recorder> Feeder<C> {
             &mut self.core,
             AT_ONCE,
             Event::LinkDown { session, cause },
+            &mut self.text,
             out,
         )
     }
@@ -106,7 +129,7 @@ impl<C: Recorder> Feeder<C> {
         if self.core.idle(at, &Event::Tick) {
             return Ok(());
         }
-        input(alloc, &mut self.core, at, Event::Tick, out)
+        input(alloc, &mut self.core, at, Event::Tick, &mut self.text, out)
     }
 
     /// Counts bytes that came in the session that is up.
@@ -137,11 +160,19 @@ impl<C: Recorder> Feeder<C> {
         let Ok(()) = self.count_bytes(session, bytes) else {
             return Err(Halt::NoMemory);
         };
-        let mut arrivals = Vec::new(alloc);
-        let Ok(short) = cut_bytes(alloc, &mut self.cutter, bytes, &mut arrivals) else {
+        self.arrivals.clear();
+        let Ok(short) = cut_bytes(alloc, &mut self.cutter, bytes, &mut self.arrivals) else {
             return Err(Halt::NoMemory);
         };
-        take_messages(alloc, &mut self.core, session, arrivals, short, out)
+        take_messages(
+            alloc,
+            &mut self.core,
+            session,
+            &mut self.arrivals,
+            short,
+            &mut self.text,
+            out,
+        )
     }
 
     /// An operator wants something. The command that ends the run halts it.
@@ -152,7 +183,14 @@ impl<C: Recorder> Feeder<C> {
         ensures whole { OnOk result ((C.view self.new.core).is_whole ≡ true) }
     {
         let quits = ends_run(&command);
-        let taken = input(alloc, &mut self.core, AT_ONCE, Event::Oper(command), out);
+        let taken = input(
+            alloc,
+            &mut self.core,
+            AT_ONCE,
+            Event::Oper(command),
+            &mut self.text,
+            out,
+        );
         if quits { quit_behind(taken) } else { taken }
     }
 
@@ -163,7 +201,39 @@ impl<C: Recorder> Feeder<C> {
             → TakesLine r (line.Signal signal) (feeder_seen C.view self.old) (feeder_seen C.view self.new) (seen K.held K.faults K.refusals out.old) (seen K.held K.faults K.refusals out.new) result }
         ensures whole { OnOk result ((C.view self.new.core).is_whole ≡ true) }
     {
-        input(alloc, &mut self.core, AT_ONCE, Event::Signal(signal), out)
+        input(
+            alloc,
+            &mut self.core,
+            AT_ONCE,
+            Event::Signal(signal),
+            &mut self.text,
+            out,
+        )
+    }
+
+    /// Takes a line that begins with `H`.
+    fn take_host_line<K: Sink>(
+        &mut self,
+        alloc: Global,
+        line: &[u8],
+        out: &mut K,
+    ) -> Result<(), Halt>
+        requires whole { (C.view self.old.core).is_whole ≡ true }
+        requires host { slice_get line.now 0 ≡ Some 72 }
+        ensures takes { (r : Reading) → IsReading r (C.view self.old.core) self.old.cutter
+            → TreatsLine r (feed_line_of line.now) (feeder_seen C.view self.old) (feeder_seen C.view self.new) (seen K.held K.faults K.refusals out.old) (seen K.held K.faults K.refusals out.new) result }
+        ensures whole { OnOk result ((C.view self.new.core).is_whole ≡ true) }
+    {
+        let mut bytes = replace(&mut self.bytes, Vec::new(alloc));
+        match read_host_line(line, &mut bytes) {
+            Ok(()) => {
+                let taken = self.take_bytes(alloc, bytes.as_slice(), out);
+                self.bytes = bytes;
+                taken
+            }
+            Err(LineFault::Place(place)) => Err(Halt::Line(place)),
+            Err(LineFault::NoMemory) => Err(Halt::NoMemory),
+        }
     }
 
     /// Takes one line, without its line feed.
@@ -178,6 +248,9 @@ impl<C: Recorder> Feeder<C> {
             → TreatsLine r (feed_line_of line.now) (feeder_seen C.view self.old) (feeder_seen C.view self.new) (seen K.held K.faults K.refusals out.old) (seen K.held K.faults K.refusals out.new) result }
         ensures whole { OnOk result ((C.view self.new.core).is_whole ≡ true) }
     {
+        if let Some(b'H') = line.first() {
+            return self.take_host_line(alloc, line, out);
+        }
         match read_feed_line(alloc, line) {
             Ok(Line::Skip) => Ok(()),
             // No line of `feed` waits for a port.

@@ -79,6 +79,25 @@ impl<C: Recorder> Reader<C> {
         }
     }
 
+    /// A whole line comes, where nothing came of it before: it is taken where it lies, and the next begins.
+    fn take_whole<K: Sink>(&mut self, alloc: Global, line: &[u8], out: &mut K) -> Result<(), Halt>
+        requires number { self.old.number + 1 < 2 ^ 64 }
+        requires whole { (C.view self.old.feeder.core).is_whole ≡ true }
+        requires line { IsOneLine line.now }
+        requires none { self.old.line.items ≡ [] }
+        ensures takes { (text : List ℕ) → Stands text (reader_seen C.view self.old)
+            → Takes text (line.now ++ 10 ∷ []) (reader_seen C.view self.old) (reader_seen C.view self.new) (seen K.held K.faults K.refusals out.old) (seen K.held K.faults K.refusals out.new) result }
+        ensures number { self.new.number ≤ self.old.number + 1 }
+        ensures whole { OnOk result ((C.view self.new.feeder.core).is_whole ≡ true) }
+    {
+        match self.feeder.take_line(alloc, line, out) {
+            Ok(()) => {}
+            Err(halt) => return Err(halt),
+        }
+        self.number += 1;
+        Ok(())
+    }
+
     /// What was left of the line comes, and its line feed.
     fn take_rest<K: Sink>(&mut self, alloc: Global, rest: &[u8], out: &mut K) -> Result<(), Halt>
         requires number { self.old.number + 1 < 2 ^ 64 }
@@ -89,6 +108,9 @@ impl<C: Recorder> Reader<C> {
         ensures number { self.new.number ≤ self.old.number + 1 }
         ensures whole { OnOk result ((C.view self.new.feeder.core).is_whole ≡ true) }
     {
+        if self.line.is_empty() {
+            return self.take_whole(alloc, rest, out);
+        }
         match self.push_part(rest) {
             Ok(()) => self.end_line(alloc, out),
             Err(halt) => Err(halt),

@@ -1,5 +1,5 @@
 //! The output lines of an answer.
-ghost use Rattle.std.specs.Prelude.{◌≡◌, ◌++◌, Some, IfOk, OnOk};
+ghost use Rattle.std.specs.Prelude.{◌≡◌, ◌++◌, Some, OnOk};
 ghost use Rattle.line_grammar.specs.declared.out_line.OutLine.TheVariants as out_line;
 ghost use Rattle.gem_model.specs.Printed.{fetches, command_line, answer_line, end_line, line_bytes};
 
@@ -81,19 +81,21 @@ fn print_answer(
     }
 }
 
-/// The lines of an answer to an event that lets this module fetch, or none, and of the session that ended with it, if one did.
+/// Puts the lines of an answer to an event that lets this module fetch, or none, and of the session that ended with it, if one did,
+/// in place of what stands in `text`.
 pub fn outcome_text(
     alloc: Global,
     m: Option<ModuleId>,
     answer: Answer,
     ended: Option<SessionEnd>,
-) -> Result<Vec<u8>, AllocError>
-    ensures { IfOk result (λ text. text.items ≡ line_bytes (answer_line m answer) ++ line_bytes (end_line ended)) }
+    text: &mut Vec<u8>,
+) -> Result<(), AllocError>
+    ensures { OnOk result (text.new.items ≡ line_bytes (answer_line m answer) ++ line_bytes (end_line ended)) }
 {
-    let mut text = Vec::new(alloc);
-    print_answer(alloc, m, answer, &mut text)?;
+    text.clear();
+    print_answer(alloc, m, answer, text)?;
     if let Some(end) = ended {
-        print_end(alloc, end, &mut text)?;
+        print_end(alloc, end, text)?;
     }
-    Ok(text)
+    Ok(())
 }

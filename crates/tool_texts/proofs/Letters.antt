@@ -1,9 +1,13 @@
 -- The first letter of a line tells which of the lines that `feed` takes it may be.
-use Rattle.std.proofs.Common.{◌≡◌, ℕ, ◌-◌, List, [], ◌∷◌, length, max, Some, slice_get, Result, Ok, Err, refl, ap, ◌∙◌, arith}
+use Rattle.std.proofs.Common.{◌≡◌, ℕ, ◌-◌, ◌≤◌, List, [], ◌∷◌, length, max, Some, slice_get, Result, Ok, Err, MatchResult, refl, sym, ap, subst, ◌∙◌, arith}
+use Rattle.line_grammar.specs.declared.line.Line.{Line}
+use Rattle.line_grammar.specs.declared.line.Line.TheVariants.{Bytes}
+use Rattle.line_grammar.specs.declared.line.LineFault.{LineFault}
+use Rattle.line_grammar.proofs.Public.{short_line}
 use Rattle.line_grammar.specs.Lines.{feed_lines, common_lines, link_lines, skipped_line, comment_line, signal_line, placed_line, removed_line, done_line, failed_line, down_line, operator_line, moment_line, hex_line}
-use Rattle.line_grammar.specs.Reading.{read, either_of, end_at, literal_at}
+use Rattle.line_grammar.specs.Reading.{read, either_of, end_at, literal_at, Gives, line_bytes, feed_line_of}
 
-same : (e : ℕ) → max e e ≡ e
+pub same : (e : ℕ) → max e e ≡ e
 same e = omega arith
 
 -- a place that came already adds nothing
@@ -11,7 +15,7 @@ once : {V : Type 0} (e : ℕ) (r : Result V ℕ) → either_of (Err e) (either_o
 once e (Ok x) = refl
 once e (Err q) = let known : max e (max e q) ≡ max e q = omega arith in ap (λ (n : ℕ). Err n) known
 
-behind : {V : Type 0} (e : ℕ) (r : Result V ℕ) → either_of (either_of (Err e) r) (Err e) ≡ either_of (Err e) r
+pub behind : {V : Type 0} (e : ℕ) (r : Result V ℕ) → either_of (either_of (Err e) r) (Err e) ≡ either_of (Err e) r
 behind e (Ok x) = refl
 behind e (Err q) = let known : max (max e q) e ≡ max e q = omega arith in ap (λ (n : ℕ). Err n) known
 
@@ -34,6 +38,19 @@ told_line total cs =
 pub of_bytes : (total : ℕ) (text : List ℕ) → slice_get text 0 ≡ Some 72 → read feed_lines total text ≡ either_of (Err (total - length text)) (read hex_line total text)
 of_bytes total [] is = cc
 of_bytes total (b ∷ bs) is = let first : b ≡ 72 = cc in rw first (bytes_line total bs)
+
+-- at the beginning of a line a place is that of the reading alone
+at_front : {V : Type 0} (n : ℕ) (r : Result V ℕ) → either_of (Err (n - n)) r ≡ r
+at_front n (Ok x) = refl
+at_front n (Err p) = let known : max (n - n) p ≡ p = omega arith in ap (λ (k : ℕ). Err k) known
+
+pub host_line : (line rest : List ℕ) (total : ℕ) (r : Result (Unit {0}) LineFault) (bytes : List ℕ) → length line ≤ line_bytes → total ≡ length line → rest ≡ line → slice_get line 0 ≡ Some 72 →
+    MatchResult r (λ v. read hex_line total rest ≡ Ok (Bytes bytes)) (λ e. Gives (Err e) (read hex_line total rest)) → MatchResult r (λ v. feed_line_of line ≡ Ok (Bytes bytes)) (λ e. Gives (Err e) (feed_line_of line))
+host_line line rest total r bytes short all here letter says =
+    let whole : feed_line_of line ≡ read hex_line total rest =
+    short_line line short ∙ of_bytes (length line) line letter ∙ at_front (length line) (read hex_line (length line) line)
+    ∙ ap (λ (n : ℕ). read hex_line n line) (sym all) ∙ ap (read hex_line total) (sym here) in
+    subst (λ (s : Result Line ℕ). MatchResult r (λ v. s ≡ Ok (Bytes bytes)) (λ e. Gives (Err e) s)) (sym whole) says
 
 -- one that begins with `O` what an operator says
 pub of_operator : (total : ℕ) (text : List ℕ) → slice_get text 0 ≡ Some 79 → read feed_lines total text ≡ either_of (Err (total - length text)) (read operator_line total text)

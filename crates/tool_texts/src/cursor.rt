@@ -1,14 +1,12 @@
 //! A reader over one line.
 ghost use Rattle.std.specs.Prelude.{◌≡◌, ℕ, ◌-◌, ◌≤◌, ◌==◌, length, slice_get, IfOk, IfSome, ◌<◌, MatchResult, Ok, Err, List};
 ghost use Rattle.std.specs.List.{position};
-ghost use Rattle.line_grammar.specs.Reading.{end_at, literal_at, before_space, from_space, number_at, run_at, word_at, hex_at, Gives};
+ghost use Rattle.line_grammar.specs.Reading.{end_at, literal_at, before_space, from_space, number_at, run_at, word_at, pairs_at, hex_at, Gives};
 ghost use Rattle.line_grammar.specs.Words.{run, least, most, has, hex_digit};
 
 use crate::kind::{has, least, most};
 use gem_ids::Text80;
-use hsms_frame::Bytes;
 use line_grammar::{LineFault, WordKind};
-use std::alloc::Global;
 
 /// What is left of a line.
 #[derive(Clone, Copy)]
@@ -154,36 +152,43 @@ impl<'a> Cursor<'a> {
         }
     }
 
-    // The bytes of the hex digits that are left.
-    #[tactic(auto, unfolding(line_grammar::specs::Reading::hex_at, line_grammar::specs::Reading::pairs_at))]
-    pub(crate) fn hex(self, alloc: Global) -> Result<Bytes, LineFault>
-        ensures { Gives result (hex_at self.entry.total self.entry.rest.now) }
+    // Reads the hex digits that are left: their bytes replace what stands in `bytes`.
+    pub(crate) fn hex(self, bytes: &mut Vec<u8>) -> Result<(), LineFault>
+        ensures { MatchResult result (λ v. hex_at self.entry.total self.entry.rest.now ≡ Ok bytes.new.items) (λ e. Gives (Err e) (hex_at self.entry.total self.entry.rest.now)) }
     {
         if self.rest.is_empty() {
             return Err(LineFault::Place(self.total as u64));
         }
-        let Ok(mut bytes) = Vec::with_capacity(alloc, self.rest.len() / 2) else {
+        let Ok(()) = bytes.resize(self.rest.len() / 2, 0) else {
             return Err(LineFault::NoMemory);
         };
+        match hex::decode_to_slice(self.rest, bytes.as_mut_slice()) {
+            Ok(()) => Ok(()),
+            Err(_) => Err(LineFault::Place(self.leaves_hex() as u64)),
+        }
+    }
+
+    // The place at which what is left goes on as no pairs of hex digits.
+    #[tactic(auto, unfolding(line_grammar::specs::Reading::pairs_at))]
+    fn leaves_hex(self) -> usize
+        ensures { (place : ℕ) → pairs_at self.entry.total self.entry.rest.now ≡ Err place → result ≡ place }
+    {
         let mut left = self;
         while let [high, low, rest @ ..] = left.rest {
-            let Some(high) = hex_digit(*high) else {
-                return Err(LineFault::Place(left.place() as u64));
+            let Some(_) = hex_digit(*high) else {
+                return left.place();
             };
-            let Some(low) = hex_digit(*low) else {
-                return Err(LineFault::Place((left.place() + 1) as u64));
-            };
-            let Ok(()) = bytes.push(16 * high + low) else {
-                return Err(LineFault::NoMemory);
+            let Some(_) = hex_digit(*low) else {
+                return left.place() + 1;
             };
             left.rest = rest;
         }
         let [odd, ..] = left.rest else {
-            return Ok(Bytes::from_vec(bytes));
+            return self.total;
         };
         match hex_digit(*odd) {
-            Some(_) => Err(LineFault::Place(self.total as u64)),
-            None => Err(LineFault::Place(left.place() as u64)),
+            Some(_) => self.total,
+            None => left.place(),
         }
     }
 }
@@ -191,7 +196,6 @@ impl<'a> Cursor<'a> {
 // What a hex digit of either case stands for.
 fn hex_digit(b: u8) -> Option<u8>
     ensures value { result ≡ hex_digit b }
-    ensures small { IfSome result (λ v. v < 16) }
 {
     if b'0' <= b && b <= b'9' {
         Some(b - b'0')

@@ -15,4 +15,6 @@ mod signal;
 
 pub use line_grammar::{Line, LineFault, OutLine};
 pub use print::print_out_line;
-pub use read::{LINE_BYTES, read_feed_line, read_line, read_operator, read_script_line};
+pub use read::{
+    LINE_BYTES, read_feed_line, read_host_line, read_line, read_operator, read_script_line,
+};

@@ -138,23 +138,36 @@ fn lost(mut text: Cursor) -> Result<OperCmd, usize>
     Ok(OperCmd::Lost(id))
 }
 
-// What an operator says.
-#[tactic(auto, unfolding(line_grammar::specs::Lines::operator_words))]
+// What an operator says. Its first letter tells which of the words it may be; no word is empty.
+#[tactic(auto, using(crate::proofs::OperatorLetters::enable_word, crate::proofs::OperatorLetters::disable_word, crate::proofs::OperatorLetters::line_words, crate::proofs::OperatorLetters::local_lost_words, crate::proofs::OperatorLetters::remote_word, crate::proofs::OperatorLetters::quit_word, crate::proofs::OperatorLetters::service_word, crate::proofs::OperatorLetters::access_word, crate::proofs::OperatorLetters::job_word, crate::proofs::OperatorLetters::control_clear_words, crate::proofs::OperatorLetters::up_word, crate::proofs::OperatorLetters::no_words, crate::proofs::OperatorLetters::other_words))]
 pub(crate) fn operator(text: Cursor) -> Result<OperCmd, usize>
     ensures { result ≡ read operator_words text.entry.total text.entry.rest.now }
 {
-    let found = says(text, b"enable", OperCmd::Enable);
-    let found = either(found, says(text, b"disable", OperCmd::Disable));
-    let found = either(found, says(text, b"online", OperCmd::Online));
-    let found = either(found, says(text, b"offline", OperCmd::Offline));
-    let found = either(found, says(text, b"local", OperCmd::Local));
-    let found = either(found, says(text, b"remote", OperCmd::Remote));
-    let found = either(found, says(text, b"quit", OperCmd::Quit));
-    let found = either(found, service(text));
-    let found = either(found, access(text));
-    let found = either(found, job(text));
-    let found = either(found, control_job(text));
-    let found = either(found, up(text));
-    let found = either(found, clear(text));
-    either(found, lost(text))
+    let none = Err(text.place());
+    let Some(letter) = text.first() else {
+        return none;
+    };
+    match letter {
+        b'e' => either(says(text, b"enable", OperCmd::Enable), none),
+        b'd' => either(none, says(text, b"disable", OperCmd::Disable)),
+        b'o' => {
+            let found = either(none, says(text, b"online", OperCmd::Online));
+            either(found, says(text, b"offline", OperCmd::Offline))
+        }
+        b'l' => {
+            let found = either(none, says(text, b"local", OperCmd::Local));
+            either(found, lost(text))
+        }
+        b'r' => either(none, says(text, b"remote", OperCmd::Remote)),
+        b'q' => either(none, says(text, b"quit", OperCmd::Quit)),
+        b's' => either(none, service(text)),
+        b'a' => either(none, access(text)),
+        b'p' => either(none, job(text)),
+        b'c' => {
+            let found = either(none, control_job(text));
+            either(found, clear(text))
+        }
+        b'u' => either(none, up(text)),
+        _ => none,
+    }
 }

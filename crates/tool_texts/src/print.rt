@@ -1,5 +1,6 @@
 //! The printer of output lines.
-ghost use Rattle.std.specs.Prelude.{◌≡◌, ◌++◌, OnOk, OnErr, IfOk, codes};
+ghost use Rattle.std.specs.Prelude.{◌≡◌, ◌++◌, ◌*◌, length, take, OnOk, OnErr, IfOk, codes};
+ghost use Rattle.hex.specs.Hex.{encode_upper};
 ghost use Rattle.std.specs.Fmt.{decimal};
 ghost use Rattle.std.specs.String.{string_bytes};
 ghost use Rattle.line_grammar.specs.OutLines.{cause_word, ended_line, up_line, end_line, frame_line, oper_line, two_digits, location_name, task_words, command_line, out_line_bytes};
@@ -7,7 +8,7 @@ ghost use Rattle.line_grammar.specs.OutLines.{cause_word, ended_line, up_line, e
 use gem_ids::{LocId, ModuleId};
 use hsms_frame::NoMemory;
 use line_grammar::OutLine;
-use std::alloc::Global;
+use std::alloc::{AllocError, Global};
 use tool_events::SessionCause;
 use tool_tasks::{Command, Task};
 
@@ -18,9 +19,19 @@ pub fn print_out_line(alloc: Global, o: &OutLine, out: &mut Vec<u8>) -> Result<(
     ensures err { OnErr result (out.new.items ≡ out.old.items) }
 {
     match o {
-        OutLine::Frame(frame) => print_frame(alloc, frame.as_slice(), out),
-        _ => {
-            let line = line_bytes(alloc, o)?;
+        OutLine::Frame(frame) => print_frame(frame.as_slice(), out),
+        OutLine::Oper(true) => out.extend_from_slice(b"= ok\n"),
+        OutLine::Oper(false) => out.extend_from_slice(b"= no\n"),
+        OutLine::Up(session) => {
+            let line = up_bytes(alloc, *session)?;
+            out.extend_from_slice(line.as_slice())
+        }
+        OutLine::Ended(session, cause) => {
+            let line = end_bytes(alloc, *session, cause_text(*cause))?;
+            out.extend_from_slice(line.as_slice())
+        }
+        OutLine::Command(module, command) => {
+            let line = command_bytes(alloc, *module, command)?;
             out.extend_from_slice(line.as_slice())
         }
     }
@@ -28,33 +39,63 @@ pub fn print_out_line(alloc: Global, o: &OutLine, out: &mut Vec<u8>) -> Result<(
 
 /// Appends the line of a frame that was taken, with its line feed (this tool's profile, output lines). After want of memory
 /// `out` is as before.
-pub fn print_frame(alloc: Global, frame: &[u8], out: &mut Vec<u8>) -> Result<(), NoMemory>
+pub fn print_frame(frame: &[u8], out: &mut Vec<u8>) -> Result<(), NoMemory>
     ensures ok { OnOk result (out.new.items ≡ out.old.items ++ frame_line frame.now) }
     ensures err { OnErr result (out.new.items ≡ out.old.items) }
 {
-    let digits = hex::encode_upper(alloc, frame)?;
-    let digits = digits.as_bytes();
-    out.reserve(digits.len() + 3)?;
+    let start = out.len();
+    match push_frame(frame, out) {
+        Ok(()) => Ok(()),
+        Err(no_memory) => {
+            out.truncate(start);
+            Err(no_memory)
+        }
+    }
+}
+
+// Puts the line of a frame behind what stands there, or, after want of memory, a part of it.
+fn push_frame(frame: &[u8], out: &mut Vec<u8>) -> Result<(), NoMemory>
+    ensures ok { OnOk result (out.new.items ≡ out.old.items ++ frame_line frame.now) }
+    ensures front { take (length out.old.items) out.new.items ≡ out.old.items }
+{
     out.extend_from_slice(b"> ")?;
-    out.extend_from_slice(digits)?;
+    push_digits(frame, out)?;
     out.extend_from_slice(b"\n")
 }
 
-// The line, with its line feed.
-fn line_bytes(alloc: Global, line: &OutLine) -> Result<Vec<u8>, NoMemory>
-    ensures { IfOk result (λ bytes. bytes.items ≡ out_line_bytes line.now) }
+// Puts the digits of bytes behind what stands there. After want of memory `out` is as before.
+fn push_digits(bytes: &[u8], out: &mut Vec<u8>) -> Result<(), NoMemory>
+    ensures ok { OnOk result (out.new.items ≡ out.old.items ++ encode_upper bytes.now) }
+    ensures err { OnErr result (out.new.items ≡ out.old.items) }
 {
-    match line {
-        OutLine::Up(session) => Ok(format!(in alloc; "+ {session}\n")?.into_bytes()),
-        OutLine::Ended(session, cause) => end_bytes(alloc, *session, cause_text(*cause)),
-        OutLine::Frame(frame) => {
-            let digits = hex::encode_upper(alloc, frame.as_slice())?;
-            Ok(format!(in alloc; "> {digits}\n")?.into_bytes())
-        }
-        OutLine::Command(module, command) => command_bytes(alloc, *module, command),
-        OutLine::Oper(true) => Vec::from_slice(alloc, b"= ok\n"),
-        OutLine::Oper(false) => Vec::from_slice(alloc, b"= no\n"),
+    let start = out.len();
+    let Some(count) = bytes.len().checked_mul(2) else {
+        return Err(AllocError);
+    };
+    let Some(len) = start.checked_add(count) else {
+        return Err(AllocError);
+    };
+    out.resize(len, b'0')?;
+    write_digits(bytes, &mut out[start..]);
+    Ok(())
+}
+
+// Writes the digits of bytes.
+#[tactic(auto, using(crate::proofs::UpperCase::upper))]
+fn write_digits(bytes: &[u8], digits: &mut [u8])
+    requires { length digits.old ≡ 2 * length bytes.now }
+    ensures { digits.new ≡ encode_upper bytes.now }
+{
+    if hex::encode_to_slice(bytes, digits).is_ok() {
+        digits.make_ascii_uppercase();
     }
+}
+
+// The line of a session that came up.
+fn up_bytes(alloc: Global, session: u64) -> Result<Vec<u8>, NoMemory>
+    ensures { IfOk result (λ bytes. bytes.items ≡ up_line session) }
+{
+    Ok(format!(in alloc; "+ {session}\n")?.into_bytes())
 }
 
 // The word of a cause.

@@ -1,4 +1,5 @@
-ghost use Rattle.std.specs.Prelude.{◌≢◌, ◌≡◌, ℕ, ◌-◌, ◌<◌, ◌≤◌, length, codes, Ok, Err};
+ghost use Rattle.std.specs.Prelude.{◌≢◌, ◌≡◌, ℕ, ◌-◌, ◌<◌, ◌≤◌, length, slice_get, codes, Some, Ok, Err, MatchResult};
+ghost use Rattle.line_grammar.specs.declared.line.Line.TheVariants.{Bytes as bytes_line};
 ghost use Rattle.line_grammar.specs.Grammar.{Reads, gives, says, ◌or◌};
 ghost use Rattle.line_grammar.specs.Lines.{skipped_line, comment_line, moment_line, operator_line, signal_line, watch_line, common_lines, hex_line, link_lines, feed_lines, script_lines, all_lines, operator_words};
 ghost use Rattle.line_grammar.specs.Reading.{read, either_of, Gives, feed_line_of, script_line_of};
@@ -7,6 +8,7 @@ use crate::cursor::Cursor;
 use crate::operator::{either, operator, says};
 use crate::signal::signal;
 use gem_ids::{Moment, PortNo};
+use hsms_frame::Bytes;
 use line_grammar::{Line, LineFault};
 use std::alloc::Global;
 use tool_events::OperCmd;
@@ -52,6 +54,18 @@ pub fn read_feed_line(alloc: Global, line: &[u8]) -> Result<Line, LineFault>
         return Err(LineFault::Place(600_000));
     }
     feed(alloc, Cursor::new(line))
+}
+
+/// What a line says to `feed` that begins with `H`: bytes of the host, which replace what stands in `bytes`. The faults are
+/// those of `read_feed_line`; after one it is not said what stands in `bytes`.
+pub fn read_host_line(line: &[u8], bytes: &mut Vec<u8>) -> Result<(), LineFault>
+    requires { slice_get line.now 0 ≡ Some 72 }
+    ensures { MatchResult result (λ v. feed_line_of line.now ≡ Ok (bytes_line bytes.new.items)) (λ e. Gives (Err e) (feed_line_of line.now)) }
+{
+    if line.len() > LINE_BYTES {
+        return Err(LineFault::Place(600_000));
+    }
+    host(Cursor::new(line), bytes)
 }
 
 /// What a line says in a script: as `read_line`, but a line that begins with `L`, `T` or `H` is refused at place 0, since it
@@ -235,15 +249,23 @@ fn told(text: Cursor) -> Result<Line, usize>
 }
 
 // `H hex`: bytes of the host.
-#[tactic(auto, unfolding(line_grammar::specs::Lines::hex_line))]
-fn hex(alloc: Global, mut text: Cursor) -> Result<Line, LineFault>
+fn hex(alloc: Global, text: Cursor) -> Result<Line, LineFault>
     ensures { Gives result (read hex_line text.entry.total text.entry.rest.now) }
+{
+    let mut bytes = Vec::new(alloc);
+    match host(text, &mut bytes) {
+        Ok(()) => Ok(Line::Bytes(Bytes::from_vec(bytes))),
+        Err(fault) => Err(fault),
+    }
+}
+
+// The same, where the bytes replace what stands in `bytes`.
+#[tactic(auto, unfolding(line_grammar::specs::Lines::hex_line))]
+fn host(mut text: Cursor, bytes: &mut Vec<u8>) -> Result<(), LineFault>
+    ensures { MatchResult result (λ v. read hex_line text.entry.total text.entry.rest.now ≡ Ok (bytes_line bytes.new.items)) (λ e. Gives (Err e) (read hex_line text.entry.total text.entry.rest.now)) }
 {
     if let Err(place) = text.literal(b"H ") {
         return Err(LineFault::Place(place as u64));
     }
-    match text.hex(alloc) {
-        Ok(bytes) => Ok(Line::Bytes(bytes)),
-        Err(fault) => Err(fault),
-    }
+    text.hex(bytes)
 }

@@ -69,14 +69,27 @@ fn done(mut text: Cursor) -> Result<Signal, usize>
     Ok(Signal::Done(module, CmdNo(text.number(u64::MAX)?)))
 }
 
-// What the equipment tells.
+// What the equipment tells. The letter behind `S ` tells which of the lines it may be.
+#[tactic(auto, using(crate::proofs::SignalLetters::placed_word, crate::proofs::SignalLetters::removed_word, crate::proofs::SignalLetters::done_down_words, crate::proofs::SignalLetters::failed_word, crate::proofs::SignalLetters::no_words, crate::proofs::SignalLetters::other_words, crate::proofs::SignalLetters::no_signal))]
 pub(crate) fn signal(text: Cursor) -> Result<Signal, usize>
     ensures { result ≡ read (placed_line or removed_line or done_line or failed_line or down_line) text.entry.total text.entry.rest.now }
 {
-    let found = either_copied(placed(text), removed(text));
-    let found = either_copied(found, done(text));
-    let found = either_copied(found, failed(text));
-    either_copied(found, down(text))
+    let mut behind = text;
+    behind.literal(b"S ")?;
+    let none = Err(behind.place());
+    let Some(letter) = behind.first() else {
+        return none;
+    };
+    match letter {
+        b'p' => either_copied(placed(text), none),
+        b'r' => either_copied(none, removed(text)),
+        b'd' => {
+            let found = either_copied(none, done(text));
+            either_copied(found, down(text))
+        }
+        b'f' => either_copied(none, failed(text)),
+        _ => none,
+    }
 }
 
 // `S failed m n`: module m failed at command n.

@@ -16,15 +16,15 @@ returns-in-Ok-write_all-clause-goes g c =
     let step = c.in-Ok.ensures.step in
     let added : Added (g.C.Recorder.view c.args.core.now) (g.C.Recorder.view c.apply.new.self) _ step.0 = record { config = c.apply.ensures.config; ran = c.apply.ensures.before.run; here = step.1; history = c.in-Ok.ensures.entry; state = step.3 } in
     Goes-added _ _ _ _ _ step.0 _ added
-    (outcome_shown _ _ _ _ added _ step.2 _ c.session_up-before.ensures.session _ c.ended_now-ended.ensures _ c.fetches-fetching.ensures _ (c.deref.ensures.value ∙ c.in-Ok-outcome_text.ensures))
+    (outcome_shown _ _ _ _ added _ step.2 _ c.session_up-before.ensures.session _ c.ended_now-ended.ensures _ c.fetches-fetching.ensures _ (c.as_slice.ensures.value ∙ c.in-Ok-outcome_text.ensures))
     c.in-Ok-write_all.ensures.all c.in-Ok-write_all.ensures.unfailed
 
-pub returns-clause-goes : goal.returns-clause-goes
-returns-clause-goes g c =
+pub returns-in-Err-clause-goes : goal.returns-in-Err-clause-goes
+returns-in-Err-clause-goes g c =
     let step = c.in-Ok.ensures.step in
     let added : Added (g.C.Recorder.view c.args.core.now) (g.C.Recorder.view c.apply.new.self) _ step.0 = record { config = c.apply.ensures.config; ran = c.apply.ensures.before.run; here = step.1; history = c.in-Ok.ensures.entry; state = step.3 } in
     Goes-added-write _ _ _ _ _ step.0 _ added
-    (outcome_shown _ _ _ _ added _ step.2 _ c.session_up-before.ensures.session _ c.ended_now-ended.ensures _ c.fetches-fetching.ensures _ (c.deref.ensures.value ∙ c.in-Ok-outcome_text.ensures))
+    (outcome_shown _ _ _ _ added _ step.2 _ c.session_up-before.ensures.session _ c.ended_now-ended.ensures _ c.fetches-fetching.ensures _ (c.as_slice.ensures.value ∙ c.in-Ok-outcome_text.ensures))
     c.in-Err.ensures.front c.in-Err.ensures.cause c.write_all.ensures.faults_stay c.write_all.ensures.refusals_stay
 
 -- an event that has a step does not have to wait; want of memory changes neither history nor state

@@ -1,7 +1,12 @@
 //! A data message of the host: what it is answered, and what it does.
+//!
+//! A function clears its locals at entry, with those of each call that is written out in its place. So a large one that few messages
+//! need stands apart (`inline(never)`), and the others do not pay for it.
 ghost use Rattle.std.specs.Prelude.{◌≡◌, ◌+◌, ◌≤◌, ◌<◌, ◌^◌, length, OnOk, IfOk};
 ghost use Rattle.transactions.specs.Endings.{answered};
 ghost use Rattle.message_model.specs.Acknowledge.{accepts};
+ghost use Rattle.message_model.specs.declared.gem_primary.GemMsg.TheVariants as msg;
+ghost use Rattle.gem_model.specs.HostMessages as host_message;
 ghost use Rattle.gem_model.specs.Direct.{Are, IsListed, by_comm, by_control, answer_rows, attempt_answer, establish_answer};
 ghost use Rattle.gem_model.specs.Fire.{fire_listed, fires};
 ghost use Rattle.gem_model.specs.Verdict.{header_of, item_of, stream_of, function_of};
@@ -20,8 +25,9 @@ use host_replies::{Done, reply_text};
 use host_requests::{HostMsg, Verdict, header_of, item_of, stream_of, wants_reply};
 use host_shop::shop_done;
 use hsms_frame::{Arrival, Bytes, Header};
+use message_model::GemMsg;
 use msgs_gem::accepts_communication;
-use plant_parts::by_comm;
+use plant_parts::{by_comm, identity_text};
 use std::alloc::{AllocError, Global};
 use transactions::What;
 
@@ -40,6 +46,7 @@ pub enum HostAct {
 /// waits for the writer. The tool has not settled yet. The text of the message has at most 536,870,912 bytes.
 ///
 /// `AllocError`: memory ran out. Nothing is said of the plant then.
+#[inline(never)]
 pub fn host(plant: &mut Plant, alloc: Global, arrival: &Arrival) -> Result<HostAct, AllocError>
     requires short { IsShort arrival.now }
     ensures answer { IfOk result (λ act. act ≡ host_act plant.old arrival.now) }
@@ -115,6 +122,7 @@ fn answer(
 }
 
 /// A message is taken: what it writes, its reply, and then its direct rows.
+#[inline(never)]
 fn take_message(
     plant: &mut Plant,
     alloc: Global,
@@ -126,8 +134,22 @@ fn take_message(
     ensures act { IfOk result (λ act. act ≡ reply_act header.now (function_of header.now + 1)) }
     ensures after { OnOk result (plant.new ≡ taken header.now (message_view message.now) plant.old) }
 {
+    if let HostMsg::Gem(GemMsg::S1F1) = message {
+        return tell_identity(plant, alloc, header);
+    }
     let done = perform(plant, alloc, message)?;
-    finish(plant, alloc, header, &done)
+    finish(plant, alloc, header, done)
+}
+
+/// S1F1 is answered by what the tool tells of itself, whose text is written straight from the configuration: hosts ask it again and
+/// again, to see whether the tool is there.
+fn tell_identity(plant: &mut Plant, alloc: Global, header: &Header) -> Result<HostAct, AllocError>
+    requires next { function_of header.now < 255 }
+    ensures act { IfOk result (λ act. act ≡ reply_act header.now (function_of header.now + 1)) }
+    ensures after { OnOk result (plant.new ≡ taken header.now (host_message.Gem msg.S1F1) plant.old) }
+{
+    let text = identity_text(alloc, plant.config())?;
+    answer(plant, alloc, header, header.byte3 + 1, text)
 }
 
 /// What a message is answered, and the rows that it fires, by the plant before it; and what it writes is written.
@@ -147,21 +169,23 @@ fn finish(
     plant: &mut Plant,
     alloc: Global,
     header: &Header,
-    done: &Done,
+    done: Done,
 ) -> Result<HostAct, AllocError>
     requires next { function_of header.now < 255 }
-    requires sendable { CanBeSent done.now.reply }
-    requires listed { Are IsListed done.now.rows.items }
+    requires sendable { CanBeSent done.reply }
+    requires listed { Are IsListed done.rows.items }
     ensures act { IfOk result (λ act. act ≡ reply_act header.now (function_of header.now + 1)) }
-    ensures after { OnOk result (plant.new ≡ taken_as header.now (done_view done.now plant.old)) }
+    ensures after { OnOk result (plant.new ≡ taken_as header.now (done_view done plant.old)) }
 {
-    let text = reply_text(alloc, &done.reply)?;
+    let Done { reply, rows } = done;
+    let text = reply_text(alloc, reply)?;
     let act = answer(plant, alloc, header, header.byte3 + 1, text)?;
-    plant.fire_listed(alloc, done.rows.as_slice())?;
+    plant.fire_listed(alloc, rows.as_slice())?;
     Ok(act)
 }
 
 /// The transaction that a message answers is closed, and its rows fire. Without one nothing changes.
+#[inline(never)]
 fn close(
     plant: &mut Plant,
     alloc: Global,

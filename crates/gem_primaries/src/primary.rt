@@ -1,4 +1,7 @@
 //! The host's primaries.
+//!
+//! A function clears its locals at entry, with those of each call that is written out in its place. So a large one that few messages
+//! need stands apart (`inline(never)`), and the others do not pay for it.
 
 ghost use Rattle.std.specs.Prelude.{◌≡◌, ◌≤◌, length, IfOk, IfSome, option_and_then, option_map};
 ghost use Rattle.message_model.specs.Bodies.{byte as byte_form, characters as characters_form, each, flag as flag_form, group, id as id_form, id_or_empty as id_or_empty_form, ids as ids_form, l2, named_value, numbers_or_ids as numbers_or_ids_form, of, text as text_form, zero_or_one as zero_or_one_form};
@@ -25,6 +28,7 @@ use std::alloc::Global;
 /// function, else `IllegalData` where the item has not the printed body (this tool's profile, messages). Besides,
 /// `NoMemory` may come, for a message whose body has parts to be copied. A list of ids that was read has at most 1,024;
 /// parameters and functions are as few as a text of 536,870,912 bytes can list, where the text is no longer.
+#[inline(never)]
 pub fn read_gem(
     alloc: Global,
     stream: u8,
@@ -68,6 +72,7 @@ fn ids_of(alloc: Global, item: Option<&Item>) -> Result<Ids, BodyFault>
 }
 
 // Equipment control and diagnostics.
+#[inline(never)]
 fn read_stream_2(alloc: Global, function: u8, item: Option<&Item>) -> Result<GemMsg, BodyFault>
     ensures answer { Answers result (reading 2 function (option_map (λ i. view i.now) item.entry)) }
     ensures few { IfSome item.entry (λ i. HasShortText (view i.now)) → IfOk result HasFewParts }
@@ -180,6 +185,7 @@ fn spooled_streams(alloc: Global, item: &Item) -> Result<GemMsg, BodyFault>
 }
 
 // Exception handling.
+#[inline(never)]
 fn read_stream_5(alloc: Global, function: u8, item: Option<&Item>) -> Result<GemMsg, BodyFault>
     ensures answer { Answers result (reading 5 function (option_map (λ i. view i.now) item.entry)) }
     ensures few { IfSome item.entry (λ i. HasShortText (view i.now)) → IfOk result HasFewParts }
@@ -210,6 +216,7 @@ fn alarms_asked(alloc: Global, item: Option<&Item>) -> Result<GemMsg, BodyFault>
 }
 
 // Data collection.
+#[inline(never)]
 fn read_stream_6(function: u8, item: Option<&Item>) -> Result<GemMsg, BodyFault>
     ensures answer { Answers result (reading 6 function (option_map (λ i. view i.now) item.entry)) }
     ensures few { IfSome item.entry (λ i. HasShortText (view i.now)) → IfOk result HasFewParts }

@@ -1,5 +1,8 @@
 //! What a message of streams 1, 2, 5 and 6 does that is taken: its reply, what it writes, and its direct rows, all by the plant
 //! before it. Each message is one arm: of `asked`, `set` or `fired`, by what it does, and S2F41 of `gem_done`.
+//!
+//! A function clears its locals at entry, with those of each call that is written out in its place. So a large one that few messages
+//! need stands apart (`inline(never)`), and the others do not pay for it.
 ghost use Rattle.std.specs.Prelude.{◌≡◌, true, IfOk};
 ghost use Rattle.gem_ids.specs.Texts.{IsText};
 ghost use Rattle.civil_time.specs.Civil.{moment_in, time_digits};
@@ -112,6 +115,7 @@ fn asked(plant: &Plant, alloc: Global, message: &GemMsg) -> Result<GemReply, All
 }
 
 /// A message that sets something: it is set, where it can be. Gives what the message is answered.
+#[inline(never)]
 fn set(plant: &mut Plant, alloc: Global, message: &GemMsg) -> Result<GemReply, AllocError>
     requires few { HasFewParts message.now }
     requires sets { sets message.now ≡ true }
@@ -143,6 +147,7 @@ fn set(plant: &mut Plant, alloc: Global, message: &GemMsg) -> Result<GemReply, A
 }
 
 /// A message whose row fires: what it is answered, and the row, by the plant before it.
+#[inline(never)]
 fn fired(plant: &Plant, alloc: Global, message: &GemMsg) -> Result<Done, AllocError>
     requires fires { fires message.now ≡ true }
     ensures done { IfOk result (λ told. done_view told plant.now ≡ gem_done plant.now message.now) }

@@ -24,6 +24,7 @@ fn accepted(alloc: Global) -> GemReply
 /// A remote command, as it is decided by the plant before it: GOLOCAL fires the row of the operator's `local`, but the switch
 /// stays; CLEARALARM clears its alarm; and a command to a process job fires its row (SEMI E5, S2F42; this tool's profile, remote
 /// commands). `AllocError` where there is no memory.
+#[inline(never)]
 pub fn command(
     plant: &mut Plant,
     alloc: Global,

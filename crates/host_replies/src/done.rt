@@ -46,14 +46,14 @@ pub fn fires_row(alloc: Global, reply: GemReply, row: Firing) -> Result<Done, Al
     })
 }
 
-/// The text of a reply.
-pub fn reply_text(alloc: Global, reply: &HostReply) -> Result<Bytes, AllocError>
-    requires { CanBeSent reply.now }
-    ensures text { IfOk result (λ text. text ≡ reply_text (reply_view reply.now)) }
+/// The text of a reply, which is let go.
+pub fn reply_text(alloc: Global, reply: HostReply) -> Result<Bytes, AllocError>
+    requires { CanBeSent reply }
+    ensures text { IfOk result (λ text. text ≡ reply_text (reply_view reply)) }
     ensures short { IfOk result (λ text. length text ≤ 2 ^ 31) }
 {
     match reply {
         HostReply::Gem(reply) => gem_text(alloc, reply),
-        HostReply::Shop(reply) => shop_text(alloc, reply),
+        HostReply::Shop(reply) => shop_text(alloc, &reply),
     }
 }

@@ -1,5 +1,8 @@
 //! What a data message of the host is read as, by the table of its stream (SEMI E5, streams and functions). The rules that
 //! come before it is read ask for the tool's state, and stand in `core_host`.
+//!
+//! A function clears its locals at entry, with those of each call that is written out in its place. So a large one that few messages
+//! need stands apart (`inline(never)`), and the others do not pay for it.
 ghost use Rattle.std.specs.Prelude.{◌≡◌, IfOk, IfSome, option_map};
 ghost use Rattle.item_model.specs.View.{view};
 ghost use Rattle.message_model.specs.Few.{HasShortText};
@@ -93,6 +96,7 @@ fn shop_verdict(alloc: Global, header: &Header, item: Option<&Item>) -> Result<V
 }
 
 /// What a message of carriers and ports is read as.
+#[inline(never)]
 fn read_shop_message(
     alloc: Global,
     header: &Header,

@@ -1,5 +1,8 @@
 //! What the host asks of process jobs and control jobs (SEMI E40, S16F5, S16F11, S16F17, S16F19 and S16F21; SEMI E94, S14F9 and
 //! S16F27): what it is answered, and what is done. Why something isn't done is told by the jobs before the message.
+//!
+//! A function clears its locals at entry, with those of each call that is written out in its place. So a large one that few messages
+//! need stands apart (`inline(never)`), and the others do not pay for it.
 ghost use Rattle.std.specs.Prelude.{◌≡◌, None, true, false, OnOk, IfOk};
 ghost use Rattle.item_model.specs.View.{view};
 ghost use Rattle.process_job.specs.Creating.{create_fault};
@@ -34,6 +37,7 @@ use tool_tasks::JobWord;
 
 /// S16F11, a process job is created: where nothing stands against it, it is QUEUED, and its row of creation fires. S16F12 tells its
 /// name, and else the error. The parts are those of the message in their order; `AllocError` where there is no memory.
+#[inline(never)]
 pub fn process_done(
     plant: &mut Plant,
     alloc: Global,
@@ -79,6 +83,7 @@ fn create_process(
 
 /// S16F5, a command on the process job of a name, by its word where there is one: where nothing stands against it, its row of table 14
 /// fires. S16F6 tells the name, and else the error. `AllocError` where there is no memory.
+#[inline(never)]
 pub fn command_done(
     plant: &Plant,
     alloc: Global,
@@ -102,6 +107,7 @@ pub fn command_done(
 
 /// S16F17, process jobs that are QUEUED are cancelled, all where none is named: where nothing stands against it, row 15 of table 14
 /// fires at each. S16F18 tells their names, and else the error. `AllocError` where there is no memory.
+#[inline(never)]
 pub fn cancel_done(plant: &Plant, alloc: Global, names: &[Text80]) -> Result<Done, AllocError>
     ensures done { IfOk result (λ told. done_view told plant.now ≡ cancel_done plant.now names.now) }
     ensures sendable { IfOk result (λ told. CanBeSent told.reply) }
@@ -139,6 +145,7 @@ fn cancel(
 
 /// S16F19, the process jobs are listed in the order of creation: S16F20 tells each with its state, and nothing is done. `AllocError`
 /// where there is no memory.
+#[inline(never)]
 pub fn list_done(plant: &Plant, alloc: Global) -> Result<Done, AllocError>
     ensures done { IfOk result (λ told. done_view told plant.now ≡ list_done plant.now) }
     ensures sendable { IfOk result (λ told. CanBeSent told.reply) }
@@ -165,6 +172,7 @@ pub fn space_done(plant: &Plant, alloc: Global) -> Done
 
 /// S14F9, a control job is created of this type and these attributes: where nothing stands against it, it is QUEUED, and its row of
 /// creation fires. S14F10 tells its name, and else the error. `AllocError` where there is no memory.
+#[inline(never)]
 pub fn control_done(
     plant: &mut Plant,
     alloc: Global,
@@ -224,6 +232,7 @@ fn create_control(
 
 /// S16F27, a command on the control job of a name: where nothing stands against it, its row of table 15 fires, or the job goes first in
 /// the queue. S16F28 tells whether it is done, and else the error. `AllocError` where there is no memory.
+#[inline(never)]
 pub fn control_command_done(
     plant: &mut Plant,
     alloc: Global,

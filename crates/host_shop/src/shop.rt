@@ -1,5 +1,8 @@
 //! What the host asks of carriers and load ports (SEMI E87, S3F17, S3F25 and S3F27): what it is answered, and what is done. What it
 //! asks of jobs is in `jobs.rt`.
+//!
+//! A function clears its locals at entry, with those of each call that is written out in its place. So a large one that few messages
+//! need stands apart (`inline(never)`), and the others do not pay for it.
 ghost use Rattle.std.specs.Prelude.{◌≡◌, if◌then◌else◌, [], true, IfOk, OnOk};
 ghost use Rattle.load_port.specs.Caack.{is_done_code};
 ghost use Rattle.load_port.specs.declared.action.PortAction.TheVariants as port;
@@ -107,6 +110,7 @@ fn port_rows(
 }
 
 /// An action on a port, S3F25: where its code is that it is done it fires its rows.
+#[inline(never)]
 fn port_action_done(plant: &Plant, alloc: Global, action: &PortAction) -> Result<Done, AllocError>
     ensures done { IfOk result (λ told. done_view told plant.now ≡ port_action_done plant.now action.now (λ code. shop.S3F26 code)) }
     ensures sendable { IfOk result (λ told. CanBeSent told.reply) }
@@ -120,6 +124,7 @@ fn port_action_done(plant: &Plant, alloc: Global, action: &PortAction) -> Result
 }
 
 /// A change of the access of ports, S3F27: where its code is that it is done it fires its rows.
+#[inline(never)]
 fn access_done(
     plant: &Plant,
     alloc: Global,

@@ -1,4 +1,7 @@
 //! The host's primaries.
+//!
+//! A function clears its locals at entry, with those of each call that is written out in its place. So a large one that few messages
+//! need stands apart (`inline(never)`), and the others do not pay for it.
 
 ghost use Rattle.std.specs.Prelude.{◌≡◌, ◌∷◌, [], option_map};
 ghost use Rattle.message_model.specs.Bodies.{any, byte, each, five, fixed, flag as flag_form, id as id_form, l2, l3, l5, named_value, of, small_id as small_id_form, text as text_form, three};
@@ -21,6 +24,7 @@ use std::alloc::Global;
 /// `UnknownStream` comes where no message has the stream, else `UnknownFunction` where none of the stream has the
 /// function, else `IllegalData` where the item has not the printed body (after SEMI E87, E40 and E94; this tool's profile,
 /// messages). Besides, `NoMemory` may come, for a message whose body has parts to be copied.
+#[inline(never)]
 pub fn read_shop(
     alloc: Global,
     stream: u8,
@@ -50,6 +54,7 @@ fn read_stream_3(alloc: Global, function: u8, item: Option<&Item>) -> Result<Sho
 }
 
 // Objects: a control job is one that is created.
+#[inline(never)]
 fn read_stream_14(alloc: Global, function: u8, item: Option<&Item>) -> Result<ShopMsg, BodyFault>
     ensures answer { AnswersAs said result (reading 14 function (option_map (λ i. view i.now) item.entry)) }
 {
@@ -60,6 +65,7 @@ fn read_stream_14(alloc: Global, function: u8, item: Option<&Item>) -> Result<Sh
 }
 
 // Process jobs and control jobs.
+#[inline(never)]
 fn read_stream_16(alloc: Global, function: u8, item: Option<&Item>) -> Result<ShopMsg, BodyFault>
     ensures answer { AnswersAs said result (reading 16 function (option_map (λ i. view i.now) item.entry)) }
 {
@@ -106,6 +112,7 @@ fn carrier_acted(
 }
 
 // What a port action request says.
+#[inline(never)]
 fn port_action(item: &Item) -> Result<ShopMsg, BodyFault>
     ensures { Gives said result (l3 S3F25 text_form small_id_form any (view item.now)) }
 {
@@ -114,6 +121,7 @@ fn port_action(item: &Item) -> Result<ShopMsg, BodyFault>
 }
 
 // What a change of access says.
+#[inline(never)]
 fn access_change(alloc: Global, item: &Item) -> Result<ShopMsg, BodyFault>
     ensures { Gives said result (l2 S3F27 small_id_form (each small_id_form) (view item.now)) }
 {

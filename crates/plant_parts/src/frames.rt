@@ -1,7 +1,7 @@
 //! The frames that the tool sends.
-ghost use Rattle.std.specs.Prelude.{◌≡◌, ◌≤◌, ◌^◌, length, [], IfOk};
+ghost use Rattle.std.specs.Prelude.{◌≡◌, ◌≤◌, ◌+◌, ◌^◌, ◌++◌, length, take, [], IfOk};
+ghost use Rattle.std.specs.Int.{w32, to_be_bytes};
 ghost use Rattle.gem_ids.specs.Texts.{IsText};
-ghost use Rattle.message_model.specs.declared.gem_reply.GemReply.TheVariants as reply;
 ghost use Rattle.item_model.specs.View.{view};
 ghost use Rattle.hsms_frame.specs.Spelling.{message_bytes, header_bytes};
 ghost use Rattle.message_model.specs.GemReplies.{reply_body, B};
@@ -9,12 +9,12 @@ ghost use Rattle.message_model.specs.GemSendable.{HasSendableParts};
 ghost use Rattle.message_model.specs.ShopReplies.{shop_reply_body};
 ghost use Rattle.message_model.specs.ShopSendable.{HasSendableParts as HasShopParts};
 ghost use Rattle.gem_model.specs.Sending.{data_header, data_frame, identity_text, stream9_text};
-ghost use Rattle.item_model.specs.Plain.{plain};
+ghost use Rattle.item_model.specs.Plain.{plain, plain_head};
 ghost use Rattle.item_model.specs.Sendable.{IsSendable};
 
 use gem_ids::Text80;
 use hsms_frame::{Bytes, Frame, Header, write_frame, write_header};
-use item_model::Item;
+use item_model::{Format, Item};
 use message_model::{GemReply, ShopReply};
 use msgs_300::shop_item;
 use msgs_gem::gem_item;
@@ -24,6 +24,12 @@ use tool_events::Config;
 
 // Room for a short text, as most are, which is taken at once.
 const TEXT_ROOM: usize = 32;
+
+// Room for what a frame has before its text: the length field and the header.
+pub(crate) const FRONT: usize = 14;
+
+// A text of at most so many bytes becomes its frame in its own room.
+const SHORT: usize = 128;
 
 /// A frame without text.
 pub fn header_frame(alloc: Global, header: Header) -> Result<Bytes, AllocError>
@@ -47,8 +53,21 @@ pub fn data_header(device: u16, wants: bool, stream: u8, function: u8, system: u
     }
 }
 
-/// A data message of the tool.
+/// A data message of the tool. A short text becomes the message in its own room, so that no memory is taken where it has room for
+/// 14 bytes more.
 pub fn data_frame(alloc: Global, header: Header, text: Bytes) -> Result<Bytes, AllocError>
+    requires { length text ≤ 2 ^ 31 }
+    ensures { IfOk result (λ frame. frame ≡ message_bytes header text) }
+{
+    if text.as_slice().len() <= SHORT {
+        short_frame(header, text.into_vec())
+    } else {
+        long_frame(alloc, header, text)
+    }
+}
+
+/// A data message of a text of any length, in memory of its own.
+fn long_frame(alloc: Global, header: Header, text: Bytes) -> Result<Bytes, AllocError>
     requires { length text ≤ 2 ^ 31 }
     ensures { IfOk result (λ frame. frame ≡ message_bytes header text) }
 {
@@ -57,33 +76,70 @@ pub fn data_frame(alloc: Global, header: Header, text: Bytes) -> Result<Bytes, A
     Ok(Bytes::from_vec(frame))
 }
 
-/// The text of an item.
-fn text_of(alloc: Global, item: &Item) -> Result<Bytes, AllocError>
+/// A data message of a short text, in the room of the text.
+#[tactic(auto, unfolding(hsms_frame::specs::Spelling::message_bytes))]
+fn short_frame(header: Header, text: Vec<u8>) -> Result<Bytes, AllocError>
+    requires { length text.items ≤ 128 }
+    ensures { IfOk result (λ frame. frame ≡ message_bytes header text.items) }
+{
+    let count = text.len();
+    let held = held(text.as_slice());
+    let mut frame = text;
+    frame.clear();
+    frame.extend_from_slice(&front(count as u32, header))?;
+    frame.extend_from_slice(&held[..count])?;
+    Ok(Bytes::from_vec(frame))
+}
+
+/// The bytes of a short text, and zeros behind them.
+fn held(text: &[u8]) -> [u8; 128]
+    requires { length text.now ≤ 128 }
+    ensures { take (length text.now) result ≡ text.now }
+{
+    let mut held = [0; SHORT];
+    held[..text.len()].copy_from_slice(text);
+    held
+}
+
+/// The length field and the header of a message whose text has so many bytes.
+#[tactic(auto, unfolding(hsms_frame::specs::Spelling::header_bytes))]
+fn front(count: u32, header: Header) -> [u8; 14]
+    requires { count ≤ 128 }
+    ensures { result ≡ to_be_bytes w32 (10 + count) ++ header_bytes header }
+{
+    let [l0, l1, l2, l3] = (10 + count).to_be_bytes();
+    let [b0, b1, b2, b3, b4, b5, b6, b7, b8, b9] = ten_bytes(header);
+    [l0, l1, l2, l3, b0, b1, b2, b3, b4, b5, b6, b7, b8, b9]
+}
+
+/// The text of an item, with room for so many bytes from the start.
+fn text_of(alloc: Global, item: &Item, room: usize) -> Result<Bytes, AllocError>
     requires { IsSendable (view item.now) }
     ensures { IfOk result (λ text. text ≡ plain (view item.now)) }
 {
-    let mut text = Vec::with_capacity(alloc, TEXT_ROOM)?;
+    let mut text = Vec::with_capacity(alloc, room)?;
     encode(item, &mut text)?;
     Ok(Bytes::from_vec(text))
 }
 
-/// The text of a reply whose parts can be sent.
-pub fn reply_text(alloc: Global, reply: &GemReply) -> Result<Bytes, AllocError>
-    requires { HasSendableParts reply.now }
-    ensures text { IfOk result (λ text. text ≡ plain (reply_body reply.now)) }
+/// The text of a reply whose parts can be sent. It is sent at once, so it has room for what a frame has before it.
+pub fn reply_text(alloc: Global, reply: GemReply) -> Result<Bytes, AllocError>
+    requires { HasSendableParts reply }
+    ensures text { IfOk result (λ text. text ≡ plain (reply_body reply)) }
     ensures short { IfOk result (λ text. length text ≤ 2 ^ 31) }
 {
     let item = gem_item(alloc, reply)?;
-    text_of(alloc, &item)
+    text_of(alloc, &item, FRONT + TEXT_ROOM)
 }
 
-/// The text of a reply whose parts can be sent, which is let go.
+/// The same of a reply whose text is kept, as that of a note.
 pub fn text_of_reply(alloc: Global, reply: GemReply) -> Result<Bytes, AllocError>
     requires { HasSendableParts reply }
     ensures text { IfOk result (λ text. text ≡ plain (reply_body reply)) }
     ensures short { IfOk result (λ text. length text ≤ 2 ^ 31) }
 {
-    reply_text(alloc, &reply)
+    let item = gem_item(alloc, reply)?;
+    text_of(alloc, &item, TEXT_ROOM)
 }
 
 /// The text of a reply to a message of carriers, ports and jobs, whose parts can be sent.
@@ -93,7 +149,7 @@ pub fn shop_text(alloc: Global, reply: &ShopReply) -> Result<Bytes, AllocError>
     ensures short { IfOk result (λ text. length text ≤ 2 ^ 31) }
 {
     let item = shop_item(alloc, reply)?;
-    text_of(alloc, &item)
+    text_of(alloc, &item, FRONT + TEXT_ROOM)
 }
 
 /// The ten bytes of a header.
@@ -120,7 +176,7 @@ pub fn stream9_text(alloc: Global, about: Header) -> Result<Bytes, AllocError>
     ensures short { IfOk result (λ text. length text ≤ 200) }
 {
     let bytes = header_part(alloc, about)?;
-    text_of(alloc, &Item::Binary(bytes))
+    text_of(alloc, &Item::Binary(bytes), FRONT + TEXT_ROOM)
 }
 
 /// The bytes of a text, as a part of a reply.
@@ -131,21 +187,25 @@ pub fn part(alloc: Global, text: Text80) -> Result<item_model::Bytes, AllocError
     Ok(item_model::Bytes::from_vec(Vec::from_slice(alloc, text.as_bytes())?))
 }
 
-/// S1F13: the model and the software revision.
-fn identity(alloc: Global, config: &Config) -> Result<GemReply, AllocError>
-    ensures reply { IfOk result (λ r. r ≡ reply.S1F13 config.now.mdln config.now.softrev) }
-    ensures sendable { IfOk result HasSendableParts }
+/// The format byte and the length byte of a short text.
+fn text_head(text: &Text80) -> [u8; 2]
+    ensures { result ≡ plain_head 16 (length text.now) }
 {
-    let mdln = part(alloc, config.mdln)?;
-    let softrev = part(alloc, config.softrev)?;
-    Ok(GemReply::S1F13(mdln, softrev))
+    [4 * Format::Ascii.code() + 1, text.len() as u8]
 }
 
-/// The text of S1F2 and S1F13.
+/// The text of S1F2 and S1F13, a list of two texts: the model and the software revision. It is written straight from these.
 pub fn identity_text(alloc: Global, config: &Config) -> Result<Bytes, AllocError>
     ensures text { IfOk result (λ text. text ≡ identity_text config.now) }
     ensures short { IfOk result (λ text. length text ≤ 2 ^ 31) }
 {
-    let reply = identity(alloc, config)?;
-    reply_text(alloc, &reply)
+    let mdln = config.mdln.as_bytes();
+    let softrev = config.softrev.as_bytes();
+    let mut text = Vec::with_capacity(alloc, FRONT + 6 + mdln.len() + softrev.len())?;
+    text.extend_from_slice(&[4 * Format::List.code() + 1, 2])?;
+    text.extend_from_slice(&text_head(&config.mdln))?;
+    text.extend_from_slice(mdln)?;
+    text.extend_from_slice(&text_head(&config.softrev))?;
+    text.extend_from_slice(softrev)?;
+    Ok(Bytes::from_vec(text))
 }

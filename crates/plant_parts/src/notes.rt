@@ -4,6 +4,7 @@ ghost use Rattle.std.specs.Prelude.{◌≡◌, IfOk};
 ghost use Rattle.gem_model.specs.Effects.{stream_of_kind, function_of_kind};
 ghost use Rattle.gem_model.specs.Noting.{alcd, text_of_alarm};
 
+use crate::frames::FRONT;
 use gem_ids::Text80;
 use hsms_frame::Bytes;
 use note_line::{Kind, Note};
@@ -19,11 +20,14 @@ pub fn message_of(kind: Kind) -> (u8, u8)
     }
 }
 
-/// A copy of the text of a note.
+/// A copy of the text of a note, with room for what a frame has before its text.
 pub fn text_of(alloc: Global, note: &Note) -> Result<Bytes, AllocError>
     ensures { IfOk result (λ text. text ≡ note.now.text) }
 {
-    Ok(Bytes::from_vec(Vec::from_slice(alloc, note.text.as_slice())?))
+    let note_text = note.text.as_slice();
+    let mut text = Vec::with_capacity(alloc, FRONT + note_text.len())?;
+    text.extend_from_slice(note_text)?;
+    Ok(Bytes::from_vec(text))
 }
 
 /// ALCD of an alarm: its highest bit says that it is set.

@@ -10,4 +10,4 @@ pub returns-clause-bounded : goal.returns-clause-bounded
 returns-clause-bounded c few =
     IfOk-weaker c.list.result (λ item. view item ≡ event_data c.args.note c.args.ceid c.args.reports.now) (λ item. IsBounded 5 (2 ^ 31) (view item))
     (λ item is. rw is (event_bounded c.args.note c.args.ceid c.args.reports.now few))
-    (rw (c.in_ok-note.ensures, c.in_ok-ceid.ensures, c.in_ok-elements.ensures) at c.list.ensures)
+    (rw (c.in_ok-note.ensures, c.in_ok-ceid.ensures, c.items_out.ensures) at c.list.ensures)

@@ -2,7 +2,7 @@
 use Rattle.std.proofs.Common.{◌≡◌, ℕ, zero, suc, ◌+◌, ◌==◌, ◌≤◌, ◌<◌, Bool, true, false, true≢false, cond, not, ◌&&◌, ◌||◌, List, [], ◌∷◌, ◌++◌, length, map, filter, Option, Some, None, is_some, IfSome, option_map, slice_get, bytes_eq, refl, sym, ap, ◌∙◌, subst, arith}
 use Rattle.std.specs.List.{list_any}
 use Rattle.gem_tables.specs.Table.{update_at}
-use Rattle.carrier.specs.Carriers.{has_name, carrier_named, carrier_numbered, change_numbered, is_known, place_from, place_of, change_named, without, created, with_created, are_named_apart, AreCarriers, most_carriers}
+use Rattle.carrier.specs.Carriers.{has_name, carrier_named, carrier_numbered, change_numbered, is_known, place_from, place_of, change_named, without, are_named_apart, AreCarriers, most_carriers}
 use Rattle.carrier.specs.declared.carrier.Carrier.{Carrier}
 use Rattle.carrier.proofs.Names.{same_name, own_name, turned}
 
@@ -143,6 +143,14 @@ place_is name (c ∷ cs) place e = by_test (has_name name c) refl e (λ i e1. pl
         changed = λ change apart. rw (q, tail_stays name change c cs apart q) refl;
       })
   by_test false q f later = further q (place_of name cs) refl (sym (place_later 0 name cs) ∙ f) later
+
+-- a name has a place where it is known
+pub place_known : (n : ℕ) (name : List ℕ) (cs : List Carrier) → is_some (place_from n name cs) ≡ is_known name cs
+place_known n name [] = refl
+place_known n name (c ∷ cs) = by_test (has_name name c) (place_known (n + 1) name cs) where
+  by_test : (b : Bool) → is_some (place_from (n + 1) name cs) ≡ is_known name cs → is_some (cond b (Some n) (place_from (n + 1) name cs)) ≡ (b || is_known name cs)
+  by_test true later = refl
+  by_test false later = later
 
 -- a name that has no place changes nothing
 pub change_unplaced : (name : List ℕ) (change : Carrier → Carrier) (cs : List Carrier) → place_of name cs ≡ None → change_named name change cs ≡ cs

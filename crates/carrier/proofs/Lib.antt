@@ -1,6 +1,7 @@
 pub mod Names
 pub mod Apart
 pub mod Entries
+pub mod Changes
 pub mod Absent
 pub mod Scans
 pub mod Others

@@ -99,18 +99,15 @@ impl Carrier {
         }
     }
 
-    // The carrier, which came to this port.
-    pub(crate) fn came_to(&self, port: PortNo, is_read: bool, map: [u8; 25]) -> Carrier
-        ensures { result ≡ came_to port.0 is_read map self.now }
+    // The carrier came to this port.
+    pub(crate) fn come(&mut self, port: PortNo, is_read: bool, map: [u8; 25])
+        ensures { self.new ≡ came_to port.0 is_read map self.old }
     {
-        Carrier {
-            is_read,
-            map,
-            port: Some(port),
-            present: true,
-            bound: self.bound && self.is_at(port),
-            ..*self
-        }
+        self.bound = self.bound && self.is_at(port);
+        self.is_read = is_read;
+        self.map = map;
+        self.port = Some(port);
+        self.present = true;
     }
 }
 

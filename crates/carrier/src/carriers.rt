@@ -1,6 +1,6 @@
 //! The carriers that the tool knows.
 
-ghost use Rattle.std.specs.Prelude.{◌≡◌, ◌≤◌, ◌<◌, ◌∷◌, ◌++◌, false, [], length, take, slice_get, option_map, Some, None, Err, IsOk, IfOk, IfErr, IfSome};
+ghost use Rattle.std.specs.Prelude.{◌≡◌, ◌==◌, ◌≤◌, ◌<◌, ◌∷◌, ◌++◌, false, [], length, take, slice_get, option_map, option_copied, position, Some, None, Err, IsOk, IfOk, IfErr, IfSome};
 ghost use Rattle.gem_tables.specs.Table.{update_at};
 ghost use Rattle.load_port.specs.Caack.{caack_number};
 ghost use Rattle.carrier.specs.Carriers.{has_name, carrier_named, carrier_numbered, is_known, place_of, change_named, change_numbered, without, with_created, fires_row, starts_row, came_to, directed_to, binds, told_map, read_map, marked_stopped, is_absent_at, absent_count, most_carriers, view_of, AreCarriers};
@@ -66,38 +66,46 @@ impl Carriers {
         self.by_name.len()
     }
 
-    /// The carrier at a place, counted from 0. `None` exactly where there is none.
-    pub fn get(&self, place: usize) -> Option<Carrier>
-        ensures { result ≡ slice_get self.now place }
+    /// All of them.
+    pub fn as_slice(&self) -> &[Carrier]
+        ensures { result.now ≡ self.now }
     {
-        match self.by_name.get_index(place) {
-            Some((_, carrier)) => Some(*carrier),
-            None => None,
-        }
+        self.by_name.values().as_slice()
+    }
+
+    /// The carrier at a place, counted from 0. `None` exactly where there is none.
+    pub fn get(&self, place: usize) -> Option<&Carrier>
+        ensures { option_copied result ≡ slice_get self.now place }
+    {
+        self.as_slice().get(place)
     }
 
     /// The carrier of a name. `None` exactly where none of that name is known.
-    pub fn named(&self, name: Text80) -> Option<Carrier>
-        ensures value { result ≡ carrier_named name self.now }
+    pub fn named(&self, name: Text80) -> Option<&Carrier>
+        ensures value { option_copied result ≡ carrier_named name self.now }
         ensures carriers { AreCarriers self.now }
     {
-        self.by_name.get(&Key { name }).copied()
+        self.by_name.get(&Key { name })
     }
 
     /// The carrier of a number of creation. `None` exactly where none of that number is known.
-    pub fn numbered(&self, number: u64) -> Option<Carrier>
-        ensures value { result ≡ carrier_numbered number self.now }
+    pub fn numbered(&self, number: u64) -> Option<&Carrier>
+        ensures value { option_copied result ≡ carrier_numbered number self.now }
         ensures carriers { AreCarriers self.now }
     {
         let _ = &self.by_name;
-        for place in 0..self.len() {
-            if let Some(carrier) = self.get(place) {
-                if carrier.number == number {
-                    return Some(carrier);
-                }
-            }
-        }
-        None
+        self.as_slice()
+            .iter()
+            .find(|carrier| carrier.number == number)
+    }
+
+    // The place of the carrier of a number of creation, counted from 0.
+    fn place_numbered(&self, number: u64) -> Option<usize>
+        ensures { result ≡ position (λ c. c.number == number) self.now }
+    {
+        self.as_slice()
+            .iter()
+            .position(|carrier| carrier.number == number)
     }
 
     /// The place of the carrier of a name, counted from 0. `None` exactly where none of that name is known.
@@ -122,7 +130,7 @@ impl Carriers {
     pub fn is_known(&self, name: Text80) -> bool
         ensures { result ≡ is_known name self.now }
     {
-        self.named(name).is_some()
+        self.by_name.contains_key(&Key { name })
     }
 
     // ---- what is asked of them
@@ -158,19 +166,19 @@ impl Carriers {
     {
         let known = self.named(a.id);
         match a.word {
-            CarrierWord::Bind => self.bind_code(&known, view_numbered(a.port, ports)),
-            CarrierWord::CancelBind => cancel_bind_code(&known, a.port),
-            CarrierWord::Proceed => proceed_code(&known),
-            CarrierWord::Cancel => cancel_code(&known, job_names_it),
-            CarrierWord::Notify => self.notify_code(&known),
-            CarrierWord::CancelNotify => cancel_notify_code(&known),
+            CarrierWord::Bind => self.bind_code(known, view_numbered(a.port, ports)),
+            CarrierWord::CancelBind => cancel_bind_code(known, a.port),
+            CarrierWord::Proceed => proceed_code(known),
+            CarrierWord::Cancel => cancel_code(known, job_names_it),
+            CarrierWord::Notify => self.notify_code(known),
+            CarrierWord::CancelNotify => cancel_notify_code(known),
             CarrierWord::Unknown => Caack::Unknown,
         }
     }
 
     // What a Bind of this carrier, or of a new one, to this port is answered.
-    fn bind_code(&self, known: &Option<Carrier>, port: Option<PortView>) -> Caack
-        ensures { result ≡ bind_code known.now self.now port }
+    fn bind_code(&self, known: Option<&Carrier>, port: Option<PortView>) -> Caack
+        ensures { result ≡ bind_code (option_copied known.entry) self.now port }
     {
         match port {
             None => Caack::Faulty,
@@ -187,8 +195,8 @@ impl Carriers {
     }
 
     // What a Bind to a port that can take a carrier is answered.
-    fn bind_carrier_code(&self, known: &Option<Carrier>) -> Caack
-        ensures { result ≡ bind_carrier_code known.now self.now }
+    fn bind_carrier_code(&self, known: Option<&Carrier>) -> Caack
+        ensures { result ≡ bind_carrier_code (option_copied known.entry) self.now }
     {
         match known {
             None => self.room_code(),
@@ -197,8 +205,8 @@ impl Carriers {
     }
 
     // What a CarrierNotification is answered.
-    fn notify_code(&self, known: &Option<Carrier>) -> Caack
-        ensures { result ≡ notify_code known.now self.now }
+    fn notify_code(&self, known: Option<&Carrier>) -> Caack
+        ensures { result ≡ notify_code (option_copied known.entry) self.now }
     {
         match known {
             None => self.room_code(),
@@ -296,7 +304,7 @@ impl Carriers {
             self.clear();
             return;
         }
-        let last = self.get(count - 1);
+        let last = self.get(count - 1).copied();
         self.keep_others(count - 1, name);
         if let Some(carrier) = last {
             if !is_named(&carrier, name) {
@@ -312,25 +320,6 @@ impl Carriers {
         self.by_name.clear();
     }
 
-    // The carrier of a place is this one, which has the name of the one that was.
-    fn put(&mut self, place: usize, carrier: Carrier)
-        requires { IfSome (slice_get self.old place) (λ c. c.name ≡ carrier.name) }
-        ensures { self.new ≡ update_at place (λ _. carrier) self.old }
-    {
-        if place < self.by_name.len() {
-            self.by_name[place] = carrier;
-        }
-    }
-
-    // The carrier of this one's name is this one; where none of that name is known, nothing changes.
-    fn replace(&mut self, carrier: Carrier)
-        ensures { self.new ≡ change_named carrier.name (λ _. carrier) self.old }
-    {
-        if let Some(place) = self.place_of(carrier.name.text()) {
-            self.put(place, carrier);
-        }
-    }
-
     /// Fires a row of table 8, 9 or 10 at the carrier of a number of creation: true exactly where there is a carrier of that
     /// number at whose states the row starts. The carrier's state in the row's table is then the row's end, and all else
     /// stays; false changes nothing. What a row wants besides the states is for the caller.
@@ -338,14 +327,9 @@ impl Carriers {
         ensures fires { result ≡ starts_row table row (carrier_numbered number self.old) }
         ensures after { self.new ≡ change_numbered number (fires_row table row) self.old }
     {
-        match self.numbered(number) {
+        match self.place_numbered(number) {
             None => false,
-            Some(carrier) => {
-                let mut changed = carrier;
-                let fires = changed.states.fire(table, row);
-                self.replace(changed);
-                fires
-            }
+            Some(place) => self.by_name[place].states.fire(table, row),
         }
     }
 
@@ -354,9 +338,9 @@ impl Carriers {
         ensures known { result ≡ is_known id self.old }
         ensures after { self.new ≡ change_named id (read_map map) self.old }
     {
-        match self.named(id.text()) {
-            Some(carrier) => {
-                self.replace(Carrier { map, ..carrier });
+        match self.place_of(id.text()) {
+            Some(place) => {
+                self.by_name[place].map = map;
                 true
             }
             None => false,
@@ -368,8 +352,8 @@ impl Carriers {
     pub fn come(&mut self, id: CarrierId, port: PortNo, is_read: bool, map: [u8; 25])
         ensures { self.new ≡ change_named id (came_to port.0 is_read map) self.old }
     {
-        if let Some(carrier) = self.named(id.text()) {
-            self.replace(carrier.came_to(port, is_read, map));
+        if let Some(place) = self.place_of(id.text()) {
+            self.by_name[place].come(port, is_read, map);
         }
     }
 
@@ -378,11 +362,8 @@ impl Carriers {
     pub fn direct(&mut self, id: CarrierId, port: PortNo)
         ensures { self.new ≡ change_named id (directed_to port.0) self.old }
     {
-        if let Some(carrier) = self.named(id.text()) {
-            self.replace(Carrier {
-                port: Some(port),
-                ..carrier
-            });
+        if let Some(place) = self.place_of(id.text()) {
+            self.by_name[place].port = Some(port);
         }
     }
 
@@ -390,11 +371,8 @@ impl Carriers {
     pub fn bind(&mut self, id: CarrierId)
         ensures { self.new ≡ change_named id binds self.old }
     {
-        if let Some(carrier) = self.named(id.text()) {
-            self.replace(Carrier {
-                bound: true,
-                ..carrier
-            });
+        if let Some(place) = self.place_of(id.text()) {
+            self.by_name[place].bound = true;
         }
     }
 
@@ -402,11 +380,8 @@ impl Carriers {
     pub fn tell_map(&mut self, id: CarrierId, map: [u8; 25])
         ensures { self.new ≡ change_named id (told_map map) self.old }
     {
-        if let Some(carrier) = self.named(id.text()) {
-            self.replace(Carrier {
-                host_map: Some(map),
-                ..carrier
-            });
+        if let Some(place) = self.place_of(id.text()) {
+            self.by_name[place].host_map = Some(map);
         }
     }
 
@@ -415,11 +390,8 @@ impl Carriers {
     pub fn mark_stopped(&mut self, name: Text80)
         ensures { self.new ≡ marked_stopped name self.old }
     {
-        if let Some(carrier) = self.named(name) {
-            self.replace(Carrier {
-                stopped: true,
-                ..carrier
-            });
+        if let Some(place) = self.place_of(name) {
+            self.by_name[place].stopped = true;
         }
     }
 }
@@ -464,8 +436,8 @@ fn free_code(carrier: &Carrier) -> Caack
 }
 
 // What a CancelBind with this port is answered.
-fn cancel_bind_code(known: &Option<Carrier>, port: u8) -> Caack
-    ensures { result ≡ cancel_bind_code known.now port }
+fn cancel_bind_code(known: Option<&Carrier>, port: u8) -> Caack
+    ensures { result ≡ cancel_bind_code (option_copied known.entry) port }
 {
     match known {
         None => Caack::Faulty,
@@ -482,8 +454,8 @@ fn cancel_bind_code(known: &Option<Carrier>, port: u8) -> Caack
 }
 
 // What a ProceedWithCarrier is answered.
-fn proceed_code(known: &Option<Carrier>) -> Caack
-    ensures { result ≡ proceed_code known.now }
+fn proceed_code(known: Option<&Carrier>) -> Caack
+    ensures { result ≡ proceed_code (option_copied known.entry) }
 {
     match known {
         None => Caack::Faulty,
@@ -504,8 +476,8 @@ fn proceed_code(known: &Option<Carrier>) -> Caack
 }
 
 // What a CancelCarrier is answered.
-fn cancel_code(known: &Option<Carrier>, job_names_it: bool) -> Caack
-    ensures { result ≡ cancel_code known.now job_names_it }
+fn cancel_code(known: Option<&Carrier>, job_names_it: bool) -> Caack
+    ensures { result ≡ cancel_code (option_copied known.entry) job_names_it }
 {
     match known {
         None => Caack::Faulty,
@@ -530,8 +502,8 @@ fn can_be_stopped(carrier: &Carrier, job_names_it: bool) -> bool
 }
 
 // What a CancelCarrierNotification is answered.
-fn cancel_notify_code(known: &Option<Carrier>) -> Caack
-    ensures { result ≡ cancel_notify_code known.now }
+fn cancel_notify_code(known: Option<&Carrier>) -> Caack
+    ensures { result ≡ cancel_notify_code (option_copied known.entry) }
 {
     match known {
         None => Caack::Faulty,

@@ -1,6 +1,6 @@
 //! The load ports of a tool.
 
-ghost use Rattle.std.specs.Prelude.{◌≡◌, ◌≤◌, length, map, slice_get, option_map, Some, None, IfSome};
+ghost use Rattle.std.specs.Prelude.{◌≡◌, ◌≤◌, length, map, slice_get, option_map, option_copied, Some, None, IfSome};
 ghost use Rattle.std.specs.List.{list_any};
 ghost use Rattle.gem_tables.specs.Table.{update_at};
 ghost use Rattle.load_port.specs.Caack.{caack_number};
@@ -57,15 +57,15 @@ impl Ports {
     }
 
     /// The port at a place, counted from 0. `None` exactly where there is none.
-    pub fn get(&self, place: usize) -> Option<Port>
-        ensures { result ≡ slice_get self.now place }
+    pub fn get(&self, place: usize) -> Option<&Port>
+        ensures { option_copied result ≡ slice_get self.now place }
     {
-        self.ports.as_slice().get(place).copied()
+        self.ports.as_slice().get(place)
     }
 
     /// The port of a number, counted from 1. `None` exactly where there is none.
-    pub fn numbered(&self, number: u64) -> Option<Port>
-        ensures value { result ≡ port_numbered number self.now }
+    pub fn numbered(&self, number: u64) -> Option<&Port>
+        ensures value { option_copied result ≡ port_numbered number self.now }
         ensures few { IfSome result (λ _. number ≤ most_ports) }
     {
         let _ = self.len();
@@ -181,7 +181,7 @@ impl Ports {
         match self.numbered(number) {
             None => false,
             Some(port) => {
-                let mut changed = port;
+                let mut changed = *port;
                 let fires = changed.states.fire(table, row);
                 self.put(number, changed);
                 fires
@@ -194,7 +194,8 @@ impl Ports {
         ensures { self.new ≡ change_port number (λ p. record p { carrier = carrier }) self.old }
     {
         if let Some(port) = self.numbered(number) {
-            self.put(number, Port { carrier, ..port });
+            let changed = Port { carrier, ..*port };
+            self.put(number, changed);
         }
     }
 
@@ -204,13 +205,11 @@ impl Ports {
         ensures { self.new ≡ change_port number (λ p. record p { arrival = Some arrival }) self.old }
     {
         if let Some(port) = self.numbered(number) {
-            self.put(
-                number,
-                Port {
-                    arrival: Some(arrival),
-                    ..port
-                },
-            );
+            let changed = Port {
+                arrival: Some(arrival),
+                ..*port
+            };
+            self.put(number, changed);
         }
     }
 
@@ -220,21 +219,19 @@ impl Ports {
         ensures { self.new ≡ change_port number (λ p. record p { carrier = Some name; arrival = None }) self.old }
     {
         if let Some(port) = self.numbered(number) {
-            self.put(
-                number,
-                Port {
-                    carrier: Some(name),
-                    arrival: None,
-                    ..port
-                },
-            );
+            let changed = Port {
+                carrier: Some(name),
+                arrival: None,
+                ..*port
+            };
+            self.put(number, changed);
         }
     }
 }
 
 // What the host is answered that reserves a port.
-fn reserve_code(port: Option<Port>) -> Caack
-    ensures { result ≡ reserve_code port }
+fn reserve_code(port: Option<&Port>) -> Caack
+    ensures { result ≡ reserve_code (option_copied port.entry) }
 {
     match port {
         None => Caack::Faulty,
@@ -253,8 +250,8 @@ fn reserve_code(port: Option<Port>) -> Caack
 }
 
 // What the host is answered that cancels the reservation of a port.
-fn cancel_code(port: Option<Port>) -> Caack
-    ensures { result ≡ cancel_code port }
+fn cancel_code(port: Option<&Port>) -> Caack
+    ensures { result ≡ cancel_code (option_copied port.entry) }
 {
     match port {
         None => Caack::Faulty,

@@ -1,5 +1,5 @@
 -- Only a carrier that is present is read: the rows that begin it want it to be present, and the others go on from there.
-use Rattle.std.proofs.Common.{◌≡◌, ℕ, true, not, ◌&&◌, List, [], ◌∷◌, Option, Some, refl, subst}
+use Rattle.std.proofs.Common.{◌≡◌, ℕ, true, not, ◌&&◌, [], ◌∷◌, Some, refl, subst}
 use Rattle.std.proofs.lemmas.Bool.{and_parts}
 use Rattle.gem_tables.specs.Table.{is_among}
 use Rattle.carrier.specs.declared.carrier.Carrier.{Carrier}

@@ -1,6 +1,6 @@
 //! The load ports and the carriers together.
 
-ghost use Rattle.std.specs.Prelude.{◌≡◌, ◌≤◌, true, false, not, length, map, slice_get, Some, IfOk, IfErr};
+ghost use Rattle.std.specs.Prelude.{◌≡◌, ◌≤◌, true, false, not, length, map, slice_get, option_copied, Some, IfOk, IfErr};
 ghost use Rattle.gem_tables.specs.Table.{firing};
 ghost use Rattle.load_port.specs.Caack.{is_done_code};
 ghost use Rattle.load_port.specs.Ports.{most_ports, is_no_port, view_of};
@@ -84,7 +84,7 @@ impl ShopFloor {
     pub fn port(&self, place: usize) -> Option<Port>
         ensures { result ≡ slice_get self.now.ports place }
     {
-        self.ports.get(place)
+        self.ports.get(place).copied()
     }
 
     /// Whether there is a port of this number.
@@ -126,8 +126,8 @@ impl ShopFloor {
     }
 
     /// The carrier of a name. `None` exactly where none of that name is known.
-    pub fn carrier_named(&self, name: Text80) -> Option<Carrier>
-        ensures { result ≡ carrier_named name self.now.carriers }
+    pub fn carrier_named(&self, name: Text80) -> Option<&Carrier>
+        ensures { option_copied result ≡ carrier_named name self.now.carriers }
     {
         self.carriers.named(name)
     }
@@ -141,15 +141,15 @@ impl ShopFloor {
     }
 
     /// The carrier of a number of creation. `None` exactly where none of that number is known.
-    pub fn carrier_numbered(&self, number: u64) -> Option<Carrier>
-        ensures { result ≡ carrier_numbered number self.now.carriers }
+    pub fn carrier_numbered(&self, number: u64) -> Option<&Carrier>
+        ensures { option_copied result ≡ carrier_numbered number self.now.carriers }
     {
         self.carriers.numbered(number)
     }
 
     /// The carrier of a place, counted from 0, in the order of creation. `None` exactly where there is none.
-    pub fn carrier(&self, place: usize) -> Option<Carrier>
-        ensures { result ≡ slice_get self.now.carriers place }
+    pub fn carrier(&self, place: usize) -> Option<&Carrier>
+        ensures { option_copied result ≡ slice_get self.now.carriers place }
     {
         self.carriers.get(place)
     }

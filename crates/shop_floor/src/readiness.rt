@@ -33,9 +33,9 @@ fn port_wants(row: RowId, number: PortNo, port: &Port, carriers: &Carriers) -> b
         (6, 3) => port.states.transfer.is_occupied(),
         (7, 1) => directed(number, carriers).is_some(),
         (7, 3) => port.arrival.is_some(),
-        (7, 4) => port.arrival.is_some() && !is_own(port.carrier, port.arrival),
-        (7, 5) => is_own(port.carrier, port.arrival),
-        (7, 7) => is_elsewhere(number, port.carrier, carriers),
+        (7, 4) => port.arrival.is_some() && !is_own(port),
+        (7, 5) => is_own(port),
+        (7, 7) => is_elsewhere(number, port, carriers),
         _ => true,
     }
 }
@@ -72,12 +72,12 @@ fn association_row(number: PortNo, port: &Port, carriers: &Carriers) -> Option<u
     if port.arrival.is_some() {
         if !associated {
             Some(3)
-        } else if is_own(port.carrier, port.arrival) {
+        } else if is_own(port) {
             Some(5)
         } else {
             Some(4)
         }
-    } else if associated && is_elsewhere(number, port.carrier, carriers) {
+    } else if associated && is_elsewhere(number, port, carriers) {
         Some(7)
     } else {
         None
@@ -172,7 +172,7 @@ impl ShopFloor {
                 let number = port_no(x.object);
                 let mut states = port.states;
                 states.fire(x.row.table, x.row.row)
-                    && port_wants(x.row, number, &port, &self.carriers)
+                    && port_wants(x.row, number, port, &self.carriers)
             }
             None => false,
         }
@@ -185,7 +185,7 @@ impl ShopFloor {
     {
         match self.carriers.numbered(x.object) {
             Some(carrier) => {
-                starts_or_creates(x.row, carrier.states) && carrier_wants(x.row, &carrier)
+                starts_or_creates(x.row, carrier.states) && carrier_wants(x.row, carrier)
             }
             None => false,
         }
@@ -200,9 +200,9 @@ impl ShopFloor {
             Some(port) => {
                 let number = port_no(number);
                 match table {
-                    4 => transfer_row(number, &port, &self.carriers),
-                    6 => reservation_row(number, &port, &self.carriers),
-                    _ => association_row(number, &port, &self.carriers),
+                    4 => transfer_row(number, port, &self.carriers),
+                    6 => reservation_row(number, port, &self.carriers),
+                    _ => association_row(number, port, &self.carriers),
                 }
             }
             None => None,
@@ -230,7 +230,7 @@ impl ShopFloor {
     {
         for place in 0..self.carrier_count() {
             if let Some(carrier) = self.carrier(place) {
-                if let Some(row) = carrier_row(table, &carrier) {
+                if let Some(row) = carrier_row(table, carrier) {
                     return Some(Firing::new(table, carrier.number, row));
                 }
             }

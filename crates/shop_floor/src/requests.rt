@@ -163,7 +163,7 @@ fn proceeding(name: Text80, carriers: &Carriers) -> Option<Firing>
     ensures { option_to_list result ≡ proceeding (carrier_named name carriers.now) }
 {
     match carriers.named(name) {
-        Some(carrier) => Some(proceeding_row(&carrier)),
+        Some(carrier) => Some(proceeding_row(carrier)),
         None => None,
     }
 }
@@ -184,7 +184,7 @@ fn cancelling(name: Text80, carriers: &Carriers) -> Option<Firing>
     ensures { option_to_list result ≡ cancelling (carrier_named name carriers.now) }
 {
     match carriers.named(name) {
-        Some(carrier) => Some(cancelling_row(&carrier)),
+        Some(carrier) => Some(cancelling_row(carrier)),
         None => None,
     }
 }

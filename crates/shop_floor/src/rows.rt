@@ -87,10 +87,12 @@ fn bind(port: u64, ports: &mut Ports, carriers: &mut Carriers)
     requires { port ≤ most_ports }
     ensures { (next : ℕ) → floor_of ports.new carriers.new next ≡ binding port (floor_of ports.old carriers.old next) }
 {
-    if let Some(carrier) = directed(port_no(port), carriers) {
-        ports.own(port, Some(carrier.name));
-        carriers.bind(carrier.name);
-    }
+    let name = match directed(port_no(port), carriers) {
+        Some(carrier) => carrier.name,
+        None => return,
+    };
+    ports.own(port, Some(name));
+    carriers.bind(name);
 }
 
 // Rows 2 and 6: the carrier of the port of a number is forgotten.

@@ -1,6 +1,6 @@
 //! The floor of the tool.
 
-ghost use Rattle.std.specs.Prelude.{◌≡◌, ◌≤◌, ◌<◌, ◌==◌, slice_get, ◌∷◌, [], true, false, not, is_some, length, Option, option_map, IfOk, IfErr};
+ghost use Rattle.std.specs.Prelude.{◌≡◌, ◌≤◌, ◌<◌, ◌==◌, slice_get, ◌∷◌, [], true, false, not, is_some, None, length, Option, option_map, option_copied, IfOk, IfErr};
 ghost use Rattle.std.specs.Option.{option_to_list};
 ghost use Rattle.gem_tables.specs.Table.{is_one_of};
 ghost use Rattle.load_port.specs.Caack.{is_done_code};
@@ -14,6 +14,7 @@ ghost use Rattle.floor_model.specs.Floor.{opening, with_shop, fetched, change_lo
 ghost use Rattle.floor_model.specs.Substrates.{without_carrier, removed_where};
 ghost use Rattle.floor_model.specs.Machines.{registered_by, floor_starts, floor_fired, floor_least, creation_rows, object_name};
 ghost use Rattle.floor_model.specs.Jobs.{carrier_code};
+ghost use Rattle.tool_floor.specs.Located.{first_location};
 ghost use Rattle.floor_model.specs.Signals.{is_no_module};
 
 use crate::jobs::{CONTROL_JOB, PROCESS_JOB};
@@ -244,8 +245,8 @@ impl ToolFloor {
     }
 
     // The carrier of a place, counted from 0.
-    pub(crate) fn carrier_at(&self, place: usize) -> Option<Carrier>
-        ensures { result ≡ slice_get self.now.shop.carriers place }
+    pub(crate) fn carrier_at(&self, place: usize) -> Option<&Carrier>
+        ensures { option_copied result ≡ slice_get self.now.shop.carriers place }
     {
         self.shop.carrier(place)
     }
@@ -338,13 +339,21 @@ impl ToolFloor {
     pub fn least(&self) -> Option<Firing>
         ensures { result ≡ floor_least self.now }
     {
+        self.least_where(false)
+    }
+
+    // The least row that is ready by itself, where it may be known that none of a location is, and they need not be asked.
+    pub(crate) fn least_where(&self, locations_rest: bool) -> Option<Firing>
+        requires { locations_rest ≡ true → first_location self.now ≡ None }
+        ensures { result ≡ floor_least self.now }
+    {
         if let Some(x) = self.least_of_shop() {
             return Some(x);
         }
         if let Some(x) = self.ready_accessing() {
             return Some(x);
         }
-        if let Some(x) = self.ready_location() {
+        if let Some(x) = self.ready_location_where(locations_rest) {
             return Some(x);
         }
         if let Some(x) = self.ready_transport() {
@@ -478,7 +487,7 @@ impl ToolFloor {
         ensures { IfOk result (λ _. self.new ≡ registered_by x.row.row x.object self.old) }
     {
         if x.row.row == 1 || x.row.row == 3 {
-            if let Some(carrier) = self.shop.carrier_numbered(x.object) {
+            if let Some(carrier) = self.shop.carrier_numbered(x.object).copied() {
                 self.register(&carrier)?;
             }
         }

@@ -26,7 +26,7 @@ fn is_any_carrier_of(name: Text80, number: u64, shop: &ShopFloor) -> bool
 {
     for place in 0..shop.carrier_count() {
         if let Some(carrier) = shop.carrier(place) {
-            if is_carrier_of(name, number, &carrier) {
+            if is_carrier_of(name, number, carrier) {
                 return true;
             }
         }
@@ -117,7 +117,7 @@ fn is_material_here(shop: &ShopFloor, material: &Material) -> bool
     ensures { result ≡ is_material_here shop.now material.now }
 {
     match shop.carrier_named(material.carrier) {
-        Some(carrier) => is_carrier_here(&carrier),
+        Some(carrier) => is_carrier_here(carrier),
         None => false,
     }
 }

@@ -1,6 +1,6 @@
 //! Which rows of tables 10 to 13 start, and which are ready by themselves (this tool's profile, tables 10 to 13 and settling).
 
-ghost use Rattle.std.specs.Prelude.{◌≡◌, ◌∷◌, [], true, map, Some};
+ghost use Rattle.std.specs.Prelude.{◌≡◌, ◌∷◌, [], true, map, Some, None};
 ghost use Rattle.gem_tables.specs.Table.{first_itself, is_one_of};
 ghost use Rattle.gem_tables.specs.Machine.{first_ready, ready_in};
 ghost use Rattle.carrier.specs.Tables.{access_number, accessing_table};
@@ -10,6 +10,7 @@ ghost use Rattle.shop_floor.specs.Floor.{number_of as carrier_number};
 ghost use Rattle.floor_model.specs.Floor.{ToolFloor, location_at, location_numbers, substrate_numbered, number_of};
 ghost use Rattle.floor_model.specs.Wants.{accessing_wants, location_wants, substrate_wants, ending_row};
 ghost use Rattle.floor_model.specs.Machines.{floor_machines, floor_starts, location_ready};
+ghost use Rattle.tool_floor.specs.Located.{first_location};
 
 use crate::floor::ToolFloor;
 use carrier::{Accessing, Carrier};
@@ -37,7 +38,7 @@ impl ToolFloor {
         match self.shop.carrier_numbered(x.object) {
             Some(carrier) => {
                 let mut states = carrier.states;
-                states.fire(ACCESSING, x.row.row) && self.accessing_wants(x.row.row, &carrier)
+                states.fire(ACCESSING, x.row.row) && self.accessing_wants(x.row.row, carrier)
             }
             None => false,
         }
@@ -72,7 +73,7 @@ impl ToolFloor {
     {
         for place in 0..self.carrier_count() {
             if let Some(carrier) = self.carrier_at(place) {
-                if let Some(row) = self.accessing_row(&carrier) {
+                if let Some(row) = self.accessing_row(carrier) {
                     return Some(Firing::new(ACCESSING, carrier.number, row));
                 }
             }
@@ -132,6 +133,18 @@ impl ToolFloor {
             }
         }
         None
+    }
+
+    // The same, where it may be known that there is none.
+    pub(crate) fn ready_location_where(&self, locations_rest: bool) -> Option<Firing>
+        requires { locations_rest ≡ true → first_location self.now ≡ None }
+        ensures { result ≡ first_location self.now }
+    {
+        if locations_rest {
+            None
+        } else {
+            self.ready_location()
+        }
     }
 
     // ---- substrates

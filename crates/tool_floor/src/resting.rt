@@ -1,6 +1,6 @@
-//! The floor of the tool, with whether it is known that no row of it is ready by itself.
+//! The floor of the tool, with what is known of the rows of it that are ready by themselves.
 
-ghost use Rattle.std.specs.Prelude.{◌≡◌, ◌==◌, true, false, None, Some, is_some, Err, IfOk, IfErr};
+ghost use Rattle.std.specs.Prelude.{◌≡◌, ◌==◌, ◌≤◌, true, false, None, Some, is_some, Err, IfOk, IfErr, IfSome, IsTrue};
 ghost use Rattle.load_port.specs.Caack.{is_done_code};
 ghost use Rattle.load_port.specs.Ports.{is_no_port};
 ghost use Rattle.robot_moves.specs.Modules.{module_at, unfetched};
@@ -15,11 +15,14 @@ ghost use Rattle.tool_jobs.specs.declared.fault.ControlFault.TheVariants as cont
 ghost use Rattle.floor_model.specs.Floor.{with_shop, with_jobs, fetched};
 ghost use Rattle.floor_model.specs.Machines.{floor_starts, floor_fired, floor_least, creation_rows};
 ghost use Rattle.floor_model.specs.Jobs.{carrier_code};
+ghost use Rattle.tool_floor.specs.Located.{leaves_places};
 
 use crate::floor::ToolFloor;
+use crate::readiness::{LOCATION, PROCESSING};
+use crate::rows::MOVES;
 use carrier::CarrierAction;
 use gem_ids::{JobId, ModuleId, PortNo};
-use gem_tables::Firing;
+use gem_tables::{Firing, RowId};
 use load_port::Arrival;
 use process_job::{JobFault, JobSpec};
 use std::alloc::{AllocError, Global};
@@ -28,23 +31,47 @@ use tool_jobs::ControlFault;
 use tool_tasks::Command;
 
 /// The floor of the tool for one who asks again and again which row is ready by itself: where none was, it is not looked again before
-/// something changes. Contracts see it as the floor. Each call is that of `ToolFloor`, which `floor` gives for what only reads.
+/// something changes, and the many locations are not asked before one of them may have changed. Contracts see it as the floor. Each call
+/// is that of `ToolFloor`, which `floor` gives for what only reads.
 #[derive(Drop)]
 pub struct RestingFloor {
     floor: ToolFloor,
     rests: bool,
+    locations_rest: bool,
+}
+
+// Whether a row leaves which substrate has which place, and the states of the locations.
+fn leaves_places(row: RowId) -> bool
+    ensures { result ≡ leaves_places row.table row.row }
+{
+    match row.table {
+        7 => row.row != 6,
+        9 => row.row != 1 && row.row != 3,
+        PROCESSING => row.row != 8,
+        LOCATION | MOVES => false,
+        _ => true,
+    }
+}
+
+// Whether the least row that is ready is of a later table than the locations, or there is none.
+fn is_past_locations(least: &Option<Firing>) -> bool
+    ensures { IsTrue result → IfSome least.now (λ x. 12 ≤ x.row.table) }
+{
+    match least {
+        Some(x) => x.row.table > LOCATION,
+        None => true,
+    }
 }
 
 impl Model for RestingFloor {
-    ghost use Rattle.std.specs.Prelude.{◌≡◌, true, None};
     ghost use Rattle.floor_model.specs.Floor.{ToolFloor};
-    ghost use Rattle.floor_model.specs.Machines.{floor_least};
+    ghost use Rattle.tool_floor.specs.Located.{AreKnown};
 
     ghost Value = { ToolFloor };
 
     ghost view = { λ r. r.floor };
 
-    ghost invariant = { λ r. r.rests ≡ true → floor_least r.floor ≡ None };
+    ghost invariant = { λ r. AreKnown r.rests r.locations_rest r.floor };
 }
 
 impl RestingFloor {
@@ -55,6 +82,7 @@ impl RestingFloor {
         RestingFloor {
             floor,
             rests: false,
+            locations_rest: false,
         }
     }
 
@@ -73,10 +101,9 @@ impl RestingFloor {
         if self.rests {
             return None;
         }
-        let least = self.floor.least();
-        if least.is_none() {
-            self.rests = true;
-        }
+        let least = self.floor.least_where(self.locations_rest);
+        self.locations_rest = self.locations_rest || is_past_locations(&least);
+        self.rests = least.is_none();
         least
     }
 
@@ -88,8 +115,12 @@ impl RestingFloor {
         ensures follow { IfOk result (λ rows. rows.items ≡ creation_rows x self.old) }
         ensures err { (x.row.table == 9) ≡ false → IfErr result (λ _. self.new ≡ self.old) }
     {
+        let locations_rest = self.locations_rest && leaves_places(x.row);
         self.rests = false;
-        self.floor.fire(alloc, x)
+        self.locations_rest = false;
+        let rows = self.floor.fire(alloc, x)?;
+        self.locations_rest = locations_rest;
+        Ok(rows)
     }
 
     /// What an action on a carrier writes that can be done, as `ToolFloor::write` says. `AllocError`: there is no memory for a carrier,

@@ -5,4 +5,4 @@ use Rattle.carrier.proofs.carriers.Carriers.named.Goals as goal
 
 pub returns-clause-value : goal.returns-clause-value
 returns-clause-value c =
-    c.copied.ensures ∙ c.get.ensures.value ∙ lookup_is c.args.name c.self.inside.by_name.entries c.self.invariant.keyed ∙ ap (carrier_named c.args.name) c.self.view_is
+    c.get.ensures.value ∙ lookup_is c.args.name c.self.inside.by_name.entries c.self.invariant.keyed ∙ ap (carrier_named c.args.name) c.self.view_is

@@ -1,4 +1,4 @@
-use Rattle.std.proofs.Common.{◌≡◌, ◌+◌, List, Option, Some, sym, ap, ◌∙◌}
+use Rattle.std.proofs.Common.{◌+◌, List, Option, Some, sym, ap, ◌∙◌}
 use Rattle.robot_moves.specs.declared.module.Module.{Module}
 use Rattle.robot_moves.specs.declared.view.Move.{Move}
 use Rattle.floor_model.specs.Floor.{ToolFloor}

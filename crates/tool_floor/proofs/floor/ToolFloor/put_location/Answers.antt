@@ -1,4 +1,4 @@
-use Rattle.std.proofs.Common.{◌≡◌, ◌≤◌, ◌<◌, ◌∙◌, ap, sym, subst, length, List, arith}
+use Rattle.std.proofs.Common.{◌≤◌, ◌<◌, ◌∙◌, ap, sym, length, List, arith}
 use Rattle.substrate.specs.declared.record.LocationRecord.{LocationRecord}
 use Rattle.floor_model.specs.Floor.{ToolFloor, change_location}
 use Rattle.floor_model.proofs.Scans.{location_set, location_past}

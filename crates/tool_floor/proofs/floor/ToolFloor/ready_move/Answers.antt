@@ -1,4 +1,4 @@
-use Rattle.std.proofs.Common.{ℕ, Option, Some, option_map, sym, ap, ◌∙◌}
+use Rattle.std.proofs.Common.{ℕ, Some, option_map, sym, ap, ◌∙◌}
 use Rattle.gem_tables.specs.Table.{firing}
 use Rattle.gem_tables.specs.declared.firing.Firing.{Firing}
 use Rattle.floor_model.specs.Views.{views}

@@ -1,4 +1,4 @@
-use Rattle.std.proofs.Common.{◌≡◌, ◌+◌, false, List, [], ◌∷◌, ◌++◌, subst, sym, ap, ◌∙◌, arith}
+use Rattle.std.proofs.Common.{◌+◌, false, List, [], ◌∷◌, ◌++◌, subst, sym, ap, arith}
 use Rattle.substrate.specs.Places.{PlaceMap}
 use Rattle.floor_model.specs.Floor.{RiseTo}
 use Rattle.floor_model.specs.declared.tracked.Substrate.{Substrate}

@@ -1,4 +1,4 @@
-use Rattle.std.proofs.Common.{not, subst, sym, ap, List}
+use Rattle.std.proofs.Common.{not, subst, sym}
 use Rattle.floor_model.specs.Floor.{RiseTo}
 use Rattle.floor_model.specs.Substrates.{is_of}
 use Rattle.floor_model.specs.declared.tracked.Substrate.{Substrate}

@@ -1,6 +1,6 @@
 //! The substrates that have a place, found by their names.
 
-ghost use Rattle.std.specs.Prelude.{◌≡◌, ◌++◌, [], ◌∷◌, true, false, length, slice_get, Some, IfOk, IfErr, IfSome};
+ghost use Rattle.std.specs.Prelude.{◌≡◌, ◌++◌, [], ◌∷◌, true, false, length, slice_get, option_copied, Some, IfOk, IfErr, IfSome};
 ghost use Rattle.gem_tables.specs.Table.{update_at};
 ghost use Rattle.substrate.specs.Places.{substrate_named, is_known, index_of, moved, without, are_named_apart};
 
@@ -57,11 +57,11 @@ impl Names {
     }
 
     // The substrate of a name.
-    pub(crate) fn named(&self, sub: SubstrateId) -> Option<Registered>
-        ensures value { result ≡ substrate_named sub self.now }
+    pub(crate) fn named(&self, sub: SubstrateId) -> Option<&Registered>
+        ensures value { option_copied result ≡ substrate_named sub self.now }
         ensures apart { are_named_apart self.now ≡ true }
     {
-        self.by_name.get(&Key { name: sub }).copied()
+        self.by_name.get(&Key { name: sub })
     }
 
     // The place of the substrate of a name in the list, counted from 0.
@@ -115,10 +115,11 @@ impl Names {
         }
     }
 
-    // The substrate of a name isn't there any more; the others keep their order.
-    pub(crate) fn forget(&mut self, sub: SubstrateId)
-        ensures { self.new ≡ without sub self.old }
+    // The substrate of a name isn't there any more; the others keep their order. It gives the one that was.
+    pub(crate) fn forget(&mut self, sub: SubstrateId) -> Option<Registered>
+        ensures found { result ≡ substrate_named sub self.old }
+        ensures after { self.new ≡ without sub self.old }
     {
-        self.by_name.shift_remove(&Key { name: sub });
+        self.by_name.shift_remove(&Key { name: sub })
     }
 }

@@ -86,7 +86,7 @@ impl Places {
         ensures value { result ≡ substrate_named sub self.now.held }
         ensures places { ArePlaces self.now }
     {
-        self.names.named(sub)
+        self.names.named(sub).copied()
     }
 
     /// The substrate at a location. `None` exactly where none is there.
@@ -197,7 +197,7 @@ impl Places {
     fn is_known(&self, sub: SubstrateId) -> bool
         ensures { result ≡ is_known sub self.now.held }
     {
-        self.find(sub).is_some()
+        self.names.named(sub).is_some()
     }
 
     // Registers a substrate for which nothing but memory can be wanting.
@@ -262,7 +262,7 @@ impl Places {
     fn is_at(&self, sub: SubstrateId, loc: LocId) -> bool
         ensures { result ≡ has_place sub loc self.now.held }
     {
-        match self.find(sub) {
+        match self.names.named(sub) {
             Some(substrate) => is_same(substrate.at, loc),
             None => false,
         }
@@ -274,18 +274,12 @@ impl Places {
         ensures removes { result ≡ is_known sub self.old.held }
         ensures after { self.new ≡ removed sub self.old }
     {
-        let known = self.is_known(sub);
-        self.take_out(sub);
-        known
-    }
-
-    // The substrate of a name has no place any more, where one has.
-    fn take_out(&mut self, sub: SubstrateId)
-        ensures { self.new ≡ removed sub self.old }
-    {
-        if let Some(substrate) = self.names.named(sub) {
-            self.names.forget(sub);
-            self.board.put(substrate.at, None);
+        match self.names.forget(sub) {
+            Some(substrate) => {
+                self.board.put(substrate.at, None);
+                true
+            }
+            None => false,
         }
     }
 }

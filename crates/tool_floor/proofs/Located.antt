@@ -1,11 +1,11 @@
 -- When no row of a location is ready.
-use Rattle.std.proofs.Common.{◌≡◌, ℕ, ◌==◌, ◌≤◌, Bool, true, false, not, if◌then◌else◌, cond, List, [], ◌∷◌, map, Option, Some, None, is_some, IfSome, refl, sym, ap, subst, ◌∙◌, arith}
+use Rattle.std.proofs.Common.{◌≡◌, ℕ, ◌==◌, ◌≤◌, ◌<◌, Bool, true, false, not, if◌then◌else◌, cond, List, [], ◌∷◌, map, Option, Some, None, is_some, option_map, IfSome, refl, sym, ap, subst, ◌∙◌, arith}
 use Rattle.std.specs.List.{AllByRecursion}
 use Rattle.std.specs.Option.{option_or}
 use Rattle.std.proofs.lemmas.Bool.{true≢false}
 use Rattle.std.proofs.lemmas.Bool.Decides.{nat_tests}
-use Rattle.gem_tables.specs.Table.{row_of}
-use Rattle.gem_tables.specs.Machine.{Machine, first_ready, fired_in}
+use Rattle.gem_tables.specs.Table.{row_of, firing}
+use Rattle.gem_tables.specs.Machine.{Machine, first_ready, ready_in, fired_in}
 use Rattle.gem_tables.specs.declared.firing.Firing.{Firing}
 use Rattle.gem_tables.proofs.Machines.{first_ready_cases}
 use Rattle.process_job.specs.Tables.{JobRow, JobEffect, job_table}
@@ -16,16 +16,16 @@ use Rattle.carrier.specs.Carriers.{carrier_numbered}
 use Rattle.shop_floor.specs.Floor.{Floor, number_of as carrier_number}
 use Rattle.shop_floor.specs.Machines.{floor_least as shop_least}
 use Rattle.shop_floor.proofs.Shapes.{of_tables}
-use Rattle.substrate.specs.Tables.{SubstrateRow, processing_table}
+use Rattle.substrate.specs.Tables.{SubstrateRow, transport_number, transport_table, processing_number, processing_table}
 use Rattle.substrate.specs.declared.record.LocationRecord.{LocationRecord}
 use Rattle.substrate.specs.declared.record.Processing.{Processing}
 use Rattle.floor_model.specs.declared.tracked.Substrate.{Substrate}
-use Rattle.floor_model.specs.Floor.{ToolFloor, with_shop, location_at, location_numbers, substrate_numbered}
+use Rattle.floor_model.specs.Floor.{ToolFloor, with_shop, location_at, location_numbers, substrate_numbered, number_of}
 use Rattle.floor_model.specs.Jobs.{job_does, found_job_does}
 use Rattle.floor_model.specs.Substrates.{found_does, reaches_verified}
-use Rattle.floor_model.specs.Machines.{accessing_ready, location_ready, processing_machine, process_machine, floor_machines, floor_fired, floor_least}
-use Rattle.floor_model.proofs.Tables.{first_accessing, least_floor}
-use Rattle.tool_floor.specs.Located.{first_location, leaves_places}
+use Rattle.floor_model.specs.Machines.{accessing_ready, substrate_ready, location_ready, processing_machine, process_machine, floor_machines, floor_fired, floor_least}
+use Rattle.floor_model.proofs.Tables.{first_accessing, least_floor, first_process, first_control, first_move, first_of_others}
+use Rattle.tool_floor.specs.Located.{first_location, first_transport, first_processing, NoSubstrates, leaves_places, is_of_shop}
 
 -- ---- it is asked of the places and of the states of the locations alone
 
@@ -48,39 +48,94 @@ still_none f g same none is =
     ∙ first_same f g f.locations same.places (location_numbers 1 f.locations)
     ∙ none is
 
+-- ---- those of substrates are asked of all but the load ports and the carriers
+
+module _ (f : ToolFloor) (s : Floor) where
+  transport_same : (o : Option Substrate) → substrate_ready transport_number transport_table (λ r. r.transport) o (with_shop s f) ≡ substrate_ready transport_number transport_table (λ r. r.transport) o f
+  transport_same None = refl
+  transport_same (Some t) = refl
+
+  processing_same : (o : Option Substrate) → substrate_ready processing_number processing_table (λ r. r.processing) o (with_shop s f) ≡ substrate_ready processing_number processing_table (λ r. r.processing) o f
+  processing_same None = refl
+  processing_same (Some t) = refl
+
+  first_transport_same : (numbers : List ℕ) → first_ready 12 (λ n. ready_in floor_machines 12 n (with_shop s f)) numbers ≡ first_ready 12 (λ n. ready_in floor_machines 12 n f) numbers
+  first_transport_same [] = refl
+  first_transport_same (n ∷ ns) = ap (λ (r : Option ℕ). option_or (option_map (firing 12 n) r) (first_ready 12 (λ m. ready_in floor_machines 12 m (with_shop s f)) ns)) (transport_same (substrate_numbered n f.substrates))
+      ∙ ap (λ (r : Option Firing). option_or (option_map (firing 12 n) (ready_in floor_machines 12 n f)) r) (first_transport_same ns)
+
+  first_processing_same : (numbers : List ℕ) → first_ready 13 (λ n. ready_in floor_machines 13 n (with_shop s f)) numbers ≡ first_ready 13 (λ n. ready_in floor_machines 13 n f) numbers
+  first_processing_same [] = refl
+  first_processing_same (n ∷ ns) = ap (λ (r : Option ℕ). option_or (option_map (firing 13 n) r) (first_ready 13 (λ m. ready_in floor_machines 13 m (with_shop s f)) ns)) (processing_same (substrate_numbered n f.substrates))
+      ∙ ap (λ (r : Option Firing). option_or (option_map (firing 13 n) (ready_in floor_machines 13 n f)) r) (first_processing_same ns)
+
+  pub still_no_substrates : NoSubstrates f → NoSubstrates (with_shop s f)
+  still_no_substrates none = record {
+    transport = first_transport_same (map number_of f.substrates) ∙ none.transport;
+    processing = first_processing_same (map number_of f.substrates) ∙ none.processing;
+  }
+
 -- ---- what the least row tells of it
 
-none_of_none : (a b l rest : Option Firing) → option_or a (option_or b (option_or l rest)) ≡ None → l ≡ None
-none_of_none (Some x) b l rest e = absurd (cc)
-none_of_none None (Some x) l rest e = absurd (cc)
-none_of_none None None (Some x) rest e = absurd (cc)
-none_of_none None None None rest e = refl
+-- a row that is ready is of no later table than this
+abbrev Below : ℕ → Option Firing → Type 0
+Below table o = (x : Firing) → o ≡ Some x → x.row.table ≤ table
 
-abbrev Below : Option Firing → Type 0
-Below o = (x : Firing) → o ≡ Some x → x.row.table ≤ 11
+-- what is found is of a later table, or nothing is
+abbrev pub IsPast : ℕ → Option Firing → Type 0
+IsPast table o = IfSome o (λ x. table < x.row.table)
 
-none_of_later : (a b l rest : Option Firing) (x : Firing) → Below a → Below b → Below l → option_or a (option_or b (option_or l rest)) ≡ Some x → 12 ≤ x.row.table → l ≡ None
-none_of_later (Some y) b l rest x h i j e later = let low = h x e in absurd (omega (arith, low, later))
-none_of_later None (Some y) l rest x h i j e later = let low = i x e in absurd (omega (arith, low, later))
-none_of_later None None (Some y) rest x h i j e later = let low = j x e in absurd (omega (arith, low, later))
-none_of_later None None None rest x h i j e later = refl
+-- of two searches the first found nothing, where what was found is of a later table than its own
+none_first : (table : ℕ) (a rest o : Option Firing) → Below table a → option_or a rest ≡ o → IsPast table o → (a ≡ None) × (rest ≡ o)
+none_first table (Some y) rest None low e past = absurd (cc)
+none_first table (Some y) rest (Some x) low e past = let is = low x e in absurd (omega (arith, is, past))
+none_first table None rest o low e past = (refl, e)
 
-ready_below : (table : ℕ) (ready : ℕ → Option ℕ) (objects : List ℕ) → table ≤ 11 → Below (first_ready table ready objects)
-ready_below table ready objects low x e = first_ready_cases (λ y. y.row.table ≤ 11) table ready objects x (λ object row r. low) e
+ready_below : (most table : ℕ) (ready : ℕ → Option ℕ) (objects : List ℕ) → table ≤ most → Below most (first_ready table ready objects)
+ready_below most table ready objects low x e = first_ready_cases (λ y. y.row.table ≤ most) table ready objects x (λ object row r. low) e
 
-accessing_below : (f : ToolFloor) → Below (first_accessing f)
-accessing_below f = ready_below 10 (λ carrier. accessing_ready (carrier_numbered carrier f.shop.carriers) f) (map carrier_number f.shop.carriers) (omega arith)
+shop_below : (most : ℕ) (s : Floor) → 9 ≤ most → Below most (shop_least s)
+shop_below most s l x e = of_tables (λ n. n ≤ most) s x (omega (arith, l), (omega (arith, l), (omega (arith, l), (omega (arith, l), (omega (arith, l), tt))))) e
 
-location_below : (f : ToolFloor) → Below (first_location f)
-location_below f = ready_below 11 (λ number. location_ready number (location_at number f.locations) f) (location_numbers 1 f.locations) (omega arith)
+module _ (f : ToolFloor) (most : ℕ) where
+  accessing_below : 10 ≤ most → Below most (first_accessing f)
+  accessing_below l = ready_below most 10 (λ carrier. accessing_ready (carrier_numbered carrier f.shop.carriers) f) (map carrier_number f.shop.carriers) l
 
-shop_below : (s : Floor) → Below (shop_least s)
-shop_below s x e = of_tables (λ n. n ≤ 11) s x (omega arith, (omega arith, (omega arith, (omega arith, (omega arith, tt))))) e
+  location_below : 11 ≤ most → Below most (first_location f)
+  location_below l = ready_below most 11 (λ number. location_ready number (location_at number f.locations) f) (location_numbers 1 f.locations) l
 
-pub least_tells : (f : ToolFloor) (o : Option Firing) → floor_least f ≡ o → IfSome o (λ x. 12 ≤ x.row.table) → first_location f ≡ None
-least_tells f None e later = none_of_none (shop_least f.shop) (first_accessing f) (first_location f) _ (sym (least_floor f) ∙ e)
-least_tells f (Some x) e later =
-    none_of_later (shop_least f.shop) (first_accessing f) (first_location f) _ x (shop_below f.shop) (accessing_below f) (location_below f) (sym (least_floor f) ∙ e) later
+  transport_below : 12 ≤ most → Below most (first_transport f)
+  transport_below l = ready_below most 12 (λ n. ready_in floor_machines 12 n f) (map number_of f.substrates) l
+
+  processing_below : 13 ≤ most → Below most (first_processing f)
+  processing_below l = ready_below most 13 (λ n. ready_in floor_machines 13 n f) (map number_of f.substrates) l
+
+-- the rows of tables from 14 on
+abbrev first_late : ToolFloor → Option Firing
+first_late f = option_or (first_process f) (option_or (first_control f) (first_move f))
+
+module _ (f : ToolFloor) (o : Option Firing) (e : floor_least f ≡ o) where
+  past_accessing : (most : ℕ) → 11 ≤ most → IsPast most o → option_or (first_location f) (option_or (first_transport f) (option_or (first_processing f) (first_late f))) ≡ o
+  past_accessing most l past =
+      let low : 9 ≤ most = omega (arith, l) in
+      let lower : 10 ≤ most = omega (arith, l) in
+      let shop = none_first most (shop_least f.shop) (first_of_others f) o (shop_below most f.shop low) (sym (least_floor f) ∙ e) past in
+      (none_first most (first_accessing f) (option_or (first_location f) (option_or (first_transport f) (option_or (first_processing f) (first_late f)))) o (accessing_below f most lower) shop.1 past).1
+
+  pub least_tells : IsPast 11 o → first_location f ≡ None
+  least_tells past =
+      let low : 11 ≤ 11 = omega arith in
+      (none_first 11 (first_location f) (option_or (first_transport f) (option_or (first_processing f) (first_late f))) o (location_below f 11 low) (past_accessing 11 low past) past).0
+
+  pub substrates_told : IsPast 13 o → NoSubstrates f
+  substrates_told past =
+      let low : 11 ≤ 13 = omega arith in
+      let next : 12 ≤ 13 = omega arith in
+      let last : 13 ≤ 13 = omega arith in
+      let location = none_first 13 (first_location f) (option_or (first_transport f) (option_or (first_processing f) (first_late f))) o (location_below f 13 low) (past_accessing 13 low past) past in
+      let transport = none_first 13 (first_transport f) (option_or (first_processing f) (first_late f)) o (transport_below f 13 next) location.1 past in
+      let processing = none_first 13 (first_processing f) (first_late f) o (processing_below f 13 last) transport.1 past in
+      record { transport = transport.0; processing = processing.0 }
 
 -- where none was found, there is none
 pub least_none : (f : ToolFloor) (o : Option Firing) (none : Bool) → o ≡ floor_least f → is_some o ≡ not none → none ≡ true → floor_least f ≡ None
@@ -185,3 +240,60 @@ row_leaves x f leaves =
         ),
       ),
     )
+
+-- ---- the rows that change the load ports and the carriers alone
+
+shop_at : (table t row : ℕ) → (table == t) ≡ true → is_of_shop table row ≡ true → is_of_shop t row ≡ true
+shop_at table t row is shop = let same : table ≡ t = grind (arith, nat_tests, is) in subst (λ (n : ℕ). is_of_shop n row ≡ true) same shop
+
+-- all but them stays
+abbrev pub IsBeside : ToolFloor → ToolFloor → Type 0
+IsBeside f g = g ≡ with_shop g.shop f
+
+beside_stays : (b : Bool) (f g : ToolFloor) (s : Floor) → b ≡ false → IsBeside f (with_shop s (if b then g else f))
+beside_stays true f g s e = absurd (true≢false e)
+beside_stays false f g s e = refl
+
+pub row_of_shop : (x : Firing) (f : ToolFloor) → is_of_shop x.row.table x.row.row ≡ true → IsBeside f (floor_fired x f)
+row_of_shop x f shop =
+    fired_cases (IsBeside f) f x floor_machines refl (
+      (λ t. refl),
+      (
+        (λ t. refl),
+        (
+          (λ t. refl),
+          (
+            (λ t. beside_stays (x.row.row == 6) f _ _ (is_not (x.row.row == 6) (shop_at x.row.table 7 x.row.row t shop))),
+            (
+              (λ t. refl),
+              (
+                (λ t. beside_stays (reaches_verified x.row.row) f _ _ (is_not (reaches_verified x.row.row) (shop_at x.row.table 9 x.row.row t shop))),
+                (
+                  (λ t. refl),
+                  (
+                    (λ t. absurd (true≢false (sym (shop_at x.row.table 11 x.row.row t shop)))),
+                    (
+                      (λ t. absurd (true≢false (sym (shop_at x.row.table 12 x.row.row t shop)))),
+                      (
+                        (λ t. absurd (true≢false (sym (shop_at x.row.table 13 x.row.row t shop)))),
+                        (
+                          (λ t. absurd (true≢false (sym (shop_at x.row.table 14 x.row.row t shop)))),
+                          (
+                            (λ t. absurd (true≢false (sym (shop_at x.row.table 15 x.row.row t shop)))),
+                            ((λ t. absurd (true≢false (sym (shop_at x.row.table 16 x.row.row t shop)))), tt),
+                          ),
+                        ),
+                      ),
+                    ),
+                  ),
+                ),
+              ),
+            ),
+          ),
+        ),
+      ),
+    )
+
+-- so none of a substrate is ready behind one, where none was
+pub still_none_of : {known : Bool} (f g : ToolFloor) → IsBeside f g → (known ≡ true → NoSubstrates f) → known ≡ true → NoSubstrates g
+still_none_of f g beside none is = subst NoSubstrates (sym beside) (still_no_substrates f g.shop (none is))

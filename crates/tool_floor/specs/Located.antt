@@ -1,11 +1,11 @@
 -- What is known of the rows that are ready by themselves, from one search for the least to the next.
-use Rattle.std.specs.Prelude.{◌≡◌, ℕ, ◌==◌, Bool, true, not, if◌then◌else◌, [], ◌∷◌, Option, None}
+use Rattle.std.specs.Prelude.{◌≡◌, ℕ, ◌==◌, Bool, true, not, if◌then◌else◌, [], ◌∷◌, map, Option, None}
 use Rattle.gem_tables.specs.Table.{is_one_of}
-use Rattle.gem_tables.specs.Machine.{first_ready}
+use Rattle.gem_tables.specs.Machine.{first_ready, ready_in}
 use Rattle.gem_tables.specs.declared.firing.Firing.{Firing}
-use Rattle.floor_model.specs.Floor.{ToolFloor, location_at, location_numbers}
+use Rattle.floor_model.specs.Floor.{ToolFloor, location_at, location_numbers, number_of}
 use Rattle.floor_model.specs.Substrates.{reaches_verified}
-use Rattle.floor_model.specs.Machines.{location_ready, floor_least}
+use Rattle.floor_model.specs.Machines.{location_ready, floor_machines, floor_least}
 
 -- the row of table 11 that is ready at the first location at which one is
 abbrev pub first_location : ToolFloor → Option Firing
@@ -20,7 +20,27 @@ leaves_places table row =
     else (if table == 9 then not (reaches_verified row)
     else (if table == 13 then not (row == 8) else not (is_one_of (11 ∷ 16 ∷ []) table)))
 
--- Whether it is known that no row is ready, and that none of a location is.
-pub record AreKnown (rests locations_rest : Bool) (f : ToolFloor) : Type 0 where
+-- the rows of tables 12 and 13 that are ready at the first substrate at which one is
+abbrev pub first_transport : ToolFloor → Option Firing
+first_transport f = first_ready 12 (λ n. ready_in floor_machines 12 n f) (map number_of f.substrates)
+
+abbrev pub first_processing : ToolFloor → Option Firing
+first_processing f = first_ready 13 (λ n. ready_in floor_machines 13 n f) (map number_of f.substrates)
+
+-- none of a substrate is ready
+pub record NoSubstrates (f : ToolFloor) : Type 0 where
+  pub transport : first_transport f ≡ None
+  pub processing : first_processing f ≡ None
+
+-- a row changes the load ports and the carriers alone: of table 7 each but the removal, of table 9 those that register no substrate,
+-- and those of tables 4 to 6, 8 and 10
+abbrev pub is_of_shop : ℕ → ℕ → Bool
+is_of_shop table row =
+    if table == 7 then not (row == 6)
+    else (if table == 9 then not (reaches_verified row) else is_one_of (4 ∷ 5 ∷ 6 ∷ 8 ∷ 10 ∷ []) table)
+
+-- Whether it is known that no row is ready, that none of a location is, and that none of a substrate is.
+pub record AreKnown (rests locations_rest substrates_rest : Bool) (f : ToolFloor) : Type 0 where
   pub rest : rests ≡ true → floor_least f ≡ None
   pub locations : locations_rest ≡ true → first_location f ≡ None
+  pub substrates : substrates_rest ≡ true → NoSubstrates f

@@ -1,6 +1,6 @@
 //! Where the substrates are, and what the rows of carriers, locations and substrates want (this tool's profile, tables 10 to 13).
 
-ghost use Rattle.std.specs.Prelude.{◌≡◌, ◌&&◌, not, Some, None};
+ghost use Rattle.std.specs.Prelude.{◌≡◌, ◌<◌, ◌&&◌, not, slice_get, Some, None};
 ghost use Rattle.std.specs.List.{list_any};
 ghost use Rattle.gem_tables.specs.Table.{row_of, wants_found};
 ghost use Rattle.carrier.specs.Tables.{accessing_table};
@@ -9,6 +9,7 @@ ghost use Rattle.substrate.specs.Tables.{occupancy_table, transport_table, proce
 ghost use Rattle.floor_model.specs.Naming.{task_processes, processes};
 ghost use Rattle.floor_model.specs.Substrates.{is_outside, is_in_slot, is_removed, is_of};
 ghost use Rattle.floor_model.specs.Wants.{has_outside, is_back, are_back, is_quiet, accessing_wants, location_wants, is_skipped, substrate_wants};
+ghost use Rattle.tool_floor.specs.Due.{is_due_at};
 
 use crate::floor::ToolFloor;
 use carrier::Carrier;
@@ -108,15 +109,28 @@ impl ToolFloor {
         }
     }
 
+    // Whether the module of a place, counted from 0, has, where there is one.
+    fn is_due_at(&self, place: usize) -> bool
+        requires { place < 255 }
+        ensures { result ≡ is_due_at (slice_get self.now.modules place) self.now.substrates }
+    {
+        // most are Idle, which is told without a copy of the module
+        if self.is_idle_at(place) {
+            return false;
+        }
+        match self.module_at(place) {
+            Some(module) => self.is_module_due(&module),
+            None => false,
+        }
+    }
+
     // Whether one of the modules has.
     pub(crate) fn is_any_due(&self) -> bool
         ensures { result ≡ list_any (λ m. list_any (λ s. is_needing s.states.processing && processes s.sub m) self.now.substrates) self.now.modules }
     {
         for place in 0..self.module_count() {
-            if let Some(module) = self.module_at(place) {
-                if self.is_module_due(&module) {
-                    return true;
-                }
+            if self.is_due_at(place) {
+                return true;
             }
         }
         false

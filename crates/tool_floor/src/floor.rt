@@ -5,7 +5,7 @@ ghost use Rattle.std.specs.Option.{option_to_list};
 ghost use Rattle.gem_tables.specs.Table.{is_one_of};
 ghost use Rattle.load_port.specs.Caack.{is_done_code};
 ghost use Rattle.load_port.specs.Ports.{most_ports, is_no_port};
-ghost use Rattle.robot_moves.specs.Modules.{module_at, unfetched, fetched_number, is_open, is_up, is_down};
+ghost use Rattle.robot_moves.specs.Modules.{module_at, unfetched, fetched_number, is_open, is_idle, is_up, is_down};
 ghost use Rattle.shop_floor.specs.Machines.{floor_least as shop_least};
 ghost use Rattle.shop_floor.specs.Valid.{IsFloor};
 ghost use Rattle.shop_floor.specs.Requests.{carrier_written, came};
@@ -14,7 +14,7 @@ ghost use Rattle.floor_model.specs.Floor.{opening, with_shop, fetched, change_lo
 ghost use Rattle.floor_model.specs.Substrates.{without_carrier, removed_where};
 ghost use Rattle.floor_model.specs.Machines.{registered_by, floor_starts, floor_fired, floor_least, creation_rows, object_name};
 ghost use Rattle.floor_model.specs.Jobs.{carrier_code};
-ghost use Rattle.tool_floor.specs.Located.{first_location};
+ghost use Rattle.tool_floor.specs.Located.{first_location, NoSubstrates};
 ghost use Rattle.floor_model.specs.Signals.{is_no_module};
 
 use crate::jobs::{CONTROL_JOB, PROCESS_JOB};
@@ -281,6 +281,14 @@ impl ToolFloor {
         self.modules.get(ModuleId((place + 1) as u8))
     }
 
+    // Whether the module of a place, counted from 0, is Idle.
+    pub(crate) fn is_idle_at(&self, place: usize) -> bool
+        requires { place < 255 }
+        ensures { result ≡ is_idle (slice_get self.now.modules place) }
+    {
+        self.modules.is_idle(ModuleId((place + 1) as u8))
+    }
+
     // How many locations the tool has.
     pub(crate) fn location_count(&self) -> usize
         ensures { result ≡ length self.now.locations }
@@ -339,12 +347,14 @@ impl ToolFloor {
     pub fn least(&self) -> Option<Firing>
         ensures { result ≡ floor_least self.now }
     {
-        self.least_where(false)
+        self.least_where(false, false)
     }
 
-    // The least row that is ready by itself, where it may be known that none of a location is, and they need not be asked.
-    pub(crate) fn least_where(&self, locations_rest: bool) -> Option<Firing>
-        requires { locations_rest ≡ true → first_location self.now ≡ None }
+    // The least row that is ready by itself, where it may be known that none of a location is, or none of a substrate, and they need
+    // not be asked.
+    pub(crate) fn least_where(&self, locations_rest: bool, substrates_rest: bool) -> Option<Firing>
+        requires locations { locations_rest ≡ true → first_location self.now ≡ None }
+        requires substrates { substrates_rest ≡ true → NoSubstrates self.now }
         ensures { result ≡ floor_least self.now }
     {
         if let Some(x) = self.least_of_shop() {
@@ -356,10 +366,10 @@ impl ToolFloor {
         if let Some(x) = self.ready_location_where(locations_rest) {
             return Some(x);
         }
-        if let Some(x) = self.ready_transport() {
+        if let Some(x) = self.ready_transport_where(substrates_rest) {
             return Some(x);
         }
-        if let Some(x) = self.ready_processing() {
+        if let Some(x) = self.ready_processing_where(substrates_rest) {
             return Some(x);
         }
         if let Some(x) = self.ready_process() {

@@ -10,7 +10,7 @@ ghost use Rattle.shop_floor.specs.Floor.{number_of as carrier_number};
 ghost use Rattle.floor_model.specs.Floor.{ToolFloor, location_at, location_numbers, substrate_numbered, number_of};
 ghost use Rattle.floor_model.specs.Wants.{accessing_wants, location_wants, substrate_wants, ending_row};
 ghost use Rattle.floor_model.specs.Machines.{floor_machines, floor_starts, location_ready};
-ghost use Rattle.tool_floor.specs.Located.{first_location};
+ghost use Rattle.tool_floor.specs.Located.{first_location, first_transport, first_processing, NoSubstrates};
 
 use crate::floor::ToolFloor;
 use carrier::{Accessing, Carrier};
@@ -238,6 +238,29 @@ impl ToolFloor {
             return None;
         }
         self.ready_substrate(PROCESSING)
+    }
+
+    // The same of each table, where it may be known that there is none.
+    pub(crate) fn ready_transport_where(&self, substrates_rest: bool) -> Option<Firing>
+        requires { substrates_rest ≡ true → NoSubstrates self.now }
+        ensures { result ≡ first_transport self.now }
+    {
+        if substrates_rest {
+            None
+        } else {
+            self.ready_transport()
+        }
+    }
+
+    pub(crate) fn ready_processing_where(&self, substrates_rest: bool) -> Option<Firing>
+        requires { substrates_rest ≡ true → NoSubstrates self.now }
+        ensures { result ≡ first_processing self.now }
+    {
+        if substrates_rest {
+            None
+        } else {
+            self.ready_processing()
+        }
     }
 
     // The row of table 12 or 13 that is ready at the first substrate at which one is.

@@ -1,6 +1,6 @@
 //! The floor of the tool, with what is known of the rows of it that are ready by themselves.
 
-ghost use Rattle.std.specs.Prelude.{◌≡◌, ◌==◌, ◌≤◌, true, false, None, Some, is_some, Err, IfOk, IfErr, IfSome, IsTrue};
+ghost use Rattle.std.specs.Prelude.{◌≡◌, ◌==◌, ◌<◌, true, false, None, Some, is_some, Err, IfOk, IfErr, IfSome, IsTrue};
 ghost use Rattle.load_port.specs.Caack.{is_done_code};
 ghost use Rattle.load_port.specs.Ports.{is_no_port};
 ghost use Rattle.robot_moves.specs.Modules.{module_at, unfetched};
@@ -15,10 +15,10 @@ ghost use Rattle.tool_jobs.specs.declared.fault.ControlFault.TheVariants as cont
 ghost use Rattle.floor_model.specs.Floor.{with_shop, with_jobs, fetched};
 ghost use Rattle.floor_model.specs.Machines.{floor_starts, floor_fired, floor_least, creation_rows};
 ghost use Rattle.floor_model.specs.Jobs.{carrier_code};
-ghost use Rattle.tool_floor.specs.Located.{leaves_places};
+ghost use Rattle.tool_floor.specs.Located.{leaves_places, is_of_shop};
 
 use crate::floor::ToolFloor;
-use crate::readiness::{LOCATION, PROCESSING};
+use crate::readiness::{ACCESSING, LOCATION, PROCESSING};
 use crate::rows::MOVES;
 use carrier::CarrierAction;
 use gem_ids::{JobId, ModuleId, PortNo};
@@ -31,13 +31,14 @@ use tool_jobs::ControlFault;
 use tool_tasks::Command;
 
 /// The floor of the tool for one who asks again and again which row is ready by itself: where none was, it is not looked again before
-/// something changes, and the many locations are not asked before one of them may have changed. Contracts see it as the floor. Each call
-/// is that of `ToolFloor`, which `floor` gives for what only reads.
+/// something changes, and the many locations and the substrates are not asked before something of them may have changed. Contracts see
+/// it as the floor. Each call is that of `ToolFloor`, which `floor` gives for what only reads.
 #[derive(Drop)]
 pub struct RestingFloor {
     floor: ToolFloor,
     rests: bool,
     locations_rest: bool,
+    substrates_rest: bool,
 }
 
 // Whether a row leaves which substrate has which place, and the states of the locations.
@@ -53,12 +54,24 @@ fn leaves_places(row: RowId) -> bool
     }
 }
 
-// Whether the least row that is ready is of a later table than the locations, or there is none.
-fn is_past_locations(least: &Option<Firing>) -> bool
-    ensures { IsTrue result → IfSome least.now (λ x. 12 ≤ x.row.table) }
+// Whether a row changes the load ports and the carriers alone.
+fn is_of_shop(row: RowId) -> bool
+    ensures { result ≡ is_of_shop row.table row.row }
+{
+    match row.table {
+        7 => row.row != 6,
+        9 => row.row != 1 && row.row != 3,
+        4 | 5 | 6 | 8 | ACCESSING => true,
+        _ => false,
+    }
+}
+
+// Whether the least row that is ready is of a later table than this one, or there is none.
+fn is_past(table: u8, least: &Option<Firing>) -> bool
+    ensures { IsTrue result → IfSome least.now (λ x. table < x.row.table) }
 {
     match least {
-        Some(x) => x.row.table > LOCATION,
+        Some(x) => table < x.row.table,
         None => true,
     }
 }
@@ -71,7 +84,7 @@ impl Model for RestingFloor {
 
     ghost view = { λ r. r.floor };
 
-    ghost invariant = { λ r. AreKnown r.rests r.locations_rest r.floor };
+    ghost invariant = { λ r. AreKnown r.rests r.locations_rest r.substrates_rest r.floor };
 }
 
 impl RestingFloor {
@@ -83,6 +96,7 @@ impl RestingFloor {
             floor,
             rests: false,
             locations_rest: false,
+            substrates_rest: false,
         }
     }
 
@@ -101,8 +115,11 @@ impl RestingFloor {
         if self.rests {
             return None;
         }
-        let least = self.floor.least_where(self.locations_rest);
-        self.locations_rest = self.locations_rest || is_past_locations(&least);
+        let least = self
+            .floor
+            .least_where(self.locations_rest, self.substrates_rest);
+        self.locations_rest = self.locations_rest || is_past(LOCATION, &least);
+        self.substrates_rest = self.substrates_rest || is_past(PROCESSING, &least);
         self.rests = least.is_none();
         least
     }
@@ -116,10 +133,13 @@ impl RestingFloor {
         ensures err { (x.row.table == 9) ≡ false → IfErr result (λ _. self.new ≡ self.old) }
     {
         let locations_rest = self.locations_rest && leaves_places(x.row);
+        let substrates_rest = self.substrates_rest && is_of_shop(x.row);
         self.rests = false;
         self.locations_rest = false;
+        self.substrates_rest = false;
         let rows = self.floor.fire(alloc, x)?;
         self.locations_rest = locations_rest;
+        self.substrates_rest = substrates_rest;
         Ok(rows)
     }
 
@@ -149,6 +169,7 @@ impl RestingFloor {
         ensures after { self.new ≡ fetched m.0 self.old }
     {
         self.rests = false;
+        self.substrates_rest = false;
         self.floor.fetch(m)
     }
 
@@ -160,6 +181,7 @@ impl RestingFloor {
         ensures memory { process_fault job self.old.jobs.process ≡ None → IfErr result (λ fault. fault ≡ process_faults.NoMemory) }
     {
         self.rests = false;
+        self.substrates_rest = false;
         self.floor.create_process(job)
     }
 
@@ -177,6 +199,7 @@ impl RestingFloor {
         ensures memory { control_fault id jobs.now self.old.jobs ≡ None → IfErr result (λ fault. fault ≡ control_faults.NoMemory) }
     {
         self.rests = false;
+        self.substrates_rest = false;
         self.floor.create_control(alloc, id, jobs, auto)
     }
 
@@ -186,6 +209,7 @@ impl RestingFloor {
         ensures headed { self.new ≡ with_jobs (record self.old.jobs { control = headed id self.old.jobs.control }) self.old }
     {
         self.rests = false;
+        self.substrates_rest = false;
         self.floor.head_of_queue(id)
     }
 }

@@ -5,4 +5,4 @@ use Rattle.substrate.proofs.names.Names.named.Goals as goal
 
 pub returns-clause-value : goal.returns-clause-value
 returns-clause-value c =
-    c.copied.ensures ∙ c.get.ensures.value ∙ lookup_is c.args.sub c.self.inside.by_name.entries c.self.invariant.keyed ∙ ap (substrate_named c.args.sub) c.self.view_is
+    c.get.ensures.value ∙ lookup_is c.args.sub c.self.inside.by_name.entries c.self.invariant.keyed ∙ ap (substrate_named c.args.sub) c.self.view_is

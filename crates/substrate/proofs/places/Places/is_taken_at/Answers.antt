@@ -1,7 +1,5 @@
-use Rattle.std.proofs.Common.{◌≡◌, ℕ, ◌+◌, ◌-◌, ◌≤◌, ◌==◌, true, false, true≢false, sym, ap, subst, ◌∙◌, arith}
-use Rattle.std.specs.List.{list_any}
-use Rattle.substrate.specs.Board.{spot_count}
-use Rattle.substrate.specs.Places.{PlaceMap, is_taken_at, has_number}
+use Rattle.std.proofs.Common.{ℕ, ◌≤◌, sym, ap, subst, ◌∙◌, arith}
+use Rattle.substrate.specs.Places.{PlaceMap, is_taken_at}
 use Rattle.substrate.proofs.Numbering.{shown_there, none_there}
 use Rattle.substrate.proofs.places.Places.is_taken_at.Goals.{else-number-ge1-via-then-number-ge1+else-number-len, else-number-ge1-via-else-number-ge1}
 use Rattle.substrate.proofs.places.Places.is_taken_at.Goals as goal

@@ -1,6 +1,6 @@
 #!/usr/bin/env bash
-# Times a program of before and the present one side by side in one run, and prints, of each load, the processor time of both,
-# the ratio of the present one's to that of before, and how much memory both take at most.
+# Times a program of before and the present one side by side in one run, and prints, of each load, the user time of both, which is
+# processor time without that of the system, the ratio of the present one's to that of before, and how much memory both take at most.
 #
 #     bench/before.sh BEFORE [PRESENT]
 #
@@ -74,7 +74,7 @@ carriers() {
 least_of() {
     program=$1
     feed
-    least=$(awk -v a="$seconds" -v b="$2" 'BEGIN { print a < b ? a : b }')
+    least=$(awk -v a="$user" -v b="$2" 'BEGIN { print a < b ? a : b }')
 }
 
 # Measures a load of so many, named by its function, and its instructions on a shorter one.

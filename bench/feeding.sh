@@ -11,17 +11,20 @@ if [ ! -x "$program" ]; then
     exit 2
 fi
 
-# Feeds the lines in $work/lines, and leaves the output in $work/out and the processor time in $seconds: by perf where it is there,
-# since the shell's own times count the ticks of the clock, of which a short run has few.
+# Feeds the lines in $work/lines, and leaves the output in $work/out, the processor time in $seconds, and in $user what of it is the
+# program's own, without the system's: by perf where it is there, since the shell's own times count the ticks of the clock, of which a
+# short run has few.
 feed() {
     if command -v perf > /dev/null; then
-        perf stat -x, -e task-clock -o "$work/time" "$program" feed "$config" < "$work/lines" > "$work/out" 2> "$work/err" \
+        perf stat -x, -e task-clock,user_time -o "$work/time" "$program" feed "$config" < "$work/lines" > "$work/out" 2> "$work/err" \
             || { cat "$work/err" >&2; exit 1; }
         seconds=$(awk -F, '/task-clock/ { printf "%.4f", $1 / 1000 }' "$work/time")
+        user=$(awk -F, '/user_time/ { printf "%.4f", $1 / 1000000000 }' "$work/time")
     else
         { time "$program" feed "$config" < "$work/lines" > "$work/out" 2> "$work/err"; } 2> "$work/time" \
             || { cat "$work/err" >&2; exit 1; }
         seconds=$(awk 'END { printf "%.3f", $1 + $2 }' "$work/time")
+        user=$(awk 'END { printf "%.3f", $1 }' "$work/time")
     fi
 }
 

@@ -61,6 +61,7 @@ fn open_head(plant: &mut Plant, alloc: Global) -> Result<(), AllocError>
 }
 
 /// The row of a number fires, which is ready: the one that `row_for` tells.
+#[inline(never)]
 fn fire_row(plant: &mut Plant, alloc: Global, row: u8) -> Result<(), AllocError>
     requires ready { least (around plant.old) plant.old.line ≡ Some row }
     requires in_kind { row ≡ 10 → head_in_kind plant.old.line ≡ true }

@@ -13,6 +13,7 @@ use std::alloc::{AllocError, Global};
 use tool_events::{Answer, Event, SessionCause};
 
 /// A link comes up. While one is up, nothing changes.
+#[inline(never)]
 fn link_up(plant: &mut Plant, reaction: &mut Reaction)
     requires room { plant.old.link.session + 1 < 2 ^ 64 }
     requires fresh { reaction.old ≡ done }
@@ -28,6 +29,7 @@ fn link_up(plant: &mut Plant, reaction: &mut Reaction)
 }
 
 /// The link of a session is lost, for this cause.
+#[inline(never)]
 fn link_down(
     plant: &mut Plant,
     alloc: Global,
@@ -68,6 +70,7 @@ fn take(plant: &mut Plant, session: u64, reaction: &mut Reaction) -> bool
 }
 
 /// A module fetches its open command. False: it has none that was not fetched, and nothing has changed.
+#[inline(never)]
 fn fetch(plant: &mut Plant, m: ModuleId, reaction: &mut Reaction) -> bool
     requires fresh { reaction.old ≡ done }
     ensures some { IsTrue result → Acts plant.old.moment plant.old (event.Fetch m) reaction.new plant.new }
@@ -87,6 +90,7 @@ fn fetch(plant: &mut Plant, m: ModuleId, reaction: &mut Reaction) -> bool
 }
 
 /// The clock is looked at, and the moment was raised from this one. False: nothing is due.
+#[inline(never)]
 fn tick(
     plant: &mut Plant,
     alloc: Global,

@@ -202,6 +202,7 @@ fn quit(plant: &mut Plant, alloc: Global) -> Result<Reaction, AllocError>
 /// What the operator wants (docs/profile/lines.md): the answer tells whether it is accepted, and `quit` ends the run and the
 /// session that is up. What isn't accepted changes nothing, but that `local` and `remote` always set the switch. `AllocError`:
 /// memory ran out.
+#[inline(never)]
 #[tactic(auto, using(crate::proofs::Operating::not_quit))]
 pub fn operator(plant: &mut Plant, alloc: Global, command: &OperCmd) -> Result<Reaction, AllocError>
     ensures { IfOk result (λ reaction. operated command.now plant.old ≡ outcome_of reaction plant.new) }

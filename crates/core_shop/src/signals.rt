@@ -169,6 +169,7 @@ fn go_down(plant: &mut Plant, alloc: Global, m: ModuleId) -> Result<(), AllocErr
 /// What the equipment tells: a carrier was placed at a port, or taken away from one; a module did a command, failed at one, or
 /// went down. A signal of a port or a module that the tool lacks changes nothing (docs/profile/carriers.md and moves.md).
 /// `AllocError`: memory ran out.
+#[inline(never)]
 pub fn signal(plant: &mut Plant, alloc: Global, told: &Signal) -> Result<(), AllocError>
     ensures { OnOk result (plant.new ≡ signalled told.now plant.old) }
 {

@@ -87,6 +87,7 @@ impl Plant {
 
     /// A row of the floor of the tool fires, which starts, and makes its note, with the name that its object has before it; with the rows
     /// of what it creates.
+    #[inline(never)]
     #[tactic(auto, using(crate::proofs::Floors::row_fires))]
     fn told_row(&mut self, alloc: Global, f: Firing) -> Result<Vec<Firing>, AllocError>
         requires { floor_starts f self.old.floor ≡ true }

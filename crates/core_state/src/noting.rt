@@ -83,6 +83,7 @@ impl Plant {
     }
 
     /// The note of an event waits behind the others.
+    #[inline(never)]
     fn note_event(
         &mut self,
         alloc: Global,
@@ -150,6 +151,7 @@ impl Plant {
     }
 
     /// The note of an alarm, by whether it is set, waits behind the others.
+    #[inline(never)]
     fn note_alarm(&mut self, alloc: Global, alid: u32) -> Result<(), AllocError>
         ensures { OnOk result (self.new ≡ record self.old { line = alarm_line alid self.old }) }
     {

@@ -79,6 +79,7 @@ impl Plant {
     }
 
     /// A row of communication fires, and makes its note. `AllocError`: memory ran out.
+    #[inline(never)]
     pub fn comm_row(&mut self, alloc: Global, row: u8) -> Result<(), AllocError>
         ensures { OnOk result (self.new ≡ fire self.old (firing 1 0 row)) }
     {
@@ -88,6 +89,7 @@ impl Plant {
     }
 
     /// A row of control fires, and makes its note. `AllocError`: memory ran out.
+    #[inline(never)]
     pub fn control_row(&mut self, alloc: Global, row: u8) -> Result<(), AllocError>
         ensures { OnOk result (self.new ≡ fire self.old (firing 2 0 row)) }
     {

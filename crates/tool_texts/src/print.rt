@@ -92,6 +92,7 @@ fn write_digits(bytes: &[u8], digits: &mut [u8])
 }
 
 // The line of a session that came up.
+#[inline(never)]
 fn up_bytes(alloc: Global, session: u64) -> Result<Vec<u8>, NoMemory>
     ensures { IfOk result (λ bytes. bytes.items ≡ up_line session) }
 {
@@ -116,6 +117,7 @@ fn cause_text(cause: SessionCause) -> &'static str
 }
 
 // The line of a session that ended, by the word of its cause.
+#[inline(never)]
 fn end_bytes(alloc: Global, session: u64, word: &str) -> Result<Vec<u8>, NoMemory>
     ensures { IfOk result (λ bytes. bytes.items ≡ ended_line (codes "- " ++ decimal session ++ codes " " ++ word.now)) }
 {
@@ -123,6 +125,7 @@ fn end_bytes(alloc: Global, session: u64, word: &str) -> Result<Vec<u8>, NoMemor
 }
 
 // The line of a command to a module.
+#[inline(never)]
 fn command_bytes(alloc: Global, module: ModuleId, command: &Command) -> Result<Vec<u8>, NoMemory>
     ensures { IfOk result (λ bytes. bytes.items ≡ command_line «module».0 command.now) }
 {

@@ -81,8 +81,8 @@ impl Plant {
         if self.is_row_reported(f.row) {
             return self.told_row(alloc, f);
         }
-        let created = self.fire_floor(alloc, f)?;
-        Ok(created)
+        let rows = self.fire_floor(alloc, f)?;
+        Ok(rows)
     }
 
     /// A row of the floor of the tool fires, which starts, and makes its note, with the name that its object has before it; with the rows

@@ -7,6 +7,6 @@ none_left [] none = refl
 none_left (frame ∷ frames) none = absurd (cc)
 
 pub returns-in-None-clause-stays : goal.returns-in-None-clause-stays
-returns-in-None-clause-stays c =
+returns-in-None-clause-stays c = λ _.
     c.in-None.ensures.after
     ∙ ap (λ (frames : List (List ℕ)). record c.args.plant.now { waiting = frames }) (none_left c.args.plant.now.waiting (sym c.in-None.ensures.frame))

@@ -10,8 +10,9 @@
 # - 100,000 commands of an operator that are reported by S6F11, each with its S6F12, as bench/reports.sh has them;
 # - 20,000 carriers that come and go, as bench/carriers.sh has them.
 #
-# Both programs must print the same. They run in turn, five times each or as often as $RUNS says, and of each the least time
-# counts: a busy machine slows the runs of both, and a run beside it tells more than a figure of another day. With valgrind on
+# Both programs must print the same. They run in turn, twenty times each or as often as $RUNS says, and of each the mean time
+# counts: the system tells user time by its ticks, so that one short run says little. A busy machine slows the runs of both, and a run
+# beside it tells more than a figure of another day. With valgrind on
 # the machine the instructions of both are told as well, of a shorter load of each kind; these are the same in every run. A
 # ratio of at most 1.05 is wanted of a change that is not about time. This is a measurement. It is no test, and no part of the
 # merge gate. Build the program first:
@@ -70,23 +71,23 @@ carriers() {
     }'
 }
 
-# Feeds the lines to a program, and leaves the lesser of its time and $2 in $least, and what it prints in $work/out.
-least_of() {
+# Feeds the lines to a program, and leaves its time with $2 in $spent, and what it prints in $work/out.
+spend() {
     program=$1
     feed
-    least=$(awk -v a="$user" -v b="$2" 'BEGIN { print a < b ? a : b }')
+    spent=$(awk -v a="$user" -v b="$2" 'BEGIN { print a + b }')
 }
 
 # Measures a load of so many, named by its function, and its instructions on a shorter one.
 measure() {
-    local load=$1 count=$2 short=$3 a=1e9 b=1e9 peaks run
+    local load=$1 count=$2 short=$3 a=0 b=0 runs=${RUNS:-20} peaks run
     "$load" "$count" > "$work/lines"
-    for run in $(seq "${RUNS:-5}"); do
-        least_of "$before" "$a"
-        a=$least
+    for run in $(seq "$runs"); do
+        spend "$before" "$a"
+        a=$spent
         mv "$work/out" "$work/out-before"
-        least_of "$now" "$b"
-        b=$least
+        spend "$now" "$b"
+        b=$spent
         if ! cmp -s "$work/out-before" "$work/out"; then
             echo "$load: the two programs print something else" >&2
             exit 1
@@ -97,8 +98,8 @@ measure() {
     peaks=$peak
     program=$now
     feed_for_peak
-    awk -v load="$load" -v count="$count" -v a="$a" -v b="$b" -v was="$peaks" -v is="$peak" 'BEGIN {
-        printf "%s, %d: %.2f s before, %.2f s now, ratio %.2f; peak memory %d kB before, %d kB now\n", load, count, a, b, b / a, was, is
+    awk -v load="$load" -v count="$count" -v n="$runs" -v a="$a" -v b="$b" -v was="$peaks" -v is="$peak" 'BEGIN {
+        printf "%s, %d: %.3f s before, %.3f s now, ratio %.2f; peak memory %d kB before, %d kB now\n", load, count, a / n, b / n, b / a, was, is
     }'
     "$load" "$short" > "$work/lines"
     a=$(instructions "$before")

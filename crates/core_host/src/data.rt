@@ -1,32 +1,43 @@
-//! A data message of the host: what it is answered, and what it does.
+//! A data message of the host: what it is answered, and what it does. A message is large: it is read where it is done, and lent from
+//! there, so that it is not copied.
 //!
 //! A function clears its locals at entry, with those of each call that is written out in its place. So a large one that few messages
 //! need stands apart (`inline(never)`), and the others do not pay for it.
-ghost use Rattle.std.specs.Prelude.{◌≡◌, ◌+◌, ◌≤◌, ◌<◌, ◌^◌, length, OnOk, IfOk};
+ghost use Rattle.std.specs.Prelude.{◌≡◌, ◌+◌, ◌≤◌, ◌<◌, ◌^◌, length, OnOk, IfOk, IfSome, option_map};
 ghost use Rattle.transactions.specs.Endings.{answered};
+ghost use Rattle.item_model.specs.View.{view};
 ghost use Rattle.message_model.specs.Acknowledge.{accepts};
+ghost use Rattle.message_model.specs.Few.{HasFewParts, HasShortText};
+ghost use Rattle.message_model.specs.GemPrimaries.{reading};
+ghost use Rattle.message_model.specs.ShopPrimaries.{said, reading as shop_reading};
 ghost use Rattle.message_model.specs.declared.gem_primary.GemMsg.TheVariants as msg;
 ghost use Rattle.gem_model.specs.HostMessages as host_message;
 ghost use Rattle.gem_model.specs.Direct.{Are, IsListed, by_comm, by_control, answer_rows, attempt_answer, establish_answer};
 ghost use Rattle.gem_model.specs.Fire.{fire_listed, fires};
-ghost use Rattle.gem_model.specs.Verdict.{header_of, item_of, stream_of, function_of};
+ghost use Rattle.gem_model.specs.Sending.{sends_stream9};
+ghost use Rattle.gem_model.specs.Verdict.{header_of, item_of, stream_of, function_of, read_as, shop_read_as, read_message};
 ghost use Rattle.gem_model.specs.Messages.{done};
 ghost use Rattle.gem_model.specs.Act.{replied, taken, taken_as, closed_by, note_answered, data_act, data_done};
+ghost use Rattle.core_host.specs.declared.data.HostAct.TheVariants as told;
 ghost use Rattle.core_host.specs.HostActs.{act_of, host_act, reply_act};
+ghost use Rattle.core_host.specs.Rules.{rule_view};
 ghost use Rattle.host_replies.specs.Dones.{done_view, CanBeSent};
 ghost use Rattle.host_requests.specs.Short.{IsShort};
-ghost use Rattle.host_requests.specs.Verdicts.{message_view, verdict_view, HasFew, HasNext, IsFew};
 
-use crate::verdict::verdict_of;
+use crate::verdict::{Rule, first_rule};
 use core_state::Plant;
 use gem_states::{CommTrigger, ControlTrigger};
 use host_gem::gem_done;
 use host_replies::{Done, reply_text};
-use host_requests::{HostMsg, Verdict, header_of, item_of, stream_of, wants_reply};
+use host_requests::{
+    header_of, is_message, is_too_long, item_of, stream_of, text_item, told_by, wants_reply,
+};
 use host_shop::shop_done;
 use hsms_frame::{Arrival, Bytes, Header};
-use message_model::GemMsg;
-use msgs_gem::accepts_communication;
+use item_model::Item;
+use message_model::{GemMsg, ShopMsg};
+use msgs_300::{is_shop_stream, read_shop};
+use msgs_gem::{accepts_communication, read_gem};
 use plant_parts::{by_comm, identity_text};
 use std::alloc::{AllocError, Global};
 use transactions::What;
@@ -52,52 +63,135 @@ pub fn host(plant: &mut Plant, alloc: Global, arrival: &Arrival) -> Result<HostA
     ensures answer { IfOk result (λ act. act ≡ host_act plant.old arrival.now) }
     ensures after { OnOk result (plant.new ≡ data_done arrival.now plant.old) }
 {
-    match verdict_of(plant, alloc, arrival) {
-        Ok(verdict) => done_by(plant, alloc, arrival, verdict),
-        Err(error) => Err(error),
+    let header = header_of(arrival);
+    match first_rule(plant, &header, is_too_long(arrival)) {
+        Some(rule) => follow(plant, alloc, &header, arrival, rule),
+        None => read(plant, alloc, &header, arrival),
     }
 }
 
-/// What a data message does by the rule that fits, which is let go.
-fn done_by(
-    plant: &mut Plant,
-    alloc: Global,
-    arrival: &Arrival,
-    verdict: Verdict,
-) -> Result<HostAct, AllocError>
-    requires next { HasNext (header_of arrival.now) verdict }
-    requires few { IsFew verdict }
-    ensures answer { IfOk result (λ act. act ≡ act_of (header_of arrival.now) (verdict_view verdict)) }
-    ensures after { OnOk result (plant.new ≡ data_act (header_of arrival.now) (item_of arrival.now) (verdict_view verdict) plant.old) }
-{
-    follow(plant, alloc, arrival, &verdict)
-}
-
-/// What a data message does by the rule that fits.
+/// What a data message does by a rule that comes before it is read.
 fn follow(
     plant: &mut Plant,
     alloc: Global,
+    header: &Header,
     arrival: &Arrival,
-    verdict: &Verdict,
+    rule: Rule,
 ) -> Result<HostAct, AllocError>
-    requires next { HasNext (header_of arrival.now) verdict.now }
-    requires few { IsFew verdict.now }
-    ensures answer { IfOk result (λ act. act ≡ act_of (header_of arrival.now) (verdict_view verdict.now)) }
-    ensures after { OnOk result (plant.new ≡ data_act (header_of arrival.now) (item_of arrival.now) (verdict_view verdict.now) plant.old) }
+    ensures act { IfOk result (λ act. act ≡ act_of header.now (rule_view rule)) }
+    ensures after { OnOk result (plant.new ≡ data_act header.now (item_of arrival.now) (rule_view rule) plant.old) }
 {
-    let header = header_of(arrival);
-    match verdict {
-        Verdict::Discarded => Ok(HostAct::Silent),
-        Verdict::Stream9(function) => {
-            plant.send_stream9(alloc, *function, header)?;
-            Ok(HostAct::Stream9(*function))
-        }
-        Verdict::Aborted => answer(plant, alloc, &header, 0, Bytes::from_vec(Vec::new(alloc))),
-        Verdict::Answers => {
-            close(plant, alloc, &header, arrival)?;
+    match rule {
+        Rule::Discarded => Ok(HostAct::Silent),
+        Rule::Stream9(function) => tell(plant, alloc, header, function),
+        Rule::Aborted => answer(plant, alloc, header, 0, Bytes::from_vec(Vec::new(alloc))),
+        Rule::Answers => {
+            close(plant, alloc, header, arrival)?;
             Ok(HostAct::Silent)
         }
-        Verdict::Taken(message) => take_message(plant, alloc, &header, message),
+    }
+}
+
+/// A message is told by a message of stream 9 of this function.
+#[inline(never)]
+fn tell(
+    plant: &mut Plant,
+    alloc: Global,
+    header: &Header,
+    function: u8,
+) -> Result<HostAct, AllocError>
+    ensures act { IfOk result (λ act. act ≡ told.Stream9 function) }
+    ensures after { OnOk result (plant.new ≡ sends_stream9 function header.now plant.old) }
+{
+    plant.send_stream9(alloc, function, *header)?;
+    Ok(HostAct::Stream9(function))
+}
+
+/// A message that no rule before it stops is read by the table of its stream: it is taken, or told by a message of stream 9.
+#[tactic(auto, using(crate::proofs::Reading::identity_asked, crate::proofs::Reading::identity_next))]
+fn read(
+    plant: &mut Plant,
+    alloc: Global,
+    header: &Header,
+    arrival: &Arrival,
+) -> Result<HostAct, AllocError>
+    requires short { IsShort arrival.now }
+    ensures act { IfOk result (λ act. act ≡ act_of header.now (read_message (stream_of header.now) (function_of header.now) (item_of arrival.now))) }
+    ensures after { OnOk result (plant.new ≡ data_act header.now (item_of arrival.now) (read_message (stream_of header.now) (function_of header.now) (item_of arrival.now)) plant.old) }
+{
+    if is_message(1, 1, header) {
+        tell_identity(plant, alloc, header)
+    } else if is_shop_stream(stream_of(header)) {
+        read_shop_message(plant, alloc, header, arrival)
+    } else {
+        read_gem_message(plant, alloc, header, arrival)
+    }
+}
+
+/// A message of streams 3, 14 and 16 is taken, or told by a message of stream 9.
+#[inline(never)]
+fn read_shop_message(
+    plant: &mut Plant,
+    alloc: Global,
+    header: &Header,
+    arrival: &Arrival,
+) -> Result<HostAct, AllocError>
+    ensures act { IfOk result (λ act. act ≡ act_of header.now (shop_read_as (shop_reading (stream_of header.now) (function_of header.now) (item_of arrival.now)))) }
+    ensures after { OnOk result (plant.new ≡ data_act header.now (item_of arrival.now) (shop_read_as (shop_reading (stream_of header.now) (function_of header.now) (item_of arrival.now))) plant.old) }
+{
+    let item = item_of(alloc, arrival)?;
+    shop_item(plant, alloc, header, item.as_ref())
+}
+
+/// The same of the item that it has.
+#[tactic(auto, using(crate::proofs::Functions::shop_function))]
+fn shop_item(
+    plant: &mut Plant,
+    alloc: Global,
+    header: &Header,
+    item: Option<&Item>,
+) -> Result<HostAct, AllocError>
+    ensures act { IfOk result (λ act. act ≡ act_of header.now (shop_read_as (shop_reading (stream_of header.now) (function_of header.now) (option_map (λ i. view i.now) item.entry)))) }
+    ensures after { OnOk result (plant.new ≡ data_act header.now (option_map (λ i. view i.now) item.entry) (shop_read_as (shop_reading (stream_of header.now) (function_of header.now) (option_map (λ i. view i.now) item.entry))) plant.old) }
+{
+    match read_shop(alloc, stream_of(header), header.byte3, item) {
+        Ok(message) => take_shop(plant, alloc, header, &message),
+        Err(fault) => tell(plant, alloc, header, told_by(fault)?),
+    }
+}
+
+/// A message of streams 1, 2, 5 and 6 is taken, or told by a message of stream 9.
+#[inline(never)]
+#[tactic(auto, using(crate::proofs::Reading::short_borrowed, crate::proofs::Reading::read_same))]
+fn read_gem_message(
+    plant: &mut Plant,
+    alloc: Global,
+    header: &Header,
+    arrival: &Arrival,
+) -> Result<HostAct, AllocError>
+    requires short { IsShort arrival.now }
+    ensures act { IfOk result (λ act. act ≡ act_of header.now (read_as (reading (stream_of header.now) (function_of header.now) (item_of arrival.now)))) }
+    ensures after { OnOk result (plant.new ≡ data_act header.now (item_of arrival.now) (read_as (reading (stream_of header.now) (function_of header.now) (item_of arrival.now))) plant.old) }
+{
+    let item = text_item(alloc, header, arrival)?;
+    gem_item(plant, alloc, header, item.as_ref())
+}
+
+/// The same of the item that it has.
+#[tactic(auto, using(crate::proofs::Functions::read_function))]
+fn gem_item(
+    plant: &mut Plant,
+    alloc: Global,
+    header: &Header,
+    item: Option<&Item>,
+) -> Result<HostAct, AllocError>
+    requires short { IfSome item (λ i. HasShortText (view i.now)) }
+    ensures act { IfOk result (λ act. act ≡ act_of header.now (read_as (reading (stream_of header.now) (function_of header.now) (option_map (λ i. view i.now) item.entry)))) }
+    ensures after { OnOk result (plant.new ≡ data_act header.now (option_map (λ i. view i.now) item.entry) (read_as (reading (stream_of header.now) (function_of header.now) (option_map (λ i. view i.now) item.entry))) plant.old) }
+{
+    match read_gem(alloc, stream_of(header), header.byte3, item) {
+        Ok(message) => take_gem(plant, alloc, header, &message),
+        Err(fault) => tell(plant, alloc, header, told_by(fault)?),
     }
 }
 
@@ -121,28 +215,39 @@ fn answer(
     Ok(HostAct::Reply(stream, function))
 }
 
-/// A message is taken: what it writes, its reply, and then its direct rows.
-#[inline(never)]
-fn take_message(
+/// A message of streams 3, 14 and 16 is taken: what it writes, its reply, and then its direct rows.
+fn take_shop(
     plant: &mut Plant,
     alloc: Global,
     header: &Header,
-    message: &HostMsg,
+    message: &ShopMsg,
 ) -> Result<HostAct, AllocError>
     requires next { function_of header.now < 255 }
-    requires few { HasFew message.now }
     ensures act { IfOk result (λ act. act ≡ reply_act header.now (function_of header.now + 1)) }
-    ensures after { OnOk result (plant.new ≡ taken header.now (message_view message.now) plant.old) }
+    ensures after { OnOk result (plant.new ≡ taken header.now (host_message.Shop (said message.now)) plant.old) }
 {
-    if let HostMsg::Gem(GemMsg::S1F1) = message {
-        return tell_identity(plant, alloc, header);
-    }
-    let done = perform(plant, alloc, message)?;
+    let done = shop_done(plant, alloc, message)?;
+    finish(plant, alloc, header, done)
+}
+
+/// A message of streams 1, 2, 5 and 6 is taken.
+fn take_gem(
+    plant: &mut Plant,
+    alloc: Global,
+    header: &Header,
+    message: &GemMsg,
+) -> Result<HostAct, AllocError>
+    requires next { function_of header.now < 255 }
+    requires few { HasFewParts message.now }
+    ensures act { IfOk result (λ act. act ≡ reply_act header.now (function_of header.now + 1)) }
+    ensures after { OnOk result (plant.new ≡ taken header.now (host_message.Gem message.now) plant.old) }
+{
+    let done = gem_done(plant, alloc, message)?;
     finish(plant, alloc, header, done)
 }
 
 /// S1F1 is answered by what the tool tells of itself, whose text is written straight from the configuration: hosts ask it again and
-/// again, to see whether the tool is there.
+/// again, to see whether the tool is there. It has no body, so that there is nothing to read.
 fn tell_identity(plant: &mut Plant, alloc: Global, header: &Header) -> Result<HostAct, AllocError>
     requires next { function_of header.now < 255 }
     ensures act { IfOk result (λ act. act ≡ reply_act header.now (function_of header.now + 1)) }
@@ -150,18 +255,6 @@ fn tell_identity(plant: &mut Plant, alloc: Global, header: &Header) -> Result<Ho
 {
     let text = identity_text(alloc, plant.config())?;
     answer(plant, alloc, header, header.byte3 + 1, text)
-}
-
-/// What a message is answered, and the rows that it fires, by the plant before it; and what it writes is written.
-fn perform(plant: &mut Plant, alloc: Global, message: &HostMsg) -> Result<Done, AllocError>
-    requires { HasFew message.now }
-    ensures done { IfOk result (λ told. done_view told plant.new ≡ done plant.old (message_view message.now)) }
-    ensures sendable { IfOk result (λ told. CanBeSent told.reply) }
-{
-    match message {
-        HostMsg::Gem(message) => gem_done(plant, alloc, message),
-        HostMsg::Shop(message) => shop_done(plant, alloc, message),
-    }
 }
 
 /// What a message did is answered, and its direct rows fire.

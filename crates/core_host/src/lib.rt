@@ -2,10 +2,10 @@
 //! 2, 5, 6 and 9; SEMI E30, communication, control, event reports, alarms, remote control and spooling; SEMI E87, stream 3; SEMI
 //! E40 and SEMI E94, streams 14 and 16).
 //!
-//! Each is one change of the `Plant` of `core_state`, by its header and its body, which `host_requests` reads. What the link
-//! table says of the header, the settling behind the message and the history are for `tool_core`. The verdict on a message
-//! is chosen in one place, `verdict.rt`; what a message does that is taken is in `host_gem`, and of streams 3, 14 and 16 in
-//! `host_shop`.
+//! Each is one change of the `Plant` of `core_state`, by its header and its body, which `msgs_gem` and `msgs_300` read. What the link
+//! table says of the header, the settling behind the message and the history are for `tool_core`. The rules that come before a
+//! message is read stand in one place, `verdict.rt`; what a message does that is taken is in `host_gem`, and of streams 3, 14 and 16
+//! in `host_shop`.
 //!
 //! Memory may run out; nothing is said of the plant after that. Begin with `host`.
 #![tactic(auto)]

@@ -1,18 +1,26 @@
-//! The verdict on a data message of the host: what it does, before anything is done (SEMI E5, streams and functions;
-//! SEMI E30, communication and control).
-ghost use Rattle.std.specs.Prelude.{◌≡◌, IfOk, IfSome, option_map};
+//! The verdict on a data message of the host by the rules that come before it is read (SEMI E5, streams and functions; SEMI E30,
+//! communication and control).
+ghost use Rattle.std.specs.Prelude.{◌≡◌, option_map};
 ghost use Rattle.gem_tables.specs.Table.{choose};
-ghost use Rattle.gem_model.specs.Verdict.{header_of, stream_of, function_of, may_establish, is_establish, first_rules, verdict};
+ghost use Rattle.gem_model.specs.Verdict.{stream_of, function_of, may_establish, is_establish, first_rules};
 ghost use Rattle.transactions.specs.Endings.{answered};
-ghost use Rattle.host_requests.specs.Short.{IsShort};
-ghost use Rattle.host_requests.specs.Verdicts.{verdict_view, HasNext, IsFew};
+ghost use Rattle.core_host.specs.Rules.{rule_view};
 
 use core_state::Plant;
 use gem_states::Comm;
-use host_requests::{Verdict, header_of, is_message, is_too_long, read_message, stream_of};
-use hsms_frame::{Arrival, Header};
-use std::alloc::{AllocError, Global};
+use host_requests::{is_message, stream_of};
+use hsms_frame::Header;
 use transactions::What;
+
+/// What a data message does by a rule that comes before it is read: nothing; it is told by a message of stream 9 of this function;
+/// it is answered by function 0 of its stream; or it answers a transaction of the tool, if that is open.
+#[derive(Clone, Copy)]
+pub enum Rule {
+    Discarded,
+    Stream9(u8),
+    Aborted,
+    Answers,
+}
 
 /// Whether a message may establish communication: S1F13, or S1F14 or S1F0 that answers the tool's S1F13.
 fn may_establish(plant: &Plant, header: &Header) -> bool
@@ -31,41 +39,25 @@ fn answers_establish(plant: &Plant, header: &Header) -> bool
     }
 }
 
-/// What a data message does by the rules that come before it is read.
-fn first_rule(plant: &Plant, header: &Header, too_long: bool) -> Option<Verdict>
-    ensures verdict { option_map verdict_view result ≡ choose (first_rules plant.now header.now too_long) }
-    ensures next { IfSome result (HasNext header.now) }
-    ensures few { IfSome result IsFew }
+/// What a data message does by the first rule that fits of those that come before it is read, by the plant before it.
+pub fn first_rule(plant: &Plant, header: &Header, too_long: bool) -> Option<Rule>
+    ensures { option_map rule_view result ≡ choose (first_rules plant.now header.now too_long) }
 {
     if plant.comm() == Comm::Disabled {
-        Some(Verdict::Discarded)
+        Some(Rule::Discarded)
     } else if !plant.is_communicating() && !may_establish(plant, header) {
-        Some(Verdict::Discarded)
+        Some(Rule::Discarded)
     } else if header.session != plant.config().device {
-        Some(Verdict::Stream9(1))
+        Some(Rule::Stream9(1))
     } else if too_long {
-        Some(Verdict::Stream9(11))
+        Some(Rule::Stream9(11))
     } else if stream_of(header) == 9 {
-        Some(Verdict::Discarded)
+        Some(Rule::Discarded)
     } else if header.byte3 % 2 == 0 {
-        Some(Verdict::Answers)
+        Some(Rule::Answers)
     } else if !plant.is_online() && !(is_message(1, 13, header) || is_message(1, 17, header)) {
-        Some(Verdict::Aborted)
+        Some(Rule::Aborted)
     } else {
         None
-    }
-}
-
-/// What a data message does, by the plant before it.
-pub fn verdict_of(plant: &Plant, alloc: Global, arrival: &Arrival) -> Result<Verdict, AllocError>
-    requires short { IsShort arrival.now }
-    ensures verdict { IfOk result (λ v. verdict_view v ≡ verdict plant.now arrival.now) }
-    ensures next { IfOk result (HasNext (header_of arrival.now)) }
-    ensures few { IfOk result IsFew }
-{
-    let header = header_of(arrival);
-    match first_rule(plant, &header, is_too_long(arrival)) {
-        Some(verdict) => Ok(verdict),
-        None => read_message(alloc, &header, arrival),
     }
 }

@@ -1,5 +1,5 @@
 -- A text that is short spells its item.
-use Rattle.std.proofs.Common.{◌≡◌, ◌≤◌, ◌^◌, ℕ, List, length, Option, Some, None, Result, Ok, Err, option_map, option_copied, IfOk, IfSome, Bor, sym, subst}
+use Rattle.std.proofs.Common.{◌≡◌, ◌≤◌, ◌^◌, ℕ, List, length, Option, Some, None, Result, Ok, Err, option_map, IfOk, IfSome, sym}
 use Rattle.item_model.specs.One.{one_item}
 use Rattle.item_model.specs.Spelling.{AreBelow}
 use Rattle.item_model.specs.View.{view}
@@ -14,8 +14,3 @@ short_found (Some i) text below short is = (text, one_spelled text (view i) belo
 pub short_read : {E : Type 0} (r : Result (Option Item) E) (text : List ℕ) → AreBelow 256 text → length text ≤ 2 ^ 29 → IfOk r (λ found. option_map view found ≡ one_item text) → IfOk r (λ found. IfSome found (λ i. HasShortText (view i)))
 short_read (Ok found) text below short is = short_found found text below short is
 short_read (Err e) text below short is = tt
-
--- the item that is borrowed
-pub short_borrowed : (borrowed : Option (Bor Item)) (item : Option Item) → option_copied borrowed ≡ item → IfSome item (λ i. HasShortText (view i)) → IfSome borrowed (λ i. HasShortText (view i.now))
-short_borrowed None item is short = tt
-short_borrowed (Some i) item is short = subst (λ (o : Option Item). IfSome o (λ i. HasShortText (view i))) (sym is) short

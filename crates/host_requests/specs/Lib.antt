@@ -1,3 +1,2 @@
 pub mod Short
-pub mod Verdicts
 pub mod Remotes

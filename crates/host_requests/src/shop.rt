@@ -13,8 +13,8 @@ use load_port::PortAction;
 use message_model::NamedValue;
 
 /// The action on a carrier of a name.
-fn carrier_word(name: Text80) -> CarrierWord
-    ensures { result ≡ carrier_word name }
+fn carrier_word(name: &Text80) -> CarrierWord
+    ensures { result ≡ carrier_word name.now }
 {
     let name = name.as_bytes();
     if name == b"Bind".as_slice() {
@@ -35,8 +35,8 @@ fn carrier_word(name: Text80) -> CarrierWord
 }
 
 /// The action on a port of a name, at the port of this number.
-pub fn port_word(name: Text80, port: u8) -> PortAction
-    ensures { result ≡ port_word name port }
+pub fn port_word(name: &Text80, port: u8) -> PortAction
+    ensures { result ≡ port_word name.now port }
 {
     let name = name.as_bytes();
     if name == b"ReserveAtPort".as_slice() {
@@ -105,17 +105,17 @@ fn map_given(attributes: &[NamedValue]) -> Option<[u8; 25]>
 
 /// The action on a carrier that an S3F17 says.
 pub fn carrier_action(
-    action: Text80,
-    carrier: Text80,
+    action: &Text80,
+    carrier: &Text80,
     port: u8,
     attributes: &[NamedValue],
 ) -> CarrierAction
-    ensures { result ≡ carrier_action action carrier port attributes.now }
+    ensures { result ≡ carrier_action action.now carrier.now port attributes.now }
 {
     let map = map_given(attributes);
     CarrierAction {
         word: carrier_word(action),
-        id: carrier,
+        id: *carrier,
         port,
         map,
         bad_attr: !attributes.is_empty() && map.is_none(),

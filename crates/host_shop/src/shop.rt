@@ -57,18 +57,18 @@ fn port_caack(plant: &Plant, action: &PortAction) -> Caack
     }
 }
 
-/// An action on a carrier: where its code is that it is done it writes, and fires its rows.
+/// An action on a carrier, which is handed over, and so not copied: where its code is that it is done it writes, and fires its rows.
 fn carrier_action_done(
     plant: &mut Plant,
     alloc: Global,
-    action: &CarrierAction,
+    action: CarrierAction,
 ) -> Result<Done, AllocError>
-    ensures done { IfOk result (λ told. done_view told plant.new ≡ carrier_action_done plant.old action.now) }
+    ensures done { IfOk result (λ told. done_view told plant.new ≡ carrier_action_done plant.old action) }
     ensures sendable { IfOk result (λ told. CanBeSent told.reply) }
 {
-    let code = carrier_caack(plant, action);
+    let code = carrier_caack(plant, &action);
     let rows = if code.is_done() {
-        write_carrier_action(plant, alloc, action)?
+        write_carrier_action(plant, alloc, &action)?
     } else {
         Vec::new(alloc)
     };
@@ -153,10 +153,10 @@ pub fn shop_done(plant: &mut Plant, alloc: Global, message: &ShopMsg) -> Result<
         ShopMsg::S3F17(_, action, carrier, port, attributes) => carrier_action_done(
             plant,
             alloc,
-            &carrier_action(*action, *carrier, *port, attributes.as_slice()),
+            carrier_action(action, carrier, *port, attributes.as_slice()),
         ),
         ShopMsg::S3F25(action, port, _) => {
-            port_action_done(plant, alloc, &port_word(*action, *port))
+            port_action_done(plant, alloc, &port_word(action, *port))
         }
         ShopMsg::S3F27(mode, ports) => access_done(plant, alloc, *mode, ports),
         ShopMsg::S14F9(_, kind, attributes) => {

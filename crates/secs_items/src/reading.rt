@@ -17,12 +17,16 @@ use std::alloc::Global;
 // The most lists that may stand inside one another (this tool's profile, items).
 const MOST_LISTS: usize = 16;
 
+// The most items for which a list takes room before they are read; for more it grows as they come.
+const FIRST_ROOM: usize = 8;
+
 /// Reads the item at the front of the bytes, whatever follows it, and tells how many bytes it takes (SEMI E5, item
 /// formats). A length may have 1, 2 or 3 bytes, and any byte but 0 is true. What is read can be sent again.
 ///
 /// Where no item stands there, the fault of the least place is told, and of those at one place the one that stands
 /// first in `ItemFault`: `Truncated` where the bytes are a proper front of an item, and each other fault where its
-/// variant says. Besides, `NoMemory` may come at any call. Lists stand inside one another at most 16 deep. That no
+/// variant says. Besides, `NoMemory` may come at any call. Lists stand inside one another at most 16 deep. A list takes
+/// room at once for the items that it announces, but for at most eight, and for at most one in two bytes that are there; that no other
 /// memory is taken for what is announced and not there is measured (`bench/items.sh`) and not proved.
 pub fn decode(alloc: Global, bytes: &[u8]) -> Result<(Item, usize), ItemFault>
     ensures within { IfOk result (λ r. r.1 ≤ length bytes.now) }
@@ -199,7 +203,8 @@ fn read_list(
     ensures rest { IfOk result (λ r. length r.1.now ≤ length bytes.now) }
 {
     let (count, mut rest) = read_length(total, size, bytes)?;
-    let mut items = Items::new(alloc);
+    let room = Vec::with_capacity(alloc, count.min(FIRST_ROOM).min(rest.len() / 2))?;
+    let mut items = Items::from_vec(room);
     for _ in 0..count {
         let (item, behind) = read_item(alloc, levels, total, rest)?;
         items.push(item)?;

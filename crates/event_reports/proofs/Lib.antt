@@ -1,6 +1,7 @@
 pub mod Counts
 pub mod Within
 pub mod Places
+pub mod Silent
 pub mod Giving
 pub mod Small
 pub mod SamePlant

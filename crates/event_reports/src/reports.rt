@@ -2,7 +2,7 @@
 
 ghost use Rattle.std.specs.Prelude.{ℕ, length, take, ◌≡◌, ◌<◌, ◌≤◌, false, map, IfOk, OnOk, OnErr, IfSome, IfNone, option_map};
 ghost use Rattle.std.specs.Option.{unwrap_or};
-ghost use Rattle.std.specs.List.{list_all, HoldsAt};
+ghost use Rattle.std.specs.List.{list_all, list_any, HoldsAt};
 ghost use Rattle.item_model.specs.Data.{list, no_items, added};
 ghost use Rattle.item_model.specs.View.{view};
 ghost use Rattle.item_model.specs.Plain.{count_of};
@@ -32,6 +32,8 @@ pub struct Reports {
     chambers: u8,
     reports: Vec<Report>,
     events: Vec<EventLine>,
+    // where it is set, no event is enabled: then none need be looked for
+    none_enabled: bool,
 }
 
 impl Model for Reports {
@@ -39,12 +41,11 @@ impl Model for Reports {
 
     ghost Value = { Value_of };
 
-    ghost use Rattle.event_reports.specs.Within.{AreWithin};
-    ghost use Rattle.event_reports.specs.Kept.{reports_of};
+    ghost use Rattle.event_reports.specs.Kept.{reports_of, AreKept};
 
     ghost view = { reports_of };
 
-    ghost invariant = { λ r. AreWithin (reports_of r) };
+    ghost invariant = { AreKept };
 }
 
 impl Reports {
@@ -60,6 +61,7 @@ impl Reports {
             chambers,
             reports: Vec::new(alloc),
             events: silent_events(alloc)?,
+            none_enabled: true,
         })
     }
 
@@ -103,6 +105,7 @@ impl Reports {
             return 1;
         }
         enable_lines(&mut self.events, on, ceids);
+        self.none_enabled = !is_any_enabled(&self.events);
         0
     }
 
@@ -110,6 +113,9 @@ impl Reports {
     pub fn is_enabled(&self, ceid: u32) -> bool
         ensures { result ≡ is_enabled ceid self.now }
     {
+        if self.none_enabled {
+            return false;
+        }
         match self.place_of(ceid) {
             Some(place) => self.events[place].enabled,
             None => false,
@@ -245,6 +251,13 @@ fn enable_lines(events: &mut [EventLine], on: bool, ceids: &[u32])
     for event in events {
         event.enable(on, ceids);
     }
+}
+
+// Whether one of these events is enabled.
+fn is_any_enabled(events: &[EventLine]) -> bool
+    ensures { result ≡ list_any (λ e. e.enabled) events.now }
+{
+    events.iter().any(|event| event.enabled)
 }
 
 /// The values of these variables, in order (SEMI E5, S1F4 and S2F14): one without a value stands as an empty list.

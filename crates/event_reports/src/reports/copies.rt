@@ -16,6 +16,7 @@ impl Reports {
             chambers: self.chambers,
             reports: Vec::from_clones(alloc, &self.reports)?,
             events: Vec::from_clones(alloc, &self.events)?,
+            none_enabled: self.none_enabled,
         })
     }
     // The copy takes the place of these where nothing was refused on it; else it is let go.

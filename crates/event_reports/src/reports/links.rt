@@ -1,7 +1,7 @@
 //! To which reports events are linked (SEMI E5, S2F35).
 
 ghost use Rattle.std.specs.Prelude.{◌≡◌, ◌==◌, ◌≤◌, if◌then◌else◌, length, map, IfOk, OnOk, OnErr};
-ghost use Rattle.std.specs.List.{AllByRecursion, list_all};
+ghost use Rattle.std.specs.List.{AllByRecursion, list_all, list_any};
 ghost use Rattle.event_reports.specs.Within.{HasShortLink};
 ghost use Rattle.event_reports.specs.Limits.{most_linked};
 ghost use Rattle.event_reports.specs.Reports.{is_report, with_link, first_refusal, after_all, link_code, after_link, lrack, linked};
@@ -91,13 +91,15 @@ impl Reports {
     }
 }
 
-// Links the event of this CEID. No link gets longer than it may be, and the events stay the same, after `NoMemory` too.
+// Links the event of this CEID. No link gets longer than it may be, and the events and whether one is enabled stay the same, after
+// `NoMemory` too.
 fn link_lines(events: &mut [EventLine], ceid: u32, rptids: &Ids) -> Result<(), NoMemory>
     requires link { length rptids.now ≤ most_linked }
     requires links { AllByRecursion HasShortLink events.old }
     ensures linked { OnOk result (events.new ≡ map (with_link ceid rptids.now) events.old) }
     ensures links { AllByRecursion HasShortLink events.new }
     ensures ceids { map (λ e. e.ceid) events.new ≡ map (λ e. e.ceid) events.old }
+    ensures enabled { list_any (λ e. e.enabled) events.new ≡ list_any (λ e. e.enabled) events.old }
 {
     for event in events {
         event.link(ceid, rptids)?;

@@ -9,8 +9,11 @@ pub invariant_of-self : goal.invariant_of-self
 invariant_of-self c =
     let same = with_items_is c.self.inside.events c.enable_lines.new.events (search (rules, places)) in
     record {
-      count = c.self.invariant.count;
-      vids = c.self.invariant.vids;
-      links = rw (same, c.enable_lines.ensures, c.deref_mut.ensures.value) (map-within (with_enabled c.args.on c.args.ceids.now) (enabled-within c.args.on c.args.ceids.now) c.self.inside.events.items c.self.invariant.links);
-      events = rw (same, c.enable_lines.ensures, c.deref_mut.ensures.value) (map-ceids (with_enabled c.args.on c.args.ceids.now) (enabled-ceid c.args.on c.args.ceids.now) c.self.inside.events.items ∙ c.self.invariant.events);
+      within = record {
+        count = c.self.invariant.within.count;
+        vids = c.self.invariant.within.vids;
+        links = rw (same, c.enable_lines.ensures, c.deref_mut.ensures.value) (map-within (with_enabled c.args.on c.args.ceids.now) (enabled-within c.args.on c.args.ceids.now) c.self.inside.events.items c.self.invariant.within.links);
+        events = rw (same, c.enable_lines.ensures, c.deref_mut.ensures.value) (map-ceids (with_enabled c.args.on c.args.ceids.now) (enabled-ceid c.args.on c.args.ceids.now) c.self.inside.events.items ∙ c.self.invariant.within.events);
+      };
+      silent = search rules;
     }

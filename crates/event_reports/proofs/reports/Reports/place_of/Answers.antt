@@ -14,7 +14,7 @@ found : (c : goal.After-ok) → record {
 found c =
     let facts = c.binary_search_by_key.ensures in
     let by_ceid = facts.position (λ (e : EventLine). e.ceid) (answers_always _ _ _ (λ f a r g called. search rules)) in
-    searched _ c.self.invariant.events c.args.ceid _ (rw c.deref.ensures.value at facts.bound) (rw c.deref.ensures.value at by_ceid)
+    searched _ c.self.invariant.within.events c.args.ceid _ (rw c.deref.ensures.value at facts.bound) (rw c.deref.ensures.value at by_ceid)
 
 pub returns-clause-place : goal.returns-clause-place
 returns-clause-place c = rw (← c.self.view_is, c.ok.ensures.value) (found c).place

@@ -3,6 +3,7 @@ pub mod Numbers
 pub mod Moves
 pub mod Rows
 pub mod Keeps
+pub mod Rests
 pub mod Falls
 pub mod Tells
 pub mod Standing

@@ -54,6 +54,15 @@ head_not_in_kind l = first_is (λ note. not (in_kind l.kinds note)) l.waiting
 abbrev pub head_may_go : Line → Bool
 head_may_go l = first_is (λ note. not (in_kind l.kinds note) || is_inactive l.spool.load) l.waiting
 
+-- no note waits
+abbrev pub none_waits : List Note → Bool
+none_waits [] = true
+none_waits (note ∷ notes) = false
+
+-- the line rests: no note waits and none is spooled, and the spool is INACTIVE and isn't being emptied to the host
+abbrev pub rests : Line → Bool
+rests l = none_waits l.waiting && is_inactive l.spool.load && not (is_transmit l.spool.unload) && not (has_note l.spool)
+
 -- a note is open
 abbrev pub has_open : Line → Bool
 has_open l = is_some l.opened

@@ -1,10 +1,11 @@
 //! The line of notes as a record.
 
-ghost use Rattle.std.specs.Prelude.{◌≡◌, ◌≤◌, true, length, slice_get, option_copied, not, ◌&&◌, None, Some, IfOk, IfErr, IfSome};
+ghost use Rattle.std.specs.Prelude.{◌≡◌, ◌≤◌, true, length, slice_get, option_copied, not, ◌&&◌, None, Some, IfOk, IfErr, IfSome, IsTrue};
 ghost use Rattle.spool.specs.Limits.{most_capacity};
 ghost use Rattle.spool.specs.Spool.{rsda, is_transmit, has_note};
 ghost use Rattle.note_line.specs.Line.{opening, next, noted, restated, spool_head, drop_head, open_head, open_oldest, purge_oldest, fail_open, answered, with_kinds, begun, fate_of};
-ghost use Rattle.note_line.specs.Table3.{least, head_in_kind, head_not_in_kind, head_may_go, has_open};
+ghost use Rattle.note_line.specs.Table3.{least, none_waits, rests, head_in_kind, head_not_in_kind, head_may_go, has_open};
+ghost use Rattle.note_line.specs.declared.around.Around.{Around};
 ghost use Rattle.note_line.specs.Fates.{LineValid};
 ghost use Rattle.note_line.specs.Limits.{most_text};
 
@@ -239,6 +240,29 @@ impl NoteLine {
             && self.spool.has_note()
             && around.communicates
             && self.opened.is_none()
+    }
+
+    // Whether no note waits.
+    fn none_waits(&self) -> bool
+        ensures { result ≡ none_waits self.now.waiting }
+    {
+        match self.waiting.front() {
+            Some(_) => false,
+            None => true,
+        }
+    }
+
+    /// Whether the line rests: no note waits and none is spooled, and the spool is INACTIVE. Then no row of table 3 fires by itself,
+    /// whatever lies around, so that this needn't be told.
+    #[tactic(auto, using(crate::proofs::Rests::none_ready))]
+    pub fn rests(&self) -> bool
+        ensures rests { result ≡ rests self.now }
+        ensures none_ready { IsTrue result → (around : Around) → least around self.now ≡ None }
+    {
+        self.none_waits()
+            && self.spool.is_inactive()
+            && !self.spool.is_transmit()
+            && !self.spool.has_note()
     }
 
     /// The row of table 3 that fires by itself next, by what lies around the line, or none.

@@ -1,13 +1,12 @@
 -- The entries of the map, and the carriers in them.
-use Rattle.std.proofs.Common.{◌≡◌, ℕ, zero, suc, ◌+◌, ◌<◌, ◌≤◌, Bool, false, List, [], ◌∷◌, ◌++◌, length, position, None, IfSome, slice_get, bytes_eq, refl, sym, ap, ◌∙◌, subst, arith}
-use Rattle.std.specs.List.{AllByRecursion, position_from}
-use Rattle.std.proofs.lemmas.Iterator.Adapters.{position_from-zero}
-use Rattle.std.specs.Map.{lookup, keys_of}
+use Rattle.std.proofs.Common.{◌≡◌, ℕ, zero, suc, ◌+◌, ◌<◌, ◌≤◌, Bool, false, List, [], ◌∷◌, ◌++◌, length, None, IfSome, slice_get, bytes_eq, refl, sym, ap, ◌∙◌, subst, arith}
+use Rattle.std.specs.List.{AllByRecursion}
+use Rattle.std.specs.Map.{lookup}
 use Rattle.indexmap.specs.Layout.{set_value_at}
 use Rattle.indexmap.specs.IndexMap.{IndexMap, insert_entry}
 use Rattle.indexmap.proofs.CallerLemmas.{insert_entry-new}
 use Rattle.gem_tables.specs.Table.{update_at}
-use Rattle.carrier.specs.Carriers.{has_name, carrier_named, place_from, place_of, is_known, AreCarriers, most_carriers}
+use Rattle.carrier.specs.Carriers.{has_name, carrier_named, is_known, AreCarriers, most_carriers}
 use Rattle.carrier.specs.Kept.{carriers_of, IsKeyed, AreKept}
 use Rattle.carrier.specs.declared.carrier.Carrier.{Carrier}
 use Rattle.carrier.specs.declared.key.Key.{Key}
@@ -26,14 +25,6 @@ key_is name e h = turned name e.0.name ∙ ap (λ (n : List ℕ). bytes_eq n nam
 pub lookup_is : (name : List ℕ) (es : List (Key × Carrier)) → AllByRecursion IsKeyed es → lookup (is_key name) es ≡ carrier_named name (carriers_of es)
 lookup_is name [] h = refl
 lookup_is name (e ∷ es) h = rw (key_is name e h.0, lookup_is name es h.1) refl
-
--- its place
-from_is : (name : List ℕ) (n : ℕ) (es : List (Key × Carrier)) → AllByRecursion IsKeyed es → position_from (is_key name) n (keys_of es) ≡ place_from n name (carriers_of es)
-from_is name n [] h = refl
-from_is name n (e ∷ es) h = rw (key_is name e h.0, from_is name (n + 1) es h.1) refl
-
-pub position_is : (name : List ℕ) (es : List (Key × Carrier)) → AllByRecursion IsKeyed es → position (is_key name) (keys_of es) ≡ place_of name (carriers_of es)
-position_is name es h = position_from-zero (is_key name) (keys_of es) ∙ from_is name 0 es h
 
 -- as many carriers as entries
 pub length_of : (es : List (Key × Carrier)) → length (carriers_of es) ≡ length es

@@ -1,5 +1,6 @@
 pub mod Names
 pub mod Apart
+pub mod Places
 pub mod Entries
 pub mod Changes
 pub mod Absent

@@ -85,7 +85,12 @@ impl Carriers {
         ensures value { option_copied result ≡ carrier_named name self.now }
         ensures carriers { AreCarriers self.now }
     {
-        self.by_name.get(&Key { name })
+        // so few are looked through faster than a name is hashed
+        let _ = &self.by_name;
+        let text = name.as_bytes();
+        self.as_slice()
+            .iter()
+            .find(|carrier| is_called(carrier, text))
     }
 
     /// The carrier of a number of creation. `None` exactly where none of that number is known.
@@ -108,12 +113,22 @@ impl Carriers {
             .position(|carrier| carrier.number == number)
     }
 
+    // The place of the first carrier of a name, counted from 0.
+    fn place_called(&self, name: &[u8]) -> Option<usize>
+        ensures { result ≡ position (has_name name.now) self.now }
+    {
+        self.as_slice()
+            .iter()
+            .position(|carrier| is_called(carrier, name))
+    }
+
     /// The place of the carrier of a name, counted from 0. `None` exactly where none of that name is known.
     pub fn place_of(&self, name: Text80) -> Option<usize>
         ensures value { result ≡ place_of name self.now }
         ensures carriers { AreCarriers self.now }
     {
-        self.by_name.get_index_of(&Key { name })
+        let _ = &self.by_name;
+        self.place_called(name.as_bytes())
     }
 
     /// What is told of the carrier of a name. `None` exactly where none of that name is known.
@@ -130,7 +145,10 @@ impl Carriers {
     pub fn is_known(&self, name: Text80) -> bool
         ensures { result ≡ is_known name self.now }
     {
-        self.by_name.contains_key(&Key { name })
+        let text = name.as_bytes();
+        self.as_slice()
+            .iter()
+            .any(|carrier| is_called(carrier, text))
     }
 
     // ---- what is asked of them
@@ -290,14 +308,14 @@ impl Carriers {
     pub fn forget(&mut self, id: CarrierId)
         ensures { self.new ≡ without id self.old }
     {
-        self.keep_others(self.len(), id);
+        self.keep_others(self.len(), &id);
     }
 
     // So many carriers from the first on stay, but for that of a name. All are taken out, and put in again in their order:
     // a map that lost a single one may lack the room of it.
-    fn keep_others(&mut self, count: usize, name: CarrierId)
+    fn keep_others(&mut self, count: usize, name: &CarrierId)
         requires { count ≤ length self.old }
-        ensures { self.new ≡ without name (take count self.old) }
+        ensures { self.new ≡ without name.now (take count self.old) }
     {
         let _ = &self.by_name;
         if count == 0 {
@@ -397,13 +415,17 @@ impl Carriers {
 }
 
 // Whether the carrier has this name.
-fn is_named(carrier: &Carrier, name: CarrierId) -> bool
-    ensures { result ≡ has_name name carrier.now }
+fn is_named(carrier: &Carrier, name: &CarrierId) -> bool
+    ensures { result ≡ has_name name.now carrier.now }
 {
-    let key = Key {
-        name: carrier.name.text(),
-    };
-    key == Key { name: name.text() }
+    is_called(carrier, name.as_bytes())
+}
+
+// Whether the carrier has the name of these bytes.
+fn is_called(carrier: &Carrier, name: &[u8]) -> bool
+    ensures { result ≡ has_name name.now carrier.now }
+{
+    carrier.name.as_bytes() == name
 }
 
 // Whether a text is the name of a carrier.

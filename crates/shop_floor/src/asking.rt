@@ -140,7 +140,17 @@ fn is_directed(number: PortNo, carrier: &Carrier) -> bool
 pub(crate) fn is_new_at(number: u64, ports: &Ports, carriers: &Carriers) -> bool
     ensures { result ≡ is_new (arrival_at (port_numbered number ports.now)) carriers.now }
 {
-    match arrival_at(number, ports) {
+    match ports.numbered(number) {
+        Some(port) => is_new(port, carriers),
+        None => false,
+    }
+}
+
+// Whether a carrier came to the port whose name isn't known.
+fn is_new(port: &Port, carriers: &Carriers) -> bool
+    ensures { result ≡ is_new port.now.arrival carriers.now }
+{
+    match &port.arrival {
         Some(arrival) => !carriers.is_known(arrival.name.text()),
         None => false,
     }

@@ -1,5 +1,5 @@
 -- What a change at one place does to a list.
-use Rattle.std.proofs.Common.{◌≡◌, ℕ, zero, suc, ◌<◌, ◌≤◌, List, [], ◌∷◌, length, set, Option, Some, None, IfSome, slice_get, refl, ap, ◌∙◌, arith}
+use Rattle.std.proofs.Common.{◌≡◌, ℕ, zero, suc, ◌+◌, ◌<◌, ◌≤◌, List, [], ◌∷◌, length, set, Option, Some, None, IfSome, slice_get, slice_index_or, refl, ap, ◌∙◌, arith}
 use Rattle.std.specs.List.{refill}
 use Rattle.std.proofs.lemmas.List.{length-set}
 use Rattle.arrayvec.proofs.ArrayVecLemmas.{items-with_items}
@@ -38,16 +38,36 @@ module _ {O : Type 0} where
   update_set zero (x ∷ xs) object l = refl
   update_set (suc place) (x ∷ xs) object l = ap (λ ys. x ∷ ys) (update_set place xs object (omega arith))
 
-  -- what a list of the same length has in its place
-  pub update_refill : (xs : List O) (place : ℕ) (object : O) → place < length xs → refill (length xs) xs (set xs place object) ≡ update_at place (λ _. object) xs
-  update_refill xs place object l =
-      items-with_items (record { items = xs }) (set xs place object) (length-set xs place object) ∙ update_set place xs object l
+  -- what is at a place that is there
+  pub there_is : (place : ℕ) (objects : List O) (other : O) → place < length objects → slice_get objects place ≡ Some (slice_index_or objects place other)
+  there_is place [] other l = absurd (omega arith)
+  there_is zero (x ∷ xs) other l = refl
+  there_is (suc place) (x ∷ xs) other l = there_is place xs other (omega arith)
+
+  -- what is changed where it stands
+  update_there : (change : O → O) (place : ℕ) (objects : List O) (other : O) → place < length objects → set objects place (change (slice_index_or objects place other)) ≡ update_at place change objects
+  update_there change place [] other l = absurd (omega arith)
+  update_there change zero (x ∷ xs) other l = refl
+  update_there change (suc place) (x ∷ xs) other l = ap (λ ys. x ∷ ys) (update_there change place xs other (omega arith))
 
 -- ---- the port of a number
 
-pub change_found : (change : Port → Port) (number : ℕ) (ports : List Port) (p : Port) → port_numbered number ports ≡ Some p → change_port number (λ _. change p) ports ≡ change_port number change ports
-change_found change zero ports p s = refl
-change_found change (suc n) ports p s = update_found change n ports p s
+module _ (ports : List Port) (number place : ℕ) (other : Port) (within : place < length ports) (counted : number ≡ place + 1) where
+  is_next : number ≡ suc place
+  is_next = omega (arith, counted)
+
+  pub numbered_there : port_numbered number ports ≡ Some (slice_index_or ports place other)
+  numbered_there = rw is_next (there_is place ports other within)
+
+  -- the port is changed where it stands, in a list that keeps its length
+  refill_there : (change : Port → Port) → refill (length ports) ports (set ports place (change (slice_index_or ports place other))) ≡ change_port number change ports
+  refill_there change =
+      items-with_items (record { items = ports }) (set ports place (change (slice_index_or ports place other))) (length-set ports place (change (slice_index_or ports place other)))
+      ∙ rw is_next (update_there change place ports other within)
+
+-- the same of the list that is kept, and of the one that is shown
+pub changed_there : (kept shown ports : List Port) (number place : ℕ) (other : Port) (change : Port → Port) → shown ≡ kept → kept ≡ ports → place < length ports → number ≡ place + 1 → refill (length kept) kept (set shown place (change (slice_index_or shown place other))) ≡ change_port number change ports
+changed_there kept shown ports number place other change s v within counted = rw (s, v) (refill_there ports number place other within counted change)
 
 pub change_missing : (change : Port → Port) (number : ℕ) (ports : List Port) → port_numbered number ports ≡ None → change_port number change ports ≡ ports
 change_missing change zero ports s = refl

@@ -1,6 +1,6 @@
 //! A load port.
 
-ghost use Rattle.std.specs.Prelude.{◌≡◌};
+ghost use Rattle.std.specs.Prelude.{◌≡◌, Some, None};
 ghost use Rattle.load_port.specs.Ports.{first_port, view_of};
 
 use crate::action::PortView;
@@ -53,5 +53,13 @@ impl Port {
             in_service: self.states.transfer.is_in_service(),
             carrier: self.carrier,
         }
+    }
+
+    // This carrier belongs to the port, and what came there is told of.
+    pub(crate) fn settle(&mut self, name: CarrierId)
+        ensures { self.new ≡ record self.old { carrier = Some name; arrival = None } }
+    {
+        self.carrier = Some(name);
+        self.arrival = None;
     }
 }

@@ -1,8 +1,7 @@
 //! The load ports of a tool.
 
-ghost use Rattle.std.specs.Prelude.{◌≡◌, ◌≤◌, length, map, slice_get, option_map, option_copied, Some, None, IfSome};
+ghost use Rattle.std.specs.Prelude.{◌≡◌, ◌+◌, ◌≤◌, ◌<◌, length, map, slice_get, option_map, option_copied, Some, None, IfSome};
 ghost use Rattle.std.specs.List.{list_any};
-ghost use Rattle.gem_tables.specs.Table.{update_at};
 ghost use Rattle.load_port.specs.Caack.{caack_number};
 ghost use Rattle.load_port.specs.Ports.{first_ports, most_ports, change_port, fires_row, starts_row, view_of, is_no_port, port_numbered, reserve_code, cancel_code, access_code, port_caack};
 
@@ -153,21 +152,16 @@ impl Ports {
 
     // ---- what happens to them
 
-    // The port at a place, counted from 0, is this one; where there is none, nothing changes.
-    fn put_at(&mut self, place: usize, port: Port)
-        ensures { self.new ≡ update_at place (λ _. port) self.old }
+    // The place of the port of a number, counted from 0. `None` exactly where there is none.
+    fn place_of(&self, number: u64) -> Option<usize>
+        ensures within { IfSome result (λ place. place < length self.now) }
+        ensures counted { IfSome result (λ place. number ≡ place + 1) }
+        ensures missing { result ≡ None → port_numbered number self.now ≡ None }
     {
-        if place < self.ports.len() {
-            self.ports[place] = port;
-        }
-    }
-
-    // The port of a number is this one; where there is none, nothing changes.
-    fn put(&mut self, number: u64, port: Port)
-        ensures { self.new ≡ change_port number (λ _. port) self.old }
-    {
-        if number != 0 {
-            self.put_at(number as usize - 1, port);
+        if number == 0 || number > self.ports.len() as u64 {
+            None
+        } else {
+            Some(number as usize - 1)
         }
     }
 
@@ -178,14 +172,9 @@ impl Ports {
         ensures fires { result ≡ starts_row table row (port_numbered number self.old) }
         ensures after { self.new ≡ change_port number (fires_row table row) self.old }
     {
-        match self.numbered(number) {
+        match self.place_of(number) {
             None => false,
-            Some(port) => {
-                let mut changed = *port;
-                let fires = changed.states.fire(table, row);
-                self.put(number, changed);
-                fires
-            }
+            Some(place) => self.ports[place].states.fire(table, row),
         }
     }
 
@@ -193,9 +182,8 @@ impl Ports {
     pub fn own(&mut self, number: u64, carrier: Option<CarrierId>)
         ensures { self.new ≡ change_port number (λ p. record p { carrier = carrier }) self.old }
     {
-        if let Some(port) = self.numbered(number) {
-            let changed = Port { carrier, ..*port };
-            self.put(number, changed);
+        if let Some(place) = self.place_of(number) {
+            self.ports[place].carrier = carrier;
         }
     }
 
@@ -204,12 +192,8 @@ impl Ports {
     pub fn come(&mut self, number: u64, arrival: Arrival)
         ensures { self.new ≡ change_port number (λ p. record p { arrival = Some arrival }) self.old }
     {
-        if let Some(port) = self.numbered(number) {
-            let changed = Port {
-                arrival: Some(arrival),
-                ..*port
-            };
-            self.put(number, changed);
+        if let Some(place) = self.place_of(number) {
+            self.ports[place].arrival = Some(arrival);
         }
     }
 
@@ -218,13 +202,8 @@ impl Ports {
     pub fn settle(&mut self, number: u64, name: CarrierId)
         ensures { self.new ≡ change_port number (λ p. record p { carrier = Some name; arrival = None }) self.old }
     {
-        if let Some(port) = self.numbered(number) {
-            let changed = Port {
-                carrier: Some(name),
-                arrival: None,
-                ..*port
-            };
-            self.put(number, changed);
+        if let Some(place) = self.place_of(number) {
+            self.ports[place].settle(name);
         }
     }
 }

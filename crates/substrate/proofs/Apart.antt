@@ -104,6 +104,18 @@ index_is name (r ∷ rs) index e = by_test (has_name name r) refl e (λ i e1. in
       })
   by_test false q f later = further q (index_of name rs) refl (sym (index_later 0 name rs) ∙ f) later
 
+-- a name that has no place in the list is unknown
+pub unplaced : (name : List ℕ) (rs : List Registered) → index_of name rs ≡ None → is_known name rs ≡ false
+unplaced name [] e = refl
+unplaced name (r ∷ rs) e = by_test (has_name name r) e (unplaced name rs) where
+  further : (p : Option ℕ) → index_of name rs ≡ p → option_map suc p ≡ None → (index_of name rs ≡ None → is_known name rs ≡ false) → is_known name rs ≡ false
+  further None e1 e2 later = later e1
+  further (Some i) e1 e2 later = absurd (cc)
+
+  by_test : (b : Bool) → cond b (Some 0) (index_from (0 + 1) name rs) ≡ None → (index_of name rs ≡ None → is_known name rs ≡ false) → (b || is_known name rs) ≡ false
+  by_test true f later = absurd (cc)
+  by_test false f later = further (index_of name rs) refl (sym (index_later 0 name rs) ∙ f) later
+
 -- a name that has no place in the list changes nothing
 pub change_absent : (name : List ℕ) (change : Registered → Registered) (rs : List Registered) → index_of name rs ≡ None → change_named name change rs ≡ rs
 change_absent name change [] e = refl

@@ -1,18 +1,19 @@
 -- The entries of the map, and the substrates in them.
-use Rattle.std.proofs.Common.{◌≡◌, ℕ, zero, suc, ◌+◌, Bool, true, false, cond, not, List, [], ◌∷◌, ◌++◌, length, position, None, IfSome, slice_get, bytes_eq, refl, sym, ap, ◌∙◌, subst}
+use Rattle.std.proofs.Common.{◌≡◌, ℕ, zero, suc, ◌+◌, ◌<◌, Bool, true, false, cond, not, List, [], ◌∷◌, ◌++◌, length, position, remove, Some, None, IfSome, option_map, slice_get, bytes_eq, refl, sym, ap, ◌∙◌, subst}
 use Rattle.std.specs.List.{AllByRecursion, position_from}
 use Rattle.std.proofs.lemmas.Iterator.Adapters.{position_from-zero}
 use Rattle.std.specs.Map.{lookup, keys_of, remove_entry}
 use Rattle.indexmap.specs.Layout.{set_value_at}
 use Rattle.indexmap.specs.IndexMap.{IndexMap, insert_entry}
 use Rattle.indexmap.proofs.CallerLemmas.{insert_entry-new}
+use Rattle.indexmap.proofs.MapLemmas.{Found-position, remove_entry-first}
 use Rattle.gem_tables.specs.Table.{update_at}
 use Rattle.substrate.specs.Places.{has_name, substrate_named, index_from, index_of, without, is_known, are_named_apart}
 use Rattle.substrate.specs.Kept.{held_of, IsKeyed, AreKept}
 use Rattle.substrate.specs.declared.registered.Registered.{Registered}
 use Rattle.substrate.specs.declared.key.Key.{Key}
 use Rattle.substrate.proofs.Texts.{turned}
-use Rattle.substrate.proofs.Apart.{has_it, first_apart, rest_apart, without_none, apart_same, names, names_update, apart_fewer, apart_more, unknown_none}
+use Rattle.substrate.proofs.Apart.{has_it, first_apart, rest_apart, without_none, apart_same, names, names_update, apart_fewer, apart_more, unknown_none, index_is}
 
 -- the test by which a substrate is looked up
 abbrev pub is_key : List ℕ → Key → Bool
@@ -60,6 +61,11 @@ removed_is name (e ∷ es) h apart = rw (key_is name e h.0) (by_test (has_name n
       sym (without_none name (held_of es) (subst (λ (n : List ℕ). is_known n (held_of es) ≡ false) (has_it name e.1 q) (first_apart e.1 (held_of es) apart)))
   by_test false q later = ap (λ (rs : List Registered). e.1 ∷ rs) later
 
+-- the entry at the place of a name is the one that its key removes
+pub removed_at : (name : List ℕ) (es : List (Key × Registered)) (index : ℕ) → AllByRecursion IsKeyed es → index_of name (held_of es) ≡ Some index → remove es index ≡ remove_entry (is_key name) es
+removed_at name es index h e =
+    sym (remove_entry-first (is_key name) es index (Found-position (is_key name) es index (position_is name es h ∙ e)).first)
+
 keyed_removed : (name : List ℕ) (es : List (Key × Registered)) → AllByRecursion IsKeyed es → AllByRecursion IsKeyed (remove_entry (is_key name) es)
 keyed_removed name [] h = h
 keyed_removed name (e ∷ es) h = by_test (is_key name e.0) (keyed_removed name es h.1) where
@@ -89,6 +95,20 @@ kept_removed name es h = record {
   keyed = keyed_removed name es h.keyed;
   apart = ap are_named_apart (removed_is name es h.keyed h.apart) ∙ apart_fewer (λ r. not (has_name name r)) (held_of es) h.apart;
 }
+
+-- an entry that is removed by the place of its name
+module _ (name : List ℕ) (es : List (Key × Registered)) (index : ℕ) (h : AreKept es) (e : index_of name (held_of es) ≡ Some index) where
+  pub entry_within : index < length es
+  entry_within = subst (λ (n : ℕ). index < n) (length_of es) (index_is name (held_of es) index e).within
+
+  pub entry_kept : (rest : List (Key × Registered)) → rest ≡ remove es index → AreKept rest
+  entry_kept rest r = subst AreKept (sym (r ∙ removed_at name es index h.keyed e)) (kept_removed name es h)
+
+  pub entry_gone : (rest : List (Key × Registered)) → rest ≡ remove es index → held_of rest ≡ without name (held_of es)
+  entry_gone rest r = ap held_of (r ∙ removed_at name es index h.keyed e) ∙ removed_is name es h.keyed h.apart
+
+  pub entry_found : (r : Registered) → slice_get (held_of es) index ≡ Some r → Some r.at ≡ option_map (λ (s : Registered). s.at) (substrate_named name (held_of es))
+  entry_found r s = ap (option_map (λ (t : Registered). t.at)) (sym s ∙ (index_is name (held_of es) index e).found)
 
 -- the entry of a substrate
 abbrev pub entry_of : Registered → Key × Registered

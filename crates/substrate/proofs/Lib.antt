@@ -8,3 +8,4 @@ pub mod Standing
 pub mod Tying
 pub mod Faults
 pub mod Numbering
+pub mod Found

@@ -1,5 +1,5 @@
 -- The numbers of the locations.
-use Rattle.std.proofs.Common.{◌≡◌, ℕ, zero, suc, ◌+◌, ◌-◌, ◌*◌, ◌/◌, ◌%◌, ◌==◌, ◌<◌, ◌≤◌, nat_le, nat_lt, Bool, true, false, ◌||◌, List, [], ◌∷◌, Option, Some, is_some, slice_get, refl, sym, ap, ◌∙◌, arith}
+use Rattle.std.proofs.Common.{◌≡◌, ℕ, zero, suc, ◌+◌, ◌-◌, ◌*◌, ◌/◌, ◌%◌, ◌==◌, ◌<◌, ◌≤◌, nat_le, nat_lt, Bool, true, false, ◌||◌, List, [], ◌∷◌, Option, Some, is_some, option_map, slice_get, refl, sym, ap, ◌∙◌, arith}
 use Rattle.std.specs.Prelude.{if◌then◌else◌}
 use Rattle.std.specs.List.{list_any, list_all}
 use Rattle.std.proofs.lemmas.Bool.Decides.{nat_tests}
@@ -103,18 +103,18 @@ taken_shown loc (r ∷ rs) = of (stands_at loc r) refl (taken_shown loc rs) wher
   of false e rest = rw e rest
 
 -- so the board tells it by the number
-pub shown_there : (b : Spots) (rs : List Registered) (number : ℕ) (name : Option (List ℕ)) → 1 ≤ number → number ≤ spot_count b.ports b.chambers
+pub shown_there : (b : Spots) (rs : List Registered) (number : ℕ) (taken : Bool) → 1 ≤ number → number ≤ spot_count b.ports b.chambers
     → list_all (λ r. is_location b.ports b.chambers r.at) rs ≡ true
     → ((loc : LocId) → is_location b.ports b.chambers loc ≡ true → name_at loc b ≡ Some (substrate_at loc rs))
-    → slice_get b.names (number - 1) ≡ Some name → is_some name ≡ list_any (has_number b.ports number) rs
-shown_there b rs number name first last all shown is =
+    → option_map is_some (slice_get b.names (number - 1)) ≡ Some taken → taken ≡ list_any (has_number b.ports number) rs
+shown_there b rs number taken first last all shown is =
     let loc : LocId = location_numbered b.ports number in
     let stands = location_stands b.ports b.chambers number first last in
     let there = stands.spot in
     let spot : number - 1 ≡ spot_of b.ports loc = omega (arith, there) in
-    let same : Some name ≡ Some (substrate_at loc rs) = sym is ∙ ap (slice_get b.names) spot ∙ shown loc stands.inside in
-    let named : name ≡ substrate_at loc rs = cc in
-    ap is_some named ∙ taken_shown loc rs ∙ sym (any_there b.ports b.chambers number loc rs stands all)
+    let same : Some taken ≡ Some (is_some (substrate_at loc rs)) = sym is ∙ ap (λ (i : ℕ). option_map is_some (slice_get b.names i)) spot ∙ ap (option_map is_some) (shown loc stands.inside) in
+    let told : taken ≡ is_some (substrate_at loc rs) = cc in
+    told ∙ taken_shown loc rs ∙ sym (any_there b.ports b.chambers number loc rs stands all)
 
 -- ---- at work
 

@@ -1,6 +1,6 @@
 //! Who is at each place.
 
-ghost use Rattle.std.specs.Prelude.{◌≡◌, ◌<◌, ◌≤◌, ◌*◌, true, slice_get, length, replicate, Some, None, IfOk, option_map};
+ghost use Rattle.std.specs.Prelude.{◌≡◌, ◌<◌, ◌≤◌, ◌*◌, true, slice_get, length, replicate, Some, None, IfOk, option_map, option_copied, is_some};
 ghost use Rattle.substrate.specs.Locations.{is_location};
 ghost use Rattle.substrate.specs.Board.{spot_of, spot_count, location_numbered, name_at, with_name, HasSpots};
 
@@ -50,11 +50,11 @@ impl Board {
     }
 
     // Who is at a place of the tool.
-    pub(crate) fn name_at(&self, loc: LocId) -> Option<SubstrateId>
+    pub(crate) fn name_at(&self, loc: LocId) -> Option<&SubstrateId>
         requires { is_location self.now.ports self.now.chambers loc ≡ true }
-        ensures { name_at loc self.now ≡ Some result }
+        ensures { name_at loc self.now ≡ Some (option_copied result) }
     {
-        self.names[self.spot_of(loc)]
+        self.names[self.spot_of(loc)].as_ref()
     }
 
     // How many places there are.
@@ -71,12 +71,12 @@ impl Board {
         self.ports as usize * 25
     }
 
-    // Who is at the place of a spot, counted from 0.
-    pub(crate) fn name_of(&self, spot: usize) -> Option<SubstrateId>
+    // Whether someone is at the place of a spot, counted from 0.
+    pub(crate) fn is_taken(&self, spot: usize) -> bool
         requires { spot < spot_count self.now.ports self.now.chambers }
-        ensures { slice_get self.now.names spot ≡ Some result }
+        ensures { option_map is_some (slice_get self.now.names spot) ≡ Some result }
     {
-        self.names[spot]
+        self.names[spot].is_some()
     }
 
     // The place of a number, counted from 1.

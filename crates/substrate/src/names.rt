@@ -1,6 +1,6 @@
 //! The substrates that have a place, found by their names.
 
-ghost use Rattle.std.specs.Prelude.{◌≡◌, ◌++◌, [], ◌∷◌, true, false, length, slice_get, option_copied, Some, IfOk, IfErr, IfSome};
+ghost use Rattle.std.specs.Prelude.{◌≡◌, ◌++◌, [], ◌∷◌, true, false, length, slice_get, option_copied, option_map, Some, IfOk, IfErr, IfSome};
 ghost use Rattle.gem_tables.specs.Table.{update_at};
 ghost use Rattle.substrate.specs.Places.{substrate_named, is_known, index_of, moved, without, are_named_apart};
 
@@ -115,11 +115,24 @@ impl Names {
         }
     }
 
-    // The substrate of a name isn't there any more; the others keep their order. It gives the one that was.
-    pub(crate) fn forget(&mut self, sub: SubstrateId) -> Option<Registered>
-        ensures found { result ≡ substrate_named sub self.old }
+    // The substrate of a name isn't there any more; the others keep their order. It gives the place where it was.
+    pub(crate) fn forget(&mut self, sub: SubstrateId) -> Option<LocId>
+        ensures found { result ≡ option_map (λ r. r.at) (substrate_named sub self.old) }
         ensures after { self.new ≡ without sub self.old }
     {
-        self.by_name.shift_remove(&Key { name: sub })
+        match self.index_of(sub) {
+            Some(index) => {
+                let count = self.by_name.len();
+                let place = self.by_name[index].at;
+                // the last one needs no other to be moved up
+                if index + 1 == count {
+                    self.by_name.pop();
+                } else {
+                    self.by_name.shift_remove_index(index);
+                }
+                Some(place)
+            }
+            None => None,
+        }
     }
 }

@@ -1,6 +1,6 @@
 //! Which substrate has which place.
 
-ghost use Rattle.std.specs.Prelude.{◌≡◌, ◌+◌, ◌<◌, [], length, slice_get, nat_lt, true, Some, None, Err, IfOk, IfErr};
+ghost use Rattle.std.specs.Prelude.{◌≡◌, ◌+◌, ◌<◌, [], length, slice_get, nat_lt, true, Some, None, Err, IfOk, IfErr, option_copied};
 ghost use Rattle.substrate.specs.Locations.{is_location};
 ghost use Rattle.substrate.specs.Board.{spot_count};
 ghost use Rattle.substrate.specs.Places.{PlaceMap, is_taken_at, is_any_at_work, found_location, substrate_named, substrate_at, is_known, is_taken, has_place, registered, fault_of, register_fault, can_shift, shifted, removed, most_substrates, no_places, ArePlaces};
@@ -94,6 +94,14 @@ impl Places {
         ensures value { result ≡ substrate_at loc self.now.held }
         ensures places { ArePlaces self.now }
     {
+        self.name_at(loc).copied()
+    }
+
+    /// The same, to be read where it is kept.
+    pub fn name_at(&self, loc: LocId) -> Option<&SubstrateId>
+        ensures value { option_copied result ≡ substrate_at loc self.now.held }
+        ensures places { ArePlaces self.now }
+    {
         if self.board.has(loc) {
             self.board.name_at(loc)
         } else {
@@ -125,7 +133,7 @@ impl Places {
         ensures { result ≡ is_taken_at number self.now }
     {
         if 1 <= number && number <= self.board.len() {
-            self.board.name_of(number - 1).is_some()
+            self.board.is_taken(number - 1)
         } else {
             false
         }
@@ -174,8 +182,8 @@ impl Places {
     fn register_fault(&self, sub: SubstrateId, loc: LocId) -> Option<PlaceFault>
         ensures { result ≡ register_fault sub loc self.now.held }
     {
-        match self.at(loc) {
-            Some(who) => Some(PlaceFault::Taken(who)),
+        match self.name_at(loc) {
+            Some(who) => Some(PlaceFault::Taken(*who)),
             None => self.name_fault(sub),
         }
     }
@@ -255,7 +263,7 @@ impl Places {
     fn is_taken(&self, loc: LocId) -> bool
         ensures { result ≡ is_taken loc self.now.held }
     {
-        self.at(loc).is_some()
+        self.name_at(loc).is_some()
     }
 
     // Whether the substrate of a name is at a location.
@@ -275,8 +283,8 @@ impl Places {
         ensures after { self.new ≡ removed sub self.old }
     {
         match self.names.forget(sub) {
-            Some(substrate) => {
-                self.board.put(substrate.at, None);
+            Some(place) => {
+                self.board.put(place, None);
                 true
             }
             None => false,

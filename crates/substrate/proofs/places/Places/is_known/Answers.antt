@@ -1,12 +1,8 @@
-use Rattle.std.proofs.Common.{Option, None, Some, ◌≡◌, Bor, ◌∙◌, ap, is_some, option_copied, refl}
+use Rattle.std.proofs.Common.{◌∙◌, ap, is_some}
 use Rattle.substrate.specs.Places.{PlaceMap, is_known}
-use Rattle.substrate.specs.declared.registered.Registered.{Registered}
 use Rattle.substrate.proofs.Apart.{known_found}
+use Rattle.substrate.proofs.Found.{some_shown}
 use Rattle.substrate.proofs.places.Places.is_known.Goals as goal
-
-some_shown : (o : Option (Bor Registered)) → is_some o ≡ is_some (option_copied o)
-some_shown None = refl
-some_shown (Some r) = refl
 
 pub returns : goal.returns
 returns c =

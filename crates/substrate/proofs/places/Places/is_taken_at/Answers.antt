@@ -6,8 +6,7 @@ use Rattle.substrate.proofs.places.Places.is_taken_at.Goals as goal
 
 pub returns-then-number-len : goal.returns-then-number-len
 returns-then-number-len c =
-    c.is_some.ensures
-    ∙ shown_there c.self.inside.board c.self.inside.names c.args.number c.name_of.result c.if-number-ge1.true (subst (λ (n : ℕ). c.args.number ≤ n) c.len.ensures c.if-number-len.true) c.self.invariant.places.within c.self.invariant.shown c.name_of.ensures
+    shown_there c.self.inside.board c.self.inside.names c.args.number c.is_taken.result c.if-number-ge1.true (subst (λ (n : ℕ). c.args.number ≤ n) c.len.ensures c.if-number-len.true) c.self.invariant.places.within c.self.invariant.shown c.is_taken.ensures
     ∙ ap (λ (p : PlaceMap). is_taken_at c.args.number p) c.self.view_is
 
 pub returns-else-number-ge1 : goal.returns-else-number-ge1

@@ -1,7 +1,7 @@
 use Rattle.std.proofs.Common.{◌∙◌, sym, ap}
 use Rattle.substrate.specs.Places.{PlaceMap, substrate_at}
 use Rattle.substrate.proofs.Standing.{nobody}
-use Rattle.substrate.proofs.places.Places.at.Goals as goal
+use Rattle.substrate.proofs.places.Places.name_at.Goals as goal
 
 pub returns-else-has-clause-value : goal.returns-else-has-clause-value
 returns-else-has-clause-value c =

@@ -1,2 +1,4 @@
 pub mod Located
 pub mod Due
+pub mod Emptied
+pub mod Listed

@@ -1,10 +1,10 @@
 -- When no row of a location is ready.
-use Rattle.std.proofs.Common.{◌≡◌, ℕ, ◌==◌, ◌≤◌, ◌<◌, Bool, true, false, not, if◌then◌else◌, cond, List, [], ◌∷◌, map, Option, Some, None, is_some, option_map, IfSome, refl, sym, ap, subst, ◌∙◌, arith}
+use Rattle.std.proofs.Common.{◌≡◌, ℕ, suc, ◌+◌, ◌==◌, ◌≤◌, ◌<◌, Bool, true, false, not, if◌then◌else◌, cond, List, [], ◌∷◌, length, get_or, map, Option, Some, None, is_some, option_map, IfSome, refl, sym, ap, subst, ◌∙◌, arith}
 use Rattle.std.specs.List.{AllByRecursion}
 use Rattle.std.specs.Option.{option_or}
 use Rattle.std.proofs.lemmas.Bool.{true≢false}
 use Rattle.std.proofs.lemmas.Bool.Decides.{nat_tests}
-use Rattle.gem_tables.specs.Table.{row_of, firing}
+use Rattle.gem_tables.specs.Table.{row_of, firing, first_itself}
 use Rattle.gem_tables.specs.Machine.{Machine, first_ready, ready_in, fired_in}
 use Rattle.gem_tables.specs.declared.firing.Firing.{Firing}
 use Rattle.gem_tables.proofs.Machines.{first_ready_cases}
@@ -13,10 +13,14 @@ use Rattle.process_job.specs.Jobs.{job_numbered}
 use Rattle.process_job.specs.Tables as effect
 use Rattle.process_job.specs.declared.job.ProcessJob.{ProcessJob}
 use Rattle.carrier.specs.Carriers.{carrier_numbered}
+use Rattle.carrier.specs.declared.carrier.Carrier.{Carrier}
 use Rattle.shop_floor.specs.Floor.{Floor, number_of as carrier_number}
 use Rattle.shop_floor.specs.Machines.{floor_least as shop_least}
 use Rattle.shop_floor.proofs.Shapes.{of_tables}
-use Rattle.substrate.specs.Tables.{SubstrateRow, transport_number, transport_table, processing_number, processing_table}
+use Rattle.substrate.specs.Places.{PlaceMap, is_taken_at}
+use Rattle.substrate.specs.Tables.{SubstrateRow, occupancy_number, occupancy_table, transport_number, transport_table, processing_number, processing_table}
+use Rattle.substrate.specs.declared.record.Occupancy.{Occupancy}
+use Rattle.substrate.specs.declared.record.Occupancy.TheVariants.{Unoccupied, Occupied}
 use Rattle.substrate.specs.declared.record.LocationRecord.{LocationRecord}
 use Rattle.substrate.specs.declared.record.Processing.{Processing}
 use Rattle.floor_model.specs.declared.tracked.Substrate.{Substrate}
@@ -24,8 +28,10 @@ use Rattle.floor_model.specs.Floor.{ToolFloor, with_shop, location_at, location_
 use Rattle.floor_model.specs.Jobs.{job_does, found_job_does}
 use Rattle.floor_model.specs.Substrates.{found_does, reaches_verified}
 use Rattle.floor_model.specs.Machines.{accessing_ready, substrate_ready, location_ready, processing_machine, process_machine, floor_machines, floor_fired, floor_least}
-use Rattle.floor_model.proofs.Tables.{first_accessing, least_floor, first_process, first_control, first_move, first_of_others}
-use Rattle.tool_floor.specs.Located.{first_location, first_transport, first_processing, NoSubstrates, leaves_places, is_of_shop}
+use Rattle.floor_model.specs.Wants.{location_wants}
+use Rattle.floor_model.proofs.Scans.{got_at}
+use Rattle.floor_model.proofs.Tables.{first_accessing, least_floor, first_process, first_control, first_move, first_of_others, fired_location}
+use Rattle.tool_floor.specs.Located.{first_location, first_transport, first_processing, NoSubstrates, NoShop, leaves_places, is_of_shop}
 
 -- ---- it is asked of the places and of the states of the locations alone
 
@@ -73,6 +79,24 @@ module _ (f : ToolFloor) (s : Floor) where
   still_no_substrates none = record {
     transport = first_transport_same (map number_of f.substrates) ∙ none.transport;
     processing = first_processing_same (map number_of f.substrates) ∙ none.processing;
+  }
+
+-- ---- those of carriers are asked of all but the states of the locations
+
+module _ (f : ToolFloor) (ls : List LocationRecord) where
+  accessing_same : (o : Option Carrier) → accessing_ready o (record f { locations = ls }) ≡ accessing_ready o f
+  accessing_same None = refl
+  accessing_same (Some c) = refl
+
+  first_accessing_same : (numbers : List ℕ) → first_ready 10 (λ n. ready_in floor_machines 10 n (record f { locations = ls })) numbers ≡ first_ready 10 (λ n. ready_in floor_machines 10 n f) numbers
+  first_accessing_same [] = refl
+  first_accessing_same (n ∷ ns) = ap (λ (r : Option ℕ). option_or (option_map (firing 10 n) r) (first_ready 10 (λ m. ready_in floor_machines 10 m (record f { locations = ls })) ns)) (accessing_same (carrier_numbered n f.shop.carriers))
+      ∙ ap (λ (r : Option Firing). option_or (option_map (firing 10 n) (ready_in floor_machines 10 n f)) r) (first_accessing_same ns)
+
+  pub still_no_shop : NoShop f → NoShop (record f { locations = ls })
+  still_no_shop none = record {
+    shop = none.shop;
+    accessing = first_accessing_same (map carrier_number f.shop.carriers) ∙ none.accessing;
   }
 
 -- ---- what the least row tells of it
@@ -126,6 +150,14 @@ module _ (f : ToolFloor) (o : Option Firing) (e : floor_least f ≡ o) where
   least_tells past =
       let low : 11 ≤ 11 = omega arith in
       (none_first 11 (first_location f) (option_or (first_transport f) (option_or (first_processing f) (first_late f))) o (location_below f 11 low) (past_accessing 11 low past) past).0
+
+  pub shop_told : IsPast 10 o → NoShop f
+  shop_told past =
+      let low : 9 ≤ 10 = omega arith in
+      let lower : 10 ≤ 10 = omega arith in
+      let shop = none_first 10 (shop_least f.shop) (first_of_others f) o (shop_below 10 f.shop low) (sym (least_floor f) ∙ e) past in
+      let accessing = none_first 10 (first_accessing f) (option_or (first_location f) (option_or (first_transport f) (option_or (first_processing f) (first_late f)))) o (accessing_below f 10 lower) shop.1 past in
+      record { shop = shop.0; accessing = accessing.0 }
 
   pub substrates_told : IsPast 13 o → NoSubstrates f
   substrates_told past =
@@ -297,3 +329,49 @@ row_of_shop x f shop =
 -- so none of a substrate is ready behind one, where none was
 pub still_none_of : {known : Bool} (f g : ToolFloor) → IsBeside f g → (known ≡ true → NoSubstrates f) → known ≡ true → NoSubstrates g
 still_none_of f g beside none is = subst NoSubstrates (sym beside) (still_no_substrates f g.shop (none is))
+
+-- ---- a row that changes the states of the locations alone
+
+-- all but them stays
+abbrev pub IsLocated : ToolFloor → ToolFloor → Type 0
+IsLocated f g = g ≡ record f { locations = g.locations }
+
+pub row_of_location : (x : Firing) (f : ToolFloor) → (x.row.table == 11) ≡ true → IsLocated f (floor_fired x f)
+row_of_location x f is =
+    let table : x.row.table ≡ 11 = grind (arith, nat_tests, is) in
+    let fired = fired_location x f table in
+    fired ∙ ap (λ (ls : List LocationRecord). record f { locations = ls }) (sym (ap (λ (g : ToolFloor). g.locations) fired))
+
+-- so none of the load ports and the carriers is ready behind one, where none was
+pub still_none_of_shop : {known : Bool} (f g : ToolFloor) → IsLocated f g → (known ≡ true → NoShop f) → known ≡ true → NoShop g
+still_none_of_shop f g located none is = subst NoShop (sym located) (still_no_shop f g.locations (none is))
+
+-- ---- a location whose state is what the places tell
+
+not_not : (b : Bool) → not b ≡ false → b ≡ true
+not_not true e = refl
+not_not false e = absurd (true≢false e)
+
+at_place : (f : ToolFloor) (place : ℕ) (l : LocationRecord) → place < length f.locations → l ≡ get_or f.locations place l → location_at (place + 1) f.locations ≡ Some l
+at_place f place l within is =
+    let next : place + 1 ≡ suc place = omega arith in
+    ap (λ (n : ℕ). location_at n f.locations) next ∙ got_at f.locations place l within is
+
+unoccupied_rests : (number : ℕ) (p : PlaceMap) → is_taken_at number p ≡ false → first_itself occupancy_number (λ want. location_wants want number p) occupancy_table Unoccupied ≡ None
+unoccupied_rests number p free = rw free refl
+
+occupied_rests : (number : ℕ) (p : PlaceMap) → is_taken_at number p ≡ true → first_itself occupancy_number (λ want. location_wants want number p) occupancy_table Occupied ≡ None
+occupied_rests number p taken = rw taken refl
+
+module _ (f : ToolFloor) (place : ℕ) (l : LocationRecord) (within : place < length f.locations) (is : l ≡ get_or f.locations place l) where
+  pub free_rests : l.occupancy ≡ Unoccupied → is_taken_at (place + 1) f.places ≡ false → location_ready (place + 1) (location_at (place + 1) f.locations) f ≡ None
+  free_rests state free =
+      ap (λ (o : Option LocationRecord). location_ready (place + 1) o f) (at_place f place l within is)
+      ∙ ap (λ (o : Occupancy). first_itself occupancy_number (λ want. location_wants want (place + 1) f.places) occupancy_table o) state
+      ∙ unoccupied_rests (place + 1) f.places free
+
+  pub taken_rests : l.occupancy ≡ Occupied → not (is_taken_at (place + 1) f.places) ≡ false → location_ready (place + 1) (location_at (place + 1) f.locations) f ≡ None
+  taken_rests state taken =
+      ap (λ (o : Option LocationRecord). location_ready (place + 1) o f) (at_place f place l within is)
+      ∙ ap (λ (o : Occupancy). first_itself occupancy_number (λ want. location_wants want (place + 1) f.places) occupancy_table o) state
+      ∙ occupied_rests (place + 1) f.places (not_not (is_taken_at (place + 1) f.places) taken)

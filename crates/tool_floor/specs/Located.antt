@@ -3,6 +3,8 @@ use Rattle.std.specs.Prelude.{◌≡◌, ℕ, ◌==◌, Bool, true, not, if◌th
 use Rattle.gem_tables.specs.Table.{is_one_of}
 use Rattle.gem_tables.specs.Machine.{first_ready, ready_in}
 use Rattle.gem_tables.specs.declared.firing.Firing.{Firing}
+use Rattle.shop_floor.specs.Floor.{number_of as carrier_number}
+use Rattle.shop_floor.specs.Machines.{floor_least as shop_least}
 use Rattle.floor_model.specs.Floor.{ToolFloor, location_at, location_numbers, number_of}
 use Rattle.floor_model.specs.Substrates.{reaches_verified}
 use Rattle.floor_model.specs.Machines.{location_ready, floor_machines, floor_least}
@@ -32,6 +34,15 @@ pub record NoSubstrates (f : ToolFloor) : Type 0 where
   pub transport : first_transport f ≡ None
   pub processing : first_processing f ≡ None
 
+-- the row of table 10 that is ready at the first carrier at which one is
+abbrev pub first_accessing : ToolFloor → Option Firing
+first_accessing f = first_ready 10 (λ carrier. ready_in floor_machines 10 carrier f) (map carrier_number f.shop.carriers)
+
+-- none of the load ports and the carriers is ready
+pub record NoShop (f : ToolFloor) : Type 0 where
+  pub shop : shop_least f.shop ≡ None
+  pub accessing : first_accessing f ≡ None
+
 -- a row changes the load ports and the carriers alone: of table 7 each but the removal, of table 9 those that register no substrate,
 -- and those of tables 4 to 6, 8 and 10
 abbrev pub is_of_shop : ℕ → ℕ → Bool
@@ -39,8 +50,10 @@ is_of_shop table row =
     if table == 7 then not (row == 6)
     else (if table == 9 then not (reaches_verified row) else is_one_of (4 ∷ 5 ∷ 6 ∷ 8 ∷ 10 ∷ []) table)
 
--- Whether it is known that no row is ready, that none of a location is, and that none of a substrate is.
-pub record AreKnown (rests locations_rest substrates_rest : Bool) (f : ToolFloor) : Type 0 where
+-- Whether it is known that no row is ready, that none of a location is, that none of a substrate is, and that none of the load ports and
+-- the carriers is.
+pub record AreKnown (rests locations_rest substrates_rest shop_rests : Bool) (f : ToolFloor) : Type 0 where
   pub rest : rests ≡ true → floor_least f ≡ None
   pub locations : locations_rest ≡ true → first_location f ≡ None
   pub substrates : substrates_rest ≡ true → NoSubstrates f
+  pub shop : shop_rests ≡ true → NoShop f

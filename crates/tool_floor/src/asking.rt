@@ -62,7 +62,7 @@ impl ToolFloor {
         ensures { result ≡ is_in_slot s.now self.now.places }
     {
         // who is there is cheaper to ask than where it is, which takes a lookup of its name
-        match self.places.at(s.slot) {
+        match self.places.name_at(s.slot) {
             Some(name) => name.as_bytes() == s.sub.as_bytes(),
             None => false,
         }
@@ -76,6 +76,7 @@ impl ToolFloor {
     }
 
     // Whether an open command of a module processes it.
+    #[inline(never)]
     pub(crate) fn is_processed(&self, s: &Substrate) -> bool
         ensures { result ≡ list_any (processes s.now.sub) self.now.modules }
     {
@@ -118,6 +119,15 @@ impl ToolFloor {
         if self.is_idle_at(place) {
             return false;
         }
+        self.is_told_due_at(place)
+    }
+
+    // The same, by a copy of the module.
+    #[inline(never)]
+    fn is_told_due_at(&self, place: usize) -> bool
+        requires { place < 255 }
+        ensures { result ≡ is_due_at (slice_get self.now.modules place) self.now.substrates }
+    {
         match self.module_at(place) {
             Some(module) => self.is_module_due(&module),
             None => false,
@@ -170,6 +180,7 @@ impl ToolFloor {
     }
 
     // Whether a carrier is quiet: no process job names it, and each of its substrates is in its slot or removed.
+    #[inline(never)]
     pub(crate) fn is_quiet(&self, c: &Carrier) -> bool
         ensures { result ≡ is_quiet c.now self.now }
     {
@@ -216,6 +227,7 @@ impl ToolFloor {
     }
 
     // Whether a substrate is in its slot, its process job is STOPPING or ABORTING, and no open command names it.
+    #[inline(never)]
     pub(crate) fn is_skipped(&self, s: &Substrate) -> bool
         ensures { result ≡ is_skipped s.now self.now }
     {

@@ -14,7 +14,7 @@ ghost use Rattle.floor_model.specs.Floor.{opening, with_shop, fetched, change_lo
 ghost use Rattle.floor_model.specs.Substrates.{without_carrier, removed_where};
 ghost use Rattle.floor_model.specs.Machines.{registered_by, floor_starts, floor_fired, floor_least, creation_rows, object_name};
 ghost use Rattle.floor_model.specs.Jobs.{carrier_code};
-ghost use Rattle.tool_floor.specs.Located.{first_location, NoSubstrates};
+ghost use Rattle.tool_floor.specs.Located.{first_location, NoSubstrates, NoShop};
 ghost use Rattle.floor_model.specs.Signals.{is_no_module};
 
 use crate::jobs::{CONTROL_JOB, PROCESS_JOB};
@@ -252,10 +252,23 @@ impl ToolFloor {
     }
 
     // The least row that is ready by itself of the load ports and the carriers alone.
+    #[inline(never)]
     fn least_of_shop(&self) -> Option<Firing>
         ensures { result ≡ shop_least self.now.shop }
     {
         self.shop.least()
+    }
+
+    // The same, where it may be known that there is none.
+    fn least_of_shop_where(&self, shop_rests: bool) -> Option<Firing>
+        requires { shop_rests ≡ true → NoShop self.now }
+        ensures { result ≡ shop_least self.now.shop }
+    {
+        if shop_rests {
+            None
+        } else {
+            self.least_of_shop()
+        }
     }
 
     // How many substrates are of carriers that are here.
@@ -335,7 +348,7 @@ impl ToolFloor {
     fn substrate_name(&self, number: u64) -> Text80
         ensures { result ≡ substrate_name (substrate_numbered number self.now.substrates) }
     {
-        match self.substrates.numbered(number) {
+        match self.substrates.known(number) {
             Some(substrate) => substrate.sub.text(),
             None => Text80::empty(),
         }
@@ -347,20 +360,26 @@ impl ToolFloor {
     pub fn least(&self) -> Option<Firing>
         ensures { result ≡ floor_least self.now }
     {
-        self.least_where(false, false)
+        self.least_where(false, false, false)
     }
 
-    // The least row that is ready by itself, where it may be known that none of a location is, or none of a substrate, and they need
-    // not be asked.
-    pub(crate) fn least_where(&self, locations_rest: bool, substrates_rest: bool) -> Option<Firing>
+    // The least row that is ready by itself, where it may be known that none of a location is, none of a substrate, or none of a load
+    // port and a carrier, and they need not be asked.
+    pub(crate) fn least_where(
+        &self,
+        locations_rest: bool,
+        substrates_rest: bool,
+        shop_rests: bool,
+    ) -> Option<Firing>
         requires locations { locations_rest ≡ true → first_location self.now ≡ None }
         requires substrates { substrates_rest ≡ true → NoSubstrates self.now }
+        requires shop { shop_rests ≡ true → NoShop self.now }
         ensures { result ≡ floor_least self.now }
     {
-        if let Some(x) = self.least_of_shop() {
+        if let Some(x) = self.least_of_shop_where(shop_rests) {
             return Some(x);
         }
-        if let Some(x) = self.ready_accessing() {
+        if let Some(x) = self.ready_accessing_where(shop_rests) {
             return Some(x);
         }
         if let Some(x) = self.ready_location_where(locations_rest) {
@@ -399,6 +418,7 @@ impl ToolFloor {
     }
 
     // Whether a row of the table of moves starts.
+    #[inline(never)]
     fn module_starts(&self, x: Firing) -> bool
         requires { x.row.table ≡ 16 }
         ensures { result ≡ floor_starts x self.now }
@@ -440,6 +460,7 @@ impl ToolFloor {
     }
 
     // A row of tables 4 to 6 or 8 fires that starts.
+    #[inline(never)]
     fn fire_shop(&mut self, alloc: Global, x: Firing) -> Result<Vec<Firing>, AllocError>
         requires other { is_one_of (7 ∷ 9 ∷ 10 ∷ 11 ∷ 12 ∷ 13 ∷ 14 ∷ 15 ∷ 16 ∷ []) x.row.table ≡ false }
         requires starts { floor_starts x self.old ≡ true }
@@ -453,6 +474,7 @@ impl ToolFloor {
     }
 
     // A row of table 7 fires that starts.
+    #[inline(never)]
     fn fire_association(&mut self, alloc: Global, x: Firing) -> Result<Vec<Firing>, AllocError>
         requires table { x.row.table ≡ 7 }
         requires starts { floor_starts x self.old ≡ true }
@@ -479,6 +501,7 @@ impl ToolFloor {
     }
 
     // A row of table 9 fires that starts.
+    #[inline(never)]
     fn fire_map(&mut self, alloc: Global, x: Firing) -> Result<Vec<Firing>, AllocError>
         requires table { x.row.table ≡ 9 }
         requires starts { floor_starts x self.old ≡ true }
@@ -540,10 +563,11 @@ impl ToolFloor {
     }
 
     // The substrate of a number has no place any more.
+    #[inline(never)]
     fn lose(&mut self, number: u64)
         ensures { self.new ≡ record self.old { places = removed_where (substrate_numbered number self.old.substrates) self.old.places } }
     {
-        if let Some(substrate) = self.substrates.numbered(number) {
+        if let Some(substrate) = self.substrates.known(number) {
             self.places.remove(substrate.sub);
         }
     }

@@ -131,6 +131,7 @@ impl ToolFloor {
     }
 
     // The row of table 14 that is ready at a process job.
+    #[inline(never)]
     fn process_row(&self, job: &ProcessJob) -> Option<u8>
         ensures { process_numbered job.now.number self.now.jobs.process.kept ≡ Some job.now → result ≡ ready_in floor_machines 14 job.now.number self.now }
     {
@@ -167,6 +168,7 @@ impl ToolFloor {
     }
 
     // Whether a row of table 14 starts.
+    #[inline(never)]
     pub(crate) fn starts_at_process(&self, x: Firing) -> bool
         requires { x.row.table ≡ 14 }
         ensures { result ≡ floor_starts x self.now }
@@ -182,6 +184,7 @@ impl ToolFloor {
     // ---- control jobs
 
     // The row of table 15 that is ready at a control job.
+    #[inline(never)]
     fn control_row(&self, job: &ControlJob) -> Option<u8>
         ensures { control_numbered job.now.number self.now.jobs.control.jobs ≡ Some job.now → result ≡ ready_in floor_machines 15 job.now.number self.now }
     {
@@ -218,6 +221,7 @@ impl ToolFloor {
     }
 
     // Whether a row of table 15 starts.
+    #[inline(never)]
     pub(crate) fn starts_at_control(&self, x: Firing) -> bool
         requires { x.row.table ≡ 15 }
         ensures { result ≡ floor_starts x self.now }
@@ -229,6 +233,7 @@ impl ToolFloor {
     // ---- what rows do
 
     // A row of table 14 fires.
+    #[inline(never)]
     pub(crate) fn fire_process(&mut self, number: u64, row: u8)
         ensures { self.new ≡ process_behind row number self.old }
     {
@@ -272,6 +277,7 @@ impl ToolFloor {
     }
 
     // A row of table 15 fires that starts.
+    #[inline(never)]
     pub(crate) fn fire_control(&mut self, x: Firing)
         requires table { x.row.table ≡ 15 }
         requires starts { floor_starts x self.old ≡ true }

@@ -107,6 +107,7 @@ impl ToolFloor {
     }
 
     // A row of the table of moves fires that starts. `AllocError`: the last number of a command was given; nothing has changed.
+    #[inline(never)]
     pub(crate) fn fire_move(&mut self, x: Firing) -> Result<(), AllocError>
         requires table { x.row.table ≡ 16 }
         requires starts { floor_starts x self.old ≡ true }

@@ -89,6 +89,7 @@ impl ToolFloor {
     }
 
     // The same, by what the planner asks for.
+    #[inline(never)]
     fn plan_of(&self, m: ModuleId) -> Option<Move>
         ensures { result ≡ planned m.0 self.now }
     {
@@ -97,6 +98,7 @@ impl ToolFloor {
     }
 
     // The next move of all modules.
+    #[inline(never)]
     fn next_move(&self) -> Option<Move>
         ensures { result ≡ next_move (views self.now) self.now.modules }
     {

@@ -1,6 +1,6 @@
 //! Which rows of tables 10 to 13 start, and which are ready by themselves (this tool's profile, tables 10 to 13 and settling).
 
-ghost use Rattle.std.specs.Prelude.{◌≡◌, ◌∷◌, [], true, map, Some, None};
+ghost use Rattle.std.specs.Prelude.{◌≡◌, ◌<◌, ◌+◌, ◌∷◌, [], true, false, length, map, Some, None};
 ghost use Rattle.gem_tables.specs.Table.{first_itself, is_one_of};
 ghost use Rattle.gem_tables.specs.Machine.{first_ready, ready_in};
 ghost use Rattle.carrier.specs.Tables.{access_number, accessing_table};
@@ -10,7 +10,7 @@ ghost use Rattle.shop_floor.specs.Floor.{number_of as carrier_number};
 ghost use Rattle.floor_model.specs.Floor.{ToolFloor, location_at, location_numbers, substrate_numbered, number_of};
 ghost use Rattle.floor_model.specs.Wants.{accessing_wants, location_wants, substrate_wants, ending_row};
 ghost use Rattle.floor_model.specs.Machines.{floor_machines, floor_starts, location_ready};
-ghost use Rattle.tool_floor.specs.Located.{first_location, first_transport, first_processing, NoSubstrates};
+ghost use Rattle.tool_floor.specs.Located.{first_accessing, first_location, first_transport, first_processing, NoSubstrates, NoShop};
 
 use crate::floor::ToolFloor;
 use carrier::{Accessing, Carrier};
@@ -31,6 +31,7 @@ impl ToolFloor {
     // ---- accessing
 
     // Whether a row of table 10 starts.
+    #[inline(never)]
     pub(crate) fn starts_at_carrier(&self, x: Firing) -> bool
         requires { x.row.table ≡ 10 }
         ensures { result ≡ floor_starts x self.now }
@@ -68,6 +69,7 @@ impl ToolFloor {
     }
 
     // The row of table 10 that is ready at the first carrier at which one is.
+    #[inline(never)]
     pub(crate) fn ready_accessing(&self) -> Option<Firing>
         ensures { result ≡ first_ready 10 (λ carrier. ready_in floor_machines 10 carrier self.now) (map carrier_number self.now.shop.carriers) }
     {
@@ -79,6 +81,18 @@ impl ToolFloor {
             }
         }
         None
+    }
+
+    // The same, where it may be known that there is none.
+    pub(crate) fn ready_accessing_where(&self, shop_rests: bool) -> Option<Firing>
+        requires { shop_rests ≡ true → NoShop self.now }
+        ensures { result ≡ first_accessing self.now }
+    {
+        if shop_rests {
+            None
+        } else {
+            self.ready_accessing()
+        }
     }
 
     // ---- locations
@@ -122,14 +136,28 @@ impl ToolFloor {
         }
     }
 
+    // Whether the state of the location at a place in their list, counted from 0, isn't what the places tell.
+    fn is_changed_at(&self, place: usize) -> bool
+        requires { place < length self.now.locations }
+        ensures { result ≡ false → location_ready (place + 1) (location_at (place + 1) self.now.locations) self.now ≡ None }
+    {
+        match self.locations[place].occupancy {
+            Occupancy::Unoccupied => self.places.is_taken_at(place + 1),
+            Occupancy::Occupied => !self.places.is_taken_at(place + 1),
+        }
+    }
+
     // The row of table 11 that is ready at the first location at which one is.
+    #[inline(never)]
     pub(crate) fn ready_location(&self) -> Option<Firing>
         ensures { result ≡ first_ready 11 (λ number. location_ready number (location_at number self.now.locations) self.now) (location_numbers 1 self.now.locations) }
     {
         for place in 0..self.location_count() {
-            let number = place as u64 + 1;
-            if let Some(row) = self.location_row(number) {
-                return Some(Firing::new(LOCATION, number, row));
+            if self.is_changed_at(place) {
+                let number = place as u64 + 1;
+                if let Some(row) = self.location_row(number) {
+                    return Some(Firing::new(LOCATION, number, row));
+                }
             }
         }
         None
@@ -154,12 +182,12 @@ impl ToolFloor {
         requires { is_one_of (12 ∷ 13 ∷ []) x.row.table ≡ true }
         ensures { result ≡ floor_starts x self.now }
     {
-        match self.substrates.numbered(x.object) {
+        match self.substrates.known(x.object) {
             Some(substrate) => {
                 let registered = x.row.row == 1;
                 let mut states = substrate.states;
                 (registered || states.fire(x.row.table, x.row.row))
-                    && self.substrate_wants(x.row, &substrate)
+                    && self.substrate_wants(x.row, substrate)
             }
             None => false,
         }
@@ -219,6 +247,7 @@ impl ToolFloor {
     }
 
     // The row of table 12 that is ready at the first substrate at which one is.
+    #[inline(never)]
     pub(crate) fn ready_transport(&self) -> Option<Firing>
         ensures { result ≡ first_ready 12 (λ n. ready_in floor_machines 12 n self.now) (map number_of self.now.substrates) }
     {
@@ -230,6 +259,7 @@ impl ToolFloor {
     }
 
     // The row of table 13 that is ready at the first substrate at which one is.
+    #[inline(never)]
     pub(crate) fn ready_processing(&self) -> Option<Firing>
         ensures { result ≡ first_ready 13 (λ n. ready_in floor_machines 13 n self.now) (map number_of self.now.substrates) }
     {
@@ -264,6 +294,7 @@ impl ToolFloor {
     }
 
     // The row of table 12 or 13 that is ready at the first substrate at which one is.
+    #[inline(never)]
     fn ready_substrate(&self, table: u8) -> Option<Firing>
         requires { is_one_of (12 ∷ 13 ∷ []) table ≡ true }
         ensures { result ≡ first_ready table (λ n. ready_in floor_machines table n self.now) (map number_of self.now.substrates) }

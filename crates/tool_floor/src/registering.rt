@@ -123,8 +123,10 @@ impl ToolFloor {
     fn empty_slots(&mut self, carrier: u64)
         ensures { self.new ≡ record self.old { places = removed_of carrier self.old.substrates self.old.places } }
     {
-        for place in 0..self.substrate_count() {
-            self.empty_slot(carrier, place);
+        // from the last on, which the places can take off without moving others up
+        let count = self.substrate_count();
+        for done in 0..count {
+            self.empty_slot(carrier, count - 1 - done);
         }
     }
 
@@ -132,7 +134,7 @@ impl ToolFloor {
     fn empty_slot(&mut self, carrier: u64, place: usize)
         ensures { self.new ≡ record self.old { places = emptied carrier (slice_get self.old.substrates place) self.old.places } }
     {
-        if let Some(substrate) = self.substrate_at(place).copied() {
+        if let Some(substrate) = self.substrates.get(place) {
             if substrate.carrier == carrier {
                 self.places.remove(substrate.sub);
             }

@@ -31,14 +31,15 @@ use tool_jobs::ControlFault;
 use tool_tasks::Command;
 
 /// The floor of the tool for one who asks again and again which row is ready by itself: where none was, it is not looked again before
-/// something changes, and the many locations and the substrates are not asked before something of them may have changed. Contracts see
-/// it as the floor. Each call is that of `ToolFloor`, which `floor` gives for what only reads.
+/// something changes, and the many locations, the substrates, and the load ports with the carriers are not asked before something of
+/// them may have changed. Contracts see it as the floor. Each call is that of `ToolFloor`, which `floor` gives for what only reads.
 #[derive(Drop)]
 pub struct RestingFloor {
     floor: ToolFloor,
     rests: bool,
     locations_rest: bool,
     substrates_rest: bool,
+    shop_rests: bool,
 }
 
 // Whether a row leaves which substrate has which place, and the states of the locations.
@@ -66,6 +67,13 @@ fn is_of_shop(row: RowId) -> bool
     }
 }
 
+// Whether a row changes the states of the locations alone.
+fn is_of_locations(row: RowId) -> bool
+    ensures { result ≡ (row.table == 11) }
+{
+    row.table == LOCATION
+}
+
 // Whether the least row that is ready is of a later table than this one, or there is none.
 fn is_past(table: u8, least: &Option<Firing>) -> bool
     ensures { IsTrue result → IfSome least.now (λ x. table < x.row.table) }
@@ -84,7 +92,7 @@ impl Model for RestingFloor {
 
     ghost view = { λ r. r.floor };
 
-    ghost invariant = { λ r. AreKnown r.rests r.locations_rest r.substrates_rest r.floor };
+    ghost invariant = { λ r. AreKnown r.rests r.locations_rest r.substrates_rest r.shop_rests r.floor };
 }
 
 impl RestingFloor {
@@ -97,6 +105,7 @@ impl RestingFloor {
             rests: false,
             locations_rest: false,
             substrates_rest: false,
+            shop_rests: false,
         }
     }
 
@@ -117,9 +126,10 @@ impl RestingFloor {
         }
         let least = self
             .floor
-            .least_where(self.locations_rest, self.substrates_rest);
+            .least_where(self.locations_rest, self.substrates_rest, self.shop_rests);
         self.locations_rest = self.locations_rest || is_past(LOCATION, &least);
         self.substrates_rest = self.substrates_rest || is_past(PROCESSING, &least);
+        self.shop_rests = self.shop_rests || is_past(ACCESSING, &least);
         self.rests = least.is_none();
         least
     }
@@ -134,12 +144,15 @@ impl RestingFloor {
     {
         let locations_rest = self.locations_rest && leaves_places(x.row);
         let substrates_rest = self.substrates_rest && is_of_shop(x.row);
+        let shop_rests = self.shop_rests && is_of_locations(x.row);
         self.rests = false;
         self.locations_rest = false;
         self.substrates_rest = false;
+        self.shop_rests = false;
         let rows = self.floor.fire(alloc, x)?;
         self.locations_rest = locations_rest;
         self.substrates_rest = substrates_rest;
+        self.shop_rests = shop_rests;
         Ok(rows)
     }
 
@@ -151,6 +164,7 @@ impl RestingFloor {
         ensures err { IfErr result (λ _. self.new ≡ self.old) }
     {
         self.rests = false;
+        self.shop_rests = false;
         self.floor.write(a)
     }
 
@@ -160,6 +174,7 @@ impl RestingFloor {
         ensures { self.new ≡ with_shop (came port.0 arrival self.old.shop) self.old }
     {
         self.rests = false;
+        self.shop_rests = false;
         self.floor.come(port, arrival);
     }
 
@@ -170,6 +185,7 @@ impl RestingFloor {
     {
         self.rests = false;
         self.substrates_rest = false;
+        self.shop_rests = false;
         self.floor.fetch(m)
     }
 
@@ -182,6 +198,7 @@ impl RestingFloor {
     {
         self.rests = false;
         self.substrates_rest = false;
+        self.shop_rests = false;
         self.floor.create_process(job)
     }
 
@@ -200,6 +217,7 @@ impl RestingFloor {
     {
         self.rests = false;
         self.substrates_rest = false;
+        self.shop_rests = false;
         self.floor.create_control(alloc, id, jobs, auto)
     }
 
@@ -210,6 +228,7 @@ impl RestingFloor {
     {
         self.rests = false;
         self.substrates_rest = false;
+        self.shop_rests = false;
         self.floor.head_of_queue(id)
     }
 }

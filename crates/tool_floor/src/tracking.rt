@@ -1,6 +1,6 @@
 //! The substrates of the carriers that are here.
 
-ghost use Rattle.std.specs.Prelude.{◌≡◌, ◌==◌, ◌&&◌, ◌∷◌, ◌++◌, [], ◌≤◌, length, filter, map, not, option_map, slice_get, IfOk, IfErr};
+ghost use Rattle.std.specs.Prelude.{◌≡◌, ◌==◌, ◌&&◌, ◌∷◌, ◌++◌, [], ◌≤◌, length, filter, map, not, option_map, option_copied, slice_get, IfOk, IfErr};
 ghost use Rattle.std.specs.List.{list_any};
 ghost use Rattle.std.specs.Str.{bytes_eq};
 ghost use Rattle.substrate.specs.Tables.{transport_number};
@@ -69,9 +69,16 @@ impl Substrates {
     pub(crate) fn numbered(&self, number: u64) -> Option<Substrate>
         ensures { result ≡ substrate_numbered number self.now }
     {
+        self.known(number).copied()
+    }
+
+    // The same, to be read where it is kept.
+    pub(crate) fn known(&self, number: u64) -> Option<&Substrate>
+        ensures { option_copied result ≡ substrate_numbered number self.now }
+    {
         for substrate in self.list.as_slice() {
             if substrate.number == number {
-                return Some(*substrate);
+                return Some(substrate);
             }
         }
         None
@@ -106,10 +113,8 @@ impl Substrates {
         ensures { self.new ≡ change_numbered number (substrate_moves table row) self.old }
     {
         for place in 0..self.list.len() {
-            let mut substrate = self.list[place];
-            if substrate.number == number {
-                substrate.states.fire(table, row);
-                self.list[place] = substrate;
+            if self.list[place].number == number {
+                self.list[place].states.fire(table, row);
                 return;
             }
         }
@@ -120,10 +125,8 @@ impl Substrates {
         ensures { self.new ≡ change_numbered number aligned self.old }
     {
         for place in 0..self.list.len() {
-            let mut substrate = self.list[place];
-            if substrate.number == number {
-                substrate.aligned = true;
-                self.list[place] = substrate;
+            if self.list[place].number == number {
+                self.list[place].aligned = true;
                 return;
             }
         }

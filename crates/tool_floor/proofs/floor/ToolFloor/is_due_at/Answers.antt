@@ -1,14 +1,6 @@
-use Rattle.std.proofs.Common.{Option, ◌∙◌, sym, ap}
-use Rattle.robot_moves.specs.declared.module.Module.{Module}
-use Rattle.tool_floor.specs.Due.{is_due_at}
+use Rattle.std.proofs.Common.{◌∙◌, sym}
 use Rattle.tool_floor.proofs.Due.{idle_none}
 use Rattle.tool_floor.proofs.floor.ToolFloor.is_due_at.Goals as goal
 
 pub returns-then-is_idle_at : goal.returns-then-is_idle_at
 returns-then-is_idle_at c = sym (idle_none _ c.args.self.now.substrates (sym c.is_idle_at.ensures ∙ c.if-is_idle_at.true))
-
-pub returns-in-Some : goal.returns-in-Some
-returns-in-Some c = c.is_module_due.ensures ∙ ap (λ (o : Option Module). is_due_at o c.args.self.now.substrates) (sym c.in-Some.is ∙ c.module_at.ensures)
-
-pub returns-in-None : goal.returns-in-None
-returns-in-None c = ap (λ (o : Option Module). is_due_at o c.args.self.now.substrates) (sym c.in-None.is ∙ c.module_at.ensures)

@@ -1,5 +1,5 @@
 -- The rows of the line of notes that are ready, as the plant fires them.
-use Rattle.std.proofs.Common.{◌≡◌, ℕ, ◌==◌, Bool, true, false, if◌then◌else◌, List, [], ◌∷◌, Some, refl, sym, subst}
+use Rattle.std.proofs.Common.{◌≡◌, ℕ, ◌==◌, Bool, true, false, if◌then◌else◌, List, [], ◌∷◌, Some, None, option_map, refl, sym, ap, subst}
 use Rattle.std.specs.List.{AllByRecursion}
 use Rattle.std.proofs.lemmas.Bool.{true≢false}
 use Rattle.spool.specs.declared.note.Note.{Note}
@@ -7,7 +7,9 @@ use Rattle.note_line.specs.declared.around.Around.{Around}
 use Rattle.note_line.specs.Line.{Line, restated}
 use Rattle.note_line.specs.Table3.{Row, line_table, least, row_effect}
 use Rattle.note_line.proofs.Keeps.{least_is}
-use Rattle.gem_model.specs.State.{State}
+use Rattle.gem_tables.specs.Table.{firing}
+use Rattle.gem_model.specs.State.{State, around}
+use Rattle.gem_model.specs.Ready.{ready_line}
 use Rattle.gem_model.specs.Effects.{asks_first}
 
 -- a note that is sent leaves the line and what lies around it as they are
@@ -20,6 +22,10 @@ asks_line [] g = refl
 asks_line (note ∷ notes) g = either_line _ g _ refl
 
 -- ---- the row that is ready
+
+-- where none of the line is, whatever lies around it, none of the line's rows is
+pub resting : (g : State) → least (around g) g.line ≡ None → ready_line g ≡ None
+resting g none = ap (option_map (firing 3 0)) none
 
 -- a number is none of these
 abbrev pub Others : ℕ → Type 0

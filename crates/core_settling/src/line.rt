@@ -1,5 +1,5 @@
 //! The rows of the line of notes and of the spool that are ready by themselves (table 3).
-ghost use Rattle.std.specs.Prelude.{◌≡◌, true, is_some, None, OnOk, IfOk, Some};
+ghost use Rattle.std.specs.Prelude.{◌≡◌, true, is_some, None, OnOk, IfOk, Some, IsTrue};
 ghost use Rattle.gem_tables.specs.Table.{firing};
 ghost use Rattle.note_line.specs.Table3.{least, head_in_kind};
 ghost use Rattle.gem_model.specs.State.{around};
@@ -80,11 +80,21 @@ fn fire_row(plant: &mut Plant, alloc: Global, row: u8) -> Result<(), AllocError>
     Ok(())
 }
 
+/// Whether the line of notes rests. Then none of its rows is ready, and what lies around it need not be looked up.
+fn line_rests(plant: &Plant) -> bool
+    ensures { IsTrue result → ready_line plant.now ≡ None }
+{
+    plant.notes().rests()
+}
+
 /// Fires the row of the line of notes that is ready, and tells whether there was one.
 pub fn line_row(plant: &mut Plant, alloc: Global) -> Result<bool, AllocError>
     ensures fired { IfOk result (λ fired. fired ≡ is_some (ready_line plant.old)) }
     ensures after { OnOk result (plant.new ≡ fire_first (ready_line plant.old) plant.old) }
 {
+    if line_rests(plant) {
+        return Ok(false);
+    }
     let around = plant.around();
     let Some(row) = plant.notes().row_for(around) else {
         return Ok(false);

@@ -226,8 +226,10 @@ fn take_shop(
     ensures act { IfOk result (λ act. act ≡ reply_act header.now (function_of header.now + 1)) }
     ensures after { OnOk result (plant.new ≡ taken header.now (host_message.Shop (said message.now)) plant.old) }
 {
-    let done = shop_done(plant, alloc, message)?;
-    finish(plant, alloc, header, done)
+    match shop_done(plant, alloc, message) {
+        Ok(done) => finish(plant, alloc, header, done),
+        Err(_) => Err(AllocError),
+    }
 }
 
 /// A message of streams 1, 2, 5 and 6 is taken.
@@ -242,8 +244,10 @@ fn take_gem(
     ensures act { IfOk result (λ act. act ≡ reply_act header.now (function_of header.now + 1)) }
     ensures after { OnOk result (plant.new ≡ taken header.now (host_message.Gem message.now) plant.old) }
 {
-    let done = gem_done(plant, alloc, message)?;
-    finish(plant, alloc, header, done)
+    match gem_done(plant, alloc, message) {
+        Ok(done) => finish(plant, alloc, header, done),
+        Err(_) => Err(AllocError),
+    }
 }
 
 /// S1F1 is answered by what the tool tells of itself, whose text is written straight from the configuration: hosts ask it again and

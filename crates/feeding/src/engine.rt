@@ -5,6 +5,7 @@ ghost use Rattle.gem_model.specs.State.{opening, is_session_up};
 ghost use Rattle.gem_model.specs.Sessions.{session_end};
 ghost use Rattle.gem_model.specs.Step.{step};
 ghost use Rattle.gem_model.specs.Feed.{and_then, entered, taken_all, fetched_one, fetched_by, fetched_all, input, message, messages};
+ghost use Rattle.tool_events.specs.declared.event.Event.TheVariants as events;
 ghost use Rattle.line_feeding.specs.Going.{Goes, seen};
 
 use gem_ids::{ModuleId, Moment};
@@ -138,6 +139,25 @@ fn fetch_one<C: Recorder, K: Sink>(
     if core.idle(AT_ONCE, &Event::Fetch(m)) {
         return Ok(());
     }
+    fetch_now(alloc, core, m, text, out)
+}
+
+/// A module fetches its command. It stands apart (`inline(never)`): mostly no module has one, and a function clears the places of its
+/// locals, with those of each call that is written out in its place.
+#[inline(never)]
+fn fetch_now<C: Recorder, K: Sink>(
+    alloc: Global,
+    core: &mut C,
+    m: ModuleId,
+    text: &mut Vec<u8>,
+    out: &mut K,
+) -> Result<(), Halt>
+    requires step { step (C.view core.old).state AT_ONCE.0 (events.Fetch m) ≢ None }
+    requires whole { (C.view core.old).is_whole ≡ true }
+    ensures goes { Goes (C.view core.old) (C.view core.new) (seen K.held K.faults K.refusals out.old) (seen K.held K.faults K.refusals out.new)
+        (entered (C.view core.old).state AT_ONCE.0 (events.Fetch m)) result }
+    ensures whole { OnOk result ((C.view core.new).is_whole ≡ true) }
+{
     post(alloc, core, AT_ONCE, Event::Fetch(m), text, out)
 }
 

@@ -83,7 +83,9 @@ fn codes_of(slots: &[Item]) -> Option<[u8; 25]>
     }
 }
 
-/// A slot map: the codes of 25 slots.
+/// A slot map: the codes of 25 slots. It stands apart (`inline(never)`): few messages have one, and a function clears the places of its
+/// locals, with those of each call that is written out in its place.
+#[inline(never)]
 fn slot_map(item: &Item) -> Option<[u8; 25]>
     ensures { result ≡ slot_map (view item.now) }
 {
@@ -93,7 +95,9 @@ fn slot_map(item: &Item) -> Option<[u8; 25]>
     }
 }
 
-/// The map of the one attribute that there is, SlotMap.
+/// The map of the one attribute that there is, SlotMap. It stands apart, so that its 25 codes are handed on in one place and not one by
+/// one.
+#[inline(never)]
 fn map_given(attributes: &[NamedValue]) -> Option<[u8; 25]>
     ensures { result ≡ map_given attributes.now }
 {

@@ -41,23 +41,30 @@ use tool_tasks::JobWord;
 pub fn process_done(
     plant: &mut Plant,
     alloc: Global,
-    job: Text80,
+    job: &Text80,
     carriers: &[CarrierSlots],
-    recipe: Text80,
+    recipe: &Text80,
     start: bool,
     events: &Item,
 ) -> Result<Done, AllocError>
-    ensures done { IfOk result (λ told. done_view told plant.new ≡ process_done plant.old (asked_process job carriers.now recipe start) (view events.now)) }
+    ensures done { IfOk result (λ told. done_view told plant.new ≡ process_done plant.old (asked_process job.now carriers.now recipe.now start) (view events.now)) }
     ensures sendable { IfOk result (λ told. CanBeSent told.reply) }
 {
-    let error = process_error(is_local(plant), job, carriers, recipe, events, plant.jobs());
+    let error = process_error(
+        is_local(plant),
+        *job,
+        carriers,
+        *recipe,
+        events,
+        plant.jobs(),
+    );
     let told = acknowledged(alloc, error)?;
     let rows = match error {
         Some(_) => Vec::new(alloc),
-        None => create_process(plant, alloc, job, carriers, recipe, start)?,
+        None => create_process(plant, alloc, *job, carriers, *recipe, start)?,
     };
     Ok(Done {
-        reply: HostReply::Shop(ShopReply::S16F12(job, told)),
+        reply: HostReply::Shop(ShopReply::S16F12(*job, told)),
         rows,
     })
 }
@@ -87,20 +94,20 @@ fn create_process(
 pub fn command_done(
     plant: &Plant,
     alloc: Global,
-    job: Text80,
+    job: &Text80,
     word: Option<JobWord>,
 ) -> Result<Done, AllocError>
-    ensures done { IfOk result (λ told. done_view told plant.now ≡ command_done plant.now job word) }
+    ensures done { IfOk result (λ told. done_view told plant.now ≡ command_done plant.now job.now word) }
     ensures sendable { IfOk result (λ told. CanBeSent told.reply) }
 {
-    let error = command_error(is_local(plant), job, word, plant.jobs());
+    let error = command_error(is_local(plant), *job, word, plant.jobs());
     let told = acknowledged(alloc, error)?;
     let rows = match error {
         Some(_) => Vec::new(alloc),
-        None => command_rows(alloc, job, word, plant.jobs())?,
+        None => command_rows(alloc, *job, word, plant.jobs())?,
     };
     Ok(Done {
-        reply: HostReply::Shop(ShopReply::S16F6(job, told)),
+        reply: HostReply::Shop(ShopReply::S16F6(*job, told)),
         rows,
     })
 }
@@ -176,10 +183,10 @@ pub fn space_done(plant: &Plant, alloc: Global) -> Done
 pub fn control_done(
     plant: &mut Plant,
     alloc: Global,
-    kind: Text80,
+    kind: &Text80,
     attributes: &[NamedValue],
 ) -> Result<Done, AllocError>
-    ensures done { IfOk result (λ told. done_view told plant.new ≡ control_done plant.old kind (asked_control attributes.now)) }
+    ensures done { IfOk result (λ told. done_view told plant.new ≡ control_done plant.old kind.now (asked_control attributes.now)) }
     ensures sendable { IfOk result (λ told. CanBeSent told.reply) }
 {
     let request = control_request(alloc, attributes)?;
@@ -190,13 +197,13 @@ pub fn control_done(
 fn asked_control_done(
     plant: &mut Plant,
     alloc: Global,
-    kind: Text80,
+    kind: &Text80,
     request: &ControlRequest,
 ) -> Result<Done, AllocError>
-    ensures done { IfOk result (λ told. done_view told plant.new ≡ control_done plant.old kind request.now) }
+    ensures done { IfOk result (λ told. done_view told plant.new ≡ control_done plant.old kind.now request.now) }
     ensures sendable { IfOk result (λ told. CanBeSent told.reply) }
 {
-    let error = control_error(is_local(plant), kind, request, plant.jobs());
+    let error = control_error(is_local(plant), *kind, request, plant.jobs());
     let reply = ShopReply::S14F10(request.name, object_acknowledged(alloc, error)?);
     let rows = match error {
         Some(_) => Vec::new(alloc),
@@ -236,17 +243,17 @@ fn create_control(
 pub fn control_command_done(
     plant: &mut Plant,
     alloc: Global,
-    job: Text80,
+    job: &Text80,
     cmd: u8,
 ) -> Result<Done, AllocError>
-    ensures done { IfOk result (λ told. done_view told plant.new ≡ control_command_done plant.old job cmd) }
+    ensures done { IfOk result (λ told. done_view told plant.new ≡ control_command_done plant.old job.now cmd) }
     ensures sendable { IfOk result (λ told. CanBeSent told.reply) }
 {
-    let error = control_command_error(is_local(plant), job, cmd, plant.jobs());
+    let error = control_command_error(is_local(plant), *job, cmd, plant.jobs());
     let reply = ShopReply::S16F28(error.is_none(), errors_of(alloc, error)?);
     let rows = match error {
         Some(_) => Vec::new(alloc),
-        None => act(plant, alloc, job, control_command(job, cmd, plant.jobs()))?,
+        None => act(plant, alloc, *job, control_command(*job, cmd, plant.jobs()))?,
     };
     Ok(Done {
         reply: HostReply::Shop(reply),

@@ -160,23 +160,23 @@ pub fn shop_done(plant: &mut Plant, alloc: Global, message: &ShopMsg) -> Result<
         }
         ShopMsg::S3F27(mode, ports) => access_done(plant, alloc, *mode, ports),
         ShopMsg::S14F9(_, kind, attributes) => {
-            control_done(plant, alloc, *kind, attributes.as_slice())
+            control_done(plant, alloc, kind, attributes.as_slice())
         }
         ShopMsg::S16F5(_, job, command, _) => {
-            command_done(plant, alloc, *job, command_named(*command))
+            command_done(plant, alloc, job, command_named(*command))
         }
         ShopMsg::S16F11(_, job, carriers, recipe, start, events) => process_done(
             plant,
             alloc,
-            *job,
+            job,
             carriers.as_slice(),
-            recipe.recipe,
+            &recipe.recipe,
             *start,
             events,
         ),
         ShopMsg::S16F17(names) => cancel_done(plant, alloc, names.as_slice()),
         ShopMsg::S16F19 => list_done(plant, alloc),
         ShopMsg::S16F21 => Ok(space_done(plant, alloc)),
-        ShopMsg::S16F27(job, cmd, _) => control_command_done(plant, alloc, *job, *cmd),
+        ShopMsg::S16F27(job, cmd, _) => control_command_done(plant, alloc, job, *cmd),
     }
 }

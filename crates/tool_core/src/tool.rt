@@ -1,10 +1,11 @@
 //! The core: the plant and the history that led to it.
-ghost use Rattle.std.specs.Prelude.{ℕ, ◌≡◌, ◌≤◌, ◌+◌, ◌^◌, ◌<◌, ◌↔◌, [], ◌∷◌, ◌++◌, length, IsTrue, true, false, ◌&&◌, ◌||◌, not, nat_le, nat_lt, Some, None, Err, OnOk, OnErr, IfOk, IfSome, IsErrOf, if◌then◌else◌, vec_len, vec_capacity};
+ghost use Rattle.std.specs.Prelude.{ℕ, ◌≡◌, ◌≤◌, ◌+◌, ◌^◌, ◌<◌, ◌↔◌, [], ◌∷◌, ◌++◌, length, IsTrue, true, false, ◌&&◌, ◌||◌, not, nat_le, nat_lt, Some, None, Ok, Err, OnOk, OnErr, IfOk, IfSome, IsErrOf, if◌then◌else◌, vec_len, vec_capacity};
 ghost use Rattle.history_parts.specs.Counts.{count_of};
 ghost use Rattle.tool_events.specs.declared.answer.PostFault.TheVariants as PostFault;
 ghost use Rattle.tool_events.specs.declared.event.SessionEnd.{SessionEnd};
 ghost use Rattle.tool_events.specs.Configs.{IsConfig};
 ghost use Rattle.tool_events.specs.Posts as posts;
+ghost use Rattle.core_shop.specs.Reactions.{done};
 ghost use Rattle.tool_events.specs.Sizes.{event_bytes};
 ghost use Rattle.note_line.specs.Line.{fate_of};
 ghost use Rattle.gem_model.specs.State.{opening, is_up, is_session_up};
@@ -265,46 +266,50 @@ impl Core {
             || self.bytes + bytes > self.config.max_bytes
     }
 
-    /// Answers an event for which there is room, and adds it to the history.
+    /// Does an event for which there is room, and adds it to the history. What it did is told in the reaction, which says before that
+    /// it was done: an answer is large, and so it is not handed on and on. False: the event has to wait. After want of memory the
+    /// core isn't whole.
     fn record(
         &mut self,
         alloc: Global,
         seat: u32,
         at: Moment,
         event: Event,
-    ) -> Result<Answer, PostFault>
+        reaction: &mut Reaction,
+    ) -> Result<bool, AllocError>
         requires room { is_full self.old.config self.old.history event ≡ false }
         requires whole { self.old.is_whole ≡ true }
-        ensures step { IfOk result (λ answer. (o : Outcome) × (step self.old.state at.0 event ≡ Some o)
-            × (o.answer ≡ answer) × (self.new.state ≡ o.after)) }
-        ensures entry { OnOk result (self.new.history
+        requires fresh { reaction.old ≡ done }
+        ensures step { IfOk result (λ goes. goes ≡ true → (o : Outcome) × (step self.old.state at.0 event ≡ Some o)
+            × (o.answer ≡ reaction.new.answer) × (self.new.state ≡ o.after)) }
+        ensures entry { IfOk result (λ goes. goes ≡ true → self.new.history
             ≡ self.old.history ++ record { seat = seat; at = at; event = event } ∷ []) }
-        ensures again { IsErrOf result PostFault.Again → step self.old.state at.0 event ≡ None }
-        ensures waits { step self.old.state at.0 event ≡ None → result ≡ Err PostFault.Again }
-        ensures not_full { posts.is_full result ≡ false }
-        ensures unchanged { OnErr result (self.new ≡ record self.old { is_whole = self.new.is_whole }) }
+        ensures again { IfOk result (λ goes. goes ≡ false → step self.old.state at.0 event ≡ None) }
+        ensures waits { step self.old.state at.0 event ≡ None → result ≡ Ok false }
+        ensures unposted { IfOk result (λ goes. goes ≡ false → self.new ≡ self.old) }
+        ensures unchanged { OnErr result (self.new ≡ record self.old { is_whole = false }) }
         ensures config { self.new.config ≡ self.old.config }
-        ensures whole { posts.is_want result ≡ false → self.new.is_whole ≡ true }
+        ensures whole { OnOk result (self.new.is_whole ≡ true) }
+        ensures recorded { Recorded self.new.config self.new.history self.new.state }
     {
         // Asked first, so that want of memory is not told of an event that has to wait.
         if must_wait(&self.boxed.plant, at, &event) {
-            return Err(PostFault::Again);
+            return Ok(false);
         }
         let up = self.session_up();
-        let Ok(()) = make_space(&mut self.entries, &mut self.ends, &mut self.written, up) else {
-            return Err(PostFault::NoMemory);
-        };
         // What an event that finds no memory leaves of the plant counts for nothing.
         self.is_whole = false;
-        let mut reaction = Reaction::answered(Answer::Done);
-        let told = take_event(
+        make_space(&mut self.entries, &mut self.ends, &mut self.written, up)?;
+        let Ok(told) = take_event(
             &mut self.boxed.plant,
             alloc,
             at,
             &event,
             &self.totals,
-            &mut reaction,
-        )?;
+            reaction,
+        ) else {
+            return Err(AllocError);
+        };
         add_taken(&mut self.written, &event, &reaction.answer);
         self.bytes += event_bytes(&event);
         self.sessions = told.sessions;
@@ -313,7 +318,7 @@ impl Core {
         self.entries.push_reserved(Entry { seat, at, event });
         add_end(&mut self.ends, reaction.ended);
         self.is_whole = true;
-        Ok(reaction.answer)
+        Ok(true)
     }
 
     /// What became of the note of this number: it waits, is open, or has ended, and how. `None`: no note has the number. The
@@ -357,10 +362,11 @@ impl Core {
         if !self.is_whole {
             return Err(PostFault::NoMemory);
         }
-        let answer = self.record(alloc, seat, at, event);
-        if matches!(answer, Err(PostFault::NoMemory)) {
-            self.is_whole = false;
+        let mut reaction = Reaction::answered(Answer::Done);
+        match self.record(alloc, seat, at, event, &mut reaction) {
+            Ok(true) => Ok(reaction.answer),
+            Ok(false) => Err(PostFault::Again),
+            Err(_) => Err(PostFault::NoMemory),
         }
-        answer
     }
 }

@@ -13,14 +13,20 @@ returns-then-not-self-clause-before c = rw (← c.self.view_is) (recorded-of _ _
 pub returns-then-not-self-clause-recorded : goal.returns-then-not-self-clause-recorded
 returns-then-not-self-clause-recorded c = rw (← c.self.view_is) (recorded-of _ _ _ c.self.invariant.config c.self.invariant.run)
 
-pub returns-else-matches-clause-before : goal.returns-else-matches-clause-before
-returns-else-matches-clause-before c = rw (← c.self.view_is) (recorded-of _ _ _ c.self.invariant.config c.self.invariant.run)
+pub returns-in-Ok-true-clause-before : goal.returns-in-Ok-true-clause-before
+returns-in-Ok-true-clause-before c = rw (← c.self.view_is) (recorded-of _ _ _ c.self.invariant.config c.self.invariant.run)
 
-pub returns-else-matches-clause-recorded : goal.returns-else-matches-clause-recorded
-returns-else-matches-clause-recorded c = rw (← c.self-2.view_is) (recorded-of _ _ _ c.self-2.invariant.config c.self-2.invariant.run)
+pub returns-in-Ok-true-clause-recorded : goal.returns-in-Ok-true-clause-recorded
+returns-in-Ok-true-clause-recorded c = c.record.ensures.recorded
 
-pub returns-then-matches-clause-before : goal.returns-then-matches-clause-before
-returns-then-matches-clause-before c = rw (← c.self.view_is) (recorded-of _ _ _ c.self.invariant.config c.self.invariant.run)
+pub returns-in-Ok-false-clause-before : goal.returns-in-Ok-false-clause-before
+returns-in-Ok-false-clause-before c = rw (← c.self.view_is) (recorded-of _ _ _ c.self.invariant.config c.self.invariant.run)
 
-pub returns-then-matches-clause-recorded : goal.returns-then-matches-clause-recorded
-returns-then-matches-clause-recorded c = recorded-of _ _ _ c.self-2.invariant.config c.self-2.invariant.run
+pub returns-in-Ok-false-clause-recorded : goal.returns-in-Ok-false-clause-recorded
+returns-in-Ok-false-clause-recorded c = c.record.ensures.recorded
+
+pub returns-in-Err-clause-before : goal.returns-in-Err-clause-before
+returns-in-Err-clause-before c = rw (← c.self.view_is) (recorded-of _ _ _ c.self.invariant.config c.self.invariant.run)
+
+pub returns-in-Err-clause-recorded : goal.returns-in-Err-clause-recorded
+returns-in-Err-clause-recorded c = c.record.ensures.recorded

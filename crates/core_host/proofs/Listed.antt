@@ -17,7 +17,7 @@ use Rattle.host_replies.specs.declared.done.Done.{Done}
 use Rattle.host_replies.specs.Dones.{done_view}
 
 -- the rows of a message
-pub done_listed : (told : Done) (after : State) (m : HostMessage) (g : State) (rows : List Firing) → done_view told after ≡ model.done g m → rows ≡ told.rows.items → Are IsListed rows
+pub done_listed : (told : Done) (after : State) (m : HostMessage) (g : State) (rows : List Firing) → done_view told after ≡ model.done g m → rows ≡ told.rows → Are IsListed rows
 done_listed told after m g rows is same =
     subst (Are IsListed) (sym same) (subst (λ (d : host.Done). Are IsListed d.rows) (sym is) (listed_message m g))
 

@@ -28,7 +28,7 @@ use crate::verdict::{Rule, first_rule};
 use core_state::Plant;
 use gem_states::{CommTrigger, ControlTrigger};
 use host_gem::gem_done;
-use host_replies::{Done, reply_text};
+use host_replies::{Done, Rows, reply_text};
 use host_requests::{
     header_of, is_message, is_too_long, item_of, stream_of, text_item, told_by, wants_reply,
 };
@@ -270,15 +270,27 @@ fn finish(
 ) -> Result<HostAct, AllocError>
     requires next { function_of header.now < 255 }
     requires sendable { CanBeSent done.reply }
-    requires listed { Are IsListed done.rows.items }
+    requires listed { Are IsListed done.rows }
     ensures act { IfOk result (λ act. act ≡ reply_act header.now (function_of header.now + 1)) }
     ensures after { OnOk result (plant.new ≡ taken_as header.now (done_view done plant.old)) }
 {
     let Done { reply, rows } = done;
     let text = reply_text(alloc, reply)?;
     let act = answer(plant, alloc, header, header.byte3 + 1, text)?;
-    plant.fire_listed(alloc, rows.as_slice())?;
+    fire_rows(plant, alloc, &rows)?;
     Ok(act)
+}
+
+/// The rows that a message leaves fire in their order, each where it starts.
+fn fire_rows(plant: &mut Plant, alloc: Global, rows: &Rows) -> Result<(), AllocError>
+    requires { Are IsListed rows.now }
+    ensures { OnOk result (plant.new ≡ fire_listed rows.now plant.old) }
+{
+    let (first, more) = rows.parts();
+    if let Some(row) = first {
+        plant.fire_listed(alloc, &[row])?;
+    }
+    plant.fire_listed(alloc, more)
 }
 
 /// The transaction that a message answers is closed, and its rows fire. Without one nothing changes.

@@ -154,22 +154,26 @@ fn fired(plant: &Plant, alloc: Global, message: &GemMsg) -> Result<Done, AllocEr
     ensures sendable { IfOk result (λ told. CanBeSent told.reply) }
 {
     match message {
-        GemMsg::S1F13 => fires_row(
+        GemMsg::S1F13 => Ok(fires_row(
             alloc,
             established(plant, alloc)?,
             by_comm(CommTrigger::HostS1F13),
-        ),
-        GemMsg::S1F15 => fires_row(
+        )),
+        GemMsg::S1F15 => Ok(fires_row(
             alloc,
             GemReply::S1F16,
             plant.by_control(ControlTrigger::HostS1F15),
-        ),
-        GemMsg::S1F17 => fires_row(
+        )),
+        GemMsg::S1F17 => Ok(fires_row(
             alloc,
             GemReply::S1F18(onlack(plant.control())),
             plant.by_control(ControlTrigger::HostS1F17),
-        ),
-        GemMsg::S6F23(rsdc) => fires_row(alloc, GemReply::S6F24(plant.rsda()), unload_row(*rsdc)),
+        )),
+        GemMsg::S6F23(rsdc) => Ok(fires_row(
+            alloc,
+            GemReply::S6F24(plant.rsda()),
+            unload_row(*rsdc),
+        )),
         _ => unreachable!(),
     }
 }

@@ -40,18 +40,18 @@ pub fn command(
         Decision::Refused(code, faults) => {
             Ok(answered(alloc, GemReply::S2F42(code.number(), faults)))
         }
-        Decision::GoesLocal => fires_row(
+        Decision::GoesLocal => Ok(fires_row(
             alloc,
             accepted(alloc),
             plant.by_control(ControlTrigger::Local),
-        ),
+        )),
         Decision::Clears(alid) => {
             plant.clear_alarm(alloc, alid)?;
             Ok(answered(alloc, accepted(alloc)))
         }
         Decision::Commands(job, word) => Ok(Done {
             reply: HostReply::Gem(accepted(alloc)),
-            rows: job_rows(alloc, job, word, plant.jobs())?,
+            rows: job_rows(alloc, job, word, plant.jobs()),
         }),
     }
 }

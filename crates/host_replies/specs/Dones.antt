@@ -19,4 +19,4 @@ CanBeSent (code.Shop r) = HasShopParts r
 
 -- what was done, with the plant behind it
 abbrev pub done_view : Done → State → model.Done
-done_view told after = record { reply = reply_view told.reply; after = after; rows = told.rows.items }
+done_view told after = record { reply = reply_view told.reply; after = after; rows = told.rows }

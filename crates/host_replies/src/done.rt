@@ -10,6 +10,7 @@ ghost use Rattle.gem_model.specs.HostMessages.{reply_text};
 ghost use Rattle.host_replies.specs.declared.done.HostReply.TheVariants as host;
 ghost use Rattle.host_replies.specs.Dones.{reply_view, CanBeSent};
 
+use crate::rows::Rows;
 use gem_tables::Firing;
 use hsms_frame::Bytes;
 use item_model::Format;
@@ -31,29 +32,29 @@ pub enum HostReply {
 #[derive(Drop)]
 pub struct Done {
     pub reply: HostReply,
-    pub rows: Vec<Firing>,
+    pub rows: Rows,
 }
 
 /// A message is answered so, and no row fires.
 pub fn answered(alloc: Global, reply: GemReply) -> Done
     ensures reply { result.reply ≡ host.Gem reply }
-    ensures rows { result.rows.items ≡ [] }
+    ensures rows { result.rows ≡ [] }
 {
     Done {
         reply: HostReply::Gem(reply),
-        rows: Vec::new(alloc),
+        rows: Rows::none(alloc),
     }
 }
 
 /// A message is answered so, and this row fires.
-pub fn fires_row(alloc: Global, reply: GemReply, row: Firing) -> Result<Done, AllocError>
-    ensures reply { IfOk result (λ told. told.reply ≡ host.Gem reply) }
-    ensures rows { IfOk result (λ told. told.rows.items ≡ row ∷ []) }
+pub fn fires_row(alloc: Global, reply: GemReply, row: Firing) -> Done
+    ensures reply { result.reply ≡ host.Gem reply }
+    ensures rows { result.rows ≡ row ∷ [] }
 {
-    Ok(Done {
+    Done {
         reply: HostReply::Gem(reply),
-        rows: Vec::from_slice(alloc, &[row])?,
-    })
+        rows: Rows::one(alloc, Some(row)),
+    }
 }
 
 /// The text of a reply, which is let go. It has room for what a frame has before it.

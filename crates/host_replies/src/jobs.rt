@@ -5,8 +5,8 @@ ghost use Rattle.process_job.specs.Jobs.{most_jobs};
 ghost use Rattle.request_model.specs.Requests.{command_rows, names_error, cancelled};
 ghost use Rattle.gem_model.specs.JobMessages.{errors_of, acknowledged, object_acknowledged, listed_job, rows_of_command};
 
+use crate::rows::Rows;
 use gem_ids::{Listed, Text80};
-use gem_tables::Firing;
 use job_requests::{cancelled, command_row};
 use message_model::{ErrorPart, JobAcknowledge, JobState, ObjectAcknowledge};
 use process_job::{ProcessJob, ProcessJobs};
@@ -17,42 +17,21 @@ use tool_tasks::JobWord;
 
 // ---- rows
 
-/// The rows of a command on a process job: none for a word that there isn't.
-pub fn command_rows(
-    alloc: Global,
-    job: Text80,
-    word: Option<JobWord>,
-    jobs: &Jobs,
-) -> Result<Vec<Firing>, AllocError>
-    ensures { IfOk result (λ rows. rows.items ≡ rows_of_command job word jobs.now) }
+/// The rows of a command on a process job: none for a word that there isn't. Takes no memory.
+pub fn command_rows(alloc: Global, job: Text80, word: Option<JobWord>, jobs: &Jobs) -> Rows
+    ensures { result ≡ rows_of_command job word jobs.now }
 {
     match word {
         Some(word) => job_rows(alloc, job, word, jobs),
-        None => Ok(Vec::new(alloc)),
+        None => Rows::none(alloc),
     }
 }
 
-/// The row that a command on the process job of a name fires; none where no such job is kept (SEMI E40, S16F5). `AllocError` where
-/// there is no memory.
-pub fn job_rows(
-    alloc: Global,
-    job: Text80,
-    word: JobWord,
-    jobs: &Jobs,
-) -> Result<Vec<Firing>, AllocError>
-    ensures { IfOk result (λ rows. rows.items ≡ command_rows job word jobs.now) }
+/// The row that a command on the process job of a name fires; none where no such job is kept (SEMI E40, S16F5). Takes no memory.
+pub fn job_rows(alloc: Global, job: Text80, word: JobWord, jobs: &Jobs) -> Rows
+    ensures { result ≡ command_rows job word jobs.now }
 {
-    rows_of(alloc, command_row(job, word, jobs))
-}
-
-/// The row that a job fires, where there is one.
-pub fn rows_of(alloc: Global, row: Option<Firing>) -> Result<Vec<Firing>, AllocError>
-    ensures { IfOk result (λ rows. rows.items ≡ option_to_list row) }
-{
-    match row {
-        Some(row) => Vec::from_slice(alloc, &[row]),
-        None => Ok(Vec::new(alloc)),
-    }
+    Rows::one(alloc, command_row(job, word, jobs))
 }
 
 // ---- what replies tell

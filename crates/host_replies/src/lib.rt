@@ -9,10 +9,12 @@
 mod done;
 mod jobs;
 mod ports;
+mod rows;
 
 pub use done::{Done, HostReply, answered, fires_row, reply_text};
 pub use jobs::{
     acknowledged, command_rows, errors_of, few_cancelled, job_rows, listed_jobs,
-    object_acknowledged, rows_of,
+    object_acknowledged,
 };
 pub use ports::{accepted_carrier_rows, accepted_port_rows};
+pub use rows::Rows;

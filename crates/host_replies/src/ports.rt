@@ -4,6 +4,7 @@ ghost use Rattle.std.specs.Prelude.{◌≡◌, ◌≤◌, length, IfOk};
 ghost use Rattle.shop_floor.specs.Floor.{numbers_from};
 ghost use Rattle.shop_floor.specs.Requests.{carrier_rows, port_rows, at_ports, mode_row, or_all};
 
+use crate::rows::Rows;
 use arrayvec::ArrayVec;
 use carrier::CarrierAction;
 use gem_tables::Firing;
@@ -17,15 +18,15 @@ const ACCESS: u8 = 5;
 
 const RESERVATION: u8 = 6;
 
-/// The direct rows of an action on a carrier that is accepted.
+/// The direct rows of an action on a carrier that is accepted. `AllocError`: there is no memory for those behind the first.
 pub fn accepted_carrier_rows(
     shop: &ShopFloor,
     alloc: Global,
     action: &CarrierAction,
-) -> Result<Vec<Firing>, AllocError>
-    ensures { IfOk result (λ rows. rows.items ≡ carrier_rows action.now shop.now) }
+) -> Result<Rows, AllocError>
+    ensures { IfOk result (λ rows. rows ≡ carrier_rows action.now shop.now) }
 {
-    Vec::from_slice(alloc, shop.carrier_rows(action).as_slice())
+    Rows::of(alloc, shop.carrier_rows(action).as_slice())
 }
 
 // The numbers of the ports.
@@ -62,8 +63,8 @@ fn access_rows(
     }
 }
 
-/// The direct rows of an action on ports that is accepted.
-pub fn accepted_port_rows(
+// The rows of an action on ports that is accepted.
+fn listed_rows(
     shop: &ShopFloor,
     alloc: Global,
     action: &PortAction,
@@ -76,4 +77,16 @@ pub fn accepted_port_rows(
         PortAction::Access(mode, ports) => access_rows(shop, alloc, *mode, ports.as_slice()),
         PortAction::Unknown => Ok(Vec::new(alloc)),
     }
+}
+
+/// The direct rows of an action on ports that is accepted. `AllocError`: there is no memory for them.
+pub fn accepted_port_rows(
+    shop: &ShopFloor,
+    alloc: Global,
+    action: &PortAction,
+) -> Result<Rows, AllocError>
+    ensures { IfOk result (λ rows. rows ≡ port_rows action.now shop.now) }
+{
+    let rows = listed_rows(shop, alloc, action)?;
+    Ok(Rows::from_vec(rows))
 }

@@ -19,13 +19,13 @@ use Rattle.host_replies.specs.Dones.{done_view}
 
 -- an error stands against it
 pub refused : (g after : State) (reply : Option JobError → ShopReply) (e is : Option JobError) (x : JobError) (w : Jobs) (rows : List Firing) (told : Done)
-    → e ≡ Some x → e ≡ is → told.reply ≡ code.Shop (reply e) → after ≡ g → told.rows.items ≡ []
+    → e ≡ Some x → e ≡ is → told.reply ≡ code.Shop (reply e) → after ≡ g → told.rows ≡ []
     → done_view told after ≡ asked_of_jobs g (reply is) is w rows
 refused g after reply e is x w rows told some same r a none = rw (sym same, r, a, none, some) refl
 
 -- none does
 pub taken : (g after : State) (reply : Option JobError → ShopReply) (e is : Option JobError) (w : Jobs) (rows : List Firing) (told : Done)
-    → e ≡ None → e ≡ is → told.reply ≡ code.Shop (reply e) → after ≡ with_jobs_now w g → told.rows.items ≡ rows
+    → e ≡ None → e ≡ is → told.reply ≡ code.Shop (reply e) → after ≡ with_jobs_now w g → told.rows ≡ rows
     → done_view told after ≡ asked_of_jobs g (reply is) is w rows
 taken g after reply e is w rows told none same r a all = rw (sym same, r, a, all, none) refl
 

@@ -17,10 +17,9 @@ ghost use Rattle.host_replies.specs.Dones.{done_view, CanBeSent};
 use core_state::Plant;
 use gem_ids::{Listed, Text80};
 use gem_states::Control;
-use gem_tables::Firing;
 use host_replies::{
-    Done, HostReply, acknowledged, command_rows, errors_of, few_cancelled, listed_jobs,
-    object_acknowledged, rows_of,
+    Done, HostReply, Rows, acknowledged, command_rows, errors_of, few_cancelled, listed_jobs,
+    object_acknowledged,
 };
 use item_model::Item;
 use job_requests::{
@@ -60,7 +59,7 @@ pub fn process_done(
     );
     let told = acknowledged(alloc, error)?;
     let rows = match error {
-        Some(_) => Vec::new(alloc),
+        Some(_) => Rows::none(alloc),
         None => create_process(plant, alloc, *job, carriers, *recipe, start)?,
     };
     Ok(Done {
@@ -77,15 +76,15 @@ fn create_process(
     carriers: &[CarrierSlots],
     recipe: Text80,
     start: bool,
-) -> Result<Vec<Firing>, AllocError>
+) -> Result<Rows, AllocError>
     requires named { is_job_name job ≡ true }
     requires free { create_fault (asked_process job carriers.now recipe start) (jobs_of plant.old).process ≡ None }
-    ensures rows { IfOk result (λ rows. rows.items ≡ process_rows (jobs_of plant.old)) }
+    ensures rows { IfOk result (λ rows. rows ≡ process_rows (jobs_of plant.old)) }
     ensures after { OnOk result (plant.new ≡ with_jobs_now (with_process (asked_process job carriers.now recipe start) (jobs_of plant.old)) plant.old) }
 {
     let spec = process_spec(alloc, job, carriers, recipe, start)?;
     plant.create_process(spec)?;
-    rows_of(alloc, process_row(plant.jobs()))
+    Ok(Rows::one(alloc, process_row(plant.jobs())))
 }
 
 /// S16F5, a command on the process job of a name, by its word where there is one: where nothing stands against it, its row of table 14
@@ -103,8 +102,8 @@ pub fn command_done(
     let error = command_error(is_local(plant), *job, word, plant.jobs());
     let told = acknowledged(alloc, error)?;
     let rows = match error {
-        Some(_) => Vec::new(alloc),
-        None => command_rows(alloc, *job, word, plant.jobs())?,
+        Some(_) => Rows::none(alloc),
+        None => command_rows(alloc, *job, word, plant.jobs()),
     };
     Ok(Done {
         reply: HostReply::Shop(ShopReply::S16F6(*job, told)),
@@ -124,7 +123,7 @@ pub fn cancel_done(plant: &Plant, alloc: Global, names: &[Text80]) -> Result<Don
     match error {
         Some(_) => Ok(Done {
             reply: HostReply::Shop(ShopReply::S16F18(Listed::new(alloc), told)),
-            rows: Vec::new(alloc),
+            rows: Rows::none(alloc),
         }),
         None => cancel(plant, alloc, names, told),
     }
@@ -146,7 +145,7 @@ fn cancel(
     let rows = cancel_rows(alloc, jobs.as_slice(), plant.jobs())?;
     Ok(Done {
         reply: HostReply::Shop(ShopReply::S16F18(jobs, told)),
-        rows: rows.into_vec(),
+        rows: Rows::from_vec(rows.into_vec()),
     })
 }
 
@@ -160,7 +159,7 @@ pub fn list_done(plant: &Plant, alloc: Global) -> Result<Done, AllocError>
     let jobs = listed_jobs(alloc, plant.jobs().process())?;
     Ok(Done {
         reply: HostReply::Shop(ShopReply::S16F20(jobs)),
-        rows: Vec::new(alloc),
+        rows: Rows::none(alloc),
     })
 }
 
@@ -171,7 +170,7 @@ pub fn space_done(plant: &Plant, alloc: Global) -> Done
 {
     Done {
         reply: HostReply::Shop(ShopReply::S16F22(plant.jobs().process().space())),
-        rows: Vec::new(alloc),
+        rows: Rows::none(alloc),
     }
 }
 
@@ -206,7 +205,7 @@ fn asked_control_done(
     let error = control_error(is_local(plant), *kind, request, plant.jobs());
     let reply = ShopReply::S14F10(request.name, object_acknowledged(alloc, error)?);
     let rows = match error {
-        Some(_) => Vec::new(alloc),
+        Some(_) => Rows::none(alloc),
         None => create_control(plant, alloc, request)?,
     };
     Ok(Done {
@@ -220,11 +219,11 @@ fn create_control(
     plant: &mut Plant,
     alloc: Global,
     request: &ControlRequest,
-) -> Result<Vec<Firing>, AllocError>
+) -> Result<Rows, AllocError>
     requires named { is_job_name request.now.name ≡ true }
     requires there { is_any_missing request.now.jobs (jobs_of plant.old) ≡ false }
     requires free { control_fault request.now.name request.now.jobs (jobs_of plant.old) ≡ None }
-    ensures rows { IfOk result (λ rows. rows.items ≡ control_rows (jobs_of plant.old)) }
+    ensures rows { IfOk result (λ rows. rows ≡ control_rows (jobs_of plant.old)) }
     ensures after { OnOk result (plant.new ≡ with_jobs_now (with_control request.now.name request.now.jobs request.now.auto (jobs_of plant.old)) plant.old) }
 {
     let names = control_names(alloc, request.jobs.as_slice(), plant.jobs())?;
@@ -234,7 +233,7 @@ fn create_control(
         names.as_slice(),
         request.auto,
     )?;
-    rows_of(alloc, control_row(plant.jobs()))
+    Ok(Rows::one(alloc, control_row(plant.jobs())))
 }
 
 /// S16F27, a command on the control job of a name: where nothing stands against it, its row of table 15 fires, or the job goes first in
@@ -252,8 +251,8 @@ pub fn control_command_done(
     let error = control_command_error(is_local(plant), *job, cmd, plant.jobs());
     let reply = ShopReply::S16F28(error.is_none(), errors_of(alloc, error)?);
     let rows = match error {
-        Some(_) => Vec::new(alloc),
-        None => act(plant, alloc, *job, control_command(*job, cmd, plant.jobs()))?,
+        Some(_) => Rows::none(alloc),
+        None => act(plant, alloc, *job, control_command(*job, cmd, plant.jobs())),
     };
     Ok(Done {
         reply: HostReply::Shop(reply),
@@ -262,22 +261,17 @@ pub fn control_command_done(
 }
 
 // A command is done on the control job of a name. Gives its row.
-fn act(
-    plant: &mut Plant,
-    alloc: Global,
-    job: Text80,
-    act: Option<QueueAct>,
-) -> Result<Vec<Firing>, AllocError>
-    ensures rows { IfOk result (λ rows. rows.items ≡ act_rows act) }
-    ensures after { OnOk result (plant.new ≡ with_jobs_now (act_after job act (jobs_of plant.old)) plant.old) }
+fn act(plant: &mut Plant, alloc: Global, job: Text80, act: Option<QueueAct>) -> Rows
+    ensures rows { result ≡ act_rows act }
+    ensures after { plant.new ≡ with_jobs_now (act_after job act (jobs_of plant.old)) plant.old }
 {
     match act {
-        Some(QueueAct::Fires(row)) => Vec::from_slice(alloc, &[row]),
+        Some(QueueAct::Fires(row)) => Rows::one(alloc, Some(row)),
         Some(QueueAct::Heads) => {
             make_head(plant, job);
-            Ok(Vec::new(alloc))
+            Rows::none(alloc)
         }
-        None => Ok(Vec::new(alloc)),
+        None => Rows::none(alloc),
     }
 }
 

@@ -23,8 +23,7 @@ use carrier::{CarrierAction, CarrierWord};
 use core_state::Plant;
 use gem_ids::Listed;
 use gem_states::Control;
-use gem_tables::Firing;
-use host_replies::{Done, HostReply, accepted_carrier_rows, accepted_port_rows};
+use host_replies::{Done, HostReply, Rows, accepted_carrier_rows, accepted_port_rows};
 use host_requests::{carrier_action, port_word};
 use job_requests::command_named;
 use load_port::{Caack, PortAction};
@@ -70,7 +69,7 @@ fn carrier_action_done(
     let rows = if code.is_done() {
         write_carrier_action(plant, alloc, &action)?
     } else {
-        Vec::new(alloc)
+        Rows::none(alloc)
     };
     Ok(Done {
         reply: HostReply::Shop(ShopReply::S3F18(code.number())),
@@ -83,9 +82,9 @@ fn write_carrier_action(
     plant: &mut Plant,
     alloc: Global,
     action: &CarrierAction,
-) -> Result<Vec<Firing>, AllocError>
+) -> Result<Rows, AllocError>
     requires { is_done_code (carrier_code action.now plant.old.floor) ≡ true }
-    ensures rows { IfOk result (λ rows. rows.items ≡ carrier_rows action.now plant.old.floor.shop) }
+    ensures rows { IfOk result (λ rows. rows ≡ carrier_rows action.now plant.old.floor.shop) }
     ensures after { OnOk result (plant.new ≡ record plant.old { floor = with_shop (carrier_written action.now plant.old.floor.shop) plant.old.floor }) }
 {
     let rows = accepted_carrier_rows(plant.floor().shop(), alloc, action)?;
@@ -99,13 +98,13 @@ fn port_rows(
     alloc: Global,
     action: &PortAction,
     code: Caack,
-) -> Result<Vec<Firing>, AllocError>
-    ensures { IfOk result (λ rows. rows.items ≡ (if is_done_code code then port_rows action.now plant.now.floor.shop else [])) }
+) -> Result<Rows, AllocError>
+    ensures { IfOk result (λ rows. rows ≡ (if is_done_code code then port_rows action.now plant.now.floor.shop else [])) }
 {
     if code.is_done() {
         accepted_port_rows(plant.floor().shop(), alloc, action)
     } else {
-        Ok(Vec::new(alloc))
+        Ok(Rows::none(alloc))
     }
 }
 

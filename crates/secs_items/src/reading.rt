@@ -1,5 +1,6 @@
 ghost use Rattle.std.specs.Prelude.{◌≡◌, ◌≢◌, ◌/◌, ◌≤◌, ℕ, length, take, Ok, Err, IfOk, IfErr, nat_le};
 ghost use Rattle.std.specs.List.{position};
+ghost use Rattle.byteorder.specs.Endian.{big_number};
 ghost use Rattle.item_model.specs.Data.{Data};
 ghost use Rattle.secs_items.specs.Faults.{IsFirst};
 ghost use Rattle.secs_items.specs.Given.{Gives};
@@ -67,6 +68,19 @@ fn read_format(total: usize, bytes: &[u8]) -> Result<(Format, usize, &[u8]), Ite
     }
 }
 
+// The number in so many bytes. Mostly it stands in one, which is read straight.
+fn read_number(size: usize, bytes: &[u8]) -> u64
+    requires low { 1 ≤ size }
+    requires high { size ≤ 3 }
+    requires there { size ≤ length bytes.now }
+    ensures { result ≡ big_number size bytes.now }
+{
+    if size == 1 {
+        return bytes[0] as u64;
+    }
+    BigEndian::read_uint(bytes, size)
+}
+
 // Reads length bytes.
 #[tactic(auto, unfolding(item_model::specs::Reading::length_at))]
 fn read_length(total: usize, size: usize, bytes: &[u8]) -> Result<(usize, &[u8]), ItemFault>
@@ -78,7 +92,7 @@ fn read_length(total: usize, size: usize, bytes: &[u8]) -> Result<(usize, &[u8])
     if bytes.len() < size {
         return Err(ItemFault::Truncated(total));
     }
-    let length = BigEndian::read_uint(bytes, size);
+    let length = read_number(size, bytes);
     Ok((length as usize, &bytes[size..]))
 }
 

@@ -250,8 +250,8 @@ impl ShopFloor {
     pub fn code_by_jobs(&self, a: &CarrierAction, is_named: bool) -> Caack
         ensures { result ≡ carrier_caack self.now.carriers (map view_of self.now.ports) a.now is_named }
     {
-        let views = self.ports.views();
-        self.carriers.code(views.as_slice(), a, is_named)
+        self.carriers
+            .code(self.ports.views().as_slice(), a, is_named)
     }
 
     /// What the host is answered of an action on ports by the states before it, CAACK (SEMI E87, S3F26 and S3F28; this tool's

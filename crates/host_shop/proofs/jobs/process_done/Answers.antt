@@ -1,5 +1,4 @@
-use Rattle.std.proofs.Common.{◌≡◌, Vec, Global, sym, ap, ◌∙◌}
-use Rattle.gem_tables.specs.declared.firing.Firing.{Firing}
+use Rattle.std.proofs.Common.{◌≡◌, sym, ap, ◌∙◌}
 use Rattle.item_model.specs.View.{view}
 use Rattle.message_model.specs.declared.shop_reply.JobAcknowledge.{JobAcknowledge}
 use Rattle.message_model.specs.declared.shop_reply.ShopReply.TheVariants as reply
@@ -28,9 +27,9 @@ returns-clause-done c =
     elim c.match-error.branch [
       | in-Some w ↦
           refused g c.match-error.plant (λ e. reply.S16F12 c.args.job.now (acknowledged e)) c.process_error-error.result _ w.in-Some.field-0 _ _ told w.in-Some.is same answered w.plant-is
-          (ap (λ (v : Vec Firing Global). v.items) w.rows-is ∙ w.new-rows.ensures.items)
+          (w.rows-is ∙ w.none-rows.ensures)
       | in-None+in_ok-rows-in-None w ↦
           taken g c.match-error.plant (λ e. reply.S16F12 c.args.job.now (acknowledged e)) c.process_error-error.result _ _ _ told w.in-None.is same answered
           (w.plant-is ∙ w.in_ok-rows-in-None.ensures.after)
-          (ap (λ (v : Vec Firing Global). v.items) w.rows-is ∙ w.in_ok-rows-in-None.ensures.rows)
+          (w.rows-is ∙ w.in_ok-rows-in-None.ensures.rows)
     ]

@@ -13,6 +13,16 @@ pub enum Point {
     Module(u8),
     /// Before the clock ticks.
     Tick,
+    /// After a message of the host was answered, and its session goes on.
+    HostPosted,
+    /// Where no frame waits for the writer, before it passes `Idle`.
+    NoFrame,
+    /// After a signal of a module or a look at the clock was answered.
+    Posted,
+    /// Where the reader or the writer of a session has ended.
+    SessionEnd,
+    /// Where the clock has ended, which it does when the run is over.
+    Over,
 }
 
 /// What actors pass on their way, so that a test can hold one of them. Nothing is said of what it does.

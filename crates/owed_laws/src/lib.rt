@@ -2,8 +2,7 @@
 //! how many are still to come for the substrates that are counted, and what takes one off.
 //!
 //! It has no code, and stands on the floor by numbers of `floor_moves`, with what process jobs say as it is told there. Begin with
-//! `specs/Owed.antt` and `specs/Undisturbed.antt`, then `laws`; `worked` has a floor that is computed.
+//! `specs/Owed.antt` and `specs/Undisturbed.antt`, then `laws`.
 #![tactic(auto)]
 
 pub mod laws;
-pub mod worked;

@@ -1,4 +1,4 @@
--- Where work is left and nothing rests without it, a command is open.
+-- Where work is left, and the floor is at rest if no command is open, a command is open.
 use Rattle.std.proofs.Common.{◌≡◌, ℕ, ◌==◌, Bool, true, false, not, ◌&&◌, ◌||◌, Option, Some, None, sym, ap, refl, ◌∙◌, ◌⊎◌, inl, inr}
 use Rattle.std.specs.List.{list_any}
 use Rattle.std.proofs.lemmas.Bool.{or_right, false_from_ne_true, true_from_ne_false, cases_Bool}
@@ -11,6 +11,7 @@ use Rattle.floor_moves.proofs.Scans.{any_tells, any_none}
 use Rattle.floor_moves.proofs.Facts.{is_number, outside_tells}
 use Rattle.floor_moves.proofs.Promised.{own_free}
 
+-- nothing is both true and false
 both : (b : Bool) → b ≡ true → b ≡ false → ⊥
 both b e f = cc
 
@@ -19,7 +20,7 @@ module _ (g : Floor) (v : Valid g) (reach : HaveChambers g) (rest : AtRest g) (n
   finished_or_needs : (n : ℕ) → (g.processing n == 0) ≡ false → is_finished (g.processing n) ≡ true
   finished_or_needs n e = ap not (ap (λ (b : Bool). b || (g.processing n == 1)) e ∙ false_from_ne_true (g.processing n == 1) (λ e. let w = v.work.in_process n (is_number (g.processing n) 1 e) in none w.0 w.1 w.2))
 
-  -- ---- a target is free
+  -- ---- there is room where it goes next
 
   home : (n : ℕ) → is_finished (g.processing n) ≡ true → is_outside (g.place_of n) ≡ true → HasTarget n g
   home n f out = ((λ e. own_free g v.places n out), (λ u. absurd (both (is_finished (g.processing n)) f u)))

@@ -173,7 +173,7 @@ module _ (f : ToolFloor) (sound : Sound f) where
           unsettled_left j found parts.0 (not-true (is_settled j.number f) parts.1)
       of j found false q e = outside_member_left j (and_parts (is_pausing j.states.state) (list_any (is_member_outside j.number f.places) f.substrates) e).1
 
--- ---- no row is ready by numbers
+-- ---- the floor by numbers is at rest
 
 module _ (f : ToolFloor) (sound : Sound f) (equipped : Equipped f) (rests : floor_least f ≡ None) where
   -- no row of any table is ready

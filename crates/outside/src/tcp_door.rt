@@ -17,11 +17,12 @@ const PAUSE: u64 = 5;
 const PATIENCE: u64 = 10;
 
 /// A TCP listener as a door, at 127.0.0.1. Where nobody asks for a link it waits for five milliseconds, and then answers
-/// `NotYet`. It never answers `Closed`. A frame goes out at once, and is not held back for more. It tells no content;
-/// contracts see its counts.
+/// `NotYet`. It never answers `Closed`. A frame goes out at once, and is not held back for more. It tells no links;
+/// contracts see its counts, and the port at which it was asked to listen.
 #[derive(Drop)]
 pub struct TcpDoor<'a, R> {
     rt: &'a R,
+    asked: Option<u16>,
     listener: Option<TcpListener>,
     counts: Meetings,
 }
@@ -32,6 +33,7 @@ impl<'a, R> Model for TcpDoor<'a, R> {
     ghost Value = { DoorCounts };
 
     ghost view = { λ d. record {
+      port = d.asked;
       faults = d.counts.faults;
       links = d.counts.links;
       waits = d.counts.waits;
@@ -42,10 +44,11 @@ impl<'a, R> Model for TcpDoor<'a, R> {
 impl<'a, R> TcpDoor<'a, R> {
     /// A door that doesn't listen yet.
     pub fn new(rt: &'a R) -> TcpDoor<'a, R>
-        ensures { result ≡ record { faults = 0; links = 0; waits = 0; closings = 0 } }
+        ensures { result ≡ record { port = None; faults = 0; links = 0; waits = 0; closings = 0 } }
     {
         TcpDoor {
             rt,
+            asked: None,
             listener: None,
             counts: Meetings::none(),
         }
@@ -93,6 +96,8 @@ impl<R: Net<Listener = TcpListener, Stream = TcpStream> + time::Clock> Door for 
 
     ghost backs = { λ _. None };
 
+    ghost opened_at = { λ d. d.port };
+
     ghost faults = { λ d. d.faults };
 
     ghost links = { λ d. d.links };
@@ -103,6 +108,7 @@ impl<R: Net<Listener = TcpListener, Stream = TcpStream> + time::Clock> Door for 
 
     /// Fails where the port is taken, or the system gives no listener.
     fn open(&mut self, port: u16) -> Result<(), Failed> {
+        self.asked = Some(port);
         let Ok(listener) = listener_at(self.rt, port) else {
             self.counts.failed();
             return Err(Failed);

@@ -22,11 +22,12 @@ const BETWEEN_LOOKS: u64 = 50;
 
 /// A TCP listener as a door, at 127.0.0.1. Where nobody asks for a link within fifty milliseconds, it answers `NotYet`. It never
 /// answers `Closed`. While a link is up and its `TcpIn` is read, whoever else connects is turned away. A frame goes out at once,
-/// and is not held back for more. It tells no content; contracts see its counts.
+/// and is not held back for more. It tells no links; contracts see its counts, and the port at which it was asked to listen.
 #[derive(Drop)]
 pub struct TcpDoor<'a, R> {
     rt: &'a R,
     signs: Option<&'a RunSigns>,
+    asked: Option<u16>,
     listener: Option<TcpListener>,
     refusal: Option<(u16, io::ErrorKind)>,
     counts: Meetings,
@@ -38,6 +39,7 @@ impl<'a, R> Model for TcpDoor<'a, R> {
     ghost Value = { DoorCounts };
 
     ghost view = { λ d. record {
+      port = d.asked;
       faults = d.counts.faults;
       links = d.counts.links;
       waits = d.counts.waits;
@@ -48,11 +50,12 @@ impl<'a, R> Model for TcpDoor<'a, R> {
 impl<'a, R> TcpDoor<'a, R> {
     /// A door that doesn't listen yet. The writes of its links look at no signs.
     pub fn new(rt: &'a R) -> TcpDoor<'a, R>
-        ensures { result ≡ record { faults = 0; links = 0; waits = 0; closings = 0 } }
+        ensures { result ≡ record { port = None; faults = 0; links = 0; waits = 0; closings = 0 } }
     {
         TcpDoor {
             rt,
             signs: None,
+            asked: None,
             listener: None,
             refusal: None,
             counts: Meetings::none(),
@@ -61,11 +64,12 @@ impl<'a, R> TcpDoor<'a, R> {
 
     /// A door that doesn't listen yet, and whose links' writes give up once these signs tell that the session is over.
     pub fn with_signs(rt: &'a R, signs: &'a RunSigns) -> TcpDoor<'a, R>
-        ensures { result ≡ record { faults = 0; links = 0; waits = 0; closings = 0 } }
+        ensures { result ≡ record { port = None; faults = 0; links = 0; waits = 0; closings = 0 } }
     {
         TcpDoor {
             rt,
             signs: Some(signs),
+            asked: None,
             listener: None,
             refusal: None,
             counts: Meetings::none(),
@@ -119,6 +123,8 @@ impl<'a, R: Net<Listener = TcpListener, Stream = TcpStream>> Door for TcpDoor<'a
 
     ghost backs = { λ _. None };
 
+    ghost opened_at = { λ d. d.port };
+
     ghost faults = { λ d. d.faults };
 
     ghost links = { λ d. d.links };
@@ -129,6 +135,7 @@ impl<'a, R: Net<Listener = TcpListener, Stream = TcpStream>> Door for TcpDoor<'a
 
     /// Fails where the port is taken, or the system gives no listener; `refusal` tells then.
     fn open(&mut self, port: u16) -> Result<(), Failed> {
+        self.asked = Some(port);
         match listener_at(self.rt, port) {
             Ok(listener) => {
                 self.listener = Some(listener);

@@ -30,7 +30,7 @@ pub fn host_in<C: Recorder + Send, R: Threads + Wait + Sync, X: Door, G: Gate + 
 )
     requires { IsOf shared.now reader.old.chair × IsOf shared.now writer.old.chair }
     ensures { HostWorked (link_told X.In.left X.In.faults X.In.ends X.Out.held X.Out.faults X.Out.refusals X.Out.is_shut) shared.now
-        (door_told X.left X.backs X.faults X.links X.waits X.closings door.old) (door_told X.left X.backs X.faults X.links X.waits X.closings door.new)
+        (door_told X.left X.backs X.opened_at X.faults X.links X.waits X.closings door.old) (door_told X.left X.backs X.opened_at X.faults X.links X.waits X.closings door.new)
         reader.old reader.new writer.old writer.new bytes.old.items bytes.new.items }
 {
     let Some(first) = reader.chair.take() else {

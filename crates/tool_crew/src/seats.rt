@@ -45,7 +45,7 @@ fn host_at<
     ensures first { IsChairAt J.table J.config result.0.0 × (pass_number result.0.0 ≡ J.number) }
     ensures second { IsChairAt L.table L.config result.0.1 × (pass_number result.0.1 ≡ L.number) }
     ensures did { Hosted (link_told X.In.left X.In.faults X.In.ends X.Out.held X.Out.faults X.Out.refusals X.Out.is_shut)
-        (door_told X.left X.backs X.faults X.links X.waits X.closings door.old) (door_told X.left X.backs X.faults X.links X.waits X.closings door.new)
+        (door_told X.left X.backs X.opened_at X.faults X.links X.waits X.closings door.old) (door_told X.left X.backs X.opened_at X.faults X.links X.waits X.closings door.new)
         (posts_of (mine first)) (posts_of (mine result.0.0)) (posts_of (mine second)) (posts_of (mine result.0.1)) bytes.old.items bytes.new.items result.1 }
     ensures unfailed { result.1 ≢ end.Door → X.faults door.new ≡ X.faults door.old }
 {
@@ -70,7 +70,7 @@ pub fn host_seated<C: Recorder + Send, R: Threads + Wait + Sync, X: Door, G: Gat
     ensures first { IsChairOf shared.now result.0.0 × (pass_number result.0.0 ≡ pass_number first) }
     ensures second { IsChairOf shared.now result.0.1 × (pass_number result.0.1 ≡ pass_number second) }
     ensures did { Hosted (link_told X.In.left X.In.faults X.In.ends X.Out.held X.Out.faults X.Out.refusals X.Out.is_shut)
-        (door_told X.left X.backs X.faults X.links X.waits X.closings door.old) (door_told X.left X.backs X.faults X.links X.waits X.closings door.new)
+        (door_told X.left X.backs X.opened_at X.faults X.links X.waits X.closings door.old) (door_told X.left X.backs X.opened_at X.faults X.links X.waits X.closings door.new)
         (posts_of (mine first)) (posts_of (mine result.0.0)) (posts_of (mine second)) (posts_of (mine result.0.1)) bytes.old.items bytes.new.items result.1 }
     ensures unfailed { result.1 ≢ end.Door → X.faults door.new ≡ X.faults door.old }
 {

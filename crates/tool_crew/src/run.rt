@@ -7,10 +7,10 @@ ghost use Rattle.tool_crew.specs.Seating.{AllOf};
 ghost use Rattle.tool_crew.specs.Crews.{outside, AreEnds, CrewDid};
 ghost use Rattle.tool_crew.specs.Ran.{RunDid};
 
-use crate::crew::run_all;
 use crate::ends::Ends;
 use crate::seat::Seat;
 use crate::seating::{ends_of, seat_all, unseat_all};
+use crate::start::run_all;
 use history_laws::Recorder;
 use host_actor::SessionBytes;
 use outside::{Clock, Door, Gate, Source};

@@ -1,5 +1,5 @@
 use Rattle.std.proofs.Common.{rules, ◌≡◌, sym}
-use Rattle.tool_crew.proofs.crew.run_all.Goals as goal
+use Rattle.tool_crew.proofs.crew.run_at_once.Goals as goal
 
 pub returns-clause-hosted : goal.returns-clause-hosted
 returns-clause-hosted g c =

@@ -19,8 +19,8 @@
 //!
 //! Of the last run are asked `status`, `cause`, `entries`, `first seat` (of the first entry), `seat 0` to `seat 2` and `seats from 3` (to 9; what each posted),
 //! `operator first` (in front of the first message of the host), `operator moment` (the tool's, at the first command of the operator), `notes` (how many), of session 1 `note 1` (why it ended) and `bytes 1`
-//! (that came and went), and `log`. At a door in memory `script left` tells how many bytes are left of the script, and `waits` how often
-//! a door without links was asked too early. With a peer that goes away `front` tells whether the link was handed back and holds a front
+//! (that came and went), and `log`. At a door in memory `script left` tells how many bytes are left of the script, `port` at
+//! which port a door without links was asked to listen, and `waits` how often it was asked too early. With a peer that goes away `front` tells whether the link was handed back and holds a front
 //! of the select response, and `race` whether seat 0 posted what it may. `selected` tells whether the select response came, `windows` how
 //! many windows were answered, and `ended by the tool` whether the tool ended the link.
 

@@ -28,11 +28,13 @@ pub fn add_item(alloc: Global, item: &Item, out: &mut String) -> Result<()> {
 #[cycle(words)]
 fn add_list(alloc: Global, items: &[Item], out: &mut String) -> Result<()> {
     out.push_str("L[")?;
-    let mut between = "";
+    let mut is_first = true;
     for item in items {
-        out.push_str(between)?;
+        if !is_first {
+            out.push_str(", ")?;
+        }
+        is_first = false;
         add_item(alloc, item, out)?;
-        between = ", ";
     }
     out.push_str("]")?;
     Ok(())

@@ -1,11 +1,12 @@
 //! Parts of the tool that are timed, and a server and clients over TCP beside it. `bench/items.sh`, `bench/spool.sh`,
-//! `bench/planner.sh` and `bench/serve.sh` run it; it is no part of the tool.
+//! `bench/planner.sh`, `bench/hostile.sh` and `bench/serve.sh` run it; it is no part of the tool.
 //!
-//! The first word names what is measured, `items`, `spool` or `planner`, or is `echo`, `ask`, `press` or `visit`, and those behind it
-//! say how (`item.rt`, `notes.rt`, `moves.rt`, `links.rt`). It prints how often it went well. With the word `each` alone it does a
+//! The first word names what is measured, `items`, `spool`, `planner` or `cutter`, or is `echo`, `ask`, `press` or `visit`, and those behind it
+//! say how (`item.rt`, `notes.rt`, `moves.rt`, `cut.rt`, `links.rt`). It prints how often it went well. With the word `each` alone it does a
 //! little of each, and prints the sum.
 #![tactic(auto)]
 
+mod cut;
 mod item;
 mod links;
 mod moves;
@@ -22,7 +23,7 @@ use std::time::Clock;
 // Measures the part of the tool that the words name.
 fn measure_part(alloc: Global, what: &str, words: &[String]) -> Result<u64> {
     let [first, second, rest @ ..] = words else {
-        bail!("the words are items, spool or planner, and what each takes");
+        bail!("the words are items, spool, planner or cutter, and what each takes");
     };
     let third = match rest {
         [third] => third.as_str(),
@@ -35,6 +36,12 @@ fn measure_part(alloc: Global, what: &str, words: &[String]) -> Result<u64> {
             alloc,
             first.parse::<u32>()?,
             second.parse::<u32>()?,
+            third.parse::<u64>()?,
+        ),
+        "cutter" => cut::measure(
+            alloc,
+            first.parse::<u32>()?,
+            second.parse::<u64>()?,
             third.parse::<u64>()?,
         ),
         "planner" => moves::measure(alloc, first.parse::<u8>()?, second.parse::<u64>()?),
@@ -68,7 +75,7 @@ fn words(rt: &HostRuntime) -> Result<Vec<String>> {
     Ok(words)
 }
 
-// A little of each: 2 items, 6 notes, 4 moves and 2 answers.
+// A little of each: 2 items, 6 notes, 4 moves, 14 bytes that are kept and 2 answers.
 fn measure_each<R: Net<Listener = TcpListener, Stream = TcpStream> + Threads + Clock + Sync>(
     rt: &R,
     alloc: Global,
@@ -76,11 +83,13 @@ fn measure_each<R: Net<Listener = TcpListener, Stream = TcpStream> + Threads + C
     let items = item::measure(alloc, "decode", "list", 2)?;
     let notes = notes::measure(alloc, 3, 10, 2)?;
     let moves = moves::measure(alloc, 25, 4)?;
+    let kept = cut::measure(alloc, 7, 1000, 1)?;
     let answers = links::measure_twice(rt)?;
     Ok(
         items
             .saturating_add(notes)
             .saturating_add(moves)
+            .saturating_add(kept)
             .saturating_add(answers),
     )
 }

@@ -8,12 +8,14 @@
 //! with `MemSource::new` and `MemSink::new`, and with `MemDoor::new` for links.
 #![tactic(auto)]
 
+mod bell;
 mod clock;
 mod counts;
 mod door;
 mod file_source;
 mod gate;
 mod gates;
+mod hearings;
 mod link;
 mod list_clock;
 mod meetings;
@@ -23,12 +25,17 @@ mod mem_sink;
 mod mem_source;
 mod met;
 mod read;
+mod ready;
+mod script_source;
+mod signs;
 mod sink;
 mod source;
 mod standard;
 mod system_clock;
 mod tcp_door;
 mod tcp_link;
+mod turning_away;
+mod wake_gate;
 mod write;
 
 pub use clock::Clock;
@@ -44,10 +51,13 @@ pub use mem_sink::{MemSink, NoMemory};
 pub use mem_source::MemSource;
 pub use met::Met;
 pub use read::{front, read_front};
+pub use script_source::ScriptSource;
+pub use signs::RunSigns;
 pub use sink::Sink;
 pub use source::{Failed, Source};
 pub use standard::{StdinSource, StdoutSink};
 pub use system_clock::SystemClock;
 pub use tcp_door::TcpDoor;
 pub use tcp_link::{TcpIn, TcpOut};
+pub use wake_gate::WakeGate;
 pub use write::{WriteFault, write_all};

@@ -111,6 +111,18 @@ pub fn run<O: Tools>(
     Ok(entries)
 }
 
+/// Runs what is given, and tells how the run ended. What it printed.
+pub fn run_printed<O: Tools>(
+    tools: &O,
+    alloc: Global,
+    given: &Given,
+    told: &mut String,
+) -> Result<Vec<u8>, AllocError> {
+    let mut out = sink_of(alloc, given.limits)?;
+    run_into(tools, alloc, given, &mut out, told)?;
+    Ok(out.into_bytes())
+}
+
 /// Runs what is given into a sink that takes one byte at a time, and tells of it. How many entries the history has.
 pub fn run_narrow<O: Tools>(
     tools: &O,

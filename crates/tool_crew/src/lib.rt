@@ -12,6 +12,7 @@ mod seat;
 mod seated;
 mod seating;
 mod seats;
+mod start;
 
 pub use ends::Ends;
 pub use run::{Ran, run_tool};

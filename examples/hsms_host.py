@@ -184,23 +184,26 @@ class Inbox:
             self.events.append(Event(dataid.value[0], ceid.value[0], [values for _, values in reports]))
 
 
-def connect(port):
-    """A connection to the tool, which may be listening only in a moment, or be busy with an earlier session."""
+def selected(port, inbox):
+    """A link to the tool that is selected. The tool may be listening only in a moment, and it turns others away while a session is up: so
+    the host tries again for a while."""
     end = time.monotonic() + PATIENCE
     while True:
         try:
-            return socket.create_connection(("127.0.0.1", port), timeout=PATIENCE)
-        except ConnectionRefusedError:
+            link = Link(port, inbox)
+            link.select()
+            return link
+        except (LinkEnded, ConnectionRefusedError):
             if time.monotonic() > end:
                 raise
-            time.sleep(0.05)
+            time.sleep(0.2)
 
 
 class Link:
     """A link to the tool, for device 0. It is closed at the end of a `with`."""
 
     def __init__(self, port, inbox):
-        self.socket = connect(port)
+        self.socket = socket.create_connection(("127.0.0.1", port), timeout=PATIENCE)
         self.systems = itertools.count(1)
         self.inbox = inbox
 

@@ -20,7 +20,7 @@ The status is 0 exactly where all of this happened.
 import sys
 import time
 
-from hsms_host import A, B, BOOL, U1, U4, Inbox, Link, LinkEnded
+from hsms_host import A, B, BOOL, U1, U4, Inbox, LinkEnded, selected
 
 # The report, and its variables: the object of the event, and the clock.
 REPORT = 1
@@ -76,9 +76,8 @@ class LotHost:
 
     def come(self):
         """Connects, selects and establishes communication. What a spool has is asked for from then on."""
-        self.link = Link(self.port, self.inbox)
+        self.link = selected(self.port, self.inbox)
         self.may_be_spooled = True
-        self.link.select()
         self.link.ask(1, 13, [])
 
     def leave(self):

@@ -12,7 +12,7 @@ S3F17 by CAACK 0.
 import sys
 import time
 
-from hsms_host import A, PATIENCE, U1, U4, Inbox, Link, LinkEnded
+from hsms_host import A, PATIENCE, U1, U4, Inbox, LinkEnded, selected
 
 # CAACK of a carrier that the tool does not know.
 UNKNOWN = 3
@@ -35,7 +35,6 @@ def cancel(link, carrier):
 
 def visit(link, carriers):
     """Does all that the head of this file says. Whether all was answered as it says."""
-    link.select()
     link.ask(1, 13, [])
     answer = link.ask(1, 1)
     is_well = (answer.stream, answer.function) == (1, 2)
@@ -55,7 +54,7 @@ def main(arguments):
         return 2
     port = int(arguments[0]) if arguments else 5000
     try:
-        with Link(port, Inbox()) as link:
+        with selected(port, Inbox()) as link:
             return 0 if visit(link, arguments[1:]) else 1
     except (LinkEnded, OSError) as why:
         print(f"the link failed: {why}", file=sys.stderr)

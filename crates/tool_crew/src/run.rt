@@ -119,7 +119,8 @@ fn run_seats<
     (seats, (ends, count))
 }
 
-/// Runs all actors over the core of this configuration, each on a thread of its own, until all have ended.
+/// Looks at the clock once, and then runs all actors over the core of this configuration, each on a thread of its own, until all have
+/// ended.
 ///
 /// `NoMemory`: there was no memory for the core, for the chairs or for their seats; then no actor ran.
 pub fn run_tool<

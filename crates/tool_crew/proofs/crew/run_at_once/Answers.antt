@@ -13,5 +13,5 @@ returns-clause-hosted g c =
 pub returns-clause-worked : goal.returns-clause-worked
 returns-clause-worked g c =
     let h = c.join_mut-count.new.g in
-    let m : h.8.now ≡ c.modules-1.given.0 = search rules in
+    let m : h.9.now ≡ c.modules-1.given.0 = search rules in
     rw (sym m) c.join_mut-count.ensures.1.met.1.1.1.1.1.1

@@ -2,12 +2,11 @@
 //!
 //! A line names them, as `from seed 7, 1000000 bytes to a selected link, cut twice`, or `to a link that is not selected` in its place. They
 //! are at least so many, in runs of 16 sessions, whose seeds are the numbers from that on. Each run comes twice, in lines of one to 40 and
-//! of one to 4,000 bytes, as they are drawn. It is answered `the same`, or of which seed the two runs print or end otherwise.
+//! of one to 4,000 bytes, as they are drawn. It is answered `the same`, or of which seed the two runs print otherwise, or end.
 
 use crate::drawn_bytes::{drawn, session_bytes};
-use crate::given::{Given, run, run_printed};
-use crate::told::tell_printed;
-use crate::tool::Tools;
+use crate::given::{Given, run_printed};
+use crate::tool::{Ran, Tools};
 use anyhow::{Result, bail};
 use std::alloc::{AllocError, Global};
 use test_lines::{Subject, texts_of};
@@ -17,6 +16,8 @@ const SESSIONS: u32 = 16;
 
 // A select request, as a line of the host.
 const SELECT: &str = "H 0000000AFFFF0000000100000001\n";
+
+const CONFIG: &[u8] = b"communication = \"communicating\"\n";
 
 const HEX: [u8; 16] = *b"0123456789ABCDEF";
 
@@ -92,7 +93,8 @@ fn sessions(alloc: Global, seed: u64, is_selected: bool) -> Result<Vec<Vec<u8>>,
     Ok(sessions)
 }
 
-// Plays the run of a seed in both cuttings: how many bytes came, and whether both print and end alike.
+// Plays the run of a seed in both cuttings: how many bytes came, and whether both read all lines, with as many entries, and print the same. How
+// many bytes a session read is no matter of it, since those of the line in which it ends count too.
 fn play<O: Tools>(
     tools: &O,
     alloc: Global,
@@ -100,14 +102,11 @@ fn play<O: Tools>(
     is_selected: bool,
 ) -> Result<(u64, bool), AllocError> {
     let sessions = sessions(alloc, seed, is_selected)?;
-    let few = given(alloc, sessions.as_slice(), is_selected, 40, seed)?;
-    let mut many = given(alloc, sessions.as_slice(), is_selected, 4000, !seed)?;
-    let mut told = String::new(alloc);
-    many.wanted = run_printed(tools, alloc, &few, &mut told)?;
-    tell_printed(alloc, &mut told, &many.wanted, &many.wanted)?;
-    let mut told_many = String::new(alloc);
-    run(tools, alloc, &many, &mut told_many)?;
-    Ok((length_of(sessions.as_slice()), told == told_many))
+    let sessions = sessions.as_slice();
+    let (few, printed) = run_cut(tools, alloc, sessions, is_selected, 40, seed)?;
+    let (many, printed_many) = run_cut(tools, alloc, sessions, is_selected, 4000, !seed)?;
+    let ends = few.status == 0 && many.status == 0 && few.entries == many.entries;
+    Ok((length_of(sessions), ends && printed == printed_many))
 }
 
 fn length_of(sessions: &[Vec<u8>]) -> u64 {
@@ -118,30 +117,36 @@ fn length_of(sessions: &[Vec<u8>]) -> u64 {
     sum
 }
 
-// What is given to a run: the sessions one after another, each in lines of one to so many bytes.
-fn given(
+// The lines of the sessions one after another, each in pieces of one to so many bytes.
+fn lines(
     alloc: Global,
     sessions: &[Vec<u8>],
     is_selected: bool,
     most: u64,
     seed: u64,
-) -> Result<Given, AllocError> {
-    let mut given = Given::none(alloc);
-    given.words = texts_of(alloc, "feed c")?;
-    given
-        .config
-        .extend_from_slice(b"communication = \"communicating\"\n")?;
+) -> Result<Vec<u8>, AllocError> {
+    let mut lines = Vec::new(alloc);
     let mut last = seed;
     for session in sessions {
-        add_session(
-            &mut given.input,
-            session.as_slice(),
-            is_selected,
-            most,
-            &mut last,
-        )?;
+        add_session(&mut lines, session.as_slice(), is_selected, most, &mut last)?;
     }
-    Ok(given)
+    Ok(lines)
+}
+
+// Runs over the sessions in this cutting: how the run ended, and what it printed.
+fn run_cut<O: Tools>(
+    tools: &O,
+    alloc: Global,
+    sessions: &[Vec<u8>],
+    is_selected: bool,
+    most: u64,
+    seed: u64,
+) -> Result<(Ran, Vec<u8>), AllocError> {
+    let mut given = Given::none(alloc);
+    given.words = texts_of(alloc, "feed c")?;
+    given.config = Vec::from_slice(alloc, CONFIG)?;
+    given.input = lines(alloc, sessions, is_selected, most, seed)?;
+    run_printed(tools, alloc, &given)
 }
 
 // Adds the lines of a session.

@@ -111,16 +111,16 @@ pub fn run<O: Tools>(
     Ok(entries)
 }
 
-/// Runs what is given, and tells how the run ended. What it printed.
+/// Runs what is given: how the run ended, and what it printed.
 pub fn run_printed<O: Tools>(
     tools: &O,
     alloc: Global,
     given: &Given,
-    told: &mut String,
-) -> Result<Vec<u8>, AllocError> {
+) -> Result<(Ran, Vec<u8>), AllocError> {
+    let mut input = input_of(alloc, given)?;
     let mut out = sink_of(alloc, given.limits)?;
-    run_into(tools, alloc, given, &mut out, told)?;
-    Ok(out.into_bytes())
+    let ran = run_over(tools, alloc, given, &mut input, &mut out)?;
+    Ok((ran, out.into_bytes()))
 }
 
 /// Runs what is given into a sink that takes one byte at a time, and tells of it. How many entries the history has.

@@ -231,11 +231,7 @@ impl Reports {
 }
 
 // What pushing onto a list of so many items came to. After want of memory the list has those again, and no more.
-fn as_before(
-    pushed: Result<(), NoMemory>,
-    count: usize,
-    out: &mut Items,
-) -> Result<(), NoMemory>
+fn as_before(pushed: Result<(), NoMemory>, count: usize, out: &mut Items) -> Result<(), NoMemory>
     ensures same { result ≡ pushed }
     ensures ok { OnOk pushed (out.new ≡ out.old) }
     ensures no_memory { OnErr pushed (out.new ≡ first_items count out.old) }

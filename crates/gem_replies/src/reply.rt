@@ -96,9 +96,17 @@ fn item_out(alloc: Global, reply: &mut GemReply) -> Result<Item, NoMemory>
     ensures bounded { HasSendableParts reply.old → IfOk result (λ item. IsBounded 5 (2 ^ 31) (view item)) }
 {
     match reply {
-        GemReply::S1F2(mdln, softrev) => identity(alloc, text_out(alloc, mdln), text_out(alloc, softrev)),
+        GemReply::S1F2(mdln, softrev) => identity(
+            alloc,
+            text_out(alloc, mdln),
+            text_out(alloc, softrev),
+        ),
         GemReply::S1F4(values) => Ok(Item::List(items_out(alloc, values))),
-        GemReply::S1F13(mdln, softrev) => identity(alloc, text_out(alloc, mdln), text_out(alloc, softrev)),
+        GemReply::S1F13(mdln, softrev) => identity(
+            alloc,
+            text_out(alloc, mdln),
+            text_out(alloc, softrev),
+        ),
         GemReply::S1F14(tool) => established(
             alloc,
             text_out(alloc, &mut tool.mdln),
@@ -107,7 +115,12 @@ fn item_out(alloc: Global, reply: &mut GemReply) -> Result<Item, NoMemory>
         GemReply::S2F14(values) => Ok(Item::List(items_out(alloc, values))),
         GemReply::S2F18(time) => Ok(Item::Ascii(text_out(alloc, time))),
         GemReply::S2F30(constants) => Ok(Item::List(items_out(alloc, constants))),
-        GemReply::S6F11(note, ceid, reports) => event(alloc, *note, *ceid, items_out(alloc, reports)),
+        GemReply::S6F11(note, ceid, reports) => event(
+            alloc,
+            *note,
+            *ceid,
+            items_out(alloc, reports),
+        ),
         GemReply::S6F16(ceid, reports) => event(alloc, 0, *ceid, items_out(alloc, reports)),
         GemReply::S6F20(values) => Ok(Item::List(items_out(alloc, values))),
         GemReply::S9F1(header) => Ok(Item::Binary(text_out(alloc, header))),

@@ -6,7 +6,7 @@ use std::sync::Wait;
 use std::sync::atomic::{AtomicU64, Ordering};
 use std::time::Duration;
 
-/// How many messages of the host the reader posts at most before the writer finds no frame.
+// How many messages of the host the reader posts at most before the writer finds no frame.
 const AHEAD: u64 = 64;
 
 // How many milliseconds the host actor, the operator and the clock rest, which have waits of their own or look at what no

@@ -8,23 +8,23 @@ use anyhow::Result;
 use outside::{Failed, RunSigns, ScriptSource, Source};
 use std::alloc::Global;
 use std::io::Write;
-use std::net::{Ipv4Addr, Net, SocketAddr, TcpListener, TcpStream};
+use std::net::{Ipv4Addr, SocketAddr, TcpListener, TcpStream};
 use std::thread::{self, Threads, join_mut};
 use std::time::{self, Duration};
 use test_lines::Subject;
 
 /// A script over a stream, and its peer.
 #[derive(Drop)]
-pub struct Scripted<'a, R> {
-    rt: &'a R,
+pub struct Scripted<'a> {
+    rt: &'a HostRuntime,
     signs: &'a RunSigns,
     script: ScriptSource<'a, TcpStream>,
     peer: Option<TcpStream>,
 }
 
-impl<'a, R: Net<Listener = TcpListener, Stream = TcpStream>> Scripted<'a, R> {
+impl<'a> Scripted<'a> {
     /// A script that comes while these signs tell that the run is not over. None where the machine gives no stream.
-    pub fn new(rt: &'a R, signs: &'a RunSigns) -> Option<Scripted<'a, R>> {
+    pub fn new(rt: &'a HostRuntime, signs: &'a RunSigns) -> Option<Scripted<'a>> {
         let listener = TcpListener::bind(rt, SocketAddr::from((Ipv4Addr::LOCALHOST, 0))).ok()?;
         let peer = TcpStream::connect(rt, listener.local_addr().ok()?).ok()?;
         let (stream, _) = listener.accept().ok()?;
@@ -37,7 +37,7 @@ impl<'a, R: Net<Listener = TcpListener, Stream = TcpStream>> Scripted<'a, R> {
     }
 }
 
-impl<R: Threads + time::Clock + Sync> Subject for Scripted<'_, R> {
+impl Subject for Scripted<'_> {
     fn answer(&mut self, alloc: Global, said: &str) -> Result<String> {
         let mut answer = String::new(alloc);
         let said = match said {

@@ -19,15 +19,15 @@ const LONG_REST: u64 = 2000;
 
 /// A gate that wakes, and what it tells.
 #[derive(Drop)]
-pub struct Waking<'a, R> {
-    rt: &'a R,
+pub struct Waking<'a> {
+    rt: &'a HostRuntime,
     signs: &'a RunSigns,
-    gate: WakeGate<'a, R>,
+    gate: WakeGate<'a, HostRuntime>,
 }
 
-impl<'a, R: Wait> Waking<'a, R> {
+impl<'a> Waking<'a> {
     /// A gate that tells what it learns to these signs.
-    pub fn new(rt: &'a R, signs: &'a RunSigns) -> Waking<'a, R> {
+    pub fn new(rt: &'a HostRuntime, signs: &'a RunSigns) -> Waking<'a> {
         Waking {
             rt,
             signs,
@@ -36,7 +36,7 @@ impl<'a, R: Wait> Waking<'a, R> {
     }
 }
 
-impl<R: Wait + Threads + time::Clock + Sync> Subject for Waking<'_, R> {
+impl Subject for Waking<'_> {
     fn answer(&mut self, alloc: Global, said: &str) -> Result<String> {
         let mut answer = String::new(alloc);
         let said = say(self.rt, self.signs, &self.gate, said, &mut answer);

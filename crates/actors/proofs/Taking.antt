@@ -6,7 +6,6 @@ use Rattle.outside.specs.Told.{Written}
 use Rattle.outside.proofs.Writing.{Written-nothing, Written-more}
 use Rattle.tool_events.specs.declared.entry.Post.{Post}
 use Rattle.tool_events.specs.declared.event.Event.TheVariants as event
-use Rattle.tool_events.specs.declared.event.SessionCause.TheVariants as cause
 use Rattle.tool_events.specs.declared.answer.Answer.{Answer}
 use Rattle.tool_events.specs.declared.answer.Answer.TheVariants as answer
 use Rattle.actors.specs.Ends.{NoneEnded, IsRefused}

@@ -1,5 +1,5 @@
 -- What the clock has posted so far, and how it ends.
-use Rattle.std.proofs.Common.{◌≡◌, inl, inr, List, [], ◌∷◌, ◌++◌, Option, Some, None, refl, sym, subst, ap, ◌∙◌, append-nil, append_assoc}
+use Rattle.std.proofs.Common.{◌≡◌, ◌≢◌, ◌⊎◌, inl, inr, List, [], ◌∷◌, ◌++◌, Option, Some, None, refl, sym, subst, ap, ◌∙◌, append-nil, append_assoc}
 use Rattle.std.proofs.lemmas.List.{map-append}
 use Rattle.gem_ids.specs.declared.moment.Moment.{Moment}
 use Rattle.outside.specs.Told.{Grew}
@@ -7,15 +7,11 @@ use Rattle.tool_events.specs.declared.entry.Post.{Post}
 use Rattle.tool_events.specs.declared.event.Event.TheVariants as event
 use Rattle.tool_events.specs.declared.answer.Answer.{Answer}
 use Rattle.tool_events.specs.declared.answer.Answer.TheVariants as answer
-use Rattle.actors.specs.Ends.{NoneEnded, IsRefused}
-use Rattle.actors.specs.Times.{TimeDid, Looked, IsSomeOf, AreTicks, moments_of}
+use Rattle.actors.specs.Ends.{LastEnded, NoneBehindEnded, NoneEnded, IsRefused}
+use Rattle.actors.specs.Times.{TimeDid, TimeLooked, Looked, IsSomeOf, AreTicks, moments_of, tick}
 use Rattle.actors.specs.declared.end.ActorEnd.{ActorEnd}
 use Rattle.actors.specs.declared.end.ActorEnd.TheVariants as end
 use Rattle.actors.proofs.Posting.{posts-grow, NoneEnded-append, none-behind, none-behind-last, last-ended}
-
--- a look at the clock, at this moment, with its answer
-abbrev pub tick : Moment → Answer → Post
-tick at a = record { at = at; event = event.Tick; answer = a }
 
 -- the looks so far, none of which was answered Ended
 pub record Ticks (given given' : Option (List Moment)) (posts posts' : List Post) : Type 0 where
@@ -131,3 +127,65 @@ time-refused a b c posts posts' posts'' at e r grew same refused = record {
   no_more = none-behind r.new r.none;
   ends = inr refused;
 }
+
+-- a look behind which the clock goes on
+pub ticks-look : (a b c : Option (List Moment)) (posts posts' posts'' : List Post) → Ticks a b posts posts' → TimeLooked b c posts' posts'' None → Ticks a c posts posts''
+ticks-look a b c posts posts' posts'' r (at, grew, inl done) = ticks-go a b c posts posts' posts'' at r grew done
+ticks-look a b c posts posts' posts'' r (at, grew, inr same) = ticks-wait a b c posts posts' posts'' at r grew same
+
+-- a look that ended the clock
+pub look-ends : (a b c : Option (List Moment)) (posts posts' posts'' : List Post) (e : ActorEnd) → Ticks a b posts posts' → TimeLooked b c posts' posts'' (Some e) → TimeDid a c posts posts'' e
+look-ends a b c posts posts' posts'' e r (at, grew, inl (is, tells)) =
+    subst (TimeDid a c posts posts'') (sym is) (time-ends a b c posts posts' posts'' at r grew tells)
+look-ends a b c posts posts' posts'' e r (at, grew, inr (refused, same)) = time-refused a b c posts posts' posts'' at e r grew same refused
+
+-- one reading, and those behind it
+looked-first : (a b c : Option (List Moment)) (at : Moment) (readings : List Moment) → Grew a b at → Looked b c readings → Looked a c (at ∷ readings)
+looked-first a b None at readings grew looked = tt
+looked-first a None (Some now) at readings grew looked = cc
+looked-first a (Some then_) (Some now) at readings grew looked =
+    let same : then_ ≡ looked.0 = same-moments then_ looked.0 looked.1 in (
+      grew.0,
+      grew.1,
+      looked.2 ∙ (ap (λ (moments : List Moment). moments ++ readings) (sym same ∙ grew.2) ∙ append_assoc grew.0 (at ∷ []) readings),
+    )
+
+some-skip : (some all : List Moment) (at : Moment) → IsSomeOf some all → IsSomeOf some (at ∷ all)
+some-skip [] all at is = tt
+some-skip (x ∷ some) all at is = inr is
+
+none-behind-first : (p : Post) (posts : List Post) → p.answer ≢ answer.Ended → NoneBehindEnded posts → NoneBehindEnded (p ∷ posts)
+none-behind-first p posts not none =
+    record { before = p ∷ none.before; last = none.last; joined = ap (λ (x : List Post). p ∷ x) none.joined; none = (not, none.none); one = none.one }
+
+ends-first : (p : Post) (posts : List Post) (e : ActorEnd) → ((e ≡ end.Quit) × LastEnded posts) ⊎ IsRefused e → ((e ≡ end.Quit) × LastEnded (p ∷ posts)) ⊎ IsRefused e
+ends-first p posts e (inl (is, (before, last, same, ended))) = inl (is, (p ∷ before, last, ap (λ (x : List Post). p ∷ x) same, ended))
+ends-first p posts e (inr refused) = inr refused
+
+-- A first look behind which the clock goes on, and what it did behind that.
+pub time-joined : (a b c : Option (List Moment)) (posts posts' posts'' : List Post) (e : ActorEnd) → TimeLooked a b posts posts' None → TimeDid b c posts' posts'' e → TimeDid a c posts posts'' e
+time-joined a b c posts posts' posts'' e (at, grew, inl done) r =
+    let first : Post = tick at answer.Done in record {
+      new = first ∷ r.new;
+      grew = posts-grow posts posts' posts'' (first ∷ []) r.new done r.grew;
+      readings = at ∷ r.readings;
+      looked = looked-first a b c at r.readings grew r.looked;
+      ticks = (refl, r.ticks);
+      at = inl (refl, r.at);
+      no_more = none-behind-first first r.new (λ (is : answer.Done ≡ answer.Ended). cc) r.no_more;
+      ends = ends-first first r.new e r.ends;
+    }
+time-joined a b c posts posts' posts'' e (at, grew, inr same) r = record {
+  new = r.new;
+  grew = r.grew ∙ ap (λ (x : List Post). x ++ r.new) same;
+  readings = at ∷ r.readings;
+  looked = looked-first a b c at r.readings grew r.looked;
+  ticks = r.ticks;
+  at = some-skip (moments_of r.new) r.readings at r.at;
+  no_more = r.no_more;
+  ends = r.ends;
+}
+
+-- the same of a first look that ended it
+pub time-looked : (a b : Option (List Moment)) (posts posts' : List Post) (e : ActorEnd) → TimeLooked a b posts posts' (Some e) → TimeDid a b posts posts' e
+time-looked a b posts posts' e looked = look-ends a a b posts posts posts' e (ticks-begin a posts) looked

@@ -3,6 +3,9 @@ use Rattle.std.specs.Prelude.{◌≡◌, ◌⊎◌, ⊤, List, [], ◌∷◌, �
 use Rattle.gem_ids.specs.declared.moment.Moment.{Moment}
 use Rattle.tool_events.specs.declared.entry.Post.{Post}
 use Rattle.tool_events.specs.declared.event.Event.TheVariants as event
+use Rattle.tool_events.specs.declared.answer.Answer.{Answer}
+use Rattle.tool_events.specs.declared.answer.Answer.TheVariants as answer
+use Rattle.outside.specs.Told.{Grew}
 use Rattle.actors.specs.Ends.{LastEnded, NoneBehindEnded, IsRefused}
 use Rattle.actors.specs.declared.end.ActorEnd.{ActorEnd}
 use Rattle.actors.specs.declared.end.ActorEnd.TheVariants as end
@@ -38,3 +41,17 @@ pub record TimeDid (given given' : Option (List Moment)) (posts posts' : List Po
   pub at : IsSomeOf (moments_of new) readings
   pub no_more : NoneBehindEnded new
   pub ends : ((e ≡ end.Quit) × LastEnded new) ⊎ IsRefused e
+
+-- a look at the clock, at this moment, with its answer
+abbrev pub tick : Moment → Answer → Post
+tick at a = record { at = at; event = event.Tick; answer = a }
+
+-- What became of one look at this moment, by how it ended the clock, if it did: it was answered Done, or has to wait, and the clock
+-- goes on; it was answered Ended; or it was refused.
+abbrev pub LookEnds : Moment → List Post → List Post → Option ActorEnd → Type 0
+LookEnds at posts posts' None = (posts' ≡ posts ++ tick at answer.Done ∷ []) ⊎ (posts' ≡ posts)
+LookEnds at posts posts' (Some e) = ((e ≡ end.Quit) × (posts' ≡ posts ++ tick at answer.Ended ∷ [])) ⊎ (IsRefused e × (posts' ≡ posts))
+
+-- the clock was read once, and looked at once at that reading
+abbrev pub TimeLooked : Option (List Moment) → Option (List Moment) → List Post → List Post → Option ActorEnd → Type 0
+TimeLooked given given' posts posts' e = (at : Moment) × Grew given given' at × LookEnds at posts posts' e

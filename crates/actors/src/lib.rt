@@ -3,7 +3,7 @@
 //! chairs of one tool is known above (`shared_tool`).
 //!
 //! None starts a thread. Each waits where its desk, its link or its gate does, and nothing is promised of how long. Begin with
-//! `read_host` and `write_host` for a session, with `operate` for a script, and with `keep_time` and `run_module`.
+//! `read_host` and `write_host` for a session, with `operate` for a script, with `look` and `keep_time`, and with `run_module`.
 #![tactic(auto)]
 
 mod clock;
@@ -15,7 +15,7 @@ mod reader;
 mod script;
 mod writer;
 
-pub use clock::keep_time;
+pub use clock::{keep_time, look};
 pub use end::ActorEnd;
 pub use module::run_module;
 pub use operator::operate;

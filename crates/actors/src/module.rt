@@ -13,8 +13,8 @@ use std::sync::Wait;
 use tool_events::{Answer, Desk, Event, PostFault};
 
 /// Fetches the commands of a module, one after another. The module acts on each, and what it tells is posted before the next
-/// fetch; all at moment 0. Where no command is there yet, it passes `Idle` and fetches again. It takes no memory of its own,
-/// and posts nothing else.
+/// fetch; all at moment 0. Where no command is there yet, it passes `NoCommand` and fetches again. Behind a signal that was
+/// answered it passes `Posted`. It takes no memory of its own, and posts nothing else.
 ///
 /// `Quit`: its last post was answered `Ended`. `Full` and `NoMemory`: a post was answered so.
 pub fn run_module<W: Wait, D: Desk, G: Gate>(
@@ -36,7 +36,7 @@ pub fn run_module<W: Wait, D: Desk, G: Gate>(
             Ok(Answer::Command(command)) => {
                 let signal = module.act(command);
                 match desk.post(Moment(0), Event::Signal(signal)) {
-                    Ok(Answer::Done) => {}
+                    Ok(Answer::Done) => gate.pass(Point::Posted),
                     Ok(Answer::Ended) => return ActorEnd::Quit,
                     Err(PostFault::Full(_)) => return ActorEnd::Full,
                     Err(PostFault::NoMemory) => return ActorEnd::NoMemory,
@@ -44,7 +44,7 @@ pub fn run_module<W: Wait, D: Desk, G: Gate>(
                 }
             }
             Ok(Answer::Ended) => return ActorEnd::Quit,
-            Err(PostFault::Again) => gate.pass(Point::Idle),
+            Err(PostFault::Again) => gate.pass(Point::NoCommand(number.0)),
             Err(PostFault::Full(_)) => return ActorEnd::Full,
             Err(PostFault::NoMemory) => return ActorEnd::NoMemory,
             _ => unreachable!(),

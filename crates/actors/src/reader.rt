@@ -55,13 +55,22 @@ fn post_down<D: Desk>(desk: &mut D, session: u64, cause: SessionCause) -> ActorE
     }
 }
 
-/// Posts a message of the session, and tells where the reader stops at it.
-fn post_message<D: Desk>(desk: &mut D, session: u64, arrival: Arrival) -> Result<(), ReadStop>
+/// Posts a message of the session, and tells where the reader stops at it. Behind one with which the session goes on it passes
+/// `HostPosted`.
+fn post_message<D: Desk, G: Gate>(
+    desk: &mut D,
+    session: u64,
+    arrival: Arrival,
+    gate: &G,
+) -> Result<(), ReadStop>
     ensures posted { MessagesPosted session (arrival ∷ []) (D.fulls desk.old) (D.fulls desk.new) (D.wants desk.old) (D.wants desk.new) (D.posts desk.old) (D.posts desk.new) result }
     ensures no_down { (why : SessionCause) → result ≢ Err (ReadStop.Down why) }
 {
     match desk.post(AT_ONCE, Event::Host { session, arrival }) {
-        Ok(Answer::Done) => Ok(()),
+        Ok(Answer::Done) => {
+            gate.pass(Point::HostPosted);
+            Ok(())
+        }
         Ok(Answer::Ended) => Err(ReadStop::Ended),
         Ok(Answer::Session(_) | Answer::Frame(_) | Answer::Command(_) | Answer::Oper(_)) => {
             unreachable!()
@@ -73,16 +82,17 @@ fn post_message<D: Desk>(desk: &mut D, session: u64, arrival: Arrival) -> Result
 }
 
 /// Posts messages of the session, in their order, up to one at which the reader stops.
-fn post_messages<D: Desk>(
+fn post_messages<D: Desk, G: Gate>(
     desk: &mut D,
     session: u64,
     arrivals: Vec<Arrival>,
+    gate: &G,
 ) -> Result<(), ReadStop>
     ensures posted { MessagesPosted session arrivals.items (D.fulls desk.old) (D.fulls desk.new) (D.wants desk.old) (D.wants desk.new) (D.posts desk.old) (D.posts desk.new) result }
     ensures no_down { (why : SessionCause) → result ≢ Err (ReadStop.Down why) }
 {
     for arrival in arrivals {
-        match post_message(desk, session, arrival) {
+        match post_message(desk, session, arrival, gate) {
             Ok(()) => {}
             Err(stop) => return Err(stop),
         }
@@ -92,20 +102,21 @@ fn post_messages<D: Desk>(
 
 /// Cuts the next bytes of the session, and posts each message that they make whole. Behind a length below 10, with which
 /// no frame begins, the session ends.
-fn take_piece<D: Desk>(
+fn take_piece<D: Desk, G: Gate>(
     alloc: Global,
     desk: &mut D,
     session: u64,
     cutter: &mut Cutter,
     bytes: &[u8],
+    gate: &G,
 ) -> Result<(), ReadStop>
     ensures { (stream : List ℕ) → IsCut stream cutter.old
         → PieceTaken session stream bytes.now cutter.new (D.fulls desk.old) (D.fulls desk.new) (D.wants desk.old) (D.wants desk.new) (D.posts desk.old) (D.posts desk.new) result }
 {
     let mut arrivals = Vec::new(alloc);
     match cutter.feed(alloc, bytes, &mut arrivals) {
-        Ok(()) => post_messages(desk, session, arrivals),
-        Err(CutFault::ShortLength(_)) => match post_messages(desk, session, arrivals) {
+        Ok(()) => post_messages(desk, session, arrivals, gate),
+        Err(CutFault::ShortLength(_)) => match post_messages(desk, session, arrivals, gate) {
             Ok(()) => Err(ReadStop::Down(SessionCause::ShortLength)),
             Err(stop) => Err(stop),
         },
@@ -142,7 +153,7 @@ fn read_messages<W: Wait, D: Desk, L: LinkIn, G: Gate>(
             return (ReadStop::Down(SessionCause::PeerEnd), count);
         }
         count = count.saturating_add(more as u64);
-        match take_piece(alloc, desk, session, &mut cutter, front(&buf, more)) {
+        match take_piece(alloc, desk, session, &mut cutter, front(&buf, more), gate) {
             Ok(()) => {}
             Err(stop) => return (stop, count),
         }
@@ -164,7 +175,8 @@ fn tell_stop<D: Desk>(desk: &mut D, session: u64, stop: ReadStop) -> ActorEnd
 }
 
 /// Reads a session's link, and posts each message that arrives, in order, at moment 0. Answers how it ended, and how many
-/// bytes it read, at most the greatest number of 64 bits. It passes `HostRead` before each read.
+/// bytes it read, at most the greatest number of 64 bits. It passes `HostRead` before each read, `HostPosted` behind each message
+/// that was answered while its session goes on, and `SessionEnd` at its end.
 ///
 /// It ends with `Quit` once the link ended, a read failed or a length below 10 came, which it tells by `LinkDown`, and
 /// where a message was answered `Ended`. Where a message is answered `Full` it posts `Quit` and ends with `Full`, and
@@ -185,5 +197,7 @@ pub fn read_host<W: Wait, D: Desk, L: LinkIn, G: Gate>(
     ensures unfailed { (L.faults link.new ≡ L.faults link.old) ⊎ FaultTold session (D.posts desk.new) result.0 }
 {
     let (stop, count) = read_messages(rt, alloc, desk, link, session, gate);
-    (tell_stop(desk, session, stop), count)
+    let end = tell_stop(desk, session, stop);
+    gate.pass(Point::SessionEnd);
+    (end, count)
 }

@@ -6,11 +6,19 @@
 //! - `ask PORT COUNT` sends S1F1 so many times and reads the answer of each before the next; it tells how many were answered;
 //! - `press PORT WINDOWS FRAME ..` sends these frames, of hex digits, with an answer to each, and then so many windows of 25 S1F1,
 //!   each at once, and reads their answers; it tells how many were answered before the link ended;
-//! - `visit PORT COUNT` connects, selects and goes away so many times; it tells how often it was selected.
+//! - `visit PORT COUNT` connects, selects and goes away so many times; it tells how often it was selected;
+//! - `flow PORT COUNT` sends S1F1 so many times without waiting for an answer, while another thread reads the answers; it tells how
+//!   many were answered in a second;
+//! - `stay PORT SECONDS` says nothing for so long; it tells that number;
+//! - `lot PORT DONES FRAME ..` sends these frames, with an answer to each, and then reads until the link ends; it tells the nanoseconds
+//!   from the last answer to that end, divided by the number of the commands that were done.
+//!
+//! `trips PORT COUNT` asks as `ask` does, and tells the median of the times of a round trip, that below which 99 of 100 are, and the
+//! greatest, in nanoseconds.
 
 use anyhow::{Result, bail};
 use std::alloc::Global;
-use std::io::{Read, Write};
+use std::io::{BufReader, Read, Write};
 use std::net::{Ipv4Addr, Net, SocketAddr, TcpListener, TcpStream};
 use std::thread::{self, Threads, join};
 use std::time::{self, Duration};
@@ -72,7 +80,7 @@ fn connected<R: Net<Listener = TcpListener, Stream = TcpStream> + time::Clock>(
 }
 
 // Reads past so many bytes.
-fn skip(stream: &mut TcpStream, bytes: u32) -> Result<()> {
+fn skip<S: Read>(stream: &mut S, bytes: u32) -> Result<()> {
     let mut buf = [0; 4096];
     let mut left = bytes as usize;
     for _ in 0..u64::MAX {
@@ -87,7 +95,7 @@ fn skip(stream: &mut TcpStream, bytes: u32) -> Result<()> {
 }
 
 // Reads a frame, and tells its system bytes.
-fn read_frame(stream: &mut TcpStream) -> Result<u32> {
+fn read_frame<S: Read>(stream: &mut S) -> Result<u32> {
     let mut front = [0; 14];
     stream.read_exact(&mut front)?;
     let length = u32::from_be_bytes([front[0], front[1], front[2], front[3]]);
@@ -123,6 +131,136 @@ fn ask_all(stream: &mut TcpStream, count: u64) -> Result<u64> {
         system = system.wrapping_add(1);
     }
     Ok(answered)
+}
+
+// The nanoseconds since this moment.
+fn nanos_since<R: time::Clock>(rt: &R, before: Duration) -> Result<u64> {
+    let passed = rt.monotonic()?.saturating_sub(before);
+    let whole = passed.as_secs().saturating_mul(1_000_000_000);
+    Ok(whole.saturating_add(u64::from(passed.subsec_nanos())))
+}
+
+// Asks so many times, one after the other, under the system bytes from 2 on. The times of the round trips in nanoseconds, from the
+// shortest to the longest.
+fn time_all<R: time::Clock>(
+    rt: &R,
+    alloc: Global,
+    stream: &mut TcpStream,
+    count: u64,
+) -> Result<Vec<u64>> {
+    let mut times = Vec::new(alloc);
+    let mut system: u32 = 2;
+    for _ in 0..count {
+        let before = rt.monotonic()?;
+        stream.write_all(&are_you_there(system))?;
+        if read_frame(stream)? != system {
+            bail!("another frame was wanted");
+        }
+        times.push(nanos_since(rt, before)?)?;
+        system = system.wrapping_add(1);
+    }
+    times.sort()?;
+    Ok(times)
+}
+
+// The time below which so many of a hundred of these are.
+fn below(times: &[u64], hundredth: usize) -> Result<u64> {
+    let at = times.len().saturating_mul(hundredth) / 100;
+    match times.get(at) {
+        Some(time) => Ok(*time),
+        None => bail!("there are no times"),
+    }
+}
+
+/// Times of round trips at this port: the median, that below which 99 of 100 are, and the greatest, in nanoseconds.
+pub(crate) fn trips<R: Net<Listener = TcpListener, Stream = TcpStream> + time::Clock>(
+    rt: &R,
+    alloc: Global,
+    words: &[String],
+) -> Result<String> {
+    let [port, count] = words else {
+        bail!("the words are trips, a port, and how often");
+    };
+    let mut stream = selected(rt, port.parse::<u16>()?)?;
+    let times = time_all(rt, alloc, &mut stream, count.parse::<u64>()?)?;
+    let times = times.as_slice();
+    let (median, most) = (below(times, 50)?, below(times, 99)?);
+    let greatest = times.last().copied().unwrap_or(0);
+    Ok(format!(in alloc; "{median} {most} {greatest}")?)
+}
+
+// So many S1F1 are written at once by `flow`.
+const AT_ONCE: u64 = 64;
+
+// Sends S1F1 so many times, and doesn't wait.
+fn send_flow(alloc: Global, mut stream: TcpStream, count: u64) -> Result<()> {
+    let mut bytes = Vec::new(alloc);
+    for at in 0..count {
+        bytes.extend_from_slice(&are_you_there((at as u32).wrapping_add(2)))?;
+        if (at + 1) % AT_ONCE == 0 {
+            stream.write_all(bytes.as_slice())?;
+            bytes.clear();
+        }
+    }
+    stream.write_all(bytes.as_slice())?;
+    Ok(())
+}
+
+// Reads so many frames.
+fn read_flow(alloc: Global, stream: TcpStream, count: u64) -> Result<()> {
+    let mut frames = BufReader::new(alloc, stream)?;
+    for _ in 0..count {
+        read_frame(&mut frames)?;
+    }
+    Ok(())
+}
+
+/// How many S1F1 a second are answered at this port, of so many that are sent without waiting.
+pub(crate) fn flow<R: Net<Listener = TcpListener, Stream = TcpStream> + Threads + time::Clock>(
+    rt: &R,
+    alloc: Global,
+    words: &[String],
+) -> Result<u64> {
+    let [port, count] = words else {
+        bail!("the words are flow, a port, and how often");
+    };
+    let count = count.parse::<u64>()?;
+    let stream = selected(rt, port.parse::<u16>()?)?;
+    let other = stream.try_clone()?;
+    let before = rt.monotonic()?;
+    let (sent, read) = join(
+        rt,
+        move || send_flow(alloc, other, count).is_ok(),
+        move || read_flow(alloc, stream, count).is_ok(),
+    );
+    let passed = nanos_since(rt, before)?;
+    if !sent || !read {
+        bail!("the link ended");
+    }
+    Ok(count.saturating_mul(1_000_000_000) / passed.max(1))
+}
+
+// Reads until the link ends.
+fn read_to_end(stream: &mut TcpStream) {
+    for _ in 0..u64::MAX {
+        if read_frame(stream).is_err() {
+            return;
+        }
+    }
+}
+
+// Sends frames and then reads until the link ends. The nanoseconds from the last answer to the end, for each of so many.
+fn time_lot<R: time::Clock>(
+    rt: &R,
+    alloc: Global,
+    stream: &mut TcpStream,
+    dones: u64,
+    frames: &[String],
+) -> Result<u64> {
+    send_frames(alloc, stream, frames)?;
+    let before = rt.monotonic()?;
+    read_to_end(stream);
+    Ok(nanos_since(rt, before)? / dones.max(1))
 }
 
 // Sends a window of S1F1, of which the first has these system bytes.
@@ -198,6 +336,12 @@ fn act<R: Net<Listener = TcpListener, Stream = TcpStream> + time::Clock>(
             Ok(press_all(&mut stream, count))
         }
         "visit" => visit_all(rt, port, count),
+        "stay" => {
+            let _stream = selected(rt, port)?;
+            thread::sleep(rt, Duration::from_secs(count));
+            Ok(count)
+        }
+        "lot" => time_lot(rt, alloc, &mut selected(rt, port)?, count, frames),
         _ => bail!("there is no such client"),
     }
 }
@@ -219,7 +363,7 @@ pub(crate) fn measure<R: Net<Listener = TcpListener, Stream = TcpStream> + time:
             count.parse::<u64>()?,
             frames,
         ),
-        _ => bail!("the words are echo, ask, press or visit, a port, and how often"),
+        _ => bail!("the words are echo, ask, press, visit, stay or lot, a port, and how often"),
     }
 }
 

@@ -1,8 +1,9 @@
 //! Parts of the tool that are timed, and a server and clients over TCP beside it. `bench/items.sh`, `bench/spool.sh`,
 //! `bench/planner.sh`, `bench/hostile.sh` and `bench/serve.sh` run it; it is no part of the tool.
 //!
-//! The first word names what is measured, `items`, `spool`, `planner` or `cutter`, or is `echo`, `ask`, `press` or `visit`, and those behind it
-//! say how (`item.rt`, `notes.rt`, `moves.rt`, `cut.rt`, `links.rt`). It prints how often it went well. With the word `each` alone it does a
+//! The first word names what is measured, `items`, `spool`, `planner` or `cutter`, or is `echo`, `ask`, `trips`, `flow`, `press`, `visit`,
+//! `stay` or `lot`, and those behind it say how (`item.rt`, `notes.rt`, `moves.rt`, `cut.rt`, `links.rt`). It prints how often it went well,
+//! or what was measured. With the word `each` alone it does a
 //! little of each, and prints the sum.
 #![tactic(auto)]
 
@@ -49,19 +50,24 @@ fn measure_part(alloc: Global, what: &str, words: &[String]) -> Result<u64> {
     }
 }
 
-// Does what the words say.
-fn measure<R: Net<Listener = TcpListener, Stream = TcpStream> + Clock>(
+// Does what the words say. What it prints.
+fn measure<R: Net<Listener = TcpListener, Stream = TcpStream> + Threads + Clock>(
     rt: &R,
     alloc: Global,
     words: &[String],
-) -> Result<u64> {
+) -> Result<String> {
     let [_, what, rest @ ..] = words else {
         bail!("the first word says what is measured");
     };
-    match what.as_str() {
-        "echo" | "ask" | "press" | "visit" => links::measure(rt, alloc, what.as_str(), rest),
-        what => measure_part(alloc, what, rest),
-    }
+    let count = match what.as_str() {
+        "trips" => return links::trips(rt, alloc, rest),
+        "flow" => links::flow(rt, alloc, rest)?,
+        "echo" | "ask" | "press" | "visit" | "stay" | "lot" => {
+            links::measure(rt, alloc, what.as_str(), rest)?
+        }
+        what => measure_part(alloc, what, rest)?,
+    };
+    Ok(format!(in alloc; "{count}")?)
 }
 
 // The program's words.
@@ -98,9 +104,12 @@ fn run<R: Net<Listener = TcpListener, Stream = TcpStream> + Threads + Clock + Sy
     rt: &R,
     alloc: Global,
     words: &[String],
-) -> Result<u64> {
+) -> Result<String> {
     match words {
-        [_, each] if each.as_str() == "each" => measure_each(rt, alloc),
+        [_, each] if each.as_str() == "each" => {
+            let count = measure_each(rt, alloc)?;
+            Ok(format!(in alloc; "{count}")?)
+        }
         words => measure(rt, alloc, words),
     }
 }
@@ -111,8 +120,8 @@ fn main(rt: HostRuntime) -> ExitCode {
         Err(error) => Err(error),
     };
     match outcome {
-        Ok(count) => {
-            let _ = rt.println(count);
+        Ok(text) => {
+            let _ = rt.println(text.as_str());
             ExitCode::SUCCESS
         }
         Err(error) => {

@@ -31,13 +31,6 @@ pub fn ascii(text: &Bytes) -> Result<Item, NoMemory>
     Ok(Item::Ascii(text.clone()?))
 }
 
-/// A B of these bytes, which are copied.
-pub fn binary(bytes: &Bytes) -> Result<Item, NoMemory>
-    ensures { IfOk result (λ item. view item ≡ B bytes.now) }
-{
-    Ok(Item::Binary(bytes.clone()?))
-}
-
 /// A code, which is a B of one byte.
 pub fn code(alloc: Global, code: u8) -> Result<Item, NoMemory>
     ensures { IfOk result (λ item. view item ≡ code_data code) }

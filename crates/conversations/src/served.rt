@@ -7,19 +7,20 @@
 //!
 //! `words WORD ..` are the words of the command. `config`, `script` and `peer` are what the configuration, the script of the operator and a
 //! peer have: behind them `line TEXT` adds a text and a line feed, `text |TEXT|` what stands between the bars, and `bytes 23 7` these bytes so
-//! often. `config_fault 1`, `script_fault 1`, `log_fault 1`, `door_fault 1`, `peer_fault 1` and `answer_fault 1` let that read, write or call of
+//! often; `peer_turns 400` lets the peer wait for so many turns before it sends. `config_fault 1`, `script_fault 1`, `log_fault 1`, `door_fault 1`, `peer_fault 1` and `answer_fault 1` let that read, write or call of
 //! the door fail, where the last two are a read and a write of the link; and with `closed` a door in memory is closed behind its links.
 //!
 //! `run` runs what was given at a door without links; `run hasty` at one with a link, whose peer selects and goes away; `run both` with
 //! a host that selects and is read once a line of the operator was answered, and an operator who says `O local`, and `O quit` once the
 //! host was answered; `run sending` with a peer that sends what it has and then waits, and an operator who ends the run once the link was
-//! shut; `run silent` so with a clock that goes on, and a peer that sends nothing;
+//! shut; `run silent` so with a clock that goes on, and a peer that sends nothing; `run late 500 200` as `run both` without holding the host, with
+//! a clock that stays at that moment and takes so many turns at each reading;
 //! `run visited 20000 7` over loopback, at a free port at most 5,000 above that number, with a host that asks 7 times 25 S1F1.
 //!
 //! Of the last run are asked `status`, `cause`, `entries`, `first seat` (of the first entry), `seat 0` to `seat 2` and `seats from 3` (to 9; what each posted),
-//! `operator first` (in front of the first message of the host), `notes` (how many), of session 1 `note 1` (why it ended) and `bytes 1`
-//! (that came and went), and `log`. At a door in memory `script left` tells how many bytes are left of the script, and `waits` how often
-//! a door without links was asked too early. With a peer that goes away `front` tells whether the link was handed back and holds a front
+//! `operator first` (in front of the first message of the host), `operator moment` (the tool's, at the first command of the operator), `notes` (how many), of session 1 `note 1` (why it ended) and `bytes 1`
+//! (that came and went), and `log`. At a door in memory `script left` tells how many bytes are left of the script, `port` at
+//! which port a door without links was asked to listen, and `waits` how often it was asked too early. With a peer that goes away `front` tells whether the link was handed back and holds a front
 //! of the select response, and `race` whether seat 0 posted what it may. `selected` tells whether the select response came, `windows` how
 //! many windows were answered, and `ended by the tool` whether the tool ended the link.
 
@@ -30,7 +31,7 @@ mod memory;
 mod said;
 mod told;
 
-use crate::served::links::{run_both, run_sending};
+use crate::served::links::{run_both, run_late, run_sending};
 use crate::served::loopback::run_visited;
 use crate::served::memory::{run_alone, run_hasty};
 pub use said::{BEGINS, is_well_served};
@@ -126,9 +127,31 @@ fn ran<R: Net<Listener = TcpListener, Stream = TcpStream> + Threads + Wait + Syn
         "both" => run_both(rt, alloc, given)?,
         "sending" => run_sending(rt, alloc, given, 0)?,
         "silent" => run_sending(rt, alloc, given, 100)?,
-        _ => return visited(rt, alloc, given, way),
+        _ => return ran_by_numbers(rt, alloc, given, way),
     };
     Ok(Some(told))
+}
+
+// Runs what is given in a way that has two numbers. `None`: there is none such.
+fn ran_by_numbers<
+    R: Net<Listener = TcpListener, Stream = TcpStream> + Threads + Wait + Sync + time::Clock,
+>(rt: &R, alloc: Global, given: &mut Given, way: &str) -> Result<Option<String>, AllocError> {
+    match late_of(way) {
+        Some((moment, turns)) => {
+            let told = run_late(rt, alloc, given, moment, turns)?;
+            Ok(Some(told))
+        }
+        None => visited(rt, alloc, given, way),
+    }
+}
+
+// The moment of a clock, and how many turns a reading takes.
+fn late_of(way: &str) -> Option<(u64, u64)> {
+    let (moment, turns) = way.strip_prefix("late ")?.split_once(' ')?;
+    match (moment.parse::<u64>(), turns.parse::<u64>()) {
+        (Ok(moment), Ok(turns)) => Some((moment, turns)),
+        _ => None,
+    }
 }
 
 // Runs what is given over loopback.

@@ -1,5 +1,5 @@
-//! The load ports, the carriers and the modules: their rows, and what the host, the operator and the equipment do to them (SEMI
-//! E87; tables 4 to 10 and 16).
+//! The floor of the tool: the rows of load ports, carriers, locations, substrates, jobs and modules (SEMI E87, E90, E40, E94; tables
+//! 4 to 16), and what the host and the equipment write of carriers.
 ghost use Rattle.std.specs.Prelude.{◌≡◌, true, false, not, OnOk, IfOk};
 ghost use Rattle.load_port.specs.Caack.{is_done_code};
 ghost use Rattle.floor_model.specs.Jobs.{carrier_code};
@@ -57,14 +57,14 @@ impl Plant {
         self.floor.fire(alloc, f)
     }
 
-    /// The name of the object of a row of a port, a carrier or a module.
+    /// The name of the object of a row of the floor: of a port, a carrier, a location, a substrate or a job; a module has none.
     fn floor_object(&self, f: Firing) -> Text80
         ensures { result ≡ object_name f self.now.floor }
     {
         self.floor.floor().object_name(f)
     }
 
-    /// The least row of the load ports, the carriers and the modules that is ready by itself.
+    /// The least row of tables 4 to 16 that is ready by itself.
     pub(crate) fn least_of_floor(&mut self) -> Option<Firing>
         ensures least { result ≡ ready_floor self.old }
         ensures unchanged { self.new ≡ self.old }

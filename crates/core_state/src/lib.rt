@@ -1,8 +1,9 @@
 //! What the tool is at a moment, the rows that its tables fire, and the messages that it sends.
 //!
 //! It holds the link of the session with T6, T7 and the tool's linktest (SEMI E37), the states of communication and of
-//! control with the tool's transactions and T3 (SEMI E30), the load ports and the carriers (SEMI E87), and the frames that
-//! wait for the writer. It takes no events
+//! control with the tool's transactions and T3 (SEMI E30), the constants, the reports and the alarms (SEMI E5), the line of notes with
+//! the spool (SEMI E30), the floor of the tool, which is load ports, carriers, substrates, modules, process jobs and control jobs
+//! (SEMI E87, E90, E40, E94), and the frames that wait for the writer. It takes no events
 //! and keeps no history, which is for `tool_core`: each call here is one change that an event may make. How the tool settles behind
 //! such changes is for `core_settling`. It reads no clock, no file and no link. Contracts see a `Plant` as the `State` of the definitions in `gem_model`.
 //!

@@ -1,4 +1,4 @@
-//! The rows of the transition tables: what each does, which are ready, and settling.
+//! The rows of communication and control (tables 1 and 2), the end of a session, and the communication delay.
 ghost use Rattle.std.specs.Prelude.{◌≡◌, ◌+◌, ◌<◌, OnOk};
 ghost use Rattle.gem_tables.specs.Table.{firing};
 ghost use Rattle.gem_model.specs.State.{without_session};

@@ -1,8 +1,9 @@
 -- Items that are added one by one.
-use Rattle.std.proofs.Common.{◌≡◌, ◌<◌, ◌≤◌, ◌+◌, ◌++◌, ℕ, List, [], ◌∷◌, length, take, get_or, Option, refl, sym, ◌∙◌, ap}
+use Rattle.std.proofs.Common.{◌≡◌, ◌<◌, ◌≤◌, ◌+◌, ◌++◌, ℕ, List, [], ◌∷◌, length, take, get_or, Option, Result, Ok, Err, OnErr, refl, sym, ◌∙◌, ap}
 use Rattle.std.proofs.lemmas.List.{take_all, take_more}
 use Rattle.std.specs.Option.{unwrap_or}
-use Rattle.item_model.specs.Data.{Data, DataList, list, no_items, item, added}
+use Rattle.item_model.specs.Data.{Data, DataList, list, no_items, item, added, first_items}
+use Rattle.item_model.specs.Plain.{count_of}
 use Rattle.event_reports.specs.Values.{joined}
 use Rattle.event_reports.specs.Reports.{Reports, value_items, report_item, items_of_reports}
 
@@ -10,6 +11,17 @@ use Rattle.event_reports.specs.Reports.{Reports, value_items, report_item, items
 pub joined-none : (ds : DataList) → joined ds no_items ≡ ds
 joined-none no_items = refl
 joined-none (item d ds) = ap (item d) (joined-none ds)
+
+-- the first of them are what stood there before
+first_joined : (ds more : DataList) → first_items (count_of ds) (joined ds more) ≡ ds
+first_joined no_items more = refl
+first_joined (item d ds) more = ap (item d) (first_joined ds more)
+
+-- so are they where something was added before memory ran out
+pub again : {T E : Type 0} (r : Result T E) (added_of : ℕ → DataList) (old out new : DataList) (count : ℕ) → count ≡ count_of old →
+    OnErr r ((n : ℕ) × (out ≡ joined old (added_of n))) → OnErr r (new ≡ first_items count out) → OnErr r (new ≡ old)
+again (Ok x) added_of old out new count e some first = tt
+again (Err x) added_of old out new count e (n, some) first = first ∙ rw (e, some) (first_joined old (added_of n))
 
 -- one is added behind what was added
 added-joined : (ds more : DataList) (d : Data) → added (joined ds more) d ≡ joined ds (added more d)

@@ -3,7 +3,7 @@
 ghost use Rattle.std.specs.Prelude.{ℕ, length, take, ◌≡◌, ◌<◌, ◌≤◌, false, map, IfOk, OnOk, OnErr, IfSome, IfNone, option_map};
 ghost use Rattle.std.specs.Option.{unwrap_or};
 ghost use Rattle.std.specs.List.{list_all, list_any, HoldsAt};
-ghost use Rattle.item_model.specs.Data.{list, no_items, added};
+ghost use Rattle.item_model.specs.Data.{list, no_items, added, first_items};
 ghost use Rattle.item_model.specs.View.{view};
 ghost use Rattle.item_model.specs.Plain.{count_of};
 ghost use Rattle.item_model.specs.Weight.{AreBounded};
@@ -188,8 +188,7 @@ impl Reports {
 
     /// Adds the reports of an event at the end, in the order of its link, each as a list of its RPTID and the list of its
     /// values (SEMI E5, S6F11). A variable without a value stands as an empty list. An event without a link and an
-    /// unknown one add nothing. After `NoMemory` the first of them may have been added, whole and in order, and what stood
-    /// before stays.
+    /// unknown one add nothing. After `NoMemory` the list is as before.
     pub fn report<V: Values>(
         &self,
         alloc: Global,
@@ -198,20 +197,19 @@ impl Reports {
         out: &mut Items,
     ) -> Result<(), NoMemory>
         ensures reports { OnOk result (out.new ≡ joined out.old (report_items (V.value_of v.now) ceid self.now)) }
-
-        // Else the first n reports of the link were added, for some n.
-        ensures first { OnErr result ((n : ℕ) × (out.new ≡ joined out.old (items_of_reports (V.value_of v.now) (take n (link_of ceid self.now)) self.now))) }
+        ensures no_memory { OnErr result (out.new ≡ out.old) }
 
         // Few reports are added, and each is small where the values are.
         ensures few { count_of (report_items (V.value_of v.now) ceid self.now) ≤ most_linked }
         ensures bounded { AreSmallValues (V.value_of v.now) → AreBounded 3 5392 (report_items (V.value_of v.now) ceid self.now) }
     {
-        self.push_reports(alloc, self.link_of(ceid), v, out)
+        let count = out.len();
+        let pushed = self.push_reports(alloc, self.link_of(ceid), v, out);
+        as_before(pushed, count, out)
     }
 
     /// Adds the values of a report at the end, in its order (SEMI E5, S6F19). A variable without a value stands as an
-    /// empty list. An unknown report adds nothing. After `NoMemory` the first of them may have been added, in order, and
-    /// what stood before stays.
+    /// empty list. An unknown report adds nothing. After `NoMemory` the list is as before.
     pub fn one<V: Values>(
         &self,
         alloc: Global,
@@ -220,16 +218,28 @@ impl Reports {
         out: &mut Items,
     ) -> Result<(), NoMemory>
         ensures values { OnOk result (out.new ≡ joined out.old (one_items (V.value_of v.now) rptid self.now)) }
-
-        // Else the first n values of the report were added, for some n.
-        ensures first { OnErr result ((n : ℕ) × (out.new ≡ joined out.old (value_items (V.value_of v.now) (take n (vids_of rptid self.now))))) }
+        ensures no_memory { OnErr result (out.new ≡ out.old) }
 
         // Few values are added, and each is small.
         ensures few { count_of (one_items (V.value_of v.now) rptid self.now) ≤ most_vids }
         ensures bounded { AreSmallValues (V.value_of v.now) → AreBounded 1 84 (one_items (V.value_of v.now) rptid self.now) }
     {
-        push_values(alloc, self.vids_of(rptid), v, out)
+        let count = out.len();
+        let pushed = push_values(alloc, self.vids_of(rptid), v, out);
+        as_before(pushed, count, out)
     }
+}
+
+// What pushing onto a list of so many items came to. After want of memory the list has those again, and no more.
+fn as_before(pushed: Result<(), NoMemory>, count: usize, out: &mut Items) -> Result<(), NoMemory>
+    ensures same { result ≡ pushed }
+    ensures ok { OnOk pushed (out.new ≡ out.old) }
+    ensures no_memory { OnErr pushed (out.new ≡ first_items count out.old) }
+{
+    if pushed.is_err() {
+        out.truncate(count);
+    }
+    pushed
 }
 
 // A line for each collection event, not enabled and without a link.

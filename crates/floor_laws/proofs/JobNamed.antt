@@ -1,5 +1,5 @@
 -- The substrates that open commands name, by their names and by their numbers.
-use Rattle.std.proofs.Common.{◌≡◌, ℕ, ◌==◌, true, List, Option, Some, None, option_map, refl, sym, ◌∙◌, ap, subst, arith}
+use Rattle.std.proofs.Common.{◌≡◌, ℕ, ◌==◌, true, List, Option, Some, None, option_map, refl, sym, ◌∙◌, ap, arith}
 use Rattle.std.specs.List.{list_any}
 use Rattle.std.proofs.lemmas.Bool.{true≢false}
 use Rattle.std.proofs.lemmas.Bool.Decides.{Decides-eqb}
@@ -10,7 +10,7 @@ use Rattle.robot_moves.specs.declared.module.Module.{Module as ToolModule}
 use Rattle.robot_moves.specs.declared.module.Module.TheVariants.{Idle, Busy, Down}
 use Rattle.robot_moves.specs.Modules.{module_at}
 use Rattle.shop_floor.proofs.Apart.{found_passes}
-use Rattle.substrate.specs.Places.{has_name, substrate_named}
+use Rattle.substrate.specs.Places.{substrate_named}
 use Rattle.substrate.specs.declared.registered.Registered.{Registered}
 use Rattle.floor_model.specs.declared.tracked.Substrate.{Substrate}
 use Rattle.floor_model.specs.Floor.{ToolFloor, substrate_numbered}
@@ -18,26 +18,11 @@ use Rattle.floor_model.specs.Naming.{named_by, module_names}
 use Rattle.floor_moves.specs.Floor.{Command, busy, named}
 use Rattle.floor_moves.specs.Valid.{Members}
 use Rattle.place_laws.specs.Picture.{picture, numbered, number_or_none, task_of, module_of}
-use Rattle.place_laws.specs.Sound.{IsOfKept, Base}
+use Rattle.place_laws.specs.Sound.{Base}
 use Rattle.place_laws.proofs.Holding.{none_before}
-use Rattle.floor_laws.proofs.JobSight.{some_same, each_found, any_at, any_there, kept_here, found_alike}
+use Rattle.floor_laws.proofs.JobSight.{any_there, found_alike}
 
 module _ (f : ToolFloor) (b : Base f) (n : ℕ) (s : Substrate) (found : substrate_numbered n f.substrates ≡ Some s) where
-  -- a name that has its number is its name
-  pub name_of_number : (sub : List ℕ) → numbered sub f.places ≡ n → sub ≡ s.sub
-  name_of_number sub e = of (substrate_named sub f.places.held) refl where
-    of : (o : Option Registered) → substrate_named sub f.places.held ≡ o → sub ≡ s.sub
-    of None q =
-        let zero_is : 0 ≡ n = sym (ap (λ (o : Option Registered). number_or_none (option_map (λ (r : Registered). r.number) o)) q) ∙ e in
-        let none = none_before 0 f.places.given f.substrates n b.rising (omega (arith, zero_is)) in
-        absurd (true≢false (sym (kept_here f b n s found) ∙ none))
-    of (Some r) q =
-        let number : r.number ≡ n = sym (ap (λ (o : Option Registered). number_or_none (option_map (λ (r : Registered). r.number) o)) q) ∙ e in
-        let k = each_found (IsOfKept f.substrates) (has_name sub) f.places.held r b.held q in
-        let there : substrate_numbered n f.substrates ≡ Some k.0 = subst (λ (m : ℕ). substrate_numbered m f.substrates ≡ Some k.0) number k.1 in
-        let one : s ≡ k.0 = some_same s k.0 (sym found ∙ there) in
-        sym ((bytes_eq-Decides r.sub sub).0 (found_passes (has_name sub) f.places.held r q)) ∙ sym k.2 ∙ ap (λ (x : Substrate). x.sub) (sym one)
-
   -- its name has its number, where it has a place
   number_of_name : (r : Registered) → substrate_named s.sub f.places.held ≡ Some r → numbered s.sub f.places ≡ n
   number_of_name r e =
@@ -51,23 +36,8 @@ module _ (f : ToolFloor) (b : Base f) (n : ℕ) (s : Substrate) (found : substra
   task_name (task.Align sub) = refl
   task_name (task.Process sub recipe) = refl
 
-  -- an open command that names it does so by its name
-  pub named_tells : (m : ℕ) (c : Command) → (picture f).equipment m ≡ busy c → named c.task ≡ n → list_any (module_names s.sub) f.modules ≡ true
-  named_tells m c e its = of (module_at m f.modules) refl e where
-    of : (o : Option ToolModule) → module_at m f.modules ≡ o → module_of o f.places ≡ busy c → list_any (module_names s.sub) f.modules ≡ true
-    of None q e = absurd (cc)
-    of (Some Idle) q e = absurd (cc)
-    of (Some (Busy command fetched)) q e =
-        let tasks : task_of command.task f.places ≡ c.task = ap (λ (c : Command). c.task) (busy_same e) in
-        let number : numbered (named_by command.task) f.places ≡ n = sym (task_name command.task) ∙ ap named tasks ∙ its in
-        any_at (module_names s.sub) f.modules m (Busy command fetched) q ((bytes_eq-Decides (named_by command.task) s.sub).1 (name_of_number (named_by command.task) number))
-      where
-        busy_same : {c d : Command} → busy c ≡ busy d → c ≡ d
-        busy_same e = cc
-    of (Some Down) q e = absurd (cc)
-
   -- the number of its name is its number where an open command has it
-  pub number_of_command : Members (picture f) → (m : ℕ) (c : Command) → (picture f).equipment m ≡ busy c → named c.task ≡ numbered s.sub f.places → numbered s.sub f.places ≡ n
+  number_of_command : Members (picture f) → (m : ℕ) (c : Command) → (picture f).equipment m ≡ busy c → named c.task ≡ numbered s.sub f.places → numbered s.sub f.places ≡ n
   number_of_command v m c is its = of (substrate_named s.sub f.places.held) refl where
     of : (o : Option Registered) → substrate_named s.sub f.places.held ≡ o → numbered s.sub f.places ≡ n
     of None q =

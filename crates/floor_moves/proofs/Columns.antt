@@ -1,10 +1,10 @@
 -- Rows that change one state alone.
-use Rattle.std.proofs.Common.{◌≡◌, ◌≤◌, ℕ, ◌==◌, Bool, true, false, not, ◌&&◌, ◌||◌, None, refl, sym, ap, subst, ◌∙◌, ◌⊎◌, inl, inr, arith}
+use Rattle.std.proofs.Common.{◌≡◌, ℕ, ◌==◌, Bool, true, false, not, ◌&&◌, ◌||◌, None, refl, sym, ap, subst, ◌∙◌, ◌⊎◌, inl, inr, arith}
 use Rattle.std.proofs.lemmas.Bool.{false_from_ne_true, cases_Bool}
 use Rattle.std.proofs.lemmas.Bool.Decides.{Decides-eqb}
 use Rattle.gem_tables.specs.Table.{is_one_of}
 use Rattle.floor_moves.specs.Floor.{Loc, slot, pick, process, Command, busy, Floor, set, is_outside, is_finished, is_done}
-use Rattle.floor_moves.specs.Effects.{accessed, transported, worked}
+use Rattle.floor_moves.specs.Effects.{transported, worked}
 use Rattle.floor_moves.specs.Valid.{IsProcessed, HasRoom, Places, Carriers, Commands, Members, Valid}
 use Rattle.floor_moves.proofs.Maps.{set_tells, set_both}
 
@@ -12,25 +12,6 @@ use Rattle.floor_moves.proofs.Maps.{set_tells, set_both}
 
 pub transported-keeps : (g : Floor) (n state : ℕ) → Valid g → Valid (transported n state g)
 transported-keeps g n state v = record { places = v.places; carriers = v.carriers; commands = v.commands; members = v.members; work = v.work }
-
--- ---- table 10: where the state is one that has ended, no substrate of the carrier is in a job
-
-pub accessed-keeps : (g : Floor) (c state : ℕ) → ((n : ℕ) → g.jobs.is_member n ≡ true → g.carrier_of n ≡ c → state ≤ 1) → Valid g → Valid (accessed c state g)
-accessed-keeps g c state ends v = record {
-  places = v.places;
-  carriers = v.carriers;
-  commands = v.commands;
-  work = v.work;
-  members = record {
-    outside = v.members.outside;
-    named = v.members.named;
-    starting = v.members.starting;
-    kept = v.members.kept;
-    carrier = v.members.carrier;
-    here = λ n is. set_both c (g.carrier_of n) state g.access (λ a. a ≤ 1) (λ same. ends n is same) (λ other. v.members.here n is);
-    complete = v.members.complete;
-  };
-}
 
 -- ---- table 13
 

@@ -5,17 +5,9 @@ pub mod Columns
 pub mod Issuing
 pub mod Moving
 pub mod Done
-pub mod Moves
 pub mod Promised
-pub mod Rows
-pub mod Inputs
-pub mod Falling
 pub mod Registering
 pub mod Carrying
-pub mod Behind
-pub mod Running
-pub mod Ending
-pub mod Going
 pub mod Waiting
 pub mod Room
 pub mod Agreeing

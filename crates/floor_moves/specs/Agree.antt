@@ -1,6 +1,6 @@
 -- Two floors that say the same of what is kept (this tool's profile, substrates and moves). A column says something of each number,
 -- and what it says of a substrate that was forgotten counts for nothing.
-use Rattle.std.specs.Prelude.{◌≡◌, ℕ, true, false, List, Option, Some}
+use Rattle.std.specs.Prelude.{◌≡◌, ℕ, true, false, Option, Some}
 use Rattle.gem_tables.specs.Table.{is_one_of}
 use Rattle.floor_moves.specs.Floor.{JobView, Floor}
 

@@ -1,7 +1,7 @@
 -- The shop floor by numbers: substrates, carriers and modules at a moment (after SEMI E87 and E90; this tool's profile, carriers,
 -- substrates and moves). Each column is a map from the number of an object. What it gives of a number that is none counts for
 -- nothing.
-use Rattle.std.specs.Prelude.{ℕ, suc, ◌==◌, Bool, true, false, not, ◌&&◌, ◌||◌, if◌then◌else◌, List, [], ◌∷◌, map, Option, Some, None}
+use Rattle.std.specs.Prelude.{ℕ, suc, ◌==◌, Bool, true, false, not, ◌&&◌, ◌||◌, if◌then◌else◌, List, [], ◌∷◌, find, map, Option, Some, None}
 
 -- a location: a slot of a number at the port of a number, the aligner, the robot's arm, the chamber of a number, from 1 on
 pub data Loc : Type 0 where
@@ -42,11 +42,6 @@ pub data Module : Type 0 where
   idle : Module
   busy : Command → Module
   down : Module
-
--- it is Idle
-abbrev pub is_idle : Module → Bool
-is_idle idle = true
-is_idle _ = false
 
 -- What process jobs say of substrates and carriers (after SEMI E40). Of a substrate: it is in a job; its job is PROCESSING,
 -- STOPPING, ABORTING or PROCESS COMPLETE; the chambers of the recipe of its job. Of a carrier: a job names it; it is marked
@@ -145,6 +140,10 @@ own n g = slot (g.port_of n) (g.slot_of n)
 abbrev pub is_at : Loc → Option Loc → Bool
 is_at l None = false
 is_at l (Some at) = is_same l at
+
+-- the substrate at a location
+abbrev pub holder : Loc → Floor → Option ℕ
+holder l g = find (λ n. is_at l (g.place_of n)) g.substrates
 
 -- a substrate is outside its slot: at the aligner, on the arm or in a chamber
 abbrev pub is_outside : Option Loc → Bool

@@ -1,13 +1,9 @@
 pub mod Floor
-pub mod Ready
 pub mod Effects
-pub mod Direct
 pub mod Carriers
 pub mod Valid
 pub mod Agree
 pub mod OnePlace
 pub mod Work
-pub mod Left
-pub mod Run
-pub mod Once
-pub mod Worked
+pub mod Sums
+pub mod Rest

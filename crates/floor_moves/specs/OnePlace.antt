@@ -1,7 +1,6 @@
 -- Each substrate has one place (after SEMI E90; this tool's profile, substrates and moves).
 use Rattle.std.specs.Prelude.{◌≡◌, ◌<◌, ℕ, true, false, Some}
-use Rattle.floor_moves.specs.Floor.{Loc, slot, aligner, arm, chamber, pick, place, align, process, Command, busy, Floor, chamber_module, own, is_outside}
-use Rattle.floor_moves.specs.Ready.{holder}
+use Rattle.floor_moves.specs.Floor.{Loc, slot, aligner, arm, chamber, pick, place, align, process, Command, busy, Floor, chamber_module, own, is_outside, holder}
 use Rattle.floor_moves.specs.Carriers.{HasEnded}
 use Rattle.floor_moves.specs.Valid.{Empty, IsUnnamed}
 

@@ -1,8 +1,7 @@
 -- Facts that hold at every moment (after SEMI E87 and E90; this tool's profile, substrates and moves).
-use Rattle.std.specs.Prelude.{◌≡◌, ◌⊎◌, ◌≤◌, ◌<◌, ℕ, true, false, ◌||◌, List, [], ◌∷◌, Some, None}
+use Rattle.std.specs.Prelude.{◌≡◌, ◌≤◌, ◌<◌, ℕ, true, false, ◌||◌, List, [], ◌∷◌, Some, None}
 use Rattle.gem_tables.specs.Table.{is_one_of}
-use Rattle.floor_moves.specs.Floor.{Loc, slot, aligner, arm, chamber, pick, place, align, process, named, Command, Module, busy, JobView, Floor, chamber_module, modules, own, is_outside, is_finished, is_done}
-use Rattle.floor_moves.specs.Ready.{processes}
+use Rattle.floor_moves.specs.Floor.{Loc, slot, aligner, arm, chamber, pick, place, align, process, named, Command, busy, JobView, Floor, chamber_module, modules, own, is_outside, is_finished, is_done}
 
 -- no substrate is there
 abbrev pub Empty : Loc → Floor → Type 0
@@ -176,11 +175,6 @@ pub record ValidBut (n : ℕ) (g : Floor) : Type 0 where
   pub unnamed : IsUnnamed n g
   pub in_process : (k : ℕ) → (k ≡ n → ⊥) → g.processing k ≡ 1 → IsProcessed k g
   pub removed : (k : ℕ) → is_one_of g.substrates k ≡ true → g.place_of k ≡ None → is_finished (g.processing k) ≡ true
-
--- what holds behind a row of table 16 at a module: all of it, or all but what it says of the substrate of the Process that the
--- module had open
-abbrev pub ValidOrBut : Module → Floor → Type 0
-ValidOrBut m g = Valid g ⊎ ((n : ℕ) × (processes n m ≡ true) × ValidBut n g)
 
 -- ---- what process jobs may say next
 

@@ -4,15 +4,19 @@
 //!
 //! It hands the file, standard input, standard output, and to `serve` a TCP port, the system's clock and a gate, to `top_calls::feed`
 //! or to `serving::serve`, whose contracts are the promises of the whole program, says why the run ended on standard error, and
-//! ends with its status.
+//! ends with its status. In `serve` the gate notes when a session and the run are over, so that standard input gives its end then
+//! and a write that waits gives up.
 #![tactic(auto)]
 
 use gem_ids::Text80;
-use outside::{FileSource, SleepGate, StdinSource, StdoutSink, SystemClock, TcpDoor};
+use outside::{
+    FileSource, RunSigns, ScriptSource, StdinSource, StdoutSink, SystemClock, TcpDoor, WakeGate,
+};
 use program_words::{Question, Words, asked, command_of, help_text, version_text};
 use serving::serve;
 use std::alloc::{AllocError, Global};
 use std::net::{Net, TcpListener, TcpStream};
+use std::os::fd::AsRawFd;
 use std::process::ExitCode;
 use std::rt::{Clock, Files};
 use std::sync::Wait;
@@ -81,6 +85,15 @@ fn run_feed(rt: &HostRuntime, args: &[String], words: &[Text80]) -> Cause {
     feed(rt.alloc(), words, &mut config, &mut input, &mut out).cause
 }
 
+/// Tells on standard error which port could not be opened, and why, where that is so.
+fn tell_refusal<R: Eprint>(rt: &R, alloc: Global, door: &TcpDoor<'_, R>) -> Result<(), AllocError> {
+    if let Some((port, kind)) = door.refusal() {
+        let text = format!(in alloc; "port {port}: {kind}")?;
+        let _ = rt.eprintln(text.as_str());
+    }
+    Ok(())
+}
+
 /// Calls `serve` on the file of this name, a TCP port, standard input as the script and standard output for the log, and tells why it
 /// ended.
 fn run_serve<
@@ -90,18 +103,20 @@ fn run_serve<
         + Files
         + Input
         + Print
+        + Eprint
         + Net<Listener = TcpListener, Stream = TcpStream>
         + Clock,
->(rt: &R, alloc: Global, path: &str, words: &[Text80]) -> Cause
+>(rt: &R, alloc: Global, path: &str, words: &[Text80]) -> Result<Cause, AllocError>
 where
-    R::Reader: Send,
+    R::Reader: Send + AsRawFd,
 {
+    let signs = RunSigns::new();
     let mut config = FileSource::new(rt, path);
-    let mut door = TcpDoor::new(rt);
-    let mut script = StdinSource::new(rt);
+    let mut door = TcpDoor::with_signs(rt, &signs);
+    let mut script = ScriptSource::new(rt.reader(), &signs);
     let mut clock = SystemClock::new(rt);
     let mut log = StdoutSink::new(rt);
-    serve(
+    let ended = serve(
         rt,
         alloc,
         words,
@@ -110,9 +125,10 @@ where
         &mut script,
         &mut clock,
         &mut log,
-        &SleepGate::new(rt),
-    )
-    .cause
+        &WakeGate::new(rt, &signs),
+    );
+    tell_refusal(rt, alloc, &door)?;
+    Ok(ended.cause)
 }
 
 /// The arguments, and the words that they are.
@@ -153,13 +169,13 @@ fn main(rt: HostRuntime) -> ExitCode {
     let Ok((args, words)) = command_line(&rt) else {
         return no_memory(&rt);
     };
-    let cause = if is_serve(&words) {
+    let answered = if is_serve(&words) {
         run_serve(&rt, rt.alloc(), config_path(&args, &words), &words)
     } else {
-        match answer_or_run(&rt, &args, &words) {
-            Ok(cause) => cause,
-            Err(_) => return no_memory(&rt),
-        }
+        answer_or_run(&rt, &args, &words)
+    };
+    let Ok(cause) = answered else {
+        return no_memory(&rt);
     };
     match tell(&rt, cause) {
         Ok(status) => ExitCode::from(status),

@@ -42,8 +42,7 @@ substrate_text g place = unwrap_or (substrate_at place g.floor.places.held) []
 abbrev pub place_value : State → LocId → Option Data
 place_value g place = if is_location g.config.ports g.config.chambers place then Some (ascii (substrate_text g place)) else None
 
--- the value of a status variable; none for one of a port or a chamber that the tool lacks, and for one that is not built (this
--- tool's profile, variables)
+-- the value of a status variable; none for one of a port or a chamber that the tool lacks (this tool's profile, variables)
 abbrev pub variable_value : State → StatusVariable → Option Data
 variable_value g status.Clock = Some (ascii (time_digits (clock_now g)))
 variable_value g status.CommState = Some (u1 (comm_number g.comm ∷ []))
@@ -69,7 +68,7 @@ abbrev pub value_by : State → Option StatusVariable → Option Data
 value_by g None = None
 value_by g (Some variable) = variable_value g variable
 
--- the value of the status variable of a number; none for a number that is none of one that is built (SEMI E5, S1F3)
+-- the value of the status variable of a number; none for a number that is none of one that the tool has (SEMI E5, S1F3)
 abbrev pub status_value : State → ℕ → Option Data
 status_value g vid = value_by g (status_variable vid)
 
@@ -90,7 +89,7 @@ abbrev pub or_else : Option Data → Option Data → Option Data
 or_else None other = other
 or_else (Some d) other = Some d
 
--- the value of each variable that a report may name; none for one that is not built, or not known
+-- the value of each variable that a report may name; none for one that the tool lacks, or that is not known
 -- (this tool's profile, variables)
 abbrev pub value_of : Occasion → State → ℕ → Option Data
 value_of o g vid = or_else (status_value g vid) (or_else (event_value o vid) (constant_value g vid))

@@ -11,17 +11,15 @@ ghost use Rattle.message_model.specs.Printed.{L, U1, code as code_data, each};
 ghost use Rattle.message_model.specs.GemReplies.{alarm as alarm_data, alarm_code as alarm_code_data, alarm_part, event as event_data, identity, parameter_acknowledge, reply_body, spooling, stream_refusal as stream_refusal_data, variable_name};
 ghost use Rattle.message_model.specs.GemSendable.{AreFew, HasSendableParts};
 
-use body_parts::writing::{code, list, text, u1, u4, u8};
+use body_parts::writing::{ascii, code, elements, list, text, u1, u4, u8};
 use gem_ids::Text80;
 use item_model::{Bytes, Item, Items, NoMemory};
-use message_model::{
-    AlarmPart, GemReply, Identity, ParameterAcknowledge, StreamRefusal, VariableName,
-};
+use message_model::{AlarmPart, GemReply, ParameterAcknowledge, StreamRefusal, VariableName};
 use std::alloc::Global;
 use std::mem;
 
-/// The item that is the text of the reply, as it is printed (this tool's profile, messages). The reply's own items and texts
-/// become parts of it.
+/// The item that is the text of the reply, as it is printed (this tool's profile, messages). The reply stays the caller's; its items
+/// and texts are copied.
 ///
 /// It can be encoded, and takes at most 1,073,741,824 bytes, where the parts of the reply are within their bounds. The
 /// characters of MDLN, SOFTREV and the time are at most 127; these and a header have fewer than 16,777,216 bytes. Of
@@ -30,53 +28,108 @@ use std::mem;
 /// parameters fewer than 16,777,216; so are streams that are refused, and the functions of each, which are at most
 /// 268,435,456 together.
 #[tactic(auto, using(body_parts::proofs::Bounds::short_text))]
-pub fn gem_item(alloc: Global, reply: GemReply) -> Result<Item, NoMemory>
+pub fn gem_item(alloc: Global, reply: &GemReply) -> Result<Item, NoMemory>
+    ensures exact { IfOk result (λ item. view item ≡ reply_body reply.now) }
+    ensures sendable { HasSendableParts reply.now → IfOk result (λ item. IsSendable (view item)) }
+    ensures short { HasSendableParts reply.now → IfOk result (λ item. length (plain (view item)) ≤ 2 ^ 31) }
+{
+    item_of(alloc, reply)
+}
+
+/// The same item of a reply that is given away: its items and texts become parts of the item and aren't copied, so that the reply is
+/// lost where there is no memory.
+#[tactic(auto, using(body_parts::proofs::Bounds::short_text))]
+pub fn gem_item_out(alloc: Global, reply: GemReply) -> Result<Item, NoMemory>
     ensures exact { IfOk result (λ item. view item ≡ reply_body reply) }
     ensures sendable { HasSendableParts reply → IfOk result (λ item. IsSendable (view item)) }
     ensures short { HasSendableParts reply → IfOk result (λ item. length (plain (view item)) ≤ 2 ^ 31) }
 {
     let mut reply = reply;
-    item_of(alloc, &mut reply)
+    item_out(alloc, &mut reply)
 }
 
-// The same, within bounds. The reply's items and texts are taken out of it.
+// The item of a reply, within bounds.
 #[tactic(auto, using(crate::proofs::Bounds::values_bounded, crate::proofs::Bounds::constants_bounded))]
-fn item_of(alloc: Global, reply: &mut GemReply) -> Result<Item, NoMemory>
+fn item_of(alloc: Global, reply: &GemReply) -> Result<Item, NoMemory>
+    ensures exact { IfOk result (λ item. view item ≡ reply_body reply.now) }
+    ensures bounded { HasSendableParts reply.now → IfOk result (λ item. IsBounded 5 (2 ^ 31) (view item)) }
+{
+    match reply {
+        GemReply::S1F2(mdln, softrev) | GemReply::S1F13(mdln, softrev) => {
+            identity(alloc, mdln.clone()?, softrev.clone()?)
+        }
+        GemReply::S1F4(values) | GemReply::S2F14(values) | GemReply::S6F20(values) => elements(
+            values,
+        ),
+        GemReply::S1F12(names) => list_of(alloc, names.as_slice()),
+        GemReply::S1F14(tool) => established(alloc, tool.mdln.clone()?, tool.softrev.clone()?),
+        GemReply::S1F16 => code(alloc, 0),
+        GemReply::S1F18(ack)
+        | GemReply::S2F16(ack)
+        | GemReply::S2F32(ack)
+        | GemReply::S2F34(ack)
+        | GemReply::S2F36(ack)
+        | GemReply::S2F38(ack)
+        | GemReply::S5F4(ack)
+        | GemReply::S6F24(ack) => code(alloc, *ack),
+        GemReply::S2F18(time) => ascii(time),
+        GemReply::S2F30(constants) => elements(constants),
+        GemReply::S2F42(hcack, parameters) => commanded(alloc, *hcack, parameters.as_slice()),
+        GemReply::S2F44(rspack, refusals) => spooled(alloc, *rspack, refusals.as_slice()),
+        GemReply::S5F1(alcd, alid, text) => alarm(alloc, Some(*alcd), *alid, text),
+        GemReply::S5F6(alarms) | GemReply::S5F8(alarms) => list_of(alloc, alarms.as_slice()),
+        GemReply::S6F11(note, ceid, reports) => event(alloc, *note, *ceid, reports.clone()?),
+        GemReply::S6F16(ceid, reports) => event(alloc, 0, *ceid, reports.clone()?),
+        GemReply::S9F1(header)
+        | GemReply::S9F3(header)
+        | GemReply::S9F5(header)
+        | GemReply::S9F7(header)
+        | GemReply::S9F9(header)
+        | GemReply::S9F11(header) => Ok(Item::Binary(header.clone()?)),
+    }
+}
+
+// The same, with the reply's items and texts taken out of it.
+#[tactic(auto, using(crate::proofs::Bounds::values_bounded, crate::proofs::Bounds::constants_bounded))]
+fn item_out(alloc: Global, reply: &mut GemReply) -> Result<Item, NoMemory>
     ensures exact { IfOk result (λ item. view item ≡ reply_body reply.old) }
     ensures bounded { HasSendableParts reply.old → IfOk result (λ item. IsBounded 5 (2 ^ 31) (view item)) }
 {
     match reply {
-        GemReply::S1F2(mdln, softrev) => identity(alloc, mdln, softrev),
+        GemReply::S1F2(mdln, softrev) => identity(
+            alloc,
+            text_out(alloc, mdln),
+            text_out(alloc, softrev),
+        ),
         GemReply::S1F4(values) => Ok(Item::List(items_out(alloc, values))),
-        GemReply::S1F12(names) => list_of(alloc, names.as_slice()),
-        GemReply::S1F13(mdln, softrev) => identity(alloc, mdln, softrev),
-        GemReply::S1F14(tool) => established(alloc, tool),
-        GemReply::S1F16 => code(alloc, 0),
-        GemReply::S1F18(onlack) => code(alloc, *onlack),
+        GemReply::S1F13(mdln, softrev) => identity(
+            alloc,
+            text_out(alloc, mdln),
+            text_out(alloc, softrev),
+        ),
+        GemReply::S1F14(tool) => established(
+            alloc,
+            text_out(alloc, &mut tool.mdln),
+            text_out(alloc, &mut tool.softrev),
+        ),
         GemReply::S2F14(values) => Ok(Item::List(items_out(alloc, values))),
-        GemReply::S2F16(eac) => code(alloc, *eac),
         GemReply::S2F18(time) => Ok(Item::Ascii(text_out(alloc, time))),
         GemReply::S2F30(constants) => Ok(Item::List(items_out(alloc, constants))),
-        GemReply::S2F32(tiack) => code(alloc, *tiack),
-        GemReply::S2F34(drack) => code(alloc, *drack),
-        GemReply::S2F36(lrack) => code(alloc, *lrack),
-        GemReply::S2F38(erack) => code(alloc, *erack),
-        GemReply::S2F42(hcack, parameters) => commanded(alloc, *hcack, parameters.as_slice()),
-        GemReply::S2F44(rspack, refusals) => spooled(alloc, *rspack, refusals.as_slice()),
-        GemReply::S5F1(alcd, alid, text) => alarm(alloc, Some(*alcd), *alid, text),
-        GemReply::S5F4(ackc5) => code(alloc, *ackc5),
-        GemReply::S5F6(alarms) => list_of(alloc, alarms.as_slice()),
-        GemReply::S5F8(alarms) => list_of(alloc, alarms.as_slice()),
-        GemReply::S6F11(note, ceid, reports) => event(alloc, *note, *ceid, reports),
-        GemReply::S6F16(ceid, reports) => event(alloc, 0, *ceid, reports),
+        GemReply::S6F11(note, ceid, reports) => event(
+            alloc,
+            *note,
+            *ceid,
+            items_out(alloc, reports),
+        ),
+        GemReply::S6F16(ceid, reports) => event(alloc, 0, *ceid, items_out(alloc, reports)),
         GemReply::S6F20(values) => Ok(Item::List(items_out(alloc, values))),
-        GemReply::S6F24(rsda) => code(alloc, *rsda),
         GemReply::S9F1(header) => Ok(Item::Binary(text_out(alloc, header))),
         GemReply::S9F3(header) => Ok(Item::Binary(text_out(alloc, header))),
         GemReply::S9F5(header) => Ok(Item::Binary(text_out(alloc, header))),
         GemReply::S9F7(header) => Ok(Item::Binary(text_out(alloc, header))),
         GemReply::S9F9(header) => Ok(Item::Binary(text_out(alloc, header))),
         GemReply::S9F11(header) => Ok(Item::Binary(text_out(alloc, header))),
+        small => item_of(alloc, small),
     }
 }
 
@@ -158,13 +211,13 @@ fn alarm_code(alloc: Global, alcd: Option<u8>) -> Result<Item, NoMemory>
 }
 
 // An event and its reports.
-fn event(alloc: Global, note: u64, ceid: u32, reports: &mut Items) -> Result<Item, NoMemory>
-    ensures exact { IfOk result (λ item. view item ≡ event_data note ceid reports.old) }
-    ensures bounded { AreFew 16 3 5392 reports.old → IfOk result (λ item. IsBounded 5 (2 ^ 31) (view item)) }
+fn event(alloc: Global, note: u64, ceid: u32, reports: Items) -> Result<Item, NoMemory>
+    ensures exact { IfOk result (λ item. view item ≡ event_data note ceid reports) }
+    ensures bounded { AreFew 16 3 5392 reports → IfOk result (λ item. IsBounded 5 (2 ^ 31) (view item)) }
 {
     let note = u8(alloc, note)?;
     let ceid = u4(alloc, ceid)?;
-    list(alloc, [note, ceid, Item::List(items_out(alloc, reports))])
+    list(alloc, [note, ceid, Item::List(reports)])
 }
 
 // What the host's choice of streams is answered.
@@ -210,22 +263,19 @@ fn list_of<T: Printed>(alloc: Global, parts: &[T]) -> Result<Item, NoMemory>
     Ok(Item::List(items))
 }
 
-// The model and the revision, which are taken out.
-fn identity(alloc: Global, mdln: &mut Bytes, softrev: &mut Bytes) -> Result<Item, NoMemory>
-    ensures { IfOk result (λ item. view item ≡ identity mdln.old softrev.old) }
+// The model and the revision.
+fn identity(alloc: Global, mdln: Bytes, softrev: Bytes) -> Result<Item, NoMemory>
+    ensures { IfOk result (λ item. view item ≡ identity mdln softrev) }
 {
-    let mdln = Item::Ascii(text_out(alloc, mdln));
-    let softrev = Item::Ascii(text_out(alloc, softrev));
-    list(alloc, [mdln, softrev])
+    list(alloc, [Item::Ascii(mdln), Item::Ascii(softrev)])
 }
 
-// That communication is established, and what the tool tells of itself, which is taken out.
-fn established(alloc: Global, tool: &mut Identity) -> Result<Item, NoMemory>
-    ensures { IfOk result (λ item. view item ≡ L (code_data 0 ∷ (identity tool.old.mdln tool.old.softrev ∷ []))) }
+// That communication is established, and what the tool tells of itself.
+fn established(alloc: Global, mdln: Bytes, softrev: Bytes) -> Result<Item, NoMemory>
+    ensures { IfOk result (λ item. view item ≡ L (code_data 0 ∷ (identity mdln softrev ∷ []))) }
 {
     let commack = code(alloc, 0)?;
-    let identity = identity(alloc, &mut tool.mdln, &mut tool.softrev)?;
-    list(alloc, [commack, identity])
+    list(alloc, [commack, identity(alloc, mdln, softrev)?])
 }
 
 // What a remote command is answered.

@@ -74,6 +74,7 @@ went-none told door posts writes bytes = record {
   went_on = tt;
   given = given-as door.left door.left refl;
   back = back-as door.backs door.backs refl;
+  port = refl;
   links = refl;
   faults = refl;
   waits = climbed-none door.waits;
@@ -133,6 +134,7 @@ went-more {L} told door mid door' f k posts posts₁ posts' writes writes₁ wri
           (given-since told door mid door' f k posts posts₁ posts' writes writes₁ writes' bytes bytes₁ bytes' (Ok tt) w t);
       back = subst (λ (l : List L). AllBack l door.backs door'.backs) (sym backs)
           (back-since told door mid door' f k posts posts₁ posts' writes writes₁ writes' bytes bytes₁ bytes' (Ok tt) w t);
+      port = t.port ∙ w.port;
       links = links-since told door mid door' f k posts posts₁ posts' writes writes₁ writes' bytes bytes₁ bytes' (Ok tt) w t ∙ ap (λ (n : ℕ). raised door.links n) size;
       faults = t.ends.2 ∙ w.faults;
       waits = climbed-more door.waits mid.waits door'.waits w.waits t.waits;
@@ -155,6 +157,7 @@ host-ended told door mid door' f k posts posts₁ posts' writes writes₁ writes
   went_on = w.went_on;
   given = given-since told door mid door' f k posts posts₁ posts' writes writes₁ writes' bytes bytes₁ bytes' (Err e) w t;
   back = back-since told door mid door' f k posts posts₁ posts' writes writes₁ writes' bytes bytes₁ bytes' (Err e) w t;
+  port = t.port ∙ w.port;
   links = links-since told door mid door' f k posts posts₁ posts' writes writes₁ writes' bytes bytes₁ bytes' (Err e) w t;
   grew = reads-since told door mid door' f k posts posts₁ posts' writes writes₁ writes' bytes bytes₁ bytes' (Err e) w t;
   wrote = writes-since told door mid door' f k posts posts₁ posts' writes writes₁ writes' bytes bytes₁ bytes' (Err e) w t;

@@ -18,10 +18,11 @@ use Rattle.host_actor.proofs.SessionEnding.{session-turn}
 
 -- ---- no link came up
 
--- the door's list of links, of those that it took back, and its count of links are as before
+-- the door's list of links, of those that it took back, its port and its count of links are as before
 pub record NoneCame {L : Type 0} (door door' : DoorTold L) : Type 0 where
   pub left : door'.left ≡ door.left
   pub backs : door'.backs ≡ door.backs
+  pub port : door'.port ≡ door.port
   pub links : door'.links ≡ door.links
 
 module _ {L : Type 0} (told : L → LinkTold) (door door' : DoorTold L) (fulls wants : ℕ) (posts posts' writes : List Post) (bytes bytes' : List SessionBytes) (none : NoneCame door door') (waits : Moved door.waits door'.waits) (noted : bytes' ≡ bytes) where
@@ -33,6 +34,7 @@ module _ {L : Type 0} (told : L → LinkTold) (door door' : DoorTold L) (fulls w
     sessions = tt;
     given = given-as door.left door'.left none.left;
     back = back-as door.backs door'.backs none.backs;
+    port = none.port;
     links = none.links;
     waits = waits;
     grew = grew;
@@ -77,6 +79,7 @@ module _ {L : Type 0} (told : L → LinkTold) (door door' : DoorTold L) (fulls w
 record Passed {L : Type 0} (link back : L) (door door' : DoorTold L) : Type 0 where
   given : AllGiven (link ∷ []) door.left door'.left
   taken : AllBack (back ∷ []) door.backs door'.backs
+  port : door'.port ≡ door.port
   links : door'.links ≡ raised door.links 1
   waits : Moved door.waits door'.waits
   faults : door'.faults ≡ door.faults
@@ -86,6 +89,7 @@ passed : {L : Type 0} (link back : L) (door mid door' : DoorTold L) → Gave lin
 passed {L} link back door mid door' gave took = record {
   given = subst (λ (l : Option (List L)). AllGiven (link ∷ []) door.left l) (sym took.left) (given-one link door.left mid.left gave.left);
   taken = subst (λ (l : Option (List L)). AllBack (back ∷ []) l door'.backs) gave.backs (back-one back mid.backs door'.backs took.backs);
+  port = took.port ∙ gave.port;
   links = took.links ∙ gave.links;
   waits = inl (took.waits ∙ gave.waits);
   faults = took.faults ∙ gave.faults;
@@ -102,6 +106,7 @@ unmade told door door' fulls wants posts posts' writes bytes link behind e p gre
   sessions = tt;
   given = p.given;
   back = p.taken;
+  port = p.port;
   links = p.links;
   waits = p.waits;
   grew = grew;
@@ -217,6 +222,7 @@ session-ran {L} told door mid door' f w posts posts₁ posts' writes writes' byt
       sessions = (is, tt);
       given = p.given;
       back = p.taken;
+      port = p.port;
       links = p.links;
       waits = p.waits;
       grew = posts-of-session posts posts₁ posts' r.hosts r.behind (post_of event.LinkUp (answer.Session number)) up r.grew;

@@ -47,6 +47,7 @@ LinkedUp fulls wants posts posts' (Err _) = ⊥
 pub record Gave {L : Type 0} (link : L) (door door' : DoorTold L) : Type 0 where
   pub left : Given (Some link) door.left door'.left
   pub backs : door'.backs ≡ door.backs
+  pub port : door'.port ≡ door.port
   pub faults : door'.faults ≡ door.faults
   pub links : Counted true door.links door'.links
   pub waits : door'.waits ≡ door.waits
@@ -56,6 +57,7 @@ pub record Gave {L : Type 0} (link : L) (door door' : DoorTold L) : Type 0 where
 pub record TookBack {L : Type 0} (link : L) (door door' : DoorTold L) : Type 0 where
   pub backs : Grew door.backs door'.backs link
   pub left : door'.left ≡ door.left
+  pub port : door'.port ≡ door.port
   pub faults : door'.faults ≡ door.faults
   pub links : door'.links ≡ door.links
   pub waits : door'.waits ≡ door.waits
@@ -91,6 +93,7 @@ pub record TurnDid {L : Type 0} (told : L → LinkTold) (door door' : DoorTold L
   pub sessions : AreSessions told (last_session last)
   pub given : AllGiven (last_given last) door.left door'.left
   pub back : AllBack (last_back last) door.backs door'.backs
+  pub port : door'.port ≡ door.port
   pub links : door'.links ≡ raised door.links (length (last_given last))
   pub waits : Moved door.waits door'.waits
   pub grew : posts' ≡ posts ++ (all_reads (last_session last) ++ behind)
@@ -111,6 +114,7 @@ pub record WentSoFar {L : Type 0} (told : L → LinkTold) (door door' : DoorTold
   pub went_on : AllGoOn went
   pub given : AllGiven (map (λ (s : Session L). s.given) went) door.left door'.left
   pub back : AllBack (map (λ (s : Session L). s.back) went) door.backs door'.backs
+  pub port : door'.port ≡ door.port
   pub links : door'.links ≡ raised door.links (length went)
   pub faults : door'.faults ≡ door.faults
   pub waits : Climbed door.waits door'.waits

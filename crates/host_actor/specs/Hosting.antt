@@ -81,6 +81,7 @@ pub record HostDid {L : Type 0} (told : L → LinkTold) (door door' : DoorTold L
   pub went_on : AllGoOn went
   pub given : AllGiven (map (λ (s : Session L). s.given) went ++ last_given last) door.left door'.left
   pub back : AllBack (map (λ (s : Session L). s.back) went ++ last_back last) door.backs door'.backs
+  pub port : door'.port ≡ door.port
   pub links : door'.links ≡ raised door.links (length went + length (last_given last))
   pub grew : posts' ≡ posts ++ (all_reads (went ++ last_session last) ++ behind)
   pub wrote : writes' ≡ writes ++ all_writes (went ++ last_session last)

@@ -30,20 +30,23 @@ link_told left read_faults ends held write_faults refusals is_shut link = record
   is_shut = is_shut link.1;
 }
 
--- what a door tells: the links that are left to be given and those that were handed back, where it tells them, and its counts
+-- what a door tells: the links that are left to be given, those that were handed back and the port at which it listens, where it
+-- tells them, and its counts
 pub record DoorTold (L : Type 0) : Type 0 where
   pub left : Option (List L)
   pub backs : Option (List L)
+  pub port : Option ℕ
   pub faults : ℕ
   pub links : ℕ
   pub waits : ℕ
   pub closings : ℕ
 
 -- what this door tells
-abbrev pub door_told : {X L : Type 0} → (X → Option (List L)) → (X → Option (List L)) → (X → ℕ) → (X → ℕ) → (X → ℕ) → (X → ℕ) → X → DoorTold L
-door_told left backs faults links waits closings door = record {
+abbrev pub door_told : {X L : Type 0} → (X → Option (List L)) → (X → Option (List L)) → (X → Option ℕ) → (X → ℕ) → (X → ℕ) → (X → ℕ) → (X → ℕ) → X → DoorTold L
+door_told left backs port faults links waits closings door = record {
   left = left door;
   backs = backs door;
+  port = port door;
   faults = faults door;
   links = links door;
   waits = waits door;

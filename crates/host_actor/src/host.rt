@@ -35,7 +35,7 @@ pub fn run_host<R: Threads + Wait + Sync, D: Desk + Send, E: Desk + Send, X: Doo
     gate: &G,
 ) -> ActorEnd
     ensures did { HostDid (link_told X.In.left X.In.faults X.In.ends X.Out.held X.Out.faults X.Out.refusals X.Out.is_shut)
-        (door_told X.left X.backs X.faults X.links X.waits X.closings door.old) (door_told X.left X.backs X.faults X.links X.waits X.closings door.new)
+        (door_told X.left X.backs X.opened_at X.faults X.links X.waits X.closings door.old) (door_told X.left X.backs X.opened_at X.faults X.links X.waits X.closings door.new)
         (D.fulls reader.new) (D.wants reader.new) (D.posts reader.old) (D.posts reader.new) (E.posts writer.old) (E.posts writer.new)
         bytes.old.items bytes.new.items result }
     // One of its posts, or of its sessions' posts, was answered so.
@@ -63,7 +63,7 @@ fn host_turn<R: Threads + Wait + Sync, D: Desk + Send, E: Desk + Send, X: Door, 
     gate: &G,
 ) -> Result<(), ActorEnd>
     ensures did { TurnDid (link_told X.In.left X.In.faults X.In.ends X.Out.held X.Out.faults X.Out.refusals X.Out.is_shut)
-        (door_told X.left X.backs X.faults X.links X.waits X.closings door.old) (door_told X.left X.backs X.faults X.links X.waits X.closings door.new)
+        (door_told X.left X.backs X.opened_at X.faults X.links X.waits X.closings door.old) (door_told X.left X.backs X.opened_at X.faults X.links X.waits X.closings door.new)
         (D.fulls reader.new) (D.wants reader.new) (D.posts reader.old) (D.posts reader.new) (E.posts writer.old) (E.posts writer.new)
         bytes.old.items bytes.new.items result }
     ensures full { result ≡ Err ActorEnd.Full → (0 < D.fulls reader.new) ⊎ (0 < E.fulls writer.new) }
@@ -98,9 +98,9 @@ fn meet<R: Threads + Wait + Sync, D: Desk + Send, E: Desk + Send, X: Door, G: Ga
 ) -> Result<(), ActorEnd>
     requires { vec_len bytes.old < vec_capacity bytes.old }
     ensures did { (before : DoorTold (X.In × X.Out))
-        → Gave (link_in, link_out) before (door_told X.left X.backs X.faults X.links X.waits X.closings door.old)
+        → Gave (link_in, link_out) before (door_told X.left X.backs X.opened_at X.faults X.links X.waits X.closings door.old)
         → TurnDid (link_told X.In.left X.In.faults X.In.ends X.Out.held X.Out.faults X.Out.refusals X.Out.is_shut)
-        before (door_told X.left X.backs X.faults X.links X.waits X.closings door.new)
+        before (door_told X.left X.backs X.opened_at X.faults X.links X.waits X.closings door.new)
         (D.fulls reader.new) (D.wants reader.new) (D.posts reader.old) (D.posts reader.new) (E.posts writer.old) (E.posts writer.new)
         bytes.old.items bytes.new.items result }
     ensures full { result ≡ Err ActorEnd.Full → (0 < D.fulls reader.new) ⊎ (0 < E.fulls writer.new) }

@@ -73,7 +73,7 @@ fn built(seen: &Seen<'_>, alloc: Global, all: &[u32]) -> Result<Vec<u32>, AllocE
     Ok(vids)
 }
 
-// The numbers of the status variables that are built, rising.
+// The numbers of the status variables that have a value, rising.
 fn svids(seen: &Seen<'_>, alloc: Global) -> Result<Vec<u32>, AllocError>
     ensures { IfOk result (λ vids. vids.items ≡ svids seen.now) }
 {

@@ -202,7 +202,7 @@ fn asked_control_done(
     ensures done { IfOk result (λ told. done_view told plant.new ≡ control_done plant.old kind.now request.now) }
     ensures sendable { IfOk result (λ told. CanBeSent told.reply) }
 {
-    let error = control_error(is_local(plant), *kind, request, plant.jobs());
+    let error = control_error(alloc, is_local(plant), *kind, request, plant.jobs())?;
     let reply = ShopReply::S14F10(request.name, object_acknowledged(alloc, error)?);
     let rows = match error {
         Some(_) => Rows::none(alloc),

@@ -2,7 +2,7 @@
 use Rattle.std.proofs.Common.{◌≡◌, ◌+◌, ◌*◌, Bool, if◌then◌else◌, Result, OnOk, flat_map, ◌<◌, ◌≤◌, ℕ, zero, suc, List, [], ◌∷◌, ◌++◌, length, take, map, get_or, arith, refl, ap, sym, ◌∙◌, add-one, append-nil, append_assoc}
 use Rattle.std.proofs.lemmas.List.Concat.{flat_map_single}
 use Rattle.item_model.specs.declared.item.Item.{Item}
-use Rattle.item_model.specs.Data.{item, added}
+use Rattle.item_model.specs.Data.{item, added, first_items}
 use Rattle.item_model.specs.Height.{height, highest}
 use Rattle.item_model.specs.Plain.{plain_head, truth_bytes, plain, plain_all, count_of}
 use Rattle.item_model.specs.Sendable.{HasShortBodies, HaveShortBodies}
@@ -15,6 +15,12 @@ count_of-items_of (x ∷ xs) = omega (arith, count_of-items_of xs)
 pub items_of-push : (xs : List Item) (x : Item) → items_of (xs ++ x ∷ []) ≡ added (items_of xs) (view x)
 items_of-push [] x = refl
 items_of-push (y ∷ xs) x = ap (λ ds. item (view y) ds) (items_of-push xs x)
+
+-- the first of some items are the first of what they say
+pub items_of-first : (xs : List Item) (n : ℕ) → items_of (take n xs) ≡ first_items n (items_of xs)
+items_of-first xs zero = refl
+items_of-first [] (suc n) = refl
+items_of-first (x ∷ xs) (suc n) = ap (λ ds. item (view x) ds) (items_of-first xs n)
 
 pub bodies_at : (xs : List Item) (i : ℕ) (d : Item) → HaveShortBodies (items_of xs) → i < length xs → HasShortBodies (view (get_or xs i d))
 bodies_at [] i d bodies within = absurd (omega arith)

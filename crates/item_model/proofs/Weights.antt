@@ -1,13 +1,12 @@
 -- An item takes at most as many bytes as it weighs, and a list of bounded items is bounded.
-use Rattle.std.proofs.Common.{◌≡◌, ◌<◌, ◌≤◌, ◌+◌, ◌*◌, ◌^◌, ℕ, zero, suc, ℤ, Bool, true, false, List, [], ◌∷◌, ◌++◌, length, map, flat_map, max, refl, ap, ◌∙◌, arith, nat_lt, if◌then◌else◌, length-append}
+use Rattle.std.proofs.Common.{◌≡◌, ◌<◌, ◌≤◌, ◌+◌, ◌*◌, ◌^◌, ℕ, zero, suc, Bool, true, false, List, [], ◌∷◌, ◌++◌, length, flat_map, refl, ap, arith, nat_lt, if◌then◌else◌, length-append}
 use Rattle.std.specs.Prelude.{drop}
-use Rattle.std.specs.List.{All}
-use Rattle.std.specs.Int.{Width, w8, w16, w32, w64, to_be_bytes, cast_unsigned}
+use Rattle.std.specs.Int.{w8, w16, w32, w64, to_be_bytes, cast_unsigned}
 use Rattle.gem_ids.specs.Texts.{IsText}
 use Rattle.item_model.specs.Data.{Data, DataList, list, binary, boolean, ascii, i1, i2, i4, i8, u1, u2, u4, u8, no_items, item, added}
-use Rattle.item_model.specs.Height.{height, highest}
+use Rattle.item_model.specs.Height.{highest}
 use Rattle.item_model.specs.Plain.{plain, plain_all, plain_head, count_of, unsigned_bytes, signed_bytes, truth_bytes}
-use Rattle.item_model.specs.Sendable.{IsLength, IsSendable, HasShortBodies, HaveShortBodies}
+use Rattle.item_model.specs.Sendable.{IsSendable, HaveShortBodies}
 use Rattle.item_model.specs.Weight.{weight, weight_all, IsBounded, AreBounded}
 
 head_most : (code n : ℕ) → length (plain_head code n) ≤ 4

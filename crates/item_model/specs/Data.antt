@@ -1,5 +1,5 @@
 -- What an item says: its kind and its elements, without where it lies in memory.
-use Rattle.std.specs.Prelude.{ℕ, ℤ, Bool, List}
+use Rattle.std.specs.Prelude.{ℕ, zero, suc, ℤ, Bool, List}
 
 mutual
   -- one item (SEMI E5, data items): I4 has signed numbers of four bytes, U4 unsigned ones
@@ -26,3 +26,9 @@ mutual
 abbrev pub added : DataList → Data → DataList
 added no_items d = item d no_items
 added (item e ds) d = item e (added ds d)
+
+-- so many items of a list from the first on; all of them where there are no more
+abbrev pub first_items : ℕ → DataList → DataList
+first_items zero ds = no_items
+first_items (suc n) no_items = no_items
+first_items (suc n) (item d ds) = item d (first_items n ds)

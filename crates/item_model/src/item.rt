@@ -1,5 +1,6 @@
 ghost use Rattle.std.specs.Prelude.{◌≡◌, OnOk, OnErr};
-ghost use Rattle.item_model.specs.Data.{no_items, added};
+ghost use Rattle.item_model.specs.Data.{no_items, added, first_items};
+ghost use Rattle.item_model.specs.Plain.{count_of};
 ghost use Rattle.item_model.specs.View.{view, items_of};
 
 use crate::elements::{Bools, Bytes, I8s, I16s, I32s, I64s, U8s, U16s, U32s, U64s};
@@ -103,6 +104,20 @@ impl Items {
     {
         self.items.push(item)?;
         Ok(())
+    }
+
+    /// How many items the list has.
+    pub fn len(&self) -> usize
+        ensures { result ≡ count_of self.now }
+    {
+        self.items.len()
+    }
+
+    /// Keeps so many items from the first on and drops those behind them; all stay where there are no more. Takes no memory.
+    pub fn truncate(&mut self, count: usize)
+        ensures { self.new ≡ first_items count self.old }
+    {
+        self.items.truncate(count);
     }
 
     /// The items of a vector. Takes no memory.

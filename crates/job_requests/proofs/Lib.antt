@@ -3,3 +3,4 @@ pub mod Named
 pub mod Lists
 pub mod Parts
 pub mod Refused
+pub mod Repeats

@@ -1,6 +1,6 @@
 //! Control jobs that are created (SEMI E94, S14F9).
 
-ghost use Rattle.std.specs.Prelude.{◌≡◌, List, ℕ, true, false, not, None, IfOk, codes, is_some, if◌then◌else◌, Some, Bool, option_to_list};
+ghost use Rattle.std.specs.Prelude.{◌≡◌, ◌≤◌, List, ℕ, true, false, not, None, IfOk, IsOk, length, codes, is_some, if◌then◌else◌, Some, Bool, option_to_list};
 ghost use Rattle.std.specs.Str.{bytes_eq};
 ghost use Rattle.control_job.specs.Names.{are_named, is_each_once};
 ghost use Rattle.control_job.specs.Jobs.{most_jobs};
@@ -13,8 +13,8 @@ ghost use Rattle.request_model.specs.Attributes.{Attribute};
 ghost use Rattle.request_model.specs.Requests.{is_job_name, asked_control, request_error, control_error, control_rows};
 
 use crate::attributes::{are_taken, jobs_named, object_named, starts_itself};
-use crate::cancelling::is_in;
 use crate::names::{is_job_name, is_there, job_name, process_id};
+use crate::once::is_each_once;
 use control_job::CtlFault;
 use gem_ids::{JobId, Listed, Text80};
 use gem_tables::Firing;
@@ -46,28 +46,33 @@ pub fn control_request(
 /// `NotOffered` where the type isn't ControlJob, or the attributes aren't taken; `UnknownObject` where its name hasn't 1 to 64 bytes;
 /// `NameTaken` where one of its name is kept that isn't COMPLETED; `NoMaterial` where it names no process job, or one twice;
 /// `UnknownObject` where one that it names isn't there; `NotNow` where one has a control job; `NoSpace` where 32 are kept that aren't
-/// COMPLETED (SEMI E94, S14F9; this tool's profile, messages). `None` where it is created. Takes no memory.
+/// COMPLETED (SEMI E94, S14F9; this tool's profile, messages). `None` where it is created. `AllocError` comes only of more than 64
+/// names, where there is no memory for a copy of them; fewer take none.
 pub fn control_error(
+    alloc: Global,
     local: bool,
     kind: Text80,
     request: &ControlRequest,
     jobs: &Jobs,
-) -> Option<JobError>
-    ensures error { result ≡ request_error local kind request.now jobs.now }
-    ensures message { (attributes : List Attribute) → request.now ≡ asked_control attributes → result ≡ control_error local kind attributes jobs.now }
-    ensures named { result ≡ None → is_job_name request.now.name ≡ true }
-    ensures there { result ≡ None → is_any_missing request.now.jobs jobs.now ≡ false }
+) -> Result<Option<JobError>, AllocError>
+    ensures error { IfOk result (λ error. error ≡ request_error local kind request.now jobs.now) }
+    ensures message { (attributes : List Attribute) → request.now ≡ asked_control attributes → IfOk result (λ error. error ≡ control_error local kind attributes jobs.now) }
+    ensures named { IfOk result (λ error. error ≡ None → is_job_name request.now.name ≡ true) }
+    ensures there { IfOk result (λ error. error ≡ None → is_any_missing request.now.jobs jobs.now ≡ false) }
+    ensures few { length request.now.jobs ≤ 64 → IsOk result }
 {
     if local {
-        return Some(JobError::NotNow);
+        return Ok(Some(JobError::NotNow));
     }
     if !is_control_job(kind) || !request.is_taken {
-        return Some(JobError::NotOffered);
+        return Ok(Some(JobError::NotOffered));
     }
     if !is_job_name(request.name) {
-        return Some(JobError::UnknownObject);
+        return Ok(Some(JobError::UnknownObject));
     }
-    creation_error(job_name(request.name), request.jobs.as_slice(), jobs)
+    let names = request.jobs.as_slice();
+    let once = is_each_once(alloc, names)?;
+    Ok(creation_error(job_name(request.name), names, once, jobs))
 }
 
 // Whether the type of an object is that of a control job.
@@ -77,24 +82,26 @@ fn is_control_job(kind: Text80) -> bool
     kind.as_bytes() == b"ControlJob".as_slice()
 }
 
-// Why one isn't created of a name that is one.
-fn creation_error(id: JobId, names: &[Text80], jobs: &Jobs) -> Option<JobError>
+// Why one isn't created of a name that is one, where it is known whether each process job is named once.
+fn creation_error(id: JobId, names: &[Text80], once: bool, jobs: &Jobs) -> Option<JobError>
+    requires { once ≡ is_each_once names.now }
     ensures error { result ≡ of_control_fault (control_fault id names.now jobs.now) }
     ensures there { result ≡ None → is_any_missing names.now jobs.now ≡ false }
 {
     // With one process job only the control job's own name and the room decide.
     match jobs.control().create_fault(id, &[id]) {
         Some(CtlFault::NameTaken) => Some(JobError::NameTaken),
-        fault => named_error(names, jobs, fault.is_some()),
+        fault => named_error(names, once, jobs, fault.is_some()),
     }
 }
 
 // Why one isn't created whose name is free.
-fn named_error(names: &[Text80], jobs: &Jobs, full: bool) -> Option<JobError>
+fn named_error(names: &[Text80], once: bool, jobs: &Jobs, full: bool) -> Option<JobError>
+    requires { once ≡ is_each_once names.now }
     ensures error { result ≡ of_control_fault (if not (are_named names.now) then Some NoJobs else (if is_any_missing names.now jobs.now then Some NotThere else (if is_any_owned names.now jobs.now then Some HasControlJob else (if full then Some (NoSpace most_jobs) else None)))) }
     ensures there { result ≡ None → is_any_missing names.now jobs.now ≡ false }
 {
-    if names.is_empty() || !is_each_once(names) {
+    if names.is_empty() || !once {
         Some(JobError::NoMaterial)
     } else if is_any_missing(names, jobs) {
         Some(JobError::UnknownObject)
@@ -105,20 +112,6 @@ fn named_error(names: &[Text80], jobs: &Jobs, full: bool) -> Option<JobError>
     } else {
         None
     }
-}
-
-// Whether each of these names is given once.
-fn is_each_once(names: &[Text80]) -> bool
-    ensures { result ≡ is_each_once names.now }
-{
-    let mut left = names;
-    while let [first, rest @ ..] = left {
-        if is_in(rest, *first) {
-            return false;
-        }
-        left = rest;
-    }
-    true
 }
 
 // Whether one of these process jobs isn't kept.

@@ -4,7 +4,7 @@
 //!
 //! It knows no state of the tool but the jobs, and whether it is ON-LINE LOCAL, and but for `make_head` changes nothing: a
 //! caller asks for the error of a message, answers it, and where there is none lets the jobs create what is asked for or fires the
-//! rows. Only what builds a list takes memory. Begin with `command_named` and `command_error`.
+//! rows. Only what builds a list takes memory, and `control_error` of more than 64 names. Begin with `command_named` and `command_error`.
 #![tactic(auto)]
 
 mod attributes;
@@ -12,6 +12,7 @@ mod cancelling;
 mod command;
 mod control;
 mod names;
+mod once;
 mod process;
 mod queue;
 

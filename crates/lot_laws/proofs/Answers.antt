@@ -46,7 +46,7 @@ use Rattle.owed_laws.specs.Owed.{owed_to}
 use Rattle.owed_laws.specs.Undisturbed.{Undisturbed, SubstratesStand}
 use Rattle.owed_laws.proofs.Columns.{OneLess}
 use Rattle.owed_laws.proofs.Agreeing.{agree-undisturbed, agree-owed}
-use Rattle.owed_laws.proofs.Decreasing.{done_pick-falls, done_place-falls, done_align-falls, processed_row-falls}
+use Rattle.owed_laws.proofs.Decreasing.{done_pick-falls, done_place-falls, done_align-falls, finished-falls}
 use Rattle.lot_laws.specs.Lot.{IsInJob, Waits, Executes}
 use Rattle.lot_laws.proofs.Standing.{on_base, undisturbed}
 use Rattle.lot_laws.proofs.Substrates.{found_back}
@@ -260,7 +260,7 @@ module _ (number : ℕ) (counted : ℕ → Bool) (f : ToolFloor) (e : Executes n
       row_3 (Some x) q s =
           let is = is_running x.states.processing (and_parts (is_among processing_number (processing.InProcess ∷ []) x.states.processing) true s).0 in
           let goes : state_behind 3 x ≡ 2 = ap (λ (p : Processing). processing_number (after processing_number processing_table 3 p)) is in
-          let less : OneLess counted (picture f) (worked n (state_behind 3 x) (picture f)) = subst (λ (k : ℕ). OneLess counted (picture f) (worked n k (picture f))) (sym goes) (processed_row-falls counted (picture f) n d 3 but.valid u at (running x q is) refl) in
+          let less : OneLess counted (picture f) (worked n (state_behind 3 x) (picture f)) = subst (λ (k : ℕ). OneLess counted (picture f) (worked n k (picture f))) (sym goes) (finished-falls counted (picture f) n d 2 but.valid u at (running x q is) refl) in
           let valid = but_finished (picture f) n (state_behind 3 x) (ap law.is_finished goes) but.valid in
           (worked-executes number counted f but.base e n 3 x q member (running x q is) valid less.0, ap (λ (k : ℕ). k + 1) (worked_owed number counted f but.base e n 3 x q member (running x q is) valid less.0) ∙ less.1)
 
@@ -269,6 +269,6 @@ module _ (number : ℕ) (counted : ℕ → Bool) (f : ToolFloor) (e : Executes n
       row_4 (Some x) q s =
           let is = is_running x.states.processing (and_parts (is_among processing_number (processing.InProcess ∷ []) x.states.processing) true s).0 in
           let goes : state_behind 4 x ≡ 3 = ap (λ (p : Processing). processing_number (after processing_number processing_table 4 p)) is in
-          let less : OneLess counted (picture f) (worked n (state_behind 4 x) (picture f)) = subst (λ (k : ℕ). OneLess counted (picture f) (worked n k (picture f))) (sym goes) (processed_row-falls counted (picture f) n d 4 but.valid u at (running x q is) refl) in
+          let less : OneLess counted (picture f) (worked n (state_behind 4 x) (picture f)) = subst (λ (k : ℕ). OneLess counted (picture f) (worked n k (picture f))) (sym goes) (finished-falls counted (picture f) n d 3 but.valid u at (running x q is) refl) in
           let valid = but_finished (picture f) n (state_behind 4 x) (ap law.is_finished goes) but.valid in
           (worked-executes number counted f but.base e n 4 x q member (running x q is) valid less.0, ap (λ (k : ℕ). k + 1) (worked_owed number counted f but.base e n 4 x q member (running x q is) valid less.0) ∙ less.1)

@@ -1,12 +1,22 @@
 //! Laws of a control job that executes undisturbed, for proofs to cite. Each function is empty: what it ensures holds of the definitions.
 
-ghost use Rattle.std.specs.Prelude.{◌≡◌, ℕ, ◌*◌, Bool, true, false, List, [], ◌∷◌, Some, None};
+ghost use Rattle.std.specs.Prelude.{◌≡◌, ◌≤◌, ℕ, ◌*◌, Bool, true, false, List, [], ◌∷◌, Option, Some, None};
+ghost use Rattle.std.specs.List.{AllByRecursion};
 ghost use Rattle.gem_tables.specs.declared.firing.Firing.{Firing};
 ghost use Rattle.tool_tasks.specs.declared.task.Command.{Command};
 ghost use Rattle.tool_tasks.specs.declared.task.Task.TheVariants as task;
 ghost use Rattle.robot_moves.specs.declared.module.Module.TheVariants.{Busy};
-ghost use Rattle.robot_moves.specs.Modules.{module_at};
-ghost use Rattle.floor_model.specs.Signals.{done_row};
+ghost use Rattle.robot_moves.specs.Modules.{module_at, is_up, is_open};
+ghost use Rattle.load_port.specs.Caack.{is_done_code};
+ghost use Rattle.load_port.specs.Ports.{most_ports, port_numbered};
+ghost use Rattle.carrier.specs.declared.action.CarrierAction.{CarrierAction};
+ghost use Rattle.carrier.specs.declared.carrier.Carrier.{Carrier};
+ghost use Rattle.carrier.specs.Carriers.{has_name, carrier_numbered};
+ghost use Rattle.shop_floor.specs.Floor.{arrival_of};
+ghost use Rattle.shop_floor.specs.Machines as shop;
+ghost use Rattle.shop_floor.specs.Requests.{came, carrier_code, carrier_written};
+ghost use Rattle.shop_floor.specs.Rows.{owner};
+ghost use Rattle.floor_model.specs.Signals.{done_row, done_rows, closing_rows, lost_rows};
 ghost use Rattle.floor_moves.specs.Floor.{chamber};
 ghost use Rattle.gem_tables.specs.Table.{firing, is_one_of};
 ghost use Rattle.process_job.specs.Jobs.{job_numbered as process_numbered};
@@ -19,11 +29,12 @@ ghost use Rattle.tool_jobs.specs.Rows.{control_starts, control_ready};
 ghost use Rattle.tool_jobs.specs.Creating.{with_process, with_control, control_fault};
 ghost use Rattle.tool_jobs.specs.Together.{AreTogether};
 ghost use Rattle.tool_tasks.specs.declared.recipes.Recipe.{Recipe};
-ghost use Rattle.floor_model.specs.Floor.{ToolFloor, opening, with_jobs, fetched};
-ghost use Rattle.floor_model.specs.Jobs.{is_first_here};
+ghost use Rattle.floor_model.specs.Floor.{ToolFloor, opening, with_shop, with_jobs, fetched};
+ghost use Rattle.floor_model.specs.Jobs.{is_first_here, is_any_of_carrier};
 ghost use Rattle.floor_model.specs.Machines.{floor_starts, floor_fired, floor_least};
 ghost use Rattle.place_laws.specs.Picture.{picture};
 ghost use Rattle.place_laws.specs.Sound.{Sound, SoundBut};
+ghost use Rattle.floor_laws.specs.Rows.{is_common, listed};
 ghost use Rattle.owed_laws.specs.Owed.{owed_to, number_of};
 ghost use Rattle.owed_laws.specs.Undisturbed.{AreUnaligned, Undisturbed};
 ghost use Rattle.queue_laws.specs.Started.{AreStarted};
@@ -145,4 +156,50 @@ pub fn each_substrate_is_in_a_job_that_is_kept()
     ensures opening { (ports chambers : ℕ) (recipes : List Recipe) → AreInKeptJobs (opening ports chambers recipes) }
     ensures process { (f : ToolFloor) (n row : ℕ) (j : ProcessJob) → AreInKeptJobs f → Sound f
         → process_numbered n f.jobs.process.kept ≡ Some j → AreInKeptJobs (floor_fired (firing 14 n row) f) }
+{}
+
+/// An unfinished substrate in its slot isn't aligned, wherever the floor is in order (`InOrder`). It is in order as the tool begins, and
+/// stays so behind the least row that is ready by itself, behind each row that keeps it wherever it starts, and by what the equipment and
+/// the operator say: by all rows that this fires, one behind the other.
+pub fn an_unfinished_substrate_in_its_slot_is_not_aligned()
+    ensures unaligned { (f : ToolFloor) → InOrder f → AreUnaligned (picture f) }
+    ensures begins { (ports chambers : ℕ) (recipes : List Recipe) → ports ≤ most_ports → InOrder (opening ports chambers recipes) }
+    ensures ready { (x : Firing) (f : ToolFloor) → floor_least f ≡ Some x → InOrder f → InOrder (floor_fired x f) }
+    ensures alone { (x : Firing) (f : ToolFloor) → floor_starts x f ≡ true → is_common x ≡ true → InOrder f → InOrder (floor_fired x f) }
+    ensures fetched { (m : ℕ) (f : ToolFloor) → InOrder f → InOrder (fetched m f) }
+    ensures done { (m command : ℕ) (f : ToolFloor) → is_open command (module_at m f.modules) ≡ true → InOrder f
+        → InOrder (listed (done_rows m f) f) }
+    ensures failed { (m command : ℕ) (f : ToolFloor) → is_open command (module_at m f.modules) ≡ true → InOrder f
+        → InOrder (listed (closing_rows 8 m f) f) }
+    ensures down { (m : ℕ) (f : ToolFloor) → is_up (module_at m f.modules) ≡ true → InOrder f → InOrder (listed (closing_rows 9 m f) f) }
+    ensures lost { (sub : List ℕ) (f : ToolFloor) → InOrder f → InOrder (listed (lost_rows sub f) f) }
+{}
+
+/// The floor stays in order where no row is ready at the load ports and the carriers, and a carrier is placed at a port or removed from
+/// one; by what the host asks of carriers and is done; as jobs are created; and as the order of the queue changes.
+pub fn the_floor_stays_in_order_as_carriers_and_jobs_come_and_go()
+    ensures placed { (port : ℕ) (name : Option (List ℕ)) (slots : List ℕ) (f : ToolFloor) → floor_starts (firing 4 port 3) f ≡ true
+        → shop.floor_least f.shop ≡ None → InOrder f
+        → InOrder (floor_fired (firing 4 port 3) (with_shop (came port (arrival_of port name slots f.shop.carriers) f.shop) f)) }
+    ensures removed { (port : ℕ) (f : ToolFloor) → floor_starts (firing 4 port 5) f ≡ true
+        → floor_starts (firing 7 port 6) (floor_fired (firing 4 port 5) f) ≡ true → shop.floor_least f.shop ≡ None → InOrder f
+        → InOrder (floor_fired (firing 7 port 6) (floor_fired (firing 4 port 5) f)) }
+    ensures left { (port : ℕ) (f : ToolFloor) → floor_starts (firing 4 port 5) f ≡ true
+        → floor_starts (firing 7 port 6) (floor_fired (firing 4 port 5) f) ≡ false → InOrder f
+        → InOrder (floor_fired (firing 4 port 5) f) }
+    ensures written { (a : CarrierAction) (f : ToolFloor) → is_done_code (carrier_code f.shop a) ≡ true → InOrder f
+        → InOrder (with_shop (carrier_written a f.shop) f) }
+    ensures unbound { (port : ℕ) (f : ToolFloor) → floor_starts (firing 7 port 2) f ≡ true
+        → ((name : List ℕ) → owner (port_numbered port f.shop.ports) ≡ Some name
+        → AllByRecursion (λ (c : Carrier). has_name name c ≡ true → c.present ≡ true → ⊥) f.shop.carriers) → InOrder f
+        → InOrder (floor_fired (firing 7 port 2) f) }
+    ensures cancelled { (n : ℕ) (c : Carrier) (f : ToolFloor) → carrier_numbered n f.shop.carriers ≡ Some c
+        → floor_starts (firing 10 n 4) f ≡ true → is_any_of_carrier c.name f.jobs ≡ false → InOrder f
+        → InOrder (floor_fired (firing 10 n 4) f) }
+    ensures process { (spec : JobSpec) (f : ToolFloor) → create_fault spec f.jobs.process ≡ None → InOrder f
+        → InOrder (with_jobs (with_process spec f.jobs) f) }
+    ensures control { (name : List ℕ) (named : List (List ℕ)) (auto : Bool) (f : ToolFloor) → control_fault name named f.jobs ≡ None
+        → InOrder f → InOrder (with_jobs (with_control name named auto f.jobs) f) }
+    ensures head { (name : List ℕ) (f : ToolFloor) → InOrder f
+        → InOrder (with_jobs (record f.jobs { control = headed name f.jobs.control }) f) }
 {}

@@ -1,5 +1,5 @@
 -- Counts of faults and of answers 0, which tell that an object outside has failed or has ended.
-use Rattle.std.specs.Prelude.{◌≡◌, ℕ, ◌+◌, ◌-◌, ◌^◌, ◌<◌, ◌⊎◌, Bool, if◌then◌else◌, List, min}
+use Rattle.std.specs.Prelude.{◌≡◌, ℕ, ◌+◌, ◌-◌, ◌^◌, ◌<◌, ◌⊎◌, Bool, if◌then◌else◌, List, Option, min}
 
 -- the count rose, or it stands at the greatest number that it holds (this tool's profile, faults of the outside)
 abbrev pub Rose : ℕ → ℕ → Type 0
@@ -49,8 +49,10 @@ pub record LinkOutCounts : Type 0 where
   -- whether it was shut
   pub is_shut : Bool
 
--- a door that tells no content (this tool's profile, links and doors of the system)
+-- a door that tells no links (this tool's profile, links and doors of the system)
 pub record DoorCounts : Type 0 where
+  -- the port at which it was asked to listen last
+  pub port : Option ℕ
   -- how many calls failed
   pub faults : ℕ
   -- how many links were given

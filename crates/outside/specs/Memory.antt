@@ -1,5 +1,5 @@
 -- What sources, sinks, doors and clocks in memory are, without how they lie there.
-use Rattle.std.specs.Prelude.{ℕ, List, Bool, false, ◌&&◌, nat_lt, ◌==◌, Result, Ok, Err}
+use Rattle.std.specs.Prelude.{ℕ, List, Option, Bool, false, ◌&&◌, nat_lt, ◌==◌, Result, Ok, Err}
 use Rattle.gem_ids.specs.declared.moment.Moment.{Moment}
 
 -- a source in memory (this tool's profile, sources and sinks in memory)
@@ -40,6 +40,8 @@ pub record Meeting (L : Type 0) : Type 0 where
   pub left : List L
   -- whether the answer behind the last one is Closed
   pub is_closing : Bool
+  -- the port at which it was asked to listen last
+  pub port : Option ℕ
   -- the links that were handed back and for which there was room
   pub backs : List L
   -- for how many there is room at all

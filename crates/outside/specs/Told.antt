@@ -18,6 +18,10 @@ NothingLeft left = MatchOption left ⊤ (λ bytes. bytes ≡ [])
 abbrev pub Whole : Option (List ℕ) → List ℕ → Type 0
 Whole left text = MatchOption left ⊤ (λ bytes. bytes ≡ text)
 
+-- where the door tells the port at which it listens, it is this one
+abbrev pub AtPort : Option ℕ → ℕ → Type 0
+AtPort port number = MatchOption port ⊤ (λ told. told ≡ number)
+
 -- these bytes were put behind what was held
 abbrev pub Written : Option (List ℕ) → Option (List ℕ) → List ℕ → Type 0
 Written None new bytes = ⊤

@@ -1,7 +1,7 @@
 ghost use Rattle.std.specs.Prelude.{◌≡◌, ℕ, ◌<◌, ◌≤◌, List, Option, OnOk, OnErr};
 ghost use Rattle.outside.specs.Counts.{Rose, Counted};
 ghost use Rattle.outside.specs.Doors.{link_given, gave_link, was_early, was_closed};
-ghost use Rattle.outside.specs.Told.{Given, Grew};
+ghost use Rattle.outside.specs.Told.{AtPort, Given, Grew};
 
 use crate::link::{LinkIn, LinkOut};
 use crate::met::Met;
@@ -21,6 +21,9 @@ pub trait Door {
     /// The links that were handed back, the first of them first, where the door tells them.
     ghost backs: { Self → Option (List (Self.In × Self.Out)) };
 
+    /// The port at which it was asked to listen last, where the door tells it.
+    ghost opened_at: { Self → Option ℕ };
+
     /// How often a call failed.
     ghost faults: { Self → ℕ };
 
@@ -36,6 +39,7 @@ pub trait Door {
     /// Begins to listen at a port. `Failed` comes only where the door's own count of faults rose in this call, and the
     /// count rises at no other answer.
     fn open(&mut self, port: u16) -> Result<(), Failed>
+        ensures port { AtPort (opened_at self.new) port }
         ensures failed { OnErr result (Rose (faults self.old) (faults self.new)) }
         ensures unfailed { OnOk result (faults self.new ≡ faults self.old) }
         ensures faults_stay { faults self.old ≤ faults self.new }
@@ -51,6 +55,7 @@ pub trait Door {
     fn accept(&mut self) -> Result<Met<Self::In, Self::Out>, Failed>
         ensures given { Given (link_given result) (left self.old) (left self.new) }
         ensures backs { backs self.new ≡ backs self.old }
+        ensures port { opened_at self.new ≡ opened_at self.old }
         ensures links { Counted (gave_link result) (links self.old) (links self.new) }
         ensures waits { Counted (was_early result) (waits self.old) (waits self.new) }
         ensures closings { Counted (was_closed result) (closings self.old) (closings self.new) }
@@ -62,6 +67,7 @@ pub trait Door {
     fn back(&mut self, link_in: Self::In, link_out: Self::Out)
         ensures backs { Grew (backs self.old) (backs self.new) (link_in, link_out) }
         ensures left { left self.new ≡ left self.old }
+        ensures port { opened_at self.new ≡ opened_at self.old }
         ensures faults { faults self.new ≡ faults self.old }
         ensures links { links self.new ≡ links self.old }
         ensures waits { waits self.new ≡ waits self.old }

@@ -1,7 +1,7 @@
 /// A point that an actor passes.
 #[derive(Clone, Copy, PartialEq, Eq)]
 pub enum Point {
-    /// Nothing is to be done just now.
+    /// Nothing is to be done just now, for the host actor, the operator or the clock.
     Idle,
     /// Before a door is asked for a link.
     Accept,
@@ -15,8 +15,10 @@ pub enum Point {
     Tick,
     /// After a message of the host was answered, and its session goes on.
     HostPosted,
-    /// Where no frame waits for the writer, before it passes `Idle`.
+    /// No frame waits for the writer just now.
     NoFrame,
+    /// No command waits for the module of this number just now.
+    NoCommand(u8),
     /// After a signal of a module or a look at the clock was answered.
     Posted,
     /// Where the reader or the writer of a session has ended.

@@ -11,7 +11,7 @@ impl Gate for OpenGate {
     fn pass(&self, _point: Point) {}
 }
 
-/// A gate that sleeps one millisecond at `Idle`, and holds nobody.
+/// A gate that sleeps one millisecond at `Idle`, `NoFrame` and `NoCommand`, and holds nobody.
 #[derive(Drop)]
 pub struct SleepGate<'a, R> {
     rt: &'a R,
@@ -26,7 +26,7 @@ impl<'a, R: time::Clock> SleepGate<'a, R> {
 
 impl<R: time::Clock> Gate for SleepGate<'_, R> {
     fn pass(&self, point: Point) {
-        if point == Point::Idle {
+        if matches!(point, Point::Idle | Point::NoFrame | Point::NoCommand(_)) {
             sleep_a_turn(self.rt);
         }
     }

@@ -1,7 +1,7 @@
 ghost use Rattle.std.specs.Prelude.{◌≡◌, ℕ, ◌+◌, ◌^◌, ◌<◌, ◌≤◌, ◌↔◌, true, false, if◌then◌else◌, List, [], ◌∷◌, ◌++◌, length, drop, Contains, Some, None, IfOk, OnOk, OnErr, IsErr, is_err};
 ghost use Rattle.outside.specs.Counts.{Rose, Counted, one_more};
 ghost use Rattle.outside.specs.Doors.{link_of, link_given, gave_link, was_early, was_closed, behind_the_last, next_met};
-ghost use Rattle.outside.specs.Told.{told, Given, Grew};
+ghost use Rattle.outside.specs.Told.{told, AtPort, Given, Grew};
 
 use crate::door::Door;
 use crate::link::{LinkIn, LinkOut};
@@ -21,6 +21,7 @@ use std::marker::Model;
 pub struct MemDoor<I = MemIn, O = MemOut> {
     links: VecDeque<(I, O)>,
     is_closing: bool,
+    port: Option<u16>,
     backs: Vec<(I, O)>,
     is_kept: bool,
     fails: Vec<u64>,
@@ -37,6 +38,7 @@ impl<I, O> Model for MemDoor<I, O> {
     ghost view = { λ d. record {
       left = d.links.items;
       is_closing = d.is_closing;
+      port = d.port;
       backs = d.backs.items;
       room = vec_capacity d.backs;
       is_kept = d.is_kept;
@@ -60,6 +62,7 @@ impl<I: Drop, O: Drop> MemDoor<I, O> {
         ensures { IfOk result (λ door. door ≡ record {
           left = links.items;
           is_closing = false;
+          port = None;
           backs = [];
           room = length links.items;
           is_kept = true;
@@ -75,6 +78,7 @@ impl<I: Drop, O: Drop> MemDoor<I, O> {
         Ok(MemDoor {
             links: VecDeque::from_vec(links),
             is_closing: false,
+            port: None,
             backs,
             is_kept: true,
             fails,
@@ -104,6 +108,13 @@ impl<I: Drop, O: Drop> MemDoor<I, O> {
         ensures { result.now ≡ self.now.backs }
     {
         self.backs.as_slice()
+    }
+
+    /// The port at which it was asked to listen last. `None` where it was not asked.
+    pub fn port(&self) -> Option<u16>
+        ensures { result ≡ self.now.port }
+    {
+        self.port
     }
 
     /// How many calls failed.
@@ -144,6 +155,8 @@ impl<I: LinkIn + Send + Drop, O: LinkOut + Send + Drop> Door for MemDoor<I, O> {
 
     ghost backs = { λ d. told d.is_kept d.backs };
 
+    ghost opened_at = { λ d. d.port };
+
     ghost faults = { λ d. d.faults };
 
     ghost links = { λ d. d.links };
@@ -153,7 +166,8 @@ impl<I: LinkIn + Send + Drop, O: LinkOut + Send + Drop> Door for MemDoor<I, O> {
     ghost closings = { λ d. d.closings };
 
     /// Takes any port. Fails exactly where this call's number is in the list of those that are to fail.
-    fn open(&mut self, _port: u16) -> Result<(), Failed>
+    fn open(&mut self, port: u16) -> Result<(), Failed>
+        ensures port { AtPort self.new.port port }
         ensures failed { OnErr result (Rose self.old.faults self.new.faults) }
         ensures unfailed { OnOk result (self.new.faults ≡ self.old.faults) }
         ensures faults_stay { self.old.faults ≤ self.new.faults }
@@ -166,9 +180,10 @@ impl<I: LinkIn + Send + Drop, O: LinkOut + Send + Drop> Door for MemDoor<I, O> {
         // More than every door promises: when it fails, and what stays.
         ensures fails { IsErr result ↔ Contains self.old.fails (one_more self.old.calls) }
         ensures faults { self.new.faults ≡ (if is_err result then one_more self.old.faults else self.old.faults) }
-        ensures same { self.new ≡ record self.old { calls = one_more self.old.calls; faults = self.new.faults } }
+        ensures same { self.new ≡ record self.old { calls = one_more self.old.calls; faults = self.new.faults; port = Some port } }
         ensures no_fails { self.old.fails ≡ [] → self.new.faults ≡ self.old.faults }
     {
+        self.port = Some(port);
         self.calls = self.calls.saturating_add(1);
         if self.fails.contains(&self.calls) {
             self.counts.failed();
@@ -182,6 +197,7 @@ impl<I: LinkIn + Send + Drop, O: LinkOut + Send + Drop> Door for MemDoor<I, O> {
     fn accept(&mut self) -> Result<Met<I, O>, Failed>
         ensures given { Given (link_given result) (Some self.old.left) (Some self.new.left) }
         ensures backs { told self.new.is_kept self.new.backs ≡ told self.old.is_kept self.old.backs }
+        ensures port { self.new.port ≡ self.old.port }
         ensures links { Counted (gave_link result) self.old.links self.new.links }
         ensures waits { Counted (was_early result) self.old.waits self.new.waits }
         ensures closings { Counted (was_closed result) self.old.closings self.new.closings }
@@ -215,6 +231,7 @@ impl<I: LinkIn + Send + Drop, O: LinkOut + Send + Drop> Door for MemDoor<I, O> {
     fn back(&mut self, link_in: I, link_out: O)
         ensures backs { Grew (told self.old.is_kept self.old.backs) (told self.new.is_kept self.new.backs) (link_in, link_out) }
         ensures left { Some self.new.left ≡ Some self.old.left }
+        ensures port { self.new.port ≡ self.old.port }
         ensures faults { self.new.faults ≡ self.old.faults }
         ensures links { self.new.links ≡ self.old.links }
         ensures waits { self.new.waits ≡ self.old.waits }

@@ -1,5 +1,5 @@
-//! Says the texts that stand in files to what the program takes from the machine: files, standard input and output, clocks, gates, and a
-//! door with its links over TCP (`outside`). It compares what they answer with what stands there. It is a program of tests, and no part
+//! Says the texts that stand in files to what the program takes from the machine: files, standard input and output, a script, clocks, gates,
+//! and a door with its links over TCP (`outside`). It compares what they answer with what stands there. It is a program of tests, and no part
 //! of the tool; docs/TESTING.md says how such a text is written, and the head of each file here which words are said. Begin with
 //! `surroundings`.
 //!
@@ -11,8 +11,10 @@
 mod clocks;
 mod loopback;
 mod machine;
+mod scripts;
 mod set_clock;
 mod surroundings;
+mod waking;
 mod words;
 
 use std::process::ExitCode;

@@ -3,13 +3,17 @@
 use crate::clocks::{Dated, Gated};
 use crate::loopback::Loopback;
 use crate::machine::Machine;
+use crate::scripts::Scripted;
 use crate::set_clock::SetClock;
+use crate::waking::Waking;
 use crate::words::point;
 use anyhow::{Result, bail};
 use conversation_files::Line;
-use outside::{HoldGate, OpenGate, Point, SleepGate};
+use outside::{HoldGate, OpenGate, Point, RunSigns, SleepGate};
 use std::alloc::Global;
 use std::net::{Net, TcpListener, TcpStream};
+use std::sync::Wait;
+use std::thread::Threads;
 use std::time::Clock;
 use test_lines::{Texts, answers};
 
@@ -23,17 +27,53 @@ pub struct Outside<'a, R> {
 // Whether lines go as they are written; the fault of the first that does not.
 type Played = Result<Option<String>>;
 
-impl<R: Net<Listener = TcpListener, Stream = TcpStream> + Clock> Texts for Outside<'_, R> {
+impl<R: Net<Listener = TcpListener, Stream = TcpStream> + Clock + Wait + Threads + Sync> Texts
+    for Outside<'_, R> {
     fn play(&self, alloc: Global, begins: &str, lines: &[Line<'_>]) -> Result<Option<String>> {
         match begins {
             "to the machine" => answers(alloc, &mut Machine::new(self.host), lines),
-            "to a door of the machine" => answers(alloc, &mut Loopback::new(self.rt), lines),
+            "to a door of the machine" => play_door(self.rt, alloc, lines),
+            "to a script of the machine" => play_script(self.rt, alloc, lines),
+            "to a gate that wakes" => play_waking(self.rt, alloc, lines),
             _ => match begins.strip_prefix("to a gate that ") {
                 Some(words) => play_gate(alloc, words, lines),
                 None => play_date(alloc, begins, lines),
             },
         }
     }
+}
+
+// Says lines to a door.
+fn play_door<R: Net<Listener = TcpListener, Stream = TcpStream> + Clock>(
+    rt: &R,
+    alloc: Global,
+    lines: &[Line<'_>],
+) -> Played {
+    let signs = RunSigns::new();
+    answers(alloc, &mut Loopback::new(rt, alloc, &signs), lines)
+}
+
+// Says lines to a script.
+fn play_script<R: Net<Listener = TcpListener, Stream = TcpStream> + Clock + Threads + Sync>(
+    rt: &R,
+    alloc: Global,
+    lines: &[Line<'_>],
+) -> Played {
+    let signs = RunSigns::new();
+    let Some(mut script) = Scripted::new(rt, &signs) else {
+        bail!("there is no stream");
+    };
+    answers(alloc, &mut script, lines)
+}
+
+// Says lines to a gate that wakes.
+fn play_waking<R: Wait + Threads + Clock + Sync>(
+    rt: &R,
+    alloc: Global,
+    lines: &[Line<'_>],
+) -> Played {
+    let signs = RunSigns::new();
+    answers(alloc, &mut Waking::new(rt, &signs), lines)
 }
 
 // Says lines to the system's clock, at a date in milliseconds since 1970, after so many milliseconds.

@@ -2,7 +2,7 @@
 use Rattle.std.proofs.Common.{◌≡◌, ◌≤◌, ℕ, Bool, true, List, filter, Option, sym, ap, subst, ◌∙◌}
 use Rattle.gem_tables.specs.Table.{is_one_of}
 use Rattle.floor_moves.specs.Floor.{Loc, slot, arm, chamber, Module, Floor, is_finished}
-use Rattle.floor_moves.specs.Left.{sum_of}
+use Rattle.floor_moves.specs.Sums.{sum_of}
 use Rattle.floor_moves.specs.Valid.{Valid}
 use Rattle.floor_moves.specs.Agree.{Agree}
 use Rattle.owed_laws.specs.Owed.{owed_at, owed, owed_to, number_of}

@@ -1,10 +1,9 @@
 -- Effects of rows while nobody disturbs: what stands stays, and as much is owed.
-use Rattle.std.proofs.Common.{◌≡◌, ◌≤◌, ℕ, ◌+◌, Bool, true, false, refl, sym, ap, ◌∙◌, ◌⊎◌, inl, inr, arith}
-use Rattle.floor_moves.specs.Floor.{chamber, Task, place, Command, Module, busy, JobView, Floor, set, is_finished}
-use Rattle.floor_moves.specs.Effects.{accessed, transported, worked, issued, turned}
+use Rattle.std.proofs.Common.{◌≡◌, ◌≤◌, ℕ, ◌+◌, Bool, false, refl, sym, ap, ◌∙◌, ◌⊎◌, inl, inr, arith}
+use Rattle.floor_moves.specs.Floor.{chamber, Task, place, Command, busy, JobView, Floor, set, is_finished}
+use Rattle.floor_moves.specs.Effects.{transported, worked, issued}
 use Rattle.floor_moves.specs.Carriers.{created, arrived, verified, with_jobs}
 use Rattle.floor_moves.proofs.Maps.{set_tells, set_both, set_view}
-use Rattle.floor_moves.proofs.Issuing.{left_open}
 use Rattle.owed_laws.specs.Owed.{owed_at, owed, owed_to}
 use Rattle.owed_laws.specs.Undisturbed.{JobsStand, Undisturbed}
 use Rattle.owed_laws.proofs.Totals.{sum_same}
@@ -18,28 +17,6 @@ abbrev pub OneLess : (ℕ → Bool) → Floor → Floor → Type 0
 OneLess counted g h = Undisturbed counted h × (owed_to counted h + 1 ≡ owed_to counted g)
 
 module _ (counted : ℕ → Bool) (g : Floor) (u : Undisturbed counted g) where
-  pub itself : Stays counted g g
-  itself = (u, refl)
-
-  -- ---- table 10
-
-  -- a carrier goes to a state that it may have while a job names it, or no job names it
-  pub accessed-stays : (c state : ℕ) → (g.jobs.names_carrier c ≡ true → state ≤ 1) → Stays counted g (accessed c state g)
-  accessed-stays c state may = (
-    record {
-      jobs = u.jobs;
-      substrates = record {
-        here = λ n kept is f. set_both c (g.carrier_of n) state g.access (λ a. a ≤ 1) (λ same. may (ap g.jobs.names_carrier (sym same) ∙ u.jobs.named n kept is f)) (λ other. u.substrates.here n kept is f);
-        finished = u.substrates.finished;
-        in_chamber = u.substrates.in_chamber;
-        in_slot = u.substrates.in_slot;
-        to_chamber = u.substrates.to_chamber;
-        not_given = u.substrates.not_given;
-      };
-    },
-    refl,
-  )
-
   -- ---- table 12
 
   pub transported-stays : (n state : ℕ) → Stays counted g (transported n state g)
@@ -97,23 +74,6 @@ module _ (counted : ℕ → Bool) (g : Floor) (u : Undisturbed counted g) where
       by : (k n c : ℕ) (d : Command) → d.task ≡ place n (chamber c) → ((k ≡ m) × (busy (record { number = g.next_command; task = task }) ≡ busy d)) ⊎ ((k ≡ m → ⊥) × (g.equipment k ≡ busy d)) → is_finished (g.processing n) ≡ false
       by k n c d t (inl e) = fits n c (same_task (record { number = g.next_command; task = task }) d e.1 ∙ t)
       by k n c d t (inr e) = u.substrates.to_chamber k n c d e.1 t
-
-  -- a command is closed, and nothing else changes
-  pub turned-stays : (m : ℕ) (state : Module) → ((d : Command) → state ≡ busy d → ⊥) → Stays counted g (turned m state g)
-  turned-stays m state not_busy = (
-    record {
-      jobs = u.jobs;
-      substrates = record {
-        here = u.substrates.here;
-        finished = u.substrates.finished;
-        in_chamber = u.substrates.in_chamber;
-        in_slot = u.substrates.in_slot;
-        to_chamber = λ k n c d e t. u.substrates.to_chamber k n c d (left_open g m state not_busy k d e).1 t;
-        not_given = u.substrates.not_given;
-      };
-    },
-    refl,
-  )
 
   -- ---- carriers
 

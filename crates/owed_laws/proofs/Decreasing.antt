@@ -1,27 +1,21 @@
 -- A Done that ends a command takes one from what is owed.
-use Rattle.std.proofs.Common.{◌≡◌, ℕ, ◌+◌, ◌==◌, Bool, true, false, ◌||◌, [], ◌∷◌, Option, Some, None, cond, refl, sym, ap, subst, ◌∙◌, ◌⊎◌, inl, inr, arith}
-use Rattle.std.proofs.lemmas.Bool.Decides.{Decides-eqb}
-use Rattle.gem_tables.specs.Table.{firing, is_one_of}
-use Rattle.floor_moves.specs.Floor.{Loc, slot, aligner, arm, chamber, Task, pick, place, align, process, named, Command, Module, idle, busy, Floor, set, is_outside, is_finished}
-use Rattle.floor_moves.specs.Effects.{worked, turned, moved, moved_as, moved_by, aligned, aligned_by, fire}
-use Rattle.floor_moves.specs.Direct.{open_task, done_row, done_rows, only_where, direct, fired, done}
-use Rattle.floor_moves.specs.Valid.{PickStands, PlaceStands, AlignStands, ProcessStands, Valid, ValidBut}
+use Rattle.std.proofs.Common.{◌≡◌, ℕ, ◌+◌, Bool, true, false, ◌||◌, Option, Some, refl, sym, ap, subst, ◌∙◌, ◌⊎◌, inl, inr, arith}
+use Rattle.floor_moves.specs.Floor.{Loc, slot, aligner, arm, chamber, Task, pick, place, align, named, Command, idle, busy, Floor, set, is_outside, is_finished}
+use Rattle.floor_moves.specs.Effects.{worked, moved, aligned}
+use Rattle.floor_moves.specs.Valid.{PickStands, PlaceStands, AlignStands, Valid, ValidBut}
 use Rattle.floor_moves.proofs.Maps.{set_tells, set_here, set_else, set_both}
-use Rattle.floor_moves.proofs.Facts.{is_number}
 use Rattle.floor_moves.proofs.Issuing.{left_open}
 use Rattle.floor_moves.proofs.Moving.{idle_not_busy}
-use Rattle.floor_moves.proofs.Done.{closed-but}
-use Rattle.floor_moves.proofs.Inputs.{open_tells}
 use Rattle.owed_laws.specs.Owed.{owed_at, owed, owed_to}
-use Rattle.owed_laws.specs.Undisturbed.{Undisturbed, AreInProcess}
+use Rattle.owed_laws.specs.Undisturbed.{Undisturbed}
 use Rattle.owed_laws.proofs.Totals.{sum_falls}
-use Rattle.owed_laws.proofs.Columns.{OneLess, turned-stays}
+use Rattle.owed_laws.proofs.Columns.{OneLess}
 
--- ---- the row of a Process that is done
+-- ---- a Process, behind the row that closes it
 
 -- The substrate of a Process that was closed is finished: one less is owed.
-pub processed-falls : (counted : ℕ → Bool) (g : Floor) (n d state : ℕ) → ValidBut n g → Undisturbed counted g → g.place_of n ≡ Some (chamber d) → is_finished (g.processing n) ≡ false → is_finished state ≡ true → OneLess counted g (worked n state g)
-processed-falls counted g n d state b u at unfinished ends = (
+pub finished-falls : (counted : ℕ → Bool) (g : Floor) (n d state : ℕ) → ValidBut n g → Undisturbed counted g → g.place_of n ≡ Some (chamber d) → is_finished (g.processing n) ≡ false → is_finished state ≡ true → OneLess counted g (worked n state g)
+finished-falls counted g n d state b u at unfinished ends = (
   record {
     jobs = record {
       members = u.jobs.members;
@@ -53,18 +47,6 @@ processed-falls counted g n d state b u at unfinished ends = (
 
     falls : owed_at (g.place_of n) (is_finished (g.processing n)) (g.is_aligned n) ≡ owed_at (g.place_of n) (is_finished state) (g.is_aligned n) + 1
     falls = subst (λ (p : Option Loc). owed_at p (is_finished (g.processing n)) (g.is_aligned n) ≡ owed_at p (is_finished state) (g.is_aligned n) + 1) (sym at) (in_it (is_finished (g.processing n)) (is_finished state) unfinished ends)
-
--- by row 3 or row 4 of table 13
-pub processed_row-falls : (counted : ℕ → Bool) (g : Floor) (n d row : ℕ) → ValidBut n g → Undisturbed counted g → g.place_of n ≡ Some (chamber d) → is_finished (g.processing n) ≡ false → is_one_of (3 ∷ 4 ∷ []) row ≡ true → OneLess counted g (fire (firing 13 n row) g)
-processed_row-falls counted g n d row b u at unfinished e = by (3 == row) refl (4 == row) refl e
-  where
-    its_row : (r : ℕ) → (r == row) ≡ true → OneLess counted g (fire (firing 13 n r) g) → OneLess counted g (fire (firing 13 n row) g)
-    its_row r same w = subst (λ (k : ℕ). OneLess counted g (fire (firing 13 n k) g)) (is_number r row same) w
-
-    by : (x : Bool) → (3 == row) ≡ x → (y : Bool) → (4 == row) ≡ y → (x || (y || false)) ≡ true → OneLess counted g (fire (firing 13 n row) g)
-    by true p y q f = its_row 3 p (processed-falls counted g n d 2 b u at unfinished refl)
-    by false p true q f = its_row 4 q (processed-falls counted g n d 3 b u at unfinished refl)
-    by false p false q f = absurd (cc)
 
 module _ (counted : ℕ → Bool) (g : Floor) (v : Valid g) (u : Undisturbed counted g) where
   -- what a command names is in a job
@@ -196,46 +178,3 @@ module _ (counted : ℕ → Bool) (g : Floor) (v : Valid g) (u : Undisturbed cou
 
       falls : owed_at (g.place_of n) (is_finished (g.processing n)) (g.is_aligned n) ≡ owed_at (g.place_of n) (is_finished (g.processing n)) true + 1
       falls = subst (λ (p : Option Loc). owed_at p (is_finished (g.processing n)) (g.is_aligned n) ≡ owed_at p (is_finished (g.processing n)) true + 1) (sym s.stands) (there (is_finished (g.processing n)) (g.is_aligned n) s.unaligned)
-
-  -- ---- a Process: both its rows
-
-  pub done_process-falls : (m n state : ℕ) (c : Command) → g.equipment m ≡ busy c → c.task ≡ process n → is_finished state ≡ true → OneLess counted g (worked n state (turned m idle g))
-  done_process-falls m n state c is t ends =
-      let s : ProcessStands m n g = v.commands.processes m n c is t in
-      let b : ValidBut n (turned m idle g) = closed-but g m n c idle idle_not_busy is t v in
-      processed-falls counted (turned m idle g) n s.0 state b (turned-stays counted g u m idle idle_not_busy).0 s.2 s.3 ends
-
-  -- ---- all of them
-
-  -- the one row of what is no Process
-  pub done_row-falls : (m : ℕ) (c : Command) → g.equipment m ≡ busy c → (t : Task) → c.task ≡ t → ((n : ℕ) → t ≡ process n → ⊥) → OneLess counted g (fire (firing 16 m (done_row t)) g)
-  done_row-falls m c is (pick n l) e other = subst (λ (x : Module). OneLess counted g (moved_by x m g)) (sym is) (subst (λ (t : Task). OneLess counted g (moved_as t m g)) (sym e) (done_pick-falls m n l c is e))
-  done_row-falls m c is (place n l) e other = subst (λ (x : Module). OneLess counted g (moved_by x m g)) (sym is) (subst (λ (t : Task). OneLess counted g (moved_as t m g)) (sym e) (done_place-falls m n l c is e))
-  done_row-falls m c is (align n) e other = subst (λ (x : Module). OneLess counted g (aligned_by x m g)) (sym is) (subst (λ (k : ℕ). OneLess counted g (aligned k m g)) (sym (ap named e)) (done_align-falls m n c is e))
-  done_row-falls m c is (process n) e other = absurd (other n refl)
-
-  pub done_task-falls : AreInProcess g → (m : ℕ) (c : Command) → g.equipment m ≡ busy c → (t : Task) → c.task ≡ t → OneLess counted g (fired (done_rows m (Some t) g) g)
-  done_task-falls working m c is (pick n l) e = done_row-falls m c is (pick n l) e (λ k f. cc)
-  done_task-falls working m c is (place n l) e = done_row-falls m c is (place n l) e (λ k f. cc)
-  done_task-falls working m c is (align n) e = done_row-falls m c is (align n) e (λ k f. cc)
-  done_task-falls working m c is (process n) e = by (g.processing n == 1) refl (g.jobs.is_aborting n)
-    where
-      by : (b : Bool) → (g.processing n == 1) ≡ b → (a : Bool) → OneLess counted g (fired (only_where b (firing 13 n (cond a 4 3))) (turned m idle g))
-      by true q true = done_process-falls m n 3 c is e refl
-      by true q false = done_process-falls m n 2 c is e refl
-      by false q a = absurd (let yes : (g.processing n == 1) ≡ true = (Decides-eqb (g.processing n) 1).1 (working m n c is e) in cc)
-
-  -- Done of an open command
-  pub done-falls : AreInProcess g → (m : ℕ) (c : Command) → g.equipment m ≡ busy c → OneLess counted g (fired (direct g (done m c.number)) g)
-  done-falls working m c is = by (open_task c.number (g.equipment m)) refl
-    where
-      it_is : open_task c.number (g.equipment m) ≡ Some c.task
-      it_is = ap (open_task c.number) is ∙ ap (λ (b : Bool). cond b (Some c.task) None) ((Decides-eqb c.number c.number).1 refl)
-
-      by : (o : Option Task) → open_task c.number (g.equipment m) ≡ o → OneLess counted g (fired (done_rows m o g) g)
-      by None e = absurd (let w : None ≡ Some c.task = sym e ∙ it_is in cc)
-      by (Some t) e = let w = open_tells c.number (g.equipment m) t e in done_task-falls working m w.0 w.1 t w.2
-
--- a Done that ends no command does nothing
-pub no_command : (g : Floor) (m number : ℕ) → open_task number (g.equipment m) ≡ None → fired (direct g (done m number)) g ≡ g
-no_command g m number e = ap (λ (o : Option Task). fired (done_rows m o g) g) e

@@ -2,7 +2,7 @@
 use Rattle.std.proofs.Common.{◌≡◌, ℕ, suc, ◌+◌, ◌*◌, ◌==◌, Bool, true, false, List, [], ◌∷◌, ◌++◌, filter, length, cond, refl, sym, ap, subst, ◌∙◌, ◌⊎◌, inl, inr, arith}
 use Rattle.std.proofs.lemmas.Bool.{or_right}
 use Rattle.gem_tables.specs.Table.{is_one_of}
-use Rattle.floor_moves.specs.Left.{sum_of}
+use Rattle.floor_moves.specs.Sums.{sum_of}
 use Rattle.floor_moves.specs.Valid.{IsDistinct}
 use Rattle.floor_moves.proofs.Scans.{one_of_tells, first_of}
 

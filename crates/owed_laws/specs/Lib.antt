@@ -1,4 +1,2 @@
 pub mod Owed
 pub mod Undisturbed
-pub mod Calm
-pub mod Worked

@@ -2,7 +2,7 @@
 -- the aligner, is aligned, goes to a chamber, is processed, and goes back to its slot: that is eight commands.
 use Rattle.std.specs.Prelude.{ℕ, ◌+◌, ◌*◌, Bool, if◌then◌else◌, filter, length, Option, Some, None}
 use Rattle.floor_moves.specs.Floor.{Loc, slot, aligner, arm, chamber, Floor, is_finished}
-use Rattle.floor_moves.specs.Left.{sum_of}
+use Rattle.floor_moves.specs.Sums.{sum_of}
 
 -- the processing steps that are left for a substrate: one while it is unfinished
 abbrev pub steps_left : Bool → ℕ

@@ -13,11 +13,11 @@ ghost use Rattle.item_model.specs.Plain.{plain, plain_head};
 ghost use Rattle.item_model.specs.Sendable.{IsSendable};
 
 use gem_ids::Text80;
+use gem_replies::gem_item_out;
 use hsms_frame::{Bytes, Frame, Header, write_frame, write_header};
 use item_model::{Format, Item};
 use message_model::{GemReply, ShopReply};
 use msgs_300::shop_item;
-use msgs_gem::gem_item;
 use secs_items::encode;
 use std::alloc::{AllocError, Global};
 use tool_events::Config;
@@ -128,7 +128,7 @@ pub fn reply_text(alloc: Global, reply: GemReply) -> Result<Bytes, AllocError>
     ensures text { IfOk result (λ text. text ≡ plain (reply_body reply)) }
     ensures short { IfOk result (λ text. length text ≤ 2 ^ 31) }
 {
-    let item = gem_item(alloc, reply)?;
+    let item = gem_item_out(alloc, reply)?;
     text_of(alloc, &item, FRONT + TEXT_ROOM)
 }
 
@@ -138,7 +138,7 @@ pub fn text_of_reply(alloc: Global, reply: GemReply) -> Result<Bytes, AllocError
     ensures text { IfOk result (λ text. text ≡ plain (reply_body reply)) }
     ensures short { IfOk result (λ text. length text ≤ 2 ^ 31) }
 {
-    let item = gem_item(alloc, reply)?;
+    let item = gem_item_out(alloc, reply)?;
     text_of(alloc, &item, TEXT_ROOM)
 }
 

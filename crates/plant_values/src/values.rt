@@ -223,7 +223,7 @@ impl<'a> Seen<'a> {
         }
     }
 
-    /// The value of a status variable. `None`: it is not built, or the tool lacks its port or its chamber.
+    /// The value of a status variable. `None`: the tool lacks its port or its chamber.
     fn variable_value(
         &self,
         alloc: Global,

@@ -1,6 +1,7 @@
 -- The items of process jobs, one behind another.
 use Rattle.std.proofs.Common.{◌≡◌, ℕ, ◌+◌, List, [], ◌∷◌, ◌++◌, take, Some, slice_get, refl, sym, ap, ◌∙◌}
-use Rattle.item_model.specs.Data.{Data, DataList, no_items, item, added}
+use Rattle.item_model.specs.Data.{Data, DataList, no_items, item, added, first_items}
+use Rattle.item_model.specs.Plain.{count_of}
 use Rattle.process_job.specs.Listing.{job_item, job_items, joined}
 use Rattle.process_job.specs.declared.job.ProcessJob.{ProcessJob}
 use Rattle.process_job.proofs.Scans.{take_here}
@@ -9,6 +10,11 @@ use Rattle.process_job.proofs.Scans.{take_here}
 pub joined_none : (ds : DataList) → joined ds no_items ≡ ds
 joined_none no_items = refl
 joined_none (item d ds) = ap (item d) (joined_none ds)
+
+-- the first of them are what stood there before
+pub first_joined : (ds more : DataList) → first_items (count_of ds) (joined ds more) ≡ ds
+first_joined no_items more = refl
+first_joined (item d ds) more = ap (item d) (first_joined ds more)
 
 -- one more stands at the end
 added_behind : (ds es : DataList) (d : Data) → added (joined ds es) d ≡ joined ds (added es d)

@@ -158,14 +158,28 @@ impl ProcessJobs {
     }
 
     /// Adds the jobs at the end, in the order of creation, each as a list of its name and the number of its state (SEMI E40,
-    /// S16F20). After `NoMemory` the first of them may have been added, in order, and what stood before stays.
+    /// S16F20). After `NoMemory` the list is as before.
     pub fn list(&self, alloc: Global, out: &mut Items) -> Result<(), NoMemory>
         ensures jobs { OnOk result (out.new ≡ joined out.old (job_items self.now.kept)) }
-
-        // Else the first n jobs were added, for some n.
-        ensures first { OnErr result ((n : ℕ) × (out.new ≡ joined out.old (job_items (take n self.now.kept)))) }
+        ensures no_memory { OnErr result (out.new ≡ out.old) }
 
         // There are few.
+        ensures few { length self.now.kept ≤ most_jobs }
+    {
+        let count = out.len();
+        match self.push_jobs(alloc, out) {
+            Ok(()) => Ok(()),
+            Err(fault) => {
+                out.truncate(count);
+                Err(fault)
+            }
+        }
+    }
+
+    // The same, but that after want of memory the first of the jobs may have been added.
+    fn push_jobs(&self, alloc: Global, out: &mut Items) -> Result<(), NoMemory>
+        ensures jobs { OnOk result (out.new ≡ joined out.old (job_items self.now.kept)) }
+        ensures first { OnErr result ((n : ℕ) × (out.new ≡ joined out.old (job_items (take n self.now.kept)))) }
         ensures few { length self.now.kept ≤ most_jobs }
     {
         for place in 0..self.len() {

@@ -56,7 +56,7 @@ Standard error tells why the program ends. Its status is:
   7  no memory
   8  door fault              the door failed, or closed before the run ended
 
-docs/profile has all of it: words.md, configuration.md, lines.md.";
+docs/profile has all of it: words.md, configuration.md, lines.md, serve.md, batch.md.";
 
 // What each command does.
 const FEED: &str = "Reads lines from standard input and prints lines: feed CONFIG";

@@ -1,7 +1,7 @@
 -- What `serve` did (this tool's profile, serving).
-use Rattle.std.specs.Prelude.{◌≡◌, ◌⊎◌, ℕ, ⊤, Bool, true, false, List, []}
+use Rattle.std.specs.Prelude.{◌≡◌, ◌⊎◌, ℕ, ⊤, Bool, true, false, List, [], Option}
 use Rattle.outside.specs.Counts.{Rose, Failed}
-use Rattle.outside.specs.Told.{Written, WrittenFront}
+use Rattle.outside.specs.Told.{AtPort, Written, WrittenFront}
 use Rattle.tool_events.specs.declared.config.Config.{Config}
 use Rattle.tool_events.specs.declared.entry.Entry.{Entry}
 use Rattle.host_actor.specs.declared.bytes.SessionBytes.{SessionBytes}
@@ -9,6 +9,7 @@ use Rattle.host_actor.specs.Links.{LinkTold}
 use Rattle.tool_crew.specs.declared.ends.Ends.{Ends}
 use Rattle.tool_crew.specs.Crews.{Outside}
 use Rattle.tool_crew.specs.Ran.{RunDid}
+use Rattle.session_laws.specs.Kept.{SessionsKept}
 use Rattle.line_feeding.specs.declared.ended.Cause.{Cause}
 use Rattle.line_feeding.specs.declared.ended.Cause.TheVariants as cause
 use Rattle.line_feeding.specs.declared.ended.SessionNote.{SessionNote}
@@ -33,22 +34,30 @@ Closed c history sessions script_bytes ends why log log' notes =
     ((logged : Bool) × Logged c history logged log log' × (notes ≡ notes_of c history sessions) × (why ≡ cause_behind ends logged history script_bytes))
     ⊎ ((why ≡ cause.NoMemory) × (log' ≡ log) × ((notes ≡ []) ⊎ (notes ≡ notes_of c history sessions)))
 
--- the actors ran, and the run was closed
+-- the world outside with a door that was asked to listen at this port, where it tells that
+abbrev pub asked : {L : Type 0} → Outside L → Option ℕ → Outside L
+asked out port = record out { door = record out.door { port = port } }
+
+-- The door was opened at the port of the configuration, the actors ran, and the run was closed. The history has of each session of the
+-- host what its link told.
 pub record Ran {L : Type 0} (told : L → LinkTold) (c : Config) (why : Cause) (out out' : Outside L) (log log' : SinkView) (history : List Entry) (notes : List SessionNote) : Type 0 where
   pub sessions : List SessionBytes
   pub script_bytes : ℕ
   pub ends : Ends
-  pub run : RunDid told out out' c history sessions script_bytes ends
+  pub port : AtPort out'.door.port c.tcp_port
+  pub run : RunDid told (asked out out'.door.port) out' c history sessions script_bytes ends
+  pub kept : SessionsKept told c history out.door out'.door sessions
   pub closed : Closed c history sessions script_bytes ends why log log' notes
 
 -- how it is closed where the door could not be opened: the log is that of a history without an entry, unless there was no memory
 abbrev pub ClosedUnopened : Config → Cause → SinkView → SinkView → Type 0
 ClosedUnopened c why log log' = ((logged : Bool) × Logged c [] logged log log' × (why ≡ cause.Door)) ⊎ ((why ≡ cause.NoMemory) × (log' ≡ log))
 
--- No actor ran: the door could not be opened, or there was no memory.
+-- No actor ran: the door could not be opened at the port of the configuration, or there was no memory.
 pub record NoneRan {L : Type 0} (c : Config) (why : Cause) (out out' : Outside L) (log log' : SinkView) (history : List Entry) (notes : List SessionNote) : Type 0 where
   pub none : (history ≡ []) × (notes ≡ [])
-  pub stays : (out'.script ≡ out.script) × (out'.moments ≡ out.moments) × (out'.door ≡ record out.door { faults = out'.door.faults })
+  pub stays : (out'.script ≡ out.script) × (out'.moments ≡ out.moments) × (out'.door ≡ record out.door { port = out'.door.port; faults = out'.door.faults })
+  pub port : AtPort out'.door.port c.tcp_port
   pub closed : (Rose out.door.faults out'.door.faults × ClosedUnopened c why log log') ⊎ ((why ≡ cause.NoMemory) × (log' ≡ log))
 
 -- what `serve` did under a configuration

@@ -96,8 +96,8 @@ fn serve_over<
 ) -> Ended
     requires { IsConfig config.now }
     ensures served { ServedUnder (link_told X.In.left X.In.faults X.In.ends X.Out.held X.Out.faults X.Out.refusals X.Out.is_shut) config.now result.cause
-        (outside (door_told X.left X.backs X.faults X.links X.waits X.closings door.old) (source_told S.left S.faults S.ends script.old) (T.given clock.old))
-        (outside (door_told X.left X.backs X.faults X.links X.waits X.closings door.new) (source_told S.left S.faults S.ends script.new) (T.given clock.new))
+        (outside (door_told X.left X.backs X.opened_at X.faults X.links X.waits X.closings door.old) (source_told S.left S.faults S.ends script.old) (T.given clock.old))
+        (outside (door_told X.left X.backs X.opened_at X.faults X.links X.waits X.closings door.new) (source_told S.left S.faults S.ends script.new) (T.given clock.new))
         (seen K.held K.faults K.refusals log.old) (seen K.held K.faults K.refusals log.new) result.history result.sessions }
     ensures status { result.status ≡ status_of result.cause }
     ensures no_panels { result.panels ≡ [] }
@@ -135,8 +135,8 @@ pub fn serve_config<
 ) -> Ended
     requires { IsConfig config.now }
     ensures served { ServedUnder (link_told X.In.left X.In.faults X.In.ends X.Out.held X.Out.faults X.Out.refusals X.Out.is_shut) config.now result.cause
-        (outside (door_told X.left X.backs X.faults X.links X.waits X.closings door.old) (source_told S.left S.faults S.ends script.old) (T.given clock.old))
-        (outside (door_told X.left X.backs X.faults X.links X.waits X.closings door.new) (source_told S.left S.faults S.ends script.new) (T.given clock.new))
+        (outside (door_told X.left X.backs X.opened_at X.faults X.links X.waits X.closings door.old) (source_told S.left S.faults S.ends script.old) (T.given clock.old))
+        (outside (door_told X.left X.backs X.opened_at X.faults X.links X.waits X.closings door.new) (source_told S.left S.faults S.ends script.new) (T.given clock.new))
         (seen K.held K.faults K.refusals log.old) (seen K.held K.faults K.refusals log.new) result.history result.sessions }
     ensures status { result.status ≡ status_of result.cause }
     // Until they are built.
@@ -171,8 +171,8 @@ pub fn serve<
 ) -> Ended
     ensures served { Served (link_told X.In.left X.In.faults X.In.ends X.Out.held X.Out.faults X.Out.refusals X.Out.is_shut) result.cause
         (looked C.left C.faults C.ends config.old) (looked C.left C.faults C.ends config.new)
-        (outside (door_told X.left X.backs X.faults X.links X.waits X.closings door.old) (source_told S.left S.faults S.ends script.old) (T.given clock.old))
-        (outside (door_told X.left X.backs X.faults X.links X.waits X.closings door.new) (source_told S.left S.faults S.ends script.new) (T.given clock.new))
+        (outside (door_told X.left X.backs X.opened_at X.faults X.links X.waits X.closings door.old) (source_told S.left S.faults S.ends script.old) (T.given clock.old))
+        (outside (door_told X.left X.backs X.opened_at X.faults X.links X.waits X.closings door.new) (source_told S.left S.faults S.ends script.new) (T.given clock.new))
         (seen K.held K.faults K.refusals log.old) (seen K.held K.faults K.refusals log.new) result.history result.sessions }
     // When each cause comes that the run does not tell.
     ensures status { result.status ≡ status_of result.cause }

@@ -5,3 +5,4 @@ pub mod OneSession
 pub mod Others
 pub mod Each
 pub mod Sessions
+pub mod Whole

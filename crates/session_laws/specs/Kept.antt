@@ -1,5 +1,5 @@
 -- What the history of a run has of each session of the host (this tool's profile, sessions and serving).
-use Rattle.std.specs.Prelude.{◌≡◌, ◌≢◌, ◌⊎◌, ℕ, suc, ◌==◌, ◌-◌, ◌^◌, min, ⊤, true, if◌then◌else◌, List, [], ◌∷◌, ◌++◌, length}
+use Rattle.std.specs.Prelude.{◌≡◌, ◌≢◌, ◌⊎◌, ℕ, suc, ◌+◌, ◌==◌, ◌-◌, ◌^◌, ◌≤◌, min, ⊤, true, if◌then◌else◌, List, [], ◌∷◌, ◌++◌, length, map}
 use Rattle.std.specs.List.{flat_map}
 use Rattle.outside.specs.Counts.{Failed}
 use Rattle.outside.specs.Told.{Taken, Written}
@@ -14,8 +14,9 @@ use Rattle.gem_model.specs.State.{opening}
 use Rattle.gem_model.specs.Sessions.{session_out}
 use Rattle.actors.specs.declared.end.ActorEnd.TheVariants as end
 use Rattle.actors.specs.Ends.{LastEnded}
-use Rattle.host_actor.specs.Links.{LinkTold}
-use Rattle.host_actor.specs.Sessions.{Session}
+use Rattle.host_actor.specs.declared.bytes.SessionBytes.{SessionBytes}
+use Rattle.host_actor.specs.Links.{LinkTold, DoorTold, AllGiven, AllBack, raised}
+use Rattle.host_actor.specs.Sessions.{Session, all_bytes}
 
 -- the message of this session that an event is
 abbrev pub arrival_of : ℕ → Event → List Arrival
@@ -49,3 +50,16 @@ pub record KeptSession {L : Type 0} (told : L → LinkTold) (c : Config) (histor
 abbrev pub EachKept : {L : Type 0} → (L → LinkTold) → Config → List Entry → ℕ → List (Session L) → Type 0
 EachKept told c history k [] = ⊤
 EachKept told c history k (s ∷ sessions) = KeptSession told c history k s × EachKept told c history (suc k) sessions
+
+-- The sessions of a run, in order. The first has number 1, and the history has of each what its link told. Their links were those that
+-- the door gave, one after another, and each was handed back behind its session; behind them came at most one link more, with which
+-- no session began, and which was handed back too. The bytes of each session were noted.
+pub record SessionsKept {L : Type 0} (told : L → LinkTold) (c : Config) (history : List Entry) (door door' : DoorTold L) (noted : List SessionBytes) : Type 0 where
+  pub all : List (Session L)
+  pub unmade : List L
+  pub few : length unmade ≤ 1
+  pub kept : EachKept told c history 1 all
+  pub given : AllGiven (map (λ (s : Session L). s.given) all ++ unmade) door.left door'.left
+  pub back : AllBack (map (λ (s : Session L). s.back) all ++ unmade) door.backs door'.backs
+  pub links : door'.links ≡ raised door.links (length all + length unmade)
+  pub are_noted : noted ≡ all_bytes all

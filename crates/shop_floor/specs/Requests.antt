@@ -24,7 +24,7 @@ at_port table row port = firing table port row ∷ []
 
 -- ---- S3F17
 
--- what is answered of an action on a carrier; no process job names one yet (this tool's profile, S3F17)
+-- what is answered of an action on a carrier that no process job names; floor_model has it of any (this tool's profile, S3F17)
 abbrev pub carrier_code : Floor → CarrierAction → Caack
 carrier_code f a = carrier_caack f.carriers (map view_of f.ports) a false
 

@@ -1,4 +1,4 @@
--- Names of carriers.
+-- Names of substrates.
 use Rattle.std.proofs.Common.{◌≡◌, ℕ, true, List, bytes_eq}
 use Rattle.std.proofs.lemmas.Cmp.{nat_list_eq_equiv}
 use Rattle.std.proofs.lemmas.Slice.Eq.{bytes_eq-Decides}

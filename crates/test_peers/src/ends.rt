@@ -1,20 +1,27 @@
-//! Both ends of a link whose peer sends bytes and then waits until the link was shut.
+//! Both ends of a link whose peer sends bytes, after a while or at once, and then waits until the link was shut.
 
 use crate::given::{Limits, fails_of, source_of};
-use crate::signs::LinkSigns;
+use crate::signs::{LinkSigns, sleep_turns};
 use outside::{Failed, LinkIn, LinkOut, MemSink, MemSource, Sink, Source};
 use std::alloc::{AllocError, Global};
 use std::time;
 
-/// The end at which bytes come in. Behind them it gives its end once the link was shut, or after 60,000 turns.
+/// The end at which bytes come in: its first read takes so many turns. Behind the bytes it gives its end once the link was shut, or after 60,000 turns.
 #[derive(Drop)]
 pub struct PatientIn<'a, R> {
     rt: &'a R,
     bytes: MemSource,
+    turns: u64,
     signs: &'a LinkSigns,
 }
 
 impl<'a, R: time::Clock> PatientIn<'a, R> {
+    // Waits before the first read.
+    fn wait_at_first(&mut self) {
+        sleep_turns(self.rt, self.turns);
+        self.turns = 0;
+    }
+
     // Waits at the peer's end.
     fn wait_at_end(&self, answer: &Result<usize, Failed>) {
         if matches!(answer, Ok(0)) {
@@ -33,6 +40,7 @@ impl<R: time::Clock> Source for PatientIn<'_, R> {
     ghost ends = { λ s. s.bytes.ends };
 
     fn read(&mut self, buf: &mut [u8]) -> Result<usize, Failed> {
+        self.wait_at_first();
         let answer = self.bytes.read(buf);
         self.wait_at_end(&answer);
         answer
@@ -99,6 +107,7 @@ pub fn patient_link<'a, R: time::Clock>(
     let link_in = PatientIn {
         rt,
         bytes: source_of(alloc, bytes, limits.peer_fault)?,
+        turns: limits.peer_turns,
         signs,
     };
     let link_out = TellingOut {

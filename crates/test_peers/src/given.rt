@@ -6,7 +6,7 @@ use std::alloc::{AllocError, Global};
 use test_lines::{add, texts_of};
 
 /// The first read of the configuration and of the script, write of the log, call of the door, and read and write of a link that fail, counted
-/// from 1 (0: none does), and whether a door in memory is closed behind its links.
+/// from 1 (0: none does); how many turns a peer waits before it sends; and whether a door in memory is closed behind its links.
 #[derive(Clone, Copy)]
 pub struct Limits {
     pub config_fault: u64,
@@ -15,10 +15,11 @@ pub struct Limits {
     pub door_fault: u64,
     pub peer_fault: u64,
     pub answer_fault: u64,
+    pub peer_turns: u64,
     pub is_closed: bool,
 }
 
-/// Nothing fails, and the door is open.
+/// Nothing fails, a peer sends at once, and the door is open.
 pub const UNLIMITED: Limits = Limits {
     config_fault: 0,
     script_fault: 0,
@@ -26,6 +27,7 @@ pub const UNLIMITED: Limits = Limits {
     door_fault: 0,
     peer_fault: 0,
     answer_fault: 0,
+    peer_turns: 0,
     is_closed: false,
 };
 
@@ -89,6 +91,7 @@ fn limit(given: &mut Given, name: &str, n: u64) -> bool {
         "door_fault" => given.limits.door_fault = n,
         "peer_fault" => given.limits.peer_fault = n,
         "answer_fault" => given.limits.answer_fault = n,
+        "peer_turns" => given.limits.peer_turns = n,
         "closed" => given.limits.is_closed = true,
         _ => return false,
     }

@@ -59,6 +59,18 @@ fn add_event(alloc: Global, text: &mut String, event: &Event) -> Result<(), Allo
     text.push_str(words.as_str())
 }
 
+/// The tool's moment at the first command of the operator: the greatest that was given with an entry up to it. 0: it gave none.
+pub fn operator_moment(entries: &[Entry]) -> u64 {
+    let mut moment: u64 = 0;
+    for entry in entries {
+        moment = moment.max(entry.at.0);
+        if let Event::Oper(_) = &entry.event {
+            return moment;
+        }
+    }
+    0
+}
+
 /// Whether a command of the operator stands in front of the first message of the host.
 pub fn is_operator_first(entries: &[Entry]) -> bool {
     for entry in entries {

@@ -62,6 +62,13 @@ impl LinkSigns {
     }
 }
 
+/// Sleeps so many turns.
+pub fn sleep_turns<R: time::Clock>(rt: &R, turns: u64) {
+    for _ in 0..turns {
+        sleep_a_turn(rt);
+    }
+}
+
 /// Sleeps one millisecond.
 pub fn sleep_a_turn<R: time::Clock>(rt: &R) {
     thread::sleep(rt, Duration::from_millis(1));

@@ -1,15 +1,17 @@
 //! What is told of a run of a tool that serves.
 
-use crate::histories::{add_seat, is_operator_first};
+use crate::histories::{add_seat, is_operator_first, operator_moment};
 use std::alloc::{AllocError, Global};
 use test_lines::{tell, tell_number, tell_quoted, tell_whether};
 use tool_events::Entry;
 
-/// Tells a history: how many entries it has, the seat of the first, whether the operator was first, and what each seat posted.
+/// Tells a history: how many entries it has, the seat of the first, whether the operator was first and at which moment of the tool, and what
+/// each seat posted.
 pub fn tell_history(alloc: Global, told: &mut String, entries: &[Entry]) -> Result<(), AllocError> {
     tell_number(alloc, told, "entries", entries.len() as u64)?;
     tell_first_seat(alloc, told, entries)?;
     tell_whether(told, "operator first", is_operator_first(entries))?;
+    tell_number(alloc, told, "operator moment", operator_moment(entries))?;
     for seat in 0..3 {
         tell_seat(alloc, told, entries, seat)?;
     }

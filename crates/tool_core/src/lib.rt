@@ -5,9 +5,9 @@
 //! The same events give the same history: the core reads no clock, no file and no link. Moments are handed in, and
 //! frames are handed out when the writer takes them. Begin with `Core::open`, then `Core::apply`.
 //!
-//! Built are the whole link table with T6, T7 and the tool's linktest (SEMI E37), the tables of communication and of
-//! control with the tool's transactions and T3 (SEMI E30), the line of notes with the spool (SEMI E30, spooling), and load
-//! ports and carriers (SEMI E87).
+//! All tables of the tool are built: the link with T6, T7 and the tool's linktest (SEMI E37), communication and control with the
+//! tool's transactions and T3, the line of notes with the spool (SEMI E30), load ports and carriers (SEMI E87), substrates (SEMI E90),
+//! process jobs (SEMI E40), control jobs (SEMI E94), and the modules with their moves.
 #![tactic(auto)]
 
 mod react;

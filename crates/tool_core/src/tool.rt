@@ -137,7 +137,7 @@ impl Core {
         })
     }
 
-    /// The history, the oldest entry first. All holds of it that `Recorded` lists (`gem_model`): it is a run from the first
+    /// The history, the oldest entry first. All holds of it that `Recorded` lists (`history_laws`): it is a run from the first
     /// state, its notes are those that were reported, each with one fate and sent in order, and so on. It is within the limits.
     pub fn history(&self) -> &[Entry]
         ensures history { result.now ≡ self.now.history }

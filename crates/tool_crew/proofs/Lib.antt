@@ -1,2 +1,3 @@
 mod Closing
 mod Hosts
+mod Starting

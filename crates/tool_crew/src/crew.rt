@@ -3,13 +3,13 @@ ghost use Rattle.std.specs.Prelude.{◌≡◌, ◌≢◌, ◌+◌, ◌≤◌, le
 ghost use Rattle.std.specs.Thread.{IsSync};
 ghost use Rattle.actors.specs.declared.end.ActorEnd.TheVariants as end;
 ghost use Rattle.actors.specs.ScriptReads.{source_told};
-ghost use Rattle.actors.specs.Times.{TimeDid};
 ghost use Rattle.host_actor.specs.Links.{link_told, door_told};
-ghost use Rattle.tool_crew.specs.Doings.{Operated, Worked};
+ghost use Rattle.tool_crew.specs.Doings.{Operated, TimeWent, Worked};
 ghost use Rattle.tool_crew.specs.Seating.{IsOf, Stays, posts_in, HostWorked, AllOf, AllWorked};
 
 use crate::seat::Seat;
 use crate::seated::{host_in, module_in, operate_in, time_in};
+use actors::ActorEnd;
 use history_laws::Recorder;
 use host_actor::SessionBytes;
 use outside::{Clock, Door, Gate, Source};
@@ -63,7 +63,7 @@ pub fn run_modules<C: Recorder + Send, R: Threads + Wait + Sync, S: Source + Sen
     count
 }
 
-// The clock, the modules and the operator.
+// The clock behind its first look, the modules and the operator.
 fn run_others<
     C: Recorder + Send,
     R: Threads + Wait + Sync,
@@ -77,6 +77,7 @@ fn run_others<
     gate: &G,
     script: &mut S,
     operator: &mut Seat<Held<C>>,
+    ended: Option<ActorEnd>,
     clock: &mut T,
     time: &mut Seat<Held<C>>,
     modules: &mut [Seat<Held<C>>],
@@ -90,7 +91,7 @@ fn run_others<
         (posts_in operator.old.chair) (posts_in operator.new.chair) result operator.new.end }
     ensures unfailed { operator.new.end ≢ end.ReadFault → S.faults script.new ≡ S.faults script.old }
     ensures time_same { Stays shared.now time.old.chair time.new.chair }
-    ensures timed { TimeDid (T.given clock.old) (T.given clock.new) (posts_in time.old.chair) (posts_in time.new.chair) time.new.end }
+    ensures timed { TimeWent ended (T.given clock.old) (T.given clock.new) (posts_in time.old.chair) (posts_in time.new.chair) time.new.end }
     ensures worked { AllWorked shared.now 1 modules.old modules.new }
 {
     // (Made first, as above.)
@@ -107,14 +108,15 @@ fn run_others<
     let mut timed = ||
         requires { IsOf shared.now time.now.chair }
         ensures same { Stays shared.entry.now time.entry.now.chair time.exit.now.chair }
-        ensures did { TimeDid (T.given clock.entry.now) (T.given clock.exit.now) (posts_in time.entry.now.chair) (posts_in time.exit.now.chair) time.exit.now.end }
-    { time_in(rt, alloc, shared, clock, gate, time) };
+        ensures did { TimeWent ended (T.given clock.entry.now) (T.given clock.exit.now) (posts_in time.entry.now.chair) (posts_in time.exit.now.chair) time.exit.now.end }
+    { time_in(rt, alloc, shared, ended, clock, gate, time) };
     let (_, count) = join_mut(rt, &mut timed, &mut others);
     count
 }
 
-/// All actors at once. Gives how many bytes of the script were read.
-pub fn run_all<
+/// All actors at once, behind the first look at the clock, by how that ended the clock, if it did. Gives how many bytes of the script were
+/// read.
+pub fn run_at_once<
     C: Recorder + Send,
     R: Threads + Wait + Sync,
     X: Door + Send,
@@ -132,6 +134,7 @@ pub fn run_all<
     writer: &mut Seat<Held<C>>,
     script: &mut S,
     operator: &mut Seat<Held<C>>,
+    ended: Option<ActorEnd>,
     clock: &mut T,
     time: &mut Seat<Held<C>>,
     modules: &mut [Seat<Held<C>>],
@@ -142,14 +145,14 @@ pub fn run_all<
     requires modules { AllOf shared.now modules.old }
     requires few { 1 + length modules.old ≤ 256 }
     ensures hosted { HostWorked (link_told X.In.left X.In.faults X.In.ends X.Out.held X.Out.faults X.Out.refusals X.Out.is_shut) shared.now
-        (door_told X.left X.backs X.faults X.links X.waits X.closings door.old) (door_told X.left X.backs X.faults X.links X.waits X.closings door.new)
+        (door_told X.left X.backs X.opened_at X.faults X.links X.waits X.closings door.old) (door_told X.left X.backs X.opened_at X.faults X.links X.waits X.closings door.new)
         reader.old reader.new writer.old writer.new bytes.old.items bytes.new.items }
     ensures operator_same { Stays shared.now operator.old.chair operator.new.chair }
     ensures operated { Operated (source_told S.left S.faults S.ends script.old) (source_told S.left S.faults S.ends script.new)
         (posts_in operator.old.chair) (posts_in operator.new.chair) result operator.new.end }
     ensures script { operator.new.end ≢ end.ReadFault → S.faults script.new ≡ S.faults script.old }
     ensures time_same { Stays shared.now time.old.chair time.new.chair }
-    ensures timed { TimeDid (T.given clock.old) (T.given clock.new) (posts_in time.old.chair) (posts_in time.new.chair) time.new.end }
+    ensures timed { TimeWent ended (T.given clock.old) (T.given clock.new) (posts_in time.old.chair) (posts_in time.new.chair) time.new.end }
     ensures worked { AllWorked shared.now 1 modules.old modules.new }
 {
     // (Made first, as above.)
@@ -163,17 +166,17 @@ pub fn run_all<
             (posts_in operator.entry.now.chair) (posts_in operator.exit.now.chair) result operator.exit.now.end }
         ensures unfailed { operator.exit.now.end ≢ end.ReadFault → S.faults script.exit.now ≡ S.faults script.entry.now }
         ensures time_same { Stays shared.entry.now time.entry.now.chair time.exit.now.chair }
-        ensures timed { TimeDid (T.given clock.entry.now) (T.given clock.exit.now) (posts_in time.entry.now.chair) (posts_in time.exit.now.chair) time.exit.now.end }
+        ensures timed { TimeWent ended (T.given clock.entry.now) (T.given clock.exit.now) (posts_in time.entry.now.chair) (posts_in time.exit.now.chair) time.exit.now.end }
         ensures worked { AllWorked shared.entry.now 1 modules.entry.now modules.exit.now }
     {
         run_others(
-            rt, alloc, shared, gate, script, operator, clock, time, modules,
+            rt, alloc, shared, gate, script, operator, ended, clock, time, modules,
         )
     };
     let mut hosted = ||
         requires { IsOf shared.now reader.now.chair × IsOf shared.now writer.now.chair }
         ensures { HostWorked (link_told X.In.left X.In.faults X.In.ends X.Out.held X.Out.faults X.Out.refusals X.Out.is_shut) shared.entry.now
-            (door_told X.left X.backs X.faults X.links X.waits X.closings door.entry.now) (door_told X.left X.backs X.faults X.links X.waits X.closings door.exit.now)
+            (door_told X.left X.backs X.opened_at X.faults X.links X.waits X.closings door.entry.now) (door_told X.left X.backs X.opened_at X.faults X.links X.waits X.closings door.exit.now)
             reader.entry.now reader.exit.now writer.entry.now writer.exit.now bytes.entry.now.items bytes.exit.now.items }
     { host_in(rt, alloc, shared, door, bytes, gate, reader, writer) };
     let (_, count) = join_mut(rt, &mut hosted, &mut others);

@@ -7,10 +7,10 @@ ghost use Rattle.tool_crew.specs.Seating.{AllOf};
 ghost use Rattle.tool_crew.specs.Crews.{outside, AreEnds, CrewDid};
 ghost use Rattle.tool_crew.specs.Ran.{RunDid};
 
-use crate::crew::run_all;
 use crate::ends::Ends;
 use crate::seat::Seat;
 use crate::seating::{ends_of, seat_all, unseat_all};
+use crate::start::run_all;
 use history_laws::Recorder;
 use host_actor::SessionBytes;
 use outside::{Clock, Door, Gate, Source};
@@ -53,8 +53,8 @@ fn run_crew<
     requires few { length seats.old ≤ 259 }
     requires all { AllOf shared.now seats.old }
     ensures did { CrewDid (link_told X.In.left X.In.faults X.In.ends X.Out.held X.Out.faults X.Out.refusals X.Out.is_shut) shared.now
-        (outside (door_told X.left X.backs X.faults X.links X.waits X.closings door.old) (source_told S.left S.faults S.ends script.old) (T.given clock.old))
-        (outside (door_told X.left X.backs X.faults X.links X.waits X.closings door.new) (source_told S.left S.faults S.ends script.new) (T.given clock.new))
+        (outside (door_told X.left X.backs X.opened_at X.faults X.links X.waits X.closings door.old) (source_told S.left S.faults S.ends script.old) (T.given clock.old))
+        (outside (door_told X.left X.backs X.opened_at X.faults X.links X.waits X.closings door.new) (source_told S.left S.faults S.ends script.new) (T.given clock.new))
         bytes.old.items bytes.new.items result seats.old seats.new }
 {
     let Some((reader, rest)) = seats.split_first_mut() else {
@@ -98,8 +98,8 @@ fn run_seats<
     requires few { length seats.items ≤ 259 }
     requires all { AllOf shared.now seats.items }
     ensures did { CrewDid (link_told X.In.left X.In.faults X.In.ends X.Out.held X.Out.faults X.Out.refusals X.Out.is_shut) shared.now
-        (outside (door_told X.left X.backs X.faults X.links X.waits X.closings door.old) (source_told S.left S.faults S.ends script.old) (T.given clock.old))
-        (outside (door_told X.left X.backs X.faults X.links X.waits X.closings door.new) (source_told S.left S.faults S.ends script.new) (T.given clock.new))
+        (outside (door_told X.left X.backs X.opened_at X.faults X.links X.waits X.closings door.old) (source_told S.left S.faults S.ends script.old) (T.given clock.old))
+        (outside (door_told X.left X.backs X.opened_at X.faults X.links X.waits X.closings door.new) (source_told S.left S.faults S.ends script.new) (T.given clock.new))
         bytes.old.items bytes.new.items result.1.1 seats.items result.0.items }
     ensures ends { AreEnds result.0.items result.1.0 }
 {
@@ -119,7 +119,8 @@ fn run_seats<
     (seats, (ends, count))
 }
 
-/// Runs all actors over the core of this configuration, each on a thread of its own, until all have ended.
+/// Looks at the clock once, and then runs all actors over the core of this configuration, each on a thread of its own, until all have
+/// ended.
 ///
 /// `NoMemory`: there was no memory for the core, for the chairs or for their seats; then no actor ran.
 pub fn run_tool<
@@ -142,8 +143,8 @@ pub fn run_tool<
     ensures config { IfOk result (λ ran. (C.view ran.core).config ≡ config.now) }
     // What all actors did, and what the history has of it.
     ensures did { IfOk result (λ ran. RunDid (link_told X.In.left X.In.faults X.In.ends X.Out.held X.Out.faults X.Out.refusals X.Out.is_shut)
-        (outside (door_told X.left X.backs X.faults X.links X.waits X.closings door.old) (source_told S.left S.faults S.ends script.old) (T.given clock.old))
-        (outside (door_told X.left X.backs X.faults X.links X.waits X.closings door.new) (source_told S.left S.faults S.ends script.new) (T.given clock.new))
+        (outside (door_told X.left X.backs X.opened_at X.faults X.links X.waits X.closings door.old) (source_told S.left S.faults S.ends script.old) (T.given clock.old))
+        (outside (door_told X.left X.backs X.opened_at X.faults X.links X.waits X.closings door.new) (source_told S.left S.faults S.ends script.new) (T.given clock.new))
         config.now (C.view ran.core).history ran.sessions.items ran.script_bytes ran.ends) }
     // Where there was no memory, no actor ran.
     ensures door { OnErr result (door.new ≡ door.old) }

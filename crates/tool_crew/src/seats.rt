@@ -6,11 +6,11 @@ ghost use Rattle.shared_tool.specs.Chairs.{config_of, IsChairOf};
 ghost use Rattle.shared_tool.specs.Seats.{table_of, IsChairAt, posts_of};
 ghost use Rattle.actors.specs.declared.end.ActorEnd.TheVariants as end;
 ghost use Rattle.actors.specs.ScriptReads.{source_told};
-ghost use Rattle.actors.specs.Times.{TimeDid};
+ghost use Rattle.actors.specs.Times.{TimeLooked, TimeDid};
 ghost use Rattle.host_actor.specs.Links.{link_told, door_told};
 ghost use Rattle.tool_crew.specs.Doings.{Hosted, Operated, Worked};
 
-use actors::{ActorEnd, keep_time, operate, run_module};
+use actors::{ActorEnd, keep_time, look, operate, run_module};
 use gem_ids::ModuleId;
 use history_laws::Recorder;
 use host_actor::{SessionBytes, run_host};
@@ -45,7 +45,7 @@ fn host_at<
     ensures first { IsChairAt J.table J.config result.0.0 × (pass_number result.0.0 ≡ J.number) }
     ensures second { IsChairAt L.table L.config result.0.1 × (pass_number result.0.1 ≡ L.number) }
     ensures did { Hosted (link_told X.In.left X.In.faults X.In.ends X.Out.held X.Out.faults X.Out.refusals X.Out.is_shut)
-        (door_told X.left X.backs X.faults X.links X.waits X.closings door.old) (door_told X.left X.backs X.faults X.links X.waits X.closings door.new)
+        (door_told X.left X.backs X.opened_at X.faults X.links X.waits X.closings door.old) (door_told X.left X.backs X.opened_at X.faults X.links X.waits X.closings door.new)
         (posts_of (mine first)) (posts_of (mine result.0.0)) (posts_of (mine second)) (posts_of (mine result.0.1)) bytes.old.items bytes.new.items result.1 }
     ensures unfailed { result.1 ≢ end.Door → X.faults door.new ≡ X.faults door.old }
 {
@@ -70,7 +70,7 @@ pub fn host_seated<C: Recorder + Send, R: Threads + Wait + Sync, X: Door, G: Gat
     ensures first { IsChairOf shared.now result.0.0 × (pass_number result.0.0 ≡ pass_number first) }
     ensures second { IsChairOf shared.now result.0.1 × (pass_number result.0.1 ≡ pass_number second) }
     ensures did { Hosted (link_told X.In.left X.In.faults X.In.ends X.Out.held X.Out.faults X.Out.refusals X.Out.is_shut)
-        (door_told X.left X.backs X.faults X.links X.waits X.closings door.old) (door_told X.left X.backs X.faults X.links X.waits X.closings door.new)
+        (door_told X.left X.backs X.opened_at X.faults X.links X.waits X.closings door.old) (door_told X.left X.backs X.opened_at X.faults X.links X.waits X.closings door.new)
         (posts_of (mine first)) (posts_of (mine result.0.0)) (posts_of (mine second)) (posts_of (mine result.0.1)) bytes.old.items bytes.new.items result.1 }
     ensures unfailed { result.1 ≢ end.Door → X.faults door.new ≡ X.faults door.old }
 {
@@ -117,6 +117,41 @@ pub fn operate_seated<C: Recorder, W: Wait, S: Source, G: Gate>(
 }
 
 // At the place that the caller picks.
+fn look_at<J: Place, C: Recorder, W: Wait, T: Clock, G: Gate>(
+    rt: &W,
+    alloc: Global,
+    shared: &Shared<Held<C>>,
+    chair: Chair<C>,
+    clock: &mut T,
+    gate: &G,
+) -> (Chair<C>, Option<ActorEnd>)
+    requires tool { (table_of shared.now ≡ J.table) × (config_of shared.now ≡ J.config) }
+    requires chair { IsChairAt J.table J.config chair × (pass_number chair ≡ J.number) }
+    ensures chair { IsChairAt J.table J.config result.0 × (pass_number result.0 ≡ J.number) }
+    ensures did { TimeLooked (T.given clock.old) (T.given clock.new) (posts_of (mine chair)) (posts_of (mine result.0)) result.1 }
+{
+    let mut desk: Sitting<W, J, Held<C>> = Sitting::sit(rt, alloc, shared, chair);
+    let ended = look(&mut desk, clock, gate);
+    (desk.into_chair(), ended)
+}
+
+/// One look at the clock, at its chair, and how that ended the clock, if it did.
+pub fn look_seated<C: Recorder, W: Wait, T: Clock, G: Gate>(
+    rt: &W,
+    alloc: Global,
+    shared: &Shared<Held<C>>,
+    chair: Chair<C>,
+    clock: &mut T,
+    gate: &G,
+) -> (Chair<C>, Option<ActorEnd>)
+    requires { IsChairOf shared.now chair }
+    ensures chair { IsChairOf shared.now result.0 × (pass_number result.0 ≡ pass_number chair) }
+    ensures did { TimeLooked (T.given clock.old) (T.given clock.new) (posts_of (mine chair)) (posts_of (mine result.0)) result.1 }
+{
+    look_at::<Brand, C, W, T, G>(rt, alloc, shared, chair, clock, gate)
+}
+
+// At the place that the caller picks.
 fn time_at<J: Place, C: Recorder, W: Wait, T: Clock, G: Gate>(
     rt: &W,
     alloc: Global,
@@ -135,7 +170,7 @@ fn time_at<J: Place, C: Recorder, W: Wait, T: Clock, G: Gate>(
     (desk.into_chair(), end)
 }
 
-/// The clock at its chair.
+/// The clock at its chair, behind a look.
 pub fn time_seated<C: Recorder, W: Wait, T: Clock, G: Gate>(
     rt: &W,
     alloc: Global,

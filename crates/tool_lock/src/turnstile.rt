@@ -16,7 +16,32 @@ use crossbeam_utils::Backoff;
 use std::sync::Wait;
 
 impl<V: Kept + Drop> Turnstile<V> {
-    // Draws a ticket, and waits until it is served. Between two looks it pauses, longer from one to the next.
+    // Pauses between two looks, longer from one to the next, and in the end sleeps until a wake. The look found `served` in word 1,
+    // and it sleeps only where the word still has it.
+    //
+    // No wake is lost, since a pass draws its ticket before it looks, and who leaves raises word 1 before it looks at word 0. A
+    // raise that came before the pass's look is in what that found. One that comes behind it finds the pass's ticket out, and a
+    // wake follows: the pass sleeps by then and is woken, or finds the word changed and doesn't sleep. Only the low 32 bits of
+    // the word are compared: they are enough, since word 1 rises by fewer than 2^32 until the pass is served, as no more tickets
+    // are out than there are passes.
+    fn pause<W: Wait>(&self, rt: &W, backoff: &Backoff, served: u64) {
+        if backoff.is_completed() {
+            self.table.shared.park(rt, 1, (served & 0xffff_ffff) as u32);
+        } else {
+            backoff.snooze();
+        }
+    }
+
+    // Wakes all who sleep, behind a leave that raised word 1 from `left`, where a ticket is out. Where none is out nobody sleeps,
+    // and who draws the next one finds word 1 raised.
+    fn wake(&self, left: u64) {
+        let shared = &self.table.shared;
+        if shared.peek(0) != left.wrapping_add(1) {
+            shared.wake_all(1);
+        }
+    }
+
+    // Draws a ticket, and waits until it is served.
     fn enter<W: Wait>(&self, rt: &W, seat: &mut Seat<Option<V>, View<V::Entry, V::State>>)
         requires own { seat.old.table_id ≡ self.now.table.shared.table_id }
         requires rests { Rests seat.old.me }
@@ -27,10 +52,11 @@ impl<V: Kept + Drop> Turnstile<V> {
         let ticket = shared.fetch_add::<Draw>(seat, 0, 1);
         let backoff = Backoff::new();
         for _ in rt.forever() {
-            if shared.load::<Look>(seat, 1) == ticket {
+            let served = shared.load::<Look>(seat, 1);
+            if served == ticket {
                 return;
             }
-            backoff.snooze();
+            self.pause(rt, &backoff, served);
         }
         unreachable!()
     }
@@ -52,11 +78,13 @@ impl<V: Kept + Drop> Turnstile<V> {
         let after = value.count();
         drop(shared.exchange(seat, 0, Some(value)));
         if after == before {
-            shared.fetch_add::<Leave>(seat, 1, 1);
+            let left = shared.fetch_add::<Leave>(seat, 1, 1);
+            self.wake(left);
             return;
         }
         shared.fetch_add::<Count>(seat, 2, 1);
-        shared.fetch_add::<Leave>(seat, 1, 1);
+        let left = shared.fetch_add::<Leave>(seat, 1, 1);
+        self.wake(left);
     }
 
     // A turn of a seat that has the claim of this number.

@@ -10,6 +10,7 @@ use Rattle.line_feeding.specs.declared.ended.Cause.TheVariants as cause
 use Rattle.line_feeding.specs.CauseOf.{Refuses}
 use Rattle.line_feeding.specs.Fed.{SourceView, Fed, Shown, IsRead, Configured, RanUnder}
 use Rattle.feeding.proofs.Ending.{Fed-refused, Shown-refused}
+use Rattle.top_calls.specs.Ran.{ReadFirst}
 
 -- the worked configuration keeps its bounds
 worked_is : IsConfig worked_config
@@ -65,8 +66,8 @@ configured-refused (cause.Line number place) config config' h = absurd h
 configured-refused cause.Door config config' h = absurd h
 
 -- a run that took no configuration
-pub ran_refused : (why : Cause) (config config' input : SourceView) (held : Option (List ℕ)) → Refuses why config config' → (c : Config) × Configured c why config config' [] × RanUnder c why input input held held [] []
-ran_refused why config config' input held h = (worked_config, configured-refused why config config' h, ran-nothing why input held (Fed-refused worked_config why config config' input h) (Shown-refused worked_config why config config' held h))
+pub ran_refused : (why : Cause) (config config' input : SourceView) (held : Option (List ℕ)) → Refuses why config config' → (c : Config) × Configured c why config config' [] × RanUnder c why input input held held [] [] × ReadFirst c config config' input input
+ran_refused why config config' input held h = (worked_config, configured-refused why config config' h, ran-nothing why input held (Fed-refused worked_config why config config' input h) (Shown-refused worked_config why config config' held h), inr refl)
 
 -- what was read of a configuration that was taken, by how the run under it ended
 pub configured-read : (c : Config) (why : Cause) (config config' : SourceView) (history : List Entry) → IsRead config config' c → ((place : ℕ) → why ≢ cause.Words place) → ((rule : ℕ) (key : List ℕ) → why ≢ cause.Config rule key) → why ≢ cause.Door → Configured c why config config' history

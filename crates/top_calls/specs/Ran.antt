@@ -9,11 +9,16 @@ use Rattle.line_feeding.specs.Fed.{SourceView, IsRead, Configured, RanUnder}
 use Rattle.line_feeding.specs.Going.{SinkView}
 use Rattle.batching.specs.Batched.{BatchedUnder}
 
+-- where no configuration was read to its end, nothing was read of the input
+abbrev pub ReadFirst : Config → SourceView → SourceView → SourceView → SourceView → Type 0
+ReadFirst c config config' input input' = IsRead config config' c ⊎ (input' ≡ input)
+
 -- The command `feed`: it ran under the configuration that was read, which is the one that its text says; where none was read, nothing
--- happened.
+-- happened, and the input is as it was.
 abbrev pub FeedRan : Cause → SourceView → SourceView → SourceView → SourceView → SinkView → SinkView → List Entry → List SessionNote → Type 0
 FeedRan why config config' input input' out out' history notes =
     (c : Config) × Configured c why config config' history × RanUnder c why input input' out.held out'.held history notes
+    × ReadFirst c config config' input input'
 
 -- no configuration was read, for this cause, and nothing happened
 pub record NothingRan (why : Cause) (config config' : SourceView) (out out' : SinkView) (history : List Entry) (notes : List SessionNote) : Type 0 where

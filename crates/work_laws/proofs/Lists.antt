@@ -1,13 +1,11 @@
 -- What lists, options and truth values tell.
-use Rattle.std.proofs.Common.{◌≡◌, ◌≤◌, ◌<◌, ℕ, zero, suc, ◌+◌, ◌==◌, Bool, true, false, not, ◌||◌, ◌&&◌, if◌then◌else◌, List, [], ◌∷◌, Option, Some, None, option_map, is_some, refl, ◌∙◌, ap, subst, arith}
+use Rattle.std.proofs.Common.{◌≡◌, ◌≤◌, ◌<◌, ℕ, zero, suc, ◌+◌, ◌==◌, Bool, true, false, not, ◌||◌, ◌&&◌, if◌then◌else◌, List, [], ◌∷◌, Option, Some, None, option_map, refl, subst, arith}
 use Rattle.std.specs.List.{AllByRecursion, list_any, list_all}
 use Rattle.std.specs.Option.{option_or}
-use Rattle.std.proofs.lemmas.Bool.{or_right}
 use Rattle.std.proofs.lemmas.Bool.Decides.{Decides-eqb}
-use Rattle.gem_tables.specs.Table.{Row, firing, choose, is_one_of, is_itself, is_among, first_itself}
+use Rattle.gem_tables.specs.Table.{Row, firing, is_one_of, is_itself, is_among, first_itself}
 use Rattle.gem_tables.specs.Machine.{Machine, first_ready, least_in}
 use Rattle.robot_moves.specs.Moves.{first_of}
-use Rattle.floor_moves.proofs.Scans.{first_of as is_first}
 
 -- ---- truth values and options
 
@@ -25,11 +23,6 @@ both_none (Some x) y e = absurd (cc)
 pub mapped_none : {A B : Type 0} (f : A → B) (o : Option A) → option_map f o ≡ None → o ≡ None
 mapped_none f None e = refl
 mapped_none f (Some x) e = absurd (cc)
-
--- what is there is this
-pub is_this : {A : Type 0} (o : Option A) → is_some o ≡ true → (x : A) × (o ≡ Some x)
-is_this (Some x) e = (x, refl)
-is_this None e = absurd (cc)
 
 -- where what a test lets through is not there, and the test holds, it isn't
 pub where_none : {A : Type 0} (b : Bool) (o : Option A) → (if b then o else None) ≡ None → b ≡ true → o ≡ None
@@ -69,19 +62,7 @@ none_itself number finds (r ∷ rows) state e = of (is_itself r.by && (is_among 
   of true q e rest = absurd (cc)
   of false q e rest = (q, rest e)
 
--- where no case fits none is chosen
-pub none_chosen : {A : Type 0} (cases : List (Bool × A)) → AllByRecursion (λ (one : Bool × A). one.0 ≡ false) cases → choose cases ≡ None
-none_chosen [] all = refl
-none_chosen (one ∷ others) all = ap (λ (b : Bool). if b then Some one.1 else choose others) all.0 ∙ none_chosen others all.1
-
--- where none is ready at any of these objects, none is the first
-pub none_first : (table : ℕ) (ready : ℕ → Option ℕ) (xs : List ℕ) → ((x : ℕ) → is_one_of xs x ≡ true → ready x ≡ None) → first_ready table ready xs ≡ None
-none_first table ready [] none = refl
-none_first table ready (x ∷ xs) none =
-    ap (λ (o : Option ℕ). option_or (option_map (firing table x) o) (first_ready table ready xs)) (none x (is_first x xs))
-    ∙ none_first table ready xs (λ y is. none y (or_right (x == y) (is_one_of xs y) is))
-
--- and the other way round
+-- where none is the first, none is ready at any of these objects
 pub first_none : (table : ℕ) (ready : ℕ → Option ℕ) (xs : List ℕ) → first_ready table ready xs ≡ None → (x : ℕ) → is_one_of xs x ≡ true → ready x ≡ None
 first_none table ready [] e x is = absurd (cc)
 first_none table ready (y ∷ ys) e x is =

@@ -1,6 +1,6 @@
 -- What stands where by numbers stands there for the planner: who is seen at a place, which modules are Idle, which targets are free, and who
 -- may leave.
-use Rattle.std.proofs.Common.{◌≡◌, ◌≤◌, ◌<◌, ◌⊎◌, inl, inr, ℕ, zero, suc, ◌+◌, ◌==◌, Bool, true, false, ◌||◌, ◌&&◌, not, if◌then◌else◌, List, [], ◌∷◌, find, length, Option, Some, None, option_map, is_some, slice_get, refl, sym, ◌∙◌, ap, subst, arith}
+use Rattle.std.proofs.Common.{◌≡◌, ◌≤◌, ◌<◌, ℕ, zero, suc, ◌+◌, ◌==◌, Bool, true, false, ◌||◌, ◌&&◌, not, if◌then◌else◌, List, [], ◌∷◌, find, length, Option, Some, None, option_map, is_some, slice_get, refl, sym, ◌∙◌, ap, subst, arith}
 use Rattle.std.specs.Option.{option_or}
 use Rattle.std.proofs.lemmas.Bool.{and_parts, and_from}
 use Rattle.std.proofs.lemmas.Bool.Decides.{Decides-eqb}
@@ -10,23 +10,20 @@ use Rattle.gem_ids.specs.declared.numbers.LocId.TheVariants.{Slot, Aligner, Arm,
 use Rattle.robot_moves.specs.Modules.{module_at, is_idle, chamber_module}
 use Rattle.robot_moves.specs.Moves.{first_of, holder, is_empty, is_free, has_chamber, chamber_where_free, free_chamber, where_free, free_target, may_leave, is_useful}
 use Rattle.robot_moves.specs.declared.module.Module.{Module as ToolModule}
-use Rattle.robot_moves.specs.declared.module.Module.TheVariants.{Idle, Busy, Down}
 use Rattle.robot_moves.specs.declared.view.PlaceView.{PlaceView}
 use Rattle.substrate.specs.Locations.{is_same}
 use Rattle.substrate.specs.declared.registered.Registered.{Registered}
 use Rattle.floor_model.specs.Floor.{ToolFloor}
 use Rattle.floor_model.specs.Views.{views}
 use Rattle.floor_moves.specs.Floor as law
-use Rattle.floor_moves.specs.Floor.{Loc, slot, aligner, arm, chamber, own}
-use Rattle.floor_moves.specs.Ready as ready
+use Rattle.floor_moves.specs.Floor.{Loc, slot, arm, own}
+use Rattle.floor_moves.specs.Rest.{HasTarget, MayLeave}
 use Rattle.floor_moves.specs.Valid.{Empty, Valid}
-use Rattle.floor_moves.proofs.Facts.{empty_tells, HomeFree, AlignerFree, ChamberFree, target_tells}
-use Rattle.place_laws.specs.Picture.{picture, loc_of, module_of, numbers_from}
+use Rattle.place_laws.specs.Picture.{picture, loc_of, numbers_from}
 use Rattle.place_laws.specs.Sound.{Base}
 use Rattle.floor_laws.proofs.IssueHeld.{found_so, none_any}
-use Rattle.floor_laws.proofs.IssueViews.{IsSeen, holder_seen, none_seen}
-use Rattle.work_laws.proofs.Ease.{at_ease}
-use Rattle.work_laws.proofs.Lists.{none_of, is_this}
+use Rattle.floor_laws.proofs.IssueViews.{IsSeen, holder_seen, none_seen, same_loc}
+use Rattle.work_laws.proofs.Lists.{none_of}
 use Rattle.work_laws.proofs.Telling.{Tells, views_tell}
 
 -- ---- numbers of chambers and modules
@@ -40,7 +37,7 @@ within first (suc count) n e = of (first == n) refl e (within (first + 1) count 
   of false q e rest = let more = rest e in let a = more.0 in let b = more.1 in (omega (arith, a), omega (arith, b))
 
 -- there is a module of each place in the list
-there : (n : ℕ) (ms : List ToolModule) → n < length ms → (x : ToolModule) × (slice_get ms n ≡ Some x)
+pub there : (n : ℕ) (ms : List ToolModule) → n < length ms → (x : ToolModule) × (slice_get ms n ≡ Some x)
 there n [] less = absurd (omega (arith, less))
 there zero (x ∷ ms) less = (x, refl)
 there (suc n) (x ∷ ms) less = there n ms (omega (arith, less))
@@ -70,33 +67,15 @@ module _ (vs : List PlaceView) (ms : List ToolModule) (w : PlaceView) where
 
 -- ---- by numbers
 
-module _ (f : ToolFloor) (b : Base f) (v : Valid (picture f)) (many : length f.modules ≡ 2 + f.places.chambers) where
+module _ (f : ToolFloor) (b : Base f) (v : Valid (picture f)) (many : length f.modules ≡ 2 + f.places.chambers)
+    (idles : (m : ℕ) → 1 ≤ m → m ≤ length f.modules → is_idle (module_at m f.modules) ≡ true) where
   -- ---- modules
 
-  -- a module of the tool that is Idle by numbers is Idle
-  pub idle_there : (m : ℕ) → 1 ≤ m → m ≤ length f.modules → law.is_idle ((picture f).equipment m) ≡ true → is_idle (module_at m f.modules) ≡ true
-  idle_there zero least most e = absurd (omega (arith, least))
-  idle_there (suc k) least most e =
-      let w = there k f.modules (omega (arith, most)) in
-      of w.0 w.1 (sym (ap (λ (o : Option ToolModule). law.is_idle (module_of o f.places)) w.1) ∙ e)
-    where
-      of : (x : ToolModule) → module_at (suc k) f.modules ≡ Some x → law.is_idle (module_of (Some x) f.places) ≡ true → is_idle (module_at (suc k) f.modules) ≡ true
-      of Idle q e = ap is_idle q
-      of (Busy c fetched) q e = absurd (cc)
-      of Down q e = absurd (cc)
+  aligner_there : is_idle (module_at 2 f.modules) ≡ true
+  aligner_there = idles 2 (omega arith) (omega (arith, many))
 
-  robot_there : law.is_idle ((picture f).equipment 1) ≡ true → is_idle (module_at 1 f.modules) ≡ true
-  robot_there e = idle_there 1 (omega arith) (omega (arith, many)) e
-
-  aligner_there : law.is_idle ((picture f).equipment 2) ≡ true → is_idle (module_at 2 f.modules) ≡ true
-  aligner_there e = idle_there 2 (omega arith) (omega (arith, many)) e
-
-  pub chamber_there : (c : ℕ) → is_one_of (picture f).chambers c ≡ true → law.is_idle ((picture f).equipment (law.chamber_module c)) ≡ true → is_idle (module_at (chamber_module c) f.modules) ≡ true
-  chamber_there c known e =
-      let w = within 1 f.places.chambers c known in
-      let least = w.0 in
-      let most = w.1 in
-      idle_there (chamber_module c) (omega arith) (omega (arith, most, many)) e
+  chamber_there : (c : ℕ) → is_one_of (picture f).chambers c ≡ true → is_idle (module_at (chamber_module c) f.modules) ≡ true
+  chamber_there c known = let w = within 1 f.places.chambers c known in let most = w.1 in idles (chamber_module c) (omega arith) (omega (arith, most, many))
 
   -- ---- who is where
 
@@ -145,71 +124,47 @@ module _ (f : ToolFloor) (b : Base f) (v : Valid (picture f)) (many : length f.m
     abbrev target_by : Bool → Bool → Option LocId
     target_by finished is_aligned = if finished then Some w.slot else (if not is_aligned then Some Aligner else option_map (λ (c : ℕ). Chamber c) (free_chamber (views f) f.modules w))
 
-    home_there : HomeFree n (at_ease f) (own n (at_ease f)) → is_some (free_target (views f) f.modules w) ≡ true
-    home_there h =
+    home_there : w.finished ≡ true → Empty (own n (picture f)) (picture f) → is_some (free_target (views f) f.modules w) ≡ true
+    home_there finished free =
         let home = s.home in
-        let finished : w.finished ≡ true = sym s.finished ∙ h.0 in
-        let empty : Empty (loc_of (Slot home.0 home.1)) (at_ease f) = subst (λ (l : Loc). Empty l (at_ease f)) (s.its_own ∙ ap loc_of home.2) (empty_tells (at_ease f) v.places (own n (at_ease f)) h.1) in
-        let free : is_free (views f) f.modules w.slot ≡ true = ap (is_free (views f) f.modules) home.2 ∙ empty_there (Slot home.0 home.1) empty in
+        let empty : Empty (loc_of (Slot home.0 home.1)) (picture f) = subst (λ (l : Loc). Empty l (picture f)) (s.its_own ∙ ap loc_of home.2) free in
+        let is : is_free (views f) f.modules w.slot ≡ true = ap (is_free (views f) f.modules) home.2 ∙ empty_there (Slot home.0 home.1) empty in
         ap (λ (x : Bool). is_some (where_free (views f) f.modules (target_by x w.aligned))) finished
-        ∙ ap (λ (x : Bool). is_some (if x then Some w.slot else None)) free
+        ∙ ap (λ (x : Bool). is_some (if x then Some w.slot else None)) is
 
     by_aligned : (is_aligned : Bool) → w.finished ≡ false → w.aligned ≡ is_aligned → is_some (where_free (views f) f.modules (target_by false is_aligned)) ≡ true → is_some (free_target (views f) f.modules w) ≡ true
     by_aligned is_aligned unfinished al e =
         ap (λ (x : Bool). is_some (where_free (views f) f.modules (target_by x w.aligned))) unfinished
         ∙ ap (λ (x : Bool). is_some (where_free (views f) f.modules (target_by false x))) al ∙ e
 
-    to_aligner : law.is_finished ((at_ease f).processing n) ≡ false → (at_ease f).is_aligned n ≡ false → ready.is_empty aligner (at_ease f) ≡ true → law.is_idle ((at_ease f).equipment 2) ≡ true → is_some (free_target (views f) f.modules w) ≡ true
-    to_aligner unfinished al empty idle =
-        by_aligned false (sym s.finished ∙ unfinished) (sym s.aligned ∙ al)
-        (ap (λ (x : Bool). is_some (if x then Some Aligner else None))
-        (and_from (is_empty Aligner (views f)) (is_idle (module_at 2 f.modules)) (empty_there Aligner (empty_tells (at_ease f) v.places aligner empty)) (aligner_there idle)))
-
-    to_chamber : law.is_finished ((at_ease f).processing n) ≡ false → (at_ease f).is_aligned n ≡ true → (c : ℕ) → ready.is_chamber_free n (at_ease f) c ≡ true → is_one_of (at_ease f).chambers c ≡ true → is_some (free_target (views f) f.modules w) ≡ true
-    to_chamber unfinished al c free known =
-        let parts = and_parts (is_one_of ((at_ease f).jobs.chambers_of n) c) (ready.is_empty (chamber c) (at_ease f) && law.is_idle ((at_ease f).equipment (law.chamber_module c))) free in
-        let here = and_parts (ready.is_empty (chamber c) (at_ease f)) (law.is_idle ((at_ease f).equipment (law.chamber_module c))) parts.1 in
-        let chosen = t.chambers c (ap (λ (k : ℕ). is_one_of ((at_ease f).jobs.chambers_of k) c) s.number ∙ parts.0) in
-        let open_there : is_free (views f) f.modules (Chamber c) ≡ true =
-        and_from (is_empty (Chamber c) (views f)) (is_idle (module_at (chamber_module c) f.modules)) (empty_there (Chamber c) (empty_tells (at_ease f) v.places (chamber c) here.0)) (chamber_there c known here.1) in
-        by_aligned true (sym s.finished ∙ unfinished) (sym s.aligned ∙ al)
-        (chamber_target (views f) f.modules w c chosen.least chosen.most (and_from (has_chamber w.chambers c) (is_free (views f) f.modules (Chamber c)) chosen.has open_there))
-
-    -- where its target is free by numbers, the planner has one for it
-    pub target_there : is_some (ready.free_target n (at_ease f)) ≡ true → is_some (free_target (views f) f.modules w) ≡ true
-    target_there e = let l = is_this (ready.free_target n (at_ease f)) e in of l.0 (target_tells n (at_ease f) l.0 l.1) where
-      of : (l : Loc) → HomeFree n (at_ease f) l ⊎ (AlignerFree n (at_ease f) l ⊎ ChamberFree n (at_ease f) l) → is_some (free_target (views f) f.modules w) ≡ true
-      of l (inl h) = home_there (h.0, h.1, refl)
-      of l (inr (inl h)) = to_aligner h.0 h.1 h.2 h.3
-      of l (inr (inr h)) = to_chamber h.0 h.1 h.2 h.3 h.4
+    -- where there is room for it next, the planner has a target
+    pub target_there : HasTarget n (picture f) → is_some (free_target (views f) f.modules w) ≡ true
+    target_there has = of w.finished refl w.aligned refl where
+      of : (x : Bool) → w.finished ≡ x → (y : Bool) → w.aligned ≡ y → is_some (free_target (views f) f.modules w) ≡ true
+      of true p y q = home_there p (has.0 (s.finished ∙ p))
+      of false p false q =
+          by_aligned false p q (ap (λ (x : Bool). is_some (if x then Some Aligner else None))
+          (and_from (is_empty Aligner (views f)) (is_idle (module_at 2 f.modules)) (empty_there Aligner ((has.1 (s.finished ∙ p)).at_aligner (s.aligned ∙ q))) aligner_there))
+      of false p true q =
+          let c = (has.1 (s.finished ∙ p)).in_chamber (s.aligned ∙ q) in
+          let chosen = t.chambers c.0 (ap (λ (k : ℕ). is_one_of ((picture f).jobs.chambers_of k) c.0) s.number ∙ c.1) in
+          let open_there : is_free (views f) f.modules (Chamber c.0) ≡ true = and_from (is_empty (Chamber c.0) (views f)) (is_idle (module_at (chamber_module c.0) f.modules)) (empty_there (Chamber c.0) c.3) (chamber_there c.0 c.2) in
+          by_aligned true p q (chamber_target (views f) f.modules w c.0 chosen.least chosen.most (and_from (has_chamber w.chambers c.0) (is_free (views f) f.modules (Chamber c.0)) chosen.has open_there))
 
     -- ---- who may leave
 
-    same_slot : (at own_slot : Loc) (p k : ℕ) → own_slot ≡ slot p k → law.is_same at own_slot ≡ true → law.is_same at (slot p k) ≡ true
-    same_slot at own_slot p k e is = sym (ap (law.is_same at) e) ∙ is
-
-    leaves_there : (loc : LocId) → (at_ease f).place_of n ≡ Some (loc_of loc) → ready.may_leave n (at_ease f) (Some (loc_of loc)) ≡ true → may_leave loc f.modules w ≡ true
-    leaves_there (Slot p k) at e =
-        let parts = and_parts (law.is_same (slot p.0 k.0) (own n (at_ease f)) && not (law.is_finished ((at_ease f).processing n))) ((at_ease f).jobs.may_start n) e in
-        let first = and_parts (law.is_same (slot p.0 k.0) (own n (at_ease f))) (not (law.is_finished ((at_ease f).processing n))) parts.0 in
-        let home = s.home in
-        let same : law.is_same (slot p.0 k.0) (slot home.0.0 home.1.0) ≡ true = same_slot (slot p.0 k.0) (own n (at_ease f)) home.0.0 home.1.0 (s.its_own ∙ ap loc_of home.2) first.0 in
-        let here : is_same (Slot p k) w.slot ≡ true = ap (is_same (Slot p k)) home.2 ∙ same in
+    leaves_there : (loc : LocId) → (picture f).place_of n ≡ Some (loc_of loc) → MayLeave n (loc_of loc) (picture f) → may_leave loc f.modules w ≡ true
+    leaves_there (Slot p k) at may =
         and_from (is_same (Slot p k) w.slot && not w.finished) w.may_start
-        (and_from (is_same (Slot p k) w.slot) (not w.finished) here (ap (λ (x : Bool). not x) (sym s.finished) ∙ first.1))
-        (sym s.starts ∙ parts.1)
-    leaves_there Aligner at e =
-        let parts = and_parts (law.is_idle ((at_ease f).equipment 2)) (law.is_finished ((at_ease f).processing n) || (at_ease f).is_aligned n) e in
-        and_from (is_idle (module_at 2 f.modules)) (w.finished || w.aligned) (aligner_there parts.0)
-        (ap (λ (x : Bool). x || w.aligned) (sym s.finished) ∙ ap (λ (x : Bool). law.is_finished ((at_ease f).processing n) || x) (sym s.aligned) ∙ parts.1)
-    leaves_there Arm at e = absurd (cc)
-    leaves_there (Chamber c) at e =
-        let parts = and_parts (law.is_idle ((at_ease f).equipment (law.chamber_module c))) (law.is_finished ((at_ease f).processing n)) e in
-        and_from (is_idle (module_at (chamber_module c) f.modules)) w.finished (chamber_there c (v.places.chambers n c at) parts.0) (sym s.finished ∙ parts.1)
+        (and_from (is_same (Slot p k) w.slot) (not w.finished) (same_loc (Slot p k) w.slot (v.places.home n p.0 k.0 at ∙ s.its_own)) (ap not (sym s.finished ∙ may.0)))
+        (sym s.starts ∙ may.1)
+    leaves_there Aligner at may =
+        and_from (is_idle (module_at 2 f.modules)) (w.finished || w.aligned) aligner_there
+        (ap (λ (x : Bool). x || w.aligned) (sym s.finished) ∙ ap (λ (x : Bool). law.is_finished ((picture f).processing n) || x) (sym s.aligned) ∙ may)
+    leaves_there Arm at may = absurd may
+    leaves_there (Chamber c) at may = and_from (is_idle (module_at (chamber_module c) f.modules)) w.finished (chamber_there c (v.places.chambers n c at)) (sym s.finished ∙ may)
 
-    -- one whose pick is useful by numbers is one for the planner
-    pub useful_there : (loc : LocId) → w.at ≡ loc → (at_ease f).place_of n ≡ Some (loc_of loc) → ready.is_useful (at_ease f) n ≡ true → is_useful (views f) f.modules w ≡ true
-    useful_there loc is at e =
-        let parts = and_parts (ready.may_leave n (at_ease f) ((at_ease f).place_of n)) (is_some (ready.free_target n (at_ease f))) e in
-        let leaves : may_leave w.at f.modules w ≡ true = ap (λ (l : LocId). may_leave l f.modules w) is ∙ leaves_there loc at (sym (ap (ready.may_leave n (at_ease f)) at) ∙ parts.0) in
-        and_from (may_leave w.at f.modules w) (is_some (free_target (views f) f.modules w)) leaves (target_there parts.1)
+    -- its pick is useful
+    pub useful_there : (loc : LocId) → w.at ≡ loc → (picture f).place_of n ≡ Some (loc_of loc) → MayLeave n (loc_of loc) (picture f) → HasTarget n (picture f) → is_useful (views f) f.modules w ≡ true
+    useful_there loc is at may has =
+        and_from (may_leave w.at f.modules w) (is_some (free_target (views f) f.modules w)) (ap (λ (l : LocId). may_leave l f.modules w) is ∙ leaves_there loc at may) (target_there has)

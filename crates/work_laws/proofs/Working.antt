@@ -1,17 +1,14 @@
 -- Where no row of the floor is ready by itself, no module is Down and work is left, a command is open.
-use Rattle.std.proofs.Common.{◌≡◌, ℕ, ◌==◌, Bool, true, false, not, ◌||◌, ◌&&◌, if◌then◌else◌, List, [], ◌∷◌, map, Option, Some, None, refl, sym, ◌∙◌, ap, subst, arith}
+use Rattle.std.proofs.Common.{◌≡◌, length, suc, zero, ◌≤◌, ℕ, ◌==◌, Bool, true, false, not, ◌||◌, ◌&&◌, if◌then◌else◌, List, [], ◌∷◌, map, Option, Some, None, refl, sym, ◌∙◌, ap, subst, arith}
 use Rattle.std.specs.List.{AllByRecursion, list_any}
-use Rattle.std.specs.Option.{option_or}
 use Rattle.std.proofs.lemmas.Bool.{and_parts, and_from, or_parts, or_right, not-true}
 use Rattle.std.proofs.lemmas.Bool.Decides.{Decides-eqb}
 use Rattle.gem_tables.specs.Table.{is_one_of}
 use Rattle.gem_tables.specs.Machine.{first_ready}
-use Rattle.gem_tables.specs.declared.firing.Firing.{Firing}
-use Rattle.gem_tables.proofs.Machines.{none_ready}
 use Rattle.process_job.specs.Jobs.{AreNumbered, job_numbered}
 use Rattle.process_job.specs.declared.job.ProcessJob.{ProcessJob}
 use Rattle.process_job.specs.declared.record.JobState.{JobState}
-use Rattle.robot_moves.specs.Modules.{module_at}
+use Rattle.robot_moves.specs.Modules.{module_at, is_idle}
 use Rattle.robot_moves.specs.Moves.{next_move}
 use Rattle.robot_moves.specs.declared.module.Module.{Module as ToolModule}
 use Rattle.robot_moves.specs.declared.module.Module.TheVariants.{Idle, Busy, Down}
@@ -26,23 +23,23 @@ use Rattle.floor_model.specs.Views.{views}
 use Rattle.floor_model.proofs.Moves.{firing_of, first_move_is}
 use Rattle.substrate.specs.Tables.{processing_number, processing_table}
 use Rattle.floor_moves.specs.Floor as law
-use Rattle.floor_moves.specs.Floor.{Floor, Loc, slot, aligner, arm, chamber, Command, busy, down, modules, own}
-use Rattle.floor_moves.specs.Ready.{row_at, objects, least_of, least}
+use Rattle.floor_moves.specs.Floor.{Floor, Loc, slot, aligner, arm, chamber, Command, busy, modules, own}
 use Rattle.floor_moves.specs.Work as law_work
-use Rattle.floor_moves.specs.Work.{AreUp, IsOpen}
+use Rattle.floor_moves.specs.Work.{IsOpen}
+use Rattle.floor_moves.specs.Rest.{AtRest}
 use Rattle.floor_moves.proofs.Waiting.{command_is_open}
 use Rattle.place_laws.specs.Picture.{picture, module_of, of_one, of_job}
 use Rattle.place_laws.specs.Sound.{Sound}
-use Rattle.place_laws.proofs.Holding.{one_found, found_among}
+use Rattle.place_laws.proofs.Holding.{found_among}
 use Rattle.floor_laws.proofs.JobLists.{job_number_is}
 use Rattle.floor_laws.proofs.JobSight.{any_at, kept_here, outside_same, removed_from, in_slot_from}
 use Rattle.floor_laws.proofs.JobWork.{finished_same}
 use Rattle.floor_laws.proofs.RegFound.{risen}
 use Rattle.work_laws.specs.Equipped.{Equipped}
 use Rattle.work_laws.specs.Work.{is_pausing, is_member_outside, has_work, is_work_left, is_down, is_any_down, has_open, is_any_open}
-use Rattle.work_laws.proofs.Lists.{not_false, mapped_none, not_all, none_first, first_none, none_least}
-use Rattle.work_laws.proofs.Ease.{at_ease, eased_valid}
-use Rattle.work_laws.proofs.Resting.{none_processing, none_planned, none_moving}
+use Rattle.work_laws.proofs.Lists.{not_false, mapped_none, not_all, first_none, none_least}
+use Rattle.work_laws.proofs.Resting.{none_planned, at_rest}
+use Rattle.work_laws.proofs.Standing.{there}
 use Rattle.work_laws.proofs.Chambers.{have_chambers}
 
 -- ---- what passes a test is found by its number
@@ -176,53 +173,31 @@ module _ (f : ToolFloor) (sound : Sound f) where
           unsettled_left j found parts.0 (not-true (is_settled j.number f) parts.1)
       of j found false q e = outside_member_left j (and_parts (is_pausing j.states.state) (list_any (is_member_outside j.number f.places) f.substrates) e).1
 
--- ---- no row is ready by numbers
-
--- four that are none are none together
-none_together : (a b c d : Option Firing) → a ≡ None → b ≡ None → c ≡ None → d ≡ None → option_or a (option_or b (option_or c d)) ≡ None
-none_together a b c d p q r s =
-    ap (λ (x : Option Firing). option_or x (option_or b (option_or c d))) p
-    ∙ ap (λ (x : Option Firing). option_or x (option_or c d)) q
-    ∙ ap (λ (x : Option Firing). option_or x d) r
-    ∙ s
+-- ---- the floor by numbers is at rest
 
 module _ (f : ToolFloor) (sound : Sound f) (equipped : Equipped f) (rests : floor_least f ≡ None) where
   -- no row of any table is ready
   tables_rest : AllByRecursion (λ m. first_ready m.table (λ object. m.ready object f) (m.objects f) ≡ None) floor_machines
   tables_rest = none_least floor_machines f rests
 
-  -- so none of table 13 is by numbers
-  processing_rests : (n : ℕ) → is_one_of (map number_of f.substrates) n ≡ true → row_at 13 (at_ease f) n ≡ None
-  processing_rests n kept =
-      let s = one_found number_of n f.substrates kept in
-      let here = first_none 13 (λ (n : ℕ). substrate_ready processing_number processing_table (λ s. s.processing) (substrate_numbered n f.substrates) f) (map number_of f.substrates) tables_rest.1.1.1.1.1.1.1.1.1.0 n kept in
-      none_processing f sound.base sound.valid n s.0 s.1
-      (sym (ap (λ (o : Option Substrate). substrate_ready processing_number processing_table (λ s. s.processing) o f) s.1) ∙ here)
-
-  -- nor one of table 16
-  moves_rest : (m : ℕ) → is_one_of (modules (picture f)) m ≡ true → row_at 16 (at_ease f) m ≡ None
-  moves_rest m known =
+  -- so it is at rest, where each module is Idle
+  still : ((m : ℕ) → 1 ≤ m → m ≤ length f.modules → is_idle (module_at m f.modules) ≡ true) → AtRest (picture f)
+  still idles =
       let nothing : next_move (views f) f.modules ≡ None = mapped_none (firing_of (views f) f.modules) (next_move (views f) f.modules) (sym (first_move_is f) ∙ tables_rest.1.1.1.1.1.1.1.1.1.1.1.1.0) in
-      none_moving f sound.base sound.valid equipped.modules (none_planned f nothing) m
-
-  eased_rests : least (at_ease f) ≡ None
-  eased_rests =
-      none_together (least_of 10 (at_ease f)) (least_of 12 (at_ease f)) (least_of 13 (at_ease f)) (least_of 16 (at_ease f))
-      (none_ready 10 (row_at 10 (at_ease f)) (objects 10 (at_ease f)) (λ c. refl))
-      (none_ready 12 (row_at 12 (at_ease f)) (objects 12 (at_ease f)) (λ n. refl))
-      (none_first 13 (row_at 13 (at_ease f)) (objects 13 (at_ease f)) processing_rests)
-      (none_first 16 (row_at 16 (at_ease f)) (objects 16 (at_ease f)) moves_rest)
+      at_rest f sound.base sound.valid equipped.modules idles (none_planned f nothing)
+      (λ n s found. sym (ap (λ (o : Option Substrate). substrate_ready processing_number processing_table (λ s. s.processing) o f) found)
+      ∙ first_none 13 (λ (n : ℕ). substrate_ready processing_number processing_table (λ s. s.processing) (substrate_numbered n f.substrates) f) (map number_of f.substrates) tables_rest.1.1.1.1.1.1.1.1.1.0 n (found_among number_of n f.substrates s found))
 
 -- ---- modules
 
--- no module is Down by numbers
-are_up : (f : ToolFloor) → is_any_down f.modules ≡ false → AreUp (picture f)
-are_up f none m known e = of (module_at m f.modules) refl e where
-  of : (o : Option ToolModule) → module_at m f.modules ≡ o → module_of o f.places ≡ down → ⊥
-  of None q e = cc
-  of (Some Idle) q e = cc
-  of (Some (Busy c fetched)) q e = cc
-  of (Some Down) q e = let some = any_at is_down f.modules m Down q refl in cc
+-- where none is Down and none has a command, each is Idle
+all_idle : (f : ToolFloor) → is_any_down f.modules ≡ false → ((m : ℕ) (c : Command) → (picture f).equipment m ≡ busy c → ⊥) → (m : ℕ) → 1 ≤ m → m ≤ length f.modules → is_idle (module_at m f.modules) ≡ true
+all_idle f up none zero least most = absurd (omega (arith, least))
+all_idle f up none (suc k) least most = let w = there k f.modules (omega (arith, most)) in of w.0 w.1 where
+  of : (x : ToolModule) → module_at (suc k) f.modules ≡ Some x → is_idle (module_at (suc k) f.modules) ≡ true
+  of Idle q = ap is_idle q
+  of (Busy c fetched) q = absurd (none (suc k) _ (ap (λ (o : Option ToolModule). module_of o f.places) q))
+  of Down q = absurd (let some = any_at is_down f.modules (suc k) Down q refl in cc)
 
 -- a command that is open by numbers is open
 open_there : (f : ToolFloor) → IsOpen (picture f) → is_any_open f.modules ≡ true
@@ -238,4 +213,4 @@ open_there f is = of is.0 is.1 (module_at is.0 f.modules) refl is.2 where
 pub open_while_work : (f : ToolFloor) → Sound f → Equipped f → floor_least f ≡ None → is_any_down f.modules ≡ false → is_work_left f ≡ true → is_any_open f.modules ≡ true
 open_while_work f sound equipped rests up work =
     let w = work_left f sound work in
-    open_there f (command_is_open (at_ease f) w.n (eased_valid f sound.valid) (have_chambers f equipped) (eased_rests f sound equipped rests) (are_up f up) w.kept w.left)
+    open_there f (command_is_open (picture f) w.n sound.valid (have_chambers f equipped) (λ none. still f sound equipped rests (all_idle f up none)) w.kept w.left)

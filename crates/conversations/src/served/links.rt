@@ -40,6 +40,26 @@ pub fn run_both<R: Threads + Wait + Sync + time::Clock>(
     Ok(told)
 }
 
+/// Runs what is given, where each reading of the clock takes so many turns and gives this moment, a host comes at once and selects when
+/// its peer sends, and the operator says `O local`, and `O quit` once the host was answered. Tells of it, and whether the select response
+/// went out.
+pub fn run_late<R: Threads + Wait + Sync + time::Clock>(
+    rt: &R,
+    alloc: Global,
+    given: &Given,
+    moment: u64,
+    turns: u64,
+) -> Result<String, AllocError> {
+    let signs = LinkSigns::new();
+    let mut door = patient_door(rt, alloc, &SELECT, given.limits, &signs)?;
+    let mut script = local_and_quit_at(rt, alloc, &signs.wrote)?;
+    let mut clock = StepClock::late(rt, moment, turns);
+    let gate = SleepGate::new(rt);
+    let mut told = run_serve(rt, alloc, given, &mut door, &mut script, &mut clock, &gate)?;
+    tell_whether(&mut told, "selected", is_selected(&door))?;
+    Ok(told)
+}
+
 // Runs what is given at this door. The clock goes on by so much at each look; the operator ends the run once the link was shut.
 fn run_watched<'a, R: Threads + Wait + Sync + time::Clock>(
     rt: &'a R,

@@ -24,7 +24,7 @@ fn run_at<R: Threads + Wait + Sync + time::Clock>(
     Ok(told)
 }
 
-/// Runs what is given at a door without links, and tells of it.
+/// Runs what is given at a door without links, and tells of it, and the port at which the door was asked to listen, 0 where it was not.
 pub fn run_alone<R: Threads + Wait + Sync + time::Clock>(
     rt: &R,
     alloc: Global,
@@ -32,6 +32,7 @@ pub fn run_alone<R: Threads + Wait + Sync + time::Clock>(
 ) -> Result<String, AllocError> {
     let mut door = door_of(alloc, Vec::new(alloc), given.limits)?;
     let mut told = run_at(rt, alloc, given, &mut door)?;
+    tell_number(alloc, &mut told, "port", door.port().unwrap_or(0).into())?;
     tell_number(alloc, &mut told, "waits", door.waits())?;
     Ok(told)
 }

@@ -1,4 +1,4 @@
-use Rattle.std.proofs.Common.{◌≡◌, inl, inr, refl, ◌∙◌}
+use Rattle.std.proofs.Common.{inl, inr, refl, ◌∙◌}
 use Rattle.actors.proofs.Taking.{frames-go, failed-as, writer-ends, writer-fails, writer-refused}
 use Rattle.actors.proofs.writer.write_frames.Goals as goal
 

@@ -1,4 +1,3 @@
-use Rattle.std.proofs.Common.{◌≡◌}
 use Rattle.actors.proofs.Taking.{failed-by, unfailed-by, writer-shuts}
 use Rattle.actors.proofs.writer.write_host.Goals as goal
 

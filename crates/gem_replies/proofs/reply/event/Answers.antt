@@ -8,6 +8,6 @@ use Rattle.gem_replies.proofs.reply.event.Goals as goal
 
 pub returns-clause-bounded : goal.returns-clause-bounded
 returns-clause-bounded c few =
-    IfOk-weaker c.list.result (λ item. view item ≡ event_data c.args.note c.args.ceid c.args.reports.now) (λ item. IsBounded 5 (2 ^ 31) (view item))
-    (λ item is. rw is (event_bounded c.args.note c.args.ceid c.args.reports.now few))
-    (rw (c.in_ok-note.ensures, c.in_ok-ceid.ensures, c.items_out.ensures) at c.list.ensures)
+    IfOk-weaker c.list.result (λ item. view item ≡ event_data c.args.note c.args.ceid c.args.reports) (λ item. IsBounded 5 (2 ^ 31) (view item))
+    (λ item is. rw is (event_bounded c.args.note c.args.ceid c.args.reports few))
+    (rw (c.in_ok-note.ensures, c.in_ok-ceid.ensures) at c.list.ensures)

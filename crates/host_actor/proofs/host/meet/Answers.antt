@@ -10,7 +10,7 @@ pub returns-in-Err-clause-did : goal.returns-in-Err-clause-did
 returns-in-Err-clause-did g c = λ before gave.
     let met = c.back.ensures in
     unmade-turn _ _ _ _ _ _ _ _ _ _ _ _ gave
-    (record { backs = met.backs; left = met.left; faults = met.faults; links = met.links; waits = met.waits; closings = met.closings })
+    (record { backs = met.backs; left = met.left; port = met.port; faults = met.faults; links = met.links; waits = met.waits; closings = met.closings })
     c.in-Err.ensures.up
 
 pub returns-in-Err-clause-full : goal.returns-in-Err-clause-full
@@ -26,7 +26,7 @@ returns-clause-did g c = λ before gave.
     let met = c.back-2.ensures in
     session-ran _ _ _ _ _ _ _ _ _ _ _ _ _ _ (c.args.link_in, c.args.link_out) (ran.new.link_in, ran.new.link_out)
     (reader_counts D.fulls D.wants I.faults I.ends c.link_up.new.reader c.args.link_in) (reader_counts D.fulls D.wants I.faults I.ends ran.new.reader ran.new.link_in) _ _ _ _ _ gave
-    (record { backs = met.backs; left = met.left; faults = met.faults; links = met.links; waits = met.waits; closings = met.closings })
+    (record { backs = met.backs; left = met.left; port = met.port; faults = met.faults; links = met.links; waits = met.waits; closings = met.closings })
     c.in-Ok.ensures.up (refl, refl) (refl, refl) ran.ensures.read ran.ensures.wrote ran.ensures.shut c.push_reserved.ensures.items c.go_on.ensures
 
 pub returns-clause-full : goal.returns-clause-full

@@ -13,7 +13,7 @@ invariant-loop g l =
       is_finite : (goal.iterator-loop g).is_finite l.iterator';
       went : WentSoFar
           (link_told g.X.In.Source.left g.X.In.Source.faults g.X.In.Source.ends g.X.Out.Sink.held g.X.Out.Sink.faults g.X.Out.Sink.refusals g.X.Out.LinkOut.is_shut)
-          (door_told X.left X.backs X.faults X.links X.waits X.closings l.fn.door)
-          (door_told X.left X.backs X.faults X.links X.waits X.closings l.door)
+          (door_told X.left X.backs X.opened_at X.faults X.links X.waits X.closings l.fn.door)
+          (door_told X.left X.backs X.opened_at X.faults X.links X.waits X.closings l.door)
           (D.posts l.fn.reader) (D.posts l.reader) (E.posts l.fn.writer) (E.posts l.writer) l.fn.bytes.items l.bytes.items;
     }

@@ -1,4 +1,4 @@
-use Rattle.std.proofs.Common.{◌≡◌, ℕ, List, None, is_some, option_map, sym, ap, ◌∙◌}
+use Rattle.std.proofs.Common.{ℕ, List, is_some, option_map, sym, ap, ◌∙◌}
 use Rattle.control_job.specs.Jobs.{JobStore, job_named, waiting_named, order_headed, headed}
 use Rattle.job_requests.proofs.Named.{control_same, none_waiting}
 use Rattle.job_requests.proofs.queue.make_head.Goals as goal

@@ -31,8 +31,8 @@ feed() {
         echo "$(cat "$work/out") bytes are kept, and not 14" >&2
         exit 1
     fi
-    read -r peak user system < "$work/told"
-    seconds=$(awk -v user="$user" -v system="$system" 'BEGIN { print user + system }')
+    read -r peak user sys < "$work/told"
+    seconds=$(awk -v user="$user" -v sys="$sys" 'BEGIN { print user + sys }')
 }
 
 status=0

@@ -16,12 +16,6 @@ pub struct PatientIn<'a, R> {
 }
 
 impl<'a, R: time::Clock> PatientIn<'a, R> {
-    // Waits before the first read.
-    fn wait_at_first(&mut self) {
-        sleep_turns(self.rt, self.turns);
-        self.turns = 0;
-    }
-
     // Waits at the peer's end.
     fn wait_at_end(&self, answer: &Result<usize, Failed>) {
         if matches!(answer, Ok(0)) {
@@ -40,7 +34,8 @@ impl<R: time::Clock> Source for PatientIn<'_, R> {
     ghost ends = { λ s. s.bytes.ends };
 
     fn read(&mut self, buf: &mut [u8]) -> Result<usize, Failed> {
-        self.wait_at_first();
+        sleep_turns(self.rt, self.turns);
+        self.turns = 0;
         let answer = self.bytes.read(buf);
         self.wait_at_end(&answer);
         answer

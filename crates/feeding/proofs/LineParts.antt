@@ -1,8 +1,9 @@
 -- What a line does, joined from its parts.
-use Rattle.std.proofs.Common.{◌≡◌, ◌≢◌, ℕ, is_some, inl, inr, Bool, true, false, if◌then◌else◌, List, [], ◌++◌, length, drop, Option, Some, None, Result, Ok, Err, OnOk, refl, sym, ◌∙◌, ap, subst, arith}
+use Rattle.std.proofs.Common.{◌≡◌, ◌≢◌, ◌⊎◌, ℕ, is_some, inl, inr, Bool, true, false, if◌then◌else◌, List, [], ◌++◌, length, drop, Option, Some, None, Result, Ok, Err, OnOk, refl, sym, ◌∙◌, ap, subst, arith}
 use Rattle.std.proofs.lemmas.Bool.{true≢false}
 use Rattle.hsms_frame.specs.declared.frame.Arrival.{Arrival}
 use Rattle.hsms_frame.specs.Cut.{Kept, IsCutOf, arrivals_of, behind_of, is_short}
+use Rattle.hsms_frame.proofs.Callers.{IsCutOf-new}
 use Rattle.gem_ids.specs.declared.moment.Moment.{Moment}
 use Rattle.gem_ids.specs.declared.numbers.PortNo.{PortNo}
 use Rattle.tool_events.specs.declared.event.Event.TheVariants.{Tick, Oper}
@@ -40,6 +41,14 @@ memory_told false = refl
 pub TreatsLine-no_memory : (r : Reading) (line : Result Line ℕ) (feeder : FeederView) (out : SinkView) → TreatsLine r line feeder feeder out out (Err halt.NoMemory)
 TreatsLine-no_memory r (Err place) feeder out = record { refused = inr refl; core_stays = refl; reads_stay = refl; out_stays = refl }
 TreatsLine-no_memory r (Ok line) feeder out = (Err halt.NoMemory, memory_told (is_quit line), record { goes = Goes-unmoved feeder.core feeder.core out (line_given r line) (record { config = refl; history = refl }); reading = tt; counts = inr (refl, refl) })
+
+-- a line for which there was no memory: nothing was done but that its bytes may have been counted
+pub TakesLine-no_memory : (r : Reading) (line : Line) (old new : FeederView) (out : SinkView) → new.core ≡ old.core → AddsLine r line old.reads new.reads ⊎ ((new.reads ≡ old.reads) × (new.core ≡ old.core)) → TakesLine r line old new out out (Err halt.NoMemory)
+TakesLine-no_memory r line old new out same counts = record {
+  goes = Goes-unmoved old.core new.core out (line_given r line) (record { config = ap (λ (c : CoreView). c.config) same; history = ap (λ (c : CoreView). c.history) same });
+  reading = tt;
+  counts = counts;
+}
 
 -- the session that is up, as it is told
 session_is : (up : Bool) (n k : ℕ) → (if up then Some n else None) ≡ Some k → (up ≡ true) × (n ≡ k)
@@ -94,7 +103,7 @@ down_is false session none = refl
 
 -- a new session begins with no bytes
 none_cut : IsCutOf [] (arrivals_of text_bytes []) (record { max = text_bytes; bytes = []; skipped = 0 })
-none_cut = ([], [], inl (inl (omega arith), refl), refl, refl, λ some. absurd (omega (arith, some)))
+none_cut = IsCutOf-new text_bytes
 
 up_anew : (r : Reading) (core core' : CoreView) (result : Result (Unit {0}) Halt) → is_up r.state ≡ false → WentOn core core' (line_given r line.Up) result → OnOk result (IsReading (reading_after r line.Up) core' (record { max = text_bytes; bytes = []; skipped = 0 }))
 up_anew r core core' (Ok done) down went =

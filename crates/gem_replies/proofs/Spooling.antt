@@ -1,5 +1,5 @@
 -- How long the reply is that refuses streams.
-use Rattle.std.proofs.Common.{◌≡◌, ◌≤◌, ◌+◌, ◌*◌, ◌^◌, ℕ, suc, List, [], ◌∷◌, length, map, arith, refl, ap}
+use Rattle.std.proofs.Common.{◌≡◌, ◌<◌, ◌≤◌, ◌+◌, ◌*◌, ◌^◌, ℕ, suc, List, [], ◌∷◌, length, map, arith, refl, ap}
 use Rattle.std.specs.List.{All, sum_by}
 use Rattle.std.proofs.lemmas.List.{length-map}
 use Rattle.std.proofs.lemmas.List.Sums.{sum_by-cons}
@@ -8,7 +8,7 @@ use Rattle.item_model.specs.Plain.{count_of}
 use Rattle.item_model.specs.Sendable.{IsLength, HaveShortBodies}
 use Rattle.item_model.specs.Weight.{weight_all, IsBounded}
 use Rattle.message_model.specs.Functions.{AreFewFunctions}
-use Rattle.message_model.specs.Printed.{items, U1}
+use Rattle.message_model.specs.Printed.{items, U1, code}
 use Rattle.message_model.specs.GemReplies.{stream_refusal, spooling}
 use Rattle.message_model.specs.declared.gem_reply.StreamRefusal.{StreamRefusal}
 

@@ -1,11 +1,11 @@
 //! The world outside: where bytes come from and where they go, links and the door that gives them, clocks, and gates that
-//! hold who passes them, or let who has nothing to do sleep until there is news. A `Source` and a `Sink` say in their contracts what is left and what is held, where they tell it,
-//! and count their faults, so that code above can prove that it gives up only where something outside failed. A `LinkIn`
-//! and a `LinkOut` are both ends of a link, and a `Door` gives links. The crate has all of these in memory, those that can
-//! fail with a list of calls that are to, and thin adapters of a file, standard input and standard output, TCP and the
-//! system's clock, which tell no content. It buffers nothing; `write_all` writes on until all is written. What an adapter that
-//! waits has to know of a run, `RunSigns` tell it. Begin with the traits; a test begins
-//! with `MemSource::new` and `MemSink::new`, and with `MemDoor::new` for links.
+//! hold who passes them, or let who has nothing to do sleep until there is news. A `Source` and a `Sink` say in their
+//! contracts what is left and what is held, where they tell it, and count their faults, so that code above can prove that it
+//! gives up only where something outside failed. A `LinkIn` and a `LinkOut` are both ends of a link, and a `Door` gives links.
+//! The crate has all of these in memory, those that can fail with a list of calls that are to, and thin adapters of a file,
+//! standard input and standard output, TCP and the system's clock, which tell no content. It buffers nothing; `write_all`
+//! writes on until all is written. What an adapter that waits has to know of a run, `RunSigns` tell it. Begin with the
+//! traits; a test begins with `MemSource::new` and `MemSink::new`, and with `MemDoor::new` for links.
 #![tactic(auto)]
 
 mod bell;

@@ -13,13 +13,14 @@
 //! `run` runs what was given at a door without links; `run hasty` at one with a link, whose peer selects and goes away; `run both` with
 //! a host that selects and is read once a line of the operator was answered, and an operator who says `O local`, and `O quit` once the
 //! host was answered; `run sending` with a peer that sends what it has and then waits, and an operator who ends the run once the link was
-//! shut; `run silent` so with a clock that goes on, and a peer that sends nothing; `run late 500 200` as `run both` without holding the host, with
+//! shut; `run three` so with three links, one behind the other, whose peers send the same, and an operator who waits for the third; `run silent` with one
+//! link, a clock that goes on, and a peer that sends nothing; `run late 500 200` as `run both` without holding the host, with
 //! a clock that stays at that moment and takes so many turns at each reading;
 //! `run visited 20000 7` over loopback, at a free port at most 5,000 above that number, with a host that asks 7 times 25 S1F1.
 //!
 //! Of the last run are asked `status`, `cause`, `entries`, `first seat` (of the first entry), `seat 0` to `seat 2` and `seats from 3` (to 9; what each posted),
 //! `operator first` (in front of the first message of the host), `operator moment` (the tool's, at the first command of the operator), `notes` (how many), of session 1 `note 1` (why it ended) and `bytes 1`
-//! (that came and went), and `log`. At a door in memory `script left` tells how many bytes are left of the script, `port` at
+//! (that came and went), and so of others, and `log`. At a door in memory `script left` tells how many bytes are left of the script, `port` at
 //! which port a door without links was asked to listen, and `waits` how often it was asked too early. With a peer that goes away `front` tells whether the link was handed back and holds a front
 //! of the select response, and `race` whether seat 0 posted what it may. `selected` tells whether the select response came, `windows` how
 //! many windows were answered, and `ended by the tool` whether the tool ended the link.
@@ -31,7 +32,7 @@ mod memory;
 mod said;
 mod told;
 
-use crate::served::links::{run_both, run_late, run_sending};
+use crate::served::links::{run_both, run_late, run_sending, run_three};
 use crate::served::loopback::run_visited;
 use crate::served::memory::{run_alone, run_hasty};
 pub use said::{BEGINS, is_well_served};
@@ -126,6 +127,7 @@ fn ran<R: Net<Listener = TcpListener, Stream = TcpStream> + Threads + Wait + Syn
         "hasty" => run_hasty(rt, alloc, given)?,
         "both" => run_both(rt, alloc, given)?,
         "sending" => run_sending(rt, alloc, given, 0)?,
+        "three" => run_three(rt, alloc, given)?,
         "silent" => run_sending(rt, alloc, given, 100)?,
         _ => return ran_by_numbers(rt, alloc, given, way),
     };

@@ -1,5 +1,6 @@
 //! What lies outside of the tool, and how it begins.
 
+use crate::calls::Calls;
 use crate::clocks::{Dated, Gated};
 use crate::loopback::Loopback;
 use crate::machine::Machine;
@@ -28,6 +29,7 @@ type Played = Result<Option<String>>;
 impl<R: Net<Listener = TcpListener, Stream = TcpStream> + Clock> Texts for Outside<'_, R> {
     fn play(&self, alloc: Global, begins: &str, lines: &[Line<'_>]) -> Result<Option<String>> {
         match begins {
+            "to calls" => play_calls(alloc, lines),
             "to the machine" => answers(alloc, &mut Machine::new(self.host), lines),
             "to a door of the machine" => play_door(self.rt, alloc, lines),
             "to a script of the machine" => play_script(self.host, alloc, lines),
@@ -38,6 +40,11 @@ impl<R: Net<Listener = TcpListener, Stream = TcpStream> + Clock> Texts for Outsi
             },
         }
     }
+}
+
+// Says lines to the libraries.
+fn play_calls(alloc: Global, lines: &[Line<'_>]) -> Played {
+    answers(alloc, &mut Calls::new(alloc)?, lines)
 }
 
 // Says lines to a door.

@@ -2,7 +2,7 @@
 
 use crate::ends::{PatientIn, TellingOut, patient_link};
 use crate::frames::{SELECT, SELECTED};
-use crate::given::{Limits, fails_of};
+use crate::given::{Given, Limits, fails_of};
 use crate::signs::LinkSigns;
 use outside::{MemDoor, MemIn, MemOut, MemSink};
 use std::alloc::{AllocError, Global};
@@ -21,6 +21,21 @@ pub fn patient_door<'a, R: time::Clock + Sync>(
 ) -> Result<PatientDoor<'a, R>, AllocError> {
     let mut links = Vec::new(alloc);
     links.push(patient_link(rt, alloc, bytes, limits, signs)?)?;
+    MemDoor::new(alloc, links, Vec::new(alloc))
+}
+
+/// A door with three links, each of which has a peer that sends what is given and then waits. The first two have the same signs.
+pub fn three_links_door<'a, R: time::Clock + Sync>(
+    rt: &'a R,
+    alloc: Global,
+    given: &Given,
+    earlier: &'a LinkSigns,
+    last: &'a LinkSigns,
+) -> Result<PatientDoor<'a, R>, AllocError> {
+    let mut links = Vec::new(alloc);
+    for signs in [earlier, earlier, last] {
+        links.push(patient_link(rt, alloc, &given.peer, given.limits, signs)?)?;
+    }
     MemDoor::new(alloc, links, Vec::new(alloc))
 }
 

@@ -21,6 +21,7 @@ mod visits;
 pub use clocks::StepClock;
 pub use doors::{
     PatientDoor, door_of, hasty_links, holds_a_front, is_race, is_selected, patient_door,
+    three_links_door,
 };
 pub use ends::{PatientIn, TellingOut};
 pub use frames::SELECT;

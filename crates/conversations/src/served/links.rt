@@ -9,7 +9,7 @@ use std::time;
 use test_lines::tell_whether;
 use test_peers::{
     Given, LinkSigns, PatientDoor, RestingHold, SELECT, StepClock, UNLIMITED, is_selected,
-    local_and_quit_at, patient_door, quit_at,
+    local_and_quit_at, patient_door, quit_at, three_links_door,
 };
 
 // Runs what is given at this door. The host selects, but is read once a line of the operator was answered; the operator goes on once
@@ -86,4 +86,17 @@ pub fn run_sending<R: Threads + Wait + Sync + time::Clock>(
     let signs = LinkSigns::new();
     let mut door = patient_door(rt, alloc, &given.peer, given.limits, &signs)?;
     run_watched(rt, alloc, given, &mut door, &signs, step)
+}
+
+/// Runs what is given, where three links come up one behind the other, whose peers send the same and then wait, and the operator ends the
+/// run once the third was shut. Tells of it.
+pub fn run_three<R: Threads + Wait + Sync + time::Clock>(
+    rt: &R,
+    alloc: Global,
+    given: &Given,
+) -> Result<String, AllocError> {
+    let earlier = LinkSigns::new();
+    let last = LinkSigns::new();
+    let mut door = three_links_door(rt, alloc, given, &earlier, &last)?;
+    run_watched(rt, alloc, given, &mut door, &last, 0)
 }

@@ -1,22 +1,19 @@
 //! A script that comes over a stream of the machine (`outside`), with a peer that writes it.
 //!
 //! `say abc` lets the peer write, and `leave` go away. `read` reads into eight bytes, and `counts` tells the faults and the ends of the
-//! reads. `over` signs that the run is over, and `read until over` reads while that is signed.
+//! reads. `over` signs that the run is over.
 
 use crate::words::told;
 use anyhow::Result;
 use outside::{Failed, RunSigns, ScriptSource, Source};
 use std::alloc::Global;
 use std::io::Write;
-use std::net::{Ipv4Addr, SocketAddr, TcpListener, TcpStream};
-use std::thread::{self, Threads, join_mut};
-use std::time::{self, Duration};
+use std::net::{Ipv4Addr, Net, SocketAddr, TcpListener, TcpStream};
 use test_lines::Subject;
 
 /// A script over a stream, and its peer.
 #[derive(Drop)]
 pub struct Scripted<'a> {
-    rt: &'a HostRuntime,
     signs: &'a RunSigns,
     script: ScriptSource<'a, TcpStream>,
     peer: Option<TcpStream>,
@@ -24,12 +21,14 @@ pub struct Scripted<'a> {
 
 impl<'a> Scripted<'a> {
     /// A script that comes while these signs tell that the run is not over. None where the machine gives no stream.
-    pub fn new(rt: &'a HostRuntime, signs: &'a RunSigns) -> Option<Scripted<'a>> {
+    pub fn new<R: Net<Listener = TcpListener, Stream = TcpStream>>(
+        rt: &R,
+        signs: &'a RunSigns,
+    ) -> Option<Scripted<'a>> {
         let listener = TcpListener::bind(rt, SocketAddr::from((Ipv4Addr::LOCALHOST, 0))).ok()?;
         let peer = TcpStream::connect(rt, listener.local_addr().ok()?).ok()?;
         let (stream, _) = listener.accept().ok()?;
         Some(Scripted {
-            rt,
             signs,
             script: ScriptSource::new(stream, signs),
             peer: Some(peer),
@@ -40,21 +39,13 @@ impl<'a> Scripted<'a> {
 impl Subject for Scripted<'_> {
     fn answer(&mut self, alloc: Global, said: &str) -> Result<String> {
         let mut answer = String::new(alloc);
-        let said = match said {
-            "read until over" => read_until_over(
-                self.rt,
-                self.signs,
-                &mut self.script,
-                &mut answer,
-            ),
-            _ => say(
-                self.signs,
-                &mut self.script,
-                &mut self.peer,
-                said,
-                &mut answer,
-            ),
-        };
+        let said = say(
+            self.signs,
+            &mut self.script,
+            &mut self.peer,
+            said,
+            &mut answer,
+        );
         told(answer, said)
     }
 }
@@ -91,22 +82,4 @@ fn read(script: &mut ScriptSource<'_, TcpStream>) -> (Result<usize, Failed>, [u8
     let mut buf = [0; 8];
     let read = script.read(&mut buf);
     (read, buf)
-}
-
-// Reads, and signs meanwhile that the run is over.
-fn read_until_over<R: Threads + time::Clock + Sync>(
-    rt: &R,
-    signs: &RunSigns,
-    script: &mut ScriptSource<'_, TcpStream>,
-    answer: &mut String,
-) -> Option<()> {
-    let ((read, buf), ()) = join_mut(
-        rt,
-        &mut || read(script),
-        &mut || {
-            thread::sleep(rt, Duration::from_millis(100));
-            signs.end_run();
-        },
-    );
-    write!(answer, "{read:?} {buf:?}").ok()
 }

@@ -13,6 +13,7 @@ use conversation_files::Line;
 use outside::{HoldGate, OpenGate, Point, RunSigns, SleepGate};
 use std::alloc::Global;
 use std::net::{Net, TcpListener, TcpStream};
+use std::sync::Wait;
 use std::time::Clock;
 use test_lines::{Texts, answers};
 
@@ -26,14 +27,14 @@ pub struct Outside<'a, R> {
 // Whether lines go as they are written; the fault of the first that does not.
 type Played = Result<Option<String>>;
 
-impl<R: Net<Listener = TcpListener, Stream = TcpStream> + Clock> Texts for Outside<'_, R> {
+impl<R: Net<Listener = TcpListener, Stream = TcpStream> + Clock + Wait> Texts for Outside<'_, R> {
     fn play(&self, alloc: Global, begins: &str, lines: &[Line<'_>]) -> Result<Option<String>> {
         match begins {
             "to calls" => play_calls(alloc, lines),
             "to the machine" => answers(alloc, &mut Machine::new(self.host), lines),
             "to a door of the machine" => play_door(self.rt, alloc, lines),
-            "to a script of the machine" => play_script(self.host, alloc, lines),
-            "to a gate that wakes" => play_waking(self.host, alloc, lines),
+            "to a script of the machine" => play_script(self.rt, alloc, lines),
+            "to a gate that wakes" => play_waking(self.rt, alloc, lines),
             _ => match begins.strip_prefix("to a gate that ") {
                 Some(words) => play_gate(alloc, words, lines),
                 None => play_date(alloc, begins, lines),
@@ -58,7 +59,11 @@ fn play_door<R: Net<Listener = TcpListener, Stream = TcpStream> + Clock>(
 }
 
 // Says lines to a script.
-fn play_script(rt: &HostRuntime, alloc: Global, lines: &[Line<'_>]) -> Played {
+fn play_script<R: Net<Listener = TcpListener, Stream = TcpStream>>(
+    rt: &R,
+    alloc: Global,
+    lines: &[Line<'_>],
+) -> Played {
     let signs = RunSigns::new();
     let Some(mut script) = Scripted::new(rt, &signs) else {
         bail!("there is no stream");
@@ -67,7 +72,7 @@ fn play_script(rt: &HostRuntime, alloc: Global, lines: &[Line<'_>]) -> Played {
 }
 
 // Says lines to a gate that wakes.
-fn play_waking(rt: &HostRuntime, alloc: Global, lines: &[Line<'_>]) -> Played {
+fn play_waking<R: Wait + Clock>(rt: &R, alloc: Global, lines: &[Line<'_>]) -> Played {
     let signs = RunSigns::new();
     answers(alloc, &mut Waking::new(rt, &signs), lines)
 }

@@ -1,17 +1,15 @@
 //! A gate that wakes (`outside`), whose long rests are of two seconds.
 //!
 //! `pass no-frame` passes a point, and `time no-frame` tells whether that took a second or more, so that it rested, or not. `signs` tells
-//! whether the session is over, and whether the run is. `hold 64 until no-frame` posts so many messages of the host on a thread of its
-//! own, and tells whether the reader is held behind them, for a second; then that point is passed, and the reader goes on.
+//! whether the session is over, and whether the run is. That a reader is held behind its messages is tried by `tools/hosts`, since who
+//! is held needs another thread that lets him go.
 
 use crate::words::{millis_since, point, told};
 use anyhow::Result;
 use outside::{Gate, Point, RunSigns, WakeGate};
 use std::alloc::Global;
 use std::sync::Wait;
-use std::sync::atomic::{AtomicBool, Ordering};
-use std::thread::{self, Threads, join};
-use std::time::{self, Duration};
+use std::time;
 use test_lines::Subject;
 
 // So many milliseconds a long rest is, and half as many tell it from none.
@@ -19,15 +17,15 @@ const LONG_REST: u64 = 2000;
 
 /// A gate that wakes, and what it tells.
 #[derive(Drop)]
-pub struct Waking<'a> {
-    rt: &'a HostRuntime,
+pub struct Waking<'a, R> {
+    rt: &'a R,
     signs: &'a RunSigns,
-    gate: WakeGate<'a, HostRuntime>,
+    gate: WakeGate<'a, R>,
 }
 
-impl<'a> Waking<'a> {
+impl<'a, R: Wait> Waking<'a, R> {
     /// A gate that tells what it learns to these signs.
-    pub fn new(rt: &'a HostRuntime, signs: &'a RunSigns) -> Waking<'a> {
+    pub fn new(rt: &'a R, signs: &'a RunSigns) -> Waking<'a, R> {
         Waking {
             rt,
             signs,
@@ -36,7 +34,7 @@ impl<'a> Waking<'a> {
     }
 }
 
-impl Subject for Waking<'_> {
+impl<R: Wait + time::Clock> Subject for Waking<'_, R> {
     fn answer(&mut self, alloc: Global, said: &str) -> Result<String> {
         let mut answer = String::new(alloc);
         let said = say(self.rt, self.signs, &self.gate, said, &mut answer);
@@ -44,7 +42,7 @@ impl Subject for Waking<'_> {
     }
 }
 
-fn say<R: Wait + Threads + time::Clock + Sync>(
+fn say<R: Wait + time::Clock>(
     rt: &R,
     signs: &RunSigns,
     gate: &WakeGate<'_, R>,
@@ -58,7 +56,6 @@ fn say<R: Wait + Threads + time::Clock + Sync>(
             Some(())
         }
         "time" => answer.push_str(timed(rt, gate, point(rest)?)?).ok(),
-        "hold" => answer.push_str(held(rt, gate, rest)?).ok(),
         _ => write!(
             answer,
             "{} {}",
@@ -75,46 +72,4 @@ fn timed<'a, R: Wait + time::Clock, G: Gate>(rt: &R, gate: &G, point: Point) -> 
     gate.pass(point);
     let is_rest = millis_since(rt, before)? >= LONG_REST / 2;
     Some(if is_rest { "rested" } else { "went on" })
-}
-
-// Posts so many messages until a point is passed; whether the reader is held behind them before.
-fn held<'a, R: Threads + time::Clock + Sync, G: Gate + Sync>(
-    rt: &R,
-    gate: &G,
-    words: &str,
-) -> Option<&'a str> {
-    let (count, until) = words.split_once(" until ")?;
-    let count = count.parse::<u32>().ok()?;
-    let until = point(until)?;
-    let is_through = AtomicBool::new(false);
-    let ((), is_held) = join(
-        rt,
-        || post(gate, count, &is_through),
-        || is_held_before(rt, gate, until, &is_through),
-    );
-    Some(if is_held { "held" } else { "went on" })
-}
-
-fn post<G: Gate>(gate: &G, count: u32, is_through: &AtomicBool) {
-    for _ in 0..count {
-        gate.pass(Point::HostPosted);
-    }
-    is_through.store(true, Ordering::SeqCst);
-}
-
-// Waits a second, or until the messages are posted, and then passes the point. Whether they were not.
-fn is_held_before<R: time::Clock, G: Gate>(
-    rt: &R,
-    gate: &G,
-    until: Point,
-    is_through: &AtomicBool,
-) -> bool {
-    for _ in 0..100 {
-        if is_through.load(Ordering::SeqCst) {
-            return false;
-        }
-        thread::sleep(rt, Duration::from_millis(10));
-    }
-    gate.pass(until);
-    true
 }

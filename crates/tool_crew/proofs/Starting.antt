@@ -1,5 +1,5 @@
 -- The first look at the clock, and what the clock did behind it.
-use Rattle.std.proofs.Common.{◌≡◌, sym, subst, List, Option, Some, None}
+use Rattle.std.proofs.Common.{sym, subst, List, Option, Some, None}
 use Rattle.gem_ids.specs.declared.moment.Moment.{Moment}
 use Rattle.tool_events.specs.declared.entry.Post.{Post}
 use Rattle.actors.specs.declared.end.ActorEnd.{ActorEnd}

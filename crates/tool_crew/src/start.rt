@@ -48,7 +48,7 @@ pub fn run_all<
     requires modules { AllOf shared.now modules.old }
     requires few { 1 + length modules.old ≤ 256 }
     ensures hosted { HostWorked (link_told X.In.left X.In.faults X.In.ends X.Out.held X.Out.faults X.Out.refusals X.Out.is_shut) shared.now
-        (door_told X.left X.backs X.faults X.links X.waits X.closings door.old) (door_told X.left X.backs X.faults X.links X.waits X.closings door.new)
+        (door_told X.left X.backs X.opened_at X.faults X.links X.waits X.closings door.old) (door_told X.left X.backs X.opened_at X.faults X.links X.waits X.closings door.new)
         reader.old reader.new writer.old writer.new bytes.old.items bytes.new.items }
     ensures operator_same { Stays shared.now operator.old.chair operator.new.chair }
     ensures operated { Operated (source_told S.left S.faults S.ends script.old) (source_told S.left S.faults S.ends script.new)

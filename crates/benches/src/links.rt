@@ -196,7 +196,8 @@ const AT_ONCE: u64 = 64;
 fn send_flow(alloc: Global, mut stream: TcpStream, count: u64) -> Result<()> {
     let mut bytes = Vec::new(alloc);
     for at in 0..count {
-        bytes.extend_from_slice(&are_you_there((at as u32).wrapping_add(2)))?;
+        let system = u32::try_from(at).unwrap_or(0).wrapping_add(2);
+        bytes.extend_from_slice(&are_you_there(system))?;
         if (at + 1) % AT_ONCE == 0 {
             stream.write_all(bytes.as_slice())?;
             bytes.clear();

@@ -57,13 +57,23 @@ ran_from {L} told door opened script moments out' c kept history given sessions 
     let run : RunDid told (asked out out'.door.port) out' c given sessions script_bytes ends =
     subst (λ h. RunDid told (asked out out'.door.port) out' c h sessions script_bytes ends) (sym is_given)
     (subst (λ o. RunDid told o out' c history sessions script_bytes ends) asked_so did) in
+    let k = sessions_kept told (asked out out'.door.port) out' c given sessions script_bytes ends run in
     record {
       sessions = sessions;
       script_bytes = script_bytes;
       ends = ends;
       port = subst (λ p. AtPort p c.tcp_port) (sym stays) at_port;
       run = run;
-      kept = sessions_kept told (asked out out'.door.port) out' c given sessions script_bytes ends run;
+      kept = record {
+        all = k.all;
+        unmade = k.unmade;
+        few = k.few;
+        kept = k.kept;
+        given = k.given;
+        back = k.back;
+        links = k.links;
+        are_noted = k.are_noted;
+      };
       closed = subst (λ h. Closed c h sessions script_bytes ends why log log' notes) (sym is_given)
           (subst (λ k. Closed k history sessions script_bytes ends why log log' notes) is_kept closed);
     }

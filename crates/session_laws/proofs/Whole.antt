@@ -19,6 +19,10 @@ unmade_of NoLink = []
 unmade_of (Unmade link) = link ∷ []
 unmade_of (Broke s) = []
 
+-- one more behind so many
+one-behind : (n m : ℕ) → m ≡ n + 1 → n + 1 ≡ m + 0
+one-behind n m is = omega arith
+
 module _ {L : Type 0} where
   is-few : (last : LastLink L) → length (unmade_of last) ≤ 1
   is-few NoLink = omega arith
@@ -36,10 +40,6 @@ module _ {L : Type 0} where
   backs went NoLink = sym (append-nil (map (λ (s : Session L). s.back) (went ++ [])) ∙ backs-more went [])
   backs went (Unmade link) = sym (ap (λ (l : List L). l ++ link ∷ []) (backs-more went [] ∙ append-nil (map (λ (s : Session L). s.back) went)))
   backs went (Broke s) = sym (append-nil (map (λ (s : Session L). s.back) (went ++ s ∷ [])) ∙ backs-more went (s ∷ []))
-
-  -- one more behind so many
-  one-behind : (n m : ℕ) → m ≡ n + 1 → n + 1 ≡ m + 0
-  one-behind n m is = omega arith
 
   lengths : (went : List (Session L)) (last : LastLink L)
       → length went + length (last_given last) ≡ length (went ++ last_session last) + length (unmade_of last)

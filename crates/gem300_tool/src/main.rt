@@ -39,14 +39,11 @@ fn no_memory(rt: &HostRuntime) -> ExitCode {
     ExitCode::from(7)
 }
 
-/// Does what the arguments ask for.
-fn run(rt: &HostRuntime) -> Result<Cause, AllocError> {
-    let args = arguments(rt)?;
-    run_words(rt, rt.alloc(), &args)
-}
-
 fn main(rt: HostRuntime) -> ExitCode {
-    let Ok(cause) = run(&rt) else {
+    let Ok(args) = arguments(&rt) else {
+        return no_memory(&rt);
+    };
+    let Ok(cause) = run_words(&rt, rt.alloc(), &args) else {
         return no_memory(&rt);
     };
     match tell(&rt, cause) {

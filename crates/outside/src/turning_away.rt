@@ -3,9 +3,6 @@ use libc::net::{POLLERR, POLLHUP, POLLIN, POLLRDHUP};
 use std::net::{TcpListener, TcpStream};
 use std::os::fd::AsRawFd;
 
-// How many others are turned away at once.
-const AT_ONCE: u32 = 256;
-
 // For how many milliseconds a listener that gives nothing, though somebody asks, is left alone.
 const LEFT_ALONE: i32 = 100;
 
@@ -18,7 +15,7 @@ pub(crate) fn await_bytes(stream: &TcpStream, listener: &TcpListener) {
         let Some((at_stream, at_listener)) = ready_of_two(of_stream, of_listener) else {
             return;
         };
-        let is_refused = at_listener != 0 && !is_ended(at_stream) && !turn_away(listener);
+        let is_refused = at_listener != 0 && !is_ended(of_stream) && !turn_away(listener);
         if at_stream != 0 {
             return;
         }
@@ -28,17 +25,17 @@ pub(crate) fn await_bytes(stream: &TcpStream, listener: &TcpListener) {
     }
 }
 
-// Whether the peer has ended the stream, or it failed.
-fn is_ended(events: i16) -> bool {
-    events & (POLLRDHUP | POLLHUP | POLLERR) != 0
+// Whether the peer has ended the stream by now, or it failed. It is asked behind the look that found somebody at the listener: a look
+// at both tells of the stream as it was first, and a peer may end it and connect anew in between.
+fn is_ended(of_stream: (i32, i16)) -> bool {
+    match ready(of_stream.0, of_stream.1, 0) {
+        Some(events) => events & (POLLRDHUP | POLLHUP | POLLERR) != 0,
+        None => true,
+    }
 }
 
-// Accepts who has connected, and closes the connection at once. Whether there was somebody.
+// Accepts the first of those who have connected, and closes the connection at once. Whether there was one. It is one alone, since
+// whoever is behind may have connected later.
 fn turn_away(listener: &TcpListener) -> bool {
-    for turned in 0..AT_ONCE {
-        if listener.accept().is_err() {
-            return turned > 0;
-        }
-    }
-    true
+    listener.accept().is_ok()
 }

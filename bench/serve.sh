@@ -245,9 +245,9 @@ measure_memory() {
     start_tool disabled
     [ "$("$client" visit "$port" 10)" = 10 ] || fail 'the tool was not visited'
     before=$(resident)
-    # A client that ends and connects anew within microseconds may be turned away once in some thousand times; then it begins again.
-    visits=$("$client" visit "$port" "$sessions") || visits=$("$client" visit "$port" "$sessions") || visits=0
-    [ "$visits" = "$sessions" ] || echo "$sessions sessions one after another: the client was turned away twice, so fewer are counted"
+    # The client ends its link and connects anew within microseconds, and is never turned away.
+    visits=$("$client" visit "$port" "$sessions") || visits=0
+    [ "$visits" = "$sessions" ] || fail "of $sessions sessions one after another the tool gave $visits"
     sleep 1
     after=$(resident)
     echo 'O quit' >&3

@@ -137,6 +137,24 @@ writer-fails session n F held held' held'' posts posts' posts'' told count count
       ends = inr (failed, f.ends);
     }
 
+-- the link failed where it was to send what it had taken
+pub writer-unsent : (session : ℕ) (F : Type 0) (held held' held'' : Option (List ℕ)) (posts posts' posts'' told : List Post) (count : ℕ) (e : ActorEnd)
+    → Frames session held held' posts posts' count → posts'' ≡ posts' → held'' ≡ held' → F → FaultPosted session posts'' told e
+    → WriterDid session F held held'' posts told count e
+writer-unsent session F held held' held'' posts posts' posts'' told count e r same kept failed f = record {
+  takes = r.takes;
+  downs = f.downs;
+  grew = f.grew ∙ ap (λ (before : List Post). before ++ f.downs) (same ∙ r.grew);
+  are_takes = r.are_takes;
+  written = frames_of r.takes;
+  lost = [];
+  frames = sym (append-nil (frames_of r.takes));
+  wrote = subst (λ (h : Option (List ℕ)). Written held h (frames_of r.takes)) (sym kept) r.wrote;
+  counted = r.counted;
+  no_more = record { before = r.takes; last = f.downs; joined = refl; none = r.none; one = downs-few session f.downs e f.ends };
+  ends = inr (failed, f.ends);
+}
+
 -- it shut the link behind all that
 pub writer-shuts : (session : ℕ) (F G : Type 0) (held held' held'' : Option (List ℕ)) (posts posts' : List Post) (count : ℕ) (e : ActorEnd)
     → WriterDid session F held held' posts posts' count e → held'' ≡ held' → (F → G) → WriterDid session G held held'' posts posts' count e

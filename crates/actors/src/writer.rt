@@ -11,9 +11,10 @@ use outside::{Gate, LinkOut, Point, write_all};
 use std::sync::Wait;
 use tool_events::{Answer, Desk, Event, PostFault, SessionCause};
 
-/// Takes the frames of a session, one after another, and writes each to the link. Where none waits, it passes `NoFrame` and takes
-/// again. Where a write fails, or takes nothing of a piece, it posts that the link is down for that cause. All is posted at moment
-/// 0. At its end it shuts the link, whatever the end is, and passes `SessionEnd`. It takes no memory of its own, and posts nothing else.
+/// Takes the frames of a session, one after another, and writes each to the link. Where none waits, it flushes the link, passes
+/// `NoFrame` and takes again. Where a write or a flush fails, or a write takes nothing of a piece, it posts that the link is down for
+/// that cause. All is posted at moment 0. At its end it shuts the link, whatever the end is, and passes `SessionEnd`. It takes no
+/// memory of its own, and posts nothing else.
 ///
 /// `Quit`: its last post was answered `Ended`, or told that the link is down. `Full` and `NoMemory`: a post was answered so.
 /// Beside its end it gives how many bytes it wrote, those of a frame whose write failed among them; the number stands still at
@@ -65,7 +66,10 @@ fn write_frames<W: Wait, D: Desk, L: LinkOut, G: Gate>(
                 }
             },
             Ok(Answer::Ended) => return (ActorEnd::Quit, count),
-            Err(PostFault::Again) => gate.pass(Point::NoFrame),
+            Err(PostFault::Again) => match link.flush() {
+                Ok(()) => gate.pass(Point::NoFrame),
+                Err(_) => return (tell_fault(desk, session), count),
+            },
             Err(PostFault::Full(_)) => return (ActorEnd::Full, count),
             Err(PostFault::NoMemory) => return (ActorEnd::NoMemory, count),
             _ => unreachable!(),

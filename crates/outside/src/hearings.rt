@@ -5,11 +5,11 @@ use std::sync::atomic::{AtomicU64, Ordering};
 #[derive(Drop)]
 struct Heard {
     news: AtomicU64,
-    host: AtomicU64,
+    said: AtomicU64,
 }
 
-// What each module heard: how often there had been news when it last fetched, and how many messages of the host when it last had
-// nothing to do. Each module looks at its own place alone.
+// What each module heard: how often there had been news when it last fetched, and how many messages of the host and lines of the
+// operator when it last had nothing to do. Each module looks at its own place alone.
 #[derive(Drop)]
 pub(crate) struct Hearings {
     modules: [Heard; 256],
@@ -21,7 +21,7 @@ impl Hearings {
         Hearings {
             modules: array::from_fn(|_| Heard {
                 news: AtomicU64::new(0),
-                host: AtomicU64::new(0),
+                said: AtomicU64::new(0),
             }),
         }
     }
@@ -40,11 +40,11 @@ impl Hearings {
             .load(Ordering::SeqCst)
     }
 
-    // The module hears how many messages of the host there were; whether it had heard of another number.
-    pub(crate) fn hears_host(&self, module: u8, messages: u64) -> bool {
+    // The module hears how much was said; whether it had heard of another number.
+    pub(crate) fn hears_said(&self, module: u8, said: u64) -> bool {
         self.modules[usize::from(module)]
-            .host
-            .swap(messages, Ordering::SeqCst)
-            != messages
+            .said
+            .swap(said, Ordering::SeqCst)
+            != said
     }
 }

@@ -3,8 +3,8 @@
 //! contracts what is left and what is held, where they tell it, and count their faults, so that code above can prove that it
 //! gives up only where something outside failed. A `LinkIn` and a `LinkOut` are both ends of a link, and a `Door` gives links.
 //! The crate has all of these in memory, those that can fail with a list of calls that are to, and thin adapters of a file,
-//! standard input and standard output, TCP and the system's clock, which tell no content. It buffers nothing; `write_all`
-//! writes on until all is written. What an adapter that waits has to know of a run, `RunSigns` tell it. Begin with the
+//! standard input and standard output, TCP and the system's clock, which tell no content. It buffers nothing but what
+//! a `TcpOut` keeps until it is flushed; `write_all` writes on until all is written. What an adapter that waits has to know of a run, `RunSigns` tell it. Begin with the
 //! traits; a test begins with `MemSource::new` and `MemSink::new`, and with `MemDoor::new` for links.
 #![tactic(auto)]
 
@@ -27,13 +27,15 @@ mod met;
 mod read;
 mod ready;
 mod script_source;
+mod sending;
 mod signs;
 mod sink;
 mod source;
 mod standard;
 mod system_clock;
 mod tcp_door;
-mod tcp_link;
+mod tcp_in;
+mod tcp_out;
 mod turning_away;
 mod wake_gate;
 mod write;
@@ -58,6 +60,7 @@ pub use source::{Failed, Source};
 pub use standard::{StdinSource, StdoutSink};
 pub use system_clock::SystemClock;
 pub use tcp_door::TcpDoor;
-pub use tcp_link::{TcpIn, TcpOut};
+pub use tcp_in::TcpIn;
+pub use tcp_out::TcpOut;
 pub use wake_gate::WakeGate;
 pub use write::{WriteFault, write_all};

@@ -1,4 +1,4 @@
-ghost use Rattle.std.specs.Prelude.{◌≡◌, ◌≢◌, ℕ, ◌+◌, ◌-◌, ◌^◌, ◌<◌, ◌≤◌, ◌⊎◌, true, false, min, if◌then◌else◌, List, [], ◌++◌, length, take, Contains, Some, Ok, IfOk, OnOk, OnErr, IsErr, is_err};
+ghost use Rattle.std.specs.Prelude.{◌≡◌, ◌≢◌, ℕ, ◌+◌, ◌-◌, ◌^◌, ◌<◌, ◌≤◌, ◌⊎◌, true, false, min, if◌then◌else◌, List, [], ◌++◌, length, take, Contains, Some, Ok, IfOk, OnOk, OnErr, IsOk, IsErr, is_err};
 ghost use Rattle.outside.specs.Counts.{Rose, one_more};
 ghost use Rattle.outside.specs.Memory.{is_zero_of};
 ghost use Rattle.outside.specs.Told.{Written};
@@ -74,6 +74,22 @@ impl Sink for MemOut {
 
 impl LinkOut for MemOut {
     ghost is_shut = { λ o. o.is_shut };
+
+    /// It keeps nothing.
+    fn flush(&mut self) -> Result<(), Failed>
+        ensures held { Some self.new.sink.held ≡ Some self.old.sink.held }
+        ensures failed { OnErr result (Rose self.old.sink.faults self.new.sink.faults) }
+        ensures unfailed { OnOk result (self.new.sink.faults ≡ self.old.sink.faults) }
+        ensures faults_stay { self.old.sink.faults ≤ self.new.sink.faults }
+        ensures refusals { self.new.sink.refusals ≡ self.old.sink.refusals }
+        ensures is_shut { self.new.is_shut ≡ self.old.is_shut }
+
+        // More than every link promises.
+        ensures never_fails { IsOk result }
+        ensures same { self.new ≡ self.old }
+    {
+        Ok(())
+    }
 
     fn shut(&mut self)
         ensures shut { self.new.is_shut ≡ true }

@@ -15,7 +15,7 @@ pub(crate) fn await_bytes(stream: &TcpStream, listener: &TcpListener) {
         let Some((at_stream, at_listener)) = ready_of_two(of_stream, of_listener) else {
             return;
         };
-        let is_refused = at_listener != 0 && !is_ended(of_stream) && !turn_away(listener);
+        let is_refused = at_listener != 0 && !is_ended(stream) && !turn_away(listener);
         if at_stream != 0 {
             return;
         }
@@ -26,9 +26,11 @@ pub(crate) fn await_bytes(stream: &TcpStream, listener: &TcpListener) {
 }
 
 // Whether the peer has ended the stream by now, or it failed. It is asked behind the look that found somebody at the listener: a look
-// at both tells of the stream as it was first, and a peer may end it and connect anew in between.
-fn is_ended(of_stream: (i32, i16)) -> bool {
-    match ready(of_stream.0, of_stream.1, 0) {
+// at both tells of the stream as it was first, and a peer may end it and connect anew in between. An option is set before, which it
+// has already, since that waits until no other thread is inside a write of the stream: the system takes no end of the peer's so long.
+fn is_ended(stream: &TcpStream) -> bool {
+    let _ = stream.set_nodelay(true);
+    match ready(stream.as_raw_fd(), POLLIN | POLLRDHUP, 0) {
         Some(events) => events & (POLLRDHUP | POLLHUP | POLLERR) != 0,
         None => true,
     }

@@ -13,7 +13,7 @@ const AHEAD: u64 = 64;
 // notice tells.
 const SHORT_REST: u64 = 10;
 
-// How many milliseconds a module rests while the host is active.
+// How many milliseconds a module rests while the host or the operator is active.
 const ACTIVE_REST: u64 = 1;
 
 // How many milliseconds writer, modules and a reader that is held rest.
@@ -24,8 +24,8 @@ const LONG_REST: u64 = 50;
 ///
 /// - `NoFrame` waits for a message of the host, a line of the operator, a signal or a look at the clock that was answered, and for
 ///   the end of a reader, a writer or the clock; 50 milliseconds at most.
-/// - `NoCommand` waits for all of these but the first, as long. Messages of the host come often and are seldom for a module: the
-///   first one behind a rest wakes the modules, and while more come each rests one millisecond at a time.
+/// - `NoCommand` waits for all of these but the first two, as long. Messages of the host and lines of the operator come often and are
+///   seldom for a module: the first one behind a rest wakes the modules, and while more come each rests one millisecond at a time.
 /// - `Idle` waits as `NoCommand` does, 10 milliseconds at most.
 /// - `HostPosted` holds the reader while 64 messages were answered behind which the writer has not passed `NoFrame` yet, and the
 ///   session is not over. So the frames that wait for a writer whose peer reads nothing are few.
@@ -39,7 +39,7 @@ pub struct WakeGate<'a, R> {
     news: Bell,
     frames: Bell,
     room: Bell,
-    host: AtomicU64,
+    said: AtomicU64,
     resting: AtomicU64,
     ahead: AtomicU64,
     heard_of_frames: AtomicU64,
@@ -61,7 +61,7 @@ impl<'a, R: Wait> WakeGate<'a, R> {
             news: Bell::new(),
             frames: Bell::new(),
             room: Bell::new(),
-            host: AtomicU64::new(0),
+            said: AtomicU64::new(0),
             resting: AtomicU64::new(0),
             ahead: AtomicU64::new(0),
             heard_of_frames: AtomicU64::new(0),
@@ -77,12 +77,12 @@ impl<'a, R: Wait> WakeGate<'a, R> {
     }
 
     // A module waits for what it had not heard when it fetched. It is counted among those that rest before it looks whether the
-    // host was active, so that either it sees a message of the host, or who posted that sees it rest.
+    // host or the operator was active, so that either it sees what was said, or who said it sees it rest.
     fn await_command(&self, module: u8) {
         let heard = self.modules.news_heard(module);
         self.resting.fetch_add(1, Ordering::SeqCst);
-        let host = self.host.load(Ordering::SeqCst);
-        if self.modules.hears_host(module, host) {
+        let said = self.said.load(Ordering::SeqCst);
+        if self.modules.hears_said(module, said) {
             self.resting.fetch_sub(1, Ordering::SeqCst);
             self.news
                 .wait(self.rt, heard, Duration::from_millis(ACTIVE_REST));
@@ -106,16 +106,14 @@ impl<'a, R: Wait> WakeGate<'a, R> {
             .store(self.frames.rings(), Ordering::SeqCst);
     }
 
-    // A message of the host was answered: the writer is woken, and so are the modules where they rest long. The reader is held
-    // while it is ahead of the writer.
-    fn host_posted(&self) {
-        self.host.fetch_add(1, Ordering::SeqCst);
+    // A message of the host or a line of the operator was answered: the writer is woken, and so are the modules where they rest
+    // long.
+    fn tell_said(&self) {
+        self.said.fetch_add(1, Ordering::SeqCst);
         self.frames.ring();
         if self.resting.load(Ordering::SeqCst) != 0 {
             self.news.ring();
         }
-        self.ahead.fetch_add(1, Ordering::SeqCst);
-        self.await_room();
     }
 
     // Holds the reader until the writer found no frame, or the session is over.
@@ -150,8 +148,13 @@ impl<R: Wait> Gate for WakeGate<'_, R> {
             Point::Module(module) => self.modules.listen(module, self.news.rings()),
             Point::NoCommand(module) => self.await_command(module),
             Point::NoFrame => self.await_frame(),
-            Point::HostPosted => self.host_posted(),
-            Point::OperLine | Point::Posted => self.tell(),
+            Point::HostPosted => {
+                self.tell_said();
+                self.ahead.fetch_add(1, Ordering::SeqCst);
+                self.await_room();
+            }
+            Point::OperLine => self.tell_said(),
+            Point::Posted => self.tell(),
             Point::Accept => {
                 self.ahead.store(0, Ordering::SeqCst);
                 self.signs.begin_session();

@@ -12,8 +12,8 @@ pub struct WriteFault {
     pub written: usize,
 }
 
-/// The bytes from a place on.
-fn rest_from(bytes: &[u8], at: usize) -> &[u8]
+// The bytes from a place on.
+pub(crate) fn rest_from(bytes: &[u8], at: usize) -> &[u8]
     requires { at ≤ length bytes.now }
     ensures { result.now ≡ drop at bytes.now }
 {

@@ -85,6 +85,10 @@ impl Sink for TellingOut<'_> {
 impl LinkOut for TellingOut<'_> {
     ghost is_shut = { λ o. o.is_shut };
 
+    fn flush(&mut self) -> Result<(), Failed> {
+        Ok(())
+    }
+
     fn shut(&mut self) {
         self.is_shut = true;
         self.signs.was_shut.raise();

@@ -1,5 +1,5 @@
 use Rattle.std.proofs.Common.{inl, inr, refl, ◌∙◌}
-use Rattle.actors.proofs.Taking.{frames-go, failed-as, writer-ends, writer-fails, writer-refused}
+use Rattle.actors.proofs.Taking.{frames-go, failed-as, writer-ends, writer-fails, writer-refused, writer-unsent}
 use Rattle.actors.proofs.writer.write_frames.Goals as goal
 
 pub returns-in-Err-clause-did : goal.returns-in-Err-clause-did
@@ -35,3 +35,9 @@ returns-in-Err-Full-clause-did g c = writer-refused _ _ _ _ _ _ _ _ _ c.loop.inv
 
 pub returns-in-Err-NoMemory-clause-did : goal.returns-in-Err-NoMemory-clause-did
 returns-in-Err-NoMemory-clause-did g c = writer-refused _ _ _ _ _ _ _ _ _ c.loop.invariant.frames c.in-Err-NoMemory.ensures.unrecorded (inr refl)
+
+pub returns-in-Err-flush-clause-did : goal.returns-in-Err-flush-clause-did
+returns-in-Err-flush-clause-did g c =
+    writer-unsent _ _ _ _ _ _ _ _ _ _ _ c.loop.invariant.frames c.in-Err-Again.ensures.unrecorded c.in-Err-flush.ensures.held
+    (failed-as _ _ _ _ _ _ c.loop.invariant.faults c.loop.invariant.refusals (inl c.in-Err-flush.ensures.failed))
+    c.tell_fault-in-Err-flush.ensures.posted

@@ -214,6 +214,7 @@ fn say_link(
     match word {
         "read" => read(&mut link.0, answer),
         "write" => write!(answer, "{:?}", link.1.write(rest.as_bytes())).ok(),
+        "flush" => write!(answer, "{:?}", link.1.flush()).ok(),
         "link" => add_link(answer, &link.0, &link.1),
         "shut" => {
             link.1.shut();

@@ -6,7 +6,7 @@ use gem_ids::Moment;
 use item_model::Item;
 use std::alloc::Global;
 use test_runs::Tool;
-use tool_core::Core;
+use tool_core::{Core, Recorder};
 use tool_events::{Answer, Event, PostFault};
 
 /// A core.

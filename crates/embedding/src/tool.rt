@@ -5,7 +5,7 @@ use configuration::read_config;
 use gem_ids::Moment;
 use hsms_frame::{Arrival, Cutter};
 use std::alloc::Global;
-use tool_core::Core;
+use tool_core::{Core, Recorder};
 use tool_events::{Answer, Event, PostFault, TEXT_BYTES};
 
 // All events here are of one seat, and at the tool's moment: a program with a clock posts `Event::Tick` at a moment of it.

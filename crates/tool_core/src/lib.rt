@@ -3,7 +3,8 @@
 //! links, operators, the equipment and the clock do in `core_shop`.
 //!
 //! The same events give the same history: the core reads no clock, no file and no link. Moments are handed in, and
-//! frames are handed out when the writer takes them. Begin with `Core::open`, then `Core::apply`.
+//! frames are handed out when the writer takes them. Begin with `Core::open`, then `Core::apply`: they are calls of
+//! the trait `Recorder`, which says what they promise.
 //!
 //! All tables of the tool are built: the link with T6, T7 and the tool's linktest (SEMI E37), communication and control with the
 //! tool's transactions and T3, the line of notes with the spool (SEMI E30), load ports and carriers (SEMI E87), substrates (SEMI E90),
@@ -11,9 +12,9 @@
 #![tactic(auto)]
 
 mod react;
-mod recorder;
 mod stepped;
 mod tool;
 
+pub use history_laws::Recorder;
 pub use history_parts::Totals;
 pub use tool::Core;

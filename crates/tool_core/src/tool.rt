@@ -24,6 +24,7 @@ use core_shop::Reaction;
 use core_state::Plant;
 use event_reports::Values;
 use gem_ids::{CmdNo, ModuleId, Moment, Text80};
+use history_laws::Recorder;
 use history_parts::{
     Entries, SessionCounts, Totals, add_end, add_taken, cause_at, event_bytes, make_room,
 };
@@ -108,155 +109,6 @@ impl Values for Core {
 }
 
 impl Core {
-    /// The core in its first state, with no history. The configuration keeps its bounds (docs/profile/configuration.md).
-    pub fn open(alloc: Global, config: &Config) -> Result<Core, AllocError>
-        requires { IsConfig config.now }
-        ensures { IfOk result (λ core. core ≡ record { config = config.now; state = opening config.now; history = []; is_whole = true }) }
-    {
-        Ok(Core {
-            config: *config,
-            boxed: BoxedPlant {
-                plant: Box::new(alloc, Plant::open(alloc, config)?)?,
-            },
-            entries: Vec::new(alloc),
-            ends: Vec::new(alloc),
-            written: SessionCounts::none(alloc),
-            bytes: 0,
-            sessions: 0,
-            totals: Totals {
-                sessions: 0,
-                notes: 0,
-                answered: 0,
-                dropped: 0,
-                done: 0,
-                completed: 0,
-                substrates: 0,
-            },
-            is_up: false,
-            is_whole: true,
-        })
-    }
-
-    /// The history, the oldest entry first. All holds of it that `Recorded` lists (`history_laws`): it is a run from the first
-    /// state, its notes are those that were reported, each with one fate and sent in order, and so on. It is within the limits.
-    pub fn history(&self) -> &[Entry]
-        ensures history { result.now ≡ self.now.history }
-        ensures recorded { Recorded self.now.config self.now.history self.now.state }
-        ensures entries_fit { length self.now.history ≤ self.now.config.max_entries }
-        ensures bytes_fit { bytes_of self.now.history ≤ self.now.config.max_bytes }
-    {
-        self.entries.as_slice()
-    }
-
-    /// Hands out the history, of which the same holds as of `history`.
-    pub fn close(self) -> Entries
-        ensures history { result ≡ self.history }
-        ensures recorded { Recorded self.config self.history self.state }
-        ensures entries_fit { length self.history ≤ self.config.max_entries }
-        ensures bytes_fit { bytes_of self.history ≤ self.config.max_bytes }
-    {
-        let Core { entries, .. } = self;
-        Entries::from_vec(entries)
-    }
-
-    /// Whether the core can go on: false exactly where an event was answered `NoMemory`.
-    pub fn is_whole(&self) -> bool
-        ensures whole { result ≡ self.now.is_whole }
-    {
-        self.is_whole
-    }
-
-    /// The session that is up. Sessions are numbered from 1.
-    pub fn session_up(&self) -> Option<u64>
-        ensures session { result ≡ (if is_up self.now.state then Some self.now.state.link.session else None) }
-        ensures numbered { IfSome result (λ session. 0 < session) }
-    {
-        self.is_up.then_some(self.sessions)
-    }
-
-    /// Whether this session is up.
-    pub fn is_session_up(&self, session: u64) -> bool
-        ensures { result ≡ is_session_up self.now.state session }
-    {
-        self.is_up && self.sessions == session
-    }
-
-    /// Whether the operator ended the run. The core is whole.
-    pub fn is_quitting(&self) -> bool
-        requires { self.now.is_whole ≡ true }
-        ensures { result ≡ self.now.state.quitting }
-    {
-        self.boxed.plant.is_quitting()
-    }
-
-    /// How many modules the tool has, 2 to 255. The core is whole.
-    pub fn module_count(&self) -> usize
-        requires { self.now.is_whole ≡ true }
-        ensures count { result ≡ length self.now.state.floor.modules }
-        ensures few { result ≤ 255 }
-    {
-        self.boxed.plant.module_count()
-    }
-
-    /// The number of the open command of a module that was fetched. `None` exactly where it has none, or is no module of the
-    /// tool. The core is whole.
-    pub fn fetched_number(&self, m: ModuleId) -> Option<CmdNo>
-        requires { self.now.is_whole ≡ true }
-        ensures { result ≡ fetched_number (module_of m.0 self.now.state) }
-    {
-        self.boxed.plant.fetched_number(m)
-    }
-
-    /// Why a session ended. None: it is up, or never came.
-    pub fn session_end(&self, session: u64) -> Option<SessionCause>
-        ensures { result ≡ session_end (opening self.now.config) self.now.history session }
-    {
-        let ends = self.ends.as_slice();
-        if session == 0 {
-            return None;
-        }
-        cause_at(ends, (session - 1) as usize)
-    }
-
-    /// How many sessions came. They are numbered from 1.
-    pub fn session_count(&self) -> u64
-        ensures { result ≡ session_count (opening self.now.config) self.now.history }
-    {
-        self.sessions
-    }
-
-    /// How many bytes went out in a session: those of the frames that its writer took. The count stands still at the
-    /// greatest number of 64 bits. 0: nothing went out, or the session never came.
-    pub fn session_bytes(&self, session: u64) -> u64
-        ensures { result ≡ counted (length (session_out (opening self.now.config) self.now.history session)) }
-    {
-        self.written.of(session)
-    }
-
-    /// What is counted over the history. Takes no memory, and the core needn't be whole.
-    pub fn totals(&self) -> Totals
-        ensures { result ≡ totals_of self.now.config self.now.history }
-    {
-        self.totals
-    }
-
-    /// How much text the history holds, in bytes.
-    pub fn bytes(&self) -> u64
-        ensures { result ≡ bytes_of self.now.history }
-    {
-        self.bytes
-    }
-
-    /// Whether an event has to wait that is posted at this moment. The core is whole.
-    pub fn idle(&self, at: Moment, event: &Event) -> bool
-        requires { self.now.is_whole ≡ true }
-        ensures waits { IsTrue result ↔ (step self.now.state at.0 event.now ≡ None) }
-        // The state keeps what is true of each state that a history leads to.
-        ensures valid { Valid self.now.state }
-    {
-        must_wait(&self.boxed.plant, at, event)
-    }
-
     /// Whether the history takes no event with so much text, in bytes, any more.
     fn is_full(&self, bytes: u64) -> bool
         requires { bytes < 2 ^ 63 }
@@ -329,33 +181,104 @@ impl Core {
     {
         self.boxed.plant.fate(number)
     }
+}
 
-    /// Takes an event that this seat posts at this moment, answers it, and adds it to the history. `Full`: the history
-    /// takes no more entries, or not so much text. `Again`: the event has to wait, which takes no memory. After want of
-    /// memory the history is as before, and every later event that is not answered `Full` is answered `NoMemory`.
-    pub fn apply(
+impl Recorder for Core {
+    ghost view = { λ c. c };
+
+    fn open(alloc: Global, config: &Config) -> Result<Core, AllocError> {
+        Ok(Core {
+            config: *config,
+            boxed: BoxedPlant {
+                plant: Box::new(alloc, Plant::open(alloc, config)?)?,
+            },
+            entries: Vec::new(alloc),
+            ends: Vec::new(alloc),
+            written: SessionCounts::none(alloc),
+            bytes: 0,
+            sessions: 0,
+            totals: Totals {
+                sessions: 0,
+                notes: 0,
+                answered: 0,
+                dropped: 0,
+                done: 0,
+                completed: 0,
+                substrates: 0,
+            },
+            is_up: false,
+            is_whole: true,
+        })
+    }
+
+    fn history(&self) -> &[Entry] {
+        self.entries.as_slice()
+    }
+
+    fn close(self) -> Entries {
+        let Core { entries, .. } = self;
+        Entries::from_vec(entries)
+    }
+
+    fn is_whole(&self) -> bool {
+        self.is_whole
+    }
+
+    fn module_count(&self) -> usize {
+        self.boxed.plant.module_count()
+    }
+
+    fn session_end(&self, session: u64) -> Option<SessionCause> {
+        let ends = self.ends.as_slice();
+        if session == 0 {
+            return None;
+        }
+        cause_at(ends, (session - 1) as usize)
+    }
+
+    fn totals(&self) -> Totals {
+        self.totals
+    }
+
+    fn bytes(&self) -> u64 {
+        self.bytes
+    }
+
+    fn session_up(&self) -> Option<u64> {
+        self.is_up.then_some(self.sessions)
+    }
+
+    fn is_session_up(&self, session: u64) -> bool {
+        self.is_up && self.sessions == session
+    }
+
+    fn is_quitting(&self) -> bool {
+        self.boxed.plant.is_quitting()
+    }
+
+    fn fetched_number(&self, m: ModuleId) -> Option<CmdNo> {
+        self.boxed.plant.fetched_number(m)
+    }
+
+    fn session_count(&self) -> u64 {
+        self.sessions
+    }
+
+    fn session_bytes(&self, session: u64) -> u64 {
+        self.written.of(session)
+    }
+
+    fn idle(&self, at: Moment, event: &Event) -> bool {
+        must_wait(&self.boxed.plant, at, event)
+    }
+
+    fn apply(
         &mut self,
         alloc: Global,
         seat: u32,
         at: Moment,
         event: Event,
-    ) -> Result<Answer, PostFault>
-        ensures step { IfOk result (λ answer. (o : Outcome) × (step self.old.state at.0 event ≡ Some o)
-            × (o.answer ≡ answer) × (self.new.state ≡ o.after)) }
-        ensures entry { OnOk result (self.new.history
-            ≡ self.old.history ++ record { seat = seat; at = at; event = event } ∷ []) }
-        ensures full { posts.is_full result ≡ is_full self.old.config self.old.history event }
-        ensures full_entries { (n : ℕ) → IsErrOf result (PostFault.Full n) → n ≡ length self.old.history }
-        ensures not_whole { self.old.is_whole ≡ false → is_full self.old.config self.old.history event ≡ false → result ≡ Err PostFault.NoMemory }
-        ensures again { IsErrOf result PostFault.Again → step self.old.state at.0 event ≡ None }
-        ensures waits { self.old.is_whole ≡ true → is_full self.old.config self.old.history event ≡ false → step self.old.state at.0 event ≡ None → result ≡ Err PostFault.Again }
-        ensures config { self.new.config ≡ self.old.config }
-        ensures whole { self.new.is_whole ≡ (self.old.is_whole && not (posts.is_want result)) }
-        ensures unchanged { OnErr result (self.new ≡ record self.old { is_whole = self.new.is_whole }) }
-        // Before the call and after it, all that is recorded holds of the history.
-        ensures before { Recorded self.old.config self.old.history self.old.state }
-        ensures recorded { Recorded self.new.config self.new.history self.new.state }
-    {
+    ) -> Result<Answer, PostFault> {
         if self.is_full(event_bytes(&event)) {
             return Err(PostFault::Full(self.entries.len() as u64));
         }

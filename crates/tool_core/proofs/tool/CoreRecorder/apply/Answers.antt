@@ -1,5 +1,5 @@
 use Rattle.history_laws.proofs.Recording.{recorded-of}
-use Rattle.tool_core.proofs.tool.Core.apply.Goals as goal
+use Rattle.tool_core.proofs.tool.CoreRecorder.apply.Goals as goal
 
 pub returns-then-is_full-clause-before : goal.returns-then-is_full-clause-before
 returns-then-is_full-clause-before c = rw (← c.self.view_is) (recorded-of _ _ _ c.self.invariant.config c.self.invariant.run)

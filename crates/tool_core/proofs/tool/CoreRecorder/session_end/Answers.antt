@@ -1,7 +1,7 @@
 use Rattle.std.proofs.Common.{suc, ◌-◌, ◌≡◌, List, sym, ap, ◌∙◌, arith, slice_get, option_map}
 use Rattle.tool_events.specs.declared.event.SessionEnd.{SessionEnd}
 use Rattle.gem_model.proofs.Ends.{session_end-at, session_end-none}
-use Rattle.tool_core.proofs.tool.Core.session_end.Goals as goal
+use Rattle.tool_core.proofs.tool.CoreRecorder.session_end.Goals as goal
 
 pub returns-then-session-eq0 : goal.returns-then-session-eq0
 returns-then-session-eq0 c =

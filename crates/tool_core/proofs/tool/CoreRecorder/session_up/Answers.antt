@@ -1,7 +1,7 @@
 use Rattle.std.proofs.Common.{◌≡◌, ℕ, ◌<◌, Bool, true, false, IfSome, Option, sym, ◌∙◌, subst, refl}
 use Rattle.std.specs.Bool.{then_some}
 use Rattle.gem_model.proofs.Ends.{up-numbered}
-use Rattle.tool_core.proofs.tool.Core.session_up.Goals as goal
+use Rattle.tool_core.proofs.tool.CoreRecorder.session_up.Goals as goal
 
 -- where a session is told, its number is from 1
 numbered : (up : Bool) (n : ℕ) → (up ≡ true → 0 < n) → IfSome (then_some up n) (λ k. 0 < k)

@@ -113,7 +113,7 @@ fn meet<R: Threads + Wait + Sync, D: Desk + Send, E: Desk + Send, X: Door, G: Ga
             return Err(end);
         }
     };
-    let (read, written) = run_session(
+    let ended = run_session(
         rt,
         alloc,
         reader,
@@ -126,10 +126,10 @@ fn meet<R: Threads + Wait + Sync, D: Desk + Send, E: Desk + Send, X: Door, G: Ga
     door.back(link_in, link_out);
     bytes.push_reserved(SessionBytes {
         session,
-        read: read.1,
-        written: written.1,
+        read: ended.bytes_read,
+        written: ended.bytes_written,
     });
-    go_on(read.0, written.0)
+    go_on(ended.reader, ended.writer)
 }
 
 // Whether the host actor goes on behind a session whose reader and writer ended so. The error is how it ends.

@@ -36,6 +36,17 @@ use substrate::{LocationRecord, Places};
 use tool_jobs::Jobs;
 use tool_tasks::{Command, Recipe, Task};
 
+// What is known to be at rest: no row of it is ready by itself, so that it need not be asked.
+#[derive(Clone, Copy)]
+pub(crate) struct AtRest {
+    // The locations: no row of table 11.
+    pub(crate) locations: bool,
+    // The substrates: no row of tables 12 and 13.
+    pub(crate) substrates: bool,
+    // The load ports and the carriers: no row of tables 4 to 10.
+    pub(crate) shop: bool,
+}
+
 /// The floor of the tool, which contracts see as the load ports with the carriers; the list of the modules by their numbers: 1 is the
 /// robot, 2 the aligner, and 2 + c chamber c; which substrate has which place; the states of the locations by their numbers; the
 /// substrates of the carriers that are here, in the order of their registration; and the process jobs and control jobs. Only `new`,
@@ -360,35 +371,33 @@ impl ToolFloor {
     pub fn least(&self) -> Option<Firing>
         ensures { result ≡ floor_least self.now }
     {
-        self.least_where(false, false, false)
+        self.least_where(AtRest {
+            locations: false,
+            substrates: false,
+            shop: false,
+        })
     }
 
-    // The least row that is ready by itself, where it may be known that none of a location is, none of a substrate, or none of a load
-    // port and a carrier, and they need not be asked.
-    pub(crate) fn least_where(
-        &self,
-        locations_rest: bool,
-        substrates_rest: bool,
-        shop_rests: bool,
-    ) -> Option<Firing>
-        requires locations { locations_rest ≡ true → first_location self.now ≡ None }
-        requires substrates { substrates_rest ≡ true → NoSubstrates self.now }
-        requires shop { shop_rests ≡ true → NoShop self.now }
+    // The least row that is ready by itself, where what is known to be at rest need not be asked.
+    pub(crate) fn least_where(&self, at_rest: AtRest) -> Option<Firing>
+        requires locations { at_rest.locations ≡ true → first_location self.now ≡ None }
+        requires substrates { at_rest.substrates ≡ true → NoSubstrates self.now }
+        requires shop { at_rest.shop ≡ true → NoShop self.now }
         ensures { result ≡ floor_least self.now }
     {
-        if let Some(x) = self.least_of_shop_where(shop_rests) {
+        if let Some(x) = self.least_of_shop_where(at_rest.shop) {
             return Some(x);
         }
-        if let Some(x) = self.ready_accessing_where(shop_rests) {
+        if let Some(x) = self.ready_accessing_where(at_rest.shop) {
             return Some(x);
         }
-        if let Some(x) = self.ready_location_where(locations_rest) {
+        if let Some(x) = self.ready_location_where(at_rest.locations) {
             return Some(x);
         }
-        if let Some(x) = self.ready_transport_where(substrates_rest) {
+        if let Some(x) = self.ready_transport_where(at_rest.substrates) {
             return Some(x);
         }
-        if let Some(x) = self.ready_processing_where(substrates_rest) {
+        if let Some(x) = self.ready_processing_where(at_rest.substrates) {
             return Some(x);
         }
         if let Some(x) = self.ready_process() {

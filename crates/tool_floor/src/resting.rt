@@ -17,7 +17,7 @@ ghost use Rattle.floor_model.specs.Machines.{floor_starts, floor_fired, floor_le
 ghost use Rattle.floor_model.specs.Jobs.{carrier_code};
 ghost use Rattle.tool_floor.specs.Located.{leaves_places, is_of_shop};
 
-use crate::floor::ToolFloor;
+use crate::floor::{AtRest, ToolFloor};
 use crate::readiness::{ACCESSING, LOCATION, PROCESSING};
 use crate::rows::MOVES;
 use carrier::CarrierAction;
@@ -124,9 +124,11 @@ impl RestingFloor {
         if self.rests {
             return None;
         }
-        let least = self
-            .floor
-            .least_where(self.locations_rest, self.substrates_rest, self.shop_rests);
+        let least = self.floor.least_where(AtRest {
+            locations: self.locations_rest,
+            substrates: self.substrates_rest,
+            shop: self.shop_rests,
+        });
         self.locations_rest = self.locations_rest || is_past(LOCATION, &least);
         self.substrates_rest = self.substrates_rest || is_past(PROCESSING, &least);
         self.shop_rests = self.shop_rests || is_past(ACCESSING, &least);

@@ -22,7 +22,7 @@ pub returns-clause-did : goal.returns-clause-did
 returns-clause-did g c = λ before gave.
     let D = g.D.Desk in
     let I = g.X.In.Source in
-    let ran = c.run_session in
+    let ran = c.run_session-ended in
     let met = c.back-2.ensures in
     session-ran _ _ _ _ _ _ _ _ _ _ _ _ _ _ (c.args.link_in, c.args.link_out) (ran.new.link_in, ran.new.link_out)
     (reader_counts D.fulls D.wants I.faults I.ends c.link_up.new.reader c.args.link_in) (reader_counts D.fulls D.wants I.faults I.ends ran.new.reader ran.new.link_in) _ _ _ _ _ gave
@@ -31,5 +31,5 @@ returns-clause-did g c = λ before gave.
 
 pub returns-clause-full : goal.returns-clause-full
 returns-clause-full g c = λ is.
-    let ran = c.run_session in
+    let ran = c.run_session-ended in
     session-full _ _ _ _ _ _ _ c.go_on.ensures ran.ensures.read_full ran.ensures.wrote_full is

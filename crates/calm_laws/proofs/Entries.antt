@@ -2,7 +2,7 @@
 use Rattle.std.proofs.Common.{◌≡◌, ℕ, Bool, true, false, if◌then◌else◌, [], Some, None, refl, sym, ◌∙◌, ap}
 use Rattle.std.specs.List.{list_any}
 use Rattle.tool_events.specs.declared.entry.Entry.{Entry}
-use Rattle.control_job.proofs.Orders.{not_true}
+use Rattle.records.proofs.Truth.{not_true}
 use Rattle.lot_laws.specs.Lot.{Executes, InOrder, IsCalmBetween}
 use Rattle.gem_model.specs.State.{State, raised}
 use Rattle.gem_model.specs.Step.{Outcome, acts}

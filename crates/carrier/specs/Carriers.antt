@@ -1,7 +1,9 @@
 -- The carriers that the tool knows, in the order in which they were created (after SEMI E87; this tool's profile, carriers).
-use Rattle.std.specs.Prelude.{◌≡◌, ℕ, ◌+◌, ◌==◌, ◌≤◌, Bool, true, false, not, ◌&&◌, ◌||◌, if◌then◌else◌, List, [], ◌∷◌, ◌++◌, length, map, find, Option, Some, None}
-use Rattle.std.specs.List.{list_any, list_all, filter}
+use Rattle.std.specs.Prelude.{◌≡◌, ℕ, ◌+◌, ◌==◌, ◌≤◌, Bool, true, false, not, ◌&&◌, ◌||◌, if◌then◌else◌, List, [], ◌∷◌, ◌++◌, length, position, Option, Some, None}
+use Rattle.std.specs.List.{list_all, filter}
 use Rattle.std.specs.Str.{bytes_eq}
+use Rattle.records.specs.Names as named
+use Rattle.records.specs.Numbers as numbered
 use Rattle.carrier.specs.Tables.{id_number, map_number, access_number}
 use Rattle.carrier.specs.Record.{first_record, carrier_starts, carrier_fired, is_id_failed, is_map_failed, is_done}
 use Rattle.carrier.specs.declared.record.CarrierRecord.{CarrierRecord}
@@ -9,43 +11,44 @@ use Rattle.carrier.specs.declared.carrier.Carrier.{Carrier}
 use Rattle.carrier.specs.declared.carrier.CarrierView.{CarrierView}
 use Rattle.gem_ids.specs.declared.numbers.PortNo.{PortNo}
 
+-- the name of a carrier, and its number of creation
+abbrev pub name_of : Carrier → List ℕ
+name_of c = c.name
+
+abbrev pub number_of : Carrier → ℕ
+number_of c = c.number
+
 -- the carrier has this name
 abbrev pub has_name : List ℕ → Carrier → Bool
-has_name name c = bytes_eq c.name name
+has_name name c = named.has_name name_of name c
 
 -- the carrier of a name
 abbrev pub carrier_named : List ℕ → List Carrier → Option Carrier
-carrier_named name carriers = find (has_name name) carriers
+carrier_named name carriers = named.record_named name_of name carriers
 
 -- the carrier of a name is known
 abbrev pub is_known : List ℕ → List Carrier → Bool
-is_known name carriers = list_any (has_name name) carriers
+is_known name carriers = named.is_named name_of name carriers
 
 -- the carrier of a number of creation
 abbrev pub carrier_numbered : ℕ → List Carrier → Option Carrier
-carrier_numbered n carriers = find (λ c. c.number == n) carriers
+carrier_numbered n carriers = numbered.record_numbered number_of n carriers
 
 -- a change of the carrier of a number; where there is none, nothing changes
 abbrev pub change_numbered : ℕ → (Carrier → Carrier) → List Carrier → List Carrier
-change_numbered n change [] = []
-change_numbered n change (c ∷ cs) = if c.number == n then change c ∷ cs else c ∷ change_numbered n change cs
+change_numbered n change carriers = numbered.change_numbered number_of n change carriers
 
--- the place of the first carrier of a name, of which the given one has this place
-abbrev pub place_from : ℕ → List ℕ → List Carrier → Option ℕ
-place_from n name [] = None
-place_from n name (c ∷ cs) = if has_name name c then Some n else place_from (n + 1) name cs
-
--- the place of a carrier, counted from 0
+-- the place of the carrier of a name, counted from 0
 abbrev pub place_of : List ℕ → List Carrier → Option ℕ
-place_of name carriers = place_from 0 name carriers
+place_of name carriers = position (has_name name) carriers
 
 -- a change of the carrier of a name
 abbrev pub change_named : List ℕ → (Carrier → Carrier) → List Carrier → List Carrier
-change_named name change carriers = map (λ c. if has_name name c then change c else c) carriers
+change_named name change carriers = named.change_named name_of name change carriers
 
 -- the carriers without that of a name
 abbrev pub without : List ℕ → List Carrier → List Carrier
-without name carriers = filter (λ c. not (has_name name c)) carriers
+without name carriers = named.without_named name_of name carriers
 
 -- a map that nothing is known of: 25 slots of the code 0, undefined (SEMI E87, slot map)
 abbrev pub no_map : List ℕ
@@ -177,8 +180,7 @@ view_of c = record {
 
 -- each name is that of one carrier
 abbrev pub are_named_apart : List Carrier → Bool
-are_named_apart [] = true
-are_named_apart (c ∷ cs) = not (is_known c.name cs) && are_named_apart cs
+are_named_apart carriers = named.are_named_apart name_of carriers
 
 -- Each name is that of one carrier, and there are at most sixteen.
 pub record AreCarriers (carriers : List Carrier) : Type 0 where

@@ -5,4 +5,4 @@ pub mod Wants
 pub mod Verdict
 pub mod Kept
 pub mod Creating
-pub mod Keys
+pub mod Changes

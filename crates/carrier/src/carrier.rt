@@ -1,10 +1,11 @@
 //! A carrier.
 
 ghost use Rattle.std.specs.Prelude.{◌≡◌};
-ghost use Rattle.carrier.specs.Carriers.{created, view_of, is_usable, is_usable_slot, is_host_map, is_port, came_to};
+ghost use Rattle.carrier.specs.Carriers.{name_of, number_of, created, view_of, is_usable, is_usable_slot, is_host_map, is_port, came_to};
 
 use crate::record::CarrierRecord;
-use gem_ids::{CarrierId, PortNo};
+use gem_ids::{CarrierId, PortNo, Text80};
+use records::{Named, Numbered};
 
 /// A carrier: its number of creation, which is its own for good; its name and states; whether its id was read, and the map of its slots, where it came; the map that the host
 /// gave; the port that it is at or bound to; whether it is present there, and whether it is bound there; and whether it is marked
@@ -108,6 +109,26 @@ impl Carrier {
         self.map = map;
         self.port = Some(port);
         self.present = true;
+    }
+}
+
+impl Named for Carrier {
+    ghost name = { name_of };
+
+    fn text(&self) -> Text80 {
+        self.name.text()
+    }
+
+    fn name_bytes(&self) -> &[u8] {
+        self.name.as_bytes()
+    }
+}
+
+impl Numbered for Carrier {
+    ghost number = { number_of };
+
+    fn number(&self) -> u64 {
+        self.number
     }
 }
 

@@ -11,11 +11,11 @@ ghost use Rattle.carrier.specs.declared.fault.CarrierFault.TheVariants.{NoMemory
 
 use crate::action::{CarrierAction, CarrierWord};
 use crate::carrier::{Carrier, CarrierView};
+use crate::change::CarrierChange;
 use crate::fault::CarrierFault;
-use crate::key::Key;
 use gem_ids::{CarrierId, PortNo, Text80};
-use indexmap::IndexMap;
 use load_port::{Caack, PortView};
+use records::Book;
 use std::alloc::{AllocError, Global};
 use std::marker::Model;
 
@@ -30,7 +30,7 @@ pub const MOST_ABSENT: usize = 12;
 /// takes room for all 16, which they keep.
 #[derive(Drop)]
 pub struct Carriers {
-    by_name: IndexMap<Key, Carrier>,
+    book: Book<Carrier>,
 }
 
 impl Model for Carriers {
@@ -39,12 +39,11 @@ impl Model for Carriers {
 
     ghost Value = { List Carrier };
 
-    ghost use Rattle.indexmap.specs.IndexMap.{spare};
-    ghost use Rattle.carrier.specs.Kept.{carriers_of, AreKept};
+    ghost use Rattle.carrier.specs.Kept.{AreKept};
 
-    ghost view = { λ c. carriers_of c.by_name.entries };
+    ghost view = { λ c. c.book.kept };
 
-    ghost invariant = { λ c. AreKept c.by_name.entries (spare c.by_name) };
+    ghost invariant = { λ c. AreKept c.book };
 }
 
 impl Carriers {
@@ -52,8 +51,8 @@ impl Carriers {
     pub fn new(alloc: Global) -> Result<Carriers, AllocError>
         ensures { IfOk result (λ carriers. carriers ≡ []) }
     {
-        let by_name = IndexMap::with_capacity(alloc, MOST_CARRIERS)?;
-        Ok(Carriers { by_name })
+        let book = Book::new(alloc, MOST_CARRIERS)?;
+        Ok(Carriers { book })
     }
 
     // ---- what they say
@@ -63,21 +62,21 @@ impl Carriers {
         ensures len { result ≡ length self.now }
         ensures few { length self.now ≤ most_carriers }
     {
-        self.by_name.len()
+        self.book.len()
     }
 
     /// All of them.
     pub fn as_slice(&self) -> &[Carrier]
         ensures { result.now ≡ self.now }
     {
-        self.by_name.values().as_slice()
+        self.book.as_slice()
     }
 
     /// The carrier at a place, counted from 0. `None` exactly where there is none.
     pub fn get(&self, place: usize) -> Option<&Carrier>
         ensures { option_copied result ≡ slice_get self.now place }
     {
-        self.as_slice().get(place)
+        self.book.get(place)
     }
 
     /// The carrier of a name. `None` exactly where none of that name is known.
@@ -85,12 +84,7 @@ impl Carriers {
         ensures value { option_copied result ≡ carrier_named name self.now }
         ensures carriers { AreCarriers self.now }
     {
-        // so few are looked through faster than a name is hashed
-        let _ = &self.by_name;
-        let text = name.as_bytes();
-        self.as_slice()
-            .iter()
-            .find(|carrier| is_called(carrier, text))
+        self.book.named(name.as_bytes())
     }
 
     /// The carrier of a number of creation. `None` exactly where none of that number is known.
@@ -98,28 +92,7 @@ impl Carriers {
         ensures value { option_copied result ≡ carrier_numbered number self.now }
         ensures carriers { AreCarriers self.now }
     {
-        let _ = &self.by_name;
-        self.as_slice()
-            .iter()
-            .find(|carrier| carrier.number == number)
-    }
-
-    // The place of the carrier of a number of creation, counted from 0.
-    fn place_numbered(&self, number: u64) -> Option<usize>
-        ensures { result ≡ position (λ c. c.number == number) self.now }
-    {
-        self.as_slice()
-            .iter()
-            .position(|carrier| carrier.number == number)
-    }
-
-    // The place of the first carrier of a name, counted from 0.
-    fn place_called(&self, name: &[u8]) -> Option<usize>
-        ensures { result ≡ position (has_name name.now) self.now }
-    {
-        self.as_slice()
-            .iter()
-            .position(|carrier| is_called(carrier, name))
+        self.book.numbered(number)
     }
 
     /// The place of the carrier of a name, counted from 0. `None` exactly where none of that name is known.
@@ -127,8 +100,7 @@ impl Carriers {
         ensures value { result ≡ place_of name self.now }
         ensures carriers { AreCarriers self.now }
     {
-        let _ = &self.by_name;
-        self.place_called(name.as_bytes())
+        self.book.place_named(name.as_bytes())
     }
 
     /// What is told of the carrier of a name. `None` exactly where none of that name is known.
@@ -145,10 +117,7 @@ impl Carriers {
     pub fn is_known(&self, name: Text80) -> bool
         ensures { result ≡ is_known name self.now }
     {
-        let text = name.as_bytes();
-        self.as_slice()
-            .iter()
-            .any(|carrier| is_called(carrier, text))
+        self.book.is_named(name.as_bytes())
     }
 
     // ---- what is asked of them
@@ -294,13 +263,7 @@ impl Carriers {
         requires few { length self.old < most_carriers }
         ensures { self.new ≡ self.old ++ carrier ∷ [] }
     {
-        let key = Key {
-            name: carrier.name.text(),
-        };
-        match self.by_name.insert(key, carrier) {
-            Ok(_) => {}
-            Err(_) => unreachable!(),
-        }
+        self.book.push(carrier);
     }
 
     /// The carrier of a name isn't known any more; the others keep their order. Where none of the name is known, nothing
@@ -308,34 +271,7 @@ impl Carriers {
     pub fn forget(&mut self, id: CarrierId)
         ensures { self.new ≡ without id self.old }
     {
-        self.keep_others(self.len(), &id);
-    }
-
-    // So many carriers from the first on stay, but for that of a name. All are taken out, and put in again in their order:
-    // a map that lost a single one may lack the room of it.
-    fn keep_others(&mut self, count: usize, name: &CarrierId)
-        requires { count ≤ length self.old }
-        ensures { self.new ≡ without name.now (take count self.old) }
-    {
-        let _ = &self.by_name;
-        if count == 0 {
-            self.clear();
-            return;
-        }
-        let last = self.get(count - 1).copied();
-        self.keep_others(count - 1, name);
-        if let Some(carrier) = last {
-            if !is_named(&carrier, name) {
-                self.add(carrier);
-            }
-        }
-    }
-
-    // No carrier is known any more.
-    fn clear(&mut self)
-        ensures { self.new ≡ [] }
-    {
-        self.by_name.clear();
+        self.book.forget_named(id.as_bytes());
     }
 
     /// Fires a row of table 8, 9 or 10 at the carrier of a number of creation: true exactly where there is a carrier of that
@@ -345,9 +281,22 @@ impl Carriers {
         ensures fires { result ≡ starts_row table row (carrier_numbered number self.old) }
         ensures after { self.new ≡ change_numbered number (fires_row table row) self.old }
     {
-        match self.place_numbered(number) {
+        let starts = self.starts(number, table, row);
+        self.book
+            .change_numbered(number, &CarrierChange::Row(table, row));
+        starts
+    }
+
+    // Whether a row starts at the carrier of a number.
+    fn starts(&self, number: u64, table: u8, row: u8) -> bool
+        ensures { result ≡ starts_row table row (carrier_numbered number self.now) }
+    {
+        match self.numbered(number) {
+            Some(carrier) => {
+                let mut states = carrier.states;
+                states.fire(table, row)
+            }
             None => false,
-            Some(place) => self.by_name[place].states.fire(table, row),
         }
     }
 
@@ -356,13 +305,8 @@ impl Carriers {
         ensures known { result ≡ is_known id self.old }
         ensures after { self.new ≡ change_named id (read_map map) self.old }
     {
-        match self.place_of(id.text()) {
-            Some(place) => {
-                self.by_name[place].map = map;
-                true
-            }
-            None => false,
-        }
+        self.book
+            .change_named(id.as_bytes(), &CarrierChange::ReadMap(map))
     }
 
     /// The carrier of a name came to this port, with its map, and its id was read or not. It stays bound only where it was
@@ -370,9 +314,8 @@ impl Carriers {
     pub fn come(&mut self, id: CarrierId, port: PortNo, is_read: bool, map: [u8; 25])
         ensures { self.new ≡ change_named id (came_to port.0 is_read map) self.old }
     {
-        if let Some(place) = self.place_of(id.text()) {
-            self.by_name[place].come(port, is_read, map);
-        }
+        self.book
+            .change_named(id.as_bytes(), &CarrierChange::Came(port, is_read, map));
     }
 
     /// This port is to be that of the carrier of a name, which isn't bound yet. Where none of the name is known, nothing
@@ -380,27 +323,23 @@ impl Carriers {
     pub fn direct(&mut self, id: CarrierId, port: PortNo)
         ensures { self.new ≡ change_named id (directed_to port.0) self.old }
     {
-        if let Some(place) = self.place_of(id.text()) {
-            self.by_name[place].port = Some(port);
-        }
+        self.book
+            .change_named(id.as_bytes(), &CarrierChange::Directed(port));
     }
 
     /// The carrier of a name is bound to its port. Where none of the name is known, nothing changes.
     pub fn bind(&mut self, id: CarrierId)
         ensures { self.new ≡ change_named id binds self.old }
     {
-        if let Some(place) = self.place_of(id.text()) {
-            self.by_name[place].bound = true;
-        }
+        self.book.change_named(id.as_bytes(), &CarrierChange::Bound);
     }
 
     /// The host gave this map for the carrier of a name. Where none of the name is known, nothing changes.
     pub fn tell_map(&mut self, id: CarrierId, map: [u8; 25])
         ensures { self.new ≡ change_named id (told_map map) self.old }
     {
-        if let Some(place) = self.place_of(id.text()) {
-            self.by_name[place].host_map = Some(map);
-        }
+        self.book
+            .change_named(id.as_bytes(), &CarrierChange::ToldMap(map));
     }
 
     /// The carrier of a name is marked stopped from now on, until it is forgotten: a process job of it ended after a STOP or an
@@ -408,24 +347,9 @@ impl Carriers {
     pub fn mark_stopped(&mut self, name: Text80)
         ensures { self.new ≡ marked_stopped name self.old }
     {
-        if let Some(place) = self.place_of(name) {
-            self.by_name[place].stopped = true;
-        }
+        self.book
+            .change_named(name.as_bytes(), &CarrierChange::Stopped);
     }
-}
-
-// Whether the carrier has this name.
-fn is_named(carrier: &Carrier, name: &CarrierId) -> bool
-    ensures { result ≡ has_name name.now carrier.now }
-{
-    is_called(carrier, name.as_bytes())
-}
-
-// Whether the carrier has the name of these bytes.
-fn is_called(carrier: &Carrier, name: &[u8]) -> bool
-    ensures { result ≡ has_name name.now carrier.now }
-{
-    carrier.name.as_bytes() == name
 }
 
 // Whether a text is the name of a carrier.

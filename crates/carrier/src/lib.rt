@@ -8,8 +8,8 @@
 mod action;
 mod carrier;
 mod carriers;
+mod change;
 mod fault;
-mod key;
 mod laws;
 mod record;
 

@@ -3,10 +3,11 @@ use Rattle.std.proofs.Common.{◌≡◌, ℕ, suc, ◌==◌, ◌<◌, nat_le, Bo
 use Rattle.std.proofs.lemmas.List.{length-map}
 use Rattle.std.proofs.lemmas.Bool.Decides.{nat_tests}
 use Rattle.gem_tables.specs.Table.{is_one_of}
+use Rattle.records.proofs.Apart.{length_more}
 use Rattle.control_job.specs.Names.{others}
 use Rattle.control_job.specs.Jobs.{JobStore, AreJobs, AreRising, owns, leaves, is_kept, most_jobs, fires_row, fires_at, put_first, put_last, order_without, jobs_without, forgotten, added, names_of, numbers_of}
 use Rattle.control_job.specs.declared.job.ControlJob.{ControlJob}
-use Rattle.control_job.proofs.Orders.{gone, apart_without, one_less, all_without, in_last, in_first, both_without, still_in, last_in, apart_more, length_more, all_more, all_wider, one_of_all, rising_without, rising_more, rising_apart, fresh, given_later}
+use Rattle.control_job.proofs.Orders.{gone, apart_without, one_less, all_without, in_last, in_first, both_without, still_in, last_in, apart_more, all_more, all_wider, one_of_all, rising_without, rising_more, rising_apart, fresh, given_later}
 use Rattle.control_job.proofs.Called.{once_more, kept_is, names_more, numbers_more, numbers_without, named_without, names_changed, numbers_changed}
 
 -- ---- a change of jobs that keep their names and numbers
@@ -104,13 +105,9 @@ jobs_forgotten s n h e =
       were_given = all_without (λ m. nat_le m s.given) n s.order h.were_given;
     }
 
-jobs_length : (js : List ControlJob) (j : ControlJob) → length (js ++ j ∷ []) ≡ suc (length js)
-jobs_length [] j = refl
-jobs_length (k ∷ ks) j = ap suc (jobs_length ks j)
-
 pub jobs_added : (s : JobStore) (j : ControlJob) → AreJobs s → s.given < j.number → is_kept j.name s.jobs ≡ false → length s.jobs < most_jobs → AreJobs (added j s)
 jobs_added s j h next unknown few =
-    let longer : length (s.jobs ++ j ∷ []) ≡ suc (length s.jobs) = jobs_length s.jobs j in
+    let longer : length (s.jobs ++ j ∷ []) ≡ suc (length s.jobs) = length_more j s.jobs in
     let new : is_one_of s.order j.number ≡ false = fresh s.given j.number s.order h.were_given next in
     let own : nat_le j.number j.number ≡ true = grind (arith, nat_tests) in
     record {

@@ -1,23 +1,11 @@
 -- Lists of numbers of jobs, as the queue's order has them.
-use Rattle.std.proofs.Common.{◌≡◌, ℕ, suc, ◌==◌, ◌≤◌, ◌<◌, nat_le, Bool, true, false, true≢false, cond, not, ◌&&◌, ◌||◌, List, [], ◌∷◌, ◌++◌, length, filter, refl, sym, ap, ◌∙◌, subst, arith}
+use Rattle.std.proofs.Common.{◌≡◌, ℕ, suc, ◌==◌, ◌≤◌, ◌<◌, nat_le, Bool, true, false, true≢false, cond, not, ◌||◌, List, [], ◌∷◌, ◌++◌, length, filter, refl, sym, ap, ◌∙◌, subst, arith}
 use Rattle.std.specs.List.{list_all}
 use Rattle.std.proofs.lemmas.Bool.Decides.{nat_tests}
 use Rattle.gem_tables.specs.Table.{is_one_of}
+use Rattle.records.proofs.Truth.{or_false, and_true, not_true}
+use Rattle.records.proofs.Rising.{rising_filter, rising_more as rising_behind}
 use Rattle.control_job.specs.Jobs.{order_without, order_count, put_first, put_last, are_apart, AreRising}
-
--- ---- truth values
-
-pub or_false : (a b : Bool) → (a || b) ≡ false → (a ≡ false) × (b ≡ false)
-or_false true b h = absurd (true≢false h)
-or_false false b h = (refl, h)
-
-pub and_true : (a b : Bool) → (a && b) ≡ true → (a ≡ true) × (b ≡ true)
-and_true true b h = (refl, h)
-and_true false b h = absurd (true≢false (sym h))
-
-pub not_true : (a : Bool) → not a ≡ true → a ≡ false
-not_true true h = absurd (true≢false (sym h))
-not_true false h = refl
 
 or_second : (a b : Bool) → b ≡ true → (a || b) ≡ true
 or_second true b h = refl
@@ -154,10 +142,6 @@ apart_more n (k ∷ ks) h e =
     let first : is_one_of (ks ++ n ∷ []) k ≡ false = in_more k n ks ∙ rw (not_true (is_one_of ks k) parts.0, turned) refl in
     rw (first, apart_more n ks parts.1 others.1) refl
 
-pub length_more : (n : ℕ) (ns : List ℕ) → length (ns ++ n ∷ []) ≡ suc (length ns)
-length_more n [] = refl
-length_more n (k ∷ ks) = ap suc (length_more n ks)
-
 pub all_more : (test : ℕ → Bool) (n : ℕ) (ns : List ℕ) → list_all test ns ≡ true → test n ≡ true → list_all test (ns ++ n ∷ []) ≡ true
 all_more test n [] h t = rw t refl
 all_more test n (k ∷ ks) h t = let parts = and_true (test k) (list_all test ks) h in rw (parts.0, all_more test n ks parts.1 t) refl
@@ -199,20 +183,11 @@ both_without n order (k ∷ ks) h = let parts = and_true (is_one_of order k) (li
 
 -- ---- rising numbers
 
-rising_from : (low last given : ℕ) (ns : List ℕ) → low ≤ last → AreRising last given ns → AreRising low given ns
-rising_from low last given [] l h = let k : last ≤ given = h in omega (arith, l, k)
-rising_from low last given (n ∷ ns) l h = let k = h.0 in (omega (arith, l, k), h.1)
-
 pub rising_without : (n last given : ℕ) (ns : List ℕ) → AreRising last given ns → AreRising last given (order_without n ns)
-rising_without n last given [] h = h
-rising_without n last given (k ∷ ks) h = by_test (k == n) (rising_without n k given ks h.1) where
-  by_test : (b : Bool) → AreRising k given (order_without n ks) → AreRising last given (cond (not b) (k ∷ order_without n ks) (order_without n ks))
-  by_test true later = let less = h.0 in rising_from last k given (order_without n ks) (omega (arith, less)) later
-  by_test false later = (h.0, later)
+rising_without n last given ns h = rising_filter (λ m. m) (λ m. not (m == n)) last given ns h
 
 pub rising_more : (last given next : ℕ) (ns : List ℕ) → AreRising last given ns → given < next → AreRising last next (ns ++ next ∷ [])
-rising_more last given next [] h l = let k : last ≤ given = h in (omega (arith, k, l), omega arith)
-rising_more last given next (k ∷ ks) h l = (h.0, rising_more k given next ks h.1 l)
+rising_more last given next ns h l = rising_behind (λ m. m) last given next next ns h refl l
 
 -- none of them is at or below where they rise from
 not_below : (n last given : ℕ) (ns : List ℕ) → AreRising last given ns → n ≤ last → is_one_of ns n ≡ false

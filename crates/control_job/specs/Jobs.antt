@@ -1,9 +1,10 @@
 -- The control jobs that are kept, in the order in which they were created, and the order of the queue (after SEMI E94; this tool's
 -- profile, table 15).
-use Rattle.std.specs.Prelude.{◌≡◌, ℕ, ◌+◌, ◌==◌, ◌<◌, ◌≤◌, nat_le, Bool, true, false, not, ◌&&◌, if◌then◌else◌, List, [], ◌∷◌, ◌++◌, length, map, find, Option, Some, None, option_map}
+use Rattle.std.specs.Prelude.{◌≡◌, ℕ, ◌+◌, ◌==◌, ◌≤◌, nat_le, Bool, true, false, not, ◌&&◌, if◌then◌else◌, List, [], ◌∷◌, ◌++◌, length, map, find, Option, Some, None, option_map}
 use Rattle.std.specs.List.{list_any, list_all, filter}
-use Rattle.std.specs.Str.{bytes_eq}
 use Rattle.gem_tables.specs.Table.{is_one_of}
+use Rattle.records.specs.Names as named
+use Rattle.records.specs.Numbers as numbered
 use Rattle.control_job.specs.Names.{is_in, others, is_each_once}
 use Rattle.control_job.specs.Record.{first_record, control_starts, control_fired, is_queued, is_active, is_completed}
 use Rattle.control_job.specs.declared.job.ControlJob.{ControlJob}
@@ -21,9 +22,16 @@ no_jobs = record { jobs = []; order = []; given = 0 }
 
 -- ---- one job
 
+-- the name of a job, and its number of creation
+abbrev pub name_of : ControlJob → List ℕ
+name_of j = j.name
+
+abbrev pub number_of : ControlJob → ℕ
+number_of j = j.number
+
 -- the job has this name
 abbrev pub has_name : List ℕ → ControlJob → Bool
-has_name name j = bytes_eq j.name name
+has_name name j = named.has_name name_of name j
 
 -- it isn't COMPLETED
 abbrev pub is_open : ControlJob → Bool
@@ -41,11 +49,11 @@ owns job j = is_open j && is_in job j.left
 
 -- the job of a name
 abbrev pub job_named : List ℕ → List ControlJob → Option ControlJob
-job_named name jobs = find (has_name name) jobs
+job_named name jobs = named.record_named name_of name jobs
 
 -- the job of a number of creation
 abbrev pub job_numbered : ℕ → List ControlJob → Option ControlJob
-job_numbered n jobs = find (λ j. j.number == n) jobs
+job_numbered n jobs = numbered.record_numbered number_of n jobs
 
 -- the number of the QUEUED job of a name
 abbrev pub waiting_named : List ℕ → List ControlJob → Option ℕ
@@ -53,7 +61,7 @@ waiting_named name jobs = option_map (λ j. j.number) (find (λ j. has_name name
 
 -- a job of this name is kept
 abbrev pub is_kept : List ℕ → List ControlJob → Bool
-is_kept name jobs = list_any (has_name name) jobs
+is_kept name jobs = named.is_named name_of name jobs
 
 -- a job of this name is kept that isn't COMPLETED
 abbrev pub is_kept_open : List ℕ → List ControlJob → Bool
@@ -145,7 +153,7 @@ headed name s = record s { order = order_headed (waiting_named name s.jobs) s.or
 
 -- the job of a number isn't kept any more
 abbrev pub jobs_without : ℕ → List ControlJob → List ControlJob
-jobs_without n jobs = filter (λ j. not (j.number == n)) jobs
+jobs_without n jobs = filter (λ j. not (numbered.has_number number_of n j)) jobs
 
 abbrev pub forgotten : ℕ → JobStore → JobStore
 forgotten n s = record s { jobs = jobs_without n s.jobs; order = order_without n s.order }
@@ -167,10 +175,10 @@ with_created name named auto s = added (new_job (s.given + 1) name named auto) s
 
 -- the names of the jobs, and their numbers
 abbrev pub names_of : List ControlJob → List (List ℕ)
-names_of jobs = map (λ j. j.name) jobs
+names_of jobs = map name_of jobs
 
 abbrev pub numbers_of : List ControlJob → List ℕ
-numbers_of jobs = map (λ j. j.number) jobs
+numbers_of jobs = map number_of jobs
 
 -- each number stands once
 abbrev pub are_apart : List ℕ → Bool
@@ -179,8 +187,7 @@ are_apart (n ∷ ns) = not (is_one_of ns n) && are_apart ns
 
 -- the numbers rise, from behind one number to another
 abbrev pub AreRising : ℕ → ℕ → List ℕ → Type 0
-AreRising last given [] = last ≤ given
-AreRising last given (n ∷ ns) = (last < n) × AreRising n given ns
+AreRising last given numbers = numbered.AreRising (λ n. n) last given numbers
 
 -- Each name is that of one job, the numbers rise up to the last that was given, at most 32 jobs are kept, and the queue's order
 -- has each of them once, and as many numbers as there are jobs, all of which were given.

@@ -1,13 +1,14 @@
 //! A control job.
 
 ghost use Rattle.std.specs.Prelude.{◌≡◌, IfOk};
-ghost use Rattle.control_job.specs.Jobs.{has_name, is_open, is_waiting, owns, new_job, fires_at, leaves};
+ghost use Rattle.control_job.specs.Jobs.{name_of, number_of, has_name, is_open, is_waiting, owns, new_job, fires_at, leaves};
 ghost use Rattle.control_job.specs.Commands.{can_act};
 
 use crate::command::CtlAct;
 use crate::names::{JobNames, is_same};
 use crate::record::ControlJobRecord;
-use gem_ids::JobId;
+use gem_ids::{JobId, Text80};
+use records::{Change, Named, Numbered};
 use std::alloc::{AllocError, Global};
 
 /// A control job: its number of creation, which is its own for good; its name and states; whether it starts by itself; the process
@@ -87,7 +88,7 @@ impl ControlJob {
     }
 
     // Fires a row of table 15, where the job has this number. Row 9 frees the process jobs that are left.
-    pub(crate) fn fire_numbered(&mut self, number: u64, row: u8)
+    fn fire_numbered(&mut self, number: u64, row: u8)
         ensures { self.new ≡ fires_at number row self.old }
     {
         if self.number == number && self.states.fire(row) && row == 9 {
@@ -96,11 +97,60 @@ impl ControlJob {
     }
 
     // A process job leaves it, where it belongs to it.
-    pub(crate) fn lose(&mut self, job: JobId)
+    fn lose(&mut self, job: JobId)
         ensures { self.new ≡ leaves job self.old }
     {
         if self.owns(job) {
             self.left.remove(job);
         }
+    }
+}
+
+impl Named for ControlJob {
+    ghost name = { name_of };
+
+    fn text(&self) -> Text80 {
+        self.name.text()
+    }
+
+    fn name_bytes(&self) -> &[u8] {
+        self.name.as_bytes()
+    }
+}
+
+impl Numbered for ControlJob {
+    ghost number = { number_of };
+
+    fn number(&self) -> u64 {
+        self.number
+    }
+}
+
+// A row of table 15 that fires at the job of a number.
+#[derive(Drop)]
+pub(crate) struct Fires {
+    pub(crate) number: u64,
+    pub(crate) row: u8,
+}
+
+impl Change<ControlJob> for Fires {
+    ghost does = { λ f j. fires_at f.number f.row j };
+
+    fn apply(&self, job: &mut ControlJob) {
+        job.fire_numbered(self.number, self.row);
+    }
+}
+
+// A process job that leaves the control job that it belongs to.
+#[derive(Drop)]
+pub(crate) struct Leaves {
+    pub(crate) job: JobId,
+}
+
+impl Change<ControlJob> for Leaves {
+    ghost does = { λ l j. leaves l.job j };
+
+    fn apply(&self, job: &mut ControlJob) {
+        job.lose(self.job);
     }
 }

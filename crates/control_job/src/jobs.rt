@@ -11,9 +11,10 @@ ghost use Rattle.control_job.specs.declared.fault.CtlFault.TheVariants.{NoMemory
 
 use crate::command::CtlAct;
 use crate::fault::CtlFault;
-use crate::job::ControlJob;
+use crate::job::{ControlJob, Fires, Leaves};
 use crate::names::are_named;
 use gem_ids::JobId;
+use records::Book;
 use std::alloc::{AllocError, Global};
 use std::marker::Model;
 
@@ -24,7 +25,7 @@ pub const MOST_JOBS: usize = 32;
 /// the queue as their numbers of creation, and the last number that was given. Each name is that of one job, and there are at most
 /// 32. Only `new` and `create` take memory.
 pub struct ControlJobs {
-    jobs: Vec<ControlJob>,
+    jobs: Book<ControlJob>,
     order: Vec<u64>,
     given: u64,
 }
@@ -47,9 +48,9 @@ impl Model for ControlJobs {
 
     ghost Value = { JobStore };
 
-    ghost view = { λ c. store_of c.jobs.items c.order.items c.given };
+    ghost view = { λ c. store_of c.jobs.kept c.order.items c.given };
 
-    ghost invariant = { λ c. AreKept c.jobs.items c.order.items c.given (vec_capacity c.jobs) (vec_capacity c.order) };
+    ghost invariant = { λ c. AreKept c.jobs c.order.items c.given (vec_capacity c.order) };
 }
 
 impl ControlJobs {
@@ -57,7 +58,7 @@ impl ControlJobs {
     pub fn new(alloc: Global) -> Result<ControlJobs, AllocError>
         ensures { IfOk result (λ jobs. jobs ≡ no_jobs) }
     {
-        let jobs = Vec::with_capacity(alloc, MOST_JOBS)?;
+        let jobs = Book::new(alloc, MOST_JOBS)?;
         let order = Vec::with_capacity(alloc, MOST_JOBS)?;
         Ok(ControlJobs {
             jobs,
@@ -87,35 +88,41 @@ impl ControlJobs {
     pub fn get(&self, number: u64) -> Option<&ControlJob>
         ensures { option_copied result ≡ job_numbered number self.now.jobs }
     {
-        self.jobs.iter().find(|job| job.number == number)
+        match records::place_numbered(self.jobs.as_slice(), number) {
+            Some(place) => self.jobs.get(place),
+            None => None,
+        }
     }
 
     /// The job of a name. `None` exactly where none of that name is kept.
     pub fn find(&self, id: JobId) -> Option<&ControlJob>
         ensures { option_copied result ≡ job_named id self.now.jobs }
     {
-        self.jobs.iter().find(|job| job.has_name(id))
+        self.jobs.named(id.as_bytes())
     }
 
     /// Whether a job is active: SELECTED, WAITING FOR START, EXECUTING or PAUSED.
     pub fn is_any_active(&self) -> bool
         ensures { result ≡ is_any_active self.now.jobs }
     {
-        self.jobs.iter().any(|job| job.states.state.is_active())
+        self.jobs
+            .as_slice()
+            .iter()
+            .any(|job| job.states.state.is_active())
     }
 
     /// The number of the first QUEUED job in the queue's order. `None` exactly where no job is QUEUED.
     pub fn first_queued(&self) -> Option<u64>
         ensures { result ≡ first_waiting self.now }
     {
-        first_waiting(&self.jobs, &self.order)
+        first_waiting(self.jobs.as_slice(), &self.order)
     }
 
     /// The number of the control job, not COMPLETED, that a process job belongs to. `None` exactly where it belongs to none.
     pub fn owner(&self, job: JobId) -> Option<u64>
         ensures { result ≡ owner_of job self.now.jobs }
     {
-        match self.jobs.iter().find(|one| one.owns(job)) {
+        match self.jobs.as_slice().iter().find(|one| one.owns(job)) {
             Some(owner) => Some(owner.number),
             None => None,
         }
@@ -144,11 +151,11 @@ impl ControlJobs {
     pub fn create_fault(&self, id: JobId, jobs: &[JobId]) -> Option<CtlFault>
         ensures { result ≡ create_fault id jobs.now self.now.jobs }
     {
-        if is_kept_open(&self.jobs, id) {
+        if is_kept_open(self.jobs.as_slice(), id) {
             Some(CtlFault::NameTaken)
         } else if !are_named(jobs) {
             Some(CtlFault::NoJobs)
-        } else if open_count(&self.jobs) < MOST_JOBS {
+        } else if open_count(self.jobs.as_slice()) < MOST_JOBS {
             None
         } else {
             Some(CtlFault::NoSpace(MOST_JOBS as u32))
@@ -159,12 +166,22 @@ impl ControlJobs {
     fn replaced_by(&self, id: JobId) -> Option<u64>
         ensures { result ≡ replaced_by id self.now.jobs }
     {
-        if is_kept(&self.jobs, id) {
-            number_named(&self.jobs, id)
+        if self.jobs.is_named(id.as_bytes()) {
+            self.number_named(id)
         } else if self.jobs.len() < MOST_JOBS {
             None
         } else {
-            first_completed(&self.jobs)
+            first_completed(self.jobs.as_slice())
+        }
+    }
+
+    // The number of the job of a name.
+    fn number_named(&self, id: JobId) -> Option<u64>
+        ensures { result ≡ number_named id self.now.jobs }
+    {
+        match self.find(id) {
+            Some(job) => Some(job.number),
+            None => None,
         }
     }
 
@@ -249,7 +266,7 @@ impl ControlJobs {
         requires { is_one_of (numbers_of self.old.jobs) number ≡ true }
         ensures { self.new ≡ forgotten number self.old }
     {
-        keep_other_jobs(&mut self.jobs, number);
+        self.jobs.forget_numbered(number);
         keep_other_numbers(&mut self.order, number);
     }
 
@@ -262,7 +279,7 @@ impl ControlJobs {
     {
         self.given = job.number;
         self.order.push_reserved(job.number);
-        self.jobs.push_reserved(job);
+        self.jobs.push(job);
     }
 
     /// Makes the QUEUED job of a name the first in the queue's order; the others keep theirs. False exactly where no QUEUED job has
@@ -271,7 +288,7 @@ impl ControlJobs {
         ensures queued { result ≡ is_some (waiting_named id self.old.jobs) }
         ensures after { self.new ≡ headed id self.old }
     {
-        match waiting_named(&self.jobs, id) {
+        match waiting_named(self.jobs.as_slice(), id) {
             Some(number) => {
                 put_first(&mut self.order, number);
                 true
@@ -288,7 +305,7 @@ impl ControlJobs {
         ensures after { self.new ≡ fired_at number row self.old }
     {
         let starts = self.starts_row(number, row);
-        fire_numbered(&mut self.jobs, number, row);
+        self.jobs.change_each(&Fires { number, row });
         if row == 10 && starts {
             put_last(&mut self.order, number);
         }
@@ -311,7 +328,7 @@ impl ControlJobs {
         ensures after { self.new ≡ left_by job self.old }
     {
         let owned = self.owner(job).is_some();
-        lose(&mut self.jobs, job);
+        self.jobs.change_each(&Leaves { job });
         owned
     }
 }
@@ -336,23 +353,6 @@ fn first_waiting(jobs: &[ControlJob], order: &[u64]) -> Option<u64>
                 first_waiting(jobs, rest)
             }
         }
-        None => None,
-    }
-}
-
-// Whether a job of this name is there.
-fn is_kept(jobs: &[ControlJob], id: JobId) -> bool
-    ensures { result ≡ is_kept id jobs.now }
-{
-    jobs.iter().any(|job| job.has_name(id))
-}
-
-// The number of the job of a name.
-fn number_named(jobs: &[ControlJob], id: JobId) -> Option<u64>
-    ensures { result ≡ number_named id jobs.now }
-{
-    match jobs.iter().find(|job| job.has_name(id)) {
-        Some(job) => Some(job.number),
         None => None,
     }
 }
@@ -389,32 +389,6 @@ fn waiting_named(jobs: &[ControlJob], id: JobId) -> Option<u64>
         Some(job) => Some(job.number),
         None => None,
     }
-}
-
-// Fires a row at the job of a number.
-fn fire_numbered(jobs: &mut [ControlJob], number: u64, row: u8)
-    ensures { jobs.new ≡ map (fires_at number row) jobs.old }
-{
-    for job in jobs {
-        job.fire_numbered(number, row);
-    }
-}
-
-// A process job leaves the control jobs that it belongs to.
-fn lose(jobs: &mut [ControlJob], name: JobId)
-    ensures { jobs.new ≡ map (leaves name) jobs.old }
-{
-    for job in jobs {
-        job.lose(name);
-    }
-}
-
-// Takes the job of a number out of these.
-fn keep_other_jobs(jobs: &mut Vec<ControlJob>, number: u64)
-    ensures jobs { jobs.new.items ≡ jobs_without number jobs.old.items }
-    ensures room { vec_capacity jobs.new ≡ vec_capacity jobs.old }
-{
-    jobs.retain(|job| job.number != number);
 }
 
 // Takes a number out of these.

@@ -14,12 +14,12 @@ use Rattle.robot_moves.specs.declared.module.Module.TheVariants.{Idle, Busy, Dow
 use Rattle.robot_moves.specs.Modules.{module_at}
 use Rattle.shop_floor.proofs.Apart.{all_filtered}
 use Rattle.substrate.specs.Locations.{is_same, is_location}
-use Rattle.substrate.specs.Places.{PlaceMap, ArePlaces, has_name, substrate_named, is_there, without, removed}
+use Rattle.substrate.specs.Places.{name_of, PlaceMap, ArePlaces, has_name, substrate_named, is_there, without, removed}
 use Rattle.substrate.specs.declared.registered.Registered.{Registered}
-use Rattle.substrate.proofs.Apart.{apart_fewer}
+use Rattle.records.proofs.Apart.{apart_fewer, length_fewer}
 use Rattle.substrate.proofs.Sites.{own_place as same_place}
-use Rattle.substrate.proofs.Standing.{placed_fewer, all_fewer, numbered_fewer, length_fewer}
-use Rattle.substrate.proofs.Texts.{same_name, turned}
+use Rattle.substrate.proofs.Standing.{placed_fewer, all_fewer, numbered_fewer}
+use Rattle.records.proofs.Texts.{same_name, turned}
 use Rattle.floor_model.specs.declared.tracked.Substrate.{Substrate}
 use Rattle.floor_model.specs.Floor.{ToolFloor, substrate_numbered, number_of}
 use Rattle.floor_model.specs.Machines.{substrate_moves, with_moved, floor_fired}
@@ -83,11 +83,11 @@ module _ (sub : List ℕ) where
     -- the places keep their rules
     fewer_places : ArePlaces p → ArePlaces (removed sub p)
     fewer_places a = record {
-      named_apart = apart_fewer (λ r. not (has_name sub r)) p.held a.named_apart;
+      named_apart = apart_fewer name_of (λ r. not (has_name sub r)) p.held a.named_apart;
       placed_apart = placed_fewer sub p.held a.placed_apart;
       within = all_fewer sub (λ r. is_location p.ports p.chambers r.at) p.held a.within;
       numbered = numbered_fewer sub 0 p.given p.held a.numbered;
-      few = let less = length_fewer sub p.held in let most = a.few in omega (arith, less, most);
+      few = let less = length_fewer (λ (r : Registered). not (has_name sub r)) p.held in let most = a.few in omega (arith, less, most);
     }
 
   -- what holds besides numbers is kept

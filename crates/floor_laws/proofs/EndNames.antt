@@ -12,7 +12,7 @@ use Rattle.shop_floor.proofs.Apart.{found_passes, found_only, has_its_name, IsOn
 use Rattle.substrate.specs.Places.{PlaceMap, ArePlaces, AreNumbered, has_name, substrate_named, stands_at, is_taken}
 use Rattle.substrate.specs.declared.registered.Registered.{Registered}
 use Rattle.substrate.proofs.Sites.{same_is}
-use Rattle.substrate.proofs.Texts.{same_name}
+use Rattle.records.proofs.Texts.{same_name}
 use Rattle.floor_model.specs.declared.tracked.Substrate.{Substrate}
 use Rattle.floor_model.specs.Floor.{ToolFloor, substrate_numbered, number_of}
 use Rattle.floor_moves.specs.Floor.{Loc}

@@ -10,7 +10,7 @@ use Rattle.robot_moves.specs.declared.module.Module.TheVariants.{Idle, Busy, Dow
 use Rattle.robot_moves.specs.Modules.{module_at}
 use Rattle.substrate.specs.Places.{PlaceMap, substrate_named}
 use Rattle.substrate.specs.declared.registered.Registered.{Registered}
-use Rattle.substrate.proofs.Texts.{same_name, own_name}
+use Rattle.records.proofs.Texts.{same_name, own_name}
 use Rattle.floor_model.specs.declared.tracked.Substrate.{Substrate}
 use Rattle.floor_model.specs.Floor.{ToolFloor, substrate_numbered}
 use Rattle.floor_model.specs.Naming.{named_by, module_names, processes}

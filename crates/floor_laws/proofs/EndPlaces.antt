@@ -14,9 +14,8 @@ use Rattle.shop_floor.proofs.Present.{has_number, numbered_contained}
 use Rattle.substrate.specs.Locations.{is_same, is_location}
 use Rattle.substrate.specs.Places.{PlaceMap, ArePlaces, has_name, substrate_named, is_there, is_taken, moves_to, moved, shifted, can_shift}
 use Rattle.substrate.specs.declared.registered.Registered.{Registered}
-use Rattle.substrate.proofs.Apart.{apart_same}
 use Rattle.substrate.proofs.Sites.{own_place as same_place}
-use Rattle.substrate.proofs.Standing.{found_all, names_moved, length_moved, numbered_moved, within_moved, placed_moved}
+use Rattle.substrate.proofs.Standing.{found_all, apart_moved, length_moved, numbered_moved, within_moved, placed_moved}
 use Rattle.floor_model.specs.Floor.{ToolFloor, with_module}
 use Rattle.floor_model.specs.Modules.{goes}
 use Rattle.floor_moves.specs.Floor.{slot, own}
@@ -67,7 +66,7 @@ module _ (sub : List ℕ) (to : LocId) where
   -- places keep their rules
   moved_places : (p : PlaceMap) → is_location p.ports p.chambers to ≡ true → is_taken to p.held ≡ false → ArePlaces p → ArePlaces (record p { held = moved sub to p.held })
   moved_places p there free a = record {
-    named_apart = apart_same p.held (moved sub to p.held) (names_moved sub to p.held) a.named_apart;
+    named_apart = apart_moved sub to p.held a.named_apart;
     placed_apart = placed_moved sub to p.held a.named_apart a.placed_apart free;
     within = within_moved sub to p.ports p.chambers p.held a.within there;
     numbered = numbered_moved sub to 0 p.given p.held a.numbered;

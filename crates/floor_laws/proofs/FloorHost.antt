@@ -12,9 +12,9 @@ use Rattle.carrier.specs.declared.action.CarrierWord.{CarrierWord}
 use Rattle.carrier.specs.declared.action.CarrierWord.TheVariants as word
 use Rattle.carrier.specs.declared.carrier.Carrier.{Carrier}
 use Rattle.carrier.specs.Record.{is_id_waiting, is_map_waiting, is_map_verified, is_not_accessed}
-use Rattle.carrier.specs.Carriers.{carrier_named}
+use Rattle.carrier.specs.Carriers.{name_of, carrier_named}
 use Rattle.carrier.specs.Verdict.{is_carrier_name, cancel_code, carrier_caack}
-use Rattle.carrier.proofs.Apart.{found_name}
+use Rattle.records.proofs.Apart.{found_name}
 use Rattle.shop_floor.specs.Requests.{cancelling}
 use Rattle.floor_model.specs.Floor.{ToolFloor}
 use Rattle.floor_model.specs.Jobs.{is_any_of_carrier, carrier_code}
@@ -72,7 +72,7 @@ module _ (a : CarrierAction) (f : ToolFloor) (cancels : a.word ≡ word.Cancel) 
   -- the carrier that it stops is named by no process job
   pub cancelled_unnamed : (c : Carrier) → carrier_named a.id f.shop.carriers ≡ Some c → is_id_waiting c.states.id ≡ false → is_map_waiting c.states.map ≡ false → is_any_of_carrier c.name f.jobs ≡ false
   cancelled_unnamed c found id slots =
-      ap (λ (name : List ℕ). is_any_of_carrier name f.jobs) (found_name a.id f.shop.carriers c found)
+      ap (λ (name : List ℕ). is_any_of_carrier name f.jobs) (found_name name_of a.id f.shop.carriers c found)
       ∙ unnamed_states c (is_any_of_carrier a.id f.jobs) id slots (sym (ap (λ (o : Option Carrier). is_done_code (cancel_code o (is_any_of_carrier a.id f.jobs))) found) ∙ states_code)
 
   -- so its row keeps what holds

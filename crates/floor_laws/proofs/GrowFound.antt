@@ -4,10 +4,10 @@ use Rattle.std.specs.List.{AllByRecursion}
 use Rattle.std.proofs.lemmas.Bool.{or_parts}
 use Rattle.std.proofs.lemmas.Bool.Decides.{Decides-eqb}
 use Rattle.shop_floor.proofs.Apart.{all_both, all_follows}
-use Rattle.substrate.specs.Places.{PlaceMap, AreNumbered, are_named_apart, has_name, is_known, substrate_named}
+use Rattle.substrate.specs.Places.{name_of, PlaceMap, AreNumbered, are_named_apart, has_name, is_known, substrate_named}
 use Rattle.substrate.specs.declared.registered.Registered.{Registered}
-use Rattle.substrate.proofs.Apart.{first_apart, rest_apart}
-use Rattle.substrate.proofs.Texts.{own_name, turned}
+use Rattle.records.proofs.Apart.{first_apart, rest_apart}
+use Rattle.records.proofs.Texts.{own_name, turned}
 use Rattle.floor_moves.specs.Floor.{Loc}
 use Rattle.place_laws.specs.Picture.{loc_of, place_in}
 use Rattle.place_laws.proofs.Holding.{found_number}
@@ -112,7 +112,7 @@ each_named (r ∷ rs) apart = (
   ap (λ (b : Bool). if b then Some r else substrate_named r.sub rs) (own_name r.sub),
   all_follows (λ (x : Registered). (has_name r.sub x ≡ false) × (substrate_named x.sub rs ≡ Some x)) (λ (x : Registered). substrate_named x.sub (r ∷ rs) ≡ Some x) rs
       (λ x its. ap (λ (b : Bool). if b then Some r else substrate_named x.sub rs) (turned r.sub x.sub ∙ its.0) ∙ its.1)
-      (all_both (λ (x : Registered). has_name r.sub x ≡ false) (λ (x : Registered). substrate_named x.sub rs ≡ Some x) rs (others rs (first_apart r rs apart)) (each_named rs (rest_apart r rs apart))),
+      (all_both (λ (x : Registered). has_name r.sub x ≡ false) (λ (x : Registered). substrate_named x.sub rs ≡ Some x) rs (others rs (first_apart name_of r rs apart)) (each_named rs (rest_apart name_of r rs apart))),
 ) where
   others : (xs : List Registered) → is_known r.sub xs ≡ false → AllByRecursion (λ (x : Registered). has_name r.sub x ≡ false) xs
   others [] e = tt

@@ -2,9 +2,9 @@
 use Rattle.std.proofs.Common.{◌≡◌, ℕ, Bool, true, false, if◌then◌else◌, List, [], ◌∷◌, Option, Some, None, option_map, refl, sym, ◌∙◌, ap, subst}
 use Rattle.gem_tables.specs.Table.{firing}
 use Rattle.gem_tables.specs.declared.firing.Firing.{Firing}
-use Rattle.substrate.specs.Places.{PlaceMap, substrate_named, has_name, removed}
+use Rattle.substrate.specs.Places.{name_of, PlaceMap, substrate_named, has_name, removed}
 use Rattle.substrate.specs.declared.registered.Registered.{Registered}
-use Rattle.substrate.proofs.Apart.{found_name}
+use Rattle.records.proofs.Apart.{found_name}
 use Rattle.floor_model.specs.declared.tracked.Substrate.{Substrate}
 use Rattle.floor_model.specs.Floor.{ToolFloor, substrate_numbered}
 use Rattle.floor_model.specs.Machines.{floor_fired}
@@ -41,7 +41,7 @@ lost_places f n sub rows b = (named, both.0, both.1) where
   -- the substrate that is known loses the place of its name
   of_known : (s : Substrate) (r : Registered) → substrate_numbered n f.substrates ≡ Some s → s.sub ≡ r.sub → substrate_named sub f.places.held ≡ Some r → r.number ≡ n → LosesOne n f (removed_where (Some s) f.places)
   of_known s r known name found number =
-      let its : substrate_named s.sub f.places.held ≡ Some r = ap (λ (x : List ℕ). substrate_named x f.places.held) (name ∙ found_name sub f.places.held r found) ∙ found in
+      let its : substrate_named s.sub f.places.held ≡ Some r = ap (λ (x : List ℕ). substrate_named x f.places.held) (name ∙ found_name name_of sub f.places.held r found) ∙ found in
       subst (λ (k : ℕ). LosesOne k f (removed s.sub f.places)) number (removed_here f.places b.places s.sub r its, removed_else f.places b.places s.sub r its)
 
   of : (o : Option Registered) → substrate_named sub f.places.held ≡ o → option_map (λ (r : Registered). r.number) o ≡ Some n → LosesOne n f (floor_fired (firing 13 n 8) f).places

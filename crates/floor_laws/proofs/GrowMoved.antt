@@ -5,11 +5,11 @@ use Rattle.gem_ids.specs.declared.numbers.LocId.{LocId}
 use Rattle.gem_ids.specs.declared.numbers.LocId.TheVariants.{Slot, Aligner, Arm, Chamber}
 use Rattle.gem_ids.specs.declared.numbers.PortNo.{PortNo}
 use Rattle.gem_ids.specs.declared.numbers.SlotNo.{SlotNo}
-use Rattle.substrate.specs.Places.{PlaceMap, ArePlaces, has_name, substrate_named, stands_at, is_taken, moves_to, moved, removed}
+use Rattle.substrate.specs.Places.{name_of, PlaceMap, ArePlaces, has_name, substrate_named, stands_at, is_taken, moves_to, moved, removed}
 use Rattle.substrate.specs.declared.registered.Registered.{Registered}
-use Rattle.substrate.proofs.Apart.{has_it, found_name}
+use Rattle.records.proofs.Apart.{has_it, found_name}
 use Rattle.substrate.proofs.Sites.{same_is}
-use Rattle.substrate.proofs.Texts.{own_name}
+use Rattle.records.proofs.Texts.{own_name}
 use Rattle.floor_moves.specs.Floor.{Loc}
 use Rattle.place_laws.specs.Picture.{loc_of, place_in}
 use Rattle.place_laws.proofs.Holding.{found_number}
@@ -59,7 +59,7 @@ module _ (p : PlaceMap) (are : ArePlaces p) (sub : List ℕ) (r : Registered) (f
 
   -- and its name
   named_so : has_name sub r ≡ true
-  named_so = let its = found_name sub p.held r found in subst (λ (n : List ℕ). has_name n r ≡ true) its (own_name r.sub)
+  named_so = let its = found_name name_of sub p.held r found in subst (λ (n : List ℕ). has_name n r ≡ true) its (own_name r.sub)
 
   -- its place is that of its number
   pub its_place : place_in p r.number ≡ Some (loc_of r.at)
@@ -68,7 +68,7 @@ module _ (p : PlaceMap) (are : ArePlaces p) (sub : List ℕ) (r : Registered) (f
   -- another number is that of another name
   other_name : (k : ℕ) (x : Registered) → (k ≡ r.number → ⊥) → numbered_in k p.held ≡ Some x → (b : Bool) → has_name sub x ≡ b → has_name sub x ≡ false
   other_name k x other there true e =
-      let name : x.sub ≡ sub = has_it sub x e in
+      let name : x.sub ≡ sub = has_it name_of sub x e in
       let again : Some x ≡ Some r = sym (by_name k p.held x are.named_apart there) ∙ ap (λ (n : List ℕ). substrate_named n p.held) name ∙ found in
       let same : x ≡ r = cc in
       absurd (other (sym (found_number (λ (y : Registered). y.number) k p.held x there) ∙ ap (λ (y : Registered). y.number) same))

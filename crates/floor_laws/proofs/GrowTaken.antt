@@ -16,9 +16,9 @@ use Rattle.shop_floor.specs.Valid.{IsFloor}
 use Rattle.shop_floor.specs.Machines as shop
 use Rattle.shop_floor.proofs.Apart.{found_only, found_passes, has_its_name, IsOnly}
 use Rattle.shop_floor.proofs.Scans.{numbered_at}
-use Rattle.substrate.specs.Places.{PlaceMap, has_name as has_sub, removed}
+use Rattle.substrate.specs.Places.{name_of, PlaceMap, has_name as has_sub, removed}
 use Rattle.substrate.specs.declared.registered.Registered.{Registered}
-use Rattle.substrate.proofs.Apart.{has_it}
+use Rattle.records.proofs.Apart.{has_it}
 use Rattle.floor_model.specs.declared.tracked.Substrate.{Substrate}
 use Rattle.floor_model.specs.Floor.{ToolFloor, with_shop, substrate_numbered}
 use Rattle.floor_model.specs.Machines.{floor_fired}
@@ -181,7 +181,7 @@ module _ (May : ℕ → Type 0) (f : ToolFloor) (b : Base f) (v : Valid (picture
           let other = one_passes (IsCarried f.shop.carriers) (named_of c.number r) f.substrates b.carried any in
           let parts = and_parts (is_of c.number other.0) (has_sub (other.0).sub r) other.1 in
           let of_it : (other.0).carrier ≡ c.number = (Decides-eqb (other.0).carrier c.number).0 parts.0 in
-          let names : (kept.0).sub ≡ (other.0).sub = kept.2 ∙ has_it (other.0).sub r parts.1 in
+          let names : (kept.0).sub ≡ (other.0).sub = kept.2 ∙ has_it name_of (other.0).sub r parts.1 in
           (kept.0, known, carried, one_carrier f.shop.carriers b.shop.apart kept.0 other.0 carried other.2 names ∙ of_it)
 
       -- that carrier is this one

@@ -2,10 +2,11 @@
 use Rattle.std.proofs.Common.{◌≡◌, ◌<◌, ℕ, ◌==◌, Bool, true, false, ◌||◌, if◌then◌else◌, List, [], ◌∷◌, find, Some, None, refl, sym, ◌∙◌, ap, subst, arith}
 use Rattle.std.specs.List.{AllByRecursion, list_any}
 use Rattle.std.proofs.lemmas.Bool.Decides.{Decides-eqb}
-use Rattle.substrate.specs.Places.{has_name, substrate_named, are_named_apart, AreNumbered}
+use Rattle.substrate.specs.Places.{name_of, has_name, substrate_named, are_named_apart, AreNumbered}
 use Rattle.substrate.specs.declared.registered.Registered.{Registered}
-use Rattle.substrate.proofs.Texts.{same_name, own_name}
-use Rattle.substrate.proofs.Apart.{first_apart, rest_apart, unknown_none}
+use Rattle.records.proofs.Texts.{same_name, own_name}
+use Rattle.records.proofs.Places.{unknown_none}
+use Rattle.records.proofs.Apart.{first_apart, rest_apart}
 use Rattle.floor_model.specs.declared.tracked.Substrate.{Substrate}
 use Rattle.floor_model.specs.Floor.{ToolFloor, substrate_numbered}
 use Rattle.place_laws.specs.Sound.{IsOfKept, Base}
@@ -84,12 +85,12 @@ names_found : (rs : List Registered) → are_named_apart rs ≡ true → AllByRe
 names_found [] apart = tt
 names_found (r ∷ rs) apart = (
   rw (own_name r.sub) refl,
-  all_so (IsNamed rs) (IsNamed (r ∷ rs)) rs (λ x found. later x found (has_name x.sub r) refl) (names_found rs (rest_apart r rs apart)),
+  all_so (IsNamed rs) (IsNamed (r ∷ rs)) rs (λ x found. later x found (has_name x.sub r) refl) (names_found rs (rest_apart name_of r rs apart)),
 ) where
   later : (x : Registered) → IsNamed rs x → (b : Bool) → has_name x.sub r ≡ b → IsNamed (r ∷ rs) x
   later x found true q =
       let same : r.sub ≡ x.sub = same_name r.sub x.sub q in
-      let gone : substrate_named x.sub rs ≡ None = subst (λ (name : List ℕ). substrate_named name rs ≡ None) same (unknown_none r.sub rs (first_apart r rs apart)) in
+      let gone : substrate_named x.sub rs ≡ None = subst (λ (name : List ℕ). substrate_named name rs ≡ None) same (unknown_none (has_name r.sub) rs (first_apart name_of r rs apart)) in
       absurd (cc)
   later x found false q = rw q found
 

@@ -11,7 +11,7 @@ use Rattle.robot_moves.specs.declared.module.Module.{Module}
 use Rattle.robot_moves.specs.declared.view.PlaceView.{PlaceView}
 use Rattle.robot_moves.proofs.Best.{best_is}
 use Rattle.substrate.specs.Locations.{is_same}
-use Rattle.substrate.proofs.Truth.{not_true}
+use Rattle.records.proofs.Truth.{not_true}
 use Rattle.floor_model.specs.Floor.{ToolFloor}
 use Rattle.floor_model.specs.Views.{views}
 use Rattle.floor_moves.specs.Floor.{Loc, slot, aligner, arm, chamber, pick, Command, idle, busy, is_outside, is_finished, chamber_module}

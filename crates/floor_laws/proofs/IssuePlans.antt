@@ -9,7 +9,7 @@ use Rattle.robot_moves.specs.Modules.{module_at, is_idle, chamber_module}
 use Rattle.robot_moves.specs.Moves.{holder, free_target, best_pick, move_by, place_move, pick_move, arm_move, robot_move, align_move, aligner_move, process_move, chamber_move}
 use Rattle.robot_moves.specs.declared.view.PlaceView.{PlaceView}
 use Rattle.robot_moves.specs.declared.view.Move.{Move}
-use Rattle.substrate.proofs.Truth.{not_true}
+use Rattle.records.proofs.Truth.{not_true}
 use Rattle.floor_model.specs.Floor.{ToolFloor}
 use Rattle.floor_model.specs.Views.{views, planned}
 use Rattle.floor_moves.specs.Floor.{pick, place, align, process}

@@ -18,7 +18,7 @@ use Rattle.substrate.specs.declared.record.Processing.{Processing}
 use Rattle.substrate.specs.declared.record.Processing.TheVariants as processing
 use Rattle.substrate.specs.declared.registered.Registered.{Registered}
 use Rattle.substrate.proofs.Sites.{same_is}
-use Rattle.substrate.proofs.Truth.{not_true}
+use Rattle.records.proofs.Truth.{not_true}
 use Rattle.tool_tasks.specs.declared.recipes.Recipe.{Recipe}
 use Rattle.process_job.specs.Jobs.{recipe_named}
 use Rattle.process_job.specs.declared.job.ProcessJob.{ProcessJob}

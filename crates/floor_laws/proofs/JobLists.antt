@@ -2,9 +2,9 @@
 use Rattle.std.proofs.Common.{◌≡◌, ◌≤◌, ◌<◌, ℕ, ◌+◌, ◌==◌, Bool, true, false, if◌then◌else◌, List, [], ◌∷◌, ◌++◌, Option, Some, None, option_map, refl, sym, ◌∙◌, ap, subst, ◌⊎◌, inl, inr, arith}
 use Rattle.std.proofs.lemmas.Bool.{true≢false}
 use Rattle.std.proofs.lemmas.Bool.Decides.{Decides-eqb}
-use Rattle.process_job.specs.Jobs.{job_numbered, change_numbered, without_numbered, fires_row, AreNumbered}
+use Rattle.process_job.specs.Jobs.{number_of, job_numbered, change_numbered, without_numbered, fires_row, AreNumbered}
 use Rattle.process_job.specs.declared.job.ProcessJob.{ProcessJob}
-use Rattle.process_job.proofs.Apart.{last_given}
+use Rattle.records.proofs.Rising.{last_given}
 use Rattle.floor_laws.proofs.JobSight.{none_some, some_same}
 
 -- ---- numbers
@@ -24,7 +24,7 @@ job_number_is n last given (k ∷ ks) j numbered e = of (k.number == n) refl e (
   of true q e rest =
       let number : k.number ≡ n = (Decides-eqb k.number n).0 q in
       let less : last < k.number = numbered.0 in
-      let most = last_given k.number given ks numbered.1 in
+      let most = last_given number_of k.number given ks numbered.1 in
       (sym (ap (λ (x : ProcessJob). x.number) (some_same k j e)) ∙ number, omega (arith, less, number), omega (arith, most, number))
   of false q e rest = let r = rest e in let less : last < k.number = numbered.0 in let more : k.number < n = r.1 in (r.0, omega (arith, less, more), r.2)
 

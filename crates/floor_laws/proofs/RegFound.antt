@@ -13,9 +13,9 @@ use Rattle.carrier.specs.Carriers.{are_named_apart as carriers_apart}
 use Rattle.shop_floor.specs.Valid.{IsFloor}
 use Rattle.shop_floor.proofs.Apart.{found_only, has_its_name, IsOnly}
 use Rattle.shop_floor.proofs.Present.{has_number, numbered_contained}
-use Rattle.substrate.specs.Places.{AreNumbered, has_name, substrate_named, is_known, are_named_apart}
+use Rattle.substrate.specs.Places.{name_of, AreNumbered, has_name, substrate_named, is_known, are_named_apart}
 use Rattle.substrate.specs.declared.registered.Registered.{Registered}
-use Rattle.substrate.proofs.Apart.{has_it, first_apart, rest_apart, found_name}
+use Rattle.records.proofs.Apart.{has_it, first_apart, rest_apart, found_name}
 use Rattle.floor_model.specs.declared.tracked.Substrate.{Substrate}
 use Rattle.floor_model.specs.Floor.{ToolFloor, substrate_numbered, number_of}
 use Rattle.floor_model.specs.Floor.{RiseTo}
@@ -101,7 +101,7 @@ name_known t (r ∷ rs) found e = of (t r) e (name_known t rs found) where
 -- and by its name
 pub by_name : (t : Registered → Bool) (rs : List Registered) (found : Registered) → are_named_apart rs ≡ true → find t rs ≡ Some found → substrate_named found.sub rs ≡ Some found
 by_name t [] found apart e = absurd (cc)
-by_name t (r ∷ rs) found apart e = of (t r) e (by_name t rs found (rest_apart r rs apart)) where
+by_name t (r ∷ rs) found apart e = of (t r) e (by_name t rs found (rest_apart name_of r rs apart)) where
   of : (b : Bool) → (if b then Some r else find t rs) ≡ Some found → (find t rs ≡ Some found → substrate_named found.sub rs ≡ Some found) → substrate_named found.sub (r ∷ rs) ≡ Some found
   of true f later =
       let same : r ≡ found = cc in
@@ -109,7 +109,7 @@ by_name t (r ∷ rs) found apart e = of (t r) e (by_name t rs found (rest_apart 
   of false f later = ap (λ (b : Bool). if b then Some r else substrate_named found.sub rs) (missed (has_name found.sub r) refl) ∙ later f where
     missed : (b : Bool) → has_name found.sub r ≡ b → has_name found.sub r ≡ false
     missed true q =
-        let no_more : is_known found.sub rs ≡ false = ap (λ (n : List ℕ). is_known n rs) (sym (has_it found.sub r q)) ∙ first_apart r rs apart in
+        let no_more : is_known found.sub rs ≡ false = ap (λ (n : List ℕ). is_known n rs) (sym (has_it name_of found.sub r q)) ∙ first_apart name_of r rs apart in
         absurd (let clash : true ≡ false = sym (name_known t rs found f) ∙ no_more in cc)
     missed false q = q
 
@@ -120,7 +120,7 @@ module _ (f : ToolFloor) (b : Base f) (n : ℕ) (s : Substrate) (here : substrat
   pub place_of_kept : (r : Registered) → substrate_named s.sub f.places.held ≡ Some r → r.number ≡ n
   place_of_kept r e =
       let kept = true_at (IsOfKept f.substrates) (has_name s.sub) f.places.held r b.held e in
-      let one : kept.0 ≡ s = one_of_name f b kept.0 s r.number n kept.1 here (kept.2 ∙ found_name s.sub f.places.held r e) in
+      let one : kept.0 ≡ s = one_of_name f b kept.0 s r.number n kept.1 here (kept.2 ∙ found_name name_of s.sub f.places.held r e) in
       sym (found_number number_of r.number f.substrates kept.0 kept.1) ∙ ap number_of one ∙ found_number number_of n f.substrates s here
 
   -- so it has its place

@@ -18,11 +18,12 @@ use Rattle.shop_floor.specs.Valid.{IsFloor}
 use Rattle.shop_floor.proofs.Apart.{all_both, all_follows, all_pushed, found_only, found_one, found_passes, has_its_name, IsOnly}
 use Rattle.shop_floor.proofs.Present.{one_number, has_number, numbered_contained}
 use Rattle.substrate.specs.Locations.{is_location}
-use Rattle.substrate.specs.Places.{ArePlaces, has_name, stands_at, is_taken, is_known, substrate_named, registered, register_fault, fault_of, most_substrates}
+use Rattle.substrate.specs.Places.{name_of, ArePlaces, has_name, stands_at, is_taken, is_known, substrate_named, registered, register_fault, fault_of, most_substrates}
 use Rattle.substrate.specs.declared.registered.Registered.{Registered}
-use Rattle.substrate.proofs.Apart.{known_found, apart_more as named_more, has_it}
+use Rattle.records.proofs.Places.{known_found}
+use Rattle.records.proofs.Apart.{apart_more as named_more, has_it, length_more}
 use Rattle.substrate.proofs.Sites.{same_is}
-use Rattle.substrate.proofs.Standing.{at_none, placed_more, all_more, numbered_more, length_more}
+use Rattle.substrate.proofs.Standing.{at_none, placed_more, all_more, numbered_more}
 use Rattle.floor_model.specs.declared.tracked.Substrate.{Substrate}
 use Rattle.floor_model.specs.Floor.{ToolFloor, with_shop, number_of}
 use Rattle.floor_model.specs.Floor.{RiseTo}
@@ -178,7 +179,7 @@ module _ (s : Floor) (valid : IsFloor s) (c e : Carrier) (port : PortNo) (found 
       of w =
           let kept = true_at (IsOfKept f.substrates) (has_name name) f.places.held w.0 fill.held w.1 in
           let both = true_of_found number_of (w.0).number (λ (t : Substrate). IsCarried s.carriers t × IsBelow slot.0 t) f.substrates kept.0 all kept.1 in
-          not_named slot kept.0 both (kept.2 ∙ has_it name w.0 (found_passes (has_name name) f.places.held w.0 w.1))
+          not_named slot kept.0 both (kept.2 ∙ has_it name_of name w.0 (found_passes (has_name name) f.places.held w.0 w.1))
 
     -- there is room
     few : length f.places.held ≤ 100
@@ -221,7 +222,7 @@ module _ (s : Floor) (valid : IsFloor s) (c e : Carrier) (port : PortNo) (found 
 
     -- names that are found are found still
     found_still : (sub : List ℕ) (r : Registered) → substrate_named sub f.places.held ≡ Some r → substrate_named sub (f.places.held ++ new_place ∷ []) ≡ Some r
-    found_still sub r there = front (has_name sub) f.places.held (new_place ∷ []) (sym (known_found sub f.places.held) ∙ ap is_some there) ∙ there
+    found_still sub r there = front (has_name sub) f.places.held (new_place ∷ []) (sym (known_found (has_name sub) f.places.held) ∙ ap is_some there) ∙ there
 
     valid_behind : Valid (picture (with_shop s behind))
     valid_behind =
@@ -232,7 +233,7 @@ module _ (s : Floor) (valid : IsFloor s) (c e : Carrier) (port : PortNo) (found 
 
     places_behind : ArePlaces (registered name (Slot port slot) f.places)
     places_behind = record {
-      named_apart = named_more new_place f.places.held fill.places.named_apart not_known;
+      named_apart = named_more name_of new_place f.places.held fill.places.named_apart not_known;
       placed_apart = placed_more new_place f.places.held fill.places.placed_apart not_taken;
       within = all_more (λ (r : Registered). is_location f.places.ports f.places.chambers r.at) new_place f.places.held fill.places.within (is_place slot f.places.ports f.places.chambers fill.same_ports first last);
       numbered = numbered_more 0 f.places.given new_place f.places.held fill.places.numbered refl;

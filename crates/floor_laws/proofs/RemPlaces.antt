@@ -2,10 +2,10 @@
 use Rattle.std.proofs.Common.{◌≡◌, ℕ, Bool, true, false, not, ◌&&◌, ◌||◌, if◌then◌else◌, List, [], ◌∷◌, filter, Some, refl, sym, ◌∙◌, ap, arith}
 use Rattle.std.specs.List.{AllByRecursion, list_any}
 use Rattle.substrate.specs.Locations.{is_location}
-use Rattle.substrate.specs.Places.{PlaceMap, ArePlaces, has_name as has_sub, removed}
+use Rattle.substrate.specs.Places.{name_of, PlaceMap, ArePlaces, has_name as has_sub, removed}
 use Rattle.substrate.specs.declared.registered.Registered.{Registered}
-use Rattle.substrate.proofs.Apart.{apart_fewer as named_fewer}
-use Rattle.substrate.proofs.Standing.{placed_fewer, all_fewer, length_fewer, numbered_fewer}
+use Rattle.records.proofs.Apart.{apart_fewer as named_fewer, length_fewer}
+use Rattle.substrate.proofs.Standing.{placed_fewer, all_fewer, numbered_fewer}
 use Rattle.floor_model.specs.declared.tracked.Substrate.{Substrate}
 use Rattle.floor_model.specs.Substrates.{is_of, emptied, removed_of}
 
@@ -39,11 +39,11 @@ all_true (r ∷ rs) = (refl, all_true rs)
 -- one of a name is removed
 removed_places : (sub : List ℕ) (p : PlaceMap) → ArePlaces p → ArePlaces (removed sub p)
 removed_places sub p places = record {
-  named_apart = named_fewer (λ (r : Registered). not (has_sub sub r)) p.held places.named_apart;
+  named_apart = named_fewer name_of (λ (r : Registered). not (has_sub sub r)) p.held places.named_apart;
   placed_apart = placed_fewer sub p.held places.placed_apart;
   within = all_fewer sub (λ (r : Registered). is_location p.ports p.chambers r.at) p.held places.within;
   numbered = numbered_fewer sub 0 p.given p.held places.numbered;
-  few = (let less = length_fewer sub p.held in let most = places.few in omega (arith, less, most));
+  few = (let less = length_fewer (λ (r : Registered). not (has_sub sub r)) p.held in let most = places.few in omega (arith, less, most));
 }
 
 module _ (k : ℕ) where

@@ -5,7 +5,7 @@ use Rattle.gem_ids.specs.declared.numbers.LocId.{LocId}
 use Rattle.gem_ids.specs.declared.numbers.LocId.TheVariants.{Slot, Aligner, Arm, Chamber}
 use Rattle.substrate.specs.Locations.{is_location}
 use Rattle.substrate.specs.Places.{ArePlaces}
-use Rattle.substrate.proofs.Truth.{and_true}
+use Rattle.records.proofs.Truth.{and_true}
 use Rattle.robot_moves.specs.Modules.{chamber_module, module_at, is_idle}
 use Rattle.robot_moves.specs.Moves.{holder, stage_of, least_numbered, may_leave, is_useful, is_useful_at, stage_pick}
 use Rattle.robot_moves.specs.declared.module.Module.{Module}

@@ -8,7 +8,7 @@ use Rattle.gem_ids.specs.declared.numbers.PortNo.{PortNo}
 use Rattle.gem_ids.specs.Names.{name_in_slot}
 use Rattle.gem_tables.specs.Table.{firing}
 use Rattle.gem_tables.specs.declared.firing.Firing.{Firing}
-use Rattle.carrier.proofs.Scans.{drop_here, drop_past, drop_none}
+use Rattle.records.proofs.Scans.{drop_here, drop_past, drop_none}
 use Rattle.carrier.specs.declared.carrier.Carrier.{Carrier}
 use Rattle.carrier.specs.Carriers.{carrier_numbered}
 use Rattle.robot_moves.specs.declared.module.Module.{Module}

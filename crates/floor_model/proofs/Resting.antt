@@ -14,7 +14,7 @@ use Rattle.substrate.specs.declared.record.Transport.{Transport}
 use Rattle.substrate.specs.declared.record.Transport.TheVariants.{AtSource, AtWork, AtDestination}
 use Rattle.substrate.specs.declared.record.Processing.{Processing}
 use Rattle.substrate.specs.declared.record.Processing.TheVariants.{NeedsProcessing, InProcess, Processed, Aborted, Stopped, Rejected, Lost, Skipped}
-use Rattle.substrate.proofs.Truth.{or_false}
+use Rattle.records.proofs.Truth.{or_false}
 use Rattle.tool_tasks.specs.declared.task.Command.{Command}
 use Rattle.tool_tasks.specs.declared.task.Task.{Task}
 use Rattle.tool_tasks.specs.declared.task.Task.TheVariants as task

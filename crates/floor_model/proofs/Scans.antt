@@ -3,7 +3,7 @@ use Rattle.std.proofs.Common.{Bor, option_map, ◌≡◌, ℕ, zero, suc, ◌+�
 use Rattle.std.specs.List.{list_all}
 use Rattle.std.proofs.lemmas.Bool.Decides.{nat_tests}
 use Rattle.load_port.proofs.Places.{update_found, update_missing, update_none, update_set}
-use Rattle.carrier.proofs.Scans.{drop_here, drop_past}
+use Rattle.records.proofs.Scans.{drop_here, drop_past}
 use Rattle.substrate.specs.declared.record.LocationRecord.{LocationRecord}
 use Rattle.floor_model.specs.declared.tracked.Substrate.{Substrate}
 use Rattle.floor_model.specs.Floor.{location_at, change_location, location_numbers, substrate_numbered, change_numbered, number_of}

@@ -2,7 +2,7 @@
 use Rattle.std.proofs.Common.{◌≡◌, ℕ, zero, suc, ◌+◌, ◌==◌, ◌<◌, ◌≤◌, nat_lt, Bool, true, false, true≢false, cond, not, ◌&&◌, ◌||◌, List, [], ◌∷◌, length, drop, find, Option, Some, None, is_some, option_map, slice_get, refl, sym, ap, subst, ◌∙◌, arith}
 use Rattle.std.specs.Option.{option_or}
 use Rattle.std.proofs.lemmas.Bool.Decides.{nat_tests, Decides-eqb}
-use Rattle.carrier.proofs.Scans.{drop_here, drop_past, drop_end}
+use Rattle.records.proofs.Scans.{drop_here, drop_past, drop_end}
 use Rattle.gem_ids.specs.declared.numbers.LocId.{LocId}
 use Rattle.gem_ids.specs.declared.numbers.LocId.TheVariants.{Slot, Aligner, Arm, Chamber}
 use Rattle.substrate.specs.Locations.{is_same, is_work_place}
@@ -10,7 +10,7 @@ use Rattle.substrate.specs.Places.{ArePlaces, stands_at}
 use Rattle.substrate.specs.Record.{is_finished}
 use Rattle.substrate.specs.declared.registered.Registered.{Registered}
 use Rattle.substrate.proofs.Sites.{same_is}
-use Rattle.substrate.proofs.Truth.{and_true, not_true}
+use Rattle.records.proofs.Truth.{and_true, not_true}
 use Rattle.robot_moves.specs.Moves.{holder, is_free, free_target, may_leave, is_useful, stage_of, is_useful_at, stage_pick}
 use Rattle.robot_moves.specs.declared.module.Module.{Module}
 use Rattle.robot_moves.specs.declared.view.PlaceView.{PlaceView}

@@ -2,12 +2,12 @@
 use Rattle.std.proofs.Common.{◌≡◌, ℕ, Bool, true, false, true≢false, ◌||◌, cond, List, [], ◌∷◌, find, Option, Some, None, option_map, bytes_eq, refl, sym, ap, subst, ◌∙◌}
 use Rattle.gem_ids.specs.declared.numbers.LocId.{LocId}
 use Rattle.substrate.specs.Locations.{is_work_place}
-use Rattle.substrate.specs.Places.{PlaceMap, ArePlaces, has_name, substrate_named, is_known, stands_at, is_taken, substrate_at, is_there, are_named_apart, are_placed_apart}
+use Rattle.substrate.specs.Places.{name_of, PlaceMap, ArePlaces, has_name, substrate_named, is_known, stands_at, is_taken, substrate_at, is_there, are_named_apart, are_placed_apart}
 use Rattle.substrate.specs.declared.registered.Registered.{Registered}
-use Rattle.substrate.proofs.Apart.{has_it, first_apart, rest_apart}
+use Rattle.records.proofs.Apart.{has_it, first_apart, rest_apart}
 use Rattle.substrate.proofs.Sites.{same_is}
-use Rattle.substrate.proofs.Texts.{own_name}
-use Rattle.substrate.proofs.Truth.{or_false, and_true, not_true}
+use Rattle.records.proofs.Texts.{own_name}
+use Rattle.records.proofs.Truth.{or_false, and_true, not_true}
 use Rattle.floor_model.specs.declared.tracked.Substrate.{Substrate}
 use Rattle.floor_model.specs.Substrates.{is_at_work, is_in_slot, is_outside}
 
@@ -43,13 +43,13 @@ named_at : (sub : List ℕ) (loc : LocId) (rs : List Registered) → are_named_a
 named_at sub loc [] named placed = refl
 named_at sub loc (r ∷ rs) named placed =
     let parts = and_true _ (are_placed_apart rs) placed in
-    of (has_name sub r) refl (stands_at loc r) refl (not_true (is_taken r.at rs) parts.0) (named_at sub loc rs (rest_apart r rs named) parts.1)
+    of (has_name sub r) refl (stands_at loc r) refl (not_true (is_taken r.at rs) parts.0) (named_at sub loc rs (rest_apart name_of r rs named) parts.1)
   where
     of : (a : Bool) → has_name sub r ≡ a → (b : Bool) → stands_at loc r ≡ b → is_taken r.at rs ≡ false → is_there loc (substrate_named sub rs) ≡ is_called sub (substrate_at loc rs)
         → is_there loc (cond a (Some r) (substrate_named sub rs)) ≡ is_called sub (option_map (λ (s : Registered). s.sub) (cond b (Some r) (find (stands_at loc) rs)))
     of true name true place free later = place ∙ sym name
     of true name false place free later =
-        let unknown : is_known sub rs ≡ false = subst (λ (n : List ℕ). is_known n rs ≡ false) (has_it sub r name) (first_apart r rs named) in
+        let unknown : is_known sub rs ≡ false = subst (λ (n : List ℕ). is_known n rs ≡ false) (has_it name_of sub r name) (first_apart name_of r rs named) in
         place ∙ sym (not_called sub loc rs unknown)
     of false name true place free later =
         let there : is_taken loc rs ≡ false = subst (λ (l : LocId). is_taken l rs ≡ false) (same_is r.at loc place) free in
@@ -87,10 +87,10 @@ found_known loc (x ∷ xs) r e = of (stands_at loc x) e (found_known loc xs r) w
 -- and is found by it
 found_named : (loc : LocId) (rs : List Registered) (r : Registered) → are_named_apart rs ≡ true → find (stands_at loc) rs ≡ Some r → substrate_named r.sub rs ≡ Some r
 found_named loc [] r apart e = absurd (cc)
-found_named loc (x ∷ xs) r apart e = of (stands_at loc x) e (found_named loc xs r (rest_apart x xs apart)) where
+found_named loc (x ∷ xs) r apart e = of (stands_at loc x) e (found_named loc xs r (rest_apart name_of x xs apart)) where
   behind : find (stands_at loc) xs ≡ Some r → (b : Bool) → has_name r.sub x ≡ b → substrate_named r.sub xs ≡ Some r → cond b (Some x) (substrate_named r.sub xs) ≡ Some r
   behind f true name later =
-      let unknown : is_known r.sub xs ≡ false = subst (λ (n : List ℕ). is_known n xs ≡ false) (has_it r.sub x name) (first_apart x xs apart) in
+      let unknown : is_known r.sub xs ≡ false = subst (λ (n : List ℕ). is_known n xs ≡ false) (has_it name_of r.sub x name) (first_apart name_of x xs apart) in
       absurd (true≢false (sym (found_known loc xs r f) ∙ unknown))
   behind f false name later = later
 

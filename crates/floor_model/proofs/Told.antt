@@ -6,7 +6,7 @@ use Rattle.substrate.specs.Locations.{is_same, is_location}
 use Rattle.substrate.specs.Places.{ArePlaces, AreNumbered, stands_at, is_taken, are_placed_apart}
 use Rattle.substrate.specs.declared.registered.Registered.{Registered}
 use Rattle.substrate.proofs.Sites.{same_is, own_place}
-use Rattle.substrate.proofs.Truth.{or_false, and_true, not_true}
+use Rattle.records.proofs.Truth.{or_false, and_true, not_true}
 use Rattle.robot_moves.specs.Moves.{holder, is_empty}
 use Rattle.robot_moves.specs.declared.view.PlaceView.{PlaceView}
 use Rattle.robot_moves.proofs.Least.{RisesFrom, rises_earlier, SitApart, holder_none, empty_holder, taken_holder}

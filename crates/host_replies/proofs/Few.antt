@@ -4,8 +4,8 @@ use Rattle.std.proofs.Common.{◌≡◌, ℕ, suc, ◌≤◌, Bool, true, false,
 use Rattle.process_job.specs.Jobs.{has_name, job_named}
 use Rattle.process_job.specs.Commands.{row_of, answer_at, command_answer}
 use Rattle.process_job.specs.declared.job.ProcessJob.{ProcessJob}
-use Rattle.process_job.proofs.Names.{same_name}
-use Rattle.process_job.proofs.Scans.{take_here}
+use Rattle.records.proofs.Texts.{same_name}
+use Rattle.records.proofs.Scans.{take_here}
 use Rattle.tool_tasks.specs.declared.words.JobWord.TheVariants.{Cancel}
 use Rattle.tool_jobs.specs.Jobs.{Jobs}
 use Rattle.message_model.specs.declared.shop_reply.JobState.{JobState}

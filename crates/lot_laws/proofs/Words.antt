@@ -20,7 +20,7 @@ use Rattle.control_job.specs.Jobs.{job_numbered as control_numbered, fired_at, h
 use Rattle.control_job.specs.Jobs as control
 use Rattle.control_job.specs.declared.job.ControlJob.{ControlJob}
 use Rattle.control_job.specs.declared.record.ControlJobRecord.{ControlJobRecord}
-use Rattle.control_job.proofs.Orders.{not_true}
+use Rattle.records.proofs.Truth.{not_true}
 use Rattle.tool_jobs.specs.Wants.{process_wants, control_wants, is_ending, ends_so}
 use Rattle.tool_jobs.specs.Rows.{ended, process_starts, control_starts, control_fired}
 use Rattle.tool_jobs.specs.Together.{AreTogether}

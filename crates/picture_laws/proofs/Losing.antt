@@ -1,9 +1,9 @@
 -- A substrate that is taken away has no place in the floor by numbers.
 use Rattle.std.proofs.Common.{◌≡◌, ◌<◌, ◌≤◌, ℕ, ◌==◌, Bool, true, false, not, if◌then◌else◌, cond, List, [], ◌∷◌, find, Option, Some, None, option_map, refl, sym, ◌∙◌, ap, subst, arith}
 use Rattle.std.proofs.lemmas.Bool.Decides.{Decides-eqb}
-use Rattle.substrate.specs.Places.{AreNumbered, are_named_apart, has_name, is_known, substrate_named, without}
+use Rattle.substrate.specs.Places.{name_of, AreNumbered, are_named_apart, has_name, is_known, substrate_named, without}
 use Rattle.substrate.specs.declared.registered.Registered.{Registered}
-use Rattle.substrate.proofs.Apart.{has_it, first_apart, rest_apart, without_none}
+use Rattle.records.proofs.Apart.{has_it, first_apart, rest_apart, without_none}
 use Rattle.floor_moves.specs.Floor.{Loc}
 use Rattle.place_laws.specs.Picture.{loc_of}
 use Rattle.picture_laws.proofs.Moving.{among, past}
@@ -21,7 +21,7 @@ module _ (sub : List ℕ) where
   pub taken_among : (last given : ℕ) (held : List Registered) (found : Registered) → are_named_apart held ≡ true → AreNumbered last given held → substrate_named sub held ≡ Some found → (k : ℕ) → among (without sub held) k ≡ (if k == found.number then None else among held k)
   taken_among last given [] found apart rising e k = absurd (cc)
   taken_among last given (r ∷ rs) found apart rising e k =
-      of (has_name sub r) refl e (λ f. taken_among r.number given rs found (rest_apart r rs apart) rising.1 f k) where
+      of (has_name sub r) refl e (λ f. taken_among r.number given rs found (rest_apart name_of r rs apart) rising.1 f k) where
         head : (c : Bool) (x : Registered) (xs : List Registered) → option_map (λ (s : Registered). loc_of s.at) (if c then Some x else find (λ (s : Registered). s.number == k) xs) ≡ (if c then Some (loc_of x.at) else among xs k)
         head true x xs = refl
         head false x xs = refl
@@ -45,7 +45,7 @@ module _ (sub : List ℕ) where
         of : (b : Bool) → has_name sub r ≡ b → (if b then Some r else substrate_named sub rs) ≡ Some found → (substrate_named sub rs ≡ Some found → among (without sub rs) k ≡ (if k == found.number then None else among rs k)) → among (without sub (r ∷ rs)) k ≡ (if k == found.number then None else among (r ∷ rs) k)
         of true is e rest =
             let same : r ≡ found = cc in
-            let others : without sub rs ≡ rs = without_none sub rs (subst (λ (n : List ℕ). is_known n rs ≡ false) (has_it sub r is) (first_apart r rs apart)) in
+            let others : without sub rs ≡ rs = without_none name_of sub rs (subst (λ (n : List ℕ). is_known n rs ≡ false) (has_it name_of sub r is) (first_apart name_of r rs apart)) in
             ap (λ (xs : List Registered). among xs k) (gone true is ∙ others)
             ∙ this (k == r.number) (r.number == k) refl refl
             ∙ ap (λ (o : Option Loc). if k == r.number then None else o) (sym (head (r.number == k) r rs))

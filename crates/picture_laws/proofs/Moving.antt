@@ -6,9 +6,9 @@ use Rattle.tool_tasks.specs.declared.task.Task.{Task as ToolTask}
 use Rattle.tool_tasks.specs.declared.task.Task.TheVariants as task
 use Rattle.robot_moves.specs.declared.module.Module.{Module}
 use Rattle.robot_moves.specs.declared.module.Module.TheVariants.{Idle, Busy, Down}
-use Rattle.substrate.specs.Places.{PlaceMap, AreNumbered, are_named_apart, has_name, substrate_named, moved, moves_to}
+use Rattle.substrate.specs.Places.{name_of, PlaceMap, AreNumbered, are_named_apart, has_name, substrate_named, moved, moves_to}
 use Rattle.substrate.specs.declared.registered.Registered.{Registered}
-use Rattle.substrate.proofs.Apart.{rest_apart, tail_stays}
+use Rattle.records.proofs.Apart.{rest_apart, tail_stays}
 use Rattle.floor_moves.specs.Floor.{Loc, Task, busy, pick, place, align, process}
 use Rattle.place_laws.specs.Picture.{loc_of, numbered, number_or_none, task_of, module_of}
 
@@ -29,7 +29,7 @@ module _ (sub : List ℕ) (to : LocId) where
   pub moved_among : (last given : ℕ) (held : List Registered) (found : Registered) → are_named_apart held ≡ true → AreNumbered last given held → substrate_named sub held ≡ Some found → (k : ℕ) → among (moved sub to held) k ≡ (if k == found.number then Some (loc_of to) else among held k)
   moved_among last given [] found apart rising e k = absurd (cc)
   moved_among last given (r ∷ rs) found apart rising e k =
-      of (has_name sub r) refl e (λ f. moved_among r.number given rs found (rest_apart r rs apart) rising.1 f k) where
+      of (has_name sub r) refl e (λ f. moved_among r.number given rs found (rest_apart name_of r rs apart) rising.1 f k) where
         here : (k == r.number) ≡ (r.number == k)
         here = by (k == r.number) (r.number == k) refl refl where
           by : (b c : Bool) → (k == r.number) ≡ b → (r.number == k) ≡ c → b ≡ c
@@ -56,7 +56,7 @@ module _ (sub : List ℕ) (to : LocId) where
         of : (b : Bool) → has_name sub r ≡ b → (if b then Some r else substrate_named sub rs) ≡ Some found → (substrate_named sub rs ≡ Some found → among (moved sub to rs) k ≡ (if k == found.number then Some (loc_of to) else among rs k)) → among (moved sub to (r ∷ rs)) k ≡ (if k == found.number then Some (loc_of to) else among (r ∷ rs) k)
         of true is e rest =
             let same : r ≡ found = cc in
-            let stays : moved sub to rs ≡ rs = tail_stays sub (moves_to to) r rs apart is in
+            let stays : moved sub to rs ≡ rs = tail_stays name_of sub (moves_to to) r rs apart is in
             let first : (if has_name sub r then moves_to to r else r) ≡ moves_to to r = ap (λ (b : Bool). if b then moves_to to r else r) is in
             ap (λ (x : Registered). among (x ∷ moved sub to rs) k) first
             ∙ ap (λ (xs : List Registered). among (moves_to to r ∷ xs) k) stays

@@ -27,7 +27,7 @@ use Rattle.gem_model.specs.Values.{Occasion, no_firing, port_value, substrate_te
 use Rattle.load_port.specs.declared.port.Port.{Port}
 use Rattle.load_port.specs.Tables.{transfer_number, access_number}
 use Rattle.substrate.specs.Locations.{is_location}
-use Rattle.substrate.proofs.Truth.{and_true}
+use Rattle.records.proofs.Truth.{and_true}
 use Rattle.plant_values.specs.Named.{AreNamed}
 
 -- a value within the bounds of a variable

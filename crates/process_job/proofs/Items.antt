@@ -4,7 +4,7 @@ use Rattle.item_model.specs.Data.{Data, DataList, no_items, item, added, first_i
 use Rattle.item_model.specs.Plain.{count_of}
 use Rattle.process_job.specs.Listing.{job_item, job_items, joined}
 use Rattle.process_job.specs.declared.job.ProcessJob.{ProcessJob}
-use Rattle.process_job.proofs.Scans.{take_here}
+use Rattle.records.proofs.Scans.{take_here}
 
 -- nothing stands behind
 pub joined_none : (ds : DataList) → joined ds no_items ≡ ds

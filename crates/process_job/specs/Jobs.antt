@@ -1,8 +1,9 @@
 -- The process jobs that are kept, in the order in which they were created (after SEMI E40; this tool's profile, process jobs).
-use Rattle.std.specs.Prelude.{◌≡◌, ℕ, ◌+◌, ◌==◌, ◌≤◌, ◌<◌, ◌-◌, Bool, true, false, not, ◌&&◌, if◌then◌else◌, List, [], ◌∷◌, ◌++◌, length, find, Option, Some, None}
-use Rattle.std.specs.List.{list_any}
+use Rattle.std.specs.Prelude.{◌≡◌, ℕ, ◌+◌, ◌≤◌, ◌-◌, Bool, true, false, List, [], ◌∷◌, ◌++◌, length, find, Option, Some, None}
 use Rattle.std.specs.Str.{bytes_eq}
 use Rattle.tool_tasks.specs.declared.recipes.Recipe.{Recipe}
+use Rattle.records.specs.Names as named
+use Rattle.records.specs.Numbers as numbered
 use Rattle.process_job.specs.Record.{first_record, job_starts, job_fired}
 use Rattle.process_job.specs.declared.job.JobSpec.{JobSpec}
 use Rattle.process_job.specs.declared.job.ProcessJob.{ProcessJob}
@@ -24,50 +25,46 @@ recipe_named name recipes = find (λ r. bytes_eq r.name name) recipes
 
 -- ---- jobs
 
+-- the name of a job, and its number of creation
+abbrev pub name_of : ProcessJob → List ℕ
+name_of j = j.id
+
+abbrev pub number_of : ProcessJob → ℕ
+number_of j = j.number
+
 -- the job has this name
 abbrev pub has_name : List ℕ → ProcessJob → Bool
-has_name name j = bytes_eq j.id name
+has_name name j = named.has_name name_of name j
 
 -- the job of a name
 abbrev pub job_named : List ℕ → List ProcessJob → Option ProcessJob
-job_named name jobs = find (has_name name) jobs
+job_named name jobs = named.record_named name_of name jobs
 
 -- a job of the name is kept
 abbrev pub is_known : List ℕ → List ProcessJob → Bool
-is_known name jobs = list_any (has_name name) jobs
+is_known name jobs = named.is_named name_of name jobs
 
 -- the job has this number of creation
 abbrev pub has_number : ℕ → ProcessJob → Bool
-has_number n j = j.number == n
+has_number n j = numbered.has_number number_of n j
 
 -- the job of a number of creation
 abbrev pub job_numbered : ℕ → List ProcessJob → Option ProcessJob
-job_numbered n jobs = find (has_number n) jobs
+job_numbered n jobs = numbered.record_numbered number_of n jobs
 
 -- a job of the number is kept
 abbrev pub is_numbered : ℕ → List ProcessJob → Bool
-is_numbered n jobs = list_any (has_number n) jobs
-
--- the place of the first job of a number, of which the given one has this place
-abbrev pub place_from : ℕ → ℕ → List ProcessJob → Option ℕ
-place_from place n [] = None
-place_from place n (j ∷ js) = if has_number n j then Some place else place_from (place + 1) n js
-
--- the place of the job of a number, counted from 0
-abbrev pub place_numbered : ℕ → List ProcessJob → Option ℕ
-place_numbered n jobs = place_from 0 n jobs
+is_numbered n jobs = numbered.is_numbered number_of n jobs
 
 -- ---- what happens to them
 
 -- a change of the job of a number; where there is none, nothing changes
 abbrev pub change_numbered : ℕ → (ProcessJob → ProcessJob) → List ProcessJob → List ProcessJob
-change_numbered n change [] = []
-change_numbered n change (j ∷ js) = if has_number n j then change j ∷ js else j ∷ change_numbered n change js
+change_numbered n change jobs = numbered.change_numbered number_of n change jobs
 
 -- the jobs without that of a number; the others keep their order
 abbrev pub without_numbered : ℕ → List ProcessJob → List ProcessJob
-without_numbered n [] = []
-without_numbered n (j ∷ js) = if has_number n j then js else j ∷ without_numbered n js
+without_numbered n jobs = numbered.without_numbered number_of n jobs
 
 -- a row starts at the job, where there is one
 abbrev pub starts_row : ℕ → Option ProcessJob → Bool
@@ -107,13 +104,11 @@ space b = most_jobs - length b.kept
 
 -- each name is that of one job
 abbrev pub are_named_apart : List ProcessJob → Bool
-are_named_apart [] = true
-are_named_apart (j ∷ js) = not (is_known j.id js) && are_named_apart js
+are_named_apart jobs = named.are_named_apart name_of jobs
 
 -- their numbers rise, from behind one number to another
 abbrev pub AreNumbered : ℕ → ℕ → List ProcessJob → Type 0
-AreNumbered last given [] = last ≤ given
-AreNumbered last given (j ∷ js) = (last < j.number) × AreNumbered j.number given js
+AreNumbered last given jobs = numbered.AreRising number_of last given jobs
 
 -- Each name is that of one job, the numbers rise, the last that was given is the greatest of them or is past them, and there are at
 -- most 64 jobs.

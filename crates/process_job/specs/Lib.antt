@@ -5,4 +5,3 @@ pub mod Creating
 pub mod Commands
 pub mod Listing
 pub mod Kept
-pub mod Keys

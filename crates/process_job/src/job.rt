@@ -1,11 +1,12 @@
 //! A process job.
 
 ghost use Rattle.std.specs.Prelude.{◌≡◌};
-ghost use Rattle.process_job.specs.Jobs.{created};
+ghost use Rattle.process_job.specs.Jobs.{created, name_of, number_of, fires_row};
 ghost use Rattle.process_job.specs.Creating.{is_slot, are_slots, is_carrier_name, is_material, are_materials, is_some_material};
 
 use crate::record::ProcessJobRecord;
 use gem_ids::{JobId, Listed, Text80};
+use records::{Change, Named, Numbered};
 
 /// Slots by their numbers; none stands for all of the carrier (SEMI E40, material).
 pub type Slots = Listed<u8>;
@@ -61,6 +62,40 @@ impl ProcessJob {
             recipe,
             material,
         }
+    }
+}
+
+impl Named for ProcessJob {
+    ghost name = { name_of };
+
+    fn text(&self) -> Text80 {
+        self.id.text()
+    }
+
+    fn name_bytes(&self) -> &[u8] {
+        self.id.as_bytes()
+    }
+}
+
+impl Numbered for ProcessJob {
+    ghost number = { number_of };
+
+    fn number(&self) -> u64 {
+        self.number
+    }
+}
+
+// A row of table 14 that fires at a job.
+#[derive(Drop)]
+pub(crate) struct Fires {
+    pub(crate) row: u8,
+}
+
+impl Change<ProcessJob> for Fires {
+    ghost does = { λ f j. fires_row f.row j };
+
+    fn apply(&self, job: &mut ProcessJob) {
+        job.states.fire(self.row);
     }
 }
 

@@ -1,20 +1,20 @@
 //! The process jobs of the tool.
 
-ghost use Rattle.std.specs.Prelude.{ℕ, ◌≡◌, ◌+◌, ◌≤◌, length, slice_get, take, Some, None, Err, IfOk, IfErr, OnOk, OnErr};
+ghost use Rattle.std.specs.Prelude.{ℕ, ◌≡◌, ◌+◌, ◌≤◌, length, position, slice_get, take, Some, None, Err, IfOk, IfErr, OnOk, OnErr};
 ghost use Rattle.std.specs.Option.{option_copied};
-ghost use Rattle.process_job.specs.Jobs.{no_jobs, recipe_named, job_named, job_numbered, is_numbered, place_numbered, is_known, starts_row, fired, forgotten, with_created, most_jobs, space, AreJobs};
+ghost use Rattle.process_job.specs.Jobs.{no_jobs, recipe_named, job_named, job_numbered, has_number, is_numbered, is_known, starts_row, fired, forgotten, with_created, most_jobs, space, AreJobs};
 ghost use Rattle.process_job.specs.Creating.{is_recipe, create_fault};
 ghost use Rattle.process_job.specs.Commands.{command_answer, row_of};
 ghost use Rattle.process_job.specs.Listing.{job_items, joined};
 ghost use Rattle.process_job.specs.declared.fault.JobFault.{JobFault};
 ghost use Rattle.process_job.specs.declared.fault.JobFault.TheVariants.{NoMemory};
 
-use crate::by_name::ByName;
 use crate::fault::JobFault;
-use crate::job::{JobSpec, ProcessJob, is_some_material};
+use crate::job::{Fires, JobSpec, ProcessJob, is_some_material};
 use crate::listing::job_item;
 use gem_ids::{JobId, Text80};
 use item_model::{Items, NoMemory};
+use records::Names;
 use std::alloc::Global;
 use std::marker::Model;
 use tool_tasks::{JobWord, Recipe};
@@ -27,7 +27,7 @@ pub const MOST_JOBS: usize = 64;
 /// numbers rise, and there are at most 64. Only `new`, `create` and `list` take memory. A job is found by its name without going
 /// through the others.
 pub struct ProcessJobs {
-    jobs: ByName,
+    jobs: Names<ProcessJob>,
     recipes: Vec<Recipe>,
     given: u64,
 }
@@ -59,7 +59,7 @@ impl ProcessJobs {
     pub fn new(alloc: Global, recipes: &[Recipe]) -> Result<ProcessJobs, NoMemory>
         ensures { IfOk result (λ jobs. jobs ≡ no_jobs recipes.now) }
     {
-        let jobs = ByName::new(alloc, MOST_JOBS)?;
+        let jobs = Names::new(alloc, MOST_JOBS)?;
         let recipes = Vec::from_slice(alloc, recipes)?;
         Ok(ProcessJobs {
             jobs,
@@ -99,7 +99,7 @@ impl ProcessJobs {
         ensures value { option_copied result ≡ job_named id self.now.kept }
         ensures jobs { AreJobs self.now }
     {
-        self.jobs.named(id)
+        self.jobs.named(id.text())
     }
 
     /// The job of a number of creation. `None` exactly where none of the number is kept.
@@ -115,17 +115,9 @@ impl ProcessJobs {
 
     // The place of the job of a number, counted from 0.
     fn place_numbered(&self, number: u64) -> Option<usize>
-        ensures { result ≡ place_numbered number self.now.kept }
+        ensures { result ≡ position (has_number number) self.now.kept }
     {
-        let _ = &self.jobs;
-        for place in 0..self.len() {
-            if let Some(job) = self.get(place) {
-                if job.number == number {
-                    return Some(place);
-                }
-            }
-        }
-        None
+        records::place_numbered(self.jobs.as_slice(), number)
     }
 
     /// The recipe of a name. `None` exactly where none of the tool's has it.
@@ -261,7 +253,21 @@ impl ProcessJobs {
         ensures after { self.new ≡ fired number row self.old }
     {
         match self.place_numbered(number) {
-            Some(place) => self.jobs.fire_at(place, row),
+            Some(place) => {
+                let starts = self.starts_at(place, row);
+                self.jobs.change_at(place, &Fires { row });
+                starts
+            }
+            None => false,
+        }
+    }
+
+    // Whether a row starts at the job at a place.
+    fn starts_at(&self, place: usize, row: u8) -> bool
+        ensures { result ≡ starts_row row (slice_get self.now.kept place) }
+    {
+        match self.get(place) {
+            Some(job) => job.states.starts(row),
             None => false,
         }
     }

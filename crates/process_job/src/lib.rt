@@ -6,11 +6,9 @@
 //! job and gives it its number, and `ProcessJobs::command`.
 #![tactic(auto)]
 
-mod by_name;
 mod fault;
 mod job;
 mod jobs;
-mod key;
 mod laws;
 mod listing;
 mod record;

@@ -3,10 +3,10 @@ use Rattle.std.proofs.Common.{◌≡◌, ℕ, ◌==◌, ◌≤◌, ◌<◌, Bool
 use Rattle.std.specs.List.{list_all}
 use Rattle.std.proofs.lemmas.Bool.Decides.{nat_tests}
 use Rattle.process_job.specs.Jobs as process
-use Rattle.process_job.specs.Jobs.{has_number, has_name, is_known, change_numbered, without_numbered, are_named_apart, AreNumbered}
+use Rattle.process_job.specs.Jobs.{name_of, has_number, has_name, is_known, change_numbered, without_numbered, are_named_apart, AreNumbered}
 use Rattle.process_job.specs.declared.job.ProcessJob.{ProcessJob}
-use Rattle.process_job.proofs.Names.{same_name, turned}
-use Rattle.process_job.proofs.Apart.{first_apart, rest_apart}
+use Rattle.records.proofs.Texts.{same_name, turned}
+use Rattle.records.proofs.Apart.{first_apart, rest_apart}
 use Rattle.control_job.specs.Names.{is_in, others}
 use Rattle.control_job.specs.Jobs as control
 use Rattle.control_job.specs.Jobs.{jobs_without}
@@ -229,9 +229,9 @@ known_numbered n (x ∷ xs) j name e t = by_test (has_number n x) (has_name name
 -- jobs of different numbers have different names
 pub names_differ : (m n : ℕ) (js : List ProcessJob) (j k : ProcessJob) → are_named_apart js ≡ true → process.job_numbered m js ≡ Some j → process.job_numbered n js ≡ Some k → (m == n) ≡ false → bytes_eq j.id k.id ≡ false
 names_differ m n [] j k h e f other = absurd (cc)
-names_differ m n (x ∷ xs) j k h e f other = by_test (has_number m x) (has_number n x) refl refl e f (λ a b. names_differ m n xs j k (rest_apart x xs h) a b other) where
+names_differ m n (x ∷ xs) j k h e f other = by_test (has_number m x) (has_number n x) refl refl e f (λ a b. names_differ m n xs j k (rest_apart name_of x xs h) a b other) where
   unknown : is_known x.id xs ≡ false
-  unknown = first_apart x xs h
+  unknown = first_apart name_of x xs h
 
   decided : (y : ProcessJob) (i : ℕ) → process.job_numbered i xs ≡ Some y → bytes_eq y.id x.id ≡ false
   decided y i a = by (bytes_eq y.id x.id) refl where

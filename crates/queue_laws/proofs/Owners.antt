@@ -13,7 +13,8 @@ use Rattle.control_job.specs.declared.record.ControlState.TheVariants.{Queued, S
 use Rattle.control_job.specs.declared.record.Ending.{Ending}
 use Rattle.control_job.specs.declared.record.Ending.TheVariants.{No, ByStop, ByAbort}
 use Rattle.control_job.specs.declared.job.ControlJob.{ControlJob}
-use Rattle.control_job.proofs.Orders.{and_true, or_false, not_true, rising_apart}
+use Rattle.records.proofs.Truth.{and_true, or_false, not_true}
+use Rattle.control_job.proofs.Orders.{rising_apart}
 use Rattle.tool_jobs.specs.Jobs.{Jobs, owner}
 use Rattle.tool_jobs.specs.Wants.{is_ending, is_by_stop, is_by_abort, is_none_left}
 use Rattle.tool_jobs.specs.Together.{AreTogether}

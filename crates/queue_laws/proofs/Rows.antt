@@ -16,7 +16,7 @@ use Rattle.control_job.specs.declared.record.ControlState.TheVariants.{Queued, S
 use Rattle.control_job.specs.declared.record.Ending.{Ending}
 use Rattle.control_job.specs.declared.record.Ending.TheVariants.{No, ByStop, ByAbort}
 use Rattle.control_job.specs.declared.record.ControlJobRecord.{ControlJobRecord}
-use Rattle.control_job.proofs.Orders.{and_true}
+use Rattle.records.proofs.Truth.{and_true}
 use Rattle.tool_jobs.specs.Wants.{is_ending}
 use Rattle.tool_jobs.proofs.Rows.{after_meets}
 use Rattle.queue_laws.specs.Started.{is_queued, is_begun}

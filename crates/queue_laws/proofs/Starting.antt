@@ -14,7 +14,7 @@ use Rattle.control_job.specs.Jobs as control
 use Rattle.control_job.specs.Jobs.{JobStore, owns, is_open, fires_row, fires_at, leaves, new_job}
 use Rattle.control_job.specs.Creating.{replaced_by, kept_without}
 use Rattle.control_job.specs.declared.job.ControlJob.{ControlJob}
-use Rattle.control_job.proofs.Orders.{and_true}
+use Rattle.records.proofs.Truth.{and_true}
 use Rattle.control_job.proofs.Keeping.{leaves_number, fires_number}
 use Rattle.tool_jobs.specs.declared.sight.Sight.{Sight}
 use Rattle.tool_jobs.specs.Jobs.{Jobs, no_jobs, owner}

@@ -14,7 +14,7 @@ use Rattle.process_job.specs.declared.record.JobState.TheVariants as process_sta
 use Rattle.process_job.specs.declared.job.ProcessJob.{ProcessJob}
 use Rattle.process_job.specs.declared.job.JobSpec.{JobSpec}
 use Rattle.process_job.proofs.Faults.{is_free}
-use Rattle.process_job.proofs.Names.{same_name}
+use Rattle.records.proofs.Texts.{same_name}
 use Rattle.control_job.specs.Tables.{ControlWant, states_number, state_number}
 use Rattle.control_job.specs.Tables as control_want
 use Rattle.control_job.specs.Record.{is_active}
@@ -22,7 +22,7 @@ use Rattle.control_job.specs.Names.{is_in}
 use Rattle.control_job.specs.Jobs as control
 use Rattle.control_job.specs.Jobs.{JobStore, owns, is_open, is_any_active, first_waiting, fires_row, fires_at, leaves, new_job}
 use Rattle.control_job.specs.declared.job.ControlJob.{ControlJob}
-use Rattle.control_job.proofs.Orders.{and_true, not_true}
+use Rattle.records.proofs.Truth.{and_true, not_true}
 use Rattle.control_job.proofs.Keeping.{leaves_number, fires_number}
 use Rattle.tool_jobs.specs.declared.sight.Sight.{Sight}
 use Rattle.tool_jobs.specs.Jobs.{Jobs, owner}

@@ -6,7 +6,7 @@ use Rattle.gem_tables.specs.Machine.{first_ready}
 use Rattle.load_port.specs.declared.port.Port.{Port}
 use Rattle.carrier.specs.declared.carrier.Carrier.{Carrier}
 use Rattle.carrier.specs.Carriers.{carrier_numbered}
-use Rattle.carrier.proofs.Scans.{drop_here, drop_past, drop_end}
+use Rattle.records.proofs.Scans.{drop_here, drop_past, drop_end}
 use Rattle.shop_floor.specs.Floor.{numbers_from, number_of}
 use Rattle.shop_floor.specs.Valid.{RiseFrom}
 

@@ -4,7 +4,7 @@ use Rattle.std.proofs.lemmas.Bool.Decides.{nat_tests}
 use Rattle.gem_ids.specs.declared.numbers.LocId.{LocId}
 use Rattle.substrate.specs.Places.{substrate_named, is_known, is_taken, substrate_at, is_there, has_place, fault_of, register_fault, can_shift, most_substrates}
 use Rattle.substrate.specs.declared.registered.Registered.{Registered}
-use Rattle.substrate.proofs.Truth.{and_true, not_true}
+use Rattle.records.proofs.Truth.{and_true, not_true}
 use Rattle.substrate.proofs.Sites.{same_is}
 use Rattle.substrate.proofs.Standing.{at_taken}
 

@@ -1,7 +1,5 @@
 -- What is found, and what is read of it.
-use Rattle.std.proofs.Common.{◌≡◌, Bor, List, [], ◌∷◌, ◌++◌, ℕ, zero, suc, ◌+◌, length, remove, Option, Some, None, true, is_some, option_map, option_copied, refl, sym, ap, ◌∙◌, subst, arith}
-use Rattle.std.specs.Option.{option_to_list}
-use Rattle.std.proofs.lemmas.Bool.{true≢false}
+use Rattle.std.proofs.Common.{◌≡◌, Bor, Option, Some, None, is_some, option_map, option_copied, refl, subst}
 use Rattle.gem_ids.specs.declared.numbers.LocId.{LocId}
 use Rattle.substrate.specs.declared.registered.Registered.{Registered}
 
@@ -25,22 +23,3 @@ none_placed (Some r) e = absurd (cc)
 pub some_placed : (o : Option Registered) → is_some (option_map (λ r. r.at) o) ≡ is_some o
 some_placed None = refl
 some_placed (Some r) = refl
-
--- ---- the last of a list goes
-
-last_removed : {O : Type 0} (front : List O) (x : O) (index : ℕ) → length front ≡ index → remove (front ++ x ∷ []) index ≡ front
-last_removed [] x zero e = refl
-last_removed [] x (suc index) e = absurd (omega (arith, e))
-last_removed (o ∷ front) x zero e = absurd (omega (arith, e))
-last_removed (o ∷ front) x (suc index) e = ap (λ os. o ∷ os) (last_removed front x index (omega (arith, e)))
-
-length_behind : {O : Type 0} (front : List O) (x : O) → length (front ++ x ∷ []) ≡ length front + 1
-length_behind [] x = refl
-length_behind (o ∷ front) x = let rest = length_behind front x in omega (arith, rest)
-
-pub popped_is : {O : Type 0} (all front : List O) (last : Option O) (index : ℕ) → all ≡ front ++ option_to_list last → is_some last ≡ true → index + 1 ≡ length all → front ≡ remove all index
-popped_is all front None index e there long = absurd (true≢false (sym there))
-popped_is all front (Some x) index e there long =
-    let count : length front + 1 ≡ length all = sym (length_behind front x) ∙ sym (ap length e) in
-    let at : length front ≡ index = omega (arith, count, long) in
-    sym (last_removed front x index at) ∙ sym (ap (λ os. remove os index) e)

@@ -1,7 +1,3 @@
-pub mod Texts
-pub mod Truth
-pub mod Apart
-pub mod Entries
 pub mod Sites
 pub mod Written
 pub mod Standing

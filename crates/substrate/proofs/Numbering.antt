@@ -1,5 +1,5 @@
 -- The numbers of the locations.
-use Rattle.std.proofs.Common.{◌≡◌, ℕ, zero, suc, ◌+◌, ◌-◌, ◌*◌, ◌/◌, ◌%◌, ◌==◌, ◌<◌, ◌≤◌, nat_le, nat_lt, Bool, true, false, ◌||◌, List, [], ◌∷◌, Option, Some, is_some, option_map, slice_get, refl, sym, ap, ◌∙◌, arith}
+use Rattle.std.proofs.Common.{◌≡◌, ℕ, zero, suc, ◌+◌, ◌-◌, ◌*◌, ◌/◌, ◌%◌, ◌==◌, ◌<◌, ◌≤◌, nat_le, nat_lt, Bool, true, false, ◌||◌, List, [], ◌∷◌, Some, is_some, option_map, slice_get, refl, sym, ap, ◌∙◌, arith}
 use Rattle.std.specs.Prelude.{if◌then◌else◌}
 use Rattle.std.specs.List.{list_any, list_all}
 use Rattle.std.proofs.lemmas.Bool.Decides.{nat_tests}
@@ -10,7 +10,7 @@ use Rattle.substrate.specs.Board.{Spots, spot_of, spot_count, location_numbered,
 use Rattle.substrate.specs.Places.{has_number, is_taken, stands_at, substrate_at, location_number}
 use Rattle.substrate.specs.declared.registered.Registered.{Registered}
 use Rattle.substrate.proofs.Sites.{same_is, same_spot, spot_within, slot_within}
-use Rattle.substrate.proofs.Truth.{and_true, or_false}
+use Rattle.records.proofs.Truth.{and_true, or_false}
 
 -- what is known of the place of a number
 pub record Stands (ports chambers number : ℕ) (loc : LocId) : Type 0 where

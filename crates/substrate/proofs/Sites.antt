@@ -7,7 +7,7 @@ use Rattle.gem_ids.specs.declared.numbers.PortNo.{PortNo}
 use Rattle.gem_ids.specs.declared.numbers.SlotNo.{SlotNo}
 use Rattle.substrate.specs.Locations.{is_same, is_location}
 use Rattle.substrate.specs.Board.{spot_of, spot_count}
-use Rattle.substrate.proofs.Truth.{and_true}
+use Rattle.records.proofs.Truth.{and_true}
 
 -- ---- one place
 

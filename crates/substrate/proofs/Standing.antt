@@ -1,13 +1,14 @@
 -- Who is at a place, where substrates come, go and move.
-use Rattle.std.proofs.Common.{◌≡◌, ℕ, suc, ◌+◌, ◌<◌, ◌≤◌, Bool, true, false, true≢false, cond, not, ◌&&◌, ◌||◌, List, [], ◌∷◌, ◌++◌, length, find, Some, None, is_some, option_map, bytes_eq, refl, sym, ap, ◌∙◌, subst, arith}
+use Rattle.std.proofs.Common.{◌≡◌, ℕ, ◌+◌, ◌<◌, ◌≤◌, Bool, true, false, true≢false, cond, not, ◌&&◌, ◌||◌, List, [], ◌∷◌, ◌++◌, length, find, Some, None, is_some, option_map, bytes_eq, refl, sym, ap, ◌∙◌, subst, arith}
 use Rattle.std.specs.List.{list_all}
 use Rattle.gem_ids.specs.declared.numbers.LocId.{LocId}
 use Rattle.substrate.specs.Locations.{is_same, is_location}
-use Rattle.substrate.specs.Places.{has_name, substrate_named, is_known, stands_at, is_taken, substrate_at, is_there, has_place, moves_to, moved, without, are_named_apart, are_placed_apart, AreNumbered}
+use Rattle.substrate.specs.Places.{name_of, number_of, has_name, substrate_named, is_known, stands_at, is_taken, substrate_at, is_there, has_place, moves_to, moved, without, are_named_apart, are_placed_apart, AreNumbered}
 use Rattle.substrate.specs.declared.registered.Registered.{Registered}
-use Rattle.substrate.proofs.Truth.{or_false, and_true, not_true}
-use Rattle.substrate.proofs.Apart.{has_it, first_apart, rest_apart, tail_stays, without_none, names}
-use Rattle.substrate.proofs.Texts.{own_name}
+use Rattle.records.proofs.Truth.{or_false, and_true, not_true}
+use Rattle.records.proofs.Texts.{own_name}
+use Rattle.records.proofs.Apart.{has_it, first_apart, rest_apart, tail_stays, without_none, apart_changed, length_mapped}
+use Rattle.records.proofs.Rising.{rising_more, rising_filter, rising_mapped, number_found}
 use Rattle.substrate.proofs.Sites.{same_is, own_place, turned_place}
 
 -- ---- who is there
@@ -117,34 +118,24 @@ all_more test s (r ∷ rs) h e =
     rw (parts.0, all_more test s rs parts.1 e) refl
 
 pub numbered_more : (last given : ℕ) (s : Registered) (rs : List Registered) → AreNumbered last given rs → s.number ≡ given + 1 → AreNumbered last (given + 1) (rs ++ s ∷ [])
-numbered_more last given s [] h e = (omega (arith, h, e), omega (arith, e))
-numbered_more last given s (r ∷ rs) h e = (h.0, numbered_more r.number given s rs h.1 e)
-
-pub length_more : (s : Registered) (rs : List Registered) → length (rs ++ s ∷ []) ≡ suc (length rs)
-length_more s [] = refl
-length_more s (r ∷ rs) = ap suc (length_more s rs)
+numbered_more last given s rs h e = rising_more number_of last given (given + 1) s rs h e (omega arith)
 
 -- ---- one goes to another place
 
 module _ (sub : List ℕ) (to : LocId) where
   -- names and numbers stay
-  pub names_moved : (rs : List Registered) → names (moved sub to rs) ≡ names rs
-  names_moved [] = refl
-  names_moved (r ∷ rs) = by_test (has_name sub r) (names_moved rs) where
-    by_test : (b : Bool) → names (moved sub to rs) ≡ names rs → (cond b (moves_to to r) r).sub ∷ names (moved sub to rs) ≡ r.sub ∷ names rs
-    by_test true later = ap (λ (ns : List (List ℕ)). r.sub ∷ ns) later
-    by_test false later = ap (λ (ns : List (List ℕ)). r.sub ∷ ns) later
+  stays : (b : Bool) (r : Registered) → (name_of (cond b (moves_to to r) r) ≡ name_of r) × (number_of (cond b (moves_to to r) r) ≡ number_of r)
+  stays true r = (refl, refl)
+  stays false r = (refl, refl)
+
+  pub apart_moved : (rs : List Registered) → are_named_apart rs ≡ true → are_named_apart (moved sub to rs) ≡ true
+  apart_moved rs h = apart_changed name_of sub (moves_to to) (λ r. refl) rs h
 
   pub length_moved : (rs : List Registered) → length (moved sub to rs) ≡ length rs
-  length_moved [] = refl
-  length_moved (r ∷ rs) = ap suc (length_moved rs)
+  length_moved rs = length_mapped (λ r. cond (has_name sub r) (moves_to to r) r) rs
 
   pub numbered_moved : (last given : ℕ) (rs : List Registered) → AreNumbered last given rs → AreNumbered last given (moved sub to rs)
-  numbered_moved last given [] h = h
-  numbered_moved last given (r ∷ rs) h = by_test (has_name sub r) (numbered_moved r.number given rs h.1) where
-    by_test : (b : Bool) → AreNumbered r.number given (moved sub to rs) → AreNumbered last given (cond b (moves_to to r) r ∷ moved sub to rs)
-    by_test true later = (h.0, later)
-    by_test false later = (h.0, later)
+  numbered_moved last given rs h = rising_mapped number_of (λ r. cond (has_name sub r) (moves_to to r) r) (λ r. (stays (has_name sub r) r).1) last given rs h
 
   pub within_moved : (ports chambers : ℕ) (rs : List Registered) → list_all (λ r. is_location ports chambers r.at) rs ≡ true → is_location ports chambers to ≡ true → list_all (λ r. is_location ports chambers r.at) (moved sub to rs) ≡ true
   within_moved ports chambers [] h e = refl
@@ -171,10 +162,10 @@ module _ (sub : List ℕ) (to : LocId) where
   placed_moved [] a h e = refl
   placed_moved (r ∷ rs) a h e =
       let parts = or_false (stands_at to r) (is_taken to rs) e in
-      by_test (has_name sub r) refl parts (placed_moved rs (rest_apart r rs a) (rest_placed r rs h) parts.1)
+      by_test (has_name sub r) refl parts (placed_moved rs (rest_apart name_of r rs a) (rest_placed r rs h) parts.1)
     where
       by_test : (b : Bool) → has_name sub r ≡ b → (stands_at to r ≡ false) × (is_taken to rs ≡ false) → are_placed_apart (moved sub to rs) ≡ true → (not (is_taken (cond b (moves_to to r) r).at (moved sub to rs)) && are_placed_apart (moved sub to rs)) ≡ true
-      by_test true q parts later = rw (tail_stays sub (moves_to to) r rs a q, parts.1, rest_placed r rs h) refl
+      by_test true q parts later = rw (tail_stays name_of sub (moves_to to) r rs a q, parts.1, rest_placed r rs h) refl
       by_test false q parts later =
           let other : is_same to r.at ≡ false = turned_place to r.at ∙ parts.0 in
           rw (taken_moved r.at rs (first_placed r rs h) other, later) refl
@@ -187,21 +178,21 @@ module _ (sub : List ℕ) (to : LocId) where
       by_test (has_name sub r) refl s parts.0 (λ f. moved_here rs found f parts.1)
     where
       by_test : (b : Bool) → has_name sub r ≡ b → cond b (Some r) (substrate_named sub rs) ≡ Some found → stands_at to r ≡ false → (substrate_named sub rs ≡ Some found → substrate_at to (moved sub to rs) ≡ Some sub) → substrate_at to (cond b (moves_to to r) r ∷ moved sub to rs) ≡ Some sub
-      by_test true q f here later = rw (own_place to) (ap (λ (n : List ℕ). Some n) (has_it sub r q))
+      by_test true q f here later = rw (own_place to) (ap (λ (n : List ℕ). Some n) (has_it name_of sub r q))
       by_test false q f here later = rw here (later f)
 
   pub moved_from : (rs : List Registered) (found : Registered) → are_named_apart rs ≡ true → are_placed_apart rs ≡ true → substrate_named sub rs ≡ Some found → is_same to found.at ≡ false → substrate_at found.at (moved sub to rs) ≡ None
   moved_from [] found a h s e = absurd (cc)
-  moved_from (r ∷ rs) found a h s e = by_test (has_name sub r) refl s (moved_from rs found (rest_apart r rs a) (rest_placed r rs h)) where
+  moved_from (r ∷ rs) found a h s e = by_test (has_name sub r) refl s (moved_from rs found (rest_apart name_of r rs a) (rest_placed r rs h)) where
     by_test : (b : Bool) → has_name sub r ≡ b → cond b (Some r) (substrate_named sub rs) ≡ Some found → (substrate_named sub rs ≡ Some found → is_same to found.at ≡ false → substrate_at found.at (moved sub to rs) ≡ None) → substrate_at found.at (cond b (moves_to to r) r ∷ moved sub to rs) ≡ None
     by_test true q f later =
         let same : r ≡ found = cc in
-        rw (e, tail_stays sub (moves_to to) r rs a q) (at_none found.at rs (subst (λ (d : Registered). is_taken d.at rs ≡ false) same (first_placed r rs h)))
+        rw (e, tail_stays name_of sub (moves_to to) r rs a q) (at_none found.at rs (subst (λ (d : Registered). is_taken d.at rs ≡ false) same (first_placed r rs h)))
     by_test false q f later = rw (found_apart sub r rs found h f) (later f e)
 
   pub moved_there : (loc : LocId) (rs : List Registered) (found : Registered) → are_named_apart rs ≡ true → substrate_named sub rs ≡ Some found → is_same found.at loc ≡ false → is_same to loc ≡ false → substrate_at loc (moved sub to rs) ≡ substrate_at loc rs
   moved_there loc [] found a s e1 e2 = refl
-  moved_there loc (r ∷ rs) found a s e1 e2 = by_test (has_name sub r) refl s (moved_there loc rs found (rest_apart r rs a)) where
+  moved_there loc (r ∷ rs) found a s e1 e2 = by_test (has_name sub r) refl s (moved_there loc rs found (rest_apart name_of r rs a)) where
     further : (b : Bool) → substrate_at loc (moved sub to rs) ≡ substrate_at loc rs → option_map (λ (t : Registered). t.sub) (cond b (Some r) (find (stands_at loc) (moved sub to rs))) ≡ option_map (λ (t : Registered). t.sub) (cond b (Some r) (find (stands_at loc) rs))
     further true later = refl
     further false later = later
@@ -210,7 +201,7 @@ module _ (sub : List ℕ) (to : LocId) where
     by_test true q f later =
         let same : r ≡ found = cc in
         let here : stands_at loc r ≡ false = subst (λ (d : Registered). is_same d.at loc ≡ false) (sym same) e1 in
-        rw (e2, here, tail_stays sub (moves_to to) r rs a q) refl
+        rw (e2, here, tail_stays name_of sub (moves_to to) r rs a q) refl
     by_test false q f later = further (stands_at loc r) (later f e1 e2)
 
 -- ---- one is taken away
@@ -243,28 +234,13 @@ module _ (sub : List ℕ) where
       by_test true here later = later
       by_test false here later = rw (here, later) refl
 
-  pub length_fewer : (rs : List Registered) → length (without sub rs) ≤ length rs
-  length_fewer [] = omega arith
-  length_fewer (r ∷ rs) = by_test (has_name sub r) (length_fewer rs) where
-    by_test : (b : Bool) → length (without sub rs) ≤ length rs → length (cond (not b) (r ∷ without sub rs) (without sub rs)) ≤ length (r ∷ rs)
-    by_test true h = omega arith
-    by_test false h = omega arith
-
-  lower : (low last given : ℕ) (rs : List Registered) → low ≤ last → AreNumbered last given rs → AreNumbered low given rs
-  lower low last given [] l h = omega (arith, l, h)
-  lower low last given (r ∷ rs) l h = (omega (arith, l, h.0), h.1)
-
   pub numbered_fewer : (last given : ℕ) (rs : List Registered) → AreNumbered last given rs → AreNumbered last given (without sub rs)
-  numbered_fewer last given [] h = h
-  numbered_fewer last given (r ∷ rs) h = by_test (has_name sub r) (numbered_fewer r.number given rs h.1) where
-    by_test : (b : Bool) → AreNumbered r.number given (without sub rs) → AreNumbered last given (cond (not b) (r ∷ without sub rs) (without sub rs))
-    by_test true later = lower last r.number given (without sub rs) (omega (arith, h.0)) later
-    by_test false later = (h.0, later)
+  numbered_fewer last given rs h = rising_filter number_of (λ r. not (has_name sub r)) last given rs h
 
   -- where it was is nobody then, and at all other places is who was there
   pub without_from : (rs : List Registered) (found : Registered) → are_named_apart rs ≡ true → are_placed_apart rs ≡ true → substrate_named sub rs ≡ Some found → substrate_at found.at (without sub rs) ≡ None
   without_from [] found a h s = absurd (cc)
-  without_from (r ∷ rs) found a h s = by_test (has_name sub r) refl s (without_from rs found (rest_apart r rs a) (rest_placed r rs h)) where
+  without_from (r ∷ rs) found a h s = by_test (has_name sub r) refl s (without_from rs found (rest_apart name_of r rs a) (rest_placed r rs h)) where
     by_test : (b : Bool) → has_name sub r ≡ b → cond b (Some r) (substrate_named sub rs) ≡ Some found → (substrate_named sub rs ≡ Some found → substrate_at found.at (without sub rs) ≡ None) → substrate_at found.at (cond (not b) (r ∷ without sub rs) (without sub rs)) ≡ None
     by_test true q f later =
         let same : r ≡ found = cc in
@@ -273,7 +249,7 @@ module _ (sub : List ℕ) where
 
   pub without_there : (loc : LocId) (rs : List Registered) (found : Registered) → are_named_apart rs ≡ true → substrate_named sub rs ≡ Some found → is_same found.at loc ≡ false → substrate_at loc (without sub rs) ≡ substrate_at loc rs
   without_there loc [] found a s e = refl
-  without_there loc (r ∷ rs) found a s e = by_test (has_name sub r) refl s (without_there loc rs found (rest_apart r rs a)) where
+  without_there loc (r ∷ rs) found a s e = by_test (has_name sub r) refl s (without_there loc rs found (rest_apart name_of r rs a)) where
     further : (b : Bool) → substrate_at loc (without sub rs) ≡ substrate_at loc rs → option_map (λ (t : Registered). t.sub) (cond b (Some r) (find (stands_at loc) (without sub rs))) ≡ option_map (λ (t : Registered). t.sub) (cond b (Some r) (find (stands_at loc) rs))
     further true later = refl
     further false later = later
@@ -282,8 +258,8 @@ module _ (sub : List ℕ) where
     by_test true q f later =
         let same : r ≡ found = cc in
         let here : stands_at loc r ≡ false = subst (λ (d : Registered). is_same d.at loc ≡ false) (sym same) e in
-        let gone : is_known sub rs ≡ false = subst (λ (n : List ℕ). is_known n rs ≡ false) (has_it sub r q) (first_apart r rs a) in
-        rw (here, without_none sub rs gone) refl
+        let gone : is_known sub rs ≡ false = subst (λ (n : List ℕ). is_known n rs ≡ false) (has_it name_of sub r q) (first_apart name_of r rs a) in
+        rw (here, without_none name_of sub rs gone) refl
     by_test false q f later = further (stands_at loc r) (later f e)
 
 -- ---- one place each
@@ -296,7 +272,7 @@ found_there sub (r ∷ rs) found h s = by_test (has_name sub r) refl s (found_th
   by_test true q f later =
       let same : r ≡ found = cc in
       let here : stands_at found.at r ≡ true = subst (λ (d : Registered). is_same d.at found.at ≡ true) (sym same) (own_place found.at) in
-      rw here (ap (λ (n : List ℕ). Some n) (has_it sub r q))
+      rw here (ap (λ (n : List ℕ). Some n) (has_it name_of sub r q))
   by_test false q f later = rw (found_apart sub r rs found h f) (later f)
 
 -- who is found at a place is known
@@ -316,10 +292,10 @@ at_known sub loc (r ∷ rs) e = by_test (stands_at loc r) e (at_known sub loc rs
 -- and is found there by name
 pub found_by_name : (sub : List ℕ) (loc : LocId) (rs : List Registered) → are_named_apart rs ≡ true → substrate_at loc rs ≡ Some sub → has_place sub loc rs ≡ true
 found_by_name sub loc [] a e = absurd (cc)
-found_by_name sub loc (r ∷ rs) a e = by_place (stands_at loc r) refl e (found_by_name sub loc rs (rest_apart r rs a)) where
+found_by_name sub loc (r ∷ rs) a e = by_place (stands_at loc r) refl e (found_by_name sub loc rs (rest_apart name_of r rs a)) where
   by_name : stands_at loc r ≡ false → substrate_at loc rs ≡ Some sub → has_place sub loc rs ≡ true → (b : Bool) → has_name sub r ≡ b → is_there loc (cond b (Some r) (substrate_named sub rs)) ≡ true
   by_name other e later true q =
-      let gone : is_known sub rs ≡ false = subst (λ (n : List ℕ). is_known n rs ≡ false) (has_it sub r q) (first_apart r rs a) in
+      let gone : is_known sub rs ≡ false = subst (λ (n : List ℕ). is_known n rs ≡ false) (has_it name_of sub r q) (first_apart name_of r rs a) in
       absurd (true≢false (sym (at_known sub loc rs e) ∙ gone))
   by_name other e later false q = later
 
@@ -331,14 +307,4 @@ found_by_name sub loc (r ∷ rs) a e = by_place (stands_at loc r) refl e (found_
 
 -- the number of who is found was given
 pub found_number : (sub : List ℕ) (last given : ℕ) (rs : List Registered) (found : Registered) → AreNumbered last given rs → substrate_named sub rs ≡ Some found → (last < found.number) × (found.number ≤ given)
-found_number sub last given [] found h s = absurd (cc)
-found_number sub last given (r ∷ rs) found h s = by_test (has_name sub r) s (found_number sub r.number given rs found h.1) where
-  last_given : (low : ℕ) (ss : List Registered) → AreNumbered low given ss → low ≤ given
-  last_given low [] g = g
-  last_given low (t ∷ ts) g = let later = last_given t.number ts g.1 in omega (arith, g.0, later)
-
-  by_test : (b : Bool) → cond b (Some r) (substrate_named sub rs) ≡ Some found → (substrate_named sub rs ≡ Some found → (r.number < found.number) × (found.number ≤ given)) → (last < found.number) × (found.number ≤ given)
-  by_test true f later =
-      let same : r ≡ found = cc in
-      subst (λ (d : Registered). (last < d.number) × (d.number ≤ given)) same (h.0, last_given r.number rs h.1)
-  by_test false f later = let l = later f in (omega (arith, h.0, l.0), l.1)
+found_number sub last given rs found h s = number_found number_of (has_name sub) last given rs found h s

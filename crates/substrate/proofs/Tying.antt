@@ -1,15 +1,15 @@
 -- The board shows who is where, whatever happens.
-use Rattle.std.proofs.Common.{◌≡◌, ℕ, zero, suc, ◌+◌, ◌<◌, ◌≤◌, Bool, true, false, true≢false, List, [], ◌∷◌, ◌++◌, length, replicate, Option, Some, None, slice_get, refl, sym, ap, ◌∙◌, subst, arith}
+use Rattle.std.proofs.Common.{◌≡◌, ℕ, zero, suc, ◌+◌, ◌<◌, ◌≤◌, Bool, true, false, true≢false, not, List, [], ◌∷◌, ◌++◌, length, replicate, Option, Some, None, slice_get, refl, sym, ap, ◌∙◌, subst, arith}
 use Rattle.gem_ids.specs.declared.numbers.LocId.{LocId}
 use Rattle.substrate.specs.Locations.{is_same, is_location}
-use Rattle.substrate.specs.Places.{substrate_named, is_known, is_taken, substrate_at, moved, without, most_substrates}
+use Rattle.substrate.specs.Places.{name_of, has_name, substrate_named, is_known, is_taken, substrate_at, moved, without, most_substrates}
 use Rattle.substrate.specs.Board.{Spots, spot_of, spot_count, name_at, with_name}
 use Rattle.substrate.specs.Tied.{AreTied}
 use Rattle.substrate.specs.declared.registered.Registered.{Registered}
-use Rattle.substrate.proofs.Apart.{apart_same, apart_fewer, apart_more}
+use Rattle.records.proofs.Apart.{apart_fewer, apart_more, length_more, length_fewer}
 use Rattle.substrate.proofs.Sites.{same_is, own_place, same_spot, spot_within}
 use Rattle.substrate.proofs.Written.{written_here, written_there}
-use Rattle.substrate.proofs.Standing.{more_here, more_there, placed_more, all_more, numbered_more, length_more, names_moved, length_moved, numbered_moved, within_moved, placed_moved, moved_here, moved_from, moved_there, placed_fewer, all_fewer, length_fewer, numbered_fewer, without_from, without_there, found_all, found_taken}
+use Rattle.substrate.proofs.Standing.{more_here, more_there, placed_more, all_more, numbered_more, apart_moved, length_moved, numbered_moved, within_moved, placed_moved, moved_here, moved_from, moved_there, placed_fewer, all_fewer, numbered_fewer, without_from, without_there, found_all, found_taken}
 
 -- ---- the board
 
@@ -39,7 +39,7 @@ module _ (held : List Registered) (b : Spots) (given : ℕ) (h : AreTied held b 
       let longer = length_more s held in
       record {
         places = record {
-          named_apart = apart_more s held h.places.named_apart new;
+          named_apart = apart_more name_of s held h.places.named_apart new;
           placed_apart = placed_more s held h.places.placed_apart free;
           within = all_more (λ r. is_location b.ports b.chambers r.at) s held h.places.within inside;
           numbered = numbered_more 0 given s held h.places.numbered number;
@@ -53,11 +53,11 @@ module _ (held : List Registered) (b : Spots) (given : ℕ) (h : AreTied held b 
   pub tied_fewer : (sub : List ℕ) (found : Registered) → substrate_named sub held ≡ Some found → AreTied (without sub held) (with_name found.at None b) given
   tied_fewer sub found s =
       let inside : is_location b.ports b.chambers found.at ≡ true = found_all (λ r. is_location b.ports b.chambers r.at) sub held found h.places.within s in
-      let shorter = length_fewer sub held in
+      let shorter = length_fewer (λ (r : Registered). not (has_name sub r)) held in
       let few = h.places.few in
       record {
         places = record {
-          named_apart = apart_fewer _ held h.places.named_apart;
+          named_apart = apart_fewer name_of (λ r. not (has_name sub r)) held h.places.named_apart;
           placed_apart = placed_fewer sub held h.places.placed_apart;
           within = all_fewer sub (λ r. is_location b.ports b.chambers r.at) held h.places.within;
           numbered = numbered_fewer sub 0 given held h.places.numbered;
@@ -71,7 +71,7 @@ module _ (held : List Registered) (b : Spots) (given : ℕ) (h : AreTied held b 
   pub tied_moved : (sub : List ℕ) (from to : LocId) (found : Registered) → substrate_named sub held ≡ Some found → found.at ≡ from → is_location b.ports b.chambers from ≡ true → is_location b.ports b.chambers to ≡ true → is_taken to held ≡ false → AreTied (moved sub to held) (with_name to (Some sub) (with_name from None b)) given
   tied_moved sub from to found s at start end free = record {
     places = record {
-      named_apart = apart_same held (moved sub to held) (names_moved sub to held) h.places.named_apart;
+      named_apart = apart_moved sub to held h.places.named_apart;
       placed_apart = placed_moved sub to held h.places.named_apart h.places.placed_apart free;
       within = within_moved sub to b.ports b.chambers held h.places.within end;
       numbered = numbered_moved sub to 0 given held h.places.numbered;

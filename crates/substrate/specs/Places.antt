@@ -1,8 +1,9 @@
 -- Which substrate has which place (after SEMI E90; this tool's profile, substrates).
-use Rattle.std.specs.Prelude.{◌≡◌, ℕ, ◌+◌, ◌==◌, ◌≤◌, ◌<◌, nat_lt, nat_le, Bool, true, false, not, ◌&&◌, if◌then◌else◌, List, [], ◌∷◌, ◌++◌, length, map, filter, find, Option, Some, None, option_map}
+use Rattle.std.specs.Prelude.{◌≡◌, ℕ, ◌+◌, ◌==◌, ◌≤◌, nat_lt, nat_le, Bool, true, false, not, ◌&&◌, if◌then◌else◌, List, [], ◌∷◌, ◌++◌, length, find, Option, Some, None, option_map}
 use Rattle.std.specs.List.{list_any, list_all}
-use Rattle.std.specs.Str.{bytes_eq}
 use Rattle.gem_ids.specs.declared.numbers.LocId.{LocId}
+use Rattle.records.specs.Names as named
+use Rattle.records.specs.Numbers as numbered
 use Rattle.substrate.specs.Locations.{is_same, is_location, is_work_place}
 use Rattle.substrate.specs.Board.{spot_of, spot_count, location_numbered}
 use Rattle.substrate.specs.declared.registered.Registered.{Registered}
@@ -23,17 +24,24 @@ no_places ports chambers = record { ports = ports; chambers = chambers; held = [
 
 -- ---- substrates
 
+-- the name of a substrate, and its number of registration
+abbrev pub name_of : Registered → List ℕ
+name_of r = r.sub
+
+abbrev pub number_of : Registered → ℕ
+number_of r = r.number
+
 -- the substrate has this name
 abbrev pub has_name : List ℕ → Registered → Bool
-has_name sub r = bytes_eq r.sub sub
+has_name sub r = named.has_name name_of sub r
 
 -- the substrate of a name
 abbrev pub substrate_named : List ℕ → List Registered → Option Registered
-substrate_named sub held = find (has_name sub) held
+substrate_named sub held = named.record_named name_of sub held
 
 -- a substrate of the name has a place
 abbrev pub is_known : List ℕ → List Registered → Bool
-is_known sub held = list_any (has_name sub) held
+is_known sub held = named.is_named name_of sub held
 
 -- the substrate is at this place
 abbrev pub stands_at : LocId → Registered → Bool
@@ -78,20 +86,11 @@ is_there loc (Some r) = stands_at loc r
 abbrev pub has_place : List ℕ → LocId → List Registered → Bool
 has_place sub loc held = is_there loc (substrate_named sub held)
 
--- the place in the list of the first substrate of a name, of which the given one has this place
-abbrev pub index_from : ℕ → List ℕ → List Registered → Option ℕ
-index_from n sub [] = None
-index_from n sub (r ∷ rs) = if has_name sub r then Some n else index_from (n + 1) sub rs
-
--- the place in the list of the substrate of a name, counted from 0
-abbrev pub index_of : List ℕ → List Registered → Option ℕ
-index_of sub held = index_from 0 sub held
-
 -- ---- what happens to them
 
 -- a change of the substrate of a name
 abbrev pub change_named : List ℕ → (Registered → Registered) → List Registered → List Registered
-change_named sub change held = map (λ r. if has_name sub r then change r else r) held
+change_named sub change held = named.change_named name_of sub change held
 
 -- a substrate goes to a place
 abbrev pub moves_to : LocId → Registered → Registered
@@ -103,7 +102,7 @@ moved sub to held = change_named sub (moves_to to) held
 
 -- the substrates without that of a name
 abbrev pub without : List ℕ → List Registered → List Registered
-without sub held = filter (λ r. not (has_name sub r)) held
+without sub held = named.without_named name_of sub held
 
 -- a substrate is registered: it gets the next number, and goes behind the others
 abbrev pub registered : List ℕ → LocId → PlaceMap → PlaceMap
@@ -139,8 +138,7 @@ removed sub p = record p { held = without sub p.held }
 
 -- each name is that of one substrate
 abbrev pub are_named_apart : List Registered → Bool
-are_named_apart [] = true
-are_named_apart (r ∷ rs) = not (is_known r.sub rs) && are_named_apart rs
+are_named_apart held = named.are_named_apart name_of held
 
 -- each place is that of one substrate
 abbrev pub are_placed_apart : List Registered → Bool
@@ -149,8 +147,7 @@ are_placed_apart (r ∷ rs) = not (is_taken r.at rs) && are_placed_apart rs
 
 -- their numbers rise, from behind one number to another
 abbrev pub AreNumbered : ℕ → ℕ → List Registered → Type 0
-AreNumbered last given [] = last ≤ given
-AreNumbered last given (r ∷ rs) = (last < r.number) × AreNumbered r.number given rs
+AreNumbered last given held = numbered.AreRising number_of last given held
 
 -- Each name and each place is that of one substrate, each place is one of the tool, the numbers rise, the last that was given
 -- is the greatest of them or is past them, and there are at most 400 substrates.

@@ -8,7 +8,6 @@
 
 mod board;
 mod fault;
-mod key;
 mod laws;
 mod location;
 mod names;

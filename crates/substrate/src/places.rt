@@ -10,9 +10,10 @@ ghost use Rattle.substrate.specs.declared.fault.PlaceFault.TheVariants.{NoMemory
 use crate::board::Board;
 use crate::fault::PlaceFault;
 use crate::location::is_same;
-use crate::names::Names;
+use crate::names::{forget, move_to};
 use crate::registered::Registered;
 use gem_ids::{LocId, SubstrateId};
+use records::Names;
 use std::alloc::{AllocError, Global};
 use std::marker::Model;
 
@@ -26,7 +27,7 @@ pub const MOST_SUBSTRATES: usize = 400;
 /// place without going through the others.
 #[derive(Drop)]
 pub struct Places {
-    names: Names,
+    names: Names<Registered>,
     board: Board,
     given: u64,
 }
@@ -78,7 +79,7 @@ impl Places {
         ensures value { result ≡ slice_get self.now.held index }
         ensures places { ArePlaces self.now }
     {
-        self.names.get(index)
+        self.names.get(index).copied()
     }
 
     /// The substrate of a name, with its number and its place. `None` exactly where none of the name has a place.
@@ -86,7 +87,7 @@ impl Places {
         ensures value { result ≡ substrate_named sub self.now.held }
         ensures places { ArePlaces self.now }
     {
-        self.names.named(sub).copied()
+        self.names.named(sub.text()).copied()
     }
 
     /// The substrate at a location. `None` exactly where none is there.
@@ -205,7 +206,7 @@ impl Places {
     fn is_known(&self, sub: SubstrateId) -> bool
         ensures { result ≡ is_known sub self.now.held }
     {
-        self.names.named(sub).is_some()
+        self.names.named(sub.text()).is_some()
     }
 
     // Registers a substrate for which nothing but memory can be wanting.
@@ -245,7 +246,7 @@ impl Places {
     {
         let can = self.can_shift(sub, from, to);
         if can {
-            self.names.move_to(sub, to);
+            move_to(&mut self.names, sub, to);
             self.board.put(from, None);
             self.board.put(to, Some(sub));
         }
@@ -270,7 +271,7 @@ impl Places {
     fn is_at(&self, sub: SubstrateId, loc: LocId) -> bool
         ensures { result ≡ has_place sub loc self.now.held }
     {
-        match self.names.named(sub) {
+        match self.names.named(sub.text()) {
             Some(substrate) => is_same(substrate.at, loc),
             None => false,
         }
@@ -282,7 +283,7 @@ impl Places {
         ensures removes { result ≡ is_known sub self.old.held }
         ensures after { self.new ≡ removed sub self.old }
     {
-        match self.names.forget(sub) {
+        match forget(&mut self.names, sub) {
             Some(place) => {
                 self.board.put(place, None);
                 true

@@ -8,7 +8,7 @@ use Rattle.control_job.specs.Jobs as control
 use Rattle.control_job.specs.Jobs.{JobStore, AreJobs, has_name, is_open, is_waiting, owns, job_numbered, waiting_named, starts_row, fires_row, fires_at, fired_at, left_behind, leaves, left_by, put_last, order_headed, headed, are_apart, new_job, numbers_of, is_any_active}
 use Rattle.control_job.specs.Creating.{create_fault, replaced_by, kept_without, created}
 use Rattle.control_job.specs.declared.job.ControlJob.{ControlJob}
-use Rattle.control_job.proofs.Orders.{or_false, and_true, not_true}
+use Rattle.records.proofs.Truth.{or_false, and_true, not_true}
 use Rattle.control_job.proofs.Called.{found_in}
 use Rattle.control_job.proofs.Keeping.{jobs_changed, fires_name, fires_number, leaves_name, leaves_number, in_order, jobs_first, jobs_last, jobs_forgotten, jobs_added}
 use Rattle.control_job.proofs.Room.{replaced_in, starts_in, room_after, HasRoom}

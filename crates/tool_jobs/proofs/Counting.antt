@@ -4,7 +4,7 @@ use Rattle.std.specs.List.{list_all}
 use Rattle.std.proofs.lemmas.Bool.Decides.{nat_tests}
 use Rattle.control_job.specs.Jobs.{AreRising, numbers_of}
 use Rattle.control_job.specs.declared.job.ControlJob.{ControlJob}
-use Rattle.control_job.proofs.Orders.{and_true}
+use Rattle.records.proofs.Truth.{and_true}
 
 -- no more pass a test behind a change, where each that passes it then passed one before
 pub no_more : (was is : ControlJob → Bool) (change : ControlJob → ControlJob) (cs : List ControlJob) → ((c : ControlJob) → is (change c) ≡ true → was c ≡ true) → length (filter is (map change cs)) ≤ length (filter was cs)

@@ -2,8 +2,8 @@
 use Rattle.std.proofs.Common.{◌≡◌, ℕ, Bool, true, false, true≢false, cond, not, ◌||◌, List, [], ◌∷◌, bytes_eq, refl, sym, subst}
 use Rattle.std.specs.List.{list_any, list_all}
 use Rattle.control_job.specs.Names.{is_in, others}
-use Rattle.control_job.proofs.Orders.{or_false, and_true}
-use Rattle.process_job.proofs.Names.{same_name}
+use Rattle.records.proofs.Truth.{or_false, and_true}
+use Rattle.records.proofs.Texts.{same_name}
 
 -- what is true of each name, and of each but one that goes then, is true of those that stay
 pub names_left : (gone : List ℕ) (was is : List ℕ → Bool) (ns : List (List ℕ)) → ((n : List ℕ) → bytes_eq n gone ≡ false → was n ≡ true → is n ≡ true) → list_all was ns ≡ true → list_all is (others gone ns) ≡ true

@@ -1,21 +1,21 @@
 -- The process jobs behind a row, or one that is created or forgotten.
-use Rattle.std.proofs.Common.{◌≡◌, ℕ, ◌+◌, Bool, true, false, true≢false, cond, ◌||◌, List, [], ◌∷◌, ◌++◌, Option, Some, None, bytes_eq, refl, sym, ap, ◌∙◌, subst}
-use Rattle.process_job.specs.Jobs.{JobBook, AreJobs, has_name, has_number, job_numbered, is_known, place_numbered, change_numbered, without_numbered, fires_row, fired, forgotten, created, with_created}
+use Rattle.std.proofs.Common.{◌≡◌, ℕ, ◌+◌, Bool, true, false, true≢false, cond, ◌||◌, List, [], ◌∷◌, ◌++◌, Option, Some, None, position, bytes_eq, refl, sym, ap, ◌∙◌, subst}
+use Rattle.process_job.specs.Jobs.{JobBook, AreJobs, has_name, has_number, job_numbered, is_known, change_numbered, without_numbered, fires_row, fired, forgotten, created, with_created}
 use Rattle.process_job.specs.Creating.{create_fault}
 use Rattle.process_job.specs.declared.job.ProcessJob.{ProcessJob}
 use Rattle.process_job.specs.declared.job.JobSpec.{JobSpec}
 use Rattle.process_job.proofs.Apart.{jobs_more, jobs_update, jobs_fewer}
 use Rattle.process_job.proofs.Faults.{is_free}
-use Rattle.process_job.proofs.Names.{turned}
-use Rattle.process_job.proofs.Places.{place_is, missing_is}
+use Rattle.records.proofs.Texts.{turned}
+use Rattle.records.proofs.Places.{place_is, missing_is}
 
 -- ---- a row
 
 pub jobs_fired : (number row : ℕ) (b : JobBook) → AreJobs b → AreJobs (fired number row b)
-jobs_fired number row b h = by_place (place_numbered number b.kept) refl where
-  by_place : (o : Option ℕ) → place_numbered number b.kept ≡ o → AreJobs (fired number row b)
-  by_place (Some place) e = subst (λ (js : List ProcessJob). AreJobs (record b { kept = js })) ((place_is number b.kept place e).changed (fires_row row)) (jobs_update row place b.kept b.recipes b.given h)
-  by_place None e = subst (λ (js : List ProcessJob). AreJobs (record b { kept = js })) (sym ((missing_is number b.kept e).changed (fires_row row))) h
+jobs_fired number row b h = by_place (position (has_number number) b.kept) refl where
+  by_place : (o : Option ℕ) → position (has_number number) b.kept ≡ o → AreJobs (fired number row b)
+  by_place (Some place) e = subst (λ (js : List ProcessJob). AreJobs (record b { kept = js })) ((place_is (has_number number) b.kept place e).changed (fires_row row)) (jobs_update row place b.kept b.recipes b.given h)
+  by_place None e = subst (λ (js : List ProcessJob). AreJobs (record b { kept = js })) (sym ((missing_is (has_number number) b.kept e).changed (fires_row row))) h
 
 pub known_fired : (name : List ℕ) (number row : ℕ) (js : List ProcessJob) → is_known name (change_numbered number (fires_row row) js) ≡ is_known name js
 known_fired name number row [] = refl
@@ -50,10 +50,10 @@ gone_fired number row (k ∷ ks) = by_test (has_number number k) refl (gone_fire
 -- ---- a job that is forgotten
 
 pub jobs_forgotten : (number : ℕ) (b : JobBook) → AreJobs b → AreJobs (forgotten number b)
-jobs_forgotten number b h = by_place (place_numbered number b.kept) refl where
-  by_place : (o : Option ℕ) → place_numbered number b.kept ≡ o → AreJobs (forgotten number b)
-  by_place (Some place) e = subst (λ (js : List ProcessJob). AreJobs (record b { kept = js })) ((place_is number b.kept place e).removed) (jobs_fewer b.kept place b.recipes b.given h)
-  by_place None e = subst (λ (js : List ProcessJob). AreJobs (record b { kept = js })) (sym ((missing_is number b.kept e).removed)) h
+jobs_forgotten number b h = by_place (position (has_number number) b.kept) refl where
+  by_place : (o : Option ℕ) → position (has_number number) b.kept ≡ o → AreJobs (forgotten number b)
+  by_place (Some place) e = subst (λ (js : List ProcessJob). AreJobs (record b { kept = js })) ((place_is (has_number number) b.kept place e).removed) (jobs_fewer b.kept place b.recipes b.given h)
+  by_place None e = subst (λ (js : List ProcessJob). AreJobs (record b { kept = js })) (sym ((missing_is (has_number number) b.kept e).removed)) h
 
 -- the others are known still
 pub known_left : (name : List ℕ) (number : ℕ) (js : List ProcessJob) (j : ProcessJob) → job_numbered number js ≡ Some j → bytes_eq name j.id ≡ false → is_known name js ≡ true → is_known name (without_numbered number js) ≡ true

@@ -4,7 +4,7 @@ use Rattle.std.specs.List.{list_all, AllByRecursion}
 use Rattle.std.proofs.lemmas.Bool.Decides.{nat_tests}
 use Rattle.gem_tables.specs.Table.{Row, is_itself, is_among, after, first_itself}
 use Rattle.gem_tables.proofs.Rows.{ready_row}
-use Rattle.control_job.proofs.Orders.{and_true}
+use Rattle.records.proofs.Truth.{and_true}
 use Rattle.control_job.specs.Record.{control_fired, is_active, is_completed}
 use Rattle.control_job.specs.Tables.{control_table, states_number}
 use Rattle.control_job.specs.declared.record.ControlState.{ControlState}

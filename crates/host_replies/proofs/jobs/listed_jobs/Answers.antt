@@ -1,6 +1,6 @@
 use Rattle.std.proofs.Common.{map, sym, ap, ◌∙◌}
 use Rattle.std.specs.Option.{option_copied}
-use Rattle.process_job.proofs.Scans.{take_past}
+use Rattle.records.proofs.Scans.{take_past}
 use Rattle.gem_model.specs.JobMessages.{listed_job}
 use Rattle.host_replies.proofs.Few.{listed_step}
 use Rattle.host_replies.proofs.jobs.listed_jobs.Goals.{in-Some+in_ok-push, in_default}

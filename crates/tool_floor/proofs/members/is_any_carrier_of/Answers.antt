@@ -1,5 +1,5 @@
 use Rattle.std.proofs.Common.{◌∙◌, sym, option_copied, ap}
-use Rattle.carrier.proofs.Scans.{any_here, any_next, any_past}
+use Rattle.records.proofs.Scans.{any_here, any_next, any_past}
 use Rattle.floor_model.specs.Jobs.{is_carrier_of}
 use Rattle.tool_floor.proofs.members.is_any_carrier_of.Goals.{in-Some+else-is_carrier_of, in_default}
 use Rattle.tool_floor.proofs.members.is_any_carrier_of.Goals as goal

@@ -1,18 +1,11 @@
-use Rattle.std.proofs.Common.{refl}
-use Rattle.indexmap.specs.IndexMap.{spare}
-use Rattle.carrier.specs.Carriers.{marks}
-use Rattle.carrier.proofs.Changes.{written_kept, named_within, named_changed, named_stays}
+use Rattle.std.proofs.Common.{sym, subst}
+use Rattle.records.specs.Stock.{Stock}
+use Rattle.carrier.specs.Kept.{AreKept}
+use Rattle.carrier.specs.declared.carrier.Carrier.{Carrier}
+use Rattle.carrier.specs.declared.change.CarrierChange.TheVariants as change
+use Rattle.carrier.proofs.Kept.{kept_named}
 use Rattle.carrier.proofs.carriers.Carriers.mark_stopped.Goals as goal
 
-pub index_mut-requires : goal.index_mut-requires
-index_mut-requires c = named_within c.self.inside.by_name.entries (spare c.self.inside.by_name) c.args.self.now c.self.view_is c.args.name c.args.name refl c.place_of.ensures.value c.in-Some.place c.in-Some.is
-
 pub invariant_of-self : goal.invariant_of-self
-invariant_of-self c = written_kept c.self.inside.by_name.entries (spare c.self.inside.by_name) c.args.self.now c.self.view_is c.in-Some.place c.index_mut.result.now _ c.self.invariant c.index_mut.ensures.value refl
-
-pub returns-in-Some : goal.returns-in-Some
-returns-in-Some c =
-    named_changed c.self.inside.by_name.entries (spare c.self.inside.by_name) c.args.self.now c.self.view_is c.args.name c.args.name refl c.place_of.ensures.value c.in-Some.place c.index_mut.result.now marks c.in-Some.is c.place_of.ensures.carriers.apart c.index_mut.ensures.value
-
-pub returns-in_default : goal.returns-in_default
-returns-in_default c = named_stays c.self.inside.by_name.entries (spare c.self.inside.by_name) c.args.self.now c.self.view_is c.args.name c.args.name refl c.place_of.ensures.value marks c.in_default.is
+invariant_of-self c =
+    subst (λ (b : Stock Carrier). AreKept b) (sym c.change_named.ensures.after) (kept_named c.as_bytes.result.now change.Stopped c.self.inside.book c.self.invariant)

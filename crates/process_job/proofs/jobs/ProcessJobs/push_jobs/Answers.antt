@@ -4,7 +4,7 @@ use Rattle.item_model.specs.Data.{Data, added}
 use Rattle.process_job.specs.Listing.{job_items, joined}
 use Rattle.process_job.specs.declared.job.ProcessJob.{ProcessJob}
 use Rattle.process_job.proofs.Items.{joined_none, next_item}
-use Rattle.process_job.proofs.Scans.{take_past}
+use Rattle.records.proofs.Scans.{take_past}
 use Rattle.process_job.proofs.jobs.ProcessJobs.push_jobs.Goals.{in-Some+in_ok-job_item+in_ok-push, in_default}
 use Rattle.process_job.proofs.jobs.ProcessJobs.push_jobs.Goals as goal
 

@@ -1,11 +1,12 @@
 use Rattle.std.proofs.Common.{◌≡◌, true, None, sym, subst, ap, ◌∙◌, is_some, List}
 use Rattle.gem_ids.specs.declared.numbers.LocId.{LocId}
 use Rattle.substrate.specs.Locations.{is_location}
-use Rattle.substrate.specs.Places.{PlaceMap, substrate_named, is_known, without}
+use Rattle.substrate.specs.Places.{PlaceMap, name_of, has_name, substrate_named, is_known, without}
 use Rattle.substrate.specs.Board.{Spots, with_name}
 use Rattle.substrate.specs.Tied.{AreTied}
 use Rattle.substrate.specs.declared.registered.Registered.{Registered}
-use Rattle.substrate.proofs.Apart.{unknown, known_found, without_none}
+use Rattle.records.proofs.Places.{unknown, known_found}
+use Rattle.records.proofs.Apart.{without_none}
 use Rattle.substrate.proofs.Found.{found_placed, none_placed, some_placed}
 use Rattle.substrate.proofs.Standing.{found_all}
 use Rattle.substrate.proofs.Tying.{tied_fewer}
@@ -29,13 +30,13 @@ invariant_of-self c =
 
 pub invariant_of-self-in-None : goal.invariant_of-self-in-None
 invariant_of-self-in-None c =
-    let gone = unknown c.args.sub c.self.inside.names (none_placed (substrate_named c.args.sub c.self.inside.names) (sym c.forget.ensures.found ∙ c.in-None.is)) in
-    subst (λ (rs : List Registered). AreTied rs c.self.inside.board c.self.inside.given) (sym (c.forget.ensures.after ∙ without_none c.args.sub c.self.inside.names gone)) c.self.invariant
+    let gone = unknown (has_name c.args.sub) c.self.inside.names (none_placed (substrate_named c.args.sub c.self.inside.names) (sym c.forget.ensures.found ∙ c.in-None.is)) in
+    subst (λ (rs : List Registered). AreTied rs c.self.inside.board c.self.inside.given) (sym (c.forget.ensures.after ∙ without_none name_of c.args.sub c.self.inside.names gone)) c.self.invariant
 
 pub returns-in-Some-clause-removes : goal.returns-in-Some-clause-removes
 returns-in-Some-clause-removes c =
-    ap is_some (sym c.in-Some.is ∙ c.forget.ensures.found) ∙ some_placed (substrate_named c.args.sub c.self.inside.names) ∙ known_found c.args.sub c.self.inside.names ∙ ap (λ (p : PlaceMap). is_known c.args.sub p.held) c.self.view_is
+    ap is_some (sym c.in-Some.is ∙ c.forget.ensures.found) ∙ some_placed (substrate_named c.args.sub c.self.inside.names) ∙ known_found (has_name c.args.sub) c.self.inside.names ∙ ap (λ (p : PlaceMap). is_known c.args.sub p.held) c.self.view_is
 
 pub returns-in-None-clause-removes : goal.returns-in-None-clause-removes
 returns-in-None-clause-removes c =
-    ap is_some (sym c.in-None.is ∙ c.forget.ensures.found) ∙ some_placed (substrate_named c.args.sub c.self.inside.names) ∙ known_found c.args.sub c.self.inside.names ∙ ap (λ (p : PlaceMap). is_known c.args.sub p.held) c.self.view_is
+    ap is_some (sym c.in-None.is ∙ c.forget.ensures.found) ∙ some_placed (substrate_named c.args.sub c.self.inside.names) ∙ known_found (has_name c.args.sub) c.self.inside.names ∙ ap (λ (p : PlaceMap). is_known c.args.sub p.held) c.self.view_is

@@ -1,5 +1,5 @@
 use Rattle.std.proofs.Common.{◌&&◌, ◌∙◌, sym, ap}
-use Rattle.carrier.proofs.Scans.{any_here, any_next, any_past}
+use Rattle.records.proofs.Scans.{any_here, any_next, any_past}
 use Rattle.floor_model.specs.declared.tracked.Substrate.{Substrate}
 use Rattle.floor_model.specs.Substrates.{is_of, is_outside}
 use Rattle.floor_model.specs.Wants.{has_outside}

@@ -1,5 +1,5 @@
 use Rattle.std.proofs.Common.{◌∙◌, sym}
-use Rattle.carrier.proofs.Scans.{any_here, any_next, any_past}
+use Rattle.records.proofs.Scans.{any_here, any_next, any_past}
 use Rattle.floor_model.proofs.Scans.{shown}
 use Rattle.floor_model.specs.Jobs.{is_ending}
 use Rattle.tool_floor.proofs.floor.ToolFloor.is_any_ending.Goals.{in-Some+else-is_ending, in_default}

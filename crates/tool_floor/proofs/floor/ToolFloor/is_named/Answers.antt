@@ -1,5 +1,5 @@
 use Rattle.std.proofs.Common.{◌∙◌, sym}
-use Rattle.carrier.proofs.Scans.{any_here, any_next, any_past}
+use Rattle.records.proofs.Scans.{any_here, any_next, any_past}
 use Rattle.floor_model.specs.Naming.{module_names}
 use Rattle.tool_floor.proofs.floor.ToolFloor.is_named.Goals.{in-Some+else-module_names, in_default}
 use Rattle.tool_floor.proofs.floor.ToolFloor.is_named.Goals as goal

@@ -1,5 +1,5 @@
 use Rattle.std.proofs.Common.{◌∙◌, sym}
-use Rattle.carrier.proofs.Scans.{any_here, any_next, any_past}
+use Rattle.records.proofs.Scans.{any_here, any_next, any_past}
 use Rattle.floor_model.specs.Naming.{processes}
 use Rattle.tool_floor.proofs.floor.ToolFloor.is_processed.Goals.{in-Some+else-processes, in_default}
 use Rattle.tool_floor.proofs.floor.ToolFloor.is_processed.Goals as goal

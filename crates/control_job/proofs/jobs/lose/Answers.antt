@@ -1,7 +1,0 @@
-use Rattle.std.proofs.Common.{rules}
-use Rattle.std.proofs.lemmas.List.Edits.{map_over_more}
-use Rattle.control_job.specs.Jobs.{leaves}
-use Rattle.control_job.proofs.jobs.lose.Goals as goal
-
-pub loop-job-preserved : goal.loop-job-preserved
-loop-job-preserved c = search (rules, map_over_more (leaves c.args.name))

@@ -5,7 +5,7 @@ use Rattle.std.proofs.lemmas.Option.{slice_get-map}
 use Rattle.process_job.specs.Jobs as process
 use Rattle.process_job.specs.Jobs.{JobBook}
 use Rattle.process_job.specs.declared.job.ProcessJob.{ProcessJob}
-use Rattle.process_job.proofs.Apart.{numbered_at}
+use Rattle.records.proofs.Rising.{numbered_at}
 use Rattle.control_job.specs.Jobs as control
 use Rattle.control_job.specs.Jobs.{JobStore, AreRising, numbers_of}
 use Rattle.control_job.specs.declared.job.ControlJob.{ControlJob}
@@ -18,7 +18,7 @@ pub no_process : (js : List ProcessJob) (place : ℕ) → slice_get js place ≡
 no_process js place e = slice_get-map (λ (k : ProcessJob). k.number) js place ∙ ap (option_map (λ (k : ProcessJob). k.number)) e
 
 pub process_found : (b : JobBook) (place : ℕ) (j : ProcessJob) → process.AreJobs b → slice_get b.kept place ≡ Some j → process.job_numbered j.number b.kept ≡ Some j
-process_found b place j h e = numbered_at 0 b.given b.kept place j h.numbered e
+process_found b place j h e = numbered_at process.number_of 0 b.given b.kept place j h.numbered e
 
 pub control_number : (js : List ControlJob) (place : ℕ) (j : ControlJob) → slice_get js place ≡ Some j → slice_get (numbers_of js) place ≡ Some j.number
 control_number js place j e = slice_get-map (λ (k : ControlJob). k.number) js place ∙ ap (option_map (λ (k : ControlJob). k.number)) e

@@ -8,9 +8,9 @@ use Rattle.std.proofs.Math.Seq.{take-suc}
 use Rattle.process_job.specs.Jobs as process
 use Rattle.process_job.specs.Commands as command
 use Rattle.process_job.specs.declared.job.ProcessJob.{ProcessJob}
-use Rattle.process_job.proofs.Scans.{take_here}
+use Rattle.records.proofs.Scans.{take_here}
 use Rattle.gem_tables.specs.declared.firing.Firing.{Firing}
-use Rattle.process_job.proofs.Names.{same_name, turned}
+use Rattle.records.proofs.Texts.{same_name, turned}
 use Rattle.tool_tasks.specs.declared.words.JobWord.TheVariants.{Cancel}
 use Rattle.control_job.specs.Names.{is_in}
 use Rattle.tool_jobs.specs.Jobs.{Jobs}

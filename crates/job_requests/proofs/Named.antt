@@ -2,9 +2,9 @@
 use Rattle.std.proofs.Common.{◌≡◌, ℕ, Bool, true, false, cond, ◌&&◌, find, List, [], ◌∷◌, Some, None, is_some, option_map, refl, sym, ap, ◌∙◌}
 use Rattle.process_job.specs.Jobs.{has_name, job_named, is_known}
 use Rattle.process_job.specs.declared.job.ProcessJob.{ProcessJob}
-use Rattle.process_job.proofs.Names.{same_name}
-use Rattle.process_job.proofs.Apart.{known_found}
-use Rattle.process_job.proofs.Truth.{is_there}
+use Rattle.records.proofs.Texts.{same_name}
+use Rattle.records.proofs.Places.{known_found}
+use Rattle.records.proofs.Truth.{is_there}
 use Rattle.control_job.specs.Jobs as control
 use Rattle.control_job.specs.declared.job.ControlJob.{ControlJob}
 
@@ -24,7 +24,7 @@ control_same name id (j ∷ js) e = by_test (control.has_name name j) refl e (co
 
 -- where none is found the name isn't known
 pub none_known : (name : List ℕ) (js : List ProcessJob) → None ≡ option_map (λ j. j.id) (job_named name js) → is_known name js ≡ false
-none_known name js e = sym (known_found name js) ∙ sym (is_there (λ j. j.id) (job_named name js)) ∙ ap is_some (sym e)
+none_known name js e = sym (known_found (has_name name) js) ∙ sym (is_there (λ j. j.id) (job_named name js)) ∙ ap is_some (sym e)
 
 -- and no control job of it is QUEUED
 pub none_waiting : (name : List ℕ) (js : List ControlJob) → None ≡ option_map (λ j. j.name) (control.job_named name js) → control.waiting_named name js ≡ None

@@ -9,7 +9,7 @@ use Rattle.std.specs.declared.cmp.Ordering.TheVariants.{Less, Equal, Greater}
 use Rattle.std.proofs.lemmas.Cmp.{nat_list_cmp_total}
 use Rattle.std.proofs.lemmas.List.Sorted.{ranks_by, sum_by-IsPermutation}
 use Rattle.std.proofs.lemmas.List.Sums.{sum_by-cons}
-use Rattle.process_job.proofs.Names.{same_name, own_name}
+use Rattle.records.proofs.Texts.{same_name, own_name}
 use Rattle.control_job.specs.Names.{is_in, is_each_once}
 use Rattle.job_requests.specs.Neighbours.{is_first, are_neighbours_apart}
 

@@ -1,7 +1,7 @@
 -- What a scan over the places of a list finds.
 use Rattle.std.proofs.Common.{◌≡◌, ℕ, ◌+◌, ◌≤◌, Bool, true, false, List, [], ◌∷◌, length, find, drop, Some, None, is_some, cond, ◌||◌, slice_get, refl, ap, ◌∙◌}
 use Rattle.std.specs.List.{list_any}
-use Rattle.process_job.proofs.Scans.{drop_here, drop_none, drop_later, drop_end}
+use Rattle.records.proofs.Scans.{drop_here, drop_none, drop_later, drop_end}
 
 module _ {X : Type 0} (test : X → Bool) where
   -- what stands here is the first

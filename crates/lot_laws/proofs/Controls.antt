@@ -15,7 +15,7 @@ use Rattle.process_job.specs.Jobs.{job_numbered, has_name, is_known}
 use Rattle.process_job.specs.declared.record.JobState.{JobState}
 use Rattle.process_job.specs.declared.record.JobState.TheVariants as state
 use Rattle.process_job.specs.declared.job.ProcessJob.{ProcessJob}
-use Rattle.process_job.proofs.Names.{same_name, own_name}
+use Rattle.records.proofs.Texts.{same_name, own_name}
 use Rattle.control_job.specs.Tables.{state_number, states_number}
 use Rattle.control_job.specs.Names.{is_in}
 use Rattle.control_job.specs.Jobs.{job_numbered as control_numbered, owns, is_open, fired_at}

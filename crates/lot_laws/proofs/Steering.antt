@@ -12,7 +12,7 @@ use Rattle.process_job.specs.Creating.{create_fault as process_fault}
 use Rattle.process_job.specs.declared.job.ProcessJob.{ProcessJob}
 use Rattle.process_job.specs.declared.job.JobSpec.{JobSpec}
 use Rattle.process_job.proofs.Faults.{is_free}
-use Rattle.process_job.proofs.Names.{same_name}
+use Rattle.records.proofs.Texts.{same_name}
 use Rattle.control_job.specs.Tables.{ControlWant, control_table, states_number}
 use Rattle.control_job.specs.Record as states
 use Rattle.control_job.specs.Record.{is_active}

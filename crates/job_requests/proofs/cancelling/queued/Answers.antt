@@ -1,7 +1,7 @@
 use Rattle.std.proofs.Common.{List, map, filter, sym, ap, ◌∙◌}
 use Rattle.std.specs.Option.{option_copied}
 use Rattle.process_job.specs.declared.job.ProcessJob.{ProcessJob}
-use Rattle.process_job.proofs.Scans.{take_past}
+use Rattle.records.proofs.Scans.{take_past}
 use Rattle.request_model.specs.Requests.{is_queued}
 use Rattle.job_requests.proofs.Lists.{queued_step}
 use Rattle.job_requests.proofs.cancelling.queued.Goals.{in-Some+in_ok-push_queued, in_default}

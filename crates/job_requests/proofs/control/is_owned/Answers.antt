@@ -1,6 +1,6 @@
 use Rattle.std.proofs.Common.{ℕ, List, true≢false, is_some, option_map, sym, ap, ◌∙◌}
 use Rattle.process_job.specs.Jobs.{JobBook, job_named}
-use Rattle.process_job.proofs.Truth.{is_there}
+use Rattle.records.proofs.Truth.{is_there}
 use Rattle.tool_jobs.specs.Jobs.{owner}
 use Rattle.job_requests.proofs.Named.{process_same, none_known}
 use Rattle.job_requests.proofs.control.is_owned.Goals as goal

@@ -14,7 +14,7 @@ use Rattle.line_feeding.specs.declared.ended.Cause.{Cause}
 use Rattle.line_feeding.specs.declared.ended.Cause.TheVariants as cause
 use Rattle.line_feeding.specs.declared.ended.SessionNote.{SessionNote}
 use Rattle.line_feeding.specs.Notes.{AreNotes}
-use Rattle.line_feeding.proofs.Going.{IsFront-same}
+use Rattle.driving.proofs.Fronts.{IsFront-same}
 use Rattle.batch_model.specs.declared.primary.Primary.{Primary}
 use Rattle.batch_model.specs.Batch.{Standing, Made, answers, begun, carriers_made, then_made, first_standing, batch_made, batch_entries}
 use Rattle.batch_model.specs.Summary.{summary}

@@ -10,7 +10,7 @@ use Rattle.gem_model.specs.Sizes.{is_full}
 use Rattle.gem_model.specs.Feed.{entry_of}
 use Rattle.gem_model.proofs.Runs.{after-step}
 use Rattle.history_parts.specs.CoreView.{CoreView}
-use Rattle.line_feeding.proofs.Going.{IsFront-append, IsFront-wider}
+use Rattle.driving.proofs.Fronts.{IsFront-append, IsFront-wider}
 use Rattle.batch_model.specs.Batch.{Standing, Made, nothing_made, then_made}
 use Rattle.batching.specs.declared.batch.Stop.{Stop}
 use Rattle.batching.specs.declared.batch.Stop.TheVariants as stop

@@ -16,7 +16,7 @@ use Rattle.gem_model.proofs.Settling.{settled_none}
 use Rattle.gem_model.proofs.Validity.{earlier_quiet}
 use Rattle.gem_model.proofs.Taking.{TakesOne, up_is, take_one, take_none, take_down}
 use Rattle.history_parts.specs.CoreView.{CoreView}
-use Rattle.line_feeding.proofs.Going.{IsFront-same}
+use Rattle.driving.proofs.Fronts.{IsFront-same}
 use Rattle.batch_model.specs.declared.primary.Primary.{Primary}
 use Rattle.batch_model.specs.Host.{primary_in}
 use Rattle.batch_model.specs.Batch.{Standing, Made, nothing_made, then_made, primaries_in, frames_waiting}

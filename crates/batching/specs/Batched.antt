@@ -11,7 +11,7 @@ use Rattle.history_laws.specs.Recorded.{Recorded}
 use Rattle.line_feeding.specs.declared.ended.Cause.{Cause}
 use Rattle.line_feeding.specs.declared.ended.Cause.TheVariants as cause
 use Rattle.line_feeding.specs.declared.ended.SessionNote.{SessionNote}
-use Rattle.line_feeding.specs.Limits.{IsFullAt}
+use Rattle.driving.specs.Limits.{IsFullAt}
 use Rattle.line_feeding.specs.Notes.{AreNotes}
 use Rattle.batch_model.specs.Batch.{batch_entries}
 use Rattle.batch_model.specs.Summary.{summary}

@@ -2,7 +2,7 @@
 use Rattle.std.specs.Prelude.{◌≡◌, ◌++◌, ℕ, List, Result, Ok, Err}
 use Rattle.line_grammar.specs.Texts.{IsFront}
 use Rattle.history_parts.specs.CoreView.{CoreView}
-use Rattle.line_feeding.specs.Limits.{IsFullAt}
+use Rattle.driving.specs.Limits.{IsFullAt}
 use Rattle.batch_model.specs.declared.primary.Primary.{Primary}
 use Rattle.batch_model.specs.Batch.{Standing, Made}
 use Rattle.batching.specs.declared.batch.Batch.{Batch}

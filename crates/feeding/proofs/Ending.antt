@@ -104,20 +104,10 @@ pub Fed-refused : (c : Config) (why : Cause) (config config' input : SourceView)
 Fed-refused c (cause.Config rule key) config config' input h = ([], Taken-nothing input.left, (refl, refl), refl)
 Fed-refused c cause.ReadFault config config' input h = ([], Taken-nothing input.left, refl, no_notes c _)
 Fed-refused c cause.NoMemory config config' input h = ([], Taken-nothing input.left, nothing_given c _, inl refl)
-Fed-refused c cause.Done config config' input h = absurd h
-Fed-refused c (cause.Words place) config config' input h = absurd h
-Fed-refused c cause.WriteFault config config' input h = absurd h
-Fed-refused c (cause.Full entries bytes number) config config' input h = absurd h
-Fed-refused c (cause.Line number place) config config' input h = absurd h
-Fed-refused c cause.Door config config' input h = absurd h
+Fed-refused c _ config config' input h = absurd h
 
 pub Shown-refused : (c : Config) (why : Cause) (config config' : SourceView) (held : Option (List ℕ)) → Refuses why config config' → Shown c why held held []
 Shown-refused c (cause.Config rule key) config config' held h = Written-nothing held
 Shown-refused c cause.ReadFault config config' held h = Written-nothing held
 Shown-refused c cause.NoMemory config config' held h = WrittenFront-all held held [] (Written-nothing held)
-Shown-refused c cause.Done config config' held h = absurd h
-Shown-refused c (cause.Words place) config config' held h = absurd h
-Shown-refused c cause.WriteFault config config' held h = absurd h
-Shown-refused c (cause.Full entries bytes number) config config' held h = absurd h
-Shown-refused c (cause.Line number place) config config' held h = absurd h
-Shown-refused c cause.Door config config' held h = absurd h
+Shown-refused c _ config config' held h = absurd h

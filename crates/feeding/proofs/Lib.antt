@@ -6,4 +6,4 @@ pub mod Standing
 pub mod Progress
 pub mod Ending
 pub mod NothingHappened
-pub mod Fetching
+pub mod Driven

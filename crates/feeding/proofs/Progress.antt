@@ -14,7 +14,7 @@ use Rattle.line_feeding.specs.Limits.{input_bytes}
 use Rattle.feeding.specs.InputEnds.{InputEnds, as_result}
 use Rattle.line_feeding.specs.Stopping.{GivenBy}
 use Rattle.feeding.specs.Standing.{Stands, StopsAt, AllTaken, Prints, Takes, Finishes}
-use Rattle.line_feeding.proofs.Going.{IsFront-same}
+use Rattle.driving.proofs.Fronts.{IsFront-same}
 use Rattle.outside.proofs.Writing.{Rose-wider}
 use Rattle.line_feeding.proofs.Reading.{Taken-more, Taken-same, Whole-taken, whole_any}
 use Rattle.feeding.proofs.Stopping.{StopsAt-known}

@@ -18,14 +18,15 @@ use Rattle.history_parts.specs.CoreView.{CoreView}
 use Rattle.line_feeding.specs.declared.halt.Halt.{Halt}
 use Rattle.line_feeding.specs.declared.halt.Halt.TheVariants as halt
 use Rattle.feeding.specs.Views.{FeederView, ReaderView}
-use Rattle.line_feeding.specs.Limits.{IsFullAt}
+use Rattle.driving.specs.Limits.{IsFullAt}
 use Rattle.line_feeding.specs.Going.{SinkView, WentOn, Shows, ShowsAtEnd, Goes}
 use Rattle.line_feeding.specs.Reads.{AreCounts, HaveRead}
 use Rattle.feeding.specs.Reading.{IsReading, TakesLine, TreatsLine}
 use Rattle.line_feeding.specs.Quitting.{quit_behind}
 use Rattle.line_feeding.specs.Stopping.{GivenBy, CountsTo}
 use Rattle.feeding.specs.Standing.{IsOneLine, Stands, StoppedAs, StopsAt, AllTaken, Prints, StandsOrStopped, Takes, AllOrStopped}
-use Rattle.line_feeding.proofs.Going.{IsFront-append, Failed-wider, stay_then}
+use Rattle.driving.proofs.Fronts.{IsFront-append}
+use Rattle.line_feeding.proofs.Going.{Failed-wider, stay_then}
 use Rattle.outside.proofs.Writing.{WrittenFront-all}
 use Rattle.feeding.proofs.AtText.{text_goes, at_end, last_line, text_in}
 use Rattle.feeding.proofs.Stopping.{stopped_before, given_before, stopped_outside, line_at, line_gives, line_counts, stopped_cases}

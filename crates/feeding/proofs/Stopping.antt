@@ -21,7 +21,7 @@ use Rattle.feeding.specs.Reading.{TakesLine, TreatsLine}
 use Rattle.line_feeding.specs.Quitting.{quit_behind}
 use Rattle.line_feeding.specs.Stopping.{GivenBy, StoppedIn, TakenTo, CountsTo, AtLine}
 use Rattle.feeding.specs.Standing.{Stands, StopsAt}
-use Rattle.line_feeding.proofs.Going.{IsFront-same, IsFront-then}
+use Rattle.driving.proofs.Fronts.{IsFront-same, IsFront-then}
 use Rattle.feeding.proofs.AtText.{last_line, whole_told, text_entries, text_bytes_in, empty_line, said_so}
 
 -- the whole lines before the part of a line

@@ -10,7 +10,7 @@ use Rattle.history_parts.specs.CoreView.{CoreView}
 use Rattle.line_feeding.specs.declared.halt.Halt.{Halt}
 use Rattle.line_feeding.specs.declared.halt.Halt.TheVariants as halt
 use Rattle.feeding.specs.Views.{ReaderView}
-use Rattle.line_feeding.specs.Limits.{IsFullAt}
+use Rattle.driving.specs.Limits.{IsFullAt}
 use Rattle.outside.specs.Counts.{Failed}
 use Rattle.line_feeding.specs.Going.{SinkView, Shows, ShowsAtEnd}
 use Rattle.line_feeding.specs.Reads.{HaveRead}

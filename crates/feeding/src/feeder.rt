@@ -10,7 +10,9 @@ ghost use Rattle.gem_model.specs.Feed.{Reading, first_reading};
 ghost use Rattle.line_feeding.specs.Going.{seen};
 ghost use Rattle.line_feeding.specs.Reads.{AddsLine};
 
-use crate::engine::{AT_ONCE, input, take_messages};
+use crate::messages::take_messages;
+use crate::printer::{Printer, input};
+use driving::AT_ONCE;
 use gem_ids::Moment;
 use history_laws::Recorder;
 use history_parts::{Entries, SessionCounts};
@@ -28,10 +30,10 @@ pub struct Feeder<C: Recorder> {
     pub core: C,
     pub cutter: Cutter,
     pub reads: SessionCounts,
-    // Room that is used again from line to line: for the bytes of the host, for what arrives with them, and for the lines that go out.
+    // Room that is used again from line to line: for the bytes of the host, and for what arrives with them.
     bytes: Vec<u8>,
     arrivals: Vec<Arrival>,
-    text: Vec<u8>,
+    printer: Printer,
 }
 
 impl<C: Recorder> Feeder<C> {
@@ -52,7 +54,7 @@ impl<C: Recorder> Feeder<C> {
             reads: SessionCounts::none(alloc),
             bytes: Vec::new(alloc),
             arrivals: Vec::new(alloc),
-            text: Vec::new(alloc),
+            printer: Printer::new(alloc),
         })
     }
 
@@ -80,7 +82,7 @@ impl<C: Recorder> Feeder<C> {
                 &mut self.core,
                 AT_ONCE,
                 Event::LinkUp,
-                &mut self.text,
+                &mut self.printer,
                 out,
             );
         }
@@ -93,7 +95,7 @@ impl<C: Recorder> Feeder<C> {
             &mut self.core,
             AT_ONCE,
             Event::LinkUp,
-            &mut self.text,
+            &mut self.printer,
             out,
         )
     }
@@ -114,7 +116,7 @@ impl<C: Recorder> Feeder<C> {
             &mut self.core,
             AT_ONCE,
             Event::LinkDown { session, cause },
-            &mut self.text,
+            &mut self.printer,
             out,
         )
     }
@@ -129,7 +131,14 @@ impl<C: Recorder> Feeder<C> {
         if self.core.idle(at, &Event::Tick) {
             return Ok(());
         }
-        input(alloc, &mut self.core, at, Event::Tick, &mut self.text, out)
+        input(
+            alloc,
+            &mut self.core,
+            at,
+            Event::Tick,
+            &mut self.printer,
+            out,
+        )
     }
 
     /// Counts bytes that came in the session that is up.
@@ -170,7 +179,7 @@ impl<C: Recorder> Feeder<C> {
             session,
             &mut self.arrivals,
             short,
-            &mut self.text,
+            &mut self.printer,
             out,
         )
     }
@@ -188,7 +197,7 @@ impl<C: Recorder> Feeder<C> {
             &mut self.core,
             AT_ONCE,
             Event::Oper(command),
-            &mut self.text,
+            &mut self.printer,
             out,
         );
         if quits { quit_behind(taken) } else { taken }
@@ -206,7 +215,7 @@ impl<C: Recorder> Feeder<C> {
             &mut self.core,
             AT_ONCE,
             Event::Signal(signal),
-            &mut self.text,
+            &mut self.printer,
             out,
         )
     }

@@ -7,11 +7,12 @@
 //! and why it ended (this tool's profile, sessions), where one caller drives the run. What keeps the history is any `Recorder`.
 #![tactic(auto)]
 
-mod engine;
 mod feeder;
 mod feeding;
 mod input;
+mod messages;
 mod notes;
+mod printer;
 mod reader;
 
 pub use feeding::feed_over;

@@ -38,10 +38,4 @@ refuses config config' text (cause.Config rule key) taken whole most breaks = re
   most = most;
 }
 refuses config config' text cause.NoMemory taken whole most unsaid = tt
-refuses config config' text cause.Done taken whole most unsaid = absurd unsaid
-refuses config config' text cause.ReadFault taken whole most unsaid = absurd unsaid
-refuses config config' text (cause.Words place) taken whole most unsaid = absurd unsaid
-refuses config config' text cause.WriteFault taken whole most unsaid = absurd unsaid
-refuses config config' text (cause.Full entries bytes number) taken whole most unsaid = absurd unsaid
-refuses config config' text (cause.Line number place) taken whole most unsaid = absurd unsaid
-refuses config config' text cause.Door taken whole most unsaid = absurd unsaid
+refuses config config' text _ taken whole most unsaid = absurd unsaid

@@ -33,22 +33,11 @@ cause_for fault.NoMemory = cause.NoMemory
 abbrev pub Unsaid : List ℕ → Cause → Type 0
 Unsaid text (cause.Config rule key) = Breaks text (fault.Rule rule key)
 Unsaid text cause.NoMemory = ⊤
-Unsaid text cause.Done = ⊥
-Unsaid text cause.ReadFault = ⊥
-Unsaid text (cause.Words place) = ⊥
-Unsaid text cause.WriteFault = ⊥
-Unsaid text (cause.Full entries bytes input) = ⊥
-Unsaid text (cause.Line number place) = ⊥
-Unsaid text cause.Door = ⊥
+Unsaid text _ = ⊥
 
 -- why no configuration was taken
 abbrev pub Refuses : Cause → SourceView → SourceView → Type 0
 Refuses (cause.Config rule key) config config' = IsRefused config config' rule key
 Refuses cause.ReadFault config config' = Rose config.faults config'.faults
 Refuses cause.NoMemory config config' = ⊤
-Refuses cause.Done config config' = ⊥
-Refuses (cause.Words place) config config' = ⊥
-Refuses cause.WriteFault config config' = ⊥
-Refuses (cause.Full entries bytes input) config config' = ⊥
-Refuses (cause.Line number place) config config' = ⊥
-Refuses cause.Door config config' = ⊥
+Refuses _ config config' = ⊥

@@ -16,7 +16,8 @@ use Rattle.gem_model.specs.Printed.{printed}
 use Rattle.line_feeding.specs.declared.ended.Cause.{Cause}
 use Rattle.line_feeding.specs.declared.ended.Cause.TheVariants as cause
 use Rattle.line_feeding.specs.declared.ended.SessionNote.{SessionNote}
-use Rattle.line_feeding.specs.Limits.{IsFullAt, MeetsBound}
+use Rattle.driving.specs.Limits.{IsFullAt}
+use Rattle.line_feeding.specs.Limits.{MeetsBound}
 use Rattle.line_feeding.specs.Stopping.{GivenBy}
 use Rattle.line_feeding.specs.Noted.{NotedBy}
 
@@ -48,7 +49,7 @@ FedBy c cause.WriteFault Over text history = GivenBy Over c text history
 FedBy c cause.NoMemory Over text history = GivenBy Over c text history
 FedBy c (cause.Words place) Over text history = (text ≡ []) × (history ≡ [])
 FedBy c (cause.Config rule key) Over text history = (text ≡ []) × (history ≡ [])
-FedBy c cause.Door Over text history = ⊥
+FedBy c _ Over text history = ⊥
 
 -- the input was read to its end: what was taken off it is all that it had
 abbrev pub ReadToEnd : SourceView → SourceView → Type 0
@@ -72,7 +73,7 @@ Shown c (cause.Full entries bytes input) held held' history = Written held held'
 Shown c (cause.Line number place) held held' history = Written held held' (printed (opening c) history)
 Shown c (cause.Words place) held held' history = Written held held' (printed (opening c) history)
 Shown c (cause.Config rule key) held held' history = Written held held' (printed (opening c) history)
-Shown c cause.Door held held' history = ⊥
+Shown c _ held held' history = ⊥
 
 -- the configuration was read to its end, and says this (this tool's profile, configuration)
 pub record IsRead (config config' : SourceView) (c : Config) : Type 0 where
@@ -102,7 +103,7 @@ Configured c cause.WriteFault config config' history = IsRead config config' c
 Configured c cause.Done config config' history = IsRead config config' c
 Configured c (cause.Full entries bytes input) config config' history = IsRead config config' c
 Configured c (cause.Line number place) config config' history = IsRead config config' c
-Configured c cause.Door config config' history = ⊥
+Configured c _ config config' history = ⊥
 
 -- what a run did under a configuration
 pub record RanUnder (c : Config) (why : Cause) (input input' : SourceView) (held held' : Option (List ℕ)) (history : List Entry) (notes : List SessionNote) : Type 0 where

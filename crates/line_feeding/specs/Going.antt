@@ -9,7 +9,7 @@ use Rattle.gem_model.specs.Printed.{printed}
 use Rattle.history_parts.specs.CoreView.{CoreView}
 use Rattle.line_feeding.specs.declared.halt.Halt.{Halt}
 use Rattle.line_feeding.specs.declared.halt.Halt.TheVariants as halt
-use Rattle.line_feeding.specs.Limits.{IsFullAt}
+use Rattle.driving.specs.Limits.{IsFullAt}
 
 -- what a sink tells: the bytes that it holds, where it tells them, how often it failed, and how often it took nothing
 pub record SinkView : Type 0 where

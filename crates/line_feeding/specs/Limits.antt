@@ -1,8 +1,7 @@
 -- Where a run stops at its limits.
-use Rattle.std.specs.Prelude.{◌≡◌, ℕ, true, List, ◌∷◌, ◌++◌, length}
+use Rattle.std.specs.Prelude.{◌≡◌, ℕ, List, length}
 use Rattle.tool_events.specs.declared.config.Config.{Config}
 use Rattle.tool_events.specs.declared.entry.Entry.{Entry}
-use Rattle.gem_model.specs.Sizes.{is_full}
 use Rattle.line_grammar.specs.Texts.{whole_lines}
 use Rattle.gem_model.specs.Feed.{AllRead, feed_entries}
 
@@ -14,10 +13,3 @@ input_bytes = 4294967296
 abbrev pub MeetsBound : Config → List ℕ → List Entry → Type 0
 MeetsBound c text history =
     (feed_entries c (whole_lines text) ≡ record { entries = history; stop = AllRead }) × (length text ≡ input_bytes)
-
--- the history is a front of all entries, and the next of them doesn't fit the limits
-pub record IsFullAt (c : Config) (history all : List Entry) : Type 0 where
-  pub next : Entry
-  pub behind : List Entry
-  pub joined : all ≡ history ++ next ∷ behind
-  pub full : is_full c history next.event ≡ true

@@ -31,4 +31,4 @@ NotedBy c cause.NoMemory Over text history notes =
     (notes ≡ []) ⊎ ((taken : List ℕ) × StoppedIn Over c text history taken × NotesOf c history notes taken)
 NotedBy c (cause.Words place) Over text history notes = notes ≡ []
 NotedBy c (cause.Config rule key) Over text history notes = notes ≡ []
-NotedBy c cause.Door Over text history notes = ⊥
+NotedBy c _ Over text history notes = ⊥

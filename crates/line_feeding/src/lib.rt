@@ -18,6 +18,6 @@ pub use configured::read_configuration;
 pub use cuts::{cut_bytes, ends_run, quit_behind};
 pub use ended::{Cause, Ended, Notes, Panels, SessionNote};
 pub use halt::{Halt, InputEnd, InputRead};
-pub use print::{fetches, outcome_text};
+pub use print::outcome_text;
 pub use read::{TextFault, read_text};
 pub use words::{FeedWords, check_serve_words, check_words};

@@ -1,12 +1,12 @@
 //! The output lines of an answer.
 ghost use Rattle.std.specs.Prelude.{◌≡◌, ◌++◌, Some, OnOk};
 ghost use Rattle.line_grammar.specs.declared.out_line.OutLine.TheVariants as out_line;
-ghost use Rattle.gem_model.specs.Printed.{fetches, command_line, answer_line, end_line, line_bytes};
+ghost use Rattle.gem_model.specs.Printed.{command_line, answer_line, end_line, line_bytes};
 
 use gem_ids::ModuleId;
 use hsms_frame::Bytes;
 use std::alloc::{AllocError, Global};
-use tool_events::{Answer, Event, SessionEnd};
+use tool_events::{Answer, SessionEnd};
 use tool_tasks::Command;
 use tool_texts::{OutLine, print_out_line};
 
@@ -50,16 +50,6 @@ fn print_command(
     match m {
         Some(m) => print_out_line(alloc, &OutLine::Command(m, command), text),
         None => Ok(()),
-    }
-}
-
-/// The module that an event lets fetch, where it is such an event.
-pub fn fetches(event: &Event) -> Option<ModuleId>
-    ensures { result ≡ fetches event.now }
-{
-    match event {
-        Event::Fetch(m) => Some(*m),
-        _ => None,
     }
 }
 

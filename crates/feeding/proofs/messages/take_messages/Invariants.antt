@@ -3,7 +3,7 @@ use Rattle.history_parts.specs.CoreView.{CoreView}
 use Rattle.gem_model.specs.Feed.{messages}
 use Rattle.line_feeding.specs.declared.halt.Halt.{Halt}
 use Rattle.line_feeding.specs.Going.{Goes, SinkView, seen}
-use Rattle.feeding.proofs.engine.take_messages.Given as goal
+use Rattle.feeding.proofs.messages.take_messages.Given as goal
 
 -- the core is whole; and whatever the messages that are left do, with those before them it is what all do
 abbrev pub invariant-messages : goal.invariant-messages

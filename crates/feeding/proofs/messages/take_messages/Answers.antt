@@ -5,7 +5,7 @@ use Rattle.gem_model.specs.State.{is_session_up}
 use Rattle.gem_model.specs.Feed.{messages}
 use Rattle.line_feeding.specs.Going.{Goes, seen}
 use Rattle.line_feeding.proofs.Parts.{Goes-messages-over, Goes-messages-next, Goes-messages-halts}
-use Rattle.feeding.proofs.engine.take_messages.Goals as goal
+use Rattle.feeding.proofs.messages.take_messages.Goals as goal
 
 -- the last of the list is the next message
 last_next : (old new : List Arrival) (arrival : Arrival) → old ≡ new ++ arrival ∷ [] → reverse old ≡ arrival ∷ reverse new

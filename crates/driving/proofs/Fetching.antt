@@ -1,12 +1,7 @@
 -- The modules that are left to fetch.
-use Rattle.std.proofs.Common.{◌≡◌, ℕ, zero, suc, ◌+◌, ◌<◌, ◌≤◌, List, [], ◌∷◌, Err, drop, length, refl, ◌∙◌, ap, add-one, arith}
+use Rattle.std.proofs.Common.{◌≡◌, ℕ, zero, suc, ◌+◌, ◌<◌, ◌≤◌, List, [], ◌∷◌, drop, length, refl, ◌∙◌, ap, add-one, arith}
 use Rattle.robot_moves.specs.declared.module.Module.{Module}
 use Rattle.floor_model.specs.Floor.{module_numbers}
-use Rattle.gem_model.specs.Feed.{fetched_one, fetched_by}
-use Rattle.history_parts.specs.CoreView.{CoreView}
-use Rattle.line_feeding.specs.declared.halt.Halt.{Halt}
-use Rattle.line_feeding.specs.Going.{Goes, SinkView}
-use Rattle.line_feeding.proofs.Parts.{Goes-and_then-halts}
 
 next_suc : (first : ℕ) (ms : List Module) (i : ℕ) → i < length ms → drop i (module_numbers first ms) ≡ (i + first) ∷ drop (suc i) (module_numbers first ms)
 next_suc first [] i within = absurd (omega (arith, within))
@@ -25,8 +20,3 @@ numbers_end first [] zero past = refl
 numbers_end first [] (suc i) past = refl
 numbers_end first (m ∷ ms) zero past = absurd (omega (arith, past))
 numbers_end first (m ∷ ms) (suc i) past = numbers_end (first + 1) ms i (omega (arith, past))
-
--- where the first of the modules that are left halts, all halt
-pub Goes-fetched-halts : (a b : CoreView) (o1 o2 : SinkView) (m : ℕ) (behind ms : List ℕ) (why : Halt) → ms ≡ m ∷ behind → Goes a b o1 o2 (fetched_one m a.state) (Err why) → Goes a b o1 o2 (fetched_by ms a.state) (Err why)
-Goes-fetched-halts a b o1 o2 m behind ms why is h =
-    rw is (Goes-and_then-halts a b o1 o2 (fetched_one m a.state) (fetched_by behind) why h)

@@ -1,0 +1,4 @@
+pub mod Fronts
+pub mod Ended
+pub mod Parts
+pub mod Fetching

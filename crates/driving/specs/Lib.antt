@@ -1,0 +1,3 @@
+pub mod Handling
+pub mod Limits
+pub mod Driving

@@ -99,7 +99,7 @@ impl Capture {
     // Appends the time of the next packet, and twice its length.
     fn push_packet_header(&mut self, length: u32, out: &mut Vec<u8>) -> Result<(), AllocError> {
         let time = self.next_time();
-        let seconds = (time / 1_000_000).min(u64::from(u32::MAX)) as u32;
+        let seconds = (time / 1_000_000).min(0xFFFF_FFFF) as u32;
         push_number(seconds, out)?;
         push_number((time % 1_000_000) as u32, out)?;
         push_number(length, out)?;

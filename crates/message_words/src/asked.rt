@@ -55,7 +55,10 @@ impl Requests {
     /// What was asked under these system bytes, which now have their reply.
     pub(crate) fn take(&mut self, system: u32) -> Option<Asked> {
         match self.place_of(system) {
-            Some(place) if place < self.open.len() => Some(self.open.remove(place).asked),
+            Some(place) if place < self.open.len() => {
+                let Request { system: _, asked } = self.open.remove(place);
+                Some(asked)
+            }
             _ => None,
         }
     }

@@ -125,10 +125,14 @@ impl Reports {
 
     /// The tool has done what an S2F33 asked.
     pub(crate) fn apply(&mut self, changes: Changes) -> Result<(), AllocError> {
-        if changes.deletes_all {
+        let Changes {
+            deletes_all,
+            definitions,
+        } = changes;
+        if deletes_all {
             self.defined.clear();
         }
-        for definition in changes.definitions {
+        for definition in definitions {
             self.define(definition)?;
         }
         Ok(())

@@ -1,6 +1,6 @@
 //! The headers of frames in words.
 
-ghost use Rattle.std.specs.Prelude.{◌≡◌, IfOk};
+ghost use Rattle.std.specs.Prelude.{◌≡◌, ◌==◌, ◌&&◌, IfOk};
 ghost use Rattle.message_words.specs.Frames.{data_words};
 
 use crate::control::control_name;
@@ -8,7 +8,9 @@ use hsms_frame::Header;
 use std::alloc::{AllocError, Global};
 
 /// Whether a header is that of a data message: PType and SType are 0 (SEMI E37, message header).
-pub(crate) fn is_data(header: Header) -> bool {
+pub(crate) fn is_data(header: Header) -> bool
+    ensures { result ≡ ((header.ptype == 0) && (header.stype == 0)) }
+{
     header.ptype == 0 && header.stype == 0
 }
 

@@ -9,6 +9,7 @@ use std::alloc::{AllocError, Global};
 use tool_texts::LineFault;
 
 /// Makes packets of the lines of a transcript.
+#[derive(Clone, Copy)]
 pub(crate) struct Recorder {
     capture: Capture,
     is_up: bool,

@@ -59,7 +59,7 @@ fn whole_word(rest: Cursor<'_>, word: &str) -> Result<(), u64> {
 }
 
 // The cause that the rest of a line says.
-fn cause(rest: Cursor<'_>) -> Result<Cause, u64> {
+fn ending(rest: Cursor<'_>) -> Result<Cause, u64> {
     let mut place = rest.place();
     for (word, cause) in &CAUSES {
         match whole_word(rest, word) {
@@ -83,7 +83,7 @@ fn ended<'a>(rest: Cursor<'_>) -> Result<Printed<'a>, u64> {
     let mut cursor = rest;
     let session = cursor.number(u64::MAX)?;
     cursor.literal(b" ")?;
-    Ok(Printed::Ended(session, cause(cursor)?))
+    Ok(Printed::Ended(session, ending(cursor)?))
 }
 
 // A task begins here, whose words go on to the end of the line.

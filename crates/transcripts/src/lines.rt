@@ -119,10 +119,10 @@ impl Gathered {
         out: &mut K,
     ) -> Result<(), TranscriptFault> {
         let mut left = piece;
-        while let Some(end) = line_end(left) {
-            self.push(&left[..end])?;
+        while let Some((line, rest)) = split_line(left) {
+            self.push(line)?;
             self.end_line(alloc, taker, out)?;
-            left = &left[end + 1..];
+            left = rest;
         }
         self.push(left)
     }
@@ -146,6 +146,20 @@ fn line_end(bytes: &[u8]) -> Option<usize>
     ensures within { IfSome result (λ end. end < length bytes.now) }
 {
     memchr(b'\n', bytes)
+}
+
+// The first line, without its line feed, and what is behind that.
+fn split_line(bytes: &[u8]) -> Option<(&[u8], &[u8])>
+    ensures shorter { IfSome result (λ r. length r.1.now < length bytes.now) }
+{
+    let Some(end) = line_end(bytes) else {
+        return None;
+    };
+    let (line, behind) = bytes.split_at(end);
+    match behind {
+        [_feed, rest @ ..] => Some((line, rest)),
+        [] => None,
+    }
 }
 
 /// Reads a transcript to its end, and has each line taken in its turn.

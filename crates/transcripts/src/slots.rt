@@ -15,12 +15,12 @@ const MEANINGS: [&str; 6] = [
 
 // The end of the run of slots of one code that begins in front of these.
 fn run_length(code: u8, codes: &[u8]) -> usize {
-    let mut count = 0;
+    let mut count: usize = 0;
     for other in codes {
         if *other != code {
             return count;
         }
-        count += 1;
+        count = count.saturating_add(1);
     }
     count
 }

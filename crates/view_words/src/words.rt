@@ -1,5 +1,5 @@
 //! The commands.
-ghost use Rattle.std.specs.Prelude.{◌≡◌, ◌↔◌, Ok, Some, None, IfOk, IfErr, IsOk};
+ghost use Rattle.std.specs.Prelude.{◌≡◌, ◌↔◌, [], ◌∷◌, Ok, Some, None, IfOk, IfErr, IfSome, IsOk};
 ghost use Rattle.program_words.specs.Commands.{is_file_word, place_of};
 ghost use Rattle.view_words.specs.declared.words.ViewWords.{ViewWords};
 ghost use Rattle.view_words.specs.Commands.{SpellsNamed, Spells, misfit_named, misfit};
@@ -24,19 +24,38 @@ fn is_file(word: &Text80) -> bool
     !bytes.is_empty() && !bytes.starts_with(b"-".as_slice())
 }
 
+// The first word and those behind it.
+fn split_word(words: &[Text80]) -> Option<(Text80, &[Text80])>
+    ensures some { IfSome result (λ r. words.now ≡ r.0 ∷ r.1.now) }
+    ensures none { result ≡ None → words.now ≡ [] }
+{
+    match words {
+        [] => None,
+        [word, words @ ..] => Some((*word, words)),
+    }
+}
+
 // The file behind this name, where the words are both, or none where they are the name alone; else the place of the first that doesn't
 // fit.
 fn named(name: &[u8], words: &[Text80]) -> Result<Option<Text80>, u64>
     ensures ok { IfOk result (λ config. SpellsNamed name.now words.now config) }
     ensures place { IfErr result (λ place. misfit_named name.now words.now ≡ Some place) }
 {
-    match words {
-        [] => Err(0),
-        [word, ..] if word.as_bytes() != name => Err(0),
-        [_] => Ok(None),
-        [_, config, ..] if !is_file(config) => Err(1),
-        [_, config] => Ok(Some(*config)),
-        _ => Err(2),
+    let Some((word, words)) = split_word(words) else {
+        return Err(0);
+    };
+    if word.as_bytes() != name {
+        return Err(0);
+    }
+    let Some((config, words)) = split_word(words) else {
+        return Ok(None);
+    };
+    if !is_file(&config) {
+        return Err(1);
+    }
+    match split_word(words) {
+        None => Ok(Some(config)),
+        Some(_) => Err(2),
     }
 }
 

@@ -1,0 +1,147 @@
+//! What the program `gem300_view` does with its words (this tool's profile, docs/profile/view.md): it hands a configuration, an input and
+//! an output to `transcripts`, and prints what `--help` and `--version` ask for.
+//!
+//! It ends no process and reads no argument of one: `gem300_view` does, and `view_runs` calls it with words of its own. Begin with
+//! `run_view`.
+#![tactic(auto)]
+
+use gem_ids::Text80;
+use line_feeding::{Cause, read_configuration};
+use outside::{FileSource, Sink, Source, write_all};
+use program_words::{Question, WordsFault, asked};
+use std::alloc::{AllocError, Global};
+use std::rt::Files;
+use tool_events::Config;
+use transcripts::{TranscriptFault, View, write_capture, write_words};
+use view_words::{ViewWords, command_of, help_text, version_text};
+
+/// The tool under its first configuration, by which a transcript is shown where none is named.
+const FIRST: View = View {
+    device: 0,
+    ports: 2,
+    chambers: 2,
+    tcp_port: 5000,
+    start_moment: 0,
+};
+
+// The words behind the program's name. One that is no text of at most 80 bytes that print is handed in as an empty word, which fits no
+// command.
+fn texts_of(alloc: Global, args: &[String]) -> Result<Vec<Text80>, AllocError> {
+    let mut words = Vec::new(alloc);
+    for arg in args.iter().skip(1) {
+        words.push(Text80::read(arg.as_bytes()).unwrap_or(Text80::empty()))?;
+    }
+    Ok(words)
+}
+
+// What of a configuration a transcript is shown by.
+fn view_of(config: &Config) -> View {
+    View {
+        device: config.device,
+        ports: config.ports,
+        chambers: config.chambers,
+        tcp_port: config.tcp_port,
+        start_moment: config.start_moment.0,
+    }
+}
+
+// The view by the configuration in this file, or by the first one.
+fn read_view<R: Files>(
+    rt: &R,
+    alloc: Global,
+    path: &str,
+    config: Option<Text80>,
+) -> Result<View, Cause> {
+    if config.is_none() {
+        return Ok(FIRST);
+    }
+    let mut source = FileSource::new(rt, path);
+    match read_configuration(alloc, &mut source) {
+        Ok(config) => Ok(view_of(&config)),
+        Err(cause) => Err(cause),
+    }
+}
+
+// Why a run ended, by what ended a transcript.
+fn cause_of(ended: Result<(), TranscriptFault>) -> Cause {
+    match ended {
+        Ok(()) => Cause::Done,
+        Err(TranscriptFault::Line(number, place)) => Cause::Line(number, place),
+        Err(TranscriptFault::Read) => Cause::ReadFault,
+        Err(TranscriptFault::Write) => Cause::WriteFault,
+        Err(TranscriptFault::NoMemory) => Cause::NoMemory,
+    }
+}
+
+// Shows a transcript, and tells why that ended.
+fn run_words<R: Files, S: Source, K: Sink>(
+    rt: &R,
+    alloc: Global,
+    path: &str,
+    config: Option<Text80>,
+    input: &mut S,
+    out: &mut K,
+) -> Cause {
+    match read_view(rt, alloc, path, config) {
+        Ok(view) => cause_of(write_words(alloc, view, input, out)),
+        Err(cause) => cause,
+    }
+}
+
+// Writes the capture file of a transcript, and tells why that ended.
+fn run_pcap<R: Files, S: Source, K: Sink>(
+    rt: &R,
+    alloc: Global,
+    path: &str,
+    config: Option<Text80>,
+    input: &mut S,
+    out: &mut K,
+) -> Cause {
+    match read_view(rt, alloc, path, config) {
+        Ok(view) => cause_of(write_capture(alloc, view, input, out)),
+        Err(cause) => cause,
+    }
+}
+
+// Prints what the words ask for, and tells why that ended.
+fn answer<K: Sink>(alloc: Global, question: Question, out: &mut K) -> Result<Cause, AllocError> {
+    let text = match question {
+        Question::Help => help_text(alloc)?,
+        Question::Version => version_text(alloc)?,
+    };
+    match write_all(out, text.as_bytes()) {
+        Ok(()) => Ok(Cause::Done),
+        Err(_) => Ok(Cause::WriteFault),
+    }
+}
+
+// The name of the configuration's file, as it was given.
+fn config_path(args: &[String]) -> &str {
+    match args.get(2) {
+        Some(path) => path.as_str(),
+        None => "",
+    }
+}
+
+/// Does what the arguments ask for, of which the first is the program's own name: prints what `--help` and `--version` ask for, or does the
+/// command that the words spell, over this input and this output. Tells why it ended: `Words` where the words spell no command, `Config`
+/// where the configuration says none, `Line` where a line is none of a transcript, and the faults of reading and writing. `AllocError`
+/// where there was no memory for the words or a text.
+pub fn run_view<R: Files, S: Source, K: Sink>(
+    rt: &R,
+    alloc: Global,
+    args: &[String],
+    input: &mut S,
+    out: &mut K,
+) -> Result<Cause, AllocError> {
+    let words = texts_of(alloc, args)?;
+    if let Some(question) = asked(&words) {
+        return answer(alloc, question, out);
+    }
+    let path = config_path(args);
+    match command_of(&words) {
+        Ok(ViewWords::Words(config)) => Ok(run_words(rt, alloc, path, config, input, out)),
+        Ok(ViewWords::Pcap(config)) => Ok(run_pcap(rt, alloc, path, config, input, out)),
+        Err(WordsFault::Place(place)) => Ok(Cause::Words(place)),
+    }
+}

@@ -1,0 +1,32 @@
+-- The commands of the program `gem300_view` (this tool's profile, docs/profile/view.md).
+use Rattle.std.specs.Prelude.{◌≡◌, ℕ, List, [], ◌∷◌, codes, IsTrue, Option, Some, None}
+use Rattle.std.specs.Str.{bytes_eq}
+use Rattle.program_words.specs.Commands.{Places, is_file_word, misfit_of, later}
+use Rattle.view_words.specs.declared.words.ViewWords.{ViewWords}
+use Rattle.view_words.specs.declared.words.ViewWords.TheVariants as command
+
+-- the words are this name, and behind it a file, which may be left out
+abbrev pub SpellsNamed : List ℕ → List (List ℕ) → Option (List ℕ) → Type 0
+SpellsNamed name words None = words ≡ name ∷ []
+SpellsNamed name words (Some config) = (words ≡ name ∷ (config ∷ [])) × IsTrue (is_file_word config)
+
+-- the words spell the command: `words`, `words CONFIG`, `pcap` or `pcap CONFIG`
+abbrev pub Spells : List (List ℕ) → ViewWords → Type 0
+Spells words (command.Words config) = SpellsNamed (codes "words") words config
+Spells words (command.Pcap config) = SpellsNamed (codes "pcap") words config
+
+-- a name alone
+abbrev pub name_places : List ℕ → Places
+name_places name = (λ word. bytes_eq word name) ∷ []
+
+-- a name, and a file behind it
+abbrev pub file_places : List ℕ → Places
+file_places name = (λ word. bytes_eq word name) ∷ (is_file_word ∷ [])
+
+-- the first word that doesn't fit a name with a file, which may be left out
+abbrev pub misfit_named : List ℕ → List (List ℕ) → Option ℕ
+misfit_named name words = later (misfit_of 0 (name_places name) words) (misfit_of 0 (file_places name) words)
+
+-- the first word, counted from 0, that fits no command, where the words spell none; a word that is missing counts as it
+abbrev pub misfit : List (List ℕ) → Option ℕ
+misfit words = later (misfit_named (codes "words") words) (misfit_named (codes "pcap") words)

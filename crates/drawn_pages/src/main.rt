@@ -1,0 +1,102 @@
+//! Compares the pictures of its folder `data`, which the pages show, with what the code draws now: those of the state models, and the charts
+//! of the runs whose lines lie there. It prints a line for each, and of a run besides the status with which it ended. With the name of a
+//! picture as its word it prints that picture as it is drawn now, and so `tools/pictures` makes them anew. It is a program of tests, and no
+//! part of the tool.
+#![tactic(auto)]
+
+use outside::{FileSource, MemSink};
+use run_charts::run_chart;
+use state_charts::{chart_named, draw_chart, names};
+use std::alloc::{AllocError, Global};
+use std::process::ExitCode;
+use std::rt::Files;
+use std::{env, fs};
+
+// The runs, each a file of lines and one of a configuration of this name.
+const RUNS: [&str; 4] = ["lot", "lot_of_25", "troubles", "refused"];
+
+// A picture as it is drawn now, and the status of its run.
+#[derive(Drop)]
+struct Drawn {
+    text: Vec<u8>,
+    status: u8,
+}
+
+// The chart of a run.
+fn run_drawn<R: Files>(rt: &R, alloc: Global, name: &str) -> Result<Drawn, AllocError> {
+    let config = format!(in alloc; "{name}.toml")?;
+    let lines = format!(in alloc; "{name}.lines")?;
+    let mut config = FileSource::new(rt, config.as_str());
+    let mut input = FileSource::new(rt, lines.as_str());
+    let mut out = MemSink::new(alloc, Vec::new(alloc));
+    let status = run_chart(alloc, &mut config, &mut input, &mut out).status();
+    Ok(Drawn {
+        text: out.into_bytes(),
+        status,
+    })
+}
+
+// The picture of this name.
+fn drawn<R: Files>(rt: &R, alloc: Global, name: &str) -> Result<Drawn, AllocError> {
+    match chart_named(name) {
+        Some(chart) => Ok(Drawn {
+            text: Vec::from_slice(alloc, draw_chart(alloc, chart)?.as_bytes())?,
+            status: 0,
+        }),
+        None => run_drawn(rt, alloc, name),
+    }
+}
+
+// Compares the picture of this name, and prints a line of it.
+fn compare<R: Files + Print>(rt: &R, alloc: Global, name: &str) -> Result<(), AllocError> {
+    let drawn = drawn(rt, alloc, name)?;
+    let path = format!(in alloc; "{name}.svg")?;
+    let is_same = match fs::read(rt, path.as_str()) {
+        Ok(shipped) => shipped.as_slice() == drawn.text.as_slice(),
+        Err(_) => false,
+    };
+    let verdict = if is_same {
+        "as the code draws it"
+    } else {
+        "not as the code draws it"
+    };
+    let status = drawn.status;
+    let line = format!(in alloc; "{name}: {verdict}, status {status}\n")?;
+    let _ = rt.print(line.as_str());
+    Ok(())
+}
+
+fn compare_all<R: Files + Print>(rt: &R, alloc: Global) -> Result<(), AllocError> {
+    for (name, _) in names() {
+        compare(rt, alloc, name)?;
+    }
+    for name in RUNS {
+        compare(rt, alloc, name)?;
+    }
+    Ok(())
+}
+
+fn print_one<R: Files + Print>(rt: &R, alloc: Global, name: &str) -> Result<(), AllocError> {
+    let drawn = drawn(rt, alloc, name)?;
+    let text = String::from_utf8_lossy(alloc, drawn.text.as_slice())?;
+    let _ = rt.print(text.as_str());
+    Ok(())
+}
+
+// The first word behind the program's name.
+fn word(rt: &HostRuntime) -> Option<String> {
+    let mut args = env::args(rt).ok()?;
+    let _ = args.next();
+    args.next()
+}
+
+fn main(rt: HostRuntime) -> ExitCode {
+    let ended = match word(&rt) {
+        Some(name) => print_one(&rt, rt.alloc(), name.as_str()),
+        None => compare_all(&rt, rt.alloc()),
+    };
+    match ended {
+        Ok(()) => ExitCode::SUCCESS,
+        Err(_) => ExitCode::FAILURE,
+    }
+}

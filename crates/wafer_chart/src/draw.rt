@@ -236,31 +236,52 @@ fn draw_lanes(
     Ok(y)
 }
 
-// An alarm that was set, with its number where the one before leaves room. Tells where its words end.
-fn draw_mark(
-    alloc: Global,
-    picture: &mut Picture,
-    story: &Story,
-    mark: &Mark,
-    top: f64,
-    free: f64,
-) -> Result<f64, AllocError> {
-    let at = Point {
-        x: across(story, mark.at),
-        y: top + 8.0,
-    };
-    picture.circle("alarm", at, 4.5)?;
-    if at.x < free {
-        return Ok(free);
+// Whether the mark behind this one stands where words behind this one would.
+fn is_near(story: &Story, place: usize, mark: &Mark, words: &str) -> bool {
+    match story.marks.get(place.saturating_add(1)) {
+        Some(next) => across(story, next.at) < across(story, mark.at) + 14.0 + wide(words),
+        None => false,
     }
-    let number = mark.alarm;
-    let words = format!(in alloc; "{number}")?;
+}
+
+// Adds the number of an alarm to those that wait for their place.
+fn add_number(words: &mut String, alarm: u32) -> Result<(), AllocError> {
+    if !words.is_empty() {
+        words.push_str(", ")?;
+    }
+    write!(words, "{alarm}")
+}
+
+// The numbers of alarms, behind the last of their marks.
+fn draw_numbers(picture: &mut Picture, at: Point, words: &str) -> Result<(), AllocError> {
     let beside = Point {
         x: at.x + 7.0,
         y: at.y + 4.0,
     };
-    picture.words("small", beside, Align::Start, words.as_str())?;
-    Ok(at.x + 11.0 + wide(words.as_str()))
+    picture.words("small", beside, Align::Start, words)
+}
+
+// The alarms that were set: a dot for each. Numbers for which there is no room stand behind the next dot that has some.
+fn draw_alarms(
+    alloc: Global,
+    picture: &mut Picture,
+    story: &Story,
+    top: f64,
+) -> Result<(), AllocError> {
+    let mut words = String::new(alloc);
+    for (place, mark) in story.marks.iter().enumerate() {
+        let at = Point {
+            x: across(story, mark.at),
+            y: top + 8.0,
+        };
+        picture.circle("alarm", at, 4.5)?;
+        add_number(&mut words, mark.alarm)?;
+        if !is_near(story, place, mark, words.as_str()) {
+            draw_numbers(picture, at, words.as_str())?;
+            words.clear();
+        }
+    }
+    Ok(())
 }
 
 // The row of alarms, where one was set. Tells where the next row may stand.
@@ -278,10 +299,7 @@ fn draw_marks(
         y: top + 12.0,
     };
     picture.words("small", at, Align::End, "alarms set")?;
-    let mut free = 0.0;
-    for mark in &story.marks {
-        free = draw_mark(alloc, picture, story, mark, top, free)?;
-    }
+    draw_alarms(alloc, picture, story, top)?;
     Ok(top + BAR.apart)
 }
 

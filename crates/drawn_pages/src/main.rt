@@ -1,6 +1,6 @@
 //! Compares the pictures of its folder `data`, which the pages show, with what the code draws now: those of the state models, and the charts
-//! of the runs whose lines lie there. It prints a line for each, and of a run besides the status with which it ended. With the name of a
-//! picture as its word it prints that picture as it is drawn now, and so `tools/pictures` makes them anew. It is a program of tests, and no
+//! of the runs whose lines lie there. It prints a line for each, and of a run besides the status with which it ended. With a word, as `all`, it
+//! prints each picture as it is drawn now behind a line with its name, and so `tools/pictures` makes them anew. It is a program of tests, and no
 //! part of the tool.
 #![tactic(auto)]
 
@@ -9,7 +9,6 @@ use run_charts::run_chart;
 use state_charts::{chart_named, draw_chart, names};
 use std::alloc::{AllocError, Global};
 use std::process::ExitCode;
-use std::rt::Files;
 use std::{env, fs};
 
 // The runs, each a file of lines and one of a configuration of this name.
@@ -23,7 +22,7 @@ struct Drawn {
 }
 
 // The chart of a run.
-fn run_drawn<R: Files>(rt: &R, alloc: Global, name: &str) -> Result<Drawn, AllocError> {
+fn run_drawn(rt: &HostRuntime, alloc: Global, name: &str) -> Result<Drawn, AllocError> {
     let config = format!(in alloc; "{name}.toml")?;
     let lines = format!(in alloc; "{name}.lines")?;
     let mut config = FileSource::new(rt, config.as_str());
@@ -37,7 +36,7 @@ fn run_drawn<R: Files>(rt: &R, alloc: Global, name: &str) -> Result<Drawn, Alloc
 }
 
 // The picture of this name.
-fn drawn<R: Files>(rt: &R, alloc: Global, name: &str) -> Result<Drawn, AllocError> {
+fn drawn(rt: &HostRuntime, alloc: Global, name: &str) -> Result<Drawn, AllocError> {
     match chart_named(name) {
         Some(chart) => Ok(Drawn {
             text: Vec::from_slice(alloc, draw_chart(alloc, chart)?.as_bytes())?,
@@ -48,7 +47,7 @@ fn drawn<R: Files>(rt: &R, alloc: Global, name: &str) -> Result<Drawn, AllocErro
 }
 
 // Compares the picture of this name, and prints a line of it.
-fn compare<R: Files + Print>(rt: &R, alloc: Global, name: &str) -> Result<(), AllocError> {
+fn compare(rt: &HostRuntime, alloc: Global, name: &str) -> Result<(), AllocError> {
     let drawn = drawn(rt, alloc, name)?;
     let path = format!(in alloc; "{name}.svg")?;
     let is_same = match fs::read(rt, path.as_str()) {
@@ -66,7 +65,7 @@ fn compare<R: Files + Print>(rt: &R, alloc: Global, name: &str) -> Result<(), Al
     Ok(())
 }
 
-fn compare_all<R: Files + Print>(rt: &R, alloc: Global) -> Result<(), AllocError> {
+fn compare_all(rt: &HostRuntime, alloc: Global) -> Result<(), AllocError> {
     for (name, _) in names() {
         compare(rt, alloc, name)?;
     }
@@ -76,24 +75,39 @@ fn compare_all<R: Files + Print>(rt: &R, alloc: Global) -> Result<(), AllocError
     Ok(())
 }
 
-fn print_one<R: Files + Print>(rt: &R, alloc: Global, name: &str) -> Result<(), AllocError> {
+// Prints the picture of this name behind a line that begins with a sign which no picture has.
+fn print_one(rt: &HostRuntime, alloc: Global, name: &str) -> Result<(), AllocError> {
     let drawn = drawn(rt, alloc, name)?;
+    let line = format!(in alloc; "@ {name}\n")?;
+    let _ = rt.print(line.as_str());
     let text = String::from_utf8_lossy(alloc, drawn.text.as_slice())?;
     let _ = rt.print(text.as_str());
     Ok(())
 }
 
-// The first word behind the program's name.
-fn word(rt: &HostRuntime) -> Option<String> {
-    let mut args = env::args(rt).ok()?;
-    let _ = args.next();
-    args.next()
+fn print_all(rt: &HostRuntime, alloc: Global) -> Result<(), AllocError> {
+    for (name, _) in names() {
+        print_one(rt, alloc, name)?;
+    }
+    for name in RUNS {
+        print_one(rt, alloc, name)?;
+    }
+    Ok(())
+}
+
+// Whether a word stands behind the program's name.
+fn has_word(rt: &HostRuntime) -> bool {
+    match env::args(rt) {
+        Ok(args) => args.count() > 1,
+        Err(_) => false,
+    }
 }
 
 fn main(rt: HostRuntime) -> ExitCode {
-    let ended = match word(&rt) {
-        Some(name) => print_one(&rt, rt.alloc(), name.as_str()),
-        None => compare_all(&rt, rt.alloc()),
+    let ended = if has_word(&rt) {
+        print_all(&rt, rt.alloc())
+    } else {
+        compare_all(&rt, rt.alloc())
     };
     match ended {
         Ok(()) => ExitCode::SUCCESS,

@@ -5,6 +5,7 @@ ghost use Rattle.tool_events.specs.Configs.{IsConfig};
 use crate::tool::Tool;
 use gem_ids::Moment;
 use history_parts::Entries;
+use hsms_frame::{Arrival, Bytes, Frame};
 use std::alloc::{AllocError, Global};
 use tool_events::{Answer, Config, Entry, Event, OperCmd, Signal};
 use wafer_chart::{Axis, Happening, Teller, draw_story};
@@ -98,24 +99,48 @@ fn granted(happening: Happening, answer: Option<Answer>) -> Happening {
     }
 }
 
-// Plays an entry, and tells what the tool has behind it. Frames are taken where they wait, and so an entry that takes one is only counted.
-fn play_entry(
-    alloc: Global,
-    tool: &mut Tool,
-    teller: &mut Teller,
-    place: &mut Place,
-    entry: Entry,
-) -> Result<(), AllocError> {
-    let Entry { seat, at, event } = entry;
-    place.go_on(at);
-    let mut happening = Happening::Other;
-    if !matches!(event, Event::Take { .. }) {
-        happening = happening_of(tool, &event);
-        let answer = tool.play(alloc, seat, at, event)?;
-        happening = granted(happening, answer);
+// A copy of what has arrived.
+fn arrival_copy(alloc: Global, arrival: &Arrival) -> Result<Arrival, AllocError> {
+    match arrival {
+        Arrival::Frame(frame) => Ok(Arrival::Frame(Frame {
+            header: frame.header,
+            text: Bytes::from_vec(Vec::from_slice(alloc, frame.text.as_slice())?),
+        })),
+        Arrival::TooLong(header, length) => Ok(Arrival::TooLong(*header, *length)),
     }
-    let shot = tool.shot(alloc)?;
-    teller.tell(alloc, place.at(), happening, &shot)
+}
+
+// A copy of an event.
+fn event_copy(alloc: Global, event: &Event) -> Result<Event, AllocError> {
+    Ok(match event {
+        Event::Host { session, arrival } => Event::Host {
+            session: *session,
+            arrival: arrival_copy(alloc, arrival)?,
+        },
+        Event::LinkDown { session, cause } => Event::LinkDown {
+            session: *session,
+            cause: *cause,
+        },
+        Event::Take { session } => Event::Take { session: *session },
+        Event::Oper(command) => Event::Oper(*command),
+        Event::Signal(signal) => Event::Signal(*signal),
+        Event::Fetch(m) => Event::Fetch(*m),
+        Event::Watch(port) => Event::Watch(*port),
+        Event::LinkUp => Event::LinkUp,
+        Event::Tick => Event::Tick,
+        Event::Listen => Event::Listen,
+    })
+}
+
+// Plays an entry, and tells what happened with it. Frames are taken where they wait, and so an entry that takes one is only counted.
+fn play_entry(alloc: Global, tool: &mut Tool, entry: &Entry) -> Result<Happening, AllocError> {
+    if matches!(&entry.event, Event::Take { .. }) {
+        return Ok(Happening::Other);
+    }
+    let happening = happening_of(tool, &entry.event);
+    let event = event_copy(alloc, &entry.event)?;
+    let answer = tool.play(alloc, entry.seat, entry.at, event)?;
+    Ok(granted(happening, answer))
 }
 
 /// The chart of a history as SVG text. The configuration keeps its bounds (docs/profile/configuration.md).
@@ -129,8 +154,11 @@ pub(crate) fn chart_of(
     let mut place = Place::new(history.as_slice());
     let mut tool = Tool::open(alloc, config)?;
     let mut teller = Teller::new(alloc, place.axis, config.ports, config.chambers)?;
-    for entry in history.into_vec() {
-        play_entry(alloc, &mut tool, &mut teller, &mut place, entry)?;
+    for entry in history.as_slice() {
+        place.go_on(entry.at);
+        let happening = play_entry(alloc, &mut tool, entry)?;
+        let shot = tool.shot(alloc)?;
+        teller.tell(alloc, place.at(), happening, &shot)?;
     }
     let story = teller.finish(place.at())?;
     draw_story(alloc, &story)

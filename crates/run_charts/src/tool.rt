@@ -245,7 +245,7 @@ impl Tool {
 
     // The alarms that are set.
     fn alarms(&self, alloc: Global) -> Result<Vec<u32>, AllocError> {
-        match value(&self.core, alloc, ALARMS_SET)? {
+        match &value(&self.core, alloc, ALARMS_SET)? {
             Some(Item::U4(numbers)) => Vec::from_slice(alloc, numbers.as_slice()),
             _ => Ok(Vec::new(alloc)),
         }

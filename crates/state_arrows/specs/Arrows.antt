@@ -10,15 +10,15 @@ arrow row from to = record { row = row; from = from; to = to }
 
 -- ---- of a table, as it is printed
 
+-- an arrow from each of these states
+abbrev pub from_each : {S : Type 0} → ℕ → (S → ℕ) → Option ℕ → List S → List Arrow
+from_each row number to [] = []
+from_each row number to (s ∷ states) = arrow row (Some (number s)) to ∷ from_each row number to states
+
 module _ {S W E : Type 0} where
   -- where a row leads: to its end, or nowhere where its object ends with it
   abbrev pub leads_to : (S → ℕ) → (E → Bool) → Row S W E → Option ℕ
   leads_to number ends r = if ends r.does then None else Some (number r.to)
-
-  -- an arrow from each of these states
-  abbrev pub from_each : ℕ → (S → ℕ) → Option ℕ → List S → List Arrow
-  from_each row number to [] = []
-  from_each row number to (s ∷ states) = arrow row (Some (number s)) to ∷ from_each row number to states
 
   -- the arrows of a row: one from each state in which it starts, and one from nowhere where it creates an object
   abbrev pub row_drawn : (S → ℕ) → (E → Bool) → Row S W E → List Arrow

@@ -92,7 +92,7 @@ fn is_busy(shot: &Shot, place: usize) -> bool {
 }
 
 // Where a substrate is.
-fn whereabouts(shot: &Shot, name: Text80) -> Whereabouts {
+fn place_of(shot: &Shot, name: Text80) -> Whereabouts {
     if shot.arm == name {
         return Whereabouts::Arm;
     }
@@ -351,7 +351,7 @@ impl Teller {
         shot: &Shot,
     ) -> Result<(), AllocError> {
         for wafer in &mut self.wafers {
-            let next = whereabouts(shot, wafer.name);
+            let next = place_of(shot, wafer.name);
             if next == wafer.at {
                 continue;
             }

@@ -4,7 +4,7 @@ ghost use Rattle.std.specs.Prelude.{◌≡◌, ◌+◌, ◌*◌, true, IfOk};
 ghost use Rattle.gem_tables.specs.Table.{starts, after};
 ghost use Rattle.process_job.specs.Tables.{job_number, job_table};
 ghost use Rattle.control_job.specs.Record.{control_starts, control_fired};
-ghost use Rattle.control_job.specs.Tables.{states_number, not_ending, ending_by};
+ghost use Rattle.control_job.specs.Tables.{states_number};
 ghost use Rattle.state_arrows.specs.Arrows.{answered, are_same};
 ghost use Rattle.state_arrows.specs.Tables.{process_job_arrows, control_job_arrows, is_ending_row, ended};
 
@@ -87,39 +87,43 @@ pub(crate) fn process_jobs(alloc: Global) -> Result<Vec<Arrow>, AllocError>
     )
 }
 
-// The states of a control job in this state that isn't ending.
-fn not_ending(state: ControlState) -> ControlJobRecord
-    ensures { result ≡ not_ending state }
-{
-    ControlJobRecord {
-        state,
-        ending: Ending::No,
-    }
-}
-
-// The states of a control job that is EXECUTING, and ending by this.
-fn ending_by(ending: Ending) -> ControlJobRecord
-    ensures { result ≡ ending_by ending }
-{
-    ControlJobRecord {
-        state: ControlState::Executing,
-        ending,
-    }
-}
-
 /// The arrows of table 15, with that of the row that creates a control job. The states are numbered as `number_of` says.
 pub(crate) fn control_jobs(alloc: Global) -> Result<Vec<Arrow>, AllocError>
     ensures { IfOk result (λ arrows. are_same arrows.items control_job_arrows ≡ true) }
 {
     let states = [
-        not_ending(ControlState::Queued),
-        not_ending(ControlState::Selected),
-        not_ending(ControlState::WaitingForStart),
-        not_ending(ControlState::Executing),
-        not_ending(ControlState::Paused),
-        not_ending(ControlState::Completed),
-        ending_by(Ending::ByStop),
-        ending_by(Ending::ByAbort),
+        ControlJobRecord {
+            state: ControlState::Queued,
+            ending: Ending::No,
+        },
+        ControlJobRecord {
+            state: ControlState::Selected,
+            ending: Ending::No,
+        },
+        ControlJobRecord {
+            state: ControlState::WaitingForStart,
+            ending: Ending::No,
+        },
+        ControlJobRecord {
+            state: ControlState::Executing,
+            ending: Ending::No,
+        },
+        ControlJobRecord {
+            state: ControlState::Paused,
+            ending: Ending::No,
+        },
+        ControlJobRecord {
+            state: ControlState::Completed,
+            ending: Ending::No,
+        },
+        ControlJobRecord {
+            state: ControlState::Executing,
+            ending: Ending::ByStop,
+        },
+        ControlJobRecord {
+            state: ControlState::Executing,
+            ending: Ending::ByAbort,
+        },
     ];
     gather(
         alloc,

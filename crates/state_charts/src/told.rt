@@ -1,6 +1,8 @@
 //! The arrows of table 3, asked of a spool and of a line of notes: each is played from a beginning, row by row, and what changed with a row
 //! is an arrow. A change with no row, an answer of the host, is one of row 0.
 
+ghost use Rattle.std.specs.Prelude.{◌≤◌};
+
 use hsms_frame::Bytes;
 use note_line::{Around, Fate, NoteLine, SpooledKinds};
 use spool::{Kind, Load, Note, Spool, Unload};
@@ -177,7 +179,8 @@ struct Play {
 enum Host {
     Answers,
     Fails,
-    Unloads(u8),
+    Transmits,
+    Purges,
 }
 
 // The plays, with a spool of one note.
@@ -215,14 +218,14 @@ const PLAYS: [Play; 9] = [
         overwrites: false,
         notes: 1,
         communicates: false,
-        host: Host::Unloads(0),
+        host: Host::Transmits,
     },
     Play {
         is_spooled: true,
         overwrites: false,
         notes: 1,
         communicates: false,
-        host: Host::Unloads(1),
+        host: Host::Purges,
     },
     Play {
         is_spooled: true,
@@ -308,6 +311,31 @@ fn fail(arrows: &mut Vec<Arrow>, line: &mut NoteLine, around: Around) -> Result<
     settle(arrows, line, around)
 }
 
+// The host asks for the spooled notes by an RSDC, and then the transaction of the note that is open fails.
+fn unload(
+    arrows: &mut Vec<Arrow>,
+    line: &mut NoteLine,
+    around: Around,
+    rsdc: u8,
+) -> Result<(), AllocError>
+    requires { rsdc ≤ 1 }
+{
+    let linked = Around {
+        communicates: true,
+        ..around
+    };
+    let _ = line.begin_unload(rsdc, linked);
+    settle(arrows, line, linked)?;
+    fail(arrows, line, linked)
+}
+
+// The host answers the note that is open.
+fn answer(arrows: &mut Vec<Arrow>, line: &mut NoteLine) -> Result<(), AllocError> {
+    let before = fates(line);
+    line.answer_open();
+    add_changes(arrows, 0, before, line)
+}
+
 fn play_host(
     arrows: &mut Vec<Arrow>,
     line: &mut NoteLine,
@@ -315,21 +343,10 @@ fn play_host(
     host: Host,
 ) -> Result<(), AllocError> {
     match host {
-        Host::Answers => {
-            let before = fates(line);
-            line.answer_open();
-            add_changes(arrows, 0, before, line)
-        }
+        Host::Answers => answer(arrows, line),
         Host::Fails => fail(arrows, line, around),
-        Host::Unloads(rsdc) => {
-            let around = Around {
-                communicates: true,
-                ..around
-            };
-            let _ = line.begin_unload(if rsdc == 0 { 0 } else { 1 }, around);
-            settle(arrows, line, around)?;
-            fail(arrows, line, around)
-        }
+        Host::Transmits => unload(arrows, line, around, 0),
+        Host::Purges => unload(arrows, line, around, 1),
     }
 }
 

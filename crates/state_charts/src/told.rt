@@ -350,7 +350,7 @@ fn play_host(
     }
 }
 
-fn play(alloc: Global, arrows: &mut Vec<Arrow>, play: Play) -> Result<(), AllocError> {
+fn play_line(alloc: Global, arrows: &mut Vec<Arrow>, play: Play) -> Result<(), AllocError> {
     let kinds = SpooledKinds {
         events: play.is_spooled,
         alarms: play.is_spooled,
@@ -378,7 +378,7 @@ pub(crate) fn notes(alloc: Global) -> Result<Vec<Arrow>, AllocError> {
         to: Some(0),
     })?;
     for each in PLAYS {
-        play(alloc, &mut arrows, each)?;
+        play_line(alloc, &mut arrows, each)?;
     }
     Ok(arrows)
 }

@@ -158,7 +158,7 @@ pub(crate) fn chart_of(
         place.go_on(entry.at);
         let happening = play_entry(alloc, &mut tool, entry)?;
         let shot = tool.shot(alloc)?;
-        teller.tell(alloc, place.at(), happening, &shot)?;
+        teller.tell(alloc, place.at(), &happening, &shot)?;
     }
     let story = teller.finish(place.at())?;
     draw_story(alloc, &story)

@@ -119,10 +119,10 @@ fn kind_at(at: Whereabouts, is_done: bool) -> Kind {
 }
 
 // Whether the Process of a substrate was done, that was worked at in this chamber.
-fn is_done_now(happening: Happening, at: Whereabouts) -> bool {
+fn is_done_now(happening: &Happening, at: Whereabouts) -> bool {
     match (happening, at) {
         (Happening::Done(module), Whereabouts::Work(place)) => {
-            usize::from(module) == place.saturating_add(3)
+            usize::from(*module) == place.saturating_add(3)
         }
         _ => false,
     }
@@ -138,13 +138,19 @@ fn busy_kind(place: usize) -> Kind {
 }
 
 // Whether a module, by its place, goes down with this.
-fn goes_down(happening: Happening, place: usize) -> bool {
-    matches!(happening, Happening::Down(module) if usize::from(module) == place.saturating_add(1))
+fn goes_down(happening: &Happening, place: usize) -> bool {
+    match happening {
+        Happening::Down(module) => usize::from(*module) == place.saturating_add(1),
+        _ => false,
+    }
 }
 
 // Whether it comes up.
-fn comes_up(happening: Happening, place: usize) -> bool {
-    matches!(happening, Happening::Up(module) if usize::from(module) == place.saturating_add(1))
+fn comes_up(happening: &Happening, place: usize) -> bool {
+    match happening {
+        Happening::Up(module) => usize::from(*module) == place.saturating_add(1),
+        _ => false,
+    }
 }
 
 // The name of a state of a process job (SEMI E40).
@@ -163,24 +169,47 @@ fn state_name(state: u8) -> &'static str {
     }
 }
 
-// What is drawn of a module, where that changes.
-fn module_change(
-    lane: &Lane,
-    happening: Happening,
+// What is drawn of a module, by its place, that was drawn so.
+fn next_kind(
+    before: Option<Kind>,
+    happening: &Happening,
     place: usize,
     busy: bool,
-) -> Option<Option<Kind>> {
-    let now = lane.kind();
-    let next = if goes_down(happening, place) {
-        Some(Kind::Down)
-    } else if now == Some(Kind::Down) && !comes_up(happening, place) {
-        now
-    } else if busy {
-        Some(busy_kind(place))
-    } else {
-        None
-    };
-    if next == now { None } else { Some(next) }
+) -> Option<Kind> {
+    if goes_down(happening, place) {
+        return Some(Kind::Down);
+    }
+    if before == Some(Kind::Down) && !comes_up(happening, place) {
+        return before;
+    }
+    if busy { Some(busy_kind(place)) } else { None }
+}
+
+// Draws a module on as it was, or otherwise where that changes.
+fn go_on(
+    lane: &mut Lane,
+    at: u32,
+    happening: &Happening,
+    place: usize,
+    busy: bool,
+) -> Result<(), AllocError> {
+    let before = lane.kind();
+    let next = next_kind(before, happening, place, busy);
+    if next == before {
+        return Ok(());
+    }
+    match next {
+        Some(kind) => lane.begin(at, kind, Text80::empty()),
+        None => lane.stop(at),
+    }
+}
+
+// Draws a substrate on in its row, unless it is lost.
+fn draw_at(lane: &mut Lane, at: u32, kind: Kind) -> Result<(), AllocError> {
+    if lane.kind() == Some(Kind::Lost) {
+        return Ok(());
+    }
+    lane.begin(at, kind, Text80::empty())
 }
 
 impl Teller {
@@ -203,7 +232,7 @@ impl Teller {
         &mut self,
         alloc: Global,
         at: u32,
-        happening: Happening,
+        happening: &Happening,
         shot: &Shot,
     ) -> Result<(), AllocError> {
         self.story.entries = self.story.entries.saturating_add(1);
@@ -233,7 +262,7 @@ impl Teller {
         &mut self,
         alloc: Global,
         at: u32,
-        happening: Happening,
+        happening: &Happening,
         shot: &Shot,
     ) -> Result<(), AllocError> {
         for (place, carrier) in shot.carriers.iter().enumerate() {
@@ -247,7 +276,7 @@ impl Teller {
         &mut self,
         alloc: Global,
         at: u32,
-        happening: Happening,
+        happening: &Happening,
         place: usize,
         carrier: Text80,
     ) -> Result<(), AllocError> {
@@ -267,8 +296,8 @@ impl Teller {
             }
         }
         match happening {
-            Happening::Placed(port, map) if usize::from(port) == place.saturating_add(1) => {
-                self.arrive(alloc, at, carrier, &map)
+            Happening::Placed(port, map) if usize::from(*port) == place.saturating_add(1) => {
+                self.arrive(alloc, at, carrier, map)
             }
             _ => Ok(()),
         }
@@ -285,11 +314,10 @@ impl Teller {
         let Some(id) = CarrierId::read(carrier) else {
             return Ok(());
         };
-        let mut slot: u8 = 0;
-        for code in map {
-            slot = slot.saturating_add(1);
-            if *code == OCCUPIED {
-                self.add_wafer(alloc, at, carrier, substrate_id(id, SlotNo(slot)).text())?;
+        for index in 0..25u8 {
+            if map[usize::from(index)] == OCCUPIED {
+                let name = substrate_id(id, SlotNo(index + 1)).text();
+                self.add_wafer(alloc, at, carrier, name)?;
             }
         }
         Ok(())
@@ -332,37 +360,33 @@ impl Teller {
     // ---- substrates
 
     // A substrate is lost: its row says so until its carrier is gone.
-    fn tell_loss(&mut self, at: u32, happening: Happening) -> Result<(), AllocError> {
+    fn tell_loss(&mut self, at: u32, happening: &Happening) -> Result<(), AllocError> {
         let Happening::Lost(name) = happening else {
             return Ok(());
         };
-        if let Some(place) = last_named(&self.story.substrates, name)
-            && let Some(lane) = self.story.substrates.get_mut(place)
-        {
-            lane.begin(at, Kind::Lost, Text80::empty())?;
+        let Some(place) = last_named(&self.story.substrates, *name) else {
+            return Ok(());
+        };
+        match self.story.substrates.get_mut(place) {
+            Some(lane) => lane.begin(at, Kind::Lost, Text80::empty()),
+            None => Ok(()),
         }
-        Ok(())
     }
 
     fn tell_wafers(
         &mut self,
         at: u32,
-        happening: Happening,
+        happening: &Happening,
         shot: &Shot,
     ) -> Result<(), AllocError> {
         for wafer in &mut self.wafers {
             let next = place_of(shot, wafer.name);
-            if next == wafer.at {
-                continue;
-            }
-            if is_done_now(happening, wafer.at) {
-                wafer.is_done = true;
-            }
-            wafer.at = next;
-            if let Some(lane) = self.story.substrates.get_mut(wafer.lane)
-                && lane.kind() != Some(Kind::Lost)
-            {
-                lane.begin(at, kind_at(next, wafer.is_done), Text80::empty())?;
+            if next != wafer.at {
+                wafer.is_done = wafer.is_done || is_done_now(happening, wafer.at);
+                wafer.at = next;
+                if let Some(lane) = self.story.substrates.get_mut(wafer.lane) {
+                    draw_at(lane, at, kind_at(next, wafer.is_done))?;
+                }
             }
         }
         Ok(())
@@ -373,16 +397,12 @@ impl Teller {
     fn tell_modules(
         &mut self,
         at: u32,
-        happening: Happening,
+        happening: &Happening,
         shot: &Shot,
     ) -> Result<(), AllocError> {
         let mut place: usize = 0;
         for lane in &mut self.story.modules {
-            match module_change(lane, happening, place, is_busy(shot, place)) {
-                Some(Some(kind)) => lane.begin(at, kind, Text80::empty())?,
-                Some(None) => lane.stop(at)?,
-                None => {}
-            }
+            go_on(lane, at, happening, place, is_busy(shot, place))?;
             place = place.saturating_add(1);
         }
         Ok(())
